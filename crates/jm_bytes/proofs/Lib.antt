@@ -1,0 +1,3 @@
+pub mod Loops
+pub mod Spelled
+pub mod Unique

@@ -1,0 +1,5 @@
+pub mod Spelling
+pub mod Reading
+pub mod Laws
+pub mod Format
+pub mod Writing

@@ -1,0 +1,63 @@
+use super::*;
+use std::test::Fail;
+
+/// 255, 65534, 256, 2^63 + 1, -128, -2, -2^31 and -1, each in its width, worked out by hand.
+const NUMBERS: [u8; 30] = [
+    0xFF, 0xFF, 0xFE, 0, 0, 1, 0, 0x80, 0, 0, 0, 0, 0, 0, 1, 0x80, 0xFF, 0xFE, 0x80, 0, 0, 0, 0xFF,
+    0xFF, 0xFF, 0xFF, 0xFF, 0xFF, 0xFF, 0xFF,
+];
+
+#[test]
+fn writes_numbers(rt: HostRuntime) -> Result<(), Fail> {
+    let mut out = Vec::new(rt.alloc());
+    put_u1(&mut out, u8::MAX)?;
+    put_u2(&mut out, 65534)?;
+    put_u4(&mut out, 256)?;
+    put_u8(&mut out, 9_223_372_036_854_775_809)?;
+    put_s1(&mut out, i8::MIN)?;
+    put_s2(&mut out, -2)?;
+    put_s4(&mut out, i32::MIN)?;
+    put_s8(&mut out, -1)?;
+    assert_eq!(rt; out.as_slice(), NUMBERS.as_slice());
+    Ok(())
+}
+
+#[test]
+fn reads_numbers(rt: HostRuntime) -> Result<(), Fail> {
+    let mut reader = Reader::new(&NUMBERS);
+    assert_eq!(rt; reader.u1()?, u8::MAX);
+    assert_eq!(rt; reader.u2()?, 65534);
+    assert_eq!(rt; reader.u4()?, 256);
+    assert_eq!(rt; reader.u8()?, 9_223_372_036_854_775_809);
+    assert_eq!(rt; reader.s1()?, i8::MIN);
+    assert_eq!(rt; reader.s2()?, -2);
+    assert_eq!(rt; reader.s4()?, i32::MIN);
+    assert_eq!(rt; reader.s8()?, -1);
+    assert!(rt; reader.is_empty());
+    Ok(())
+}
+
+#[test]
+fn reads_no_number_past_the_end(rt: HostRuntime) {
+    for n in 0..8usize {
+        let mut reader = Reader::new(&NUMBERS[..n]);
+        assert_eq!(rt; reader.u1().is_ok(), n >= 1, "one of {n}");
+        let mut reader = Reader::new(&NUMBERS[..n]);
+        assert_eq!(rt; reader.s2().is_ok(), n >= 2, "two of {n}");
+        let mut reader = Reader::new(&NUMBERS[..n]);
+        assert_eq!(rt; reader.u4().is_ok(), n >= 4, "four of {n}");
+        assert_eq!(rt; reader.s8(), Err(Cut), "eight of {n}");
+        assert_eq!(rt; reader.skip(8), Err(Cut), "eight of {n}");
+    }
+}
+
+#[test]
+fn takes_and_skips(rt: HostRuntime) -> Result<(), Fail> {
+    let mut reader = Reader::new(&NUMBERS);
+    reader.skip(2)?;
+    assert_eq!(rt; reader.take(3)?, [0xFE, 0, 0].as_slice());
+    assert_eq!(rt; reader.len(), 25);
+    let shown = format!(in rt.alloc(); "{Cut}")?;
+    assert_eq!(rt; shown.as_str(), "the bytes end before the value does");
+    Ok(())
+}

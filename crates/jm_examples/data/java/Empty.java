@@ -1,0 +1,3 @@
+/** A class with nothing in it but what the compiler adds. */
+class Empty {
+}

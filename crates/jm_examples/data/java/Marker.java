@@ -1,0 +1,3 @@
+/** An interface with nothing in it. */
+public interface Marker {
+}

@@ -1,0 +1,6 @@
+/** A class literal: ldc of a class. */
+class ClassLiteral {
+    static Object literal() {
+        return String.class;
+    }
+}

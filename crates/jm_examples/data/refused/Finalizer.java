@@ -1,0 +1,5 @@
+/** A finalizer. */
+class Finalizer {
+    protected void finalize() {
+    }
+}

@@ -1,0 +1,4 @@
+/** A native method. */
+class NativeMethod {
+    native int outside();
+}

@@ -1,0 +1,5 @@
+/** A static synchronized method. */
+class StaticSynchronized {
+    static synchronized void act() {
+    }
+}

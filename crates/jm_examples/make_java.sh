@@ -1,0 +1,33 @@
+#!/bin/sh
+# Compiles the Java programs under data/java and data/refused again, and prints
+# their tables. Needs javac and javap of JDK 9 to 19 (the last that compile for
+# release 7), and python3. No check runs this: the class files are committed.
+set -eu
+cd "$(dirname "$0")/data/java"
+rm -f ./*.class
+
+compile() {
+    javac -Xlint:-options -nowarn -encoding US-ASCII -d . "$@"
+}
+
+compile --release 8 Marker.java Empty.java Arithmetic.java LongArithmetic.java \
+    Comparisons.java Switches.java Loops.java Recursion.java Arrays.java \
+    Constants.java Texts.java Shapes.java Generic.java LinkedStack.java \
+    Anonymous.java Nested.java Varargs.java Interfaces.java ManyLocals.java \
+    ManyConstants.java FarJump.java
+compile --release 8 -g Exceptions.java BuiltInFaults.java Locks.java \
+    Threads.java Initializers.java Casts.java OldMembers.java
+compile --release 8 -g:none Fields.java Evaluation.java
+compile --release 7 -cp . Callback.java Calls.java Conditions.java Queens.java
+compile --release 7 -g Sorting.java Tree.java
+compile --release 7 -g:none Matrix.java Machine.java Hash.java
+python3 ../../expected.py ./*.class > expected.txt
+
+cd ../refused
+rm -f ./*.class
+for source in *.java; do
+    case $source in
+        Version61.java) compile --release 17 "$source" ;;
+        *) compile --release 8 "$source" ;;
+    esac
+done

@@ -1,0 +1,14 @@
+pub mod Flags
+pub mod Names
+pub mod Descriptors
+pub mod References
+pub mod Instructions
+pub mod Codes
+pub mod Fits
+pub mod DescriptorReading
+pub mod DescriptorFaults
+pub mod Texts
+pub mod JasminUnits
+pub mod JasminTypes
+pub mod Mnemonics
+pub mod JasminInstructions

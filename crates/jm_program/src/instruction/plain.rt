@@ -1,0 +1,68 @@
+use crate::instruction::operation::{
+    Arithmetic, Bitwise, Branch, Conversion, Integral, OperandType, Shift, ShortIndex, SmallInt,
+    SmallLong, StackOp,
+};
+use crate::sequence::Sequence;
+
+/// An instruction of one byte that touches one frame alone.
+#[derive(Clone, Copy, Debug, PartialEq, Eq)]
+pub enum Simple {
+    Nop,
+    /// `aconst_null`.
+    Null,
+    IntConstant(SmallInt),
+    LongConstant(SmallLong),
+    Load(OperandType, ShortIndex),
+    Store(OperandType, ShortIndex),
+    Stack(StackOp),
+    Arithmetic(Arithmetic, Integral),
+    Negate(Integral),
+    Shift(Shift, Integral),
+    Bitwise(Bitwise, Integral),
+    Convert(Conversion),
+    /// `lcmp`.
+    CompareLongs,
+}
+
+/// An instruction that touches one frame alone and names nothing.
+#[derive(Debug, PartialEq, Eq, Drop)]
+pub enum Plain {
+    Simple(Simple),
+    /// `bipush`.
+    PushByte(i8),
+    /// `sipush`.
+    PushShort(i16),
+    /// `iload`, `lload` and `aload` of a local variable, wide or not.
+    Load(OperandType, u16),
+    /// `istore`, `lstore` and `astore` to a local variable, wide or not.
+    Store(OperandType, u16),
+    /// `iinc` of a local variable by a constant, wide or not.
+    Increment(u16, i16),
+    Branch(Branch, u32),
+    TableSwitch(TableSwitch),
+    LookupSwitch(LookupSwitch),
+}
+
+/// The operands of `tableswitch` (JVMS 6.5): the targets of `low`, `low` + 1, .. in order, of
+/// which there is at least one, and the target of every other int.
+#[derive(Debug, PartialEq, Eq, Drop)]
+pub struct TableSwitch {
+    pub low: i32,
+    pub targets: Sequence<u32>,
+    pub default: u32,
+}
+
+/// The operands of `lookupswitch` (JVMS 6.5): the pairs, their keys strictly rising, and the
+/// target of every other int.
+#[derive(Debug, PartialEq, Eq, Drop)]
+pub struct LookupSwitch {
+    pub pairs: Sequence<SwitchPair>,
+    pub default: u32,
+}
+
+/// A key of `lookupswitch` with its target.
+#[derive(Clone, Copy, Debug, PartialEq, Eq)]
+pub struct SwitchPair {
+    pub key: i32,
+    pub target: u32,
+}

@@ -1,0 +1,6 @@
+//! How the parts of a class are written in Jasmin's syntax.
+
+mod instruction;
+mod mnemonic;
+mod types;
+mod units;

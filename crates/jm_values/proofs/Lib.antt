@@ -1,0 +1,13 @@
+pub mod Among
+pub mod Shapes
+pub mod Renaming
+pub mod NaturalSteps
+pub mod NaturalRows
+pub mod NoNewReferences
+pub mod WorkedStart
+pub mod WorkedLocals
+pub mod WorkedStack
+pub mod WorkedNumbers
+pub mod WorkedBranches
+pub mod WholeLongs
+pub mod KeepsForm

@@ -1,0 +1,17 @@
+pub mod Activation
+pub mod FaultNames
+pub mod Outcome
+pub mod Steps
+pub mod Constants
+pub mod LoadsAndStores
+pub mod OperandStack
+pub mod Arithmetic
+pub mod Conversions
+pub mod Comparisons
+pub mod Branches
+pub mod Switches
+pub mod PlainRows
+pub mod Shape
+pub mod Rename
+pub mod WellFormed
+pub mod Laws
