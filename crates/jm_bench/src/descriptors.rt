@@ -1,7 +1,8 @@
 use jm_program::{Descriptor, DescriptorFault};
 use std::alloc::Global;
 
-const TEXT: &str = "(ILjava/lang/Object;[[JZLa/rather/longer/name/of/a/Class;J)[[Ljava/lang/String;";
+const TEXT: &str =
+    "(ILjava/lang/Object;[[JZLa/rather/longer/name/of/a/Class;J)[[Ljava/lang/String;";
 
 /// Parses one descriptor that often, and adds up the argument slots.
 pub fn parsed_slots(alloc: Global, count: u32) -> Result<u64, DescriptorFault> {

@@ -14,6 +14,3 @@ mod writer;
 pub use laws::{exact_length, one_number, signed_read_back, unsigned_read_back};
 pub use reader::{Cut, Reader};
 pub use writer::{put_s1, put_s2, put_s4, put_s8, put_u1, put_u2, put_u4, put_u8};
-
-#[cfg(test)]
-mod tests;

@@ -5,8 +5,7 @@
 mod header;
 
 use header::{Header, header_of};
-use std::fs;
-use std::io;
+use std::{fs, io};
 
 const FILES: [&str; 1] = ["data/sum.class"];
 

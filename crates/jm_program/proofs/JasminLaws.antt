@@ -3,7 +3,7 @@ use Rattle.std.proofs.Common.{◌≡◌, ℕ, zero, suc, ◌+◌, ◌<◌, ◌�
 use Rattle.std.proofs.lemmas.List.{nil_from_length, length-drop}
 use Rattle.std.proofs.lemmas.Option.{same_Some}
 use Rattle.jm_program.specs.JasminUnits.{is_high, waits, step_text, lone_text, text_from}
-use Rattle.jm_program.specs.declared.jasmin.units.Place.{Place}
+use Rattle.jm_program.specs.declared.jasmin.units.Context.{Context}
 
 waits_high_on : (b : Bool) (u high : ℕ) → is_high u ≡ b → cond b (Some u) None ≡ Some high → is_high high ≡ true
 waits_high_on true u high is h = subst (λ (v : ℕ). is_high v ≡ true) (same_Some u high h) is
@@ -12,7 +12,7 @@ waits_high_on false u high is h = cc
 pub waits_high : (u high : ℕ) → waits u ≡ Some high → IsTrue (is_high high)
 waits_high u high h = waits_high_on (is_high u) u high refl h
 
-pub text_step : (place : Place) (waiting : Option ℕ) (units : List ℕ) (i : ℕ) (done whole : List ℕ) → i < length units
+pub text_step : (place : Context) (waiting : Option ℕ) (units : List ℕ) (i : ℕ) (done whole : List ℕ) → i < length units
     → done ++ text_from place waiting (drop i units) ≡ whole → (done ++ step_text place waiting (get_or units i 0)) ++ text_from place (waits (get_or units i 0)) (drop (i + 1) units) ≡ whole
 unfolding text_from
 text_step place waiting units i done whole lt h =
@@ -20,7 +20,7 @@ text_step place waiting units i done whole lt h =
     append_assoc done (step_text place waiting (get_or units i 0)) (text_from place (waits (get_or units i 0)) (drop (i + 1) units))
     ∙ ap (λ (us : List ℕ). done ++ text_from place waiting us) (sym here) ∙ h
 
-pub text_end : (place : Place) (waiting : Option ℕ) (units : List ℕ) (i : ℕ) (done whole : List ℕ) → length units ≤ i
+pub text_end : (place : Context) (waiting : Option ℕ) (units : List ℕ) (i : ℕ) (done whole : List ℕ) → length units ≤ i
     → done ++ text_from place waiting (drop i units) ≡ whole → done ++ lone_text waiting ≡ whole
 unfolding text_from
 text_end place waiting units i done whole le h =

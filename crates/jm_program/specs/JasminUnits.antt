@@ -1,8 +1,8 @@
 -- Names and strings in a line of Jasmin: what cannot stand there as it is becomes \uXXXX.
 use Rattle.std.specs.Prelude.{ℕ, ◌+◌, ◌-◌, ◌*◌, ◌/◌, ◌%◌, List, [], ◌∷◌, ◌++◌, Bool, true, false, ◌&&◌, ◌||◌, ◌==◌, nat_lt, nat_le, Option, Some, None, if◌then◌else◌, codes, encode_utf8}
 use Rattle.std.specs.Fmt.{digits}
-use Rattle.jm_program.specs.declared.jasmin.units.Place.{Place}
-use Rattle.jm_program.specs.declared.jasmin.units.Place.TheVariants.{InName, InString}
+use Rattle.jm_program.specs.declared.jasmin.units.Context.{Context}
+use Rattle.jm_program.specs.declared.jasmin.units.Context.TheVariants.{InName, InString}
 
 -- the first and the second unit of a supplementary character (Unicode, UTF-16)
 abbrev pub is_high : ℕ → Bool
@@ -13,7 +13,7 @@ is_low u = nat_le 0xDC00 u && nat_lt u 0xE000
 
 -- a blank, a control character, ; or \ in a name; a control character, " or \ in a string; a
 -- surrogate without its partner in both
-abbrev pub is_escaped : Place → ℕ → Bool
+abbrev pub is_escaped : Context → ℕ → Bool
 is_escaped InName u = nat_le u 32 || u == 59 || u == 92 || u == 127 || (nat_le 0xD800 u && nat_lt u 0xE000)
 is_escaped InString u = nat_lt u 32 || u == 34 || u == 92 || u == 127 || (nat_le 0xD800 u && nat_lt u 0xE000)
 
@@ -21,7 +21,7 @@ is_escaped InString u = nat_lt u 32 || u == 34 || u == 92 || u == 127 || (nat_le
 unfoldable pub escape_text : ℕ → List ℕ
 escape_text u = codes "\\u" ++ digits 16 false (u / 4096) ++ digits 16 false (u / 256 % 16) ++ digits 16 false (u / 16 % 16) ++ digits 16 false (u % 16)
 
-unfoldable pub unit_text : Place → ℕ → List ℕ
+unfoldable pub unit_text : Context → ℕ → List ℕ
 unit_text place u = if is_escaped place u then escape_text u else encode_utf8 u
 
 unfoldable pub pair_text : ℕ → ℕ → List ℕ
@@ -33,18 +33,18 @@ lone_text None = []
 lone_text (Some high) = escape_text high
 
 -- a unit that is no first one, after a first one that waits for its second
-unfoldable pub after_text : Place → Option ℕ → ℕ → List ℕ
+unfoldable pub after_text : Context → Option ℕ → ℕ → List ℕ
 after_text place None u = unit_text place u
 after_text place (Some high) u = if is_low u then pair_text high u else escape_text high ++ unit_text place u
 
 -- one more unit: a first one waits
-unfoldable pub step_text : Place → Option ℕ → ℕ → List ℕ
+unfoldable pub step_text : Context → Option ℕ → ℕ → List ℕ
 step_text place waiting u = if is_high u then lone_text waiting else after_text place waiting u
 
 abbrev pub waits : ℕ → Option ℕ
 waits u = if is_high u then Some u else None
 
-unfoldable pub text_from : Place → Option ℕ → List ℕ → List ℕ
+unfoldable pub text_from : Context → Option ℕ → List ℕ → List ℕ
 text_from place waiting [] = lone_text waiting
 text_from place waiting (u ∷ units) = step_text place waiting u ++ text_from place (waits u) units
 

@@ -42,6 +42,3 @@ pub use name::Name;
 pub use reference::{ClassRef, FieldRef, MethodRef};
 pub use sequence::Sequence;
 pub use text::code_units;
-
-#[cfg(test)]
-mod tests;

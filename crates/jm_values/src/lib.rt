@@ -19,6 +19,3 @@ mod value;
 pub use fault::TagFault;
 pub use place::Place;
 pub use value::Value;
-
-#[cfg(test)]
-mod tests;

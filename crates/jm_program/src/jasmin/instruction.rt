@@ -11,7 +11,7 @@ ghost use Rattle.jm_program.specs.JasminInstructions.{simple_line, target_line, 
 use crate::constant::Constant;
 use crate::descriptor::MethodDescriptor;
 use crate::instruction::{Instr, InvokeOp, LookupSwitch, Plain, Simple, SwitchPair, TableSwitch};
-use crate::jasmin::units::{Place, write_units};
+use crate::jasmin::units::{Context, write_units};
 use crate::reference::MethodRef;
 use std::fmt;
 use std::fmt::Display;
@@ -141,7 +141,7 @@ impl Display for Constant {
             Constant::Long(number) => write!(f, "ldc2_w {number}"),
             Constant::String(units) => {
                 f.write_str("ldc \"")?;
-                write_units(f, Place::InString, units.as_slice())?;
+                write_units(f, Context::InString, units.as_slice())?;
                 f.write_str("\"")
             }
         }

@@ -8,7 +8,7 @@ ghost use Rattle.jm_program.specs.JasminUnits.{name_text};
 ghost use Rattle.jm_program.specs.JasminTypes.{element_line, type_line, return_line, method_line, descriptor_line, class_line, field_ref_line, method_ref_line};
 
 use crate::descriptor::{BaseType, Descriptor, ElementType, FieldType, MethodDescriptor};
-use crate::jasmin::units::{Place, write_units};
+use crate::jasmin::units::{Context, write_units};
 use crate::name::Name;
 use crate::reference::{ClassRef, FieldRef, MethodRef};
 use std::fmt;
@@ -20,7 +20,7 @@ impl Display for Name {
     ghost output = { λ n. Some (name_text n) };
 
     fn fmt<W: fmt::Write>(&self, f: &mut fmt::Formatter<W>) -> fmt::Result {
-        write_units(f, Place::InName, self.units())
+        write_units(f, Context::InName, self.units())
     }
 }
 

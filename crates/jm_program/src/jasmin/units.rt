@@ -6,9 +6,9 @@ ghost use Rattle.jm_program.specs.JasminUnits.{is_high, is_low, is_escaped, esca
 
 use std::fmt;
 
-/// Where code units stand in a line.
+/// What code units stand in.
 #[derive(Clone, Copy, Debug, PartialEq, Eq)]
-pub enum Place {
+pub enum Context {
     InName,
     InString,
 }
@@ -31,14 +31,14 @@ fn is_low(unit: u16) -> bool
     LOW <= unit && unit < AFTER
 }
 
-fn is_escaped(place: Place, unit: u16) -> bool
+fn is_escaped(place: Context, unit: u16) -> bool
     ensures { result ≡ is_escaped place unit }
 {
     match place {
-        Place::InName => {
+        Context::InName => {
             unit <= 32 || unit == 59 || unit == 92 || unit == 127 || (HIGH <= unit && unit < AFTER)
         }
-        Place::InString => {
+        Context::InString => {
             unit < 32 || unit == 34 || unit == 92 || unit == 127 || (HIGH <= unit && unit < AFTER)
         }
     }
@@ -56,7 +56,7 @@ fn write_escape<W: fmt::Write>(f: &mut fmt::Formatter<W>, unit: u16) -> fmt::Res
 }
 
 #[tactic(auto, unfolding(crate::specs::JasminUnits::unit_text))]
-fn write_unit<W: fmt::Write>(f: &mut fmt::Formatter<W>, place: Place, unit: u16) -> fmt::Result
+fn write_unit<W: fmt::Write>(f: &mut fmt::Formatter<W>, place: Context, unit: u16) -> fmt::Result
     ensures { WritesOnOk W.write_str_gives f.old result (unit_text place unit) f.new }
 {
     if is_escaped(place, unit) {
@@ -96,7 +96,7 @@ fn write_lone<W: fmt::Write>(f: &mut fmt::Formatter<W>, waiting: Option<u16>) ->
 #[tactic(auto, unfolding(crate::specs::JasminUnits::after_text))]
 fn write_after<W: fmt::Write>(
     f: &mut fmt::Formatter<W>,
-    place: Place,
+    place: Context,
     waiting: Option<u16>,
     unit: u16,
 ) -> fmt::Result
@@ -116,7 +116,7 @@ fn write_after<W: fmt::Write>(
 #[tactic(auto, unfolding(crate::specs::JasminUnits::step_text))]
 fn write_step<W: fmt::Write>(
     f: &mut fmt::Formatter<W>,
-    place: Place,
+    place: Context,
     waiting: Option<u16>,
     unit: u16,
 ) -> fmt::Result
@@ -139,7 +139,7 @@ fn waits(unit: u16) -> Option<u16>
 /// Writes code units as they stand in such a place.
 pub fn write_units<W: fmt::Write>(
     f: &mut fmt::Formatter<W>,
-    place: Place,
+    place: Context,
     units: &[u16],
 ) -> fmt::Result
     ensures { WritesOnOk W.write_str_gives f.old result (text_from place None units.now) f.new }

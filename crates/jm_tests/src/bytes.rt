@@ -1,4 +1,4 @@
-use super::*;
+use jm_bytes::{Cut, Reader, put_s1, put_s2, put_s4, put_s8, put_u1, put_u2, put_u4, put_u8};
 use std::test::Fail;
 
 /// 255, 65534, 256, 2^63 + 1, -128, -2, -2^31 and -1, each in its width, worked out by hand.

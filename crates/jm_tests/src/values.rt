@@ -1,4 +1,4 @@
-use crate::{Place, TagFault, Value};
+use jm_values::{Place, TagFault, Value};
 use std::alloc::AllocError;
 
 #[test]
