@@ -1,0 +1,60 @@
+ghost use Rattle.std.specs.Prelude.{◌≡◌, IfOk, map, option_copied, option_to_list};
+ghost use Rattle.jm_builtins.specs.Members.{the_class};
+
+use crate::built_in::BuiltIn;
+use crate::member::{fields_of, methods_of};
+use crate::row::ClassRow;
+use crate::text::name_of;
+use jm_program::{AccessFlags, Name, Sequence};
+use std::alloc::{AllocError, Global};
+
+fn superclass_of(alloc: Global, text: Option<&'static str>) -> Result<Option<Name>, AllocError>
+    ensures { IfOk result (λ n. n ≡ option_copied text.entry) }
+{
+    match text {
+        Some(text) => Ok(Some(name_of(alloc, text)?)),
+        None => Ok(None),
+    }
+}
+
+fn interfaces_of(alloc: Global, text: Option<&'static str>) -> Result<Sequence<Name>, AllocError>
+    ensures { IfOk result (λ n. n ≡ option_to_list (option_copied text.entry)) }
+{
+    let mut names = Vec::new(alloc);
+    if let Some(text) = text {
+        let name = name_of(alloc, text)?;
+        names.push(name)?;
+    }
+    Ok(Sequence::new(names))
+}
+
+/// The class of a row.
+fn class_of(alloc: Global, row: &ClassRow) -> Result<BuiltIn, AllocError>
+    ensures { IfOk result (λ c. c ≡ the_class row.now) }
+{
+    let name = name_of(alloc, row.name)?;
+    let superclass = superclass_of(alloc, row.superclass)?;
+    let interfaces = interfaces_of(alloc, row.interface)?;
+    let fields = fields_of(alloc, row.fields)?;
+    let methods = methods_of(alloc, row.methods)?;
+    Ok(BuiltIn {
+        flags: AccessFlags { bits: row.flags },
+        name,
+        superclass,
+        interfaces,
+        fields,
+        methods,
+    })
+}
+
+/// The classes of the rows, in order.
+pub fn classes_of(alloc: Global, rows: &[ClassRow]) -> Result<Sequence<BuiltIn>, AllocError>
+    ensures { IfOk result (λ classes. classes ≡ map the_class rows.now) }
+{
+    let mut classes = Vec::new(alloc);
+    for row in rows {
+        let class = class_of(alloc, row)?;
+        classes.push(class)?;
+    }
+    Ok(Sequence::new(classes))
+}

@@ -1,0 +1,116 @@
+ghost use Rattle.std.specs.Prelude.{◌≡◌, IfOk, map};
+ghost use Rattle.jm_builtins.specs.Members.{the_type, the_parameters, the_result, the_method, the_field};
+
+use crate::row::{FieldRow, MemberType, MethodRow};
+use crate::text::name_of;
+use jm_program::{
+    AccessFlags, BaseType, ElementType, Field, FieldType, Method, MethodDescriptor, Sequence,
+};
+use std::alloc::{AllocError, Global};
+
+/// What the type holds in its last dimension.
+fn element_of(alloc: Global, member_type: MemberType) -> Result<ElementType, AllocError>
+    ensures { IfOk result (λ e. e ≡ (the_type member_type).element) }
+{
+    match member_type {
+        MemberType::Int => Ok(ElementType::Base(BaseType::Int)),
+        MemberType::Long => Ok(ElementType::Base(BaseType::Long)),
+        MemberType::Char | MemberType::Chars => Ok(ElementType::Base(BaseType::Char)),
+        MemberType::String => Ok(ElementType::Class(name_of(alloc, "java/lang/String")?)),
+        MemberType::PrintStream => Ok(ElementType::Class(name_of(alloc, "java/io/PrintStream")?)),
+    }
+}
+
+/// The type that a row names.
+fn type_of(alloc: Global, member_type: MemberType) -> Result<FieldType, AllocError>
+    ensures { IfOk result (λ t. t ≡ the_type member_type) }
+{
+    let element = element_of(alloc, member_type)?;
+    let dimensions = match member_type {
+        MemberType::Chars => 1,
+        _ => 0,
+    };
+    Ok(FieldType {
+        dimensions,
+        element,
+    })
+}
+
+fn parameters_of(
+    alloc: Global,
+    parameter: Option<MemberType>,
+) -> Result<Sequence<FieldType>, AllocError>
+    ensures { IfOk result (λ p. p ≡ the_parameters parameter) }
+{
+    let mut parameters = Vec::new(alloc);
+    if let Some(member_type) = parameter {
+        let parameter = type_of(alloc, member_type)?;
+        parameters.push(parameter)?;
+    }
+    Ok(Sequence::new(parameters))
+}
+
+fn result_of(alloc: Global, returned: Option<MemberType>) -> Result<Option<FieldType>, AllocError>
+    ensures { IfOk result (λ t. t ≡ the_result returned) }
+{
+    match returned {
+        Some(member_type) => Ok(Some(type_of(alloc, member_type)?)),
+        None => Ok(None),
+    }
+}
+
+fn method_of(alloc: Global, row: &MethodRow) -> Result<Method, AllocError>
+    ensures { IfOk result (λ m. m ≡ the_method row.now) }
+{
+    let name = name_of(alloc, row.name)?;
+    let parameters = parameters_of(alloc, row.parameter)?;
+    let return_type = result_of(alloc, row.result)?;
+    Ok(Method {
+        flags: AccessFlags {
+            bits: AccessFlags::PUBLIC,
+        },
+        name,
+        descriptor: MethodDescriptor {
+            parameters,
+            return_type,
+        },
+        code: None,
+    })
+}
+
+fn field_of(alloc: Global, row: &FieldRow) -> Result<Field, AllocError>
+    ensures { IfOk result (λ f. f ≡ the_field row.now) }
+{
+    let name = name_of(alloc, row.name)?;
+    let descriptor = type_of(alloc, row.field_type)?;
+    Ok(Field {
+        flags: AccessFlags { bits: row.flags },
+        name,
+        descriptor,
+        constant: None,
+    })
+}
+
+/// The methods of the rows, in order.
+pub fn methods_of(alloc: Global, rows: &[MethodRow]) -> Result<Sequence<Method>, AllocError>
+    ensures { IfOk result (λ methods. methods ≡ map the_method rows.now) }
+{
+    let mut methods = Vec::new(alloc);
+    for row in rows {
+        let method = method_of(alloc, row)?;
+        methods.push(method)?;
+    }
+    Ok(Sequence::new(methods))
+}
+
+/// The fields of the rows, in order.
+pub fn fields_of(alloc: Global, rows: &[FieldRow]) -> Result<Sequence<Field>, AllocError>
+    ensures { IfOk result (λ fields. fields ≡ map the_field rows.now) }
+{
+    let mut fields = Vec::new(alloc);
+    for row in rows {
+        let field = field_of(alloc, row)?;
+        fields.push(field)?;
+    }
+    Ok(Sequence::new(fields))
+}

@@ -1,0 +1,12 @@
+pub mod WholeMachine
+pub mod Agreeing
+pub mod Matching
+pub mod ShapesOfParts
+pub mod Fitting
+pub mod KeepingForm
+pub mod FieldsKeepForm
+pub mod InvocationKeepsForm
+pub mod StepsKeepForm
+pub mod LoadsWellFormed
+pub mod Reaching
+pub mod Runs

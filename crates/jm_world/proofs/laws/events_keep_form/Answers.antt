@@ -1,0 +1,5 @@
+use Rattle.jm_world.proofs.StepsKeepForm.{events_keep_form}
+use Rattle.jm_world.proofs.laws.events_keep_form.Goals as goal
+
+pub returns : goal.returns
+returns c = events_keep_form

@@ -1,0 +1,95 @@
+-- What a heap contains, and what its calls leave: each object has a serial, its number in the world,
+-- and a place, which is the heap's own business and may change.
+use Rattle.std.specs.Prelude.{◌≡◌, ◌≢◌, ℕ, ◌+◌, ◌<◌, ◌≤◌, ◌^◌, List, [], ◌∷◌, map, Option, Some, None, nat_eq, unwrap_or, slice_get, slice_set, true, false}
+use Rattle.jm_values.specs.Shape.{Among}
+use Rattle.jm_values.specs.Rename.{rename}
+use Rattle.jm_values.specs.declared.value.Value.{Value}
+use Rattle.jm_world.specs.Objects.{ObjectOf, Reach, reached_cells, size_by}
+
+-- an object that has a place; its values name serials. T is how the heap tells classes and array
+-- types
+pub record Resident (T : Type 0) : Type 0 where
+  pub place : ℕ
+  pub serial : ℕ
+  pub object : ObjectOf T
+
+-- the limit in cells, the serial of the next object, and the residents
+pub record Content (T : Type 0) : Type 0 where
+  pub limit : ℕ
+  pub next : ℕ
+  pub residents : List (Resident T)
+
+abbrev pub serial_in : {T : Type 0} → List (Resident T) → ℕ → Option ℕ
+serial_in [] p = None
+serial_in (r ∷ rs) p = elim (nat_eq p r.place) [ true ↦ Some r.serial | false ↦ serial_in rs p ]
+
+abbrev pub object_in : {T : Type 0} → List (Resident T) → ℕ → Option (ObjectOf T)
+object_in [] k = None
+object_in (r ∷ rs) k = elim (nat_eq k r.serial) [ true ↦ Some r.object | false ↦ object_in rs k ]
+
+-- the serial of what lies at a place, if anything does
+unfoldable pub serial_at : {T : Type 0} → Content T → ℕ → Option ℕ
+serial_at c p = serial_in c.residents p
+
+-- the resident object of a serial
+unfoldable pub object_at : {T : Type 0} → Content T → ℕ → Option (ObjectOf T)
+object_at c k = object_in c.residents k
+
+-- the serial that a place stands for
+unfoldable pub name_of : {T : Type 0} → Content T → ℕ → ℕ
+name_of c p = unwrap_or (serial_at c p) 0
+
+-- each place has an object
+abbrev pub AllResident : {T : Type 0} → Content T → List ℕ → Type 0
+AllResident c ps = (p : ℕ) → Among p ps → (k : ℕ) × (serial_at c p ≡ Some k)
+
+-- no two places have one serial, serials are below the next one, and each has its object
+pub record IsSound {T : Type 0} (c : Content T) : Type 0 where
+  pub one_to_one : (p q k : ℕ) → serial_at c p ≡ Some k → serial_at c q ≡ Some k → p ≡ q
+  pub below : (p k : ℕ) → serial_at c p ≡ Some k → k < c.next
+  pub whole : (p k : ℕ) → serial_at c p ≡ Some k → (o : ObjectOf T) × (object_at c k ≡ Some o)
+
+-- what is reached from the places that a machine holds
+abbrev pub Reached : {T : Type 0} → Content T → List ℕ → ℕ → Type 0
+Reached c roots k = Reach (object_at c) (map (name_of c) roots) k
+
+-- the cells of what is reached from them
+abbrev pub used_by : {T : Type 0} → (T → ℕ) → Content T → List ℕ → ℕ
+used_by headers c roots = reached_cells headers c.next (object_at c) (map (name_of c) roots)
+
+-- objects may have moved, and what is not reached may be gone
+pub record Kept {T : Type 0} (old : Content T) (roots : List ℕ) (new : Content T) (moved : List ℕ) : Type 0 where
+  pub limit : new.limit ≡ old.limit
+  pub sound : IsSound new
+  pub names : map (name_of new) moved ≡ map (name_of old) roots
+  pub resident : AllResident new moved
+  pub reached : (k : ℕ) → Reached old roots k → object_at new k ≡ object_at old k
+
+-- the object has been made at the place, with the next serial
+pub record Made {T : Type 0} (headers : T → ℕ) (old : Content T) (roots : List ℕ) (new : Content T) (moved : List ℕ) (place : ℕ) (o : ObjectOf T) : Type 0 where
+  pub kept : Kept old roots new moved
+  pub next : new.next ≡ old.next + 1
+  pub placed : serial_at new place ≡ Some old.next
+  pub filled : object_at new old.next ≡ Some o
+  pub fits : used_by headers old roots + size_by headers o ≤ old.limit
+  pub lasts : old.next < 2 ^ 63
+
+-- why no object was made: its cells and those reached pass the limit, or serials are at their end
+abbrev pub IsFull : {T : Type 0} → (T → ℕ) → Content T → List ℕ → ObjectOf T → Type 0
+IsFull headers c roots o = c.limit < used_by headers c roots + size_by headers o
+
+abbrev pub IsAtEnd : {T : Type 0} → (T → ℕ) → Content T → List ℕ → ObjectOf T → Type 0
+IsAtEnd headers c roots o = (used_by headers c roots + size_by headers o ≤ c.limit) × (2 ^ 63 ≤ c.next)
+
+-- the place has an object, with a value of this number
+abbrev pub HasValue : {T : Type 0} → Content T → ℕ → ℕ → Value → Type 0
+HasValue c p i v = (k : ℕ) × (o : ObjectOf _) × (serial_at c p ≡ Some k) × (object_at c k ≡ Some o) × (slice_get o.values i ≡ Some v)
+
+-- one value of the object at the place is another, which names a place
+pub record IsSet {T : Type 0} (old new : Content T) (p i : ℕ) (v : Value) : Type 0 where
+  pub limit : new.limit ≡ old.limit
+  pub next : new.next ≡ old.next
+  pub sound : IsSound new
+  pub serials : (q : ℕ) → serial_at new q ≡ serial_at old q
+  pub changed : (k : ℕ) (o : ObjectOf T) → serial_at old p ≡ Some k → object_at old k ≡ Some o → object_at new k ≡ Some (record { type = o.type; values = slice_set o.values i (rename (name_of old) v) })
+  pub others : (k j : ℕ) → serial_at old p ≡ Some k → j ≢ k → object_at new j ≡ object_at old j

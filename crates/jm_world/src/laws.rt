@@ -1,0 +1,48 @@
+//! Laws of the definitions, each the contract of a function that does nothing.
+
+ghost use Rattle.jm_values.specs.Shape.{IsShape};
+ghost use Rattle.jm_world.specs.Frames.{Frame, frame_shape};
+ghost use Rattle.jm_world.specs.Renaming.{thread_shape, static_shape, monitor_shape, literal_shape};
+ghost use Rattle.jm_world.specs.World.{World, Thread, Static, Monitor, Literal};
+ghost use Rattle.jm_world.specs.Matched.{WorldsAreMatched};
+ghost use Rattle.jm_world.specs.Matches.{Parts, Matches, ReachesAlike};
+ghost use Rattle.jm_world.specs.Reaching.{ReachIsLeast};
+ghost use Rattle.jm_world.specs.WellFormed.{EventsKeepForm, RunsAreWellFormed};
+
+/// The computed list of reachable objects is the least set that has the roots and is closed under
+/// fields and elements, each number once (JVMS 2.5.3).
+pub fn reach_is_the_least_set()
+    ensures { ReachIsLeast }
+{}
+
+/// An event leaves a well-formed world well formed: references are numbers of objects, ended
+/// threads have no frames, each held monitor is one thread's and stands once.
+pub fn events_keep_form()
+    ensures { EventsKeepForm }
+{}
+
+/// A world from a load is well formed after all lists of events, and what it reaches has objects.
+pub fn runs_are_well_formed()
+    ensures { RunsAreWellFormed }
+{}
+
+/// Frames, threads, statics, monitors and literals have shapes: renaming, listing and refilling
+/// their references keep to the laws that all shapes keep to.
+pub fn parts_have_shapes()
+    ensures frames { IsShape Frame frame_shape }
+    ensures threads { IsShape Thread thread_shape }
+    ensures statics { IsShape Static static_shape }
+    ensures monitors { IsShape Monitor monitor_shape }
+    ensures literals { IsShape Literal literal_shape }
+{}
+
+/// A machine that matches a world reaches the objects that the world reaches, in as many cells.
+pub fn a_machine_reaches_what_its_world_does<T>()
+    ensures { (m : Parts T) (w : World) → Matches m w → ReachesAlike m w }
+{}
+
+/// Every well-formed world is matched: by the machine whose heap has all objects, each at the
+/// place one above its number. So what matching asks for can be met.
+pub fn worlds_are_matched()
+    ensures { WorldsAreMatched }
+{}

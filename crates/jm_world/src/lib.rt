@@ -1,0 +1,27 @@
+//! The world: the whole model of what a program does, one event at a time.
+//!
+//! The crate is definitions above all: `specs/` says what loads, what objects, frames, threads
+//! and worlds are, what each instruction does, how exceptions unwind, how classes are initialized
+//! and what a list of events makes of a program, all in symbolic names and over a heap that only
+//! grows. `docs/MODEL.md` says in which order to read it. The types here are those that a machine
+//! answers in the same form: events, replies, stops, stages and states of classes.
+//!
+//! The crate stands on `jm_program`, `jm_builtins` and `jm_values`.
+#![tactic(auto)]
+
+mod class_state;
+mod event;
+mod laws;
+mod reply;
+mod stage;
+mod stop;
+
+pub use class_state::ClassState;
+pub use event::Event;
+pub use laws::{
+    a_machine_reaches_what_its_world_does, events_keep_form, parts_have_shapes,
+    reach_is_the_least_set, runs_are_well_formed, worlds_are_matched,
+};
+pub use reply::{Reply, ReplyKind};
+pub use stage::Stage;
+pub use stop::Stop;

@@ -1,0 +1,12 @@
+/// What is next in the initialization of a class (JVMS 5.5).
+#[derive(Clone, Copy, Debug, PartialEq, Eq)]
+pub enum Stage {
+    /// Whether there is anything to do, and the constant fields.
+    Begin,
+    /// The superclass's initialization.
+    Superclass,
+    /// `<clinit>`.
+    Initializer,
+    /// The class is initialized.
+    End,
+}
