@@ -7,7 +7,7 @@ mod header;
 use header::{Header, header_of};
 use std::{fs, io};
 
-const FILES: [&str; 1] = ["data/sum.class"];
+const FILES: [&str; 1] = ["sum.class"];
 
 fn main(rt: HostRuntime) -> io::Result<()> {
     println!(rt; "file bytes version pool")?;
