@@ -1,0 +1,2 @@
+pub mod Descriptors
+pub mod Rules

@@ -1,0 +1,12 @@
+pub mod ModifiedUtf8
+pub mod PoolEntries
+pub mod PoolLookups
+pub mod Opcodes
+pub mod Instructions
+pub mod Code
+pub mod FileFaults
+pub mod Symbols
+pub mod NamedCode
+pub mod CodeAttribute
+pub mod Members
+pub mod ClassFile

@@ -1,0 +1,118 @@
+ghost use Rattle.std.specs.Prelude.{◌≡◌};
+
+use crate::opcode::{LaterOp, LeftOutOp};
+use std::alloc::{AllocError, AllocFailed};
+use std::error::Error;
+use std::fmt;
+
+/// Why bytes are no constant pool.
+#[derive(Clone, Copy, Debug, PartialEq, Eq)]
+pub enum PoolFault {
+    /// A tag of no kind of entry that is read.
+    BadTag(u8),
+    /// An index that names no entry of the kind that its place needs.
+    BadIndex(u16),
+    /// The bytes of a text are no modified UTF-8.
+    BadUtf8,
+    /// The bytes end inside the pool or its count.
+    Cut,
+    /// A growth was refused.
+    OutOfMemory,
+}
+
+impl fmt::Display for PoolFault {
+    fn fmt<W: fmt::Write>(&self, f: &mut fmt::Formatter<W>) -> fmt::Result {
+        match self {
+            PoolFault::BadTag(tag) => write!(f, "20 BadTag({tag})"),
+            PoolFault::BadIndex(index) => write!(f, "21 BadIndex({index})"),
+            PoolFault::BadUtf8 => write!(f, "22 BadUtf8"),
+            PoolFault::Cut => write!(f, "24 Cut"),
+            PoolFault::OutOfMemory => write!(f, "61 OutOfMemory"),
+        }
+    }
+}
+
+impl Error for PoolFault {}
+
+impl From<jm_bytes::Cut> for PoolFault {
+    ghost use Rattle.jm_class_format.specs.declared.fault.PoolFault.TheVariants.{Cut};
+
+    ghost from_gives = { λ _ fault. fault ≡ Cut };
+
+    fn from(_error: jm_bytes::Cut) -> PoolFault {
+        PoolFault::Cut
+    }
+}
+
+impl From<AllocError> for PoolFault {
+    ghost use Rattle.jm_class_format.specs.declared.fault.PoolFault.TheVariants.{OutOfMemory};
+
+    ghost from_gives = { λ _ fault. fault ≡ OutOfMemory };
+
+    fn from(_error: AllocError) -> PoolFault {
+        PoolFault::OutOfMemory
+    }
+}
+
+impl<T: Drop> From<AllocFailed<T>> for PoolFault {
+    ghost use Rattle.jm_class_format.specs.declared.fault.PoolFault.TheVariants.{OutOfMemory};
+
+    ghost from_gives = { λ _ fault. fault ≡ OutOfMemory };
+
+    fn from(_error: AllocFailed<T>) -> PoolFault {
+        PoolFault::OutOfMemory
+    }
+}
+
+/// Why bytes are no code. An offset is that of the instruction's opcode, or of `wide` before it.
+#[derive(Clone, Copy, Debug, PartialEq, Eq)]
+pub enum CodeFault {
+    /// No opcode, or operands that it cannot have: a byte that `wide` cannot stand before, an
+    /// element type that `newarray` has not, a range or keys of a switch out of order.
+    BadOpcode(u32),
+    /// An instruction that the profile leaves out.
+    LeftOut(LeftOutOp),
+    /// The bytes end inside an instruction, or there are none.
+    Cut(u32),
+    /// A target at which no instruction begins.
+    BadTarget,
+    /// An instruction that is refused for now.
+    Later(LaterOp),
+    /// A growth was refused.
+    OutOfMemory,
+}
+
+impl fmt::Display for CodeFault {
+    fn fmt<W: fmt::Write>(&self, f: &mut fmt::Formatter<W>) -> fmt::Result {
+        match self {
+            CodeFault::BadOpcode(at) => write!(f, "10 BadOpcode({at})"),
+            CodeFault::LeftOut(op) => write!(f, "11 LeftOut({op})"),
+            CodeFault::Cut(at) => write!(f, "12 Cut({at})"),
+            CodeFault::BadTarget => write!(f, "13 BadTarget"),
+            CodeFault::Later(op) => write!(f, "16 Later({op})"),
+            CodeFault::OutOfMemory => write!(f, "61 OutOfMemory"),
+        }
+    }
+}
+
+impl Error for CodeFault {}
+
+impl From<AllocError> for CodeFault {
+    ghost use Rattle.jm_class_format.specs.declared.fault.CodeFault.TheVariants.{OutOfMemory};
+
+    ghost from_gives = { λ _ fault. fault ≡ OutOfMemory };
+
+    fn from(_error: AllocError) -> CodeFault {
+        CodeFault::OutOfMemory
+    }
+}
+
+impl<T: Drop> From<AllocFailed<T>> for CodeFault {
+    ghost use Rattle.jm_class_format.specs.declared.fault.CodeFault.TheVariants.{OutOfMemory};
+
+    ghost from_gives = { λ _ fault. fault ≡ OutOfMemory };
+
+    fn from(_error: AllocFailed<T>) -> CodeFault {
+        CodeFault::OutOfMemory
+    }
+}

@@ -1,0 +1,2 @@
+pub mod Units
+pub mod Groups

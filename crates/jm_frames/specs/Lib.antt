@@ -1,0 +1,4 @@
+pub mod FrameView
+pub mod Made
+pub mod Computed
+pub mod Operands

@@ -1,0 +1,125 @@
+-- What a write to a slot changes.
+use Rattle.std.proofs.Common.{◌≡◌, ◌≢◌, ℕ, zero, suc, ◌+◌, ◌<◌, ◌^◌, List, [], ◌∷◌, ◌++◌, Option, Some, None, refl, sym, ap, ◌∙◌, subst, length, arith, get_or}
+use Rattle.std.specs.Prelude.{slice_get, slice_set, slice_index_or}
+use Rattle.std.proofs.lemmas.List.Sums.{sum_by-set, sum_by_push}
+use Rattle.std.proofs.lemmas.List.{length-set}
+use Rattle.std.proofs.lemmas.Option.{get_or_from_slice_get, slice_get_within, slice_get-get_or}
+use Rattle.std.specs.Vec.{with_item}
+use Rattle.jm_values.specs.declared.value.Value.{Value}
+use Rattle.jm_heap.specs.Slots.{object_in, object_of, object_cells, slot_cells, slots_cells}
+use Rattle.jm_heap.specs.Stored.{Written, Stored}
+use Rattle.jm_heap.specs.declared.slot.Object.{Object}
+use Rattle.jm_heap.specs.declared.slot.Slot.{Slot}
+use Rattle.jm_heap.specs.declared.slot.Slot.TheVariants.{Free, Taken}
+
+pub get_set_same : {X : Type 0} (xs : List X) (i : ℕ) (x : X) → i < length xs → slice_get (slice_set xs i x) i ≡ Some x
+get_set_same [] i x h = absurd (omega arith)
+get_set_same (y ∷ xs) zero x h = refl
+get_set_same (y ∷ xs) (suc i) x h = get_set_same xs i x (omega arith)
+
+pub get_set_other : {X : Type 0} (xs : List X) (i j : ℕ) (x : X) → j ≢ i → slice_get (slice_set xs i x) j ≡ slice_get xs j
+get_set_other [] i j x h = refl
+get_set_other (y ∷ xs) zero zero x h = absurd (h refl)
+get_set_other (y ∷ xs) zero (suc j) x h = refl
+get_set_other (y ∷ xs) (suc i) zero x h = refl
+get_set_other (y ∷ xs) (suc i) (suc j) x h = get_set_other xs i j x (λ e. h (ap suc e))
+
+pub get_end : {X : Type 0} (xs : List X) (x : X) → slice_get (xs ++ x ∷ []) (length xs) ≡ Some x
+get_end [] x = refl
+get_end (y ∷ xs) x = get_end xs x
+
+pub get_before_end : {X : Type 0} (xs : List X) (x : X) (j : ℕ) → j ≢ length xs → slice_get (xs ++ x ∷ []) j ≡ slice_get xs j
+get_before_end [] x zero h = absurd (h refl)
+get_before_end [] x (suc j) h = refl
+get_before_end (y ∷ xs) x zero h = refl
+get_before_end (y ∷ xs) x (suc j) h = get_before_end xs x j (λ e. h (ap suc e))
+
+pub get_past : {X : Type 0} (xs : List X) → slice_get xs (length xs) ≡ None
+get_past [] = refl
+get_past (y ∷ xs) = get_past xs
+
+-- the objects at other places stay
+pub others_set : (slots : List Slot) (m : ℕ) (s : Slot) (q : ℕ) → q ≢ suc m → object_in (slice_set slots m s) q ≡ object_in slots q
+others_set slots m s zero h = refl
+others_set slots m s (suc j) h = ap object_of (get_set_other slots m j s (λ e. h (ap suc e)))
+
+pub others_push : (slots : List Slot) (s : Slot) (q : ℕ) → q ≢ suc (length slots) → object_in (slots ++ s ∷ []) q ≡ object_in slots q
+others_push slots s zero h = refl
+others_push slots s (suc j) h = ap object_of (get_before_end slots s j (λ e. h (ap suc e)))
+
+-- cells at a write
+pub cells_set : (slots : List Slot) (m : ℕ) (s t : Slot) → slice_get slots m ≡ Some s → slots_cells (slice_set slots m t) + slot_cells s ≡ slots_cells slots + slot_cells t
+cells_set slots m s t e =
+    let within : m < length slots = slice_get_within slots m s e in
+    let at : get_or slots m s ≡ s = get_or_from_slice_get slots m s s e in
+    subst (λ x. slots_cells (slice_set slots m t) + slot_cells x ≡ slots_cells slots + slot_cells t) at (sum_by-set slot_cells slots m t s within)
+
+-- a place with an object has a slot
+pub slot_at : (slots : List Slot) (m : ℕ) (a : Object) → object_in slots (suc m) ≡ Some a → slice_get slots m ≡ Some (Taken a)
+slot_at slots m a e = by (slice_get slots m) e
+  where
+    by : (s : Option Slot) → object_of s ≡ Some a → s ≡ Some (Taken a)
+    by None h = cc
+    by (Some (Free n)) h = cc
+    by (Some (Taken o)) h = let same : o ≡ a = cc in ap (λ x. Some (Taken x)) same
+
+written_at : (slots : List Slot) (m i : ℕ) (v : Value) (o : Object) → slice_get slots m ≡ Some (Taken o) → Written slots (slice_set slots m (Taken (record { serial = o.serial; class = o.class; values = with_item o.values i v }))) (suc m) i v
+written_at slots m i v o e = record {
+  others = λ q h. others_set slots m (Taken new) q h;
+  written = λ a h k. let same : o ≡ a = one a h in (new, ap object_of (get_set_same slots m (Taken new) (slice_get_within slots m (Taken o) e)), record { serial = ap (λ x. x.serial) same; class = ap (λ x. x.class) same; values = ap (λ x. slice_set x.values.items i v) same });
+  cells = let total : slots_cells (slice_set slots m (Taken new)) + object_cells o ≡ slots_cells slots + object_cells new = cells_set slots m (Taken o) (Taken new) e in
+      let many : length (slice_set o.values.items i v) ≡ length o.values.items = length-set o.values.items i v in
+      omega (arith, total, many);
+  many = length-set slots m (Taken new);
+}
+  where
+    new : Object
+    new = record { serial = o.serial; class = o.class; values = with_item o.values i v }
+
+    one : (a : Object) → object_of (slice_get slots m) ≡ Some a → o ≡ a
+    one a h = let k : object_of (Some (Taken o)) ≡ Some a = subst (λ s. object_of s ≡ Some a) e h in cc
+
+-- a write of one value, from what the code read
+pub write_at : (slots : List Slot) (p m i : ℕ) (v : Value) (s : Slot) (o a : Object) → p ≡ suc m → s ≡ Taken o → s ≡ slice_index_or slots m s → object_in slots p ≡ Some a → Written slots (slice_set slots m (Taken (record { serial = o.serial; class = o.class; values = with_item o.values i v }))) p i v
+write_at slots p m i v s o a e t r h =
+    let there : slice_get slots m ≡ Some (Taken a) = slot_at slots m a (subst (λ q. object_in slots q ≡ Some a) e h) in
+    let within : m < length slots = slice_get_within slots m (Taken a) there in
+    let read : slice_get slots m ≡ Some s = slice_get-get_or slots m s within ∙ ap Some (sym r) in
+    let found : slice_get slots m ≡ Some (Taken o) = read ∙ ap Some t in
+    subst (λ q. Written slots (slice_set slots m (Taken (record { serial = o.serial; class = o.class; values = with_item o.values i v }))) q i v) (sym e) (written_at slots m i v o found)
+
+-- no slot that is free has an object
+pub not_free : {W : Type 0} (slots : List Slot) (p m next : ℕ) (s : Slot) (a : Object) → p ≡ suc m → s ≡ Free next → s ≡ slice_index_or slots m s → object_in slots p ≡ Some a → W
+not_free slots p m next s a e t r h =
+    let there : slice_get slots m ≡ Some (Taken a) = slot_at slots m a (subst (λ q. object_in slots q ≡ Some a) e h) in
+    let within : m < length slots = slice_get_within slots m (Taken a) there in
+    let read : slice_get slots m ≡ Some s = slice_get-get_or slots m s within ∙ ap Some (sym r) in
+    absurd (cc)
+
+-- an object comes to a free slot, or to a new one
+pub stored_in_free : (slots : List Slot) (p m next : ℕ) (s : Slot) (o : Object) → p ≡ suc m → s ≡ Free next → m < length slots → s ≡ slice_index_or slots m s → length slots < 2 ^ 63 → Stored slots (slice_set slots m (Taken o)) p o
+stored_in_free slots p m next s o e t within r few =
+    subst (λ q. Stored slots (slice_set slots m (Taken o)) q o) (sym e) (record {
+      fresh = ap object_of found;
+      stored = ap object_of (get_set_same slots m (Taken o) within);
+      others = λ q h. others_set slots m (Taken o) q h;
+      cells = let total : slots_cells (slice_set slots m (Taken o)) + 0 ≡ slots_cells slots + object_cells o = cells_set slots m (Free next) (Taken o) found in omega (arith, total);
+      few = let same : length (slice_set slots m (Taken o)) ≡ length slots = length-set slots m (Taken o) in omega (arith, same, few);
+    })
+  where
+    found : slice_get slots m ≡ Some (Free next)
+    found = slice_get-get_or slots m s within ∙ ap Some (sym r) ∙ ap Some t
+
+pub stored_at_end : (slots : List Slot) (p : ℕ) (o : Object) → p ≡ suc (length slots) → length slots < 9223372036854775807 → Stored slots (slots ++ Taken o ∷ []) p o
+stored_at_end slots p o e few =
+    subst (λ q. Stored slots (slots ++ Taken o ∷ []) q o) (sym e) (record {
+      fresh = ap object_of (get_past slots);
+      stored = ap object_of (get_end slots (Taken o));
+      others = λ q h. others_push slots (Taken o) q h;
+      cells = sum_by_push slot_cells slots (Taken o);
+      few = let many : length (slots ++ Taken o ∷ []) ≡ suc (length slots) = longer slots in omega (arith, many, few);
+    })
+  where
+    longer : (xs : List Slot) → length (xs ++ Taken o ∷ []) ≡ suc (length xs)
+    longer [] = refl
+    longer (x ∷ xs) = ap suc (longer xs)

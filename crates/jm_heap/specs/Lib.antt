@@ -1,0 +1,9 @@
+pub mod Cells
+pub mod NewObject
+pub mod Residents
+pub mod Allocation
+pub mod Collection
+pub mod Slots
+pub mod Stored
+pub mod Marks
+pub mod PlainHeap

@@ -1,0 +1,63 @@
+-- The slots of a plain heap: an object that lies in slot n has the place n + 1.
+use Rattle.std.specs.Prelude.{◌≡◌, ℕ, zero, suc, ◌+◌, ◌<◌, List, [], ◌∷◌, map, length, Option, Some, None, Bool, true, false, is_some, unwrap_or, slice_get, sum_by}
+use Rattle.jm_values.specs.Shape.{Among}
+use Rattle.jm_values.specs.Rename.{rename, stack_shape}
+use Rattle.jm_world.specs.Objects.{ObjectOf}
+use Rattle.jm_world.specs.Content.{Content, Resident}
+use Rattle.jm_heap.specs.Cells.{header_cells}
+use Rattle.jm_heap.specs.declared.class_id.ClassId.{ClassId}
+use Rattle.jm_heap.specs.declared.slot.Object.{Object}
+use Rattle.jm_heap.specs.declared.slot.Slot.{Slot}
+use Rattle.jm_heap.specs.declared.slot.Slot.TheVariants.{Free, Taken}
+
+abbrev pub object_of : Option Slot → Option Object
+object_of None = None
+object_of (Some (Free next)) = None
+object_of (Some (Taken o)) = Some o
+
+-- the object at a place
+abbrev pub object_in : List Slot → ℕ → Option Object
+object_in slots zero = None
+object_in slots (suc i) = object_of (slice_get slots i)
+
+abbrev pub serial_of : Option Object → Option ℕ
+serial_of None = None
+serial_of (Some o) = Some o.serial
+
+-- the serial of a place
+abbrev pub name_in : List Slot → ℕ → ℕ
+name_in slots p = unwrap_or (serial_of (object_in slots p)) 0
+
+-- an object with serials for places
+abbrev pub named_object : (ℕ → ℕ) → Object → ObjectOf ClassId
+named_object name o = record { type = o.class; values = map (rename name) o.values.items }
+
+-- the residents from a slot on
+abbrev pub residents_from : (ℕ → ℕ) → ℕ → List Slot → List (Resident ClassId)
+residents_from name i [] = []
+residents_from name i (Free next ∷ slots) = residents_from name (suc i) slots
+residents_from name i (Taken o ∷ slots) = record { place = suc i; serial = o.serial; object = named_object name o } ∷ residents_from name (suc i) slots
+
+unfoldable pub content_of : ℕ → ℕ → List Slot → Content ClassId
+content_of limit next slots = record { limit = limit; next = next; residents = residents_from (name_in slots) 0 slots }
+
+abbrev pub object_cells : Object → ℕ
+object_cells o = header_cells o.class + length o.values.items
+
+abbrev pub slot_cells : Slot → ℕ
+slot_cells (Free next) = 0
+slot_cells (Taken o) = object_cells o
+
+abbrev pub slots_cells : List Slot → ℕ
+slots_cells slots = sum_by slot_cells slots
+
+-- serials tell objects apart and are below the next one, and references are places of objects
+pub record AreSound (next : ℕ) (slots : List Slot) : Type 0 where
+  pub apart : (p q : ℕ) (a b : Object) → object_in slots p ≡ Some a → object_in slots q ≡ Some b → a.serial ≡ b.serial → p ≡ q
+  pub below : (p : ℕ) (a : Object) → object_in slots p ≡ Some a → a.serial < next
+  pub closed : (p : ℕ) (a : Object) → object_in slots p ≡ Some a → (q : ℕ) → Among q (stack_shape.refs a.values.items) → is_some (object_in slots q) ≡ true
+
+-- whether a place is marked
+abbrev pub is_marked : List Bool → ℕ → Bool
+is_marked marks zero = false
+is_marked marks (suc i) = unwrap_or (slice_get marks i) false

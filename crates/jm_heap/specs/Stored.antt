@@ -1,0 +1,35 @@
+-- What the calls on slots leave.
+use Rattle.std.specs.Prelude.{◌≡◌, ◌≢◌, ℕ, ◌+◌, ◌<◌, ◌≤◌, ◌^◌, List, length, Some, None, Bool, true, false, slice_set}
+use Rattle.jm_values.specs.declared.value.Value.{Value}
+use Rattle.jm_heap.specs.Slots.{object_in, object_cells, slots_cells, is_marked}
+use Rattle.jm_heap.specs.declared.slot.Object.{Object}
+use Rattle.jm_heap.specs.declared.slot.Slot.{Slot}
+
+-- an object with one value changed
+pub record IsWritten (a b : Object) (i : ℕ) (v : Value) : Type 0 where
+  pub serial : b.serial ≡ a.serial
+  pub class : b.class ≡ a.class
+  pub values : b.values.items ≡ slice_set a.values.items i v
+
+-- one value of the object at a place is another
+pub record Written (old new : List Slot) (p i : ℕ) (v : Value) : Type 0 where
+  pub others : (q : ℕ) → q ≢ p → object_in new q ≡ object_in old q
+  pub written : (a : Object) → object_in old p ≡ Some a → i < length a.values.items → (b : Object) × (object_in new p ≡ Some b) × IsWritten a b i v
+  pub cells : slots_cells new ≡ slots_cells old
+  pub many : length new ≡ length old
+
+-- an object has come to a place where none lay
+pub record Stored (old new : List Slot) (p : ℕ) (o : Object) : Type 0 where
+  pub fresh : object_in old p ≡ None
+  pub stored : object_in new p ≡ Some o
+  pub others : (q : ℕ) → q ≢ p → object_in new q ≡ object_in old q
+  pub cells : slots_cells new ≡ slots_cells old + object_cells o
+  pub few : length new < 2 ^ 63
+
+-- what is not marked is gone
+pub record Swept (old new : List Slot) (marks : List Bool) (left : ℕ) : Type 0 where
+  pub kept : (p : ℕ) → is_marked marks p ≡ true → object_in new p ≡ object_in old p
+  pub gone : (p : ℕ) → is_marked marks p ≡ false → object_in new p ≡ None
+  pub cells : left ≡ slots_cells new
+  pub fewer : left ≤ slots_cells old
+  pub many : length new ≡ length old

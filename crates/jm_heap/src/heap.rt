@@ -1,0 +1,130 @@
+// What a heap promises.
+
+ghost use Rattle.std.specs.Prelude.{◌≡◌, ℕ, ◌<◌, ◌≤◌, IfOk, OnOk, OnErr, IfErr, Some, length};
+ghost use Rattle.jm_values.specs.Rename.{rename, refs};
+ghost use Rattle.jm_values.specs.declared.value.Value.{Value};
+ghost use Rattle.jm_world.specs.Objects.{ObjectOf};
+ghost use Rattle.jm_world.specs.Content.{Content, IsSound, AllResident, Kept, Made, HasValue, IsSet, serial_at, object_at, name_of};
+ghost use Rattle.jm_heap.specs.Cells.{header_cells, resident_cells};
+ghost use Rattle.jm_heap.specs.NewObject.{new_object};
+ghost use Rattle.jm_heap.specs.Residents.{AreResident};
+ghost use Rattle.jm_heap.specs.Allocation.{IsRefused, IsRefusedHere, MadeHereOrNot};
+ghost use Rattle.jm_heap.specs.Collection.{IsAsBefore, LeavesReached};
+ghost use Rattle.jm_heap.specs.declared.class_id.ClassId.{ClassId};
+
+use crate::class_id::ClassId;
+use crate::fault::HeapFault;
+use crate::roots::Roots;
+use crate::shape::Shape;
+use jm_values::{Place, Value};
+use std::alloc::AllocError;
+
+/// Which objects a collection may give up.
+#[derive(Clone, Copy, Debug, PartialEq, Eq)]
+pub enum Kind {
+    /// Those that the heap chooses to look at.
+    Minor,
+    /// All.
+    Full,
+}
+
+/// A heap, which may move its objects. Its content is its limit in cells, the serial of the next
+/// object, and the residents: the objects that have a place, each with its serial, and with values
+/// that name serials. An instance takes 2 cells and one for each field, an array 3 and one for
+/// each element (a long is one cell).
+///
+/// Serials are sound where each place has one of its own, below the next one, and an object. A
+/// new heap's are, and each call leaves them so.
+pub trait Heap {
+    ghost content: { Self → Content ClassId };
+
+    /// Makes an object with default values (JVMS 2.3, 2.4), in a nursery, which has no part in
+    /// what it is, and answers its place. It may collect first: the roots are then moved with
+    /// their objects, after a refusal too, and what they reach stays as it is.
+    ///
+    /// HeapFull comes exactly where the cells of what the roots reach and those of the object
+    /// pass the limit, SerialsEnd where they do not and there have been 2^63 objects, and
+    /// OutOfMemory where a growth is refused.
+    fn allocate(
+        &mut self,
+        nursery: usize,
+        roots: &mut Roots,
+        shape: Shape<'_>,
+    ) -> Result<Place, HeapFault>
+        requires sound { IsSound (content self.old) }
+        requires resident { AllResident (content self.old) roots.old }
+        ensures ok { IfOk result (λ place. Made header_cells (content self.old) roots.old (content self.new) roots.new place (new_object shape.entry)) }
+        ensures kept { OnErr result (Kept (content self.old) roots.old (content self.new) roots.new) }
+        ensures next { OnErr result ((content self.new).next ≡ (content self.old).next) }
+        ensures err { IfErr result (IsRefused (content self.old) roots.old (new_object shape.entry)) };
+
+    /// Makes an object where that needs no collection, and so no roots; no other object moves or
+    /// goes. With None nothing has changed, and `allocate` decides: when None comes is the heap's
+    /// own business. SerialsEnd and OutOfMemory come as in `allocate`, HeapFull never, and nothing
+    /// has changed then.
+    fn allocate_here(
+        &mut self,
+        nursery: usize,
+        shape: Shape<'_>,
+    ) -> Result<Option<Place>, HeapFault>
+        requires { IsSound (content self.old) }
+        ensures ok { IfOk result (λ made. MadeHereOrNot (content self.old) (content self.new) made (new_object shape.entry)) }
+        ensures same { OnErr result (content self.new ≡ content self.old) }
+        ensures err { IfErr result (IsRefusedHere (content self.old) (new_object shape.entry)) };
+
+    /// The value of a number of the object at a place: a field of an instance, in the order of
+    /// its shape, or an element of an array. It takes no memory.
+    fn get(&self, place: Place, index: u32) -> Value
+        requires { (v : Value) × HasValue (content self.now) place index v }
+        ensures value { HasValue (content self.now) place index (rename (name_of (content self.now)) result) }
+        ensures resident { AllResident (content self.now) (refs result) };
+
+    /// Changes one value of the object at a place. Where a growth is refused, nothing has changed.
+    fn set(&mut self, place: Place, index: u32, value: Value) -> Result<(), AllocError>
+        requires sound { IsSound (content self.old) }
+        requires there { (v : Value) × HasValue (content self.old) place index v }
+        requires resident { AllResident (content self.old) (refs value) }
+        ensures ok { OnOk result (IsSet (content self.old) (content self.new) place index value) }
+        ensures err { OnErr result (content self.new ≡ content self.old) };
+
+    /// How many values the object at a place has. It takes no memory.
+    fn length(&self, place: Place) -> u32
+        requires { (k : ℕ) × (o : ObjectOf ClassId) × (serial_at (content self.now) place ≡ Some k) × (object_at (content self.now) k ≡ Some o) }
+        ensures { (k : ℕ) (o : ObjectOf ClassId) → serial_at (content self.now) place ≡ Some k → object_at (content self.now) k ≡ Some o → result ≡ length o.values };
+
+    /// The class or array type of the object at a place. It takes no memory.
+    fn class_of(&self, place: Place) -> ClassId
+        requires { (k : ℕ) × (o : ObjectOf ClassId) × (serial_at (content self.now) place ≡ Some k) × (object_at (content self.now) k ≡ Some o) }
+        ensures { (k : ℕ) (o : ObjectOf ClassId) → serial_at (content self.now) place ≡ Some k → object_at (content self.now) k ≡ Some o → result ≡ o.type };
+
+    /// The serial of the object at a place. It takes no memory.
+    fn serial(&self, place: Place) -> u64
+        requires { (k : ℕ) × (serial_at (content self.now) place ≡ Some k) }
+        ensures { serial_at (content self.now) place ≡ Some result };
+
+    /// Gives up objects that the roots do not reach: all of them with `Full`. The roots are moved
+    /// with their objects, and what they reach stays as it is. Where a growth is refused, nothing
+    /// has changed.
+    fn collect(&mut self, roots: &mut Roots, kind: Kind) -> Result<(), AllocError>
+        requires sound { IsSound (content self.old) }
+        requires resident { AllResident (content self.old) roots.old }
+        ensures kept { Kept (content self.old) roots.old (content self.new) roots.new }
+        ensures next { (content self.new).next ≡ (content self.old).next }
+        ensures as_before { IsAsBefore (content self.old) (content self.new) }
+        ensures ok { OnOk result (LeavesReached kind (content self.old) roots.old (content self.new)) }
+        ensures err { OnErr result ((content self.new ≡ content self.old) × (roots.new ≡ roots.old)) };
+
+    /// The serials of the residents, rising.
+    fn resident(&self) -> Result<Vec<u64>, AllocError>
+        requires { IsSound (content self.now) }
+        ensures { IfOk result (λ serials. AreResident (content self.now) serials.items) };
+
+    /// The cells of the residents, at most the limit after every call. It takes no memory.
+    fn used(&self) -> u64
+        ensures value { result ≡ resident_cells (content self.now) }
+        ensures within { result ≤ (content self.now).limit };
+
+    /// The limit in cells. It takes no memory.
+    fn limit(&self) -> u64
+        ensures { result ≡ (content self.now).limit };
+}

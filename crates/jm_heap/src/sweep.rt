@@ -1,0 +1,58 @@
+// Giving slots free.
+
+ghost use Rattle.std.specs.Prelude.{◌≡◌, ◌<◌, ◌≤◌, ◌^◌, length, slice_set};
+ghost use Rattle.jm_heap.specs.Slots.{slot_cells, slots_cells};
+ghost use Rattle.jm_heap.specs.Stored.{Swept};
+ghost use Rattle.jm_heap.specs.declared.slot.Slot.TheVariants.{Free};
+
+use crate::class_id::ClassId;
+use crate::slot::Slot;
+
+// No slot has this number.
+const NO_SLOT: usize = usize::MAX;
+
+/// The cells of what lies in a slot.
+fn cells(slot: &Slot) -> u64
+    requires { slot_cells slot.now < 2 ^ 64 }
+    ensures { result ≡ slot_cells slot.now }
+{
+    match slot {
+        Slot::Free(_) => 0,
+        Slot::Taken(object) => {
+            let header = match object.class {
+                ClassId::Instance(_) => 2,
+                ClassId::Array(_) => 3,
+            };
+            header + object.values.len() as u64
+        }
+    }
+}
+
+// Puts a slot at the head of the list of free ones.
+fn free_slot(slots: &mut Vec<Slot>, used: &mut u64, index: usize, next: usize)
+    requires within { index < length slots.old.items }
+    requires used { used.old ≡ slots_cells slots.old.items }
+    ensures items { slots.new.items ≡ slice_set slots.old.items index (Free next) }
+    ensures used { used.new ≡ slots_cells slots.new.items }
+    ensures fewer { used.new ≤ used.old }
+{
+    *used -= cells(&slots[index]);
+    slots[index] = Slot::Free(next);
+}
+
+/// Frees each slot that is not marked, and answers the first free one; `used` is then the cells of
+/// what is left.
+pub fn sweep(slots: &mut Vec<Slot>, marks: &Vec<bool>, used: &mut u64) -> usize
+    requires many { length marks.now.items ≡ length slots.old.items }
+    requires used { used.old ≡ slots_cells slots.old.items }
+    ensures { Swept slots.old.items slots.new.items marks.now.items used.new }
+{
+    let mut free = NO_SLOT;
+    for index in 0..slots.len() {
+        if !marks[index] {
+            free_slot(slots, used, index, free);
+            free = index;
+        }
+    }
+    free
+}

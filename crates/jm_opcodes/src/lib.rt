@@ -1,0 +1,22 @@
+//! The code of a method from its bytes: instructions with their offsets (JVMS 4.7.3, 6.5).
+//!
+//! [`decode_code`] gives the instructions that the bytes spell, their branch targets as numbers of
+//! instructions, and refuses bytes that spell no code by the first fault. What an instruction names
+//! stays an index of the constant pool. It stands on the definitions of `jm_class_format` and reads
+//! with `jm_bytes`.
+#![tactic(auto)]
+
+mod decode;
+mod instruction;
+mod operands;
+mod starts;
+mod switch;
+mod table;
+mod targets;
+
+pub use decode::decode_code;
+pub use jm_class_format::{CodeFault, IndexedInstr, LaterOp, LeftOutOp, PlacedInstr};
+pub use starts::Starts;
+
+#[cfg(test)]
+mod tests;

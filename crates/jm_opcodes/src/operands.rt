@@ -1,0 +1,148 @@
+ghost use Rattle.std.specs.Prelude.{◌≡◌, ◌<◌, ◌+◌, ◌+ℤ◌, ℤ, pos, Ok, Err, IfOk};
+ghost use Rattle.jm_bytes.specs.Reading.{Takes, TakesAll};
+ghost use Rattle.jm_bytes.specs.Format.{Format};
+ghost use Rattle.jm_class_format.specs.Instructions.{offset_of, target_from, near_target, far_target, element_at, new_array, invoke_interface, increment, wide_increment, can_be_wide, no_wide, wide_operands, wide};
+
+use crate::table::opcode_of;
+use jm_bytes::Reader;
+use jm_class_format::{CodeFault, IndexedInstr, LeftOutOp, Opcode};
+use jm_program::{ArrayOp, Plain, PrimitiveType};
+
+/// The offset that a branch at an offset jumps to, or the largest number where it is before the
+/// start of the code.
+#[tactic(auto, unfolding(jm_class_format::specs::Instructions::offset_of, jm_class_format::specs::Instructions::target_from))]
+fn target_from(at: u32, jump: i32) -> u32
+    requires { at < 65536 }
+    ensures { result ≡ target_from at jump }
+{
+    let target = i64::from(at) + i64::from(jump);
+    if target < 0 { u32::MAX } else { target as u32 }
+}
+
+/// A target in two bytes.
+#[tactic(auto, unfolding(jm_class_format::specs::Instructions::near_target))]
+pub fn near_target(at: u32, reader: &mut Reader<'_>) -> Result<u32, CodeFault>
+    requires { at < 65536 }
+    ensures { Takes result reader.new ((near_target at).read reader.old) }
+{
+    let jump = reader.s2().map_err(|_| CodeFault::Cut(at))?;
+    Ok(target_from(at, i32::from(jump)))
+}
+
+/// A target in four bytes.
+#[tactic(auto, unfolding(jm_class_format::specs::Instructions::far_target))]
+pub fn far_target(at: u32, reader: &mut Reader<'_>) -> Result<u32, CodeFault>
+    requires { at < 65536 }
+    ensures { Takes result reader.new ((far_target at).read reader.old) }
+{
+    let jump = reader.s4().map_err(|_| CodeFault::Cut(at))?;
+    Ok(target_from(at, jump))
+}
+
+/// The element type of `newarray` (JVMS 6.5, table 6.5.newarray-A).
+#[tactic(auto, unfolding(jm_class_format::specs::Instructions::element_at))]
+fn element_of(at: u32, code: u8) -> Result<PrimitiveType, CodeFault>
+    ensures { TakesAll (λ x. x) result (element_at at code) }
+{
+    match code {
+        4 => Ok(PrimitiveType::Boolean),
+        5 => Ok(PrimitiveType::Char),
+        6 => Err(CodeFault::LeftOut(LeftOutOp::FloatArray)),
+        7 => Err(CodeFault::LeftOut(LeftOutOp::DoubleArray)),
+        8 => Ok(PrimitiveType::Byte),
+        9 => Ok(PrimitiveType::Short),
+        10 => Ok(PrimitiveType::Int),
+        11 => Ok(PrimitiveType::Long),
+        _ => Err(CodeFault::BadOpcode(at)),
+    }
+}
+
+/// The operand of `newarray`.
+#[tactic(auto, unfolding(jm_class_format::specs::Instructions::new_array))]
+pub fn new_array(at: u32, reader: &mut Reader<'_>) -> Result<IndexedInstr, CodeFault>
+    ensures { Takes result reader.new ((new_array at).read reader.old) }
+{
+    let code = reader.u1().map_err(|_| CodeFault::Cut(at))?;
+    let element = element_of(at, code)?;
+    Ok(IndexedInstr::Array(ArrayOp::New(element)))
+}
+
+/// The operands of `invokeinterface`.
+#[tactic(auto, unfolding(jm_class_format::specs::Instructions::invoke_interface))]
+pub fn invoke_interface(at: u32, reader: &mut Reader<'_>) -> Result<IndexedInstr, CodeFault>
+    ensures { Takes result reader.new ((invoke_interface at).read reader.old) }
+{
+    let index = reader.u2().map_err(|_| CodeFault::Cut(at))?;
+    let count = reader.u1().map_err(|_| CodeFault::Cut(at))?;
+    let last = reader.u1().map_err(|_| CodeFault::Cut(at))?;
+    Ok(IndexedInstr::InvokeInterface(index, count, last))
+}
+
+/// The operands of `iinc`.
+#[tactic(auto, unfolding(jm_class_format::specs::Instructions::increment))]
+pub fn increment(at: u32, reader: &mut Reader<'_>) -> Result<IndexedInstr, CodeFault>
+    ensures { Takes result reader.new ((increment at).read reader.old) }
+{
+    let local = reader.u1().map_err(|_| CodeFault::Cut(at))?;
+    let n = reader.s1().map_err(|_| CodeFault::Cut(at))?;
+    Ok(IndexedInstr::Plain(Plain::Increment(u16::from(local), i16::from(n))))
+}
+
+/// The operands of `iinc` behind `wide`.
+#[tactic(auto, unfolding(jm_class_format::specs::Instructions::wide_increment))]
+fn wide_increment(at: u32, reader: &mut Reader<'_>) -> Result<IndexedInstr, CodeFault>
+    ensures { Takes result reader.new ((wide_increment at).read reader.old) }
+{
+    let local = reader.u2().map_err(|_| CodeFault::Cut(at))?;
+    let n = reader.s2().map_err(|_| CodeFault::Cut(at))?;
+    Ok(IndexedInstr::Plain(Plain::Increment(local, n)))
+}
+
+/// Why an instruction that is left out is refused behind `wide`.
+#[tactic(auto, unfolding(jm_class_format::specs::Instructions::no_wide))]
+fn no_wide(at: u32, op: LeftOutOp) -> CodeFault
+    ensures { result ≡ no_wide at op }
+{
+    match op {
+        LeftOutOp::FLoad
+        | LeftOutOp::DLoad
+        | LeftOutOp::FStore
+        | LeftOutOp::DStore
+        | LeftOutOp::Ret => CodeFault::LeftOut(op),
+        _ => CodeFault::BadOpcode(at),
+    }
+}
+
+/// The operands of an opcode behind `wide` (JVMS 6.5 wide).
+#[tactic(auto, unfolding(jm_class_format::specs::Instructions::wide_operands))]
+fn wide_operands(
+    at: u32,
+    opcode: Opcode,
+    reader: &mut Reader<'_>,
+) -> Result<IndexedInstr, CodeFault>
+    ensures { Takes result reader.new ((wide_operands at opcode).read reader.old) }
+{
+    match opcode {
+        Opcode::Load(kind) => {
+            let local = reader.u2().map_err(|_| CodeFault::Cut(at))?;
+            Ok(IndexedInstr::Plain(Plain::Load(kind, local)))
+        }
+        Opcode::Store(kind) => {
+            let local = reader.u2().map_err(|_| CodeFault::Cut(at))?;
+            Ok(IndexedInstr::Plain(Plain::Store(kind, local)))
+        }
+        Opcode::Increment => wide_increment(at, reader),
+        Opcode::LeftOut(op) => Err(no_wide(at, op)),
+        _ => Err(CodeFault::BadOpcode(at)),
+    }
+}
+
+/// The opcode behind `wide`, and its operands.
+#[tactic(auto, unfolding(jm_class_format::specs::Instructions::wide))]
+pub fn wide(at: u32, reader: &mut Reader<'_>) -> Result<IndexedInstr, CodeFault>
+    ensures { Takes result reader.new ((wide at).read reader.old) }
+{
+    let byte = reader.u1().map_err(|_| CodeFault::Cut(at))?;
+    let opcode = opcode_of(byte).ok_or(CodeFault::BadOpcode(at))?;
+    wide_operands(at, opcode, reader)
+}

@@ -1,0 +1,2 @@
+pub mod FrontLaws
+pub mod ModifiedText
