@@ -19,6 +19,3 @@ pub use instruction::{IndexedInstr, PlacedInstr};
 pub use laws::{fits_is_tested, one_class, one_code, one_pool, one_text, spelled_class_fits};
 pub use opcode::{LaterOp, LeftOutOp, Opcode};
 pub use read_fault::{LeftOutPart, ReadFault};
-
-#[cfg(test)]
-mod tests;

@@ -1,29 +1,41 @@
-//! Reads the class files among its data and prints a line of a table for each: its bytes, its
-//! version and the constant_pool_count (JVMS 4.1).
+//! Reads the class files among its data and prints a table: for each class how many fields and
+//! methods it has and, over its methods, the sums of max_stack and of max_locals and the rows of
+//! the codes, of the exception tables and of the line number tables; for each file that is refused
+//! why.
 #![tactic(auto)]
 
-mod header;
+mod files;
+mod row;
 
-use header::{Header, header_of};
+use files::{ACCEPTED, REFUSED};
+use jm_class_reader::read_class;
+use row::row_of;
+use std::rt::Files;
 use std::{fs, io};
 
-const FILES: [&str; 1] = ["sum.class"];
-
 fn main(rt: HostRuntime) -> io::Result<()> {
-    println!(rt; "file bytes version pool")?;
-    for file in FILES {
-        let bytes = fs::read(&rt, file)?;
-        match header_of(&bytes) {
-            Ok(header) => print_line(&rt, file, bytes.len(), header)?,
-            Err(_) => println!(rt; "{file} is cut")?,
-        }
+    println!(rt; "file fields methods max_stack max_locals instructions handlers lines")?;
+    for file in ACCEPTED {
+        print_line(&rt, file)?;
+    }
+    for file in REFUSED {
+        print_line(&rt, file)?;
     }
     Ok(())
 }
 
-fn print_line(rt: &impl Print, file: &str, bytes: usize, header: Header) -> io::Result<()> {
-    let major = header.major;
-    let minor = header.minor;
-    let count = header.pool_count;
-    println!(rt; "{file} {bytes} {major}.{minor} {count}")
+// Prints the line of a file, under its name without the folder.
+fn print_line(rt: &(impl Print + Files + AllocGlobal), file: &str) -> io::Result<()> {
+    let bytes = fs::read(rt, file)?;
+    let name = match file.split_once("/") {
+        Some((_, name)) => name,
+        None => file,
+    };
+    match read_class(rt.alloc(), &bytes) {
+        Ok(class) => {
+            let row = row_of(class.parts());
+            println!(rt; "{name} {row}")
+        }
+        Err(fault) => println!(rt; "{name} {fault}"),
+    }
 }

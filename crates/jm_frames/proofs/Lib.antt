@@ -1,2 +1,3 @@
 pub mod Units
 pub mod Groups
+pub mod Refilled

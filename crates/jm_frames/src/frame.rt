@@ -1,14 +1,20 @@
 // The frame of a method that runs.
 
-ghost use Rattle.std.specs.Prelude.{◌≡◌, ◌+◌, ◌<◌, ◌≤◌, ◌^◌, [], ◌∷◌, drop, length, replicate, slice_get, slice_set, Some, None, Ok, Err, IfOk, if◌then◌else◌, nat_le, MatchResult, OnOk, OnErr};
+ghost use Rattle.std.specs.Prelude.{◌≡◌, ◌+◌, ◌<◌, ◌≤◌, ◌^◌, [], ◌∷◌, drop, length, replicate, reverse, slice_get, slice_set, Some, None, Ok, Err, IfOk, if◌then◌else◌, nat_le, MatchResult, OnOk, OnErr};
+ghost use Rattle.std.specs.Slice.Iter.{iter_rest};
 ghost use Rattle.jm_values.specs.Activation.{category, units};
+ghost use Rattle.jm_values.specs.Shape.{option_shape};
+ghost use Rattle.jm_values.specs.Rename.{refs, refill, value_shape, locals_shape, stack_shape, activation_shape};
 ghost use Rattle.jm_frames.specs.FrameView.{FrameView, with_stack, with_locals_of, gone_to};
 
 use jm_values::{Place, TagFault, Value};
 use std::alloc::{AllocError, Global};
 use std::marker::Model;
+use std::slice::Iter;
 
-/// The frame of a method that runs (JVMS 2.6).
+/// The frame of a method that runs (JVMS 2.6): the numbers of its method and of its instruction,
+/// the monitor that it entered, its local variables and its operand stack. A long is one operand
+/// and takes two of the `max_stack` units, and of its two local variables only the first is set.
 #[derive(Debug, Drop)]
 pub struct Frame {
     method: usize,
@@ -33,8 +39,9 @@ impl Model for Frame {
 }
 
 impl Frame {
-    /// The frame of a method that begins: no operand, no local variable set, and the room for both
-    /// reserved. `AllocError`: there was no memory for that room.
+    /// The frame of a method that begins: at instruction 0, no operand, no local variable set, and
+    /// the room for both reserved. `max_stack` is in units, of which a long takes two (JVMS 4.7.3).
+    /// `AllocError`: there was no memory for that room.
     pub fn new(
         alloc: Global,
         method: usize,
@@ -57,7 +64,7 @@ impl Frame {
         })
     }
 
-    /// The number of the method.
+    /// The number of the method, as the frame was given it.
     #[inline]
     pub fn method(&self) -> usize
         ensures { result ≡ self.now.method }
@@ -72,7 +79,7 @@ impl Frame {
         self.monitor
     }
 
-    /// The number of the instruction.
+    /// The number of the instruction, counted from the first one of the method, which is 0.
     #[inline]
     pub fn at(&self) -> usize
         ensures { result ≡ self.now.activation.at }
@@ -80,7 +87,8 @@ impl Frame {
         self.at
     }
 
-    /// The value of a local variable, if there is one of that number, and if it is set.
+    /// The value of a local variable: the outer `None` is that there is none of that number, the
+    /// inner one that it is not set (JVMS 2.6.1).
     #[inline]
     pub fn local(&self, number: usize) -> Option<Option<Value>>
         ensures { result ≡ slice_get self.now.activation.locals number }
@@ -102,7 +110,7 @@ impl Frame {
         }
     }
 
-    /// Pops the operand on top. `Underflow`: there is none.
+    /// Pops the operand on top. `Underflow`: there is none, and the frame stays as it was.
     #[inline]
     pub fn pop(&mut self) -> Result<Value, TagFault>
         ensures value { MatchResult result (λ value. slice_get self.old.activation.stack 0 ≡ Some value) (λ fault. (fault ≡ TagFault.Underflow) × (self.old.activation.stack ≡ [])) }
@@ -150,7 +158,8 @@ impl Frame {
         self.stack.push(value).unwrap();
     }
 
-    /// Sets a local variable, or unsets it.
+    /// Sets a local variable, or unsets it, and touches no other one. Its number is below
+    /// `max_locals`.
     #[inline]
     pub fn set_local(&mut self, number: usize, value: Option<Value>)
         requires { number < length self.old.activation.locals }
@@ -167,7 +176,38 @@ impl Frame {
         self.locals.len()
     }
 
-    /// Goes to an instruction.
+    /// The local variables, set or not.
+    pub fn locals(&self) -> &[Option<Value>]
+        ensures { result.now ≡ self.now.activation.locals }
+    {
+        self.locals.as_slice()
+    }
+
+    /// The operands, with the top last.
+    pub fn operands(&self) -> &[Value]
+        ensures { reverse result.now ≡ self.now.activation.stack }
+    {
+        self.stack.as_slice()
+    }
+
+    /// Puts another place where the object lies whose monitor was entered, or none.
+    pub fn set_monitor(&mut self, monitor: Option<Place>)
+        ensures { self.new ≡ record self.old { monitor = monitor } }
+    {
+        self.monitor = monitor;
+    }
+
+    /// Puts the next places where the local variables and then the operands, from the top, have
+    /// references, and takes them.
+    pub fn put_places(&mut self, places: &mut Iter<'_, Place>)
+        ensures frame { self.new ≡ record self.old { activation = activation_shape.refill (iter_rest places.old) self.old.activation } }
+        ensures left { iter_rest places.new ≡ drop (length (activation_shape.refs self.old.activation)) (iter_rest places.old) }
+    {
+        put_locals(&mut self.locals, places);
+        put_operands(&mut self.stack, places);
+    }
+
+    /// Goes to an instruction, by its number.
     #[inline]
     pub fn go_to(&mut self, at: usize)
         ensures { self.new ≡ gone_to self.old at }
@@ -201,5 +241,48 @@ pub(crate) fn category(value: &Value) -> usize
     match *value {
         Value::Long(_) => 2,
         _ => 1,
+    }
+}
+
+/// Puts the next place where a value has its reference, if it has one, and takes it.
+pub fn put_value(value: &mut Value, places: &mut Iter<'_, Place>)
+    ensures value { value.new ≡ refill (iter_rest places.old) value.old }
+    ensures left { iter_rest places.new ≡ drop (length (refs value.old)) (iter_rest places.old) }
+{
+    if let Value::Ref(_) = *value {
+        if let Some(place) = places.next() {
+            *value = Value::Ref(*place);
+        }
+    }
+}
+
+// Puts the next place where a local variable has its reference.
+fn put_local(local: &mut Option<Value>, places: &mut Iter<'_, Place>)
+    ensures value { local.new ≡ (option_shape value_shape).refill (iter_rest places.old) local.old }
+    ensures left { iter_rest places.new ≡ drop (length ((option_shape value_shape).refs local.old)) (iter_rest places.old) }
+{
+    if let Some(value) = local {
+        put_value(value, places);
+    }
+}
+
+// Puts the next places where local variables have references.
+fn put_locals(locals: &mut [Option<Value>], places: &mut Iter<'_, Place>)
+    ensures values { locals.new ≡ locals_shape.refill (iter_rest places.old) locals.old }
+    ensures left { iter_rest places.new ≡ drop (length (locals_shape.refs locals.old)) (iter_rest places.old) }
+{
+    for local in locals.iter_mut() {
+        put_local(local, places);
+    }
+}
+
+// Puts the next places where operands have references, from the top, which is the last.
+fn put_operands(operands: &mut [Value], places: &mut Iter<'_, Place>)
+    ensures values { reverse operands.new ≡ stack_shape.refill (iter_rest places.old) (reverse operands.old) }
+    ensures left { iter_rest places.new ≡ drop (length (stack_shape.refs (reverse operands.old))) (iter_rest places.old) }
+{
+    let count = operands.len();
+    for depth in 0..count {
+        put_value(&mut operands[count - 1 - depth], places);
     }
 }

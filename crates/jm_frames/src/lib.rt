@@ -1,7 +1,12 @@
 //! The frame of a method that runs (JVMS 2.6): its local variables and its operand stack.
 //!
 //! A [`Frame`] is made with the room for `max_stack` units of operands and `max_locals` local
-//! variables, so that no later call takes memory.
+//! variables, so that no later call takes memory. Its calls are the families of instructions that
+//! touch one frame alone: loads, stores and `iinc` (`locals`), operand stack management
+//! (`operand_stack`), and arithmetic, shifts, bits, conversions and `lcmp` (`arithmetic`, over the
+//! operations of [`numbers`]). Each does exactly what the row of `jm_values` says, and goes on to
+//! the next instruction; a refused one answers the row's [`TagFault`] and leaves the frame as it
+//! was.
 #![tactic(auto)]
 
 mod arithmetic;
@@ -11,5 +16,5 @@ pub mod numbers;
 mod operand_stack;
 
 pub use arithmetic::Computed;
-pub use frame::Frame;
+pub use frame::{Frame, put_value};
 pub use jm_values::{Place, TagFault, Value};

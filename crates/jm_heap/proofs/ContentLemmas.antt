@@ -68,8 +68,11 @@ serial_of_place limit next slots (suc i) = serial_from (name_in slots) 0 slots i
 abbrev pub Apart : List Slot → Type 0
 Apart slots = (j k : ℕ) (a b : Object) → slice_get slots j ≡ Some (Taken a) → slice_get slots k ≡ Some (Taken b) → a.serial ≡ b.serial → j ≡ k
 
-tail_apart : (s : Slot) (slots : List Slot) → Apart (s ∷ slots) → Apart slots
+pub tail_apart : (s : Slot) (slots : List Slot) → Apart (s ∷ slots) → Apart slots
 tail_apart s slots h j k a b e f g = let same : suc j ≡ suc k = h (suc j) (suc k) a b e f g in omega arith
+
+pub apart_of : (next : ℕ) (slots : List Slot) → AreSound next slots → Apart slots
+apart_of next slots s j k a b e f g = let same : suc j ≡ suc k = s.apart (suc j) (suc k) a b (ap object_of e) (ap object_of f) g in omega arith
 
 object_from : (name : ℕ → ℕ) (i : ℕ) (slots : List Slot) (k : ℕ) (o : Object) → Apart slots → slice_get slots k ≡ Some (Taken o) → content.object_in (residents_from name i slots) o.serial ≡ Some (named_object name o)
 object_from name i [] k o h e = cc
@@ -94,7 +97,7 @@ pub record From (name : ℕ → ℕ) (slots : List Slot) (k : ℕ) (x : ObjectOf
 from_tail : (name : ℕ → ℕ) (s : Slot) (slots : List Slot) (k : ℕ) (x : ObjectOf ClassId) → From name slots k x → From name (s ∷ slots) k x
 from_tail name s slots k x f = record { slot = suc f.slot; object = f.object; taken = f.taken; serial = f.serial; named = f.named }
 
-only_from : (name : ℕ → ℕ) (i : ℕ) (slots : List Slot) (k : ℕ) (x : ObjectOf ClassId) → content.object_in (residents_from name i slots) k ≡ Some x → From name slots k x
+pub only_from : (name : ℕ → ℕ) (i : ℕ) (slots : List Slot) (k : ℕ) (x : ObjectOf ClassId) → content.object_in (residents_from name i slots) k ≡ Some x → From name slots k x
 only_from name i [] k x e = cc
 only_from name i (Free n ∷ slots) k x e = from_tail name (Free n) slots k x (only_from name (suc i) slots k x e)
 only_from name i (Taken o ∷ slots) k x e = by (only_from name (suc i) slots k x) (eqb_tells k o.serial)
@@ -161,12 +164,9 @@ slots_show limit next slots s = record {
   only = λ k x e. found k x (only_from (name_in slots) 0 slots k x e);
 }
   where
-    apart : Apart slots
-    apart j k a b e f g = let same : suc j ≡ suc k = s.apart (suc j) (suc k) a b (ap object_of e) (ap object_of f) g in omega arith
-
     at : (p : ℕ) (a : Object) → object_in slots p ≡ Some a → content.object_in (residents_from (name_in slots) 0 slots) a.serial ≡ Some (named_object (name_of (content_of limit next slots)) a)
     at zero a e = cc
-    at (suc i) a e = object_from (name_in slots) 0 slots i a apart (slot_at slots i a e) ∙ ap Some (named_same (name_in slots) (name_of (content_of limit next slots)) a (λ p h. name_of_place limit next slots p))
+    at (suc i) a e = object_from (name_in slots) 0 slots i a (apart_of next slots s) (slot_at slots i a e) ∙ ap Some (named_same (name_in slots) (name_of (content_of limit next slots)) a (λ p h. name_of_place limit next slots p))
 
     found : (k : ℕ) (x : ObjectOf ClassId) → From (name_in slots) slots k x → (p : ℕ) × (a : Object) × (object_in slots p ≡ Some a) × (a.serial ≡ k) × (x ≡ named_object (name_of (content_of limit next slots)) a)
     found k x f = (suc f.slot, f.object, ap object_of f.taken, f.serial, f.named ∙ named_same (name_in slots) (name_of (content_of limit next slots)) f.object (λ p h. name_of_place limit next slots p))

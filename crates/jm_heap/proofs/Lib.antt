@@ -5,3 +5,8 @@ pub mod SoundLemmas
 pub mod ReadingLemmas
 pub mod WritingLemmas
 pub mod SweepingLemmas
+pub mod CellLemmas
+pub mod NewLemmas
+pub mod MakingLemmas
+pub mod AllocatingLemmas
+pub mod ResidentLemmas

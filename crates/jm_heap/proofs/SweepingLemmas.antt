@@ -3,10 +3,10 @@ use Rattle.std.proofs.Common.{◌≡◌, ℕ, List, [], ◌∷◌, Some, None, B
 use Rattle.std.specs.Prelude.{map, is_some, unwrap_or, Result, Ok, Err, OnOk, OnErr}
 use Rattle.jm_values.specs.Rename.{stack_shape}
 use Rattle.jm_values.specs.Shape.{Among}
-use Rattle.jm_world.specs.Objects.{ObjectOf, root, field, refs_of}
+use Rattle.jm_world.specs.Objects.{ObjectOf, Reach, root, field, refs_of}
 use Rattle.jm_world.specs.Content.{Content, IsSound, Kept, AllResident, Reached, serial_at, object_at, name_of}
 use Rattle.jm_heap.specs.Collection.{Collected}
-use Rattle.jm_heap.specs.Marks.{AreReached, plain_object}
+use Rattle.jm_heap.specs.Marks.{AreReached, objects_of, plain_object}
 use Rattle.jm_heap.specs.Slots.{AreSound, object_in, serial_of, named_object, content_of, is_marked}
 use Rattle.jm_heap.specs.Stored.{Swept}
 use Rattle.jm_heap.specs.declared.class_id.ClassId.{ClassId}
@@ -88,6 +88,15 @@ module _ (limit next : ℕ) (slots after : List Slot) (roots : List ℕ) (marks 
       let m = was f.0 f.1 f.2 in
       subst (λ n. Reached old roots n) (name_is (object_in slots) old shows f.0 f.1 m.lay ∙ f.3) (reached_name limit next slots roots s r f.0 (reached.reached f.0 m.marked))
 
+  -- a place whose serial is reached is marked, so it keeps its object
+  place_kept : (p k : ℕ) → Reached old roots k → serial_at old p ≡ Some k → serial_at new p ≡ Some k
+  place_kept p k h e =
+      let x = reached_at limit next slots roots s r k h in
+      let a = at_place (object_in slots) old shows p k e in
+      let same : x.place ≡ p = s.apart x.place p x.object a.0 x.lies a.1 (x.serial ∙ sym a.2) in
+      let kept : object_in after p ≡ object_in slots p = w.kept p (reached.marked p (subst (λ n. Reach (objects_of slots) roots n) same x.reach)) in
+      serial_of_place limit next after p ∙ ap serial_of kept ∙ sym (serial_of_place limit next slots p) ∙ e
+
   collected : Collected old roots new
   unfolding content_of
   collected = record {
@@ -101,6 +110,7 @@ module _ (limit next : ℕ) (slots after : List Slot) (roots : List ℕ) (marks 
     next = refl;
     as_before = λ k o e. only_before k o (shows_after.only k o e);
     only = λ k o e. only_reached k o (shows_after.only k o e);
+    places = place_kept;
   }
 
 pub sound_swept : (limit next : ℕ) (slots after : List Slot) (d : Content ClassId) → content_of limit next slots ≡ d → AreSound next slots → (roots : List ℕ) (marks : List Bool) (left : ℕ) → AllResident d roots → AreReached slots roots marks → Swept slots after marks left → AreSound next after

@@ -1,5 +1,5 @@
 -- What comes of making an object.
-use Rattle.std.specs.Prelude.{◌≡◌, ℕ, ◌+◌, ◌≤◌, List, Option, Some, None}
+use Rattle.std.specs.Prelude.{◌≡◌, ℕ, ◌+◌, ◌<◌, ◌≤◌, List, Option, Some, None}
 use Rattle.jm_world.specs.Objects.{ObjectOf, size_by}
 use Rattle.jm_world.specs.Content.{Content, AllResident, Made, IsFull, IsAtEnd, serial_at, object_at}
 use Rattle.jm_heap.specs.Cells.{header_cells, resident_cells}
@@ -31,3 +31,12 @@ abbrev pub IsRefusedHere : Content ClassId → ObjectOf ClassId → HeapFault �
 IsRefusedHere c o OutOfMemory = Unit {0}
 IsRefusedHere c o HeapFull = ⊥
 IsRefusedHere c o SerialsEnd = (roots : List ℕ) → AllResident c roots → IsAtEnd header_cells c roots o
+
+-- the object fits beside all residents
+abbrev pub HasRoom : Content ClassId → ObjectOf ClassId → Type 0
+HasRoom c o = resident_cells c + size_by header_cells o ≤ c.limit
+
+-- none is made here exactly where it does not fit
+abbrev pub NoneIsNoRoom : Content ClassId → Option ℕ → ObjectOf ClassId → Type 0
+NoneIsNoRoom c None o = c.limit < resident_cells c + size_by header_cells o
+NoneIsNoRoom c (Some place) o = HasRoom c o

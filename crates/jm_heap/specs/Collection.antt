@@ -1,7 +1,7 @@
 -- What a collection leaves, beside what is kept.
 use Rattle.std.specs.Prelude.{◌≡◌, ℕ, List, Some}
 use Rattle.jm_world.specs.Objects.{ObjectOf}
-use Rattle.jm_world.specs.Content.{Content, Kept, Reached, object_at}
+use Rattle.jm_world.specs.Content.{Content, Kept, Reached, serial_at, object_at}
 use Rattle.jm_heap.specs.declared.heap.Kind.{Kind}
 use Rattle.jm_heap.specs.declared.heap.Kind.TheVariants.{Minor, Full}
 
@@ -14,9 +14,14 @@ abbrev pub LeavesReached : {T : Type 0} → Kind → Content T → List ℕ → 
 LeavesReached Minor old roots new = Unit {0}
 LeavesReached Full old roots new = (k : ℕ) (o : ObjectOf _) → object_at new k ≡ Some o → Reached old roots k
 
+-- what is reached keeps its place
+abbrev pub IsUnmoved : {T : Type 0} → Content T → List ℕ → Content T → Type 0
+IsUnmoved old roots new = (p k : ℕ) → Reached old roots k → serial_at old p ≡ Some k → serial_at new p ≡ Some k
+
 -- what a full collection that moves nothing leaves
 pub record Collected {T : Type 0} (old : Content T) (roots : List ℕ) (new : Content T) : Type 0 where
   pub kept : Kept old roots new roots
   pub next : new.next ≡ old.next
   pub as_before : IsAsBefore old new
   pub only : (k : ℕ) (o : ObjectOf T) → object_at new k ≡ Some o → Reached old roots k
+  pub places : IsUnmoved old roots new

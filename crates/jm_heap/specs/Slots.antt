@@ -1,5 +1,5 @@
 -- The slots of a plain heap: an object that lies in slot n has the place n + 1.
-use Rattle.std.specs.Prelude.{◌≡◌, ℕ, zero, suc, ◌+◌, ◌<◌, List, [], ◌∷◌, map, length, Option, Some, None, Bool, true, false, is_some, unwrap_or, slice_get, sum_by}
+use Rattle.std.specs.Prelude.{◌≡◌, ℕ, zero, suc, ◌+◌, ◌<◌, List, [], ◌∷◌, map, length, Option, Some, None, Bool, true, false, is_some, unwrap_or, slice_get, sum_by, filter_map}
 use Rattle.jm_values.specs.Shape.{Among}
 use Rattle.jm_values.specs.Rename.{rename, stack_shape}
 use Rattle.jm_world.specs.Objects.{ObjectOf}
@@ -50,6 +50,14 @@ slot_cells (Taken o) = object_cells o
 
 abbrev pub slots_cells : List Slot → ℕ
 slots_cells slots = sum_by slot_cells slots
+
+abbrev pub slot_serial : Slot → Option ℕ
+slot_serial (Free next) = None
+slot_serial (Taken o) = Some o.serial
+
+-- the serials of what lies in slots
+abbrev pub serials_of : List Slot → List ℕ
+serials_of slots = filter_map slot_serial slots
 
 -- serials tell objects apart and are below the next one, and references are places of objects
 pub record AreSound (next : ℕ) (slots : List Slot) : Type 0 where

@@ -1,7 +1,9 @@
 -- What the calls on slots leave.
 use Rattle.std.specs.Prelude.{◌≡◌, ◌≢◌, ℕ, ◌+◌, ◌<◌, ◌≤◌, ◌^◌, List, length, Some, None, Bool, true, false, slice_set}
 use Rattle.jm_values.specs.declared.value.Value.{Value}
+use Rattle.jm_world.specs.Objects.{ObjectOf}
 use Rattle.jm_heap.specs.Slots.{object_in, object_cells, slots_cells, is_marked}
+use Rattle.jm_heap.specs.declared.class_id.ClassId.{ClassId}
 use Rattle.jm_heap.specs.declared.slot.Object.{Object}
 use Rattle.jm_heap.specs.declared.slot.Slot.{Slot}
 
@@ -10,6 +12,12 @@ pub record IsWritten (a b : Object) (i : ℕ) (v : Value) : Type 0 where
   pub serial : b.serial ≡ a.serial
   pub class : b.class ≡ a.class
   pub values : b.values.items ≡ slice_set a.values.items i v
+
+-- an object that is to be stored, and what it is in the world
+pub record IsNew (a : Object) (serial : ℕ) (o : ObjectOf ClassId) : Type 0 where
+  pub serial_is : a.serial ≡ serial
+  pub class : a.class ≡ o.type
+  pub values : a.values.items ≡ o.values
 
 -- one value of the object at a place is another
 pub record Written (old new : List Slot) (p i : ℕ) (v : Value) : Type 0 where

@@ -1,23 +1,33 @@
 // The heap that never moves an object.
 
-ghost use Rattle.std.specs.Prelude.{[], OnOk, OnErr, ◌≡◌, ◌≤◌, ◌<◌, ℕ, List, Some, None, length};
+ghost use Rattle.std.specs.Prelude.{[], OnOk, OnErr, IfOk, IfErr, ◌≡◌, ◌≤◌, ◌<◌, ℕ, List, Some, None, length};
 ghost use Rattle.jm_values.specs.declared.value.Value.{Value};
 ghost use Rattle.jm_values.specs.Rename.{rename, refs};
-ghost use Rattle.jm_heap.specs.Cells.{resident_cells};
-ghost use Rattle.jm_heap.specs.Collection.{Collected, IsAsBefore, LeavesReached};
+ghost use Rattle.jm_heap.specs.Cells.{header_cells, resident_cells};
+ghost use Rattle.jm_heap.specs.NewObject.{new_object};
+ghost use Rattle.jm_heap.specs.Allocation.{HasRoom, NoneIsNoRoom, IsRefused, IsRefusedHere, MadeHereOrNot};
+ghost use Rattle.jm_heap.specs.Residents.{AreResident};
+ghost use Rattle.jm_heap.specs.Collection.{Collected, IsAsBefore, IsUnmoved, LeavesReached};
 ghost use Rattle.jm_world.specs.Objects.{ObjectOf};
-ghost use Rattle.jm_world.specs.Content.{Content, HasValue, IsSet, IsSound, Kept, AllResident, serial_at, object_at, name_of};
+ghost use Rattle.jm_world.specs.Content.{Content, HasValue, IsSet, IsSound, Kept, Made, AllResident, used_by, serial_at, object_at, name_of};
 ghost use Rattle.jm_heap.specs.declared.class_id.ClassId.{ClassId};
 
 use crate::class_id::ClassId;
-use crate::heap::Kind;
+use crate::fault::HeapFault;
+use crate::heap::{Heap, Kind};
 use crate::mark::mark;
+use crate::new_object;
+use crate::resident::serials;
 use crate::roots::Roots;
-use crate::slot::{Slot, object_at, write};
+use crate::shape::Shape;
+use crate::slot::{Slot, object_at, store, write};
 use crate::sweep::sweep;
 use jm_values::{Place, Value};
 use std::alloc::{AllocError, Global};
 use std::marker::Model;
+
+// How many objects there can be, so that each has a serial.
+const MAX_SERIALS: u64 = 1 << 63;
 
 /// A heap that never moves an object: each place keeps its object until a full collection empties
 /// it.
@@ -60,6 +70,7 @@ impl PlainHeap {
     }
 
     /// The value of a number of the object at a place.
+    #[inline]
     pub fn get(&self, place: Place, index: u32) -> Value
         requires { (v : Value) × HasValue self.now place index v }
         ensures value { HasValue self.now place index (rename (name_of self.now) result) }
@@ -72,6 +83,7 @@ impl PlainHeap {
     }
 
     /// Changes one value of the object at a place.
+    #[inline]
     pub fn set(&mut self, place: Place, index: u32, value: Value)
         requires there { (v : Value) × HasValue self.old place index v }
         requires resident { AllResident self.old (refs value) }
@@ -84,6 +96,7 @@ impl PlainHeap {
     fn collect_all(&mut self, roots: &[Place]) -> Result<(), AllocError>
         requires { AllResident self.old roots.now }
         ensures ok { OnOk result (Collected self.old roots.now self.new) }
+        ensures left { OnOk result (resident_cells self.new ≡ used_by header_cells self.old roots.now) }
         ensures err { OnErr result (self.new ≡ self.old) }
     {
         let marks = mark(self.alloc, &self.slots, roots)?;
@@ -91,8 +104,88 @@ impl PlainHeap {
         Ok(())
     }
 
+    /// Makes an object with default values where the cells of the residents and its own are within
+    /// the limit, and answers its place; no other object moves or goes. None: they are not, and
+    /// nothing has changed. SerialsEnd: there is room, and there have been 2^63 objects.
+    /// OutOfMemory: a growth is refused. Nothing has changed then.
+    #[inline]
+    pub fn allocate_here(
+        &mut self,
+        _nursery: usize,
+        shape: Shape<'_>,
+    ) -> Result<Option<Place>, HeapFault>
+        ensures ok { IfOk result (λ made. MadeHereOrNot self.old self.new made (new_object shape.entry)) }
+        ensures full { IfOk result (λ made. NoneIsNoRoom self.old made (new_object shape.entry)) }
+        ensures room { OnErr result (HasRoom self.old (new_object shape.entry)) }
+        ensures same { OnErr result (self.new ≡ self.old) }
+        ensures err { IfErr result (IsRefusedHere self.old (new_object shape.entry)) }
+    {
+        let cells = new_object::cells_of(shape);
+        if cells > self.limit as u64 - self.used {
+            return Ok(None);
+        }
+        if self.next >= MAX_SERIALS {
+            return Err(HeapFault::SerialsEnd);
+        }
+        let object = new_object::make(self.alloc, self.next, shape)?;
+        let place = store(&mut self.slots, &mut self.free, object)?;
+        self.next += 1;
+        self.used += cells;
+        Ok(Some(place))
+    }
+
+    /// Makes an object with default values, and answers its place. It collects first where it
+    /// would not fit otherwise; what the roots reach stays as it is, after a refusal too.
+    ///
+    /// HeapFull comes exactly where the cells of what the roots reach and those of the object
+    /// pass the limit, SerialsEnd where they do not and there have been 2^63 objects, and
+    /// OutOfMemory where a growth is refused. Nothing that the roots reach moves.
+    #[inline]
+    pub fn allocate(
+        &mut self,
+        nursery: usize,
+        roots: &mut Roots,
+        shape: Shape<'_>,
+    ) -> Result<Place, HeapFault>
+        requires sound { IsSound self.old }
+        requires resident { AllResident self.old roots.old }
+        ensures ok { IfOk result (λ place. Made header_cells self.old roots.old self.new roots.new place (new_object shape.entry)) }
+        ensures kept { OnErr result (Kept self.old roots.old self.new roots.new) }
+        ensures next { OnErr result (self.new.next ≡ self.old.next) }
+        ensures err { IfErr result (IsRefused self.old roots.old (new_object shape.entry)) }
+        ensures unmoved { IsUnmoved self.old roots.old self.new }
+        ensures roots { roots.new ≡ roots.old }
+    {
+        match self.allocate_here(nursery, shape)? {
+            Some(place) => Ok(place),
+            None => self.allocate_collected(nursery, roots.as_slice(), shape),
+        }
+    }
+
+    // Makes an object after a full collection.
+    fn allocate_collected(
+        &mut self,
+        nursery: usize,
+        roots: &[Place],
+        shape: Shape<'_>,
+    ) -> Result<Place, HeapFault>
+        requires sound { IsSound self.old }
+        requires resident { AllResident self.old roots.now }
+        ensures ok { IfOk result (λ place. Made header_cells self.old roots.now self.new roots.now place (new_object shape.entry)) }
+        ensures kept { OnErr result (Kept self.old roots.now self.new roots.now) }
+        ensures next { OnErr result (self.new.next ≡ self.old.next) }
+        ensures err { IfErr result (IsRefused self.old roots.now (new_object shape.entry)) }
+        ensures unmoved { IsUnmoved self.old roots.now self.new }
+    {
+        self.collect_all(roots)?;
+        match self.allocate_here(nursery, shape)? {
+            Some(place) => Ok(place),
+            None => Err(HeapFault::HeapFull),
+        }
+    }
+
     /// Gives up the objects that the roots do not reach, with `Full`, and none with `Minor`. Where a
-    /// growth is refused, nothing has changed.
+    /// growth is refused, nothing has changed. What the roots reach keeps its place.
     pub fn collect(&mut self, roots: &mut Roots, kind: Kind) -> Result<(), AllocError>
         requires sound { IsSound self.old }
         requires resident { AllResident self.old roots.old }
@@ -101,6 +194,8 @@ impl PlainHeap {
         ensures as_before { IsAsBefore self.old self.new }
         ensures ok { OnOk result (LeavesReached kind self.old roots.old self.new) }
         ensures err { OnErr result ((self.new ≡ self.old) × (roots.new ≡ roots.old)) }
+        ensures unmoved { IsUnmoved self.old roots.old self.new }
+        ensures roots { roots.new ≡ roots.old }
     {
         match kind {
             Kind::Minor => Ok(()),
@@ -109,6 +204,7 @@ impl PlainHeap {
     }
 
     /// How many values the object at a place has.
+    #[inline]
     pub fn length(&self, place: Place) -> u32
         requires { (k : ℕ) × (o : ObjectOf ClassId) × (serial_at self.now place ≡ Some k) × (object_at self.now k ≡ Some o) }
         ensures { (k : ℕ) (o : ObjectOf ClassId) → serial_at self.now place ≡ Some k → object_at self.now k ≡ Some o → result ≡ length o.values }
@@ -120,6 +216,7 @@ impl PlainHeap {
     }
 
     /// The class or array type of the object at a place.
+    #[inline]
     pub fn class_of(&self, place: Place) -> ClassId
         requires { (k : ℕ) × (o : ObjectOf ClassId) × (serial_at self.now place ≡ Some k) × (object_at self.now k ≡ Some o) }
         ensures { (k : ℕ) (o : ObjectOf ClassId) → serial_at self.now place ≡ Some k → object_at self.now k ≡ Some o → result ≡ o.type }
@@ -131,6 +228,7 @@ impl PlainHeap {
     }
 
     /// The serial of the object at a place.
+    #[inline]
     pub fn serial(&self, place: Place) -> u64
         requires { (k : ℕ) × (serial_at self.now place ≡ Some k) }
         ensures { serial_at self.now place ≡ Some result }
@@ -141,7 +239,17 @@ impl PlainHeap {
         }
     }
 
+    /// The serials of the residents, rising.
+    pub fn resident(&self) -> Result<Vec<u64>, AllocError>
+        ensures { IfOk result (λ serials. AreResident self.now serials.items) }
+    {
+        let mut serials = serials(self.alloc, &self.slots)?;
+        serials.sort_unstable();
+        Ok(serials)
+    }
+
     /// The cells of the residents.
+    #[inline]
     pub fn used(&self) -> u64
         ensures value { result ≡ resident_cells self.now }
         ensures within { result ≤ self.now.limit }
@@ -150,9 +258,76 @@ impl PlainHeap {
     }
 
     /// The limit in cells.
+    #[inline]
     pub fn limit(&self) -> u64
         ensures { result ≡ self.now.limit }
     {
         self.limit as u64
+    }
+}
+
+impl Heap for PlainHeap {
+    ghost content = { λ h. h };
+
+    #[inline]
+    fn allocate(
+        &mut self,
+        nursery: usize,
+        roots: &mut Roots,
+        shape: Shape<'_>,
+    ) -> Result<Place, HeapFault> {
+        PlainHeap::allocate(self, nursery, roots, shape)
+    }
+
+    #[inline]
+    fn allocate_here(
+        &mut self,
+        nursery: usize,
+        shape: Shape<'_>,
+    ) -> Result<Option<Place>, HeapFault>
+        ensures ok { IfOk result (λ made. MadeHereOrNot self.old self.new made (new_object shape.entry)) }
+        ensures full { IfOk result (λ made. NoneIsNoRoom self.old made (new_object shape.entry)) }
+        ensures room { OnErr result (HasRoom self.old (new_object shape.entry)) }
+        ensures same { OnErr result (self.new ≡ self.old) }
+        ensures err { IfErr result (IsRefusedHere self.old (new_object shape.entry)) }
+    {
+        PlainHeap::allocate_here(self, nursery, shape)
+    }
+
+    fn get(&self, place: Place, index: u32) -> Value {
+        PlainHeap::get(self, place, index)
+    }
+
+    fn set(&mut self, place: Place, index: u32, value: Value) -> Result<(), AllocError> {
+        PlainHeap::set(self, place, index, value);
+        Ok(())
+    }
+
+    fn length(&self, place: Place) -> u32 {
+        PlainHeap::length(self, place)
+    }
+
+    fn class_of(&self, place: Place) -> ClassId {
+        PlainHeap::class_of(self, place)
+    }
+
+    fn serial(&self, place: Place) -> u64 {
+        PlainHeap::serial(self, place)
+    }
+
+    fn collect(&mut self, roots: &mut Roots, kind: Kind) -> Result<(), AllocError> {
+        PlainHeap::collect(self, roots, kind)
+    }
+
+    fn resident(&self) -> Result<Vec<u64>, AllocError> {
+        PlainHeap::resident(self)
+    }
+
+    fn used(&self) -> u64 {
+        PlainHeap::used(self)
+    }
+
+    fn limit(&self) -> u64 {
+        PlainHeap::limit(self)
     }
 }

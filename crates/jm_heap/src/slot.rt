@@ -32,6 +32,7 @@ pub enum Slot {
 const MAX_SLOTS: usize = (1 << 63) - 1;
 
 /// The object at a place.
+#[inline]
 pub fn object_at(slots: &Vec<Slot>, place: Place) -> Option<&Object>
     ensures { option_copied result ≡ object_in slots.now.items place }
 {
@@ -43,6 +44,7 @@ pub fn object_at(slots: &Vec<Slot>, place: Place) -> Option<&Object>
 }
 
 /// Changes one value of the object at a place.
+#[inline]
 pub fn write(slots: &mut Vec<Slot>, place: Place, index: u32, value: Value)
     requires { (a : Object) × (object_in slots.old.items place ≡ Some a) × (index < length a.values.items) }
     ensures { Written slots.old.items slots.new.items place index value }

@@ -17,6 +17,3 @@ mod targets;
 pub use decode::decode_code;
 pub use jm_class_format::{CodeFault, IndexedInstr, LaterOp, LeftOutOp, PlacedInstr};
 pub use starts::Starts;
-
-#[cfg(test)]
-mod tests;

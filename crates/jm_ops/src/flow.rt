@@ -8,11 +8,12 @@ use jm_values::TagFault;
 /// The class of an exception that an instruction on one frame throws.
 #[derive(Clone, Copy, Debug, PartialEq, Eq)]
 pub enum Thrown {
+    /// A division by zero (JVMS 6.5 idiv).
     ArithmeticException,
 }
 
 impl Thrown {
-    /// The name of the class.
+    /// The name of the class, as a class file writes it (JVMS 4.2.1).
     pub fn class_name(self) -> &'static str
         ensures { result.now ≡ class_of self }
     {

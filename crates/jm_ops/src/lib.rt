@@ -21,6 +21,3 @@ mod switches;
 
 pub use flow::{Fault, Flow, Thrown};
 pub use plain::{push_constant, step, step_plain};
-
-#[cfg(test)]
-mod tests;

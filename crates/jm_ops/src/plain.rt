@@ -100,8 +100,13 @@ fn step_simple(frame: &mut Frame, op: Simple) -> Result<Flow, Fault>
     Ok(Flow::On)
 }
 
-/// Makes an instruction that touches one frame alone and names nothing (JVMS 6.5). A refused one
-/// leaves the frame as it was.
+/// Makes an instruction that touches one frame alone and names nothing (JVMS 6.5), and answers
+/// where the frame goes on. The keys of a `lookupswitch` rise, as they do in each code. `BadLocal`:
+/// a local variable is past `max_locals`, or not set. `Underflow`: there are fewer operands.
+/// `WrongTag`: a local variable or an operand is of another type, or a long would be parted.
+/// `Overflow`: `max_stack` has no room for what is pushed. Of several faults the first comes: the
+/// local variable's, then each operand's from the top, then `Overflow`. At a fault and at
+/// [`Flow::Throw`] the frame stays as it was.
 #[inline]
 pub fn step(frame: &mut Frame, op: &Plain) -> Result<Flow, Fault>
     requires at { frame.old.activation.at + 1 < 2 ^ 64 }
@@ -132,8 +137,9 @@ pub fn step(frame: &mut Frame, op: &Plain) -> Result<Flow, Fault>
     }
 }
 
-/// Makes an instruction that touches one frame alone (JVMS 6.5): one that names nothing, `ldc` of
-/// an int or `ldc2_w` of a long. A refused one leaves the frame as it was.
+/// Makes an instruction that touches one frame alone (JVMS 6.5): one that names nothing, as
+/// [`step`] does and with the same faults, `ldc` of an int or `ldc2_w` of a long. At a fault and at
+/// [`Flow::Throw`] the frame stays as it was.
 pub fn step_plain(frame: &mut Frame, instruction: &Instr) -> Result<Flow, Fault>
     requires at { frame.old.activation.at + 1 < 2 ^ 64 }
     requires of_one_frame { IsOfOneFrame instruction.now }

@@ -20,6 +20,3 @@ pub use look_ups::{Member, NameAndType};
 pub use pool::Pool;
 pub use text_reading::code_units;
 pub use text_writing::modified_utf8;
-
-#[cfg(test)]
-mod tests;

@@ -1,5 +1,6 @@
 use Rattle.std.proofs.Common.{◌<◌, ◌^◌, arith, subst, sym}
 use Rattle.jm_heap.proofs.SweepingLemmas.{sound_swept, collected_swept, roots_lie}
+use Rattle.jm_heap.proofs.CellLemmas.{left_over}
 use Rattle.jm_heap.proofs.plain_heap.PlainHeap.collect_all.Goals as goal
 
 pub mark-requires : goal.mark-requires
@@ -16,3 +17,9 @@ invariant_of-self c = record {
 
 pub returns-clause-ok : goal.returns-clause-ok
 returns-clause-ok c = collected_swept c.self.inside.limit c.self.inside.next c.self.inside.slots.items c.sweep-self-inside.new.slots.items c.args.self.now c.self.view_is c.self.invariant.sound c.args.roots.now c.in_ok-marks.marks.items c.sweep-self-inside.new.used c.requires c.in_ok-marks.ensures c.sweep-self-inside.ensures
+
+pub returns-clause-left : goal.returns-clause-left
+returns-clause-left c =
+    let t = sound_swept c.self.inside.limit c.self.inside.next c.self.inside.slots.items c.sweep-self-inside.new.slots.items c.args.self.now c.self.view_is c.self.invariant.sound c.args.roots.now c.in_ok-marks.marks.items c.sweep-self-inside.new.used c.requires c.in_ok-marks.ensures c.sweep-self-inside.ensures in
+    let g = collected_swept c.self.inside.limit c.self.inside.next c.self.inside.slots.items c.sweep-self-inside.new.slots.items c.args.self.now c.self.view_is c.self.invariant.sound c.args.roots.now c.in_ok-marks.marks.items c.sweep-self-inside.new.used c.requires c.in_ok-marks.ensures c.sweep-self-inside.ensures in
+    left_over c.self.inside.limit c.self.inside.next c.self.inside.slots.items c.sweep-self-inside.new.slots.items c.args.self.now c.self.view_is c.self.invariant.sound t c.args.roots.now c.requires g

@@ -1,0 +1,5 @@
+use Rattle.jm_heap_tests.specs.Ready.{IsReady}
+use Rattle.jm_bench.proofs.heap.held.Given as goal
+
+abbrev pub invariant-loop : goal.invariant-loop
+invariant-loop l = IsReady l.mutator.heap l.mutator.registers

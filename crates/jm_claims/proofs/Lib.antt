@@ -1,0 +1,2 @@
+pub mod AfterClaims
+pub mod Copiers

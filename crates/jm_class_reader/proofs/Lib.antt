@@ -1,0 +1,4 @@
+pub mod Attributes
+pub mod LeftOutTypes
+pub mod Rules
+pub mod Taken

@@ -1,0 +1,10 @@
+use Rattle.std.proofs.Common.{sym, ◌∙◌}
+use Rattle.std.proofs.lemmas.Result.{err_from_is_err_and}
+use Rattle.jm_bytes.proofs.Loops.{repeated_fault}
+use Rattle.jm_class_format.specs.ClassFile.{class_attribute}
+use Rattle.jm_class_reader.proofs.class.class_attributes.Goals as goal
+
+pub returns-in_err-found : goal.returns-in_err-found
+returns-in_err-found c =
+    let p = err_from_is_err_and c.from_residual-in_err-found.result c.from_residual-in_err-found.ensures.1 in
+    rw (p.1, p.2) (λ other. sym c.loop.invariant ∙ repeated_fault (class_attribute c.args.pool.now) c.loop.found c.in_ok-count.count c.loop.counter c.loop.reader _ c.loop-test.true (c.in_err-found.ensures other))

@@ -1,0 +1,222 @@
+// Fields (JVMS 4.5) with their ConstantValue (JVMS 4.7.2).
+
+ghost use Rattle.std.specs.Prelude.{◌≡◌};
+ghost use Rattle.jm_bytes.specs.Reading.{Gives, GivesAll, Takes, TakesAs};
+ghost use Rattle.jm_program.specs.Fits.{constant_is_of};
+ghost use Rattle.jm_class_format.specs.declared.read_fault.ReadFault.TheVariants.{OutOfMemory, Cut};
+ghost use Rattle.jm_class_format.specs.PoolLookups.{entry_at};
+ghost use Rattle.jm_class_format.specs.CodeAttribute.{whole_info};
+ghost use Rattle.jm_class_format.specs.Members.{flags, text, constant_of, constant_value, field_attribute_info, field_attribute, field_attributes, field_name, field_type, field, fields};
+
+use crate::attribute::{attribute_name, info, is_ascii};
+use crate::named_code::{bad_index, text_of};
+use crate::symbols::{field_name_of, field_type_of};
+use jm_bytes::Reader;
+use jm_class_format::{Entry, ReadFault};
+use jm_pool::Pool;
+use jm_program::{AccessFlags, BaseType, Constant, ElementType, Field, FieldType, Name};
+use std::alloc::Global;
+
+/// The access flags, whichever they are.
+#[tactic(auto, unfolding(jm_class_format::specs::Members::flags))]
+pub fn flags(reader: &mut Reader<'_>) -> Result<AccessFlags, ReadFault>
+    ensures { Takes result reader.new (flags.read reader.old) }
+{
+    let bits = reader.u2()?;
+    Ok(AccessFlags { bits })
+}
+
+/// The code units of the text that the next index names.
+#[tactic(auto, unfolding(jm_class_format::specs::Members::text, jm_class_format::specs::CodeAttribute::attribute_name))]
+pub fn text<'p>(pool: &'p Pool, reader: &mut Reader<'_>) -> Result<&'p [u16], ReadFault>
+    ensures { TakesAs (λ units. units.now) result reader.new ((text pool.now).read reader.old) }
+{
+    attribute_name(ReadFault::Cut, pool, reader)
+}
+
+// ---- the value that a static field begins with
+
+// The entry that a ConstantValue names (JVMS 4.7.2, table 4.7.2-A).
+#[tactic(auto, unfolding(jm_class_format::specs::Members::constant_of))]
+fn constant_of(alloc: Global, pool: &Pool, index: u16) -> Result<Constant, ReadFault>
+    ensures { GivesAll (λ constant. constant) OutOfMemory result (constant_of pool.now index (entry_at pool.now index)) }
+{
+    match pool.entry(index) {
+        Some(Entry::Integer(number)) => Ok(Constant::Int(*number)),
+        Some(Entry::Long(number)) => Ok(Constant::Long(*number)),
+        Some(Entry::String(text)) => {
+            let units = text_of(alloc, pool, *text)?;
+            Ok(Constant::String(units))
+        }
+        _ => Err(bad_index(index)),
+    }
+}
+
+// Whether a field of the type can begin with the constant (JVMS 4.7.2, table 4.7.2-A).
+fn constant_is_of(constant: &Constant, element: &ElementType) -> bool
+    ensures { result ≡ constant_is_of constant.now element.now }
+{
+    match (constant, element) {
+        (
+            Constant::Int(_),
+            ElementType::Base(
+                BaseType::Int
+                | BaseType::Short
+                | BaseType::Char
+                | BaseType::Byte
+                | BaseType::Boolean,
+            ),
+        ) => true,
+        (Constant::Long(_), ElementType::Base(BaseType::Long)) => true,
+        (Constant::String(_), ElementType::Class(name)) => name.is_string(),
+        _ => false,
+    }
+}
+
+// A constant of the field's type.
+#[tactic(auto, unfolding(jm_class_format::specs::Members::constant_value))]
+fn constant_value(
+    alloc: Global,
+    pool: &Pool,
+    field_type: &FieldType,
+    reader: &mut Reader<'_>,
+) -> Result<Constant, ReadFault>
+    ensures { Gives (λ constant. constant) OutOfMemory result reader.new ((constant_value pool.now field_type.now).read reader.old) }
+{
+    let index = reader.u2().map_err(|_| ReadFault::BadAttribute)?;
+    let value = constant_of(alloc, pool, index)?;
+    if field_type.dimensions == 0 && constant_is_of(&value, &field_type.element) {
+        Ok(value)
+    } else {
+        Err(ReadFault::BadAttribute)
+    }
+}
+
+// The constant that all of an attribute's bytes spell, after their length.
+#[tactic(auto, using(crate::proofs::Attributes::whole_info_steps))]
+fn whole_constant(
+    alloc: Global,
+    pool: &Pool,
+    field_type: &FieldType,
+    reader: &mut Reader<'_>,
+) -> Result<Constant, ReadFault>
+    ensures { Gives (λ constant. constant) OutOfMemory result reader.new ((whole_info Cut (constant_value pool.now field_type.now)).read reader.old) }
+{
+    let bytes = info(ReadFault::Cut, reader)?;
+    let mut inside = Reader::new(bytes);
+    let value = constant_value(alloc, pool, field_type, &mut inside)?;
+    if !inside.is_empty() {
+        return Err(ReadFault::BadAttribute);
+    }
+    Ok(value)
+}
+
+// The first ConstantValue, or what was found before where the attribute is skipped.
+#[tactic(auto, unfolding(jm_class_format::specs::Members::field_attribute_info))]
+fn field_attribute_info(
+    alloc: Global,
+    pool: &Pool,
+    field_type: &FieldType,
+    found: Option<Constant>,
+    is_value: bool,
+    reader: &mut Reader<'_>,
+) -> Result<Option<Constant>, ReadFault>
+    ensures { Gives (λ found. found) OutOfMemory result reader.new ((field_attribute_info pool.now field_type.now found is_value).read reader.old) }
+{
+    if is_value {
+        if found.is_some() {
+            return Err(ReadFault::BadAttribute);
+        }
+        let value = whole_constant(alloc, pool, field_type, reader)?;
+        Ok(Some(value))
+    } else {
+        info(ReadFault::Cut, reader)?;
+        Ok(found)
+    }
+}
+
+// One attribute more; a ConstantValue of an instance field is skipped.
+#[tactic(auto, unfolding(jm_class_format::specs::Members::field_attribute))]
+fn field_attribute(
+    alloc: Global,
+    pool: &Pool,
+    access: AccessFlags,
+    field_type: &FieldType,
+    found: Option<Constant>,
+    reader: &mut Reader<'_>,
+) -> Result<Option<Constant>, ReadFault>
+    ensures { Gives (λ found. found) OutOfMemory result reader.new ((field_attribute pool.now access field_type.now found).read reader.old) }
+{
+    let name = attribute_name(ReadFault::Cut, pool, reader)?;
+    let is_value = access.has(AccessFlags::STATIC) && is_ascii(name, b"ConstantValue");
+    field_attribute_info(alloc, pool, field_type, found, is_value, reader)
+}
+
+// What the field begins with, its attributes' count first.
+#[tactic(auto, unfolding(jm_class_format::specs::Members::field_attributes), using(jm_bytes::proofs::Loops::repeated_steps))]
+fn field_attributes(
+    alloc: Global,
+    pool: &Pool,
+    access: AccessFlags,
+    field_type: &FieldType,
+    reader: &mut Reader<'_>,
+) -> Result<Option<Constant>, ReadFault>
+    ensures { Gives (λ found. found) OutOfMemory result reader.new ((field_attributes pool.now access field_type.now).read reader.old) }
+{
+    let count = reader.u2()?;
+    let mut found = None;
+    for _ in 0..count {
+        found = field_attribute(alloc, pool, access, field_type, found, reader)?;
+    }
+    Ok(found)
+}
+
+// ---- the field
+
+#[tactic(auto, unfolding(jm_class_format::specs::Members::field_name))]
+fn field_name(alloc: Global, pool: &Pool, reader: &mut Reader<'_>) -> Result<Name, ReadFault>
+    ensures { Gives (λ name. name) OutOfMemory result reader.new ((field_name pool.now).read reader.old) }
+{
+    let units = text(pool, reader)?;
+    let name = field_name_of(alloc, units)?;
+    Ok(name)
+}
+
+#[tactic(auto, unfolding(jm_class_format::specs::Members::field_type))]
+fn field_type(alloc: Global, pool: &Pool, reader: &mut Reader<'_>) -> Result<FieldType, ReadFault>
+    ensures { Gives (λ t. t) OutOfMemory result reader.new ((field_type pool.now).read reader.old) }
+{
+    let units = text(pool, reader)?;
+    let field_type = field_type_of(alloc, units)?;
+    Ok(field_type)
+}
+
+#[tactic(auto, unfolding(jm_class_format::specs::Members::field))]
+fn field(alloc: Global, pool: &Pool, reader: &mut Reader<'_>) -> Result<Field, ReadFault>
+    ensures { Gives (λ field. field) OutOfMemory result reader.new ((field pool.now).read reader.old) }
+{
+    let flags = flags(reader)?;
+    let name = field_name(alloc, pool, reader)?;
+    let descriptor = field_type(alloc, pool, reader)?;
+    let constant = field_attributes(alloc, pool, flags, &descriptor, reader)?;
+    Ok(Field {
+        flags,
+        name,
+        descriptor,
+        constant,
+    })
+}
+
+/// The fields of a class, their count first.
+#[tactic(auto, unfolding(jm_class_format::specs::Members::fields), using(jm_bytes::proofs::Loops::many_steps))]
+pub fn fields(alloc: Global, pool: &Pool, reader: &mut Reader<'_>) -> Result<Vec<Field>, ReadFault>
+    ensures { Gives (λ v. v.items) OutOfMemory result reader.new ((fields pool.now).read reader.old) }
+{
+    let count = reader.u2()?;
+    let mut fields = Vec::new(alloc);
+    for _ in 0..count {
+        let field = field(alloc, pool, reader)?;
+        fields.push(field)?;
+    }
+    Ok(fields)
+}

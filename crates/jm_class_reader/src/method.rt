@@ -1,0 +1,240 @@
+// Methods (JVMS 4.6) with their Code (JVMS 4.7.3).
+
+ghost use Rattle.std.specs.Prelude.{◌≡◌, ◌≤◌, IfOk};
+ghost use Rattle.jm_bytes.specs.Reading.{Gives, Takes};
+ghost use Rattle.jm_program.specs.Fits.{method_slots};
+ghost use Rattle.jm_class_format.specs.declared.read_fault.ReadFault.TheVariants.{OutOfMemory, Cut};
+ghost use Rattle.jm_class_format.specs.CodeAttribute.{whole_info, code_body};
+ghost use Rattle.jm_class_format.specs.Members.{method_flags, method_name, own_receiver, declaration, may_have_code, method_attribute_info, method_attribute, method_attributes, method, methods};
+
+use crate::attribute::{attribute_name, info, is_ascii};
+use crate::code_attribute::code_body;
+use crate::field::{flags, text};
+use crate::symbols::{method_name_of, method_type_of};
+use jm_bytes::Reader;
+use jm_class_format::{LeftOutPart, ReadFault};
+use jm_pool::Pool;
+use jm_program::{AccessFlags, Code, Method, MethodDescriptor, Name};
+use std::alloc::Global;
+
+// ---- flags, name and type
+
+// Native and static synchronized methods are left out; an abstract method is an instance method.
+#[tactic(auto, unfolding(jm_class_format::specs::Members::method_flags))]
+fn method_flags(reader: &mut Reader<'_>) -> Result<AccessFlags, ReadFault>
+    ensures { Takes result reader.new (method_flags.read reader.old) }
+{
+    let access = flags(reader)?;
+    if access.has(AccessFlags::NATIVE) {
+        return Err(ReadFault::LeftOut(LeftOutPart::Native));
+    }
+    if access.has(AccessFlags::STATIC) && access.has(AccessFlags::SYNCHRONIZED) {
+        return Err(ReadFault::LeftOut(LeftOutPart::StaticSynchronized));
+    }
+    if access.has(AccessFlags::ABSTRACT) && access.has(AccessFlags::STATIC) {
+        return Err(ReadFault::BadAttribute);
+    }
+    Ok(access)
+}
+
+// An abstract method is no initializer.
+#[tactic(auto, unfolding(jm_class_format::specs::Members::method_name))]
+fn method_name(
+    alloc: Global,
+    pool: &Pool,
+    access: AccessFlags,
+    reader: &mut Reader<'_>,
+) -> Result<Name, ReadFault>
+    ensures { Gives (λ name. name) OutOfMemory result reader.new ((method_name pool.now access).read reader.old) }
+{
+    let units = text(pool, reader)?;
+    let name = method_name_of(alloc, units)?;
+    if access.has(AccessFlags::ABSTRACT) && (name.is_init() || name.is_clinit()) {
+        return Err(ReadFault::BadAttribute);
+    }
+    Ok(name)
+}
+
+// The slots of the receiver: none in a static method, else one.
+fn own_receiver(access: AccessFlags) -> u8
+    ensures { result ≡ own_receiver access }
+{
+    if access.has(AccessFlags::STATIC) {
+        0
+    } else {
+        1
+    }
+}
+
+// A method's flags, name and type, without code; `finalize()V` is left out.
+#[tactic(auto, unfolding(jm_class_format::specs::Members::declaration))]
+fn declaration(alloc: Global, pool: &Pool, reader: &mut Reader<'_>) -> Result<Method, ReadFault>
+    ensures given { Gives (λ method. method) OutOfMemory result reader.new ((declaration pool.now).read reader.old) }
+    ensures few { IfOk result (λ method. method_slots method ≤ 255) }
+{
+    let flags = method_flags(reader)?;
+    let name = method_name(alloc, pool, flags, reader)?;
+    let units = text(pool, reader)?;
+    let descriptor = method_type_of(alloc, own_receiver(flags), units)?;
+    let method = Method {
+        flags,
+        name,
+        descriptor,
+        code: None,
+    };
+    if method.is_finalizer() {
+        return Err(ReadFault::LeftOut(LeftOutPart::Finalize));
+    }
+    Ok(method)
+}
+
+// ---- its code
+
+// Whether a Code may stand in a method: an abstract method has none, nor a second, and in an
+// interface it is left out but in `<clinit>()V`.
+#[tactic(auto, unfolding(jm_class_format::specs::Members::may_have_code))]
+fn may_have_code(
+    in_interface: bool,
+    method: &Method,
+    found: &Option<Code>,
+    reader: &mut Reader<'_>,
+) -> Result<(), ReadFault>
+    ensures { Takes result reader.new ((may_have_code in_interface method.now found.now).read reader.old) }
+{
+    if found.is_some() || method.flags.has(AccessFlags::ABSTRACT) {
+        return Err(ReadFault::BadAttribute);
+    }
+    if in_interface && !method.is_class_initializer() {
+        return Err(ReadFault::LeftOut(LeftOutPart::InterfaceMethod));
+    }
+    Ok(())
+}
+
+// The code that all of an attribute's bytes spell, after their length.
+#[tactic(auto, using(crate::proofs::Attributes::whole_info_steps))]
+fn whole_code(
+    alloc: Global,
+    pool: &Pool,
+    slots: u16,
+    reader: &mut Reader<'_>,
+) -> Result<Code, ReadFault>
+    ensures { Gives (λ code. code) OutOfMemory result reader.new ((whole_info Cut (code_body pool.now slots)).read reader.old) }
+{
+    let bytes = info(ReadFault::Cut, reader)?;
+    let mut inside = Reader::new(bytes);
+    let code = code_body(alloc, pool, slots, &mut inside)?;
+    if !inside.is_empty() {
+        return Err(ReadFault::BadAttribute);
+    }
+    Ok(code)
+}
+
+// The slots of the arguments, the receiver included.
+fn slots_of(method: &Method) -> u16
+    requires { method_slots method.now ≤ 255 }
+    ensures { result ≡ method_slots method.now }
+{
+    u16::from(method.argument_slots().unwrap())
+}
+
+// The one Code, or what was found before where the attribute is skipped.
+#[tactic(auto, unfolding(jm_class_format::specs::Members::method_attribute_info))]
+fn method_attribute_info(
+    alloc: Global,
+    pool: &Pool,
+    in_interface: bool,
+    method: &Method,
+    found: Option<Code>,
+    is_code: bool,
+    reader: &mut Reader<'_>,
+) -> Result<Option<Code>, ReadFault>
+    requires { method_slots method.now ≤ 255 }
+    ensures { Gives (λ found. found) OutOfMemory result reader.new ((method_attribute_info pool.now in_interface method.now found is_code).read reader.old) }
+{
+    if is_code {
+        may_have_code(in_interface, method, &found, reader)?;
+        let code = whole_code(alloc, pool, slots_of(method), reader)?;
+        Ok(Some(code))
+    } else {
+        info(ReadFault::Cut, reader)?;
+        Ok(found)
+    }
+}
+
+// One attribute more.
+#[tactic(auto, unfolding(jm_class_format::specs::Members::method_attribute))]
+fn method_attribute(
+    alloc: Global,
+    pool: &Pool,
+    in_interface: bool,
+    method: &Method,
+    found: Option<Code>,
+    reader: &mut Reader<'_>,
+) -> Result<Option<Code>, ReadFault>
+    requires { method_slots method.now ≤ 255 }
+    ensures { Gives (λ found. found) OutOfMemory result reader.new ((method_attribute pool.now in_interface method.now found).read reader.old) }
+{
+    let name = attribute_name(ReadFault::Cut, pool, reader)?;
+    let is_code = is_ascii(name, b"Code");
+    method_attribute_info(alloc, pool, in_interface, method, found, is_code, reader)
+}
+
+// The method's code, its attributes' count first.
+#[tactic(auto, unfolding(jm_class_format::specs::Members::method_attributes), using(jm_bytes::proofs::Loops::repeated_steps))]
+fn method_attributes(
+    alloc: Global,
+    pool: &Pool,
+    in_interface: bool,
+    method: &Method,
+    reader: &mut Reader<'_>,
+) -> Result<Option<Code>, ReadFault>
+    requires { method_slots method.now ≤ 255 }
+    ensures { Gives (λ found. found) OutOfMemory result reader.new ((method_attributes pool.now in_interface method.now).read reader.old) }
+{
+    let count = reader.u2()?;
+    let mut found = None;
+    for _ in 0..count {
+        found = method_attribute(alloc, pool, in_interface, method, found, reader)?;
+    }
+    Ok(found)
+}
+
+// ---- the method
+
+// A method of a class or of an interface; one that is not abstract has code.
+#[tactic(auto, unfolding(jm_class_format::specs::Members::method))]
+fn method(
+    alloc: Global,
+    pool: &Pool,
+    in_interface: bool,
+    reader: &mut Reader<'_>,
+) -> Result<Method, ReadFault>
+    ensures { Gives (λ method. method) OutOfMemory result reader.new ((method pool.now in_interface).read reader.old) }
+{
+    let mut method = declaration(alloc, pool, reader)?;
+    let code = method_attributes(alloc, pool, in_interface, &method, reader)?;
+    if code.is_none() && !method.flags.has(AccessFlags::ABSTRACT) {
+        return Err(ReadFault::BadAttribute);
+    }
+    method.code = code;
+    Ok(method)
+}
+
+/// The methods of a class or of an interface, their count first.
+#[tactic(auto, unfolding(jm_class_format::specs::Members::methods), using(jm_bytes::proofs::Loops::many_steps))]
+pub fn methods(
+    alloc: Global,
+    pool: &Pool,
+    in_interface: bool,
+    reader: &mut Reader<'_>,
+) -> Result<Vec<Method>, ReadFault>
+    ensures { Gives (λ v. v.items) OutOfMemory result reader.new ((methods pool.now in_interface).read reader.old) }
+{
+    let count = reader.u2()?;
+    let mut methods = Vec::new(alloc);
+    for _ in 0..count {
+        let method = method(alloc, pool, in_interface, reader)?;
+        methods.push(method)?;
+    }
+    Ok(methods)
+}

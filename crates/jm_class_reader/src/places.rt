@@ -1,0 +1,70 @@
+// The numbers of instructions by the offsets at which they begin (JVMS 4.7.3, 4.7.12).
+
+ghost use Rattle.std.specs.Prelude.{◌≡◌, ◌≤◌, length, IfOk};
+ghost use Rattle.jm_bytes.specs.Reading.{TakesAll};
+ghost use Rattle.jm_class_format.specs.CodeAttribute.{number_at, end_at, places_of};
+
+use jm_class_format::{PlacedInstr, ReadFault};
+use jm_opcodes::Starts;
+use std::alloc::{AllocError, Global};
+use std::marker::Model;
+
+/// Where the instructions of a code begin, and how many bytes it has.
+#[derive(Drop)]
+pub struct Places {
+    starts: Starts,
+    count: u32,
+    size: u32,
+}
+
+impl Model for Places {
+    ghost use Rattle.std.specs.Prelude.{◌≡◌, length};
+    ghost use Rattle.jm_class_format.specs.CodeAttribute as format;
+
+    ghost Value = { format.Places };
+
+    ghost view = { λ p. record { starts = p.starts; size = p.size } };
+
+    ghost invariant = { λ p. p.count ≡ length p.starts };
+}
+
+impl Places {
+    /// The places of these instructions, in a code of so many bytes.
+    ///
+    /// # Errors
+    /// [`AllocError`] where a growth was refused.
+    pub fn new(alloc: Global, size: u32, placed: &[PlacedInstr]) -> Result<Places, AllocError>
+        requires { length placed.now ≤ 65535 }
+        ensures { IfOk result (λ p. p ≡ places_of size placed.now) }
+    {
+        let starts = Starts::new(alloc, placed)?;
+        let count = placed.len() as u32;
+        Ok(Places {
+            starts,
+            count,
+            size,
+        })
+    }
+
+    /// The number of the instruction that begins at an offset.
+    #[tactic(auto, unfolding(jm_class_format::specs::CodeAttribute::number_at))]
+    pub fn number_at(&self, offset: u16) -> Result<u32, ReadFault>
+        ensures { TakesAll (λ n. n) result (number_at self.now.starts offset) }
+    {
+        self.starts
+            .number_at(u32::from(offset))
+            .ok_or(ReadFault::BadAttribute)
+    }
+
+    /// Where a range ends: before the instruction at an offset, or at the code's end.
+    #[tactic(auto, unfolding(jm_class_format::specs::CodeAttribute::end_at))]
+    pub fn end_at(&self, offset: u16) -> Result<u32, ReadFault>
+        ensures { TakesAll (λ n. n) result (end_at self.now offset) }
+    {
+        if u32::from(offset) == self.size {
+            Ok(self.count)
+        } else {
+            self.number_at(offset)
+        }
+    }
+}

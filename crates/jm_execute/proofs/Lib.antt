@@ -1,0 +1,5 @@
+mod Writing
+mod Folds
+mod Threads
+mod Stages
+mod Telling

@@ -1,0 +1,24 @@
+-- What is told of an ending.
+use Rattle.std.proofs.Common.{◌≡◌, ℕ, List, refl, sym, subst, ◌∙◌, Some, Result, Ok, Err, false}
+use Rattle.jm_execute.specs.Written.{WatchedView, AllWritten, Broken, WritesLines}
+use Rattle.jm_execute.specs.Verdicts.{Verdict}
+use Rattle.jm_execute.specs.Endings.{status_without, Ending, Leaves, LinesWritten, output_of, status_after, lines_after}
+use Rattle.jm_execute.specs.Refusals.{GivesRun, refusal_status}
+use Rattle.jm_execute.specs.declared.refusal.Refusal.{Refusal}
+use Rattle.jm_execute.specs.declared.refusal.Obstacle.{Obstacle}
+use Rattle.jm_execute.specs.declared.refusal.Obstacle.TheVariants.{Refused}
+use Rattle.jm_execute.specs.declared.status.Status.{Status}
+use Rattle.jm_execute.specs.declared.status.Status.TheVariants as ends
+
+pub lines_told : {A E : Type 0} (r : Result A E) (old new : WatchedView) (text : List ℕ) → old.failed ≡ false → WritesLines r old new text → LinesWritten (Some text) new.failed old new
+lines_told (Ok x) old new text fresh h = subst (λ b. LinesWritten (Some text) b old new) (sym (h.same ∙ fresh)) h
+lines_told (Err e) old new text fresh h = subst (λ b. LinesWritten (Some text) b old new) (sym h) tt
+
+pub whole_told : (e : Ending) (status : Status) (out new_out err new_err : WatchedView) → out.failed ≡ false → AllWritten out new_out (output_of e) → status ≡ status_after e → LinesWritten (lines_after e) new_err.failed err new_err → Leaves e new_out.failed status out new_out err new_err
+whole_told e status out new_out err new_err fresh written status_is lines = subst (λ b. Leaves e b status out new_out err new_err) (sym (written.same ∙ fresh)) (written, status_is, lines)
+
+pub broken_told : (e : Ending) (out new_out err new_err : WatchedView) → Broken out new_out (output_of e) → Leaves e new_out.failed ends.Files out new_out err new_err
+broken_told e out new_out err new_err broken = subst (λ b. Leaves e b ends.Files out new_out err new_err) (sym broken.failed) (broken, refl)
+
+pub refused_given : (v : Verdict) (o : Obstacle) (r : Refusal) → o ≡ Refused r → GivesRun v (Err o) → status_without v ≡ Some (refusal_status r)
+refused_given v o r is h = subst (λ p. GivesRun v (Err p)) is h

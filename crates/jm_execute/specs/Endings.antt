@@ -1,0 +1,84 @@
+-- How a job ends, and what is told of it.
+use Rattle.std.specs.Prelude.{◌≡◌, ℕ, List, [], ◌++◌, Option, Some, None, Bool, true, false, ⊤}
+use Rattle.jm_program.specs.declared.class.ClassParts.{ClassParts}
+use Rattle.jm_world.specs.World.{World}
+use Rattle.jm_world.specs.Loading.{loaded_world}
+use Rattle.jm_world.specs.Run.{run_from}
+use Rattle.jm_world.specs.declared.event.Event.{Event}
+use Rattle.jm_execute.specs.Reports.{report, memory_line, status_of}
+use Rattle.jm_execute.specs.Verdicts.{Verdict, unread, refused, misspelled, unknown, runs}
+use Rattle.jm_execute.specs.Written.{WatchedView, AllWritten, Broken}
+use Rattle.jm_execute.specs.declared.status.Status.{Status}
+use Rattle.jm_execute.specs.declared.status.Status.TheVariants as ends
+
+pub data Ending : Type 0 where
+  -- all events were made: the world to which they lead
+  completed : World → Ending
+  -- memory was refused at an event: the world to which those before it lead
+  interrupted : World → Ending
+  -- memory was refused before the first event
+  exhausted : Ending
+  -- there was no run
+  turned_away : Status → Ending
+
+-- the status where there is no run
+abbrev pub status_without : Verdict → Option Status
+status_without unread = Some ends.Files
+status_without refused = Some ends.Refused
+status_without misspelled = Some ends.BadSchedule
+status_without unknown = None
+status_without (runs program limit events) = None
+
+-- the run that a world is the last of
+pub record Completes (v : Verdict) (w : World) : Type 0 where
+  pub program : List ClassParts
+  pub limit : ℕ
+  pub events : List Event
+  pub runs_is : v ≡ runs program limit events
+  pub world_is : w ≡ run_from (loaded_world program limit) events
+
+-- the run that a world is within
+pub record StopsShort (v : Verdict) (w : World) : Type 0 where
+  pub program : List ClassParts
+  pub limit : ℕ
+  pub made : List Event
+  pub rest : List Event
+  pub runs_is : v ≡ runs program limit (made ++ rest)
+  pub world_is : w ≡ run_from (loaded_world program limit) made
+
+-- the endings that the files allow: memory may be refused at any time
+abbrev pub Allows : Verdict → Ending → Type 0
+Allows v (completed w) = Completes v w
+Allows v (interrupted w) = StopsShort v w
+Allows v exhausted = ⊤
+Allows v (turned_away status) = status_without v ≡ Some status
+
+abbrev pub output_of : Ending → List ℕ
+output_of (completed w) = w.output
+output_of (interrupted w) = w.output
+output_of exhausted = []
+output_of (turned_away status) = []
+
+abbrev pub status_after : Ending → Status
+status_after (completed w) = status_of w
+status_after (interrupted w) = ends.OutOfMemory
+status_after exhausted = ends.OutOfMemory
+status_after (turned_away status) = status
+
+-- the lines on standard error; of those for refused files nothing is said
+abbrev pub lines_after : Ending → Option (List ℕ)
+lines_after (completed w) = Some (report w)
+lines_after (interrupted w) = Some memory_line
+lines_after exhausted = Some memory_line
+lines_after (turned_away status) = None
+
+abbrev pub LinesWritten : Option (List ℕ) → Bool → WatchedView → WatchedView → Type 0
+LinesWritten None failed old new = ⊤
+LinesWritten (Some lines) true old new = ⊤
+LinesWritten (Some lines) false old new = AllWritten old new lines
+
+-- What a job leaves behind: the output is written, then the lines, and the status is the ending's.
+-- Where the output could not be written whole, a beginning of it stands, and the status says so.
+abbrev pub Leaves : Ending → Bool → Status → WatchedView → WatchedView → WatchedView → WatchedView → Type 0
+Leaves e false status out new_out err new_err = AllWritten out new_out (output_of e) × (status ≡ status_after e) × LinesWritten (lines_after e) new_err.failed err new_err
+Leaves e true status out new_out err new_err = Broken out new_out (output_of e) × (status ≡ ends.Files)

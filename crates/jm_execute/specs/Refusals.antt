@@ -1,0 +1,61 @@
+-- What keeps a run from its first event, and the status that follows.
+use Rattle.std.specs.Prelude.{◌≡◌, ℕ, List, Result, Ok, Err, Some, true, false, ⊤}
+use Rattle.jm_program.specs.declared.class.ClassParts.{ClassParts}
+use Rattle.jm_class_format.specs.declared.read_fault.ReadFault.{ReadFault}
+use Rattle.jm_world.specs.Loading.{loaded_world, is_too_small}
+use Rattle.jm_world.specs.Schedules.{schedule}
+use Rattle.jm_world.specs.declared.event.Event.{Event}
+use Rattle.jm_linked.specs.Links.{LinkedView}
+use Rattle.jm_machine.specs.View.{MachineView, MatchesWorld}
+use Rattle.jm_execute.specs.Verdicts.{Verdict, links, runs}
+use Rattle.jm_execute.specs.Endings.{status_without}
+use Rattle.jm_execute.specs.declared.refusal.Refusal.{Refusal}
+use Rattle.jm_execute.specs.declared.refusal.Refusal.TheVariants as refusal
+use Rattle.jm_execute.specs.declared.refusal.Obstacle.{Obstacle}
+use Rattle.jm_execute.specs.declared.refusal.Obstacle.TheVariants.{Refused, OutOfMemory}
+use Rattle.jm_execute.specs.declared.status.Status.{Status}
+use Rattle.jm_execute.specs.declared.status.Status.TheVariants as ends
+
+abbrev pub refusal_status : Refusal → Status
+refusal_status (refusal.NotRead file) = ends.Files
+refusal_status (refusal.BadClass file fault) = ends.Refused
+refusal_status (refusal.Unlinked fault) = ends.Refused
+refusal_status refusal.HeapTooSmall = ends.Refused
+refusal_status (refusal.BadSchedule line) = ends.BadSchedule
+
+-- the class that bytes spell, or the fault in them
+abbrev pub GivesClass : Result ClassParts ReadFault → Result ClassParts Obstacle → Type 0
+GivesClass read (Ok class) = read ≡ Ok class
+GivesClass read (Err (Refused (refusal.BadClass file fault))) = read ≡ Err fault
+GivesClass read (Err (Refused _)) = ⊥
+GivesClass read (Err OutOfMemory) = ⊤
+
+abbrev pub GivesLinked : List ClassParts → Result LinkedView Obstacle → Type 0
+GivesLinked program (Ok l) = (links program ≡ true) × (l.program ≡ program)
+GivesLinked program (Err (Refused (refusal.Unlinked fault))) = links program ≡ false
+GivesLinked program (Err (Refused _)) = ⊥
+GivesLinked program (Err OutOfMemory) = ⊤
+
+abbrev pub GivesMachine : List ClassParts → ℕ → Result MachineView Obstacle → Type 0
+GivesMachine program limit (Ok m) = (is_too_small program limit ≡ false) × MatchesWorld m (loaded_world program limit)
+GivesMachine program limit (Err (Refused refusal.HeapTooSmall)) = is_too_small program limit ≡ true
+GivesMachine program limit (Err (Refused _)) = ⊥
+GivesMachine program limit (Err OutOfMemory) = ⊤
+
+abbrev pub GivesSchedule : List ℕ → Result (List Event) Obstacle → Type 0
+GivesSchedule text (Ok events) = schedule text ≡ Ok events
+GivesSchedule text (Err (Refused (refusal.BadSchedule line))) = schedule text ≡ Err line
+GivesSchedule text (Err (Refused _)) = ⊥
+GivesSchedule text (Err OutOfMemory) = ⊤
+
+-- the machine before the first event, with the events
+pub record IsReady (v : Verdict) (m : MachineView) (events : List Event) : Type 0 where
+  pub program : List ClassParts
+  pub limit : ℕ
+  pub runs_is : v ≡ runs program limit events
+  pub matches : MatchesWorld m (loaded_world program limit)
+
+abbrev pub GivesRun : Verdict → Result (MachineView × List Event) Obstacle → Type 0
+GivesRun v (Ok (m, events)) = IsReady v m events
+GivesRun v (Err (Refused r)) = status_without v ≡ Some (refusal_status r)
+GivesRun v (Err OutOfMemory) = ⊤

@@ -1,0 +1,70 @@
+-- What standard error says of a run, and with which status the program ends.
+use Rattle.std.specs.Prelude.{ℕ, zero, suc, ◌+◌, List, [], ◌∷◌, ◌++◌, Option, Some, None, Bool, true, false, codes, is_some, ◌||◌}
+use Rattle.std.specs.Fmt.{decimal}
+use Rattle.jm_values.specs.FaultNames.{fault_name}
+use Rattle.jm_world.specs.Text.{utf8_text}
+use Rattle.jm_world.specs.World.{World, Thread, live_among}
+use Rattle.jm_world.specs.declared.stop.Stop.{Stop}
+use Rattle.jm_world.specs.declared.stop.Stop.TheVariants.{TagFault, HeapFull, SerialsEnd}
+use Rattle.jm_machine.specs.Threads.{class_of_ending}
+use Rattle.jm_execute.specs.declared.status.Status.{Status}
+use Rattle.jm_execute.specs.declared.status.Status.TheVariants as ends
+
+-- a thread that an exception has ended
+abbrev pub ended_line : ℕ → List ℕ → List ℕ
+ended_line number class = codes "jm: thread " ++ decimal number ++ codes " ended by " ++ utf8_text class ++ codes "\n"
+
+abbrev pub thread_line : ℕ → Option (List ℕ) → List ℕ
+thread_line number None = []
+thread_line number (Some class) = ended_line number class
+
+-- those threads, by number
+abbrev pub thread_lines : ℕ → List Thread → List ℕ
+thread_lines number [] = []
+thread_lines number (t ∷ ts) = thread_line number (class_of_ending t.ending) ++ thread_lines (number + 1) ts
+
+abbrev pub stop_text : Stop → List ℕ
+stop_text (TagFault fault) = codes "60 TagFault(" ++ fault_name fault ++ codes ")"
+stop_text HeapFull = codes "62 HeapFull"
+stop_text SerialsEnd = codes "64 SerialsEnd"
+
+-- how many threads have not ended, if any
+abbrev pub live_line : ℕ → List ℕ
+live_line zero = []
+live_line (suc n) = codes "jm: " ++ decimal (suc n) ++ codes " threads not ended" ++ codes "\n"
+
+-- the stop, or else the threads that have not ended
+abbrev pub last_line : Option Stop → ℕ → List ℕ
+last_line (Some stop) live = codes "jm: " ++ stop_text stop ++ codes "\n"
+last_line None live = live_line live
+
+unfoldable pub report : World → List ℕ
+report w = thread_lines 1 w.threads ++ last_line w.stop (live_among w.threads)
+
+abbrev pub memory_line : List ℕ
+memory_line = codes "jm: 61 OutOfMemory\n"
+
+-- an exception has ended one of the threads
+abbrev pub any_ended_by : List Thread → Bool
+any_ended_by [] = false
+any_ended_by (t ∷ ts) = is_some (class_of_ending t.ending) || any_ended_by ts
+
+abbrev pub stop_status : Stop → Status
+stop_status (TagFault fault) = ends.TagFault
+stop_status HeapFull = ends.HeapFull
+stop_status SerialsEnd = ends.HeapFull
+
+abbrev pub ended_status : Bool → Status
+ended_status true = ends.EndedByException
+ended_status false = ends.Done
+
+abbrev pub thread_status : ℕ → Bool → Status
+thread_status zero ended = ended_status ended
+thread_status (suc n) ended = ends.NotEnded
+
+abbrev pub end_status : Option Stop → ℕ → Bool → Status
+end_status (Some stop) live ended = stop_status stop
+end_status None live ended = thread_status live ended
+
+unfoldable pub status_of : World → Status
+status_of w = end_status w.stop (live_among w.threads) (any_ended_by w.threads)

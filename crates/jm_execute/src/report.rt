@@ -1,0 +1,120 @@
+// What standard error says of a run.
+
+ghost use Rattle.std.specs.Prelude.{Some};
+ghost use Rattle.jm_world.specs.World.{World, live_among, thread_at};
+ghost use Rattle.jm_machine.specs.Threads.{class_ended_by};
+ghost use Rattle.jm_machine.specs.View.{MatchesWorld};
+ghost use Rattle.jm_execute.specs.Written.{WritesLines};
+ghost use Rattle.jm_execute.specs.Reports.{ended_line, thread_line, thread_lines, stop_text, live_line, last_line, report, memory_line};
+
+use crate::class_name::ClassName;
+use crate::watched::{Watched, WriteFailed};
+use jm_heap::Heap;
+use jm_machine::Machine;
+use jm_world::Stop;
+use std::fmt;
+use std::fmt::Display;
+use std::io::Write;
+
+fn write_ended<W: Write>(
+    err: &mut Watched<W>,
+    number: u64,
+    class: &[u16],
+) -> Result<(), WriteFailed>
+    ensures { WritesLines result err.old err.new (ended_line number class.now) }
+{
+    let class = ClassName(class);
+    err.write_line(format_args!("jm: thread {number} ended by {class}"))
+}
+
+// Whether an exception has ended the thread of a number.
+fn write_thread<H: Heap, W: Write>(
+    machine: &Machine<H>,
+    err: &mut Watched<W>,
+    number: u64,
+) -> Result<(), WriteFailed>
+    ensures { (w : World) → MatchesWorld machine.now w → WritesLines result err.old err.new (thread_line number (class_ended_by (thread_at w number))) }
+{
+    match machine.ended_by(number) {
+        Some(class) => write_ended(err, number, class),
+        None => Ok(()),
+    }
+}
+
+// The threads that an exception has ended, by number.
+fn write_threads<H: Heap, W: Write>(
+    machine: &Machine<H>,
+    err: &mut Watched<W>,
+) -> Result<(), WriteFailed>
+    ensures { (w : World) → MatchesWorld machine.now w → WritesLines result err.old err.new (thread_lines 1 w.threads) }
+{
+    for index in 0..machine.threads() {
+        write_thread(machine, err, index as u64 + 1)?;
+    }
+    Ok(())
+}
+
+// A stop as a line names it.
+#[derive(Clone, Copy)]
+struct StopText(Stop);
+
+impl Display for StopText {
+    ghost output = { λ text. Some (stop_text text.0) };
+
+    fn fmt<W: fmt::Write>(&self, f: &mut fmt::Formatter<W>) -> fmt::Result {
+        match self.0 {
+            Stop::TagFault(fault) => write!(f, "60 TagFault({fault})"),
+            Stop::HeapFull => f.write_str("62 HeapFull"),
+            Stop::SerialsEnd => f.write_str("64 SerialsEnd"),
+        }
+    }
+}
+
+fn write_stop<W: Write>(err: &mut Watched<W>, stop: Stop) -> Result<(), WriteFailed>
+    ensures { WritesLines result err.old err.new (last_line (Some stop) 0) }
+{
+    let stop = StopText(stop);
+    err.write_line(format_args!("jm: {stop}"))
+}
+
+fn write_live<W: Write>(err: &mut Watched<W>, live: u64) -> Result<(), WriteFailed>
+    ensures { WritesLines result err.old err.new (live_line live) }
+{
+    if live == 0 {
+        return Ok(());
+    }
+    err.write_line(format_args!("jm: {live} threads not ended"))
+}
+
+// The stop, or else how many threads have not ended.
+fn write_last<H: Heap, W: Write>(
+    machine: &Machine<H>,
+    err: &mut Watched<W>,
+) -> Result<(), WriteFailed>
+    ensures { (w : World) → MatchesWorld machine.now w → WritesLines result err.old err.new (last_line w.stop (live_among w.threads)) }
+{
+    match machine.stop() {
+        Some(stop) => write_stop(err, stop),
+        None => write_live(err, machine.live() as u64),
+    }
+}
+
+/// Writes how a run ended: a line for each thread that an exception has ended, by number, and then
+/// the stop, or else how many threads have not ended, if any.
+#[tactic(auto, unfolding(crate::specs::Reports::report))]
+pub fn write_report<H: Heap, W: Write>(
+    machine: &Machine<H>,
+    err: &mut Watched<W>,
+) -> Result<(), WriteFailed>
+    ensures { (w : World) → MatchesWorld machine.now w → WritesLines result err.old err.new (report w) }
+{
+    write_threads(machine, err)?;
+    write_last(machine, err)
+}
+
+/// Writes that a growth was refused.
+pub fn write_out_of_memory<W: Write>(err: &mut Watched<W>) -> Result<(), WriteFailed>
+    ensures { WritesLines result err.old err.new memory_line }
+{
+    err.write_line("jm: 61 OutOfMemory")
+}

@@ -1,0 +1,105 @@
+// The object that is made of a shape.
+
+ghost use Rattle.std.specs.Prelude.{◌≡◌, IfOk, map, replicate};
+ghost use Rattle.jm_world.specs.Objects.{size_by};
+ghost use Rattle.jm_world.specs.Types.{default_of};
+ghost use Rattle.jm_heap.specs.Cells.{header_cells};
+ghost use Rattle.jm_heap.specs.NewObject.{new_object, operand_of_component};
+ghost use Rattle.jm_heap.specs.Stored.{IsNew};
+
+use crate::class_id::{ClassId, Component, Element};
+use crate::shape::Shape;
+use crate::slot::Object;
+use jm_program::{BaseType, OperandType};
+use jm_values::Value;
+use std::alloc::{AllocError, Global};
+
+// The class or array type of the object.
+#[tactic(auto, unfolding(crate::specs::NewObject::new_object))]
+fn class_of(shape: Shape<'_>) -> ClassId
+    ensures { result ≡ (new_object shape.entry).type }
+{
+    match shape {
+        Shape::Instance { class, .. } => ClassId::Instance(class),
+        Shape::Array { component, .. } => ClassId::Array(component),
+    }
+}
+
+/// The cells that the object takes.
+#[tactic(auto, unfolding(crate::specs::NewObject::new_object))]
+pub fn cells_of(shape: Shape<'_>) -> u64
+    ensures { result ≡ size_by header_cells (new_object shape.entry) }
+{
+    match shape {
+        Shape::Instance { fields, .. } => 2 + fields.len() as u64,
+        Shape::Array { length, .. } => 3 + length as u64,
+    }
+}
+
+// The value that a variable begins with (JVMS 2.3, 2.4).
+fn default_value(operand: OperandType) -> Value
+    ensures { result ≡ default_of operand }
+{
+    match operand {
+        OperandType::Int => Value::Int(0),
+        OperandType::Long => Value::Long(0),
+        OperandType::Reference => Value::Null,
+    }
+}
+
+// The operands that hold the elements of an array (JVMS 2.11.1).
+fn operand_of(component: Component) -> OperandType
+    ensures { result ≡ operand_of_component component }
+{
+    if component.dimensions > 0 {
+        return OperandType::Reference;
+    }
+    match component.element {
+        Element::Base(BaseType::Long) => OperandType::Long,
+        Element::Base(_) => OperandType::Int,
+        Element::Class(_) => OperandType::Reference,
+    }
+}
+
+// The default values of the fields of an instance.
+fn field_values(alloc: Global, fields: &[OperandType]) -> Result<Vec<Value>, AllocError>
+    ensures { IfOk result (λ values. values.items ≡ map default_of fields.now) }
+{
+    let mut values = Vec::with_capacity(alloc, fields.len())?;
+    for field in fields {
+        values.push(default_value(*field))?;
+    }
+    Ok(values)
+}
+
+// So many elements with one value.
+fn elements(alloc: Global, value: Value, length: u32) -> Result<Vec<Value>, AllocError>
+    ensures { IfOk result (λ values. values.items ≡ replicate length value) }
+{
+    vec![in alloc; value; length as usize]
+}
+
+// The object's values.
+#[tactic(auto, unfolding(crate::specs::NewObject::new_object))]
+fn values_of(alloc: Global, shape: Shape<'_>) -> Result<Vec<Value>, AllocError>
+    ensures { IfOk result (λ values. values.items ≡ (new_object shape.entry).values) }
+{
+    match shape {
+        Shape::Instance { fields, .. } => field_values(alloc, fields),
+        Shape::Array { component, length } => {
+            elements(alloc, default_value(operand_of(component)), length)
+        }
+    }
+}
+
+/// The object, with its number in the world.
+pub fn make(alloc: Global, serial: u64, shape: Shape<'_>) -> Result<Object, AllocError>
+    ensures { IfOk result (λ object. IsNew object serial (new_object shape.entry)) }
+{
+    let values = values_of(alloc, shape)?;
+    Ok(Object {
+        serial,
+        class: class_of(shape),
+        values,
+    })
+}

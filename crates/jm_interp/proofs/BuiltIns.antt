@@ -1,0 +1,62 @@
+-- No class of a program that loads has the name of a built-in one.
+use Rattle.std.proofs.Common.{◌≡◌, ℕ, List, [], ◌∷◌, Option, Some, None, Bool, true, false, refl, sym, ap, ◌∙◌}
+use Rattle.std.specs.Prelude.{◌||◌, is_some}
+use Rattle.std.specs.List.{AllByRecursion}
+use Rattle.std.specs.Cmp.Lexicographic as texts
+use Rattle.jm_program.specs.Names.{same_text}
+use Rattle.jm_program.specs.declared.class.ClassParts.{ClassParts}
+use Rattle.jm_builtins.specs.List.{the_builtins}
+use Rattle.jm_world.specs.Classes.{built_in_named, class_among, class_named}
+use Rattle.jm_world.specs.Loads.{Refusal, Loads, refusal, duplicates, is_named_among, or_else, when}
+
+first_none : (a b : Option Refusal) → or_else a b ≡ None → a ≡ None
+first_none None b e = refl
+first_none (Some r) b e = cc
+
+second_none : (a b : Option Refusal) → or_else a b ≡ None → b ≡ None
+second_none None b e = e
+second_none (Some r) b e = cc
+
+not_so : (b : Bool) (r : Refusal) → when b r ≡ None → b ≡ false
+not_so true r e = cc
+not_so false r e = refl
+
+neither : (a b : Bool) → (a || b) ≡ false → b ≡ false
+neither true b e = cc
+neither false b e = e
+
+not_built_in : (seen : List ClassParts) (name : List ℕ) → is_named_among seen name ≡ false → is_some (built_in_named the_builtins name) ≡ false
+not_built_in [] name e = e
+not_built_in (c ∷ cs) name e = not_built_in cs name (neither (same_text c.name name) (is_named_among cs name) e)
+
+no_built_ins : (seen cs : List ClassParts) → duplicates seen cs ≡ None → AllByRecursion (λ c. is_some (built_in_named the_builtins c.name) ≡ false) cs
+no_built_ins seen [] e = tt
+no_built_ins seen (c ∷ cs) e = (not_built_in seen c.name (not_so _ _ (first_none _ _ e)), no_built_ins (c ∷ seen) cs (second_none _ _ e))
+
+-- no class of the program has the name
+abbrev pub AreOthers : List ℕ → List ClassParts → Type 0
+AreOthers text = AllByRecursion (λ c. same_text c.name text ≡ false)
+
+others_from : (text : List ℕ) → is_some (built_in_named the_builtins text) ≡ true → (cs : List ClassParts) → AllByRecursion (λ c. is_some (built_in_named the_builtins c.name) ≡ false) cs → AreOthers text cs
+others_from text e [] h = tt
+others_from text e (c ∷ cs) h = (by (same_text c.name text) refl, others_from text e cs h.1)
+  where
+    by : (b : Bool) → same_text c.name text ≡ b → same_text c.name text ≡ false
+    by false t = t
+    by true t =
+        let is : c.name ≡ text = texts.same_text c.name text (sym t) in
+        let bad : false ≡ true = sym h.0 ∙ ap (λ n. is_some (built_in_named the_builtins n)) is ∙ e in
+        cc
+
+pub others : (program : List ClassParts) → Loads program → (text : List ℕ) → is_some (built_in_named the_builtins text) ≡ true → AreOthers text program
+unfolding refusal
+others program loads text e = others_from text e program (no_built_ins [] program (first_none _ _ loads))
+
+-- a built-in class is found under its name
+pub found_built_in : (cs : List ClassParts) (text : List ℕ) → AreOthers text cs → class_among cs text ≡ built_in_named the_builtins text
+found_built_in [] text h = refl
+found_built_in (c ∷ cs) text h = ap (λ b. elim b as (λ _. Option ClassParts) [ true ↦ Some c | false ↦ class_among cs text ]) h.0 ∙ found_built_in cs text h.1
+
+pub built_in_class : (program : List ClassParts) → Loads program → (text : List ℕ) → is_some (built_in_named the_builtins text) ≡ true → class_named program text ≡ built_in_named the_builtins text
+unfolding class_named
+built_in_class program loads text e = found_built_in program text (others program loads text e)

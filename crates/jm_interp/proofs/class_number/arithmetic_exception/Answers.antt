@@ -1,0 +1,7 @@
+use Rattle.std.proofs.Common.{refl}
+use Rattle.jm_linked.specs.Links.{class_name_of}
+use Rattle.jm_interp.proofs.class_number.arithmetic_exception.Goals as goal
+
+pub returns : goal.returns
+unfolding class_name_of
+returns c = refl

@@ -1,0 +1,6 @@
+pub mod Standing
+pub mod Stepped
+pub mod Pushing
+pub mod Returned
+pub mod Printing
+pub mod Tops

@@ -1,0 +1,30 @@
+// The numbers of the built-in classes that instructions name.
+
+ghost use Rattle.std.specs.Prelude.{◌≡◌, codes};
+ghost use Rattle.jm_linked.specs.Links.{class_name_of};
+
+use jm_linked::Linked;
+
+pub(crate) const PRINT_STREAM: u32 = 5;
+
+const ARITHMETIC_EXCEPTION: u32 = 11;
+
+const NULL_POINTER_EXCEPTION: u32 = 16;
+
+/// The number of java/lang/ArithmeticException.
+#[inline]
+pub(crate) fn arithmetic_exception(linked: &Linked) -> u32
+    ensures { class_name_of linked.now.program result ≡ codes "java/lang/ArithmeticException" }
+{
+    let _main = linked.main();
+    ARITHMETIC_EXCEPTION
+}
+
+/// The number of java/lang/NullPointerException.
+#[inline]
+pub(crate) fn null_pointer_exception(linked: &Linked) -> u32
+    ensures { class_name_of linked.now.program result ≡ codes "java/lang/NullPointerException" }
+{
+    let _main = linked.main();
+    NULL_POINTER_EXCEPTION
+}

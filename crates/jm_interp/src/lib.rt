@@ -1,0 +1,31 @@
+//! Steps of the threads of a linked program, over any heap.
+//!
+//! [`step_thread`] makes one step of a thread: a stage of unwinding where an exception is pending
+//! (JVMS 2.10), else the instruction at which its top frame stands (JVMS 6.5), or a stage of the
+//! initialization of a class (JVMS 5.5). Beside every world that the state matched, the state then
+//! matches the world that the model's step leads to, stops for the model's reason, blocks where the
+//! model blocks, or has not changed where a growth was refused.
+//!
+//! `step` chooses what is to be done; `plain`, `pushing`, `returning` and `printing` are the
+//! instructions, `throwing`, `unwinding` and `ending` what exceptions and ends do, `initialization`
+//! the stages of a class, over the calls on one thread in `top_frame`, `frames` and `operands`. A
+//! plain instruction looks up its thread, its top frame and its code, and takes no memory. The crate
+//! stands on `jm_state`, `jm_linked`, `jm_ops` and `jm_heap`'s trait.
+#![tactic(auto)]
+
+mod class_number;
+mod ending;
+mod frames;
+mod initialization;
+mod operands;
+mod plain;
+mod printing;
+mod pushing;
+mod returning;
+mod step;
+mod text;
+mod throwing;
+mod top_frame;
+mod unwinding;
+
+pub use step::step_thread;

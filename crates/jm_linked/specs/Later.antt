@@ -1,0 +1,141 @@
+-- What the machine cannot run yet: the first such part of a program, by classes in order, in a class
+-- its superclass, interfaces, fields, methods, then the instructions and the exception table of main.
+use Rattle.std.specs.Prelude.{ℕ, List, [], ◌∷◌, Option, Some, None, Bool, true, false, ◌&&◌, codes}
+use Rattle.jm_program.specs.Names.{same_text}
+use Rattle.jm_program.specs.declared.class.ClassParts.{ClassParts}
+use Rattle.jm_program.specs.declared.class.Method.{Method}
+use Rattle.jm_program.specs.declared.code.Code.{Code}
+use Rattle.jm_program.specs.declared.constant.Constant.{Constant}
+use Rattle.jm_program.specs.declared.constant.Constant.TheVariants as constant
+use Rattle.jm_program.specs.declared.descriptor.FieldType.{FieldType}
+use Rattle.jm_program.specs.declared.descriptor.MethodDescriptor.{MethodDescriptor}
+use Rattle.jm_program.specs.declared.descriptor.BaseType.{BaseType}
+use Rattle.jm_program.specs.declared.descriptor.BaseType.TheVariants as base
+use Rattle.jm_program.specs.declared.descriptor.ElementType.TheVariants.{Base}
+use Rattle.jm_program.specs.declared.instruction.operation.FieldOp.{FieldOp}
+use Rattle.jm_program.specs.declared.instruction.operation.FieldOp.TheVariants.{GetStatic}
+use Rattle.jm_program.specs.declared.instruction.operation.InvokeOp.{InvokeOp}
+use Rattle.jm_program.specs.declared.instruction.operation.InvokeOp.TheVariants.{Virtual}
+use Rattle.jm_program.specs.declared.instruction.symbolic.Instr.{Instr}
+use Rattle.jm_program.specs.declared.instruction.symbolic.Instr.TheVariants as instr
+use Rattle.jm_program.specs.declared.reference.ClassRef.{ClassRef}
+use Rattle.jm_program.specs.declared.reference.ClassRef.TheVariants as named
+use Rattle.jm_program.specs.declared.reference.FieldRef.{FieldRef}
+use Rattle.jm_program.specs.declared.reference.MethodRef.{MethodRef}
+use Rattle.jm_world.specs.Types.{class_type, same_type, same_method_type}
+use Rattle.jm_world.specs.Classes.{object_class, system_class, print_stream_class}
+use Rattle.jm_world.specs.Loading.{main_type}
+use Rattle.jm_linked.specs.declared.instruction.Printed.{Printed}
+use Rattle.jm_linked.specs.declared.instruction.Printed.TheVariants.{Int, Long, Char}
+use Rattle.jm_linked.specs.declared.instruction.PrintMethod.{PrintMethod}
+use Rattle.jm_linked.specs.declared.instruction.PrintMethod.TheVariants.{Print, Println, EndLine}
+use Rattle.jm_linked.specs.declared.later.LaterPart.{LaterPart}
+use Rattle.jm_linked.specs.declared.later.LaterPart.TheVariants as later
+
+-- System.out
+abbrev pub is_class_called : ClassRef → List ℕ → Bool
+is_class_called (named.Class name) text = same_text name text
+is_class_called (named.Array t) text = false
+
+abbrev pub is_system_out : FieldRef → Bool
+is_system_out f = is_class_called f.class system_class && same_text f.name (codes "out") && same_type f.descriptor (class_type print_stream_class)
+
+-- a method of PrintStream, by its name and type
+abbrev pub base_type : BaseType → FieldType
+base_type b = record { dimensions = 0; element = Base b }
+
+abbrev pub printed_type : Printed → FieldType
+printed_type Int = base_type base.Int
+printed_type Long = base_type base.Long
+printed_type Char = base_type base.Char
+
+abbrev pub print_name : PrintMethod → List ℕ
+print_name (Print p) = codes "print"
+print_name (Println p) = codes "println"
+print_name EndLine = codes "println"
+
+abbrev pub print_parameters : PrintMethod → List FieldType
+print_parameters (Print p) = printed_type p ∷ []
+print_parameters (Println p) = printed_type p ∷ []
+print_parameters EndLine = []
+
+abbrev pub print_type : PrintMethod → MethodDescriptor
+print_type p = record { parameters = print_parameters p; return_type = None }
+
+abbrev pub is_print : MethodRef → PrintMethod → Bool
+is_print m p = is_class_called m.class print_stream_class && same_text m.name (print_name p) && same_method_type m.descriptor (print_type p)
+
+abbrev pub print_methods : List PrintMethod
+print_methods = Print Int ∷ Print Long ∷ Print Char ∷ Println Int ∷ Println Long ∷ Println Char ∷ EndLine ∷ []
+
+abbrev pub print_among : List PrintMethod → MethodRef → Option PrintMethod
+print_among [] m = None
+print_among (p ∷ ps) m = elim (is_print m p) [ true ↦ Some p | false ↦ print_among ps m ]
+
+abbrev pub later_constant : Constant → Option LaterPart
+later_constant (constant.Int n) = None
+later_constant (constant.Long n) = None
+later_constant (constant.String units) = Some later.StringConstant
+
+abbrev pub later_field : FieldOp → FieldRef → Option LaterPart
+later_field GetStatic f = elim (is_system_out f) [ true ↦ None | false ↦ Some (later.Field GetStatic) ]
+later_field op f = Some (later.Field op)
+
+abbrev pub later_invoke : InvokeOp → MethodRef → Option LaterPart
+later_invoke Virtual m = elim (print_among print_methods m) [ Some p ↦ None | None ↦ Some (later.Invoke Virtual) ]
+later_invoke op m = Some (later.Invoke op)
+
+-- an instruction that cannot be run yet
+abbrev pub later_instruction : Instr → Option LaterPart
+later_instruction (instr.Plain op) = None
+later_instruction (instr.Array op) = Some (later.Array op)
+later_instruction (instr.Return op) = None
+later_instruction instr.Throw = Some later.Throw
+later_instruction (instr.Monitor op) = Some (later.Monitor op)
+later_instruction (instr.Constant c) = later_constant c
+later_instruction (instr.Field op f) = later_field op f
+later_instruction (instr.Invoke op m) = later_invoke op m
+later_instruction (instr.New name) = Some later.New
+later_instruction (instr.Type op t) = Some (later.Type op)
+
+-- the first part, or else the second
+abbrev pub or_later : Option LaterPart → Option LaterPart → Option LaterPart
+or_later (Some part) next = Some part
+or_later None next = next
+
+abbrev pub first_later : {A : Type 0} → (A → Option LaterPart) → List A → Option LaterPart
+first_later look [] = None
+first_later look (x ∷ xs) = or_later (look x) (first_later look xs)
+
+abbrev pub unless_empty : {A : Type 0} → LaterPart → List A → Option LaterPart
+unless_empty part [] = None
+unless_empty part (x ∷ xs) = Some part
+
+abbrev pub later_code : Option Code → Option LaterPart
+later_code None = None
+later_code (Some code) = or_later (first_later later_instruction code.instructions) (unless_empty later.Handlers code.handlers)
+
+-- main, by its name and type
+abbrev pub is_main_method : Method → Bool
+is_main_method m = same_text m.name (codes "main") && same_method_type m.descriptor main_type
+
+abbrev pub later_superclass : Option (List ℕ) → Option LaterPart
+later_superclass None = Some later.Superclass
+later_superclass (Some name) = elim (same_text name object_class) [ true ↦ None | false ↦ Some later.Superclass ]
+
+-- a method other than the main class's main
+abbrev pub other_method : Bool → Method → Option LaterPart
+other_method main m = elim (main && is_main_method m) [ true ↦ None | false ↦ Some later.Methods ]
+
+abbrev pub later_class : Bool → ClassParts → Option LaterPart
+later_class main c =
+    or_later (later_superclass c.superclass)
+    (or_later (unless_empty later.Interfaces c.interfaces)
+    (or_later (unless_empty later.Fields c.fields)
+    (or_later (first_later (other_method main) c.methods)
+    (first_later (λ m. later_code m.code) c.methods))))
+
+-- the first part of a program that cannot be run yet; the main class is the first
+unfoldable pub later_part : List ClassParts → Option LaterPart
+later_part [] = None
+later_part (c ∷ cs) = or_later (later_class true c) (first_later (later_class false) cs)

@@ -1,0 +1,20 @@
+-- How a part that cannot be run yet is printed: an instruction by its mnemonic.
+use Rattle.std.specs.Prelude.{ℕ, List, codes}
+use Rattle.jm_program.specs.Mnemonics.{array_line, monitor_mnemonic, field_mnemonic, invoke_mnemonic, type_mnemonic}
+use Rattle.jm_linked.specs.declared.later.LaterPart.{LaterPart}
+use Rattle.jm_linked.specs.declared.later.LaterPart.TheVariants as later
+
+unfoldable pub later_text : LaterPart → List ℕ
+later_text later.Superclass = codes "superclass"
+later_text later.Interfaces = codes "interfaces"
+later_text later.Fields = codes "fields"
+later_text later.Methods = codes "methods"
+later_text later.Handlers = codes "handlers"
+later_text (later.Array op) = array_line op
+later_text later.Throw = codes "athrow"
+later_text (later.Monitor op) = monitor_mnemonic op
+later_text later.StringConstant = codes "ldc"
+later_text (later.Field op) = field_mnemonic op
+later_text (later.Invoke op) = invoke_mnemonic op
+later_text later.New = codes "new"
+later_text (later.Type op) = type_mnemonic op

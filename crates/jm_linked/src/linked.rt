@@ -1,0 +1,83 @@
+// A program whose names are resolved.
+
+ghost use Rattle.std.specs.Prelude.{◌≡◌, ◌<◌, ◌^◌, ◌+◌, slice_get, Some, IfSome};
+ghost use Rattle.jm_builtins.specs.List.{the_builtins};
+ghost use Rattle.jm_linked.specs.Links.{LinkedView, IsLinked};
+
+use crate::method::LinkedMethod;
+use jm_builtins::BuiltIn;
+use jm_program::{Class, Sequence};
+use std::marker::Model;
+
+/// A program that loads, with its names resolved.
+#[derive(Debug, Drop)]
+pub struct Linked {
+    classes: Sequence<Class>,
+    built_ins: Sequence<BuiltIn>,
+    methods: Sequence<LinkedMethod>,
+    main: u32,
+}
+
+impl Model for Linked {
+    ghost use Rattle.std.specs.Prelude.{◌≡◌};
+    ghost use Rattle.jm_builtins.specs.List.{the_builtins};
+    ghost use Rattle.jm_linked.specs.Links.{LinkedView, IsLinked};
+
+    ghost Value = { LinkedView };
+
+    ghost view = { λ l. record { program = l.classes; methods = l.methods; main = l.main } };
+
+    ghost invariant = { λ l. (l.built_ins ≡ the_builtins) × IsLinked (record { program = l.classes; methods = l.methods; main = l.main }) };
+}
+
+impl Linked {
+    /// The linked program of these parts.
+    pub fn new(
+        classes: Sequence<Class>,
+        built_ins: Sequence<BuiltIn>,
+        methods: Sequence<LinkedMethod>,
+        main: u32,
+    ) -> Linked
+        requires built_in { built_ins ≡ the_builtins }
+        requires linked { IsLinked (record { program = classes; methods = methods; main = main }) }
+        ensures { result ≡ record { program = classes; methods = methods; main = main } }
+    {
+        Linked {
+            classes,
+            built_ins,
+            methods,
+            main,
+        }
+    }
+
+    /// The program's classes, in order.
+    pub fn classes(&self) -> &[Class]
+        ensures classes { result.now ≡ self.now.program }
+        ensures linked { IsLinked self.now }
+    {
+        self.classes.as_slice()
+    }
+
+    /// The built-in classes, in order.
+    pub fn built_ins(&self) -> &[BuiltIn]
+        ensures { result.now ≡ the_builtins }
+    {
+        self.built_ins.as_slice()
+    }
+
+    /// The number of main among the methods that can run.
+    pub fn main(&self) -> u32
+        ensures { result ≡ self.now.main }
+    {
+        self.main
+    }
+
+    /// The methods that can run, by number.
+    #[inline]
+    pub fn methods(&self) -> &[LinkedMethod]
+        ensures methods { result.now ≡ self.now.methods }
+        ensures linked { IsLinked self.now }
+    {
+        self.methods.as_slice()
+    }
+}

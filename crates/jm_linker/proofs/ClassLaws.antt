@@ -1,0 +1,51 @@
+-- Classes found by name.
+use Rattle.std.proofs.Common.{◌≡◌, ℕ, suc, ◌≤◌, Bool, true, false, List, [], ◌∷◌, Option, Some, None, length, drop, refl, sym, ap, ◌∙◌, arith}
+use Rattle.std.proofs.lemmas.List.{nil_from_length, length-drop}
+use Rattle.std.specs.Prelude.{map}
+use denote.Bor.{Bor}
+use Rattle.std.specs.Prelude.{is_some, option_copied}
+use Rattle.jm_program.specs.Names.{same_text}
+use Rattle.jm_program.specs.declared.class.ClassParts.{ClassParts}
+use Rattle.jm_builtins.specs.declared.built_in.BuiltIn.{BuiltIn}
+use Rattle.jm_builtins.specs.List.{the_builtins}
+use Rattle.jm_world.specs.Classes.{as_class, built_in_named, class_among, class_named}
+use Rattle.jm_linker.specs.BuiltInClasses.{built_in_classes, class_in, is_built_in_name}
+
+class_in-map : (bs : List BuiltIn) (name : List ℕ) → class_in (map as_class bs) name ≡ built_in_named bs name
+class_in-map [] name = refl
+class_in-map (b ∷ bs) name = by (same_text b.name name) (class_in-map bs name)
+  where
+    by : (t : Bool) → class_in (map as_class bs) name ≡ built_in_named bs name → (elim t as (λ _. Option ClassParts) [ true ↦ Some (as_class b) | false ↦ class_in (map as_class bs) name ]) ≡ (elim t as (λ _. Option ClassParts) [ true ↦ Some (as_class b) | false ↦ built_in_named bs name ])
+    by true e = refl
+    by false e = e
+
+-- a built-in class is found among the built-in ones
+pub built_in_found : (name : List ℕ) → class_in built_in_classes name ≡ built_in_named the_builtins name
+unfolding built_in_classes
+built_in_found name = class_in-map the_builtins name
+
+-- after the last class of a program, the built-in ones are left
+pub found_past : (program : List ClassParts) (i : ℕ) (name : List ℕ) → length program ≤ i → class_among program name ≡ class_among (drop i program) name → class_named program name ≡ class_in built_in_classes name
+unfolding class_named
+found_past program i name l h =
+    let none : drop i program ≡ [] = nil_from_length (drop i program) (omega (arith, length-drop i program)) in
+    h ∙ rw none refl ∙ sym (built_in_found name)
+
+pub built_in_name : (name : List ℕ) → is_some (class_in built_in_classes name) ≡ is_built_in_name name
+unfolding is_built_in_name
+built_in_name name = ap is_some (built_in_found name)
+
+copied_some : (o : Option (Bor ClassParts)) → is_some o ≡ is_some (option_copied o)
+copied_some None = refl
+copied_some (Some x) = refl
+
+pub built_in_told : (o : Option (Bor ClassParts)) (cs : List ClassParts) (name : List ℕ) → cs ≡ built_in_classes → option_copied o ≡ class_in cs name → is_some o ≡ is_built_in_name name
+built_in_told o cs name all found = copied_some o ∙ ap is_some (found ∙ ap (λ ds. class_in ds name) all) ∙ built_in_name name
+
+length-map : (bs : List BuiltIn) → length (map as_class bs) ≡ length bs
+length-map [] = refl
+length-map (b ∷ bs) = ap (λ n. suc n) (length-map bs)
+
+pub many_built_ins : (cs : List ClassParts) → cs ≡ built_in_classes → length cs ≡ length the_builtins
+unfolding built_in_classes
+many_built_ins cs e = ap length e ∙ length-map the_builtins

@@ -1,0 +1,11 @@
+pub mod TypeLaws
+pub mod Reasons
+pub mod Seen
+pub mod ClassLaws
+pub mod LaterLaws
+pub mod WalkLaws
+pub mod FoundLaws
+pub mod CycleLaws
+pub mod CodeLaws
+pub mod MainLaws
+pub mod Numbers

@@ -1,0 +1,8 @@
+-- What is left decides.
+use Rattle.std.proofs.Common.{◌≡◌, drop}
+use Rattle.jm_linked.specs.Later.{first_later, later_code}
+use Rattle.jm_program.specs.declared.class.Method.{Method}
+use Rattle.jm_linker.proofs.later.later_in_codes.Given as goal
+
+abbrev pub invariant-loop-method : goal.invariant-loop-method
+invariant-loop-method l = first_later (λ (m : Method). later_code m.code) l.methods ≡ first_later (λ (m : Method). later_code m.code) (drop l.method-index l.methods)

@@ -1,0 +1,9 @@
+pub mod FaultTexts
+pub mod Answers
+pub mod BuiltInClasses
+pub mod LaterHead
+pub mod Walks
+pub mod Found
+pub mod Cycles
+pub mod MainLinks
+pub mod Linking

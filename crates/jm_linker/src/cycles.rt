@@ -1,0 +1,60 @@
+// Classes above themselves (JVMS 5.3.5).
+
+ghost use Rattle.std.specs.Prelude.{◌≡◌, MatchResult, IsTrue, Some, is_some};
+ghost use Rattle.jm_program.specs.declared.class.ClassParts.{ClassParts};
+ghost use Rattle.jm_world.specs.Classes.{class_named};
+ghost use Rattle.jm_world.specs.Loads.{cycle_refusal, first_of_all};
+ghost use Rattle.jm_linker.specs.Answers.{Answers, IsOutOfMemory};
+ghost use Rattle.jm_linker.specs.Cycles.{is_above_itself};
+
+use crate::classes::Classes;
+use crate::fault::{LinkFault, cycle};
+use crate::walk::{Sought, find_above};
+use jm_program::ClassParts;
+use std::alloc::Global;
+use std::slice;
+
+fn is_above_itself<'a>(
+    alloc: Global,
+    classes: &Classes<'a>,
+    class: &'a ClassParts,
+) -> Result<bool, LinkFault>
+    requires { IsTrue (is_some (class_named classes.now.program.now class.now.name)) }
+    ensures { MatchResult result (λ b. b ≡ is_above_itself classes.now.program.now class.now) (λ fault. IsOutOfMemory fault) }
+{
+    let sought = Sought::Class(&class.name);
+    if let Some(name) = &class.superclass {
+        if let Some(_) = find_above(alloc, classes, &sought, slice::from_ref(name))? {
+            return Ok(true);
+        }
+    }
+    match find_above(alloc, classes, &sought, class.interfaces.as_slice())? {
+        Some(_) => Ok(true),
+        None => Ok(false),
+    }
+}
+
+#[tactic(auto, using(crate::proofs::Reasons::memory_says))]
+fn check_cycle<'a>(
+    alloc: Global,
+    classes: &Classes<'a>,
+    class: &'a ClassParts,
+) -> Result<(), LinkFault>
+    requires { IsTrue (is_some (class_named classes.now.program.now class.now.name)) }
+    ensures { Answers result (cycle_refusal classes.now.program.now class.now) }
+{
+    if is_above_itself(alloc, classes, class)? {
+        return Err(cycle(alloc, &class.name));
+    }
+    Ok(())
+}
+
+/// That no class is above itself.
+pub fn check_cycles(alloc: Global, classes: &Classes) -> Result<(), LinkFault>
+    ensures { Answers result (first_of_all (cycle_refusal classes.now.program.now) classes.now.program.now) }
+{
+    for class in classes.program {
+        check_cycle(alloc, classes, class.parts())?;
+    }
+    Ok(())
+}

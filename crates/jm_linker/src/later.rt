@@ -1,0 +1,365 @@
+// The parts of a program that the machine cannot run yet.
+
+ghost use Rattle.std.specs.Prelude.{◌≡◌, [], ◌∷◌, None, Some, cond, false};
+ghost use Rattle.jm_linked.specs.Later.{is_class_called, is_system_out, base_type, printed_type, print_name, print_parameters, is_print, print_among, print_methods, later_constant, later_field, later_invoke, later_instruction, or_later, first_later, unless_empty, later_code, is_main_method, later_superclass, other_method, later_class, later_part};
+ghost use Rattle.jm_program.specs.Names.{same_text};
+ghost use Rattle.jm_program.specs.declared.class.Method.{Method};
+ghost use Rattle.jm_linker.specs.LaterHead.{later_head};
+ghost use Rattle.jm_world.specs.Loading.{strings_type};
+ghost use Rattle.jm_world.specs.Classes.{system_class, print_stream_class};
+ghost use Rattle.jm_world.specs.Types.{class_type, same_type, same_types, same_result};
+
+use crate::name::{is_print_stream, is_system, is_text};
+use crate::types::letter;
+use jm_linked::{LaterPart, PrintMethod, Printed};
+use jm_program::{
+    BaseType, Class, ClassParts, ClassRef, Code, Constant, ElementType, FieldOp, FieldRef,
+    FieldType, Instr, InvokeOp, Method, MethodDescriptor, MethodRef, Name,
+};
+
+fn is_system_ref(class: &ClassRef) -> bool
+    ensures { result ≡ is_class_called class.now system_class }
+{
+    match class {
+        ClassRef::Class(name) => is_system(name),
+        ClassRef::Array(_) => false,
+    }
+}
+
+fn is_print_stream_ref(class: &ClassRef) -> bool
+    ensures { result ≡ is_class_called class.now print_stream_class }
+{
+    match class {
+        ClassRef::Class(name) => is_print_stream(name),
+        ClassRef::Array(_) => false,
+    }
+}
+
+fn is_print_stream_type(field_type: &FieldType) -> bool
+    ensures { result ≡ same_type field_type.now (class_type print_stream_class) }
+{
+    field_type.dimensions == 0
+        && match &field_type.element {
+            ElementType::Base(_) => false,
+            ElementType::Class(name) => is_print_stream(name),
+        }
+}
+
+/// Whether it is System.out.
+pub fn is_system_out(field: &FieldRef) -> bool
+    ensures { result ≡ is_system_out field.now }
+{
+    is_system_ref(&field.class)
+        && is_text(&field.name, b"out")
+        && is_print_stream_type(&field.descriptor)
+}
+
+fn is_base(field_type: &FieldType, base: BaseType) -> bool
+    ensures { result ≡ same_type field_type.now (base_type base) }
+{
+    field_type.dimensions == 0
+        && match &field_type.element {
+            ElementType::Base(element) => letter(*element) == letter(base),
+            ElementType::Class(_) => false,
+        }
+}
+
+fn is_printed(field_type: &FieldType, printed: Printed) -> bool
+    ensures { result ≡ same_type field_type.now (printed_type printed) }
+{
+    match printed {
+        Printed::Int => is_base(field_type, BaseType::Int),
+        Printed::Long => is_base(field_type, BaseType::Long),
+        Printed::Char => is_base(field_type, BaseType::Char),
+    }
+}
+
+fn is_print_name(name: &Name, method: PrintMethod) -> bool
+    ensures { result ≡ same_text name.now (print_name method) }
+{
+    match method {
+        PrintMethod::Print(_) => is_text(name, b"print"),
+        PrintMethod::Println(_) | PrintMethod::EndLine => is_text(name, b"println"),
+    }
+}
+
+#[tactic(auto, using(crate::proofs::TypeLaws::same_types_one))]
+fn is_one_printed(types: &[FieldType], printed: Printed) -> bool
+    ensures { result ≡ same_types types.now (printed_type printed ∷ []) }
+{
+    types.len() == 1 && is_printed(&types[0], printed)
+}
+
+#[tactic(auto, using(crate::proofs::TypeLaws::same_types_none))]
+fn are_no_types(types: &[FieldType]) -> bool
+    ensures { result ≡ same_types types.now [] }
+{
+    types.is_empty()
+}
+
+fn are_print_parameters(types: &[FieldType], method: PrintMethod) -> bool
+    ensures { result ≡ same_types types.now (print_parameters method) }
+{
+    match method {
+        PrintMethod::Print(printed) | PrintMethod::Println(printed) => {
+            is_one_printed(types, printed)
+        }
+        PrintMethod::EndLine => are_no_types(types),
+    }
+}
+
+fn returns_nothing(descriptor: &MethodDescriptor) -> bool
+    ensures { result ≡ same_result descriptor.now.return_type None }
+{
+    match &descriptor.return_type {
+        None => true,
+        Some(_) => false,
+    }
+}
+
+fn is_print(method: &MethodRef, print: PrintMethod) -> bool
+    ensures { result ≡ is_print method.now print }
+{
+    is_print_stream_ref(&method.class)
+        && is_print_name(&method.name, print)
+        && are_print_parameters(method.descriptor.parameters.as_slice(), print)
+        && returns_nothing(&method.descriptor)
+}
+
+const PRINT_METHODS: [PrintMethod; 7] = [
+    PrintMethod::Print(Printed::Int),
+    PrintMethod::Print(Printed::Long),
+    PrintMethod::Print(Printed::Char),
+    PrintMethod::Println(Printed::Int),
+    PrintMethod::Println(Printed::Long),
+    PrintMethod::Println(Printed::Char),
+    PrintMethod::EndLine,
+];
+
+fn print_among(prints: &[PrintMethod], method: &MethodRef) -> Option<PrintMethod>
+    ensures { result ≡ print_among prints.now method.now }
+{
+    for print in prints {
+        if is_print(method, *print) {
+            return Some(*print);
+        }
+    }
+    None
+}
+
+/// The method of PrintStream that prints an int, a long or a char, or ends a line.
+pub fn print_method(method: &MethodRef) -> Option<PrintMethod>
+    ensures { result ≡ print_among print_methods method.now }
+{
+    print_among(&PRINT_METHODS, method)
+}
+
+fn later_constant(constant: &Constant) -> Option<LaterPart>
+    ensures { result ≡ later_constant constant.now }
+{
+    match constant {
+        Constant::Int(_) | Constant::Long(_) => None,
+        Constant::String(_) => Some(LaterPart::StringConstant),
+    }
+}
+
+fn later_field(op: FieldOp, field: &FieldRef) -> Option<LaterPart>
+    ensures { result ≡ later_field op field.now }
+{
+    match op {
+        FieldOp::GetStatic => {
+            if is_system_out(field) {
+                None
+            } else {
+                Some(LaterPart::Field(op))
+            }
+        }
+        _ => Some(LaterPart::Field(op)),
+    }
+}
+
+fn later_invoke(op: InvokeOp, method: &MethodRef) -> Option<LaterPart>
+    ensures { result ≡ later_invoke op method.now }
+{
+    match op {
+        InvokeOp::Virtual => match print_method(method) {
+            Some(_) => None,
+            None => Some(LaterPart::Invoke(op)),
+        },
+        _ => Some(LaterPart::Invoke(op)),
+    }
+}
+
+fn later_instruction(instruction: &Instr) -> Option<LaterPart>
+    ensures { result ≡ later_instruction instruction.now }
+{
+    match instruction {
+        Instr::Plain(_) | Instr::Return(_) => None,
+        Instr::Array(op) => Some(LaterPart::Array(*op)),
+        Instr::Throw => Some(LaterPart::Throw),
+        Instr::Monitor(op) => Some(LaterPart::Monitor(*op)),
+        Instr::Constant(constant) => later_constant(constant),
+        Instr::Field(op, field) => later_field(*op, field),
+        Instr::Invoke(op, method) => later_invoke(*op, method),
+        Instr::New(_) => Some(LaterPart::New),
+        Instr::Type(op, _) => Some(LaterPart::Type(*op)),
+    }
+}
+
+fn later_in_instructions(instructions: &[Instr]) -> Option<LaterPart>
+    ensures { result ≡ first_later later_instruction instructions.now }
+{
+    for instruction in instructions {
+        if let Some(part) = later_instruction(instruction) {
+            return Some(part);
+        }
+    }
+    None
+}
+
+#[tactic(auto, using(crate::proofs::LaterLaws::unless_empty_tells))]
+fn unless_empty(part: LaterPart, is_empty: bool) -> Option<LaterPart>
+    ensures { result ≡ cond is_empty None (Some part) }
+{
+    if is_empty { None } else { Some(part) }
+}
+
+#[tactic(auto, using(crate::proofs::LaterLaws::unless_empty_tells))]
+fn later_in_code(code: &Option<Code>) -> Option<LaterPart>
+    ensures { result ≡ later_code code.now }
+{
+    let Some(code) = code else {
+        return None;
+    };
+    if let Some(part) = later_in_instructions(code.instructions.as_slice()) {
+        return Some(part);
+    }
+    unless_empty(LaterPart::Handlers, code.handlers.as_slice().is_empty())
+}
+
+fn is_strings(field_type: &FieldType) -> bool
+    ensures { result ≡ same_type field_type.now strings_type }
+{
+    field_type.dimensions == 1
+        && match &field_type.element {
+            ElementType::Base(_) => false,
+            ElementType::Class(name) => name.is_string(),
+        }
+}
+
+#[tactic(auto, using(crate::proofs::TypeLaws::same_types_one))]
+fn are_main_parameters(types: &[FieldType]) -> bool
+    ensures { result ≡ same_types types.now (strings_type ∷ []) }
+{
+    types.len() == 1 && is_strings(&types[0])
+}
+
+/// Whether it is main by its name and type.
+pub fn is_main_method(method: &Method) -> bool
+    ensures { result ≡ is_main_method method.now }
+{
+    is_text(&method.name, b"main")
+        && are_main_parameters(method.descriptor.parameters.as_slice())
+        && returns_nothing(&method.descriptor)
+}
+
+fn later_superclass(superclass: &Option<Name>) -> Option<LaterPart>
+    ensures { result ≡ later_superclass superclass.now }
+{
+    match superclass {
+        None => Some(LaterPart::Superclass),
+        Some(name) => {
+            if name.is_object() {
+                None
+            } else {
+                Some(LaterPart::Superclass)
+            }
+        }
+    }
+}
+
+fn other_method(main: bool, method: &Method) -> Option<LaterPart>
+    ensures { result ≡ other_method main method.now }
+{
+    if main && is_main_method(method) {
+        None
+    } else {
+        Some(LaterPart::Methods)
+    }
+}
+
+fn later_in_methods(main: bool, methods: &[Method]) -> Option<LaterPart>
+    ensures { result ≡ first_later (other_method main) methods.now }
+{
+    for method in methods {
+        if let Some(part) = other_method(main, method) {
+            return Some(part);
+        }
+    }
+    None
+}
+
+fn later_in_codes(methods: &[Method]) -> Option<LaterPart>
+    ensures { result ≡ first_later (λ (m : Method). later_code m.code) methods.now }
+{
+    for method in methods {
+        if let Some(part) = later_in_code(&method.code) {
+            return Some(part);
+        }
+    }
+    None
+}
+
+// The first part of a class's head, its superclass, interfaces and fields.
+#[tactic(auto, using(crate::proofs::LaterLaws::unless_empty_tells))]
+fn later_in_head(class: &ClassParts) -> Option<LaterPart>
+    ensures { result ≡ later_head class.now }
+{
+    if let Some(part) = later_superclass(&class.superclass) {
+        return Some(part);
+    }
+    if let Some(part) = unless_empty(
+        LaterPart::Interfaces,
+        class.interfaces.as_slice().is_empty(),
+    ) {
+        return Some(part);
+    }
+    unless_empty(LaterPart::Fields, class.fields.as_slice().is_empty())
+}
+
+fn later_in_class(main: bool, class: &ClassParts) -> Option<LaterPart>
+    ensures { result ≡ later_class main class.now }
+{
+    if let Some(part) = later_in_head(class) {
+        return Some(part);
+    }
+    if let Some(part) = later_in_methods(main, class.methods.as_slice()) {
+        return Some(part);
+    }
+    later_in_codes(class.methods.as_slice())
+}
+
+fn later_in_others(classes: &[Class]) -> Option<LaterPart>
+    ensures { result ≡ first_later (later_class false) classes.now }
+{
+    for class in classes {
+        if let Some(part) = later_in_class(false, class.parts()) {
+            return Some(part);
+        }
+    }
+    None
+}
+
+/// The first part of a program that cannot be run yet; the main class is the first.
+#[tactic(auto, unfolding(jm_linked::specs::Later::later_part))]
+pub fn later_part(classes: &[Class]) -> Option<LaterPart>
+    ensures { result ≡ later_part classes.now }
+{
+    let Some((first, others)) = classes.split_first() else {
+        return None;
+    };
+    if let Some(part) = later_in_class(true, first.parts()) {
+        return Some(part);
+    }
+    later_in_others(others)
+}

@@ -1,0 +1,26 @@
+//! From the classes of a program to a linked program: names are resolved once, here.
+//!
+//! [`link`] answers a linked program exactly where the classes load (JVMS 5.3, 5.4) and nothing
+//! stands in them that the machine cannot run yet; otherwise it answers the first reason, in the
+//! order of `jm_world`'s definition of loading, and after all of these the first part that comes
+//! later. The crate stands on `jm_program`, `jm_builtins`, `jm_world` and `jm_linked`.
+#![tactic(auto)]
+
+mod classes;
+mod code;
+mod cycles;
+mod duplicates;
+mod fault;
+mod later;
+mod linking;
+mod main_method;
+mod members;
+mod name;
+mod parents;
+mod references;
+mod resolution;
+mod types;
+mod walk;
+
+pub use fault::LinkFault;
+pub use linking::link;

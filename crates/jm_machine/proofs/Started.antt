@@ -1,0 +1,227 @@
+-- The state from which a run begins is that of the loaded world.
+use Rattle.std.proofs.Common.{◌≡◌, ◌≢◌, ℕ, zero, suc, ◌+◌, ◌-◌, ◌<◌, ◌≤◌, List, [], ◌∷◌, ◌++◌, Some, None, true, false, refl, sym, ap, ◌∙◌, subst, inl, inr, length, replicate, arith}
+use Rattle.std.specs.Prelude.{map, slice_get, option_map, reverse, nat_lt}
+use Rattle.std.specs.List.{AllByRecursion, flat_map}
+use Rattle.std.proofs.lemmas.List.{length-replicate}
+use Rattle.std.proofs.lemmas.Option.{slice_get_within}
+use Rattle.std.proofs.lemmas.Bool.{ltb-false}
+use Rattle.jm_program.specs.declared.class.ClassParts.{ClassParts}
+use Rattle.jm_program.specs.declared.class.Method.{Method}
+use Rattle.jm_values.specs.Shape.{list_shape}
+use Rattle.jm_values.specs.Rename.{locals_shape, rename_activation}
+use Rattle.jm_values.specs.declared.value.Value.{Value}
+use Rattle.jm_values.specs.declared.value.Value.TheVariants.{Ref}
+use Rattle.jm_world.specs.Classes.{name_of_method, MethodName, method_named, print_stream_class, string_class}
+use Rattle.jm_world.specs.Objects.{Object, new_array}
+use Rattle.jm_world.specs.Frames.{Frame, method_frame, initialization_frame, rename_frame}
+use Rattle.jm_world.specs.World.{Static, running, is_running, refs_thread}
+use Rattle.jm_world.specs.Content.{Content, AllResident, name_of, serial_at, object_at}
+use Rattle.jm_world.specs.Renaming.{static_shape, rename_thread}
+use Rattle.jm_world.specs.Invocation.{padded, unset, locals_of, activation_of}
+use Rattle.jm_world.specs.Loading.{loaded_world, first_objects, objects_from, literals_from, literal_texts, first_statics, first_thread, first_frames as model_frames, main_in, out_field, statics_of_class, is_too_small, cells_of_all}
+use Rattle.jm_world.specs.Matches.{Matches, places, as_named}
+use Rattle.jm_world.specs.declared.class_state.ClassState.{ClassState}
+use Rattle.jm_world.specs.declared.class_state.ClassState.TheVariants.{NotBegun, Failed}
+use Rattle.jm_world.specs.declared.stage.Stage.TheVariants.{Begin}
+use Rattle.jm_world.proofs.LoadsWellFormed.{runs_are_well_formed}
+use Rattle.jm_heap.specs.declared.class_id.ClassId.{ClassId}
+use Rattle.jm_linked.specs.Links.{LinkedView, IsLinked, MethodLinks, name_of_number, name_among, name_in_class, member_name, class_name_of}
+use Rattle.jm_linked.specs.declared.method.LinkedMethod.{LinkedMethod}
+use Rattle.jm_state.specs.Parts.{parts, named_type, named_statics, named_states, thread_part, program_class_name, name_in_program, ending_part, frame_part, frames_part}
+use Rattle.jm_state.specs.Runnable.{IsRunnable, FrameRuns, StandOnTop}
+use Rattle.jm_state.specs.declared.thread.Thread as held
+use Rattle.jm_state.specs.declared.thread.Ending.TheVariants.{Running}
+use Rattle.jm_machine.specs.Start.{HasFirst, stream, arguments, first_frames}
+use Rattle.jm_machine.proofs.FirstObjects.{named}
+use Rattle.jm_machine.proofs.MainMethod.{main_is}
+use Rattle.jm_machine.proofs.Path.{no_literals, no_statics}
+use Rattle.jm_world.specs.Types.{class_type, instance_of}
+
+-- local variables that are not set have no references
+unset_refs : (n : ℕ) → locals_shape.refs (unset n) ≡ []
+unset_refs zero = refl
+unset_refs (suc n) = unset_refs n
+
+unset_renamed : (f : ℕ → ℕ) (n : ℕ) → locals_shape.rename f (unset n) ≡ unset n
+unset_renamed f zero = refl
+unset_renamed f (suc n) = ap (λ xs. None ∷ xs) (unset_renamed f n)
+
+-- the classes are not begun
+states_are : (program : List ClassParts) → named_states program (replicate (length program) NotBegun) ≡ map (λ c. record { class = c.name; state = NotBegun }) program
+states_are [] = refl
+states_are (c ∷ cs) = ap (λ ps. record { class = c.name; state = NotBegun } ∷ ps) (states_are cs)
+
+none_failed : (n : ℕ) → AllByRecursion (λ s. s ≢ Failed) (replicate n NotBegun)
+none_failed zero = tt
+none_failed (suc n) = (λ e. cc, none_failed n)
+
+-- the names of the first objects' types
+stream_named : (program : List ClassParts) → as_named (named_type program) stream ≡ record { type = instance_of print_stream_class; values = [] }
+unfolding named_type class_name_of
+stream_named program = refl
+
+arguments_named : (program : List ClassParts) → as_named (named_type program) arguments ≡ new_array (class_type string_class) 0
+unfolding named_type class_name_of
+arguments_named program = refl
+
+module _ (l : LinkedView) (linked : IsLinked l) where
+  links : MethodLinks l.program linked.main
+  links = linked.methods l.main linked.main linked.main_is
+
+  names_agree : name_of_method (record { class = links.class; method = links.method }) ≡ name_of_method linked.found
+  names_agree = sym (ap (λ o. name_in_class o linked.main.member) links.class_is ∙ ap (member_name links.class) links.method_is) ∙ linked.main_name
+
+  code_found : linked.found.method.code ≡ Some links.code
+  code_found = ap (λ (x : Method). x.code) (main_is l.program linked.found links.method linked.found_is (subst (λ n. method_named l.program n ≡ Some links.method) names_agree links.named)) ∙ links.code_is
+
+  number_named : name_of_number l l.main ≡ name_of_method linked.found
+  unfolding name_of_number
+  number_named = ap (name_among l.program) linked.main_is ∙ linked.main_name
+
+  class_named_is : program_class_name l.program linked.main.class ≡ linked.found.class.name
+  unfolding program_class_name
+  class_named_is = ap name_in_program links.class_is ∙ ap (λ (n : MethodName). n.class) names_agree
+
+  -- the first thread's frames, with references under other names
+  activation_is : (f : ℕ → ℕ) (array : ℕ) → f array ≡ 1
+      → rename_activation f (record { at = 0; max_stack = linked.main.max_stack; locals = padded linked.main.max_locals (locals_of (Ref array ∷ [])); stack = [] })
+      ≡ activation_of links.code (Ref 1 ∷ [])
+  activation_is f array e =
+      let rest : locals_shape.rename f (unset (linked.main.max_locals - 1)) ≡ unset (links.code.max_locals - 1) = unset_renamed f (linked.main.max_locals - 1) ∙ ap (λ n. unset (n - 1)) links.max_locals in
+      λ i. record { at = 0; max_stack = links.max_stack i; locals = Some (Ref (e i)) ∷ rest i; stack = [] }
+
+  model_frames_are : model_frames linked.found ≡ initialization_frame linked.found.class.name Begin ∷ method_frame (name_of_method linked.found) (activation_of links.code (Ref 1 ∷ [])) None ∷ []
+  model_frames_are = ap (λ o. elim o as (λ v. List Frame) [
+    | None ↦ []
+    | Some code ↦ initialization_frame linked.found.class.name Begin ∷ method_frame (name_of_method linked.found) (activation_of code (Ref 1 ∷ [])) None ∷ []
+  ]) code_found
+
+  frames_are : (f : ℕ → ℕ) (array : ℕ) → f array ≡ 1 → map (rename_frame f) (map (frame_part l) (reverse (first_frames l.main linked.main array))) ≡ model_frames linked.found
+  frames_are f array e =
+      (λ i. initialization_frame (class_named_is i) Begin ∷ method_frame (number_named i) (activation_is f array e i) None ∷ []) ∙ sym model_frames_are
+
+  thread_is : (f : ℕ → ℕ) (array : ℕ) (t : held.Thread) → f array ≡ 1 → t.frames.items ≡ first_frames l.main linked.main array → t.pending ≡ None → t.ending ≡ Running → rename_thread f (thread_part l t) ≡ first_thread (main_in l.program)
+  thread_is f array t e frames pending ending =
+      ap (λ fs. rename_thread f (record { object = None; frames = frames_part l fs; pending = t.pending; ending = ending_part l.program t.ending })) frames
+      ∙ ap (λ p. rename_thread f (record { object = None; frames = frames_part l (first_frames l.main linked.main array); pending = p; ending = ending_part l.program t.ending })) pending
+      ∙ ap (λ x. rename_thread f (record { object = None; frames = frames_part l (first_frames l.main linked.main array); pending = None; ending = ending_part l.program x })) ending
+      ∙ ap (λ (fs : List Frame). record { object = None; frames = fs; pending = None; ending = running }) (frames_are f array e)
+      ∙ ap first_thread (sym linked.found_is)
+
+  thread_refs : (array : ℕ) (t : held.Thread) → t.frames.items ≡ first_frames l.main linked.main array → t.pending ≡ None → t.ending ≡ Running → refs_thread (thread_part l t) ≡ array ∷ []
+  thread_refs array t frames pending ending =
+      ap (λ fs. refs_thread (record { object = None; frames = frames_part l fs; pending = t.pending; ending = ending_part l.program t.ending })) frames
+      ∙ ap (λ p. refs_thread (record { object = None; frames = frames_part l (first_frames l.main linked.main array); pending = p; ending = ending_part l.program t.ending })) pending
+      ∙ ap (λ x. refs_thread (record { object = None; frames = frames_part l (first_frames l.main linked.main array); pending = None; ending = ending_part l.program x })) ending
+      ∙ rw (unset_refs (linked.main.max_locals - 1)) refl
+
+-- the one static field
+statics_are : (f : ℕ → ℕ) (out : ℕ) (ss : List Static) → ss ≡ [] → f out ≡ 0 → (list_shape static_shape).rename f (named_statics (record { field = out_field; value = Ref 0 } ∷ ss) (Ref out ∷ [])) ≡ record { field = out_field; value = Ref 0 } ∷ ss
+statics_are f out [] e n = ap (λ (k : ℕ). record { field = out_field; value = Ref k } ∷ []) n
+statics_are f out (s ∷ ss) e n = cc
+
+static_refs : (out : ℕ) (ss : List Static) → ss ≡ [] → (list_shape static_shape).refs (named_statics (record { field = out_field; value = Ref 0 } ∷ ss) (Ref out ∷ [])) ≡ out ∷ []
+static_refs out [] e = refl
+static_refs out (s ∷ ss) e = cc
+
+-- the objects that are reached are the first ones
+objects_are : (program : List ClassParts) (old c : Content ClassId) (out array : ℕ) → HasFirst old c out array → (rest : List Object) → (k : ℕ) → k < 2
+    → option_map (as_named (named_type program)) (object_at c k) ≡ slice_get (record { type = instance_of print_stream_class; values = [] } ∷ new_array (class_type string_class) 0 ∷ rest) k
+objects_are program old c out array h rest zero b = ap (option_map (as_named (named_type program))) h.out_is ∙ ap Some (stream_named program)
+objects_are program old c out array h rest (suc zero) b = ap (option_map (as_named (named_type program))) h.array_is ∙ ap Some (arguments_named program)
+objects_are program old c out array h rest (suc (suc k)) b = absurd (omega arith)
+
+heap_length : (program : List ClassParts) → literal_texts program ≡ [] → length (first_objects program) ≡ 2
+heap_length program e = ap (λ ts. suc (suc (length (objects_from 2 ts)))) e
+
+places_are : (l : LinkedView) (i : IsLinked l) (c : Content ClassId) (out array : ℕ) (t : held.Thread) (states : List ClassState) (output : List ℕ)
+    → t.frames.items ≡ first_frames l.main i.main array → t.pending ≡ None → t.ending ≡ Running
+    → places (parts l c (t ∷ []) (Ref out ∷ []) states output None) ≡ array ∷ out ∷ []
+unfolding parts
+places_are l i c out array t states output f p e =
+    ap (λ xs. ((xs ++ []) ++ (list_shape static_shape).refs (named_statics (first_statics l.program) (Ref out ∷ []))) ++ [] ++ []) (thread_refs l i array t f p e)
+    ∙ ap (λ xs. ((array ∷ []) ++ xs) ++ [] ++ []) (static_refs out (flat_map statics_of_class l.program) (no_statics l.program i.whole))
+
+-- the state from which a run begins is that of the loaded world
+pub started : (l : LinkedView) (old c : Content ClassId) (out array : ℕ) (t : held.Thread) (states : List ClassState) (output : List ℕ) → IsLinked l → HasFirst old c out array
+    → ((m : LinkedMethod) → slice_get l.methods l.main ≡ Some m → t.frames.items ≡ first_frames l.main m array) → t.pending ≡ None → t.ending ≡ Running
+    → states ≡ replicate (length l.program) NotBegun → output ≡ []
+    → Matches (parts l c (t ∷ []) (Ref out ∷ []) states output None) (loaded_world l.program old.limit)
+unfolding parts loaded_world
+started l old c out array t states output i h frames pending ending states_is output_is =
+    let none = no_literals l.program i.whole in
+    let long : length (first_objects l.program) ≡ 2 = heap_length l.program none in
+    let at_array : name_of c array ≡ 1 = named c array 1 h.array_at in
+    let at_out : name_of c out ≡ 0 = named c out 0 h.out_at in
+    let held_places : places (parts l c (t ∷ []) (Ref out ∷ []) states output None) ≡ array ∷ out ∷ [] = places_are l i c out array t states output (frames i.main i.main_is) pending ending in
+    let bounded = (runs_are_well_formed l.program old.limit []).1 in
+    record {
+      sound = h.sound;
+      resident = subst (AllResident c) (sym held_places) (both_resident c out array h.array_at h.out_at);
+      limit = h.limit;
+      next = h.next ∙ sym long;
+      bound = bounded;
+      objects = λ k r. let below : k < length (first_objects l.program) = bounded k r in objects_are l.program old c out array h (objects_from 2 (literal_texts l.program)) k (omega (arith, below, long));
+      threads = ap (λ x. x ∷ []) (thread_is l i (name_of c) array t at_array (frames i.main i.main_is) pending ending);
+      statics = statics_are (name_of c) out (flat_map statics_of_class l.program) (no_statics l.program i.whole) at_out;
+      monitors = refl;
+      literals = ap (literals_from 2) (sym none);
+      program = refl;
+      classes = ap (named_states l.program) states_is ∙ states_are l.program;
+      output = output_is;
+      stop = refl;
+    }
+  where
+    both_resident : (c : Content ClassId) (out array : ℕ) → serial_at c array ≡ Some 1 → serial_at c out ≡ Some 0 → AllResident c (array ∷ out ∷ [])
+    both_resident c out array a o p (inl e) = (1, ap (serial_at c) e ∙ a)
+    both_resident c out array a o p (inr (inl e)) = (0, ap (serial_at c) e ∙ o)
+    both_resident c out array a o p (inr (inr e)) = absurd e
+
+-- the same of lists that have these parts
+pub started_lists : (l : LinkedView) (old c : Content ClassId) (out array : ℕ) (t : held.Thread) (ts : List held.Thread) (ss : List Value) (states : List ClassState) (output : List ℕ) → IsLinked l → HasFirst old c out array
+    → ((m : LinkedMethod) → slice_get l.methods l.main ≡ Some m → t.frames.items ≡ first_frames l.main m array) → t.pending ≡ None → t.ending ≡ Running
+    → ts ≡ t ∷ [] → ss ≡ Ref out ∷ [] → states ≡ replicate (length l.program) NotBegun → output ≡ []
+    → Matches (parts l c ts ss states output None) (loaded_world l.program old.limit)
+started_lists l old c out array t ts ss states output i h f p e ts_are ss_are s o =
+    subst (λ x. Matches (parts l c x ss states output None) (loaded_world l.program old.limit)) (sym ts_are)
+    (subst (λ x. Matches (parts l c (t ∷ []) x states output None) (loaded_world l.program old.limit)) (sym ss_are) (started l old c out array t states output i h f p e s o))
+
+-- and it keeps to what every state of a run keeps to
+pub starts : (l : LinkedView) (out array : ℕ) (t : held.Thread) (states : List ClassState) → IsLinked l
+    → ((m : LinkedMethod) → slice_get l.methods l.main ≡ Some m → t.frames.items ≡ first_frames l.main m array) → t.pending ≡ None → t.ending ≡ Running
+    → states ≡ replicate (length l.program) NotBegun
+    → IsRunnable l (t ∷ []) 1 (Ref out ∷ []) states
+starts l out array t states i frames pending ending states_is =
+    let f = frames i.main i.main_is in
+    record {
+      threads = (
+        record {
+          frames = subst (λ fs. AllByRecursion (FrameRuns l) (reverse fs)) (sym f) (slice_get_within l.program i.main.class _ (links l i).class_is, ((slice_get_within l.methods l.main i.main i.main_is, refl), tt));
+          top = subst (λ fs. StandOnTop t.pending (reverse fs)) (sym f) (subst (λ p. StandOnTop p (reverse (first_frames l.main i.main array))) (sym pending) (tt, tt));
+          few = subst (λ fs. length fs ≤ 512) (sym f) (omega arith);
+        },
+        tt,
+      );
+      live = ap (λ e. elim (is_running (ending_part l.program e)) as (λ v. ℕ) [ true ↦ 0 + 1 | false ↦ 0 ]) (sym ending);
+      statics = ap (λ ss. suc (length ss)) (sym (no_statics l.program i.whole));
+      classes = ap length states_is ∙ length-replicate (length l.program) NotBegun;
+      begun = subst (AllByRecursion (λ s. s ≢ Failed)) (sym states_is) (none_failed (length l.program));
+    }
+
+pub starts_lists : (l : LinkedView) (out array : ℕ) (t : held.Thread) (ts : List held.Thread) (ss : List Value) (states : List ClassState) → IsLinked l
+    → ((m : LinkedMethod) → slice_get l.methods l.main ≡ Some m → t.frames.items ≡ first_frames l.main m array) → t.pending ≡ None → t.ending ≡ Running
+    → ts ≡ t ∷ [] → ss ≡ Ref out ∷ [] → states ≡ replicate (length l.program) NotBegun
+    → IsRunnable l ts 1 ss states
+starts_lists l out array t ts ss states i f p e ts_are ss_are s =
+    subst (λ x. IsRunnable l x 1 ss states) (sym ts_are) (subst (λ x. IsRunnable l (t ∷ []) 1 x states) (sym ss_are) (starts l out array t states i f p e s))
+
+-- where they are too small for a heap
+pub too_small : (l : LinkedView) (limit : ℕ) → IsLinked l → is_too_small l.program limit ≡ nat_lt limit 5
+too_small l limit i = ap (λ ts. nat_lt limit (2 + (3 + cells_of_all (objects_from 2 ts)))) (no_literals l.program i.whole)
+
+pub has_room : (l : LinkedView) (limit : ℕ) → IsLinked l → is_too_small l.program limit ≡ false → 5 ≤ limit
+has_room l limit i e = let t : nat_lt limit 5 ≡ false = sym (too_small l limit i) ∙ e in ltb-false limit 5 t
+
+-- as many states as classes
+pub counted : (classes program : List ClassParts) (states : List ClassState) → states ≡ replicate (length classes) NotBegun → classes ≡ program → states ≡ replicate (length program) NotBegun
+counted classes program states s e = s ∙ ap (λ cs. replicate (length cs) NotBegun) e

@@ -1,0 +1,7 @@
+use Rattle.std.proofs.Common.{sym, subst}
+use Rattle.jm_machine.specs.View.{MatchesWorld}
+use Rattle.jm_machine.proofs.Events.{stop_is}
+use Rattle.jm_machine.proofs.machine.Machine.stop.Goals as goal
+
+pub returns : goal.returns
+returns g c = λ w m. stop_is _ _ _ _ _ _ _ w (subst (λ v. MatchesWorld v w) (sym c.self.view_is) m)

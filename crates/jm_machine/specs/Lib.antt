@@ -1,0 +1,4 @@
+pub mod View
+pub mod Threads
+pub mod Answered
+pub mod Start

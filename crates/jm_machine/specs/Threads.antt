@@ -1,0 +1,24 @@
+-- The threads of a machine by number.
+use Rattle.std.specs.Prelude.{ℕ, zero, suc, List, Option, Some, None, option_map, slice_get}
+use Rattle.jm_world.specs.World.{Ending as ModelEnding, running, returned, ended_by, Thread as ModelThread}
+use Rattle.jm_state.specs.declared.thread.Thread.{Thread}
+use Rattle.jm_state.specs.declared.thread.Ending.{Ending}
+
+-- thread n, counted from 1
+abbrev pub thread_numbered : List Thread → ℕ → Option Thread
+thread_numbered ts zero = None
+thread_numbered ts (suc n) = slice_get ts n
+
+-- how it has ended
+abbrev pub ending_numbered : List Thread → ℕ → Option Ending
+ending_numbered ts n = option_map (λ t. t.ending) (thread_numbered ts n)
+
+-- the class of the exception by which a thread of a world has ended
+abbrev pub class_of_ending : ModelEnding → Option (List ℕ)
+class_of_ending running = None
+class_of_ending returned = None
+class_of_ending (ended_by class) = Some class
+
+abbrev pub class_ended_by : Option ModelThread → Option (List ℕ)
+class_ended_by None = None
+class_ended_by (Some t) = class_of_ending t.ending

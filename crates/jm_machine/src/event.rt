@@ -1,0 +1,131 @@
+// One event.
+
+ghost use Rattle.std.specs.Prelude.{◌≡◌, ◌+◌, ◌<◌, ◌^◌, ℕ, MatchResult, Some, None, length};
+ghost use Rattle.jm_world.specs.World.{World, Thread as ModelThread, thread_at};
+ghost use Rattle.jm_world.specs.Matches.{Matches};
+ghost use Rattle.jm_world.specs.Run.{after, after_event, after_step};
+ghost use Rattle.jm_world.specs.Stepping.{step_thread};
+ghost use Rattle.jm_world.specs.declared.event.Event.TheVariants.{Step};
+ghost use Rattle.jm_state.specs.Parts.{state_parts};
+ghost use Rattle.jm_state.specs.Runnable.{StateRuns};
+ghost use Rattle.jm_state.specs.declared.thread.Ending.TheVariants.{Running};
+ghost use Rattle.jm_machine.specs.Answered.{IsAnswered};
+ghost use Rattle.jm_machine.specs.Threads.{ending_numbered};
+
+use crate::fault::OutOfMemory;
+use jm_heap::{Heap, Kind};
+use jm_interp::step_thread;
+use jm_linked::Linked;
+use jm_state::{Ending, Halt, State, StepEnd, Thread, collect};
+use jm_world::{Event, Reply, ReplyKind};
+use std::alloc::Global;
+
+// How the thread of a number, counted from 1, has ended; None where there is no such thread.
+pub(crate) fn ending_of(threads: &[Thread], number: u64) -> Option<Ending>
+    ensures { result ≡ ending_numbered threads.now number }
+{
+    let index = number.checked_sub(1)?;
+    match threads.get(index as usize) {
+        Some(thread) => Some(thread.ending),
+        None => None,
+    }
+}
+
+// The reply of a kind. It walks over no thread.
+pub(crate) fn reply_of<H>(state: &State<H>, kind: ReplyKind) -> Reply
+    ensures { result ≡ record { kind = kind; made = length state.now.threads.items; live = state.now.live } }
+{
+    Reply {
+        kind,
+        made: state.threads.len() as u64,
+        live: state.live as u64,
+    }
+}
+
+// Makes a step of a thread that has not ended.
+fn step_running<H: Heap>(
+    alloc: Global,
+    linked: &Linked,
+    state: &mut State<H>,
+    nursery: usize,
+    number: u64,
+) -> Result<ReplyKind, OutOfMemory>
+    requires runs { StateRuns linked.now state.old }
+    requires matched { (w : World) × Matches (state_parts linked.now (H.content state.old.heap) state.old) w }
+    requires running { ending_numbered state.old.threads.items number ≡ Some Running }
+    ensures event { (w : World) (t : ModelThread) → Matches (state_parts linked.now (H.content state.old.heap) state.old) w → thread_at w number ≡ Some t → MatchResult result (λ kind. IsAnswered (state_parts linked.now (H.content state.new.heap) state.new) kind (after_step w (step_thread w number t))) (λ _. Matches (state_parts linked.now (H.content state.new.heap) state.new) w) }
+    ensures runs { StateRuns linked.now state.new }
+{
+    match step_thread(alloc, linked, state, number, nursery) {
+        Ok(StepEnd::Done) => Ok(ReplyKind::Done),
+        Ok(StepEnd::Blocked) => Ok(ReplyKind::Blocked),
+        Err(Halt::Stopped(stop)) => {
+            state.stop = Some(stop);
+            Ok(ReplyKind::Stopped)
+        }
+        Err(Halt::OutOfMemory) => Err(OutOfMemory),
+    }
+}
+
+// Makes a step of the thread of a number.
+fn step_numbered<H: Heap>(
+    alloc: Global,
+    linked: &Linked,
+    state: &mut State<H>,
+    nursery: usize,
+    number: u64,
+) -> Result<ReplyKind, OutOfMemory>
+    requires runs { StateRuns linked.now state.old }
+    requires matched { (w : World) × Matches (state_parts linked.now (H.content state.old.heap) state.old) w }
+    ensures event { (w : World) → Matches (state_parts linked.now (H.content state.old.heap) state.old) w → MatchResult result (λ kind. IsAnswered (state_parts linked.now (H.content state.new.heap) state.new) kind (after_event w (Step number))) (λ _. Matches (state_parts linked.now (H.content state.new.heap) state.new) w) }
+    ensures runs { StateRuns linked.now state.new }
+{
+    match ending_of(&state.threads, number) {
+        None => Ok(ReplyKind::None),
+        Some(Ending::Running) => step_running(alloc, linked, state, nursery, number),
+        Some(Ending::Returned) => Ok(ReplyKind::Ended),
+        Some(Ending::EndedBy(_)) => Ok(ReplyKind::Ended),
+    }
+}
+
+// Collects, which changes nothing of the world.
+fn collect_kind<H: Heap>(
+    alloc: Global,
+    linked: &Linked,
+    state: &mut State<H>,
+    kind: Kind,
+) -> Result<ReplyKind, OutOfMemory>
+    requires runs { StateRuns linked.now state.old }
+    requires matched { (w : World) × Matches (state_parts linked.now (H.content state.old.heap) state.old) w }
+    ensures kept { (w : World) → Matches (state_parts linked.now (H.content state.old.heap) state.old) w → Matches (state_parts linked.now (H.content state.new.heap) state.new) w }
+    ensures runs { StateRuns linked.now state.new }
+    ensures kind { MatchResult result (λ kind. kind ≡ ReplyKind.Done) (λ _. Unit {0}) }
+{
+    match collect(alloc, linked, state, kind) {
+        Ok(()) => Ok(ReplyKind::Done),
+        Err(_) => Err(OutOfMemory),
+    }
+}
+
+// Makes an event, and says what it came to.
+pub(crate) fn make_event<H: Heap>(
+    alloc: Global,
+    linked: &Linked,
+    state: &mut State<H>,
+    nursery: usize,
+    event: Event,
+) -> Result<ReplyKind, OutOfMemory>
+    requires runs { StateRuns linked.now state.old }
+    requires matched { (w : World) × Matches (state_parts linked.now (H.content state.old.heap) state.old) w }
+    ensures event { (w : World) → Matches (state_parts linked.now (H.content state.old.heap) state.old) w → MatchResult result (λ kind. IsAnswered (state_parts linked.now (H.content state.new.heap) state.new) kind (after w event)) (λ _. Matches (state_parts linked.now (H.content state.new.heap) state.new) w) }
+    ensures runs { StateRuns linked.now state.new }
+{
+    if state.stop.is_some() {
+        return Ok(ReplyKind::Stopped);
+    }
+    match event {
+        Event::Step(number) => step_numbered(alloc, linked, state, nursery, number),
+        Event::Minor => collect_kind(alloc, linked, state, Kind::Minor),
+        Event::Full => collect_kind(alloc, linked, state, Kind::Full),
+    }
+}

@@ -1,0 +1,167 @@
+// The machine.
+
+ghost use Rattle.std.specs.Prelude.{◌≡◌, ℕ, List, MatchResult, MatchOption, Some, None, take, length, IfOk, IfErr, ◌≤◌};
+ghost use Rattle.jm_world.specs.World.{World, live_among, thread_at};
+ghost use Rattle.jm_world.specs.Run.{after, run_from, replies_from};
+ghost use Rattle.jm_state.specs.Reached.{AreReachable};
+ghost use Rattle.jm_machine.specs.Threads.{class_ended_by};
+ghost use Rattle.jm_machine.specs.View.{MatchesWorld};
+
+use crate::class::class_name;
+use crate::event::{ending_of, make_event, reply_of};
+use crate::fault::{Interrupted, LoadFault, OutOfMemory};
+use crate::load::{is_too_small, make_first_state};
+use jm_heap::Heap;
+use jm_linked::Linked;
+use jm_program::Class;
+use jm_state::{Ending, State, reachable};
+use jm_world::{Event, Reply, Stop};
+use std::alloc::Global;
+use std::marker::Model;
+
+/// A linked program that runs over a heap.
+#[derive(Drop)]
+pub struct Machine<H: Heap> {
+    alloc: Global,
+    linked: Linked,
+    state: State<H>,
+}
+
+impl<H: Heap> Model for Machine<H> {
+    ghost use Rattle.jm_machine.specs.View.{MachineView, IsMachine};
+
+    ghost Value = { MachineView };
+
+    ghost view = { λ m. record { linked = m.linked; content = H.content m.state.heap; threads = m.state.threads.items; statics = m.state.statics.items; classes = m.state.classes.items; output = m.state.output.items; stop = m.state.stop } };
+
+    ghost invariant = { λ m. IsMachine (record { linked = m.linked; content = H.content m.state.heap; threads = m.state.threads.items; statics = m.state.statics.items; classes = m.state.classes.items; output = m.state.output.items; stop = m.state.stop }) m.state.live };
+}
+
+impl<H: Heap + Drop> Machine<H> {
+    ghost use Rattle.jm_machine.specs.Start.{IsEmpty, Loaded};
+
+    /// The machine from which a run of a linked program begins, over an empty heap whose next
+    /// serial is 0: `System.out` and the empty array that main is given are made, main's frame
+    /// stands below the initialization of its class (JVMS 5.2), and no class of the program is
+    /// begun. `HeapTooSmall`: exactly where the first objects pass the heap's limit. What it took
+    /// is dropped after a refusal.
+    pub fn load(alloc: Global, linked: Linked, heap: H) -> Result<Machine<H>, LoadFault>
+        requires { IsEmpty (H.content heap) }
+        ensures { Loaded result linked.program (H.content heap).limit }
+    {
+        if is_too_small(&linked, heap.limit()) {
+            return Err(LoadFault::HeapTooSmall);
+        }
+        let Ok(state) = make_first_state(alloc, &linked, heap) else {
+            return Err(LoadFault::OutOfMemory);
+        };
+        Ok(Machine {
+            alloc,
+            linked,
+            state,
+        })
+    }
+}
+
+impl<H: Heap> Machine<H> {
+    /// Makes one event; an object that it makes is made in the nursery of that number, which has no
+    /// part in what it is. `OutOfMemory`: the machine is that of the world before.
+    pub fn step_at(&mut self, nursery: usize, event: Event) -> Result<Reply, OutOfMemory>
+        ensures { (w : World) → MatchesWorld self.old w → MatchResult result (λ reply. MatchesWorld self.new (after w event).world × (reply ≡ (after w event).reply)) (λ _. MatchesWorld self.new w) }
+    {
+        let alloc = self.alloc;
+        let kind = make_event(alloc, &self.linked, &mut self.state, nursery, event)?;
+        Ok(reply_of(&self.state, kind))
+    }
+
+    /// Makes one event, in the first nursery.
+    pub fn step(&mut self, event: Event) -> Result<Reply, OutOfMemory>
+        ensures { (w : World) → MatchesWorld self.old w → MatchResult result (λ reply. MatchesWorld self.new (after w event).world × (reply ≡ (after w event).reply)) (λ _. MatchesWorld self.new w) }
+    {
+        self.step_at(0, event)
+    }
+
+    /// Makes events, one after the other, and answers their replies. `Interrupted`: a growth was
+    /// refused; the machine is where the events that were made lead.
+    pub fn run(&mut self, events: &[Event]) -> Result<Vec<Reply>, Interrupted>
+        ensures run { (w : World) → MatchesWorld self.old w → MatchResult result (λ replies. MatchesWorld self.new (run_from w events.now) × (replies.items ≡ replies_from w events.now)) (λ fault. MatchesWorld self.new (run_from w (take fault.made events.now))) }
+        ensures made { IfErr result (λ fault. fault.made ≤ length events.now) }
+    {
+        let Ok(mut replies) = Vec::with_capacity(self.alloc, events.len()) else {
+            return Err(Interrupted { made: 0 });
+        };
+        for (made, event) in events.iter().enumerate() {
+            match self.step(*event) {
+                Ok(reply) => replies.push_reserved(reply),
+                Err(_) => return Err(Interrupted { made }),
+            }
+        }
+        Ok(replies)
+    }
+
+    /// The program's classes, in order.
+    pub fn program(&self) -> &[Class]
+        ensures { (w : World) → MatchesWorld self.now w → result.now ≡ w.program }
+    {
+        self.linked.classes()
+    }
+
+    /// The heap.
+    pub fn heap(&self) -> &H
+        ensures { H.content result.now ≡ self.now.content }
+    {
+        &self.state.heap
+    }
+
+    /// The bytes that the program has printed.
+    pub fn output(&self) -> &[u8]
+        ensures { (w : World) → MatchesWorld self.now w → result.now ≡ w.output }
+    {
+        &self.state.output
+    }
+
+    /// Why the machine has stopped, if it has.
+    pub fn stop(&self) -> Option<Stop>
+        ensures { (w : World) → MatchesWorld self.now w → result ≡ w.stop }
+    {
+        self.state.stop
+    }
+
+    /// How many Java threads were ever made. They are numbered from 1.
+    pub fn threads(&self) -> usize
+        ensures { (w : World) → MatchesWorld self.now w → result ≡ length w.threads }
+    {
+        self.state.threads.len()
+    }
+
+    /// How many Java threads have not ended. It walks over no thread.
+    pub fn live(&self) -> usize
+        ensures { (w : World) → MatchesWorld self.now w → result ≡ live_among w.threads }
+    {
+        self.state.live
+    }
+
+    /// The name, in UTF-16 code units, of the class of the exception by which the thread of a
+    /// number has ended; None where there is no such thread, or it has not ended so.
+    pub fn ended_by(&self, number: u64) -> Option<&[u16]>
+        ensures { (w : World) → MatchesWorld self.now w → MatchOption result (class_ended_by (thread_at w number) ≡ None) (λ name. class_ended_by (thread_at w number) ≡ Some name.now) }
+    {
+        match ending_of(&self.state.threads, number) {
+            Some(Ending::EndedBy(class)) => Some(class_name(&self.linked, class)),
+            Some(Ending::Running) => None,
+            Some(Ending::Returned) => None,
+            None => None,
+        }
+    }
+
+    /// The numbers of the objects that are reachable, rising (JVMS 2.5.3). `OutOfMemory`: a growth
+    /// was refused.
+    pub fn reachable(&self) -> Result<Vec<u64>, OutOfMemory>
+        ensures { (w : World) → MatchesWorld self.now w → IfOk result (λ numbers. AreReachable w numbers.items) }
+    {
+        match reachable(self.alloc, &self.linked, &self.state) {
+            Ok(numbers) => Ok(numbers),
+            Err(_) => Err(OutOfMemory),
+        }
+    }
+}

@@ -1,0 +1,41 @@
+use crate::instructions::all_instructions;
+use crate::row::{check_row, is_of};
+use crate::rows;
+use std::test::Fail;
+
+#[test]
+fn each_row_of_the_table(rt: HostRuntime) -> Result<(), Fail> {
+    let alloc = rt.alloc();
+    let ops = all_instructions(alloc)?;
+    let mut count = 0u32;
+    for rows in rows::ALL {
+        for row in rows.lines() {
+            let mut found = false;
+            for op in &ops {
+                if is_of(alloc, row, op)? {
+                    check_row(&rt, alloc, op, row)?;
+                    found = true;
+                }
+            }
+            assert!(rt; found, "no such instruction: {row}");
+            count = count.saturating_add(1);
+        }
+    }
+    assert!(rt; count >= 500, "{count} rows");
+    Ok(())
+}
+
+#[test]
+fn each_instruction_has_a_row(rt: HostRuntime) -> Result<(), Fail> {
+    let alloc = rt.alloc();
+    for op in &all_instructions(alloc)? {
+        let mut found = false;
+        for rows in rows::ALL {
+            for row in rows.lines() {
+                found = found || is_of(alloc, row, op)?;
+            }
+        }
+        assert!(rt; found, "no row of {op}");
+    }
+    Ok(())
+}

@@ -1,0 +1,61 @@
+-- What some command lines ask for, and what is wrong with others.
+use Rattle.std.proofs.Common.{◌≡◌, List, [], ◌∷◌, Option, Some, refl, codes}
+use Rattle.std.specs.Prelude.{option_map}
+use Rattle.clap.specs.Words.{Kinds, Text, fault_of, first_of, one_of, subcommand_of}
+use Rattle.clap.specs.declared.error.kind.ErrorKind.TheVariants as kind
+use Rattle.clap.proofs.OnLiterals.{clap_on_literals}
+use Rattle.jm_options.specs.CommandLine.{jm}
+use Rattle.jm_options.specs.Asked.{Subcommand}
+
+abbrev held : Subcommand → Text × Option Text × Option Text × Option Text
+held s = (s.0, one_of (codes "heap") s.1, first_of (codes "schedule") s.1, first_of (codes "file") s.1)
+
+-- the words after jm run
+abbrev run : List Text → Option (Text × Option Text × Option Text × Option Text)
+run words = option_map held (subcommand_of jm (codes "jm" ∷ codes "run" ∷ words))
+
+abbrev fault : List Text → Kinds
+fault words = fault_of jm (codes "jm" ∷ codes "run" ∷ words)
+
+abbrev asked : Text → Option (Text × Option Text × Option Text × Option Text)
+asked heap = Some (codes "run", Some heap, Some (codes "s"), Some (codes "A.class"))
+
+the_default : run (codes "--schedule" ∷ codes "s" ∷ codes "A.class" ∷ []) ≡ asked (codes "65536")
+unfolding jm clap_on_literals
+the_default = refl
+
+a_limit : run (codes "A.class" ∷ codes "--heap" ∷ codes "16" ∷ codes "--schedule=s" ∷ []) ≡ asked (codes "16")
+unfolding jm clap_on_literals
+a_limit = refl
+
+no_fault : fault (codes "A.class" ∷ codes "--heap" ∷ codes "16" ∷ codes "--schedule=s" ∷ []) ≡ []
+unfolding jm clap_on_literals
+no_fault = refl
+
+too_small : fault (codes "--heap=15" ∷ codes "--schedule=s" ∷ codes "A.class" ∷ []) ≡ kind.ValueValidation ∷ []
+unfolding jm clap_on_literals
+too_small = refl
+
+the_largest : fault (codes "--heap=16777216" ∷ codes "--schedule=s" ∷ codes "A.class" ∷ []) ≡ []
+unfolding jm clap_on_literals
+the_largest = refl
+
+too_large : fault (codes "--heap=16777217" ∷ codes "--schedule=s" ∷ codes "A.class" ∷ []) ≡ kind.ValueValidation ∷ []
+unfolding jm clap_on_literals
+too_large = refl
+
+no_schedule : fault (codes "A.class" ∷ []) ≡ kind.MissingRequiredArgument ∷ []
+unfolding jm clap_on_literals
+no_schedule = refl
+
+two_files : fault (codes "--schedule=s" ∷ codes "A.class" ∷ codes "B.class" ∷ []) ≡ kind.UnknownArgument ∷ []
+unfolding jm clap_on_literals
+two_files = refl
+
+an_unknown_option : fault (codes "--steps=9" ∷ codes "--schedule=s" ∷ codes "A.class" ∷ []) ≡ kind.UnknownArgument ∷ []
+unfolding jm clap_on_literals
+an_unknown_option = refl
+
+nothing : fault_of jm (codes "jm" ∷ []) ≡ kind.DisplayHelpOnMissingArgumentOrSubcommand ∷ []
+unfolding jm clap_on_literals
+nothing = refl

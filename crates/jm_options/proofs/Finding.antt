@@ -1,0 +1,116 @@
+-- What the matches of a run hold, from what the calls of clap say of them.
+use Rattle.std.proofs.Common.{◌≡◌, true, [], ◌∷◌, inl, inr, ℕ, ◌<◌, ◌≤◌, ◌^◌, List, Option, Some, None, Result, Ok, Err, refl, sym, ap, ◌∙◌, subst, codes, arith, ap₂}
+use Rattle.std.specs.Prelude.{option_map, unwrap_or}
+use Rattle.std.specs.Str.Parse.{ParsesUnsigned, digits_value, without_leading_plus}
+use Rattle.std.specs.Box.{box_value}
+use Rattle.clap.specs.Words.{ReadsOne, Row, found_of, rows_of, Text, first_of, fault_of, is_simple, is_simple_and_free, HasKind, Kinds, kind_of, subcommand_of, subcommand_name_of, subcommand_rows_of}
+use Rattle.clap.specs.declared.parser.matches.ArgMatches.{ArgMatches}
+use Rattle.clap.specs.declared.parser.matches.ArgMatches.TheViews.{out-ArgMatches, out-SubCommand}
+use Rattle.clap.specs.declared.error.Error.{Error}
+use Rattle.clap.specs.declared.error.kind.ErrorKind.TheVariants as kind
+use Rattle.jm_options.specs.Asked.{SpellsNumber, HoldsRun, Holds, Subcommand, Finds, FindsRun, Answers}
+use Rattle.jm_options.specs.CommandLine.{jm}
+use Rattle.jm_options.specs.declared.request.Options.{Options}
+use Rattle.jm_options.specs.declared.request.Options.TheVariants.{Run}
+use Rattle.jm_options.specs.declared.request.RunOptions.{RunOptions}
+use Rattle.jm_options.specs.declared.fault.UsageFault.{UsageFault}
+use Rattle.jm_options.specs.declared.fault.UsageFault.TheVariants.{Usage, OutOfMemory}
+
+-- ---- a number
+
+-- what reads a text reads a number of 32 bits
+abbrev Reads32 : {E : Type 0} → (List ℕ → Result ℕ E → Type 0) → Type 0
+Reads32 {E} G = (u : List ℕ) (x : Result ℕ E) → G u x → ParsesUnsigned 32 10 u x
+
+pub number_there : {E : Type 0} (G : List ℕ → Result ℕ E → Type 0) → Reads32 G → (text : Option Text) (n : ℕ) → (text ≡ None → Some n ≡ None)
+    → ((t : Text) → text ≡ Some t → ReadsOne G t (Some n)) → (t : Text) × (text ≡ Some t) × SpellsNumber t n
+number_there G only None n none reads = absurd (let no = none refl in cc)
+number_there G only (Some t) n none reads =
+    let parsed = only t (Ok n) (reads t refl) in
+    (t, refl, record { digits = parsed.0.0; value = sym parsed.1 })
+
+pub no_number : {E : Type 0} (G : List ℕ → Result ℕ E → Type 0) → Reads32 G → (t : Text) (n : ℕ) → ReadsOne G t None → SpellsNumber t n → n ≤ 16777216 → ⊥
+no_number G only t n reads spells small =
+    let value = spells.value in
+    let fits : digits_value 10 (without_leading_plus t) < 2 ^ 32 = omega arith in
+    only t (Err reads.0) reads.1 (spells.digits, fits)
+
+pub one_number : (t u : Text) (n m : ℕ) → Some t ≡ Some u → SpellsNumber t n → SpellsNumber u m → n ≡ m
+one_number t u n m same first second =
+    let text : t ≡ u = cc in
+    let a = first.value in
+    let b = second.value in
+    sym a ∙ ap (λ (x : Text). digits_value 10 (without_leading_plus x)) text ∙ b
+
+-- ---- the options of a run
+
+pub no_schedule : (rows : List Row) → None ≡ first_of (codes "schedule") rows → (o : RunOptions) → HoldsRun rows o → ⊥
+no_schedule rows none o holds = let some = none ∙ holds.schedule in cc
+
+pub no_file : (rows : List Row) → None ≡ first_of (codes "file") rows → (o : RunOptions) → HoldsRun rows o → ⊥
+no_file rows none o holds = let some = none ∙ holds.file in cc
+
+pub none_asked : (rows : List Row) (fault : UsageFault) → ((o : RunOptions) → HoldsRun rows o → ⊥) → FindsRun rows (Err fault)
+none_asked rows (Usage text) none = none
+none_asked rows OutOfMemory none = tt
+
+-- ---- the subcommand
+
+firsts : {A : Type 0} (f : A → Text) (g : A → List Row) (o : Option A) → option_map f o ≡ option_map (λ (p : Subcommand). p.0) (option_map (λ a. (f a, g a)) o)
+firsts f g None = refl
+firsts f g (Some a) = refl
+
+name_of_rows : (m : ArgMatches) → subcommand_name_of m ≡ option_map (λ (p : Subcommand). p.0) (subcommand_rows_of m)
+name_of_rows m = firsts (λ b. (out-SubCommand (box_value b)).name.now) (λ b. rows_of (found_of (out-SubCommand (box_value b)).matches)) (out-ArgMatches m).subcommand
+
+is_pair : (s : Option Subcommand) (name : Text) (rows : List Row) → option_map (λ (p : Subcommand). p.0) s ≡ Some name → option_map (λ (p : Subcommand). p.1) s ≡ Some rows → s ≡ Some (name, rows)
+is_pair None name rows first second = cc
+is_pair (Some p) name rows first second =
+    let a : p.0 ≡ name = cc in
+    let b : p.1 ≡ rows = cc in
+    ap₂ (λ (x : Text) (y : List Row). Some (x, y)) a b
+
+-- the subcommand of a name, with its matches
+pub subcommand_is : (m : ArgMatches) (name : Text) (rows : List Row) → subcommand_name_of m ≡ Some name → option_map (λ (p : Subcommand). p.1) (subcommand_rows_of m) ≡ Some rows
+    → subcommand_rows_of m ≡ Some (name, rows)
+subcommand_is m name rows named is = is_pair (subcommand_rows_of m) name rows (sym (name_of_rows m) ∙ named) is
+
+pub other_subcommand : (m : ArgMatches) → (subcommand_name_of m ≡ Some (codes "run") → ⊥) → (o : Options) → Holds (subcommand_rows_of m) o → ⊥
+other_subcommand m other (Run o) holds = other (name_of_rows m ∙ ap (option_map (λ (p : Subcommand). p.0)) holds.1)
+
+pub nothing_found : (s : Option Subcommand) (fault : UsageFault) → ((o : Options) → Holds s o → ⊥) → Finds s (Err fault)
+nothing_found s (Usage text) none = none
+nothing_found s OutOfMemory none = tt
+
+same_run : (s : Option Subcommand) (rows : List Row) → s ≡ Some (codes "run", rows) → ((o : RunOptions) → HoldsRun rows o → ⊥) → (o : Options) → Holds s o → ⊥
+same_run s rows is none (Run o) holds =
+    let same : rows ≡ holds.0 = ap (λ (x : Option Subcommand). (unwrap_or x (codes "run", rows)).1) (sym is ∙ holds.1) in
+    none o (subst (λ (x : List Row). HoldsRun x o) (sym same) holds.2)
+
+pub passed_on : (s : Option Subcommand) (rows : List Row) (fault : UsageFault) → s ≡ Some (codes "run", rows) → FindsRun rows (Err fault) → Finds s (Err fault)
+passed_on s rows (Usage text) is none = same_run s rows is none
+passed_on s rows OutOfMemory is none = tt
+
+-- ---- the words
+
+pub answered : (words : List Text) (r : Result Options UsageFault) → fault_of jm words ≡ [] → Finds (subcommand_of jm words) r → Answers words r
+answered words (Ok o) taken found = record { taken = taken; held = found }
+answered words (Err (Usage text)) taken none = λ o asks. none o asks.held
+answered words (Err OutOfMemory) taken none = tt
+
+pub not_taken : (words : List Text) (fault : UsageFault) → (fault_of jm words ≡ [] → fault ≡ OutOfMemory) → Answers words (Err fault)
+not_taken words (Usage text) memory = λ o asks. let is = memory asks.taken in cc
+not_taken words OutOfMemory memory = tt
+
+-- an error of no kind comes for want of memory
+pub for_memory : (kinds : Kinds) (e : Error) → kinds ≡ [] → HasKind kinds e → kind_of e ≡ kind.OutOfMemory
+for_memory [] e none has = elim has [ inl memory ↦ memory | inr never ↦ absurd never ]
+for_memory (k ∷ kinds) e none has = cc
+
+pub is_simple_jm : is_simple jm ≡ true
+unfolding jm
+is_simple_jm = refl
+
+pub is_free_jm : is_simple_and_free jm ≡ true
+unfolding jm
+is_free_jm = refl

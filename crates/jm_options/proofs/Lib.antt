@@ -1,0 +1,3 @@
+pub mod Commands
+pub mod Finding
+pub mod CommandLines

@@ -1,0 +1,61 @@
+-- What words ask of jm.
+use Rattle.std.specs.Prelude.{◌≡◌, ◌≤◌, ℕ, List, Option, Some, [], Result, Ok, Err, ⊤, codes, string_bytes}
+use Rattle.std.specs.Str.Parse.{IsNumeral, digits_value, without_leading_plus}
+use Rattle.clap.specs.Words.{Row, Text, first_of, one_of, fault_of, subcommand_of}
+use Rattle.jm_options.specs.CommandLine.{jm}
+use Rattle.jm_options.specs.declared.request.Options.{Options}
+use Rattle.jm_options.specs.declared.request.Options.TheVariants.{Run}
+use Rattle.jm_options.specs.declared.request.RunOptions.{RunOptions}
+use Rattle.jm_options.specs.declared.fault.UsageFault.{UsageFault}
+use Rattle.jm_options.specs.declared.fault.UsageFault.TheVariants.{Usage, OutOfMemory}
+
+-- a subcommand with its matches
+abbrev pub Subcommand : Type 0
+Subcommand = Text × List Row
+
+-- the decimal digits of a text, with or without a plus, are those of a number
+pub record SpellsNumber (text : Text) (n : ℕ) : Type 0 where
+  pub digits : IsNumeral 10 (without_leading_plus text)
+  pub value : digits_value 10 (without_leading_plus text) ≡ n
+
+-- the options are what the matches of a run hold, and within the limits
+pub record HoldsRun (matches : List Row) (o : RunOptions) : Type 0 where
+  pub heap_text : Text
+  pub heap_given : one_of (codes "heap") matches ≡ Some heap_text
+  pub heap : SpellsNumber heap_text o.heap
+  pub at_least : 16 ≤ o.heap
+  pub at_most : o.heap ≤ 16777216
+  pub schedule : first_of (codes "schedule") matches ≡ Some (string_bytes o.schedule)
+  pub file : first_of (codes "file") matches ≡ Some (string_bytes o.file)
+
+-- the options are what the subcommand and its matches hold
+abbrev pub Holds : Option Subcommand → Options → Type 0
+Holds s (Run o) = (matches : List Row) × (s ≡ Some (codes "run", matches)) × HoldsRun matches o
+
+-- the words, of which the first is the program's name, are without a fault and ask for these options
+pub record Asks (words : List Text) (o : Options) : Type 0 where
+  pub taken : fault_of jm words ≡ []
+  pub held : Holds (subcommand_of jm words) o
+
+-- An answer to words: the options that they ask for, or that they ask for none. That memory was
+-- refused says nothing of the words.
+abbrev pub Answers : List Text → Result Options UsageFault → Type 0
+Answers words (Ok o) = Asks words o
+Answers words (Err (Usage text)) = (o : Options) → ¬ (Asks words o)
+Answers words (Err OutOfMemory) = ⊤
+
+-- the same of a subcommand, and of the matches of a run
+abbrev pub Finds : Option Subcommand → Result Options UsageFault → Type 0
+Finds s (Ok o) = Holds s o
+Finds s (Err (Usage text)) = (o : Options) → ¬ (Holds s o)
+Finds s (Err OutOfMemory) = ⊤
+
+abbrev pub FindsRun : List Row → Result RunOptions UsageFault → Type 0
+FindsRun matches (Ok o) = HoldsRun matches o
+FindsRun matches (Err (Usage text)) = (o : RunOptions) → ¬ (HoldsRun matches o)
+FindsRun matches (Err OutOfMemory) = ⊤
+
+-- the status that the program ends with
+abbrev pub status_of : UsageFault → ℕ
+status_of (Usage text) = 1
+status_of OutOfMemory = 7

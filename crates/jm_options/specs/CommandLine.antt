@@ -1,0 +1,40 @@
+-- The command line of jm: its subcommands and their arguments, as clap sees them.
+use Rattle.std.specs.Prelude.{◌≡◌, Some, [], ◌∷◌, true, false, pos, codes}
+use Rattle.clap.specs.Words.{App, Rule, Shape, app_of, new_app, new_rule, with_rule, with_subcommand}
+use Rattle.clap.specs.Simple.{on_top}
+use Rattle.clap.specs.declared.builder.command.Command.{Command}
+use Rattle.clap.specs.declared.builder.command.Command.TheViews.{out-Command}
+use Rattle.clap.specs.declared.builder.value_parser.ValueParser.TheVariants as vp
+
+-- --heap N: a number of cells within the limits, 65,536 where it is left out
+abbrev pub heap_argument : Rule
+heap_argument = record (new_rule (codes "heap")) {
+  long = Some (codes "heap");
+  value_names = 1;
+  defaults = codes "65536" ∷ [];
+  parser = Some (vp.Signed (pos 16) (pos 16777216));
+}
+
+-- --schedule FILE, which has to be there
+abbrev pub schedule_argument : Rule
+schedule_argument = record (new_rule (codes "schedule")) { long = Some (codes "schedule"); value_names = 1; required = true }
+
+-- FILE, which has to be there
+abbrev pub file_argument : Rule
+file_argument = record (new_rule (codes "file")) { value_names = 1; required = true }
+
+-- run [--heap N] --schedule FILE FILE
+abbrev pub run_command : App
+run_command = with_rule (with_rule (with_rule (new_app (codes "run")) heap_argument) schedule_argument) file_argument
+
+-- jm, which does nothing without a subcommand
+abbrev pub top_command : App
+top_command = on_top (λ (s : Shape). record s { subcommand_required = true; arg_required_else_help = true }) (new_app (codes "jm"))
+
+unfoldable pub jm : App
+jm = with_subcommand top_command run_command.top
+
+-- a command that clap sees so, with no argument that its subcommands share
+pub record IsSeenAs (c : Command) (a : App) : Type 0 where
+  pub app : app_of c ≡ a
+  pub local : (out-Command c).has_globals ≡ false

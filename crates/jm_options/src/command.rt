@@ -1,0 +1,68 @@
+// The command line as `clap` reads it.
+
+ghost use Rattle.std.specs.Prelude.{◌≡◌, false, IfOk};
+ghost use Rattle.clap.specs.Words.{rule_of};
+ghost use Rattle.jm_options.specs.CommandLine.{heap_argument, schedule_argument, file_argument, run_command, top_command, jm, IsSeenAs};
+
+use clap::{Arg, Command, value_parser};
+use std::alloc::{AllocError, Global};
+
+fn heap_argument<'a>(alloc: Global) -> Arg<'a>
+    ensures rule { rule_of result ≡ heap_argument }
+    ensures local { result.global ≡ false }
+{
+    Arg::new(alloc, "heap")
+        .long("heap")
+        .value_name("N")
+        .value_parser(value_parser!(u32).range(16..=16_777_216))
+        .default_value("65536")
+        .help("Limit of the heap in cells, from 16 to 16777216")
+}
+
+fn schedule_argument<'a>(alloc: Global) -> Arg<'a>
+    ensures rule { rule_of result ≡ schedule_argument }
+    ensures local { result.global ≡ false }
+{
+    Arg::new(alloc, "schedule")
+        .long("schedule")
+        .value_name("FILE")
+        .required(true)
+        .help("File of the events to make, in lines `t N`, `t N x K`, `minor` or `full`")
+}
+
+fn file_argument<'a>(alloc: Global) -> Arg<'a>
+    ensures rule { rule_of result ≡ file_argument }
+    ensures local { result.global ≡ false }
+{
+    Arg::new(alloc, "file")
+        .value_name("FILE")
+        .required(true)
+        .help("Class file whose `main` is run")
+}
+
+fn run_command<'a>(alloc: Global) -> Result<Command<'a>, AllocError>
+    ensures { IfOk result (λ c. IsSeenAs c run_command) }
+{
+    Command::new(alloc, "run")
+        .about("Run a class by the events of a schedule")
+        .arg(heap_argument(alloc))?
+        .arg(schedule_argument(alloc))?
+        .arg(file_argument(alloc))
+}
+
+fn top_command<'a>(alloc: Global) -> Command<'a>
+    ensures { IsSeenAs result top_command }
+{
+    Command::new(alloc, "jm")
+        .about("A Java virtual machine that makes one event after the other")
+        .subcommand_required(true)
+        .arg_required_else_help(true)
+}
+
+/// The command line of `jm`.
+#[tactic(auto, unfolding(crate::specs::CommandLine::jm))]
+pub fn command<'a>(alloc: Global) -> Result<Command<'a>, AllocError>
+    ensures { IfOk result (λ c. IsSeenAs c jm) }
+{
+    top_command(alloc).subcommand(run_command(alloc)?)
+}

@@ -1,0 +1,23 @@
+/// The least limit of the heap, in cells.
+pub const MIN_HEAP: u32 = 16;
+
+/// The largest limit of the heap, in cells.
+pub const MAX_HEAP: u32 = 16_777_216;
+
+/// What a command line asks for.
+#[derive(Debug, Drop)]
+pub enum Options {
+    /// `jm run`: to run a class.
+    Run(RunOptions),
+}
+
+/// What `jm run` is given.
+#[derive(Debug, Drop)]
+pub struct RunOptions {
+    /// The limit of the heap, in cells.
+    pub heap: u32,
+    /// The file of the schedule.
+    pub schedule: String,
+    /// The class file.
+    pub file: String,
+}

@@ -1,0 +1,8 @@
+//! What no clause says of the command line: the texts that users see, as `clap` words them, and
+//! that options are given with ample memory.
+#![tactic(auto)]
+
+#[cfg(test)]
+mod asked;
+#[cfg(test)]
+mod refused;

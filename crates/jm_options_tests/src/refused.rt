@@ -1,0 +1,190 @@
+use jm_options::{UsageFault, options};
+use std::alloc::Global;
+use std::test::Fail;
+
+const ABOUT: &str = "A Java virtual machine that makes one event after the other";
+
+/// Words that are refused, and the first line of the text.
+const REFUSED: [(&[&str], &str); 34] = [
+    (&[], ABOUT),
+    (&["jm"], ABOUT),
+    (&["jm", "--help"], ABOUT),
+    (&["jm", "-h"], ABOUT),
+    (&["jm", "help"], ABOUT),
+    (
+        &["jm", "run", "--help"],
+        "Run a class by the events of a schedule",
+    ),
+    (
+        &["jm", "help", "run"],
+        "Run a class by the events of a schedule",
+    ),
+    (
+        &["jm", "--version"],
+        "error: unexpected argument '--version' found",
+    ),
+    (
+        &["jm", "asm", "A.j", "A.class"],
+        "error: unrecognized subcommand 'asm'",
+    ),
+    (
+        &["jm", "replay", "r", "A.class"],
+        "error: unrecognized subcommand 'replay'",
+    ),
+    (
+        &["jm", "debug", "A.class"],
+        "error: unrecognized subcommand 'debug'",
+    ),
+    (
+        &["jm", "A.class"],
+        "error: unrecognized subcommand 'A.class'",
+    ),
+    (
+        &["jm", "run"],
+        "error: the following required arguments were not provided:",
+    ),
+    (
+        &["jm", "run", "A.class"],
+        "error: the following required arguments were not provided:",
+    ),
+    (
+        &["jm", "run", "--schedule", "s"],
+        "error: the following required arguments were not provided:",
+    ),
+    (
+        &["jm", "run", "A.class", "--schedule"],
+        "error: a value is required for '--schedule <FILE>' but none was supplied",
+    ),
+    (
+        &["jm", "run", "--schedule=s", "A.class", "B.class"],
+        "error: unexpected argument 'B.class' found",
+    ),
+    (
+        &["jm", "run", "--schedule=s", "--schedule=t", "A.class"],
+        "error: the argument '--schedule <FILE>' cannot be used multiple times",
+    ),
+    (
+        &[
+            "jm",
+            "run",
+            "--heap=16",
+            "--heap=17",
+            "--schedule=s",
+            "A.class",
+        ],
+        "error: the argument '--heap <N>' cannot be used multiple times",
+    ),
+    (
+        &["jm", "run", "--heap", "15", "--schedule=s", "A.class"],
+        "error: invalid value '15' for '--heap <N>': 15 is not in 16..=16777216",
+    ),
+    (
+        &["jm", "run", "--heap=16777217", "--schedule=s", "A.class"],
+        "error: invalid value '16777217' for '--heap <N>': 16777217 is not in 16..=16777216",
+    ),
+    (
+        &[
+            "jm",
+            "run",
+            "--heap=99999999999999999999",
+            "--schedule=s",
+            "A.class",
+        ],
+        "error: invalid value '99999999999999999999' for '--heap <N>': number too large to fit in target type",
+    ),
+    (
+        &["jm", "run", "--heap", "x", "--schedule=s", "A.class"],
+        "error: invalid value 'x' for '--heap <N>': invalid digit found in string",
+    ),
+    (
+        &["jm", "run", "--heap=", "--schedule=s", "A.class"],
+        "error: invalid value '' for '--heap <N>': cannot parse integer from empty string",
+    ),
+    (
+        &["jm", "run", "--heap=-16", "--schedule=s", "A.class"],
+        "error: invalid value '-16' for '--heap <N>': -16 is not in 16..=16777216",
+    ),
+    (
+        &["jm", "run", "--shedule", "s", "A.class"],
+        "error: unexpected argument '--shedule' found",
+    ),
+    (
+        &["jm", "run", "--copiers", "2", "--schedule=s", "A.class"],
+        "error: unexpected argument '--copiers' found",
+    ),
+    (
+        &["jm", "run", "--steps", "9", "--schedule=s", "A.class"],
+        "error: unexpected argument '--steps' found",
+    ),
+    (
+        &["jm", "run", "--quantum=2", "--schedule=s", "A.class"],
+        "error: unexpected argument '--quantum' found",
+    ),
+    (
+        &["jm", "run", "--workers=2", "--schedule=s", "A.class"],
+        "error: unexpected argument '--workers' found",
+    ),
+    (
+        &["jm", "run", "--record", "r", "--schedule=s", "A.class"],
+        "error: unexpected argument '--record' found",
+    ),
+    (
+        &["jm", "run", "--show-heap", "--schedule=s", "A.class"],
+        "error: unexpected argument '--show-heap' found",
+    ),
+    (
+        &["jm", "run", "--stress=minor", "--schedule=s", "A.class"],
+        "error: unexpected argument '--stress' found",
+    ),
+    (
+        &["jm", "--heap=16", "run", "--schedule=s", "A.class"],
+        "error: unexpected argument '--heap' found",
+    ),
+];
+
+// The text of a refusal, with its status.
+fn refusal(alloc: Global, words: &[&str]) -> Result<(u8, String), Fail> {
+    let fault = options(alloc, words).err().ok_or("options")?;
+    let text = format!(in alloc; "{fault}")?;
+    Ok((fault.status(), text))
+}
+
+#[test]
+fn refusals_name_the_word(rt: HostRuntime) -> Result<(), Fail> {
+    for (words, want) in REFUSED {
+        let (status, text) = refusal(rt.alloc(), words)?;
+        assert_eq!(rt; status, 1, "{words:?}");
+        assert_eq!(rt; text.as_str().lines().next(), Some(want), "{words:?}");
+    }
+    Ok(())
+}
+
+#[test]
+fn refusals_say_what_to_write(rt: HostRuntime) -> Result<(), Fail> {
+    let tables: [(&[&str], &str); 5] = [
+        (&["jm"], "Usage: jm <COMMAND>"),
+        (
+            &["jm", "run", "-h"],
+            "Usage: jm run [OPTIONS] --schedule <FILE> <FILE>",
+        ),
+        (&["jm", "run", "-h"], "[default: 65536]"),
+        (
+            &["jm", "run", "--shedule=s", "A.class"],
+            "a similar argument exists: '--schedule'",
+        ),
+        (&["jm", "rum"], "a similar subcommand exists: 'run'"),
+    ];
+    for (words, want) in tables {
+        let (_, text) = refusal(rt.alloc(), words)?;
+        assert!(rt; text.as_str().contains(want), "{words:?}");
+    }
+    Ok(())
+}
+
+#[test]
+fn want_of_memory_has_status_seven(rt: HostRuntime) -> Result<(), Fail> {
+    let text = format!(in rt.alloc(); "{}", UsageFault::OutOfMemory)?;
+    assert_eq!(rt; text.as_str(), "61 OutOfMemory");
+    assert_eq!(rt; UsageFault::OutOfMemory.status(), 7);
+    Ok(())
+}

@@ -1,0 +1,4 @@
+pub mod Words
+pub mod Lines
+pub mod Runs
+pub mod Faults

@@ -1,0 +1,19 @@
+//! Schedules: which events happen to a machine, written as lines of text.
+//!
+//! [`read_schedule`] gives the events that the lines spell, or the number of the first line that is
+//! strange or at which the events pass ten million. A [`Schedule`] keeps each line's repeats as one
+//! [`Run`], so that a line takes the same memory however often it repeats its event. What a line
+//! spells is said in the world's definitions of schedules.
+//!
+//! The crate stands on `jm_program` and `jm_world`.
+#![tactic(auto)]
+
+mod fault;
+mod line;
+mod read;
+mod schedule;
+mod word;
+
+pub use fault::ScheduleFault;
+pub use read::read_schedule;
+pub use schedule::{MAX_EVENTS, Run, Schedule};

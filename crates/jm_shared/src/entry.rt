@@ -1,0 +1,45 @@
+// What a journal keeps of a turn, and what the turn answers.
+
+ghost use Rattle.std.specs.Prelude.{◌≡◌};
+ghost use Rattle.jm_shared.specs.Legal.{reply_of};
+
+use jm_world::{Event, Reply, ReplyKind};
+
+/// What a journal keeps of a turn, in 40 bytes.
+#[derive(Clone, Copy, Debug, PartialEq, Eq)]
+pub struct Entry {
+    pub event: Event,
+    /// How many Java threads were ever made.
+    pub made: u64,
+    /// How many of them have not ended.
+    pub live: u64,
+    pub kind: ReplyKind,
+    /// The number of the seat.
+    pub seat: u8,
+}
+
+const _: () = prove!(size_of::<Entry>() <= 40);
+
+impl Entry {
+    /// The answer to the event.
+    pub fn reply(self) -> Reply
+        ensures { result ≡ reply_of self }
+    {
+        Reply {
+            kind: self.kind,
+            made: self.made,
+            live: self.live,
+        }
+    }
+}
+
+/// What a turn answers to its seat.
+#[derive(Clone, Copy, Debug, PartialEq, Eq)]
+pub struct Receipt {
+    /// The number of the seat.
+    pub seat: u8,
+    /// The number of the turn's entry in the journal, from 0.
+    pub number: usize,
+    pub event: Event,
+    pub reply: Reply,
+}

@@ -1,0 +1,106 @@
+// The journal.
+
+ghost use Rattle.std.specs.Prelude.{◌≡◌, ◌++◌, ◌∷◌, [], length, slice_get, IfOk, OnErr, MatchResult};
+ghost use Rattle.jm_world.specs.World.{World};
+ghost use Rattle.jm_world.specs.Run.{after};
+ghost use Rattle.jm_machine.specs.View.{MatchesWorld};
+ghost use Rattle.jm_shared.specs.Legal.{IsLegal, world_after, entry_of, receipt_of};
+
+use crate::entry::{Entry, Receipt};
+use crate::room::Room;
+use jm_heap::Heap;
+use jm_machine::{Machine, OutOfMemory};
+use jm_world::Event;
+use std::alloc::Global;
+use std::marker::{Model, PhantomData};
+
+/// A machine and the journal of its events. The journal is legal from its room's first world, and
+/// the machine matches the world to which it leads.
+#[derive(Drop)]
+pub struct Journal<H: Heap, R: Room> {
+    machine: Machine<H>,
+    entries: Vec<Entry>,
+    room: PhantomData<R>,
+}
+
+impl<H: Heap, R: Room> Model for Journal<H, R> {
+    ghost use Rattle.jm_machine.specs.View.{MatchesWorld};
+    ghost use Rattle.jm_shared.specs.Book.{Book};
+
+    ghost Value = { Book };
+
+    ghost use Rattle.jm_shared.specs.Legal.{IsLegal, world_after};
+
+    ghost view = { λ j. record { machine = j.machine; entries = j.entries.items } };
+
+    ghost invariant = { λ j. IsLegal R.first j.entries.items × MatchesWorld j.machine (world_after R.first j.entries.items) };
+}
+
+impl<H: Heap, R: Room> Journal<H, R> {
+    /// The journal of a machine, without entries.
+    pub fn new(alloc: Global, machine: Machine<H>) -> Journal<H, R>
+        requires { MatchesWorld machine R.first }
+        ensures { (result.machine ≡ machine) × (result.entries ≡ []) }
+    {
+        Journal {
+            machine,
+            entries: Vec::new(alloc),
+            room: PhantomData,
+        }
+    }
+
+    /// Makes one event for a seat, in the nursery of the seat's number, and adds one entry. The
+    /// time of a turn does not grow with the journal, but where the entries' room doubles.
+    /// `OutOfMemory`: there is no new entry, and the machine is that of the world before.
+    pub fn turn(&mut self, seat: u8, event: Event) -> Result<Receipt, OutOfMemory>
+        ensures receipt { IfOk result (λ receipt. receipt ≡ receipt_of (length self.old.entries) (entry_of seat event receipt.reply)) }
+        ensures entries { MatchResult result (λ receipt. self.new.entries ≡ self.old.entries ++ entry_of seat event receipt.reply ∷ []) (λ _. self.new.entries ≡ self.old.entries) }
+        ensures machine { (w : World) → MatchesWorld self.old.machine w → MatchResult result (λ receipt. MatchesWorld self.new.machine (after w event).world × (receipt.reply ≡ (after w event).reply)) (λ _. MatchesWorld self.new.machine w) }
+    {
+        self.entries.reserve(1)?;
+        let reply = self.machine.step_at(usize::from(seat), event)?;
+        let number = self.entries.len();
+        self.entries.push_reserved(Entry {
+            event,
+            made: reply.made,
+            live: reply.live,
+            kind: reply.kind,
+            seat,
+        });
+        Ok(Receipt {
+            seat,
+            number,
+            event,
+            reply,
+        })
+    }
+
+    /// The machine, which matches the world to which the journal's events lead.
+    pub fn machine(&self) -> &Machine<H>
+        ensures machine { result.now ≡ self.now.machine }
+        ensures matched { MatchesWorld self.now.machine (world_after R.first self.now.entries) }
+    {
+        &self.machine
+    }
+
+    /// The entry of a number, from 0; None past the last.
+    pub fn entry(&self, number: usize) -> Option<Entry>
+        ensures entry { result ≡ slice_get self.now.entries number }
+        ensures legal { IsLegal R.first self.now.entries }
+    {
+        self.entries.get(number).copied()
+    }
+
+    /// The machine, without its journal.
+    pub fn into_machine(self) -> Machine<H>
+        ensures machine { result ≡ self.machine }
+        ensures matched { MatchesWorld self.machine (world_after R.first self.entries) }
+    {
+        let Journal {
+            machine,
+            entries: _,
+            room: _,
+        } = self;
+        machine
+    }
+}

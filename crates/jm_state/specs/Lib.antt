@@ -1,0 +1,5 @@
+pub mod Parts
+pub mod Ends
+pub mod Runnable
+pub mod Places
+pub mod Reached

@@ -1,0 +1,22 @@
+// The state of a run.
+
+use crate::thread::Thread;
+use jm_values::Value;
+use jm_world::{ClassState, Stop};
+
+/// What a run of a linked program has made.
+#[derive(Drop)]
+pub struct State<H> {
+    pub heap: H,
+    /// Thread n is the n-th, from 1.
+    pub threads: Vec<Thread>,
+    /// How many threads have not ended.
+    pub live: usize,
+    /// The values of the static fields: System.out, then the program's.
+    pub statics: Vec<Value>,
+    /// How far the initialization of each of the program's classes is.
+    pub classes: Vec<ClassState>,
+    /// The bytes that the program has printed.
+    pub output: Vec<u8>,
+    pub stop: Option<Stop>,
+}

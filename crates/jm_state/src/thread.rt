@@ -1,0 +1,36 @@
+// Threads and their frames.
+
+use jm_frames::Frame;
+use jm_values::Place;
+use jm_world::Stage;
+
+/// A frame of a thread (JVMS 2.6).
+#[derive(Debug, Drop)]
+pub enum StackFrame {
+    /// Of a method that runs, by its number in the linked program.
+    Method(Frame),
+    /// Of the initialization of a class, by its number among the program's classes, with what is
+    /// next in it (JVMS 5.5).
+    Initialization { class: u32, stage: Stage },
+}
+
+/// How a thread has ended.
+#[derive(Clone, Copy, Debug, PartialEq, Eq)]
+pub enum Ending {
+    /// It has not.
+    Running,
+    /// By its last return.
+    Returned,
+    /// By an exception of the class of this number, the built-in classes counted first.
+    EndedBy(u32),
+}
+
+/// A Java thread. The first one has no object.
+#[derive(Debug, Drop)]
+pub struct Thread {
+    /// The top frame is the last.
+    pub frames: Vec<StackFrame>,
+    /// The pending exception (JVMS 2.10).
+    pub pending: Option<Place>,
+    pub ending: Ending,
+}
