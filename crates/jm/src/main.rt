@@ -1,7 +1,7 @@
 //! `jm`: runs the class of a class file, by the events of a schedule.
 //!
 //! The command line is read by `jm_options`, and what a job does is `jm_execute`'s. What stands
-//! here reads the files, hands both over, and ends with the status.
+//! here reads the files, hands both over with the standard streams, and ends with the status.
 #![tactic(auto)]
 
 mod files;
@@ -20,9 +20,10 @@ fn run(rt: &HostRuntime, asked: RunOptions) -> Status {
         schedule: input_file(rt, asked.schedule),
         program: input_file(rt, asked.file),
     };
+    let mut input = Watched::new(rt.stdin());
     let mut out = Watched::new(rt.stdout());
     let mut err = Watched::new(rt.stderr());
-    execute(rt.alloc(), &job, &mut out, &mut err)
+    execute(rt.alloc(), &job, &mut input, &mut out, &mut err)
 }
 
 // Says that a growth was refused.

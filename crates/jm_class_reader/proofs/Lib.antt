@@ -1,4 +1,2 @@
 pub mod Attributes
-pub mod LeftOutTypes
 pub mod Rules
-pub mod Taken

@@ -1,29 +1,12 @@
 // What every attribute begins with: the index of its name, its length and its bytes (JVMS 4.7).
 
-ghost use Rattle.std.specs.Prelude.{◌≡◌};
 ghost use Rattle.jm_bytes.specs.Reading.{TakesAs};
-ghost use Rattle.jm_program.specs.Names.{same_text};
 ghost use Rattle.jm_class_format.specs.CodeAttribute.{attribute_name, skipped_info};
 
 use crate::named_code::text_at;
 use jm_bytes::Reader;
 use jm_class_format::ReadFault;
 use jm_pool::Pool;
-
-/// Whether the code units are those of an ASCII text.
-pub fn is_ascii(units: &[u16], text: &[u8]) -> bool
-    ensures { result ≡ same_text units.now text.now }
-{
-    if units.len() != text.len() {
-        return false;
-    }
-    for (index, byte) in text.iter().enumerate() {
-        if units[index] != u16::from(*byte) {
-            return false;
-        }
-    }
-    true
-}
 
 /// The code units of the text that the next index names; where the bytes end too early, the fault
 /// given.

@@ -8,14 +8,14 @@ ghost use Rattle.jm_class_format.specs.declared.read_fault.ReadFault.TheVariants
 ghost use Rattle.jm_class_format.specs.CodeAttribute.{whole_info};
 ghost use Rattle.jm_class_format.specs.ClassFile.{version, file_pool, class_name, superclass_at, superclass, interfaces, source_file, class_attribute_info, class_attribute, class_attributes, head, body, parts_of, class_fits, class, class_file, Spells};
 
-use crate::attribute::{attribute_name, info, is_ascii};
+use crate::attribute::{attribute_name, info};
 use crate::field::{fields, flags};
 use crate::method::methods;
 use crate::named_code::{bad_index, class_name_at, text_of};
 use jm_bytes::Reader;
 use jm_class_format::ReadFault;
 use jm_pool::Pool;
-use jm_program::{AccessFlags, Class, ClassParts, Field, Method, Name, Sequence, Version};
+use jm_program::{AccessFlags, Class, ClassParts, Field, Method, Name, Sequence, Version, is_text};
 use std::alloc::Global;
 use std::marker::Model;
 
@@ -180,7 +180,7 @@ fn class_attribute(
     ensures { Gives (λ found. found) OutOfMemory result reader.new ((class_attribute pool.now found).read reader.old) }
 {
     let name = attribute_name(ReadFault::Cut, pool, reader)?;
-    let is_source_file = is_ascii(name, b"SourceFile");
+    let is_source_file = is_text(name, b"SourceFile");
     class_attribute_info(alloc, pool, found, is_source_file, reader)
 }
 

@@ -7,14 +7,14 @@ ghost use Rattle.jm_class_format.specs.declared.read_fault.ReadFault.TheVariants
 ghost use Rattle.jm_class_format.specs.NamedCode.{file_code};
 ghost use Rattle.jm_class_format.specs.CodeAttribute.{whole_info, catch_type, handler_places, handler, handlers, line_number, line_numbers, code_attribute_info, code_attribute, code_attributes, limits, code_length, code_body};
 
-use crate::attribute::{attribute_name, info, is_ascii};
+use crate::attribute::{attribute_name, info};
 use crate::named_code::{class_name_at, instructions_of};
 use crate::places::Places;
 use jm_bytes::Reader;
 use jm_class_format::{PlacedInstr, ReadFault};
 use jm_opcodes::decode_code;
 use jm_pool::Pool;
-use jm_program::{Code, Handler, LineNumber, Name, Sequence};
+use jm_program::{Code, Handler, LineNumber, Name, Sequence, is_text};
 use std::alloc::Global;
 
 // ---- the exception table
@@ -168,7 +168,7 @@ fn code_attribute(
     ensures { Gives (λ v. v.items) OutOfMemory result reader.new ((code_attribute pool.now places.now lines.items).read reader.old) }
 {
     let name = attribute_name(ReadFault::BadAttribute, pool, reader)?;
-    let is_line_table = is_ascii(name, b"LineNumberTable");
+    let is_line_table = is_text(name, b"LineNumberTable");
     code_attribute_info(alloc, places, lines, is_line_table, reader)
 }
 

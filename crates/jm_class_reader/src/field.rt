@@ -8,13 +8,13 @@ ghost use Rattle.jm_class_format.specs.PoolLookups.{entry_at};
 ghost use Rattle.jm_class_format.specs.CodeAttribute.{whole_info};
 ghost use Rattle.jm_class_format.specs.Members.{flags, text, constant_of, constant_value, field_attribute_info, field_attribute, field_attributes, field_name, field_type, field, fields};
 
-use crate::attribute::{attribute_name, info, is_ascii};
+use crate::attribute::{attribute_name, info};
 use crate::named_code::{bad_index, text_of};
-use crate::symbols::{field_name_of, field_type_of};
 use jm_bytes::Reader;
 use jm_class_format::{Entry, ReadFault};
 use jm_pool::Pool;
-use jm_program::{AccessFlags, BaseType, Constant, ElementType, Field, FieldType, Name};
+use jm_program::{AccessFlags, BaseType, Constant, ElementType, Field, FieldType, Name, is_text};
+use jm_symbols::{field_name_of, field_type_of};
 use std::alloc::Global;
 
 /// The access flags, whichever they are.
@@ -148,7 +148,7 @@ fn field_attribute(
     ensures { Gives (λ found. found) OutOfMemory result reader.new ((field_attribute pool.now access field_type.now found).read reader.old) }
 {
     let name = attribute_name(ReadFault::Cut, pool, reader)?;
-    let is_value = access.has(AccessFlags::STATIC) && is_ascii(name, b"ConstantValue");
+    let is_value = access.has(AccessFlags::STATIC) && is_text(name, b"ConstantValue");
     field_attribute_info(alloc, pool, field_type, found, is_value, reader)
 }
 

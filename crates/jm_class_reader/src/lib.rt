@@ -2,9 +2,9 @@
 //!
 //! [`read_class`] gives the class that bytes spell, exactly where they spell one, and else the
 //! first fault. Each structure of the class file has one private reader, in the order of JVMS 4:
-//! names and types, what instructions name, the Code attribute, fields, methods and the class.
-//! Which bytes spell which class is defined in `jm_class_format`; the constant pool is read by
-//! `jm_pool`, instructions by `jm_opcodes`, and numbers by `jm_bytes`.
+//! what instructions name, the Code attribute, fields, methods and the class. Which bytes spell
+//! which class is defined in `jm_class_format`; the constant pool is read by `jm_pool`, names and
+//! types by `jm_symbols`, instructions by `jm_opcodes`, and numbers by `jm_bytes`.
 #![tactic(auto)]
 
 mod attribute;
@@ -14,7 +14,6 @@ mod field;
 mod method;
 mod named_code;
 mod places;
-mod symbols;
 
 pub use class::read_class;
 pub use jm_class_format::{CodeFault, LeftOutPart, PoolFault, ReadFault};

@@ -7,14 +7,14 @@ ghost use Rattle.jm_class_format.specs.declared.read_fault.ReadFault.TheVariants
 ghost use Rattle.jm_class_format.specs.CodeAttribute.{whole_info, code_body};
 ghost use Rattle.jm_class_format.specs.Members.{method_flags, method_name, own_receiver, declaration, may_have_code, method_attribute_info, method_attribute, method_attributes, method, methods};
 
-use crate::attribute::{attribute_name, info, is_ascii};
+use crate::attribute::{attribute_name, info};
 use crate::code_attribute::code_body;
 use crate::field::{flags, text};
-use crate::symbols::{method_name_of, method_type_of};
 use jm_bytes::Reader;
 use jm_class_format::{LeftOutPart, ReadFault};
 use jm_pool::Pool;
-use jm_program::{AccessFlags, Code, Method, MethodDescriptor, Name};
+use jm_program::{AccessFlags, Code, Method, MethodDescriptor, Name, is_text};
+use jm_symbols::{method_name_of, method_type_of};
 use std::alloc::Global;
 
 // ---- flags, name and type
@@ -175,7 +175,7 @@ fn method_attribute(
     ensures { Gives (λ found. found) OutOfMemory result reader.new ((method_attribute pool.now in_interface method.now found).read reader.old) }
 {
     let name = attribute_name(ReadFault::Cut, pool, reader)?;
-    let is_code = is_ascii(name, b"Code");
+    let is_code = is_text(name, b"Code");
     method_attribute_info(alloc, pool, in_interface, method, found, is_code, reader)
 }
 

@@ -8,10 +8,10 @@ ghost use Rattle.jm_class_format.specs.FileFaults.{bad_index};
 ghost use Rattle.jm_class_format.specs.PoolLookups.{entry_at, text_at, class_at};
 ghost use Rattle.jm_class_format.specs.NamedCode.{loaded, loaded_long, calls_interface, class_method, counted, interface_method, class_ref_at, type_operand, class_name_at, named, placed_named};
 
-use crate::symbols::{class_name_of, class_ref_of, element_ref, field_ref_of, method_ref_of};
 use jm_class_format::{Entry, IndexedInstr, LeftOutPart, PlacedInstr, PoolFault, ReadFault};
 use jm_pool::{Member, Pool};
-use jm_program::{ClassRef, Constant, Instr, InvokeOp, MethodRef, Name, Sequence, TypeOp};
+use jm_program::{Boxed, ClassRef, Constant, Instr, InvokeOp, MethodRef, Name, Sequence, TypeOp};
+use jm_symbols::{class_name_of, class_ref_of, element_ref, field_ref_of, method_ref_of};
 use std::alloc::Global;
 
 /// The refusal of an index that names no entry of the kind that its place needs.
@@ -101,7 +101,7 @@ fn class_method(
         return Err(ReadFault::LeftOut(LeftOutPart::InterfaceMethod));
     }
     let texts = pool.method(index).ok_or(bad_index(index))?;
-    let method = method_ref_of(alloc, op, texts)?;
+    let method = method_ref_of(alloc, op, texts.class, texts.name, texts.descriptor)?;
     Ok(method)
 }
 
@@ -133,7 +133,13 @@ fn interface_method(
     ensures { GivesAll (λ method. method) OutOfMemory result (interface_method pool.now index count last) }
 {
     let texts = pool.interface_method(index).ok_or(bad_index(index))?;
-    let method = method_ref_of(alloc, InvokeOp::Interface, texts)?;
+    let method = method_ref_of(
+        alloc,
+        InvokeOp::Interface,
+        texts.class,
+        texts.name,
+        texts.descriptor,
+    )?;
     let method = counted(count, last, method)?;
     Ok(method)
 }
@@ -193,15 +199,18 @@ fn named(alloc: Global, pool: &Pool, instr: IndexedInstr) -> Result<Instr, ReadF
         }
         IndexedInstr::Field(op, index) => {
             let texts = pool.field(index).ok_or(bad_index(index))?;
-            let field = field_ref_of(alloc, texts)?;
+            let field = field_ref_of(alloc, texts.class, texts.name, texts.descriptor)?;
+            let field = Boxed::new(alloc, field)?;
             Ok(Instr::Field(op, field))
         }
         IndexedInstr::Invoke(op, index) => {
             let method = class_method(alloc, pool, op, index)?;
+            let method = Boxed::new(alloc, method)?;
             Ok(Instr::Invoke(op, method))
         }
         IndexedInstr::InvokeInterface(index, count, last) => {
             let method = interface_method(alloc, pool, index, count, last)?;
+            let method = Boxed::new(alloc, method)?;
             Ok(Instr::Invoke(InvokeOp::Interface, method))
         }
         IndexedInstr::New(index) => {
@@ -210,13 +219,14 @@ fn named(alloc: Global, pool: &Pool, instr: IndexedInstr) -> Result<Instr, ReadF
         }
         IndexedInstr::Type(op, index) => {
             let class = type_operand(alloc, pool, op, index)?;
+            let class = Boxed::new(alloc, class)?;
             Ok(Instr::Type(op, class))
         }
     }
 }
 
 /// The instructions with what their indexes name.
-#[tactic(auto, using(crate::proofs::Taken::taken_steps))]
+#[tactic(auto, using(jm_opcodes::proofs::Taken::taken_steps))]
 pub fn instructions_of(
     alloc: Global,
     pool: &Pool,

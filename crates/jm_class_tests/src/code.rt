@@ -49,13 +49,13 @@ const ANSWERS: [(&[u8], &str); 30] = [
             0, 0xAA, 9, 8, 0, 0, 0, 0, 0xFF, 0xFF, 0xFF, 0xFF, 0, 0, 0, 0, 0xFF, 0xFF, 0xFF, 0xFF,
             0, 0, 0, 0,
         ],
-        "0 Plain(Simple(Nop)); 1 Plain(TableSwitch(TableSwitch { low: -1, targets: Sequence { items: [0, 1] }, default: 1 })); ",
+        "0 Plain(Simple(Nop)); 1 Plain(TableSwitch(Boxed { content: TableSwitch { low: -1, targets: Sequence { items: [0, 1] }, default: 1 } })); ",
     ),
     (
         &[
             0, 0xAA, 9, 8, 0xFF, 0xFF, 0xFF, 0xFF, 0, 0, 0, 7, 0, 0, 0, 7, 0, 0, 0, 0,
         ],
-        "0 Plain(Simple(Nop)); 1 Plain(TableSwitch(TableSwitch { low: 7, targets: Sequence { items: [1] }, default: 0 })); ",
+        "0 Plain(Simple(Nop)); 1 Plain(TableSwitch(Boxed { content: TableSwitch { low: 7, targets: Sequence { items: [1] }, default: 0 } })); ",
     ),
     // high below low
     (
@@ -73,7 +73,7 @@ const ANSWERS: [(&[u8], &str); 30] = [
         &[
             0xAB, 0, 0, 0, 0, 0, 0, 0, 0, 0, 0, 1, 0xFF, 0xFF, 0xFF, 0xFF, 0, 0, 0, 0,
         ],
-        "0 Plain(LookupSwitch(LookupSwitch { pairs: Sequence { items: [SwitchPair { key: -1, target: 0 }] }, default: 0 })); ",
+        "0 Plain(LookupSwitch(Boxed { content: LookupSwitch { pairs: Sequence { items: [SwitchPair { key: -1, target: 0 }] }, default: 0 } })); ",
     ),
     (&[], "12 Cut(0)"),
 ];

@@ -46,6 +46,13 @@ pub record StopsShort (v : Verdict) (w : World) : Type 0 where
   pub runs_is : v ≡ runs program limit (made ++ rest)
   pub world_is : w ≡ run_from (loaded_world program limit) made
 
+-- the endings of a run of events from a world on
+abbrev pub Ends : World → List Event → Ending → Type 0
+Ends first events (completed w) = w ≡ run_from first events
+Ends first events (interrupted w) = (made : List Event) × (rest : List Event) × (events ≡ made ++ rest) × (w ≡ run_from first made)
+Ends first events exhausted = ⊥
+Ends first events (turned_away status) = ⊥
+
 -- the endings that the files allow: memory may be refused at any time
 abbrev pub Allows : Verdict → Ending → Type 0
 Allows v (completed w) = Completes v w

@@ -1,7 +1,7 @@
 pub mod Written
 pub mod Reports
 pub mod Codes
-pub mod Standing
+pub mod Turns
 pub mod Verdicts
 pub mod Endings
 pub mod Refusals

@@ -1,10 +1,12 @@
 -- What keeps a run from its first event, and the status that follows.
-use Rattle.std.specs.Prelude.{◌≡◌, ℕ, List, Result, Ok, Err, Some, true, false, ⊤}
+use Rattle.std.specs.Prelude.{◌≡◌, ℕ, List, ◌++◌, Option, Some, None, Result, Ok, Err, true, false, codes, ⊤}
+use Rattle.std.specs.Fmt.{decimal}
 use Rattle.jm_program.specs.declared.class.ClassParts.{ClassParts}
 use Rattle.jm_class_format.specs.declared.read_fault.ReadFault.{ReadFault}
 use Rattle.jm_world.specs.Loading.{loaded_world, is_too_small}
 use Rattle.jm_world.specs.Schedules.{schedule}
 use Rattle.jm_world.specs.declared.event.Event.{Event}
+use Rattle.jm_linker.specs.FaultTexts.{fault_text}
 use Rattle.jm_linked.specs.Links.{LinkedView}
 use Rattle.jm_machine.specs.View.{MachineView, MatchesWorld}
 use Rattle.jm_execute.specs.Verdicts.{Verdict, links, runs}
@@ -22,6 +24,14 @@ refusal_status (refusal.BadClass file fault) = ends.Refused
 refusal_status (refusal.Unlinked fault) = ends.Refused
 refusal_status refusal.HeapTooSmall = ends.Refused
 refusal_status (refusal.BadSchedule line) = ends.BadSchedule
+
+-- the line of standard error, without its end; of the names of a class file's faults nothing is said
+abbrev pub refusal_line : Refusal → Option (List ℕ)
+refusal_line (refusal.NotRead file) = Some (codes "jm: " ++ file.now ++ codes ": not read")
+refusal_line (refusal.BadClass file fault) = None
+refusal_line (refusal.Unlinked fault) = Some (codes "jm: " ++ fault_text fault)
+refusal_line refusal.HeapTooSmall = Some (codes "jm: 63 HeapTooSmall")
+refusal_line (refusal.BadSchedule line) = Some (codes "jm: 70 BadSchedule(" ++ decimal line ++ codes ")")
 
 -- the class that bytes spell, or the fault in them
 abbrev pub GivesClass : Result ClassParts ReadFault → Result ClassParts Obstacle → Type 0

@@ -1,11 +1,29 @@
--- What stands in a watched writer after a call.
-use Rattle.std.specs.Prelude.{◌≡◌, ℕ, List, ◌++◌, Option, Bool, true, Result, MatchResult}
+-- What a watched reader or writer is, and what stands in a watched writer after a call.
+use Rattle.std.specs.Prelude.{◌≡◌, ℕ, List, ◌++◌, Option, Bool, true, false, Result, MatchResult, refl}
+use Rattle.std.specs.Coded.{Coded, code_by, coded×, coded_bool}
 use Rattle.std.specs.Io.KnownBytes.{Appends}
+
+-- a reader or a writer, and whether it has failed
+pub record Watch (T : Type 0) : Type 0 where
+  pub inner : T
+  pub failed : Bool
+
+-- it is stored as the pair of its fields
+abbrev pub watch_code : {T : Type 0} → Coded T → Coded (Watch T)
+watch_code {T} c = code_by (T × Bool) (coded× c coded_bool) (λ w. (w.inner, w.failed)) (λ p. record { inner = p.0; failed = p.1 }) (λ _. refl)
+
+-- one that has not failed
+abbrev pub fresh : {T : Type 0} → T → Watch T
+fresh inner = record { inner = inner; failed = false }
 
 -- the bytes that a writer holds, where they are known, and whether it has failed
 pub record WatchedView : Type 0 where
   pub contents : Option (List ℕ)
   pub failed : Bool
+
+-- a watched writer, by what it holds
+abbrev pub held : {T : Type 0} → (T → Option (List ℕ)) → Watch T → WatchedView
+held contents w = record { contents = contents w.inner; failed = w.failed }
 
 -- all the bytes were written
 pub record AllWritten (old new : WatchedView) (text : List ℕ) : Type 0 where

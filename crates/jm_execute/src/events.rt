@@ -1,22 +1,23 @@
-// The events of a schedule.
+// The events of a schedule, as turns of a journal.
 
 ghost use Rattle.std.specs.Prelude.{MatchResult};
-ghost use Rattle.jm_world.specs.World.{World};
-ghost use Rattle.jm_world.specs.Run.{run_from};
-ghost use Rattle.jm_machine.specs.View.{MatchesWorld};
 ghost use Rattle.jm_schedule.specs.Runs.{repeats_of};
-ghost use Rattle.jm_execute.specs.Standing.{StandsWithin};
+ghost use Rattle.jm_execute.specs.Turns.{Records, RecordsPart};
 
 use jm_heap::Heap;
-use jm_machine::{Machine, OutOfMemory};
+use jm_machine::OutOfMemory;
 use jm_schedule::{Run, Schedule};
+use jm_shared::{Journal, Room};
+
+// The seat of a run that has one worker.
+const SEAT: u8 = 0;
 
 // Makes an event as often as a run says.
-fn make_repeats<H: Heap>(machine: &mut Machine<H>, run: Run) -> Result<(), OutOfMemory>
-    ensures { (w : World) → MatchesWorld machine.old w → MatchResult result (λ _. MatchesWorld machine.new (run_from w (repeats_of run))) (λ _. StandsWithin machine.new w (repeats_of run)) }
+fn make_repeats<H: Heap, R: Room>(journal: &mut Journal<H, R>, run: Run) -> Result<(), OutOfMemory>
+    ensures { MatchResult result (λ _. Records journal.old journal.new (repeats_of run)) (λ _. RecordsPart journal.old journal.new (repeats_of run)) }
 {
     for _ in 0..run.count {
-        match machine.step(run.event) {
+        match journal.turn(SEAT, run.event) {
             Ok(_) => {}
             Err(fault) => return Err(fault),
         }
@@ -24,18 +25,18 @@ fn make_repeats<H: Heap>(machine: &mut Machine<H>, run: Run) -> Result<(), OutOf
     Ok(())
 }
 
-/// Makes the events of a schedule, in order. `OutOfMemory`: a growth was refused; the machine is
-/// where the events that were made lead.
+/// Makes the events of a schedule, in order, each in a turn of the first seat. `OutOfMemory`: a
+/// growth was refused; the journal has the events that were made.
 #[tactic(auto, using(jm_schedule::proofs::RunLemmas::all_runs, jm_schedule::proofs::RunLemmas::no_run))]
-pub fn make_events<H: Heap>(
-    machine: &mut Machine<H>,
+pub fn make_events<H: Heap, R: Room>(
+    journal: &mut Journal<H, R>,
     schedule: &Schedule,
 ) -> Result<(), OutOfMemory>
-    ensures { (w : World) → MatchesWorld machine.old w → MatchResult result (λ _. MatchesWorld machine.new (run_from w schedule.now)) (λ _. StandsWithin machine.new w schedule.now) }
+    ensures { MatchResult result (λ _. Records journal.old journal.new schedule.now) (λ _. RecordsPart journal.old journal.new schedule.now) }
 {
     let runs = schedule.runs();
     for run in runs {
-        match make_repeats(machine, *run) {
+        match make_repeats(journal, *run) {
             Ok(()) => {}
             Err(fault) => return Err(fault),
         }

@@ -30,4 +30,4 @@ pub use preparation::{Ready, prepare};
 pub use refusal::{Obstacle, Refusal};
 pub use report::{write_out_of_memory, write_report};
 pub use status::Status;
-pub use watched::{Watched, WriteFailed};
+pub use watched::{ReadFailed, Watched, WriteFailed};

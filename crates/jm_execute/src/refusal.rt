@@ -1,7 +1,7 @@
 // Why a job makes no run.
 
 ghost use Rattle.std.specs.Prelude.{◌≡◌};
-ghost use Rattle.jm_execute.specs.Refusals.{refusal_status};
+ghost use Rattle.jm_execute.specs.Refusals.{refusal_line, refusal_status};
 
 use crate::status::Status;
 use jm_class_reader::ReadFault;
@@ -38,6 +38,8 @@ impl Refusal<'_> {
 }
 
 impl Display for Refusal<'_> {
+    ghost output = { λ refusal. refusal_line refusal };
+
     fn fmt<W: fmt::Write>(&self, f: &mut fmt::Formatter<W>) -> fmt::Result {
         match self {
             Refusal::NotRead(file) => write!(f, "jm: {file}: not read"),

@@ -4,7 +4,7 @@ ghost use Rattle.std.specs.Prelude.{Some};
 ghost use Rattle.jm_world.specs.World.{World, live_among, thread_at};
 ghost use Rattle.jm_machine.specs.Threads.{class_ended_by};
 ghost use Rattle.jm_machine.specs.View.{MatchesWorld};
-ghost use Rattle.jm_execute.specs.Written.{WritesLines};
+ghost use Rattle.jm_execute.specs.Written.{WritesLines, held};
 ghost use Rattle.jm_execute.specs.Reports.{ended_line, thread_line, thread_lines, stop_text, live_line, last_line, report, memory_line};
 
 use crate::class_name::ClassName;
@@ -21,7 +21,7 @@ fn write_ended<W: Write>(
     number: u64,
     class: &[u16],
 ) -> Result<(), WriteFailed>
-    ensures { WritesLines result err.old err.new (ended_line number class.now) }
+    ensures { WritesLines result (held W.contents err.old) (held W.contents err.new) (ended_line number class.now) }
 {
     let class = ClassName(class);
     err.write_line(format_args!("jm: thread {number} ended by {class}"))
@@ -33,7 +33,7 @@ fn write_thread<H: Heap, W: Write>(
     err: &mut Watched<W>,
     number: u64,
 ) -> Result<(), WriteFailed>
-    ensures { (w : World) → MatchesWorld machine.now w → WritesLines result err.old err.new (thread_line number (class_ended_by (thread_at w number))) }
+    ensures { (w : World) → MatchesWorld machine.now w → WritesLines result (held W.contents err.old) (held W.contents err.new) (thread_line number (class_ended_by (thread_at w number))) }
 {
     match machine.ended_by(number) {
         Some(class) => write_ended(err, number, class),
@@ -46,7 +46,7 @@ fn write_threads<H: Heap, W: Write>(
     machine: &Machine<H>,
     err: &mut Watched<W>,
 ) -> Result<(), WriteFailed>
-    ensures { (w : World) → MatchesWorld machine.now w → WritesLines result err.old err.new (thread_lines 1 w.threads) }
+    ensures { (w : World) → MatchesWorld machine.now w → WritesLines result (held W.contents err.old) (held W.contents err.new) (thread_lines 1 w.threads) }
 {
     for index in 0..machine.threads() {
         write_thread(machine, err, index as u64 + 1)?;
@@ -71,14 +71,14 @@ impl Display for StopText {
 }
 
 fn write_stop<W: Write>(err: &mut Watched<W>, stop: Stop) -> Result<(), WriteFailed>
-    ensures { WritesLines result err.old err.new (last_line (Some stop) 0) }
+    ensures { WritesLines result (held W.contents err.old) (held W.contents err.new) (last_line (Some stop) 0) }
 {
     let stop = StopText(stop);
     err.write_line(format_args!("jm: {stop}"))
 }
 
 fn write_live<W: Write>(err: &mut Watched<W>, live: u64) -> Result<(), WriteFailed>
-    ensures { WritesLines result err.old err.new (live_line live) }
+    ensures { WritesLines result (held W.contents err.old) (held W.contents err.new) (live_line live) }
 {
     if live == 0 {
         return Ok(());
@@ -91,7 +91,7 @@ fn write_last<H: Heap, W: Write>(
     machine: &Machine<H>,
     err: &mut Watched<W>,
 ) -> Result<(), WriteFailed>
-    ensures { (w : World) → MatchesWorld machine.now w → WritesLines result err.old err.new (last_line w.stop (live_among w.threads)) }
+    ensures { (w : World) → MatchesWorld machine.now w → WritesLines result (held W.contents err.old) (held W.contents err.new) (last_line w.stop (live_among w.threads)) }
 {
     match machine.stop() {
         Some(stop) => write_stop(err, stop),
@@ -106,7 +106,7 @@ pub fn write_report<H: Heap, W: Write>(
     machine: &Machine<H>,
     err: &mut Watched<W>,
 ) -> Result<(), WriteFailed>
-    ensures { (w : World) → MatchesWorld machine.now w → WritesLines result err.old err.new (report w) }
+    ensures { (w : World) → MatchesWorld machine.now w → WritesLines result (held W.contents err.old) (held W.contents err.new) (report w) }
 {
     write_threads(machine, err)?;
     write_last(machine, err)
@@ -114,7 +114,7 @@ pub fn write_report<H: Heap, W: Write>(
 
 /// Writes that a growth was refused.
 pub fn write_out_of_memory<W: Write>(err: &mut Watched<W>) -> Result<(), WriteFailed>
-    ensures { WritesLines result err.old err.new memory_line }
+    ensures { WritesLines result (held W.contents err.old) (held W.contents err.new) memory_line }
 {
     err.write_line("jm: 61 OutOfMemory")
 }

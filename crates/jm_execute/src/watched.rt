@@ -1,36 +1,45 @@
-// A writer that remembers whether it has failed.
+// Readers and writers that remember whether they have failed.
 
-ghost use Rattle.std.specs.Prelude.{◌≡◌, ◌<◌, ◌≤◌, length, take, false, IfOk, IfSome, MatchResult};
+ghost use Rattle.std.specs.Prelude.{◌≡◌, ◌<◌, ◌≤◌, length, take, true, false, IfOk, IfSome, MatchResult};
 ghost use Rattle.std.specs.Fmt.{with_newline};
-ghost use Rattle.jm_execute.specs.Written.{AllWritten, Broken, Writes, WritesLines};
+ghost use Rattle.std.specs.Io.{ReadsAtMost};
+ghost use Rattle.std.specs.Io.KnownBytes.{ReadConsumes};
+ghost use Rattle.jm_execute.specs.Written.{AllWritten, Broken, Writes, WritesLines, fresh, held};
 
 use std::fmt::Display;
-use std::io::Write;
+use std::io::{Read, Write};
 use std::marker::Model;
 
 /// The writer failed: a call answered an error, or took none of the bytes that it was given.
 #[derive(Clone, Copy, Debug, PartialEq, Eq)]
 pub struct WriteFailed;
 
-/// A writer with a flag that is set once a write has failed.
+/// The reader failed: a call answered an error.
+#[derive(Clone, Copy, Debug, PartialEq, Eq)]
+pub struct ReadFailed;
+
+/// A reader or a writer with a flag that is set once a call has failed: it answered an error, or a
+/// write of at least one byte took none.
 #[derive(Drop)]
-pub struct Watched<W: Write> {
-    inner: W,
+pub struct Watched<T> {
+    inner: T,
     failed: bool,
 }
 
-impl<W: Write> Model for Watched<W> {
-    ghost use Rattle.jm_execute.specs.Written.{WatchedView};
+impl<T> Model for Watched<T> {
+    ghost use Rattle.jm_execute.specs.Written.{Watch, watch_code};
 
-    ghost Value = { WatchedView };
+    ghost Value = { Watch T };
 
-    ghost view = { λ w. record { contents = W.contents w.inner; failed = w.failed } };
+    ghost coded = { watch_code T.code };
+
+    ghost view = { λ w. record { inner = w.inner; failed = w.failed } };
 }
 
-impl<W: Write> Watched<W> {
-    /// A writer that has not failed.
-    pub fn new(inner: W) -> Watched<W>
-        ensures { result ≡ record { contents = W.contents inner; failed = false } }
+impl<T> Watched<T> {
+    /// A reader or a writer that has not failed.
+    pub fn new(inner: T) -> Watched<T>
+        ensures { result ≡ fresh inner }
     {
         Watched {
             inner,
@@ -38,18 +47,38 @@ impl<W: Write> Watched<W> {
         }
     }
 
-    /// Whether a write has failed.
+    /// Whether a call has failed.
     pub fn has_failed(&self) -> bool
         ensures { result ≡ self.now.failed }
     {
         self.failed
     }
+}
 
+impl<R: Read> Watched<R> {
+    /// Reads some bytes into the front of a buffer, and answers how many: none only at the end, or
+    /// where the buffer has no room. After an error the flag is set, and no byte is lost.
+    pub fn read(&mut self, buf: &mut [u8]) -> Result<usize, ReadFailed>
+        ensures bound { ReadsAtMost result buf.new }
+        ensures bytes { ReadConsumes (R.remaining self.old.inner) (R.remaining self.new.inner) result buf.new }
+        ensures failed { MatchResult result (λ _. self.new.failed ≡ self.old.failed) (λ _. self.new.failed ≡ true) }
+    {
+        match self.inner.read(buf) {
+            Ok(read) => Ok(read),
+            Err(_) => {
+                self.failed = true;
+                Err(ReadFailed)
+            }
+        }
+    }
+}
+
+impl<W: Write> Watched<W> {
     // Writes some of the bytes, at least one, and answers how many.
     fn write_some(&mut self, bytes: &[u8]) -> Result<usize, WriteFailed>
         requires { 0 < length bytes.now }
         ensures count { IfOk result (λ count. (0 < count) × (count ≤ length bytes.now)) }
-        ensures written { MatchResult result (λ count. AllWritten self.old self.new (take count bytes.now)) (λ _. Broken self.old self.new bytes.now) }
+        ensures written { MatchResult result (λ count. AllWritten (held W.contents self.old) (held W.contents self.new) (take count bytes.now)) (λ _. Broken (held W.contents self.old) (held W.contents self.new) bytes.now) }
     {
         match self.inner.write(bytes) {
             Ok(0) => {
@@ -67,7 +96,7 @@ impl<W: Write> Watched<W> {
     /// Writes all bytes. An error says that a call failed: a beginning of the bytes was written,
     /// and the flag is set.
     pub fn write_all(&mut self, bytes: &[u8]) -> Result<(), WriteFailed>
-        ensures { Writes result self.old self.new bytes.now }
+        ensures { Writes result (held W.contents self.old) (held W.contents self.new) bytes.now }
     {
         let mut rest = bytes;
         while !rest.is_empty() {
@@ -81,7 +110,7 @@ impl<W: Write> Watched<W> {
 
     /// Writes a text and a line feed. After an error the flag is set.
     pub fn write_line<D: Display + Drop>(&mut self, text: D) -> Result<(), WriteFailed>
-        ensures { IfSome (with_newline (D.output text)) (WritesLines result self.old self.new) }
+        ensures { IfSome (with_newline (D.output text)) (WritesLines result (held W.contents self.old) (held W.contents self.new)) }
     {
         match self.inner.writeln(text) {
             Ok(()) => Ok(()),

@@ -148,10 +148,15 @@ fn compare(
 ) -> Result<(), Fail> {
     let mut written = Vec::new(alloc);
     let mut told = Vec::new(alloc);
+    let mut input = Watched::new(b"unread".as_slice());
     {
         let mut out = Watched::new(&mut written);
         let mut err = Watched::new(&mut told);
-        assert_eq!(rt; execute(alloc, job, &mut out, &mut err), status, "{lines}");
+        assert_eq!(rt;
+            execute(alloc, job, &mut input, &mut out, &mut err),
+            status,
+            "{lines}"
+        );
         assert!(rt; !out.has_failed());
         assert!(rt; !err.has_failed());
     }

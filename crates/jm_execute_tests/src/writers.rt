@@ -49,10 +49,15 @@ fn output_that_is_taken_in_parts(rt: HostRuntime) -> Result<(), Fail> {
         let schedule = Contents::Bytes(b"t 1 x 9".to_vec(alloc)?);
         let job = job(alloc, schedule, program)?;
         let mut told = Vec::new(alloc);
+        let mut input = Watched::new(b"".as_slice());
         {
             let mut out = Watched::new(Narrow { room });
             let mut err = Watched::new(&mut told);
-            assert_eq!(rt; execute(alloc, &job, &mut out, &mut err), status, "{room}");
+            assert_eq!(rt;
+                execute(alloc, &job, &mut input, &mut out, &mut err),
+                status,
+                "{room}"
+            );
             assert_eq!(rt; out.has_failed(), room < 2, "{room}");
         }
         let lines: &[u8] = if room < 2 { b"jm: write failed\n" } else { b"" };
@@ -67,13 +72,20 @@ fn closed_writers(rt: HostRuntime) -> Result<(), Fail> {
     let program = Contents::Bytes(main_with(alloc, &SUM)?);
     let schedule = Contents::Bytes(b"t 1 x 8".to_vec(alloc)?);
     let job = job(alloc, schedule, program)?;
+    let mut input = Watched::new(b"".as_slice());
     let mut out = Watched::new(Closed);
     let mut err = Watched::new(Closed);
-    assert_eq!(rt; execute(alloc, &job, &mut out, &mut err), Status::Files);
+    assert_eq!(rt;
+        execute(alloc, &job, &mut input, &mut out, &mut err),
+        Status::Files
+    );
     assert!(rt; out.has_failed());
     let mut out = Watched::new(Narrow { room: 2 });
     let mut err = Watched::new(Closed);
-    assert_eq!(rt; execute(alloc, &job, &mut out, &mut err), Status::NotEnded);
+    assert_eq!(rt;
+        execute(alloc, &job, &mut input, &mut out, &mut err),
+        Status::NotEnded
+    );
     assert!(rt; !out.has_failed());
     assert!(rt; err.has_failed());
     Ok(())

@@ -1,4 +1,5 @@
 pub mod Lists
+pub mod StageSteps
 pub mod Standing
 pub mod Threads
 pub mod TopFrames

@@ -25,7 +25,7 @@ use jm_world::{ClassState, Stage};
 
 /// Makes one stage of the initialization whose frame is on top (JVMS 5.5). Every class has Object
 /// as its superclass, which is initialized, and none has a `<clinit>` or a field with a constant.
-pub(crate) fn init_stage<H: Heap>(
+pub(crate) fn initialize_top<H: Heap>(
     linked: &Linked,
     state: &mut State<H>,
     index: usize,

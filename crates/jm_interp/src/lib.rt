@@ -4,7 +4,8 @@
 //! (JVMS 2.10), else the instruction at which its top frame stands (JVMS 6.5), or a stage of the
 //! initialization of a class (JVMS 5.5). Beside every world that the state matched, the state then
 //! matches the world that the model's step leads to, stops for the model's reason, blocks where the
-//! model blocks, or has not changed where a growth was refused.
+//! model blocks, or has not changed where a growth was refused. [`unwind_stage`] and [`init_stage`]
+//! make the first and the last of these by themselves.
 //!
 //! `step` chooses what is to be done; `plain`, `pushing`, `returning` and `printing` are the
 //! instructions, `throwing`, `unwinding` and `ending` what exceptions and ends do, `initialization`
@@ -22,10 +23,12 @@ mod plain;
 mod printing;
 mod pushing;
 mod returning;
+mod stages;
 mod step;
 mod text;
 mod throwing;
 mod top_frame;
 mod unwinding;
 
+pub use stages::{init_stage, unwind_stage};
 pub use step::step_thread;

@@ -40,7 +40,7 @@ fn ending_by(linked: &Linked, thrown: ClassId) -> Option<Ending>
 
 /// Makes one stage of unwinding (JVMS 2.10): no method that can run has an exception table, so the
 /// top frame is dropped, and with the last one the thread ends by the exception's class.
-pub(crate) fn unwind_stage<H: Heap>(
+pub(crate) fn unwind_top<H: Heap>(
     linked: &Linked,
     state: &mut State<H>,
     index: usize,

@@ -7,7 +7,7 @@ ghost use Rattle.jm_linked.specs.Links.{Links, AllLink};
 
 use crate::later::print_method;
 use jm_linked::LinkedInstr;
-use jm_program::{Constant, Instr, LookupSwitch, Plain, Sequence, TableSwitch};
+use jm_program::{Boxed, Constant, Instr, LookupSwitch, Plain, Sequence, TableSwitch};
 use std::alloc::{AllocError, Global};
 
 fn copy_table(alloc: Global, table: &TableSwitch) -> Result<TableSwitch, AllocError>
@@ -42,8 +42,14 @@ fn copy_plain(alloc: Global, plain: &Plain) -> Result<Plain, AllocError>
         Plain::Store(kind, index) => Ok(Plain::Store(*kind, *index)),
         Plain::Increment(index, by) => Ok(Plain::Increment(*index, *by)),
         Plain::Branch(branch, target) => Ok(Plain::Branch(*branch, *target)),
-        Plain::TableSwitch(table) => Ok(Plain::TableSwitch(copy_table(alloc, table)?)),
-        Plain::LookupSwitch(lookup) => Ok(Plain::LookupSwitch(copy_lookup(alloc, lookup)?)),
+        Plain::TableSwitch(table) => {
+            let table = copy_table(alloc, table.get())?;
+            Ok(Plain::TableSwitch(Boxed::new(alloc, table)?))
+        }
+        Plain::LookupSwitch(lookup) => {
+            let lookup = copy_lookup(alloc, lookup.get())?;
+            Ok(Plain::LookupSwitch(Boxed::new(alloc, lookup)?))
+        }
     }
 }
 
@@ -68,7 +74,7 @@ fn link_instruction(alloc: Global, instruction: &Instr) -> Result<LinkedInstr, A
         Instr::Return(op) => Ok(LinkedInstr::Return(*op)),
         Instr::Constant(constant) => Ok(link_constant(constant)),
         Instr::Field(_, _) => Ok(LinkedInstr::SystemOut),
-        Instr::Invoke(_, method) => match print_method(method) {
+        Instr::Invoke(_, method) => match print_method(method.get()) {
             Some(print) => Ok(LinkedInstr::Print(print)),
             None => unreachable!(),
         },

@@ -199,8 +199,8 @@ fn later_instruction(instruction: &Instr) -> Option<LaterPart>
         Instr::Throw => Some(LaterPart::Throw),
         Instr::Monitor(op) => Some(LaterPart::Monitor(*op)),
         Instr::Constant(constant) => later_constant(constant),
-        Instr::Field(op, field) => later_field(*op, field),
-        Instr::Invoke(op, method) => later_invoke(*op, method),
+        Instr::Field(op, field) => later_field(*op, field.get()),
+        Instr::Invoke(op, method) => later_invoke(*op, method.get()),
         Instr::New(_) => Some(LaterPart::New),
         Instr::Type(op, _) => Some(LaterPart::Type(*op)),
     }

@@ -227,10 +227,10 @@ fn check_instruction(alloc: Global, classes: &Classes, instruction: &Instr) -> R
     ensures { Answers result (instruction_refusal classes.now.program.now instruction.now) }
 {
     match instruction {
-        Instr::Field(op, field) => check_field(alloc, classes, *op, field),
-        Instr::Invoke(op, method) => check_method(alloc, classes, *op, method),
+        Instr::Field(op, field) => check_field(alloc, classes, *op, field.get()),
+        Instr::Invoke(op, method) => check_method(alloc, classes, *op, method.get()),
         Instr::New(name) => check_new(alloc, classes, name),
-        Instr::Type(_, class) => check_ref(alloc, classes, class),
+        Instr::Type(_, class) => check_ref(alloc, classes, class.get()),
         _ => Ok(()),
     }
 }

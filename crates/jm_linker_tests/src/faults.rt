@@ -5,8 +5,8 @@ use crate::programs::{
     name, outcome,
 };
 use jm_program::{
-    Arithmetic, Class, DescriptorFault, FieldOp, Instr, Integral, InvokeOp, Plain, ReturnOp,
-    Simple, SmallInt,
+    Arithmetic, Boxed, Class, DescriptorFault, FieldOp, FieldRef, Instr, Integral, InvokeOp,
+    MethodRef, Plain, ReturnOp, Simple, SmallInt,
 };
 use std::alloc::Global;
 use std::test::Fail;
@@ -17,6 +17,14 @@ fn simple(simple: Simple) -> Instr {
 
 fn returns(alloc: Global) -> Result<Vec<Instr>, DescriptorFault> {
     Ok(vec![in alloc; Instr::Return(ReturnOp::Void)]?)
+}
+
+fn field_use(alloc: Global, op: FieldOp, field: FieldRef) -> Result<Instr, DescriptorFault> {
+    Ok(Instr::Field(op, Boxed::new(alloc, field)?))
+}
+
+fn call(alloc: Global, op: InvokeOp, method: MethodRef) -> Result<Instr, DescriptorFault> {
+    Ok(Instr::Invoke(op, Boxed::new(alloc, method)?))
 }
 
 // main of one instruction and a return.
@@ -31,11 +39,11 @@ fn the_sum_of_two_and_three(rt: HostRuntime) -> Result<(), Fail> {
     let out = field_ref(alloc, "java/lang/System", "out", "Ljava/io/PrintStream;")?;
     let println = method_ref(alloc, "java/io/PrintStream", "println", "(I)V")?;
     let mut code = Vec::new(alloc);
-    code.push(Instr::Field(FieldOp::GetStatic, out))?;
+    code.push(field_use(alloc, FieldOp::GetStatic, out)?)?;
     code.push(simple(Simple::IntConstant(SmallInt::Two)))?;
     code.push(simple(Simple::IntConstant(SmallInt::Three)))?;
     code.push(simple(Simple::Arithmetic(Arithmetic::Add, Integral::Int)))?;
-    code.push(Instr::Invoke(InvokeOp::Virtual, println))?;
+    code.push(call(alloc, InvokeOp::Virtual, println)?)?;
     code.push(Instr::Return(ReturnOp::Void))?;
     let main = main_class(alloc, code)?;
     let said = outcome(alloc, vec![in alloc; main]?)?;
@@ -158,15 +166,15 @@ fn mains_that_are_none(rt: HostRuntime) -> Result<(), Fail> {
 fn fields_that_are_not_found(rt: HostRuntime) -> Result<(), Fail> {
     let alloc = rt.alloc();
     let field = field_ref(alloc, "Main", "x", "I")?;
-    let main = main_of(alloc, Instr::Field(FieldOp::GetStatic, field))?;
+    let main = main_of(alloc, field_use(alloc, FieldOp::GetStatic, field)?)?;
     let said = outcome(alloc, vec![in alloc; main]?)?;
     assert_eq!(rt; said.as_str(), "53 NoField(x)");
     let field = field_ref(alloc, "java/lang/System", "out", "Ljava/io/PrintStream;")?;
-    let main = main_of(alloc, Instr::Field(FieldOp::GetField, field))?;
+    let main = main_of(alloc, field_use(alloc, FieldOp::GetField, field)?)?;
     let said = outcome(alloc, vec![in alloc; main]?)?;
     assert_eq!(rt; said.as_str(), "55 WrongKind(out)");
     let field = field_ref(alloc, "java/lang/String", "value", "[C")?;
-    let main = main_of(alloc, Instr::Field(FieldOp::GetField, field))?;
+    let main = main_of(alloc, field_use(alloc, FieldOp::GetField, field)?)?;
     let said = outcome(alloc, vec![in alloc; main]?)?;
     assert_eq!(rt; said.as_str(), "53 NoField(value)");
     Ok(())
@@ -176,16 +184,16 @@ fn fields_that_are_not_found(rt: HostRuntime) -> Result<(), Fail> {
 fn methods_that_are_not_found(rt: HostRuntime) -> Result<(), Fail> {
     let alloc = rt.alloc();
     let missing = method_ref(alloc, "Main", "f", "()V")?;
-    let main = main_of(alloc, Instr::Invoke(InvokeOp::Static, missing))?;
+    let main = main_of(alloc, call(alloc, InvokeOp::Static, missing)?)?;
     let said = outcome(alloc, vec![in alloc; main]?)?;
     assert_eq!(rt; said.as_str(), "54 NoMethod(f)");
     let missing = method_ref(alloc, "java/lang/Cloneable", "f", "()V")?;
-    let main = main_of(alloc, Instr::Invoke(InvokeOp::Virtual, missing))?;
+    let main = main_of(alloc, call(alloc, InvokeOp::Virtual, missing)?)?;
     let said = outcome(alloc, vec![in alloc; main]?)?;
     assert_eq!(rt; said.as_str(), "55 WrongKind(java/lang/Cloneable)");
     // run stands in Thread, and getMessage in no class of the profile.
     let found = method_ref(alloc, "java/lang/Thread", "run", "()V")?;
-    let main = main_of(alloc, Instr::Invoke(InvokeOp::Virtual, found))?;
+    let main = main_of(alloc, call(alloc, InvokeOp::Virtual, found)?)?;
     let said = outcome(alloc, vec![in alloc; main]?)?;
     assert_eq!(rt; said.as_str(), "16 Later(invokevirtual)");
     Ok(())

@@ -1,8 +1,8 @@
 -- The first position of a test in a list with one element more, and the table of starts with one instruction more.
-use Rattle.std.proofs.Common.{◌≡◌, ℕ, suc, ◌+◌, ◌<◌, Bool, true, false, not, cond, nat_lt, List, [], ◌∷◌, ◌++◌, length, take, get_or, Option, Some, None, ◌==◌, refl, sym, ap, ◌∙◌, arith, length-take-le}
+use Rattle.std.proofs.Common.{◌≡◌, ℕ, suc, ◌+◌, ◌<◌, Bool, true, false, not, cond, nat_lt, List, [], ◌∷◌, ◌++◌, length, take, get_or, replicate, Option, Some, None, ◌==◌, refl, sym, ap, ◌∙◌, arith, length-take-le}
 use Rattle.std.specs.Option.{option_map}
 use Rattle.std.specs.List.{position, position_or_len}
-use Rattle.std.proofs.lemmas.List.{take_more}
+use Rattle.std.proofs.lemmas.List.{take_more, get_or-replicate, get_or_past, length-replicate}
 use Rattle.jm_opcodes.specs.StartTable.{IsTable, Notes, noted}
 
 -- the number that an element more is found at, if none was before
@@ -48,3 +48,7 @@ table_more old new starts i start lt is table notes offset =
     let now : position p (take (i + 1) starts) ≡ found (start == offset) i (position p (take i starts)) =
     ap (position p) more ∙ position-snoc p (take i starts) start ∙ ap (λ (n : ℕ). found (start == offset) n (position p (take i starts))) len in
     notes offset ∙ noted-found start i offset (get_or old offset None) ∙ ap (found (start == offset) i) (table offset) ∙ sym now
+
+-- a table with no number yet
+pub nothing_noted : (n offset : ℕ) → get_or {A = Option ℕ} (replicate n None) offset None ≡ None
+nothing_noted n offset = grind (get_or-replicate, get_or_past, length-replicate, arith)

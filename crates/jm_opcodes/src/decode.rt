@@ -49,7 +49,7 @@ fn code_in(alloc: Global, bytes: &[u8]) -> Result<Vec<PlacedInstr>, CodeFault>
     ensures given { GivesAll (λ v. v.items) OutOfMemory result (code.read bytes.now) }
 {
     let placed = placed_in(alloc, bytes)?;
-    let all = all_numbered(alloc, &placed)?;
+    let all = all_numbered(alloc, placed)?;
     Ok(all)
 }
 

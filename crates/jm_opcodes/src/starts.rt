@@ -1,4 +1,4 @@
-ghost use Rattle.std.specs.Prelude.{◌≡◌, ◌==◌, ◌<◌, ◌^◌, List, ℕ, length, map, OnOk, IfOk};
+ghost use Rattle.std.specs.Prelude.{◌≡◌, ◌==◌, ◌<◌, ◌^◌, [], List, ℕ, length, map, OnOk, IfOk};
 ghost use Rattle.std.specs.List.{position};
 ghost use Rattle.jm_class_format.specs.declared.instruction.PlacedInstr.{PlacedInstr};
 ghost use Rattle.jm_opcodes.specs.StartTable.{IsTable, Notes};
@@ -39,11 +39,24 @@ fn note(numbers: &mut Vec<Option<u32>>, start: u32, number: u32) -> Result<(), A
     Ok(())
 }
 
+// A place for each offset up to the last instruction's, with no number yet.
+#[tactic(auto, using(crate::proofs::Positions::nothing_noted))]
+fn no_numbers(alloc: Global, starts: &[u32]) -> Result<Vec<Option<u32>>, AllocError>
+    ensures { IfOk result (λ v. IsTable v.items []) }
+{
+    let mut numbers = Vec::new(alloc);
+    let Some(last) = starts.last() else {
+        return Ok(numbers);
+    };
+    numbers.resize(*last as usize + 1, None)?;
+    Ok(numbers)
+}
+
 fn numbers_of(alloc: Global, starts: &[u32]) -> Result<Vec<Option<u32>>, AllocError>
     requires { length starts.now < 2 ^ 32 }
     ensures { IfOk result (λ v. IsTable v.items starts.now) }
 {
-    let mut numbers = Vec::new(alloc);
+    let mut numbers = no_numbers(alloc, starts)?;
     for (number, start) in starts.iter().enumerate() {
         note(&mut numbers, *start, number as u32)?;
     }

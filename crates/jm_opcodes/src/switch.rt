@@ -8,7 +8,7 @@ ghost use Rattle.jm_class_format.specs.Instructions.{padding, far_target, natura
 use crate::operands::far_target;
 use jm_bytes::Reader;
 use jm_class_format::{CodeFault, IndexedInstr};
-use jm_program::{LookupSwitch, Plain, Sequence, SwitchPair, TableSwitch};
+use jm_program::{Boxed, LookupSwitch, Plain, Sequence, SwitchPair, TableSwitch};
 use std::alloc::Global;
 
 /// Leaves out the padding of a switch: up to a multiple of four from the start of the code.
@@ -77,11 +77,13 @@ pub fn table_switch(
     let default = far_target(at, reader)?;
     let (low, count) = switch_range(at, reader)?;
     let targets = far_targets(alloc, at, count, reader)?;
-    Ok(IndexedInstr::Plain(Plain::TableSwitch(TableSwitch {
+    let table = TableSwitch {
         low,
         targets: Sequence::new(targets),
         default,
-    })))
+    };
+    let table = Boxed::new(alloc, table)?;
+    Ok(IndexedInstr::Plain(Plain::TableSwitch(table)))
 }
 
 fn last_key(pairs: &[SwitchPair]) -> Option<i32>
@@ -165,8 +167,10 @@ pub fn lookup_switch(
     let default = far_target(at, reader)?;
     let count = pair_count(at, reader)?;
     let pairs = switch_pairs(alloc, at, count, reader)?;
-    Ok(IndexedInstr::Plain(Plain::LookupSwitch(LookupSwitch {
+    let lookup = LookupSwitch {
         pairs: Sequence::new(pairs),
         default,
-    })))
+    };
+    let lookup = Boxed::new(alloc, lookup)?;
+    Ok(IndexedInstr::Plain(Plain::LookupSwitch(lookup)))
 }

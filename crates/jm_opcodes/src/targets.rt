@@ -5,7 +5,7 @@ ghost use Rattle.jm_class_format.specs.Code.{number_of, table_numbered, pair_num
 
 use crate::starts::Starts;
 use jm_class_format::{CodeFault, IndexedInstr, PlacedInstr};
-use jm_program::{LookupSwitch, Plain, Sequence, SwitchPair, TableSwitch};
+use jm_program::{Boxed, LookupSwitch, Plain, Sequence, SwitchPair, TableSwitch};
 use std::alloc::Global;
 
 /// The number of the instruction at a target.
@@ -89,28 +89,25 @@ fn lookup_numbered(
 }
 
 #[tactic(auto, unfolding(jm_class_format::specs::Code::plain_numbered))]
-fn plain_numbered(alloc: Global, starts: &Starts, plain: &Plain) -> Result<Plain, CodeFault>
-    ensures { GivesAll (λ x. x) OutOfMemory result (plain_numbered starts.now plain.now) }
+fn plain_numbered(alloc: Global, starts: &Starts, plain: Plain) -> Result<Plain, CodeFault>
+    ensures { GivesAll (λ x. x) OutOfMemory result (plain_numbered starts.now plain) }
 {
     match plain {
         Plain::Branch(branch, target) => {
-            let number = number_at(starts, *target)?;
-            Ok(Plain::Branch(*branch, number))
+            let number = number_at(starts, target)?;
+            Ok(Plain::Branch(branch, number))
         }
         Plain::TableSwitch(table) => {
-            let table = table_numbered(alloc, starts, table)?;
+            let table = table_numbered(alloc, starts, table.get())?;
+            let table = Boxed::new(alloc, table)?;
             Ok(Plain::TableSwitch(table))
         }
         Plain::LookupSwitch(lookup) => {
-            let lookup = lookup_numbered(alloc, starts, lookup)?;
+            let lookup = lookup_numbered(alloc, starts, lookup.get())?;
+            let lookup = Boxed::new(alloc, lookup)?;
             Ok(Plain::LookupSwitch(lookup))
         }
-        Plain::Simple(simple) => Ok(Plain::Simple(*simple)),
-        Plain::PushByte(n) => Ok(Plain::PushByte(*n)),
-        Plain::PushShort(n) => Ok(Plain::PushShort(*n)),
-        Plain::Load(kind, local) => Ok(Plain::Load(*kind, *local)),
-        Plain::Store(kind, local) => Ok(Plain::Store(*kind, *local)),
-        Plain::Increment(local, n) => Ok(Plain::Increment(*local, *n)),
+        other => Ok(other),
     }
 }
 
@@ -118,52 +115,40 @@ fn plain_numbered(alloc: Global, starts: &Starts, plain: &Plain) -> Result<Plain
 fn instr_numbered(
     alloc: Global,
     starts: &Starts,
-    instr: &IndexedInstr,
+    instr: IndexedInstr,
 ) -> Result<IndexedInstr, CodeFault>
-    ensures { GivesAll (λ x. x) OutOfMemory result (instr_numbered starts.now instr.now) }
+    ensures { GivesAll (λ x. x) OutOfMemory result (instr_numbered starts.now instr) }
 {
     match instr {
         IndexedInstr::Plain(plain) => {
             let plain = plain_numbered(alloc, starts, plain)?;
             Ok(IndexedInstr::Plain(plain))
         }
-        IndexedInstr::Array(op) => Ok(IndexedInstr::Array(*op)),
-        IndexedInstr::Return(op) => Ok(IndexedInstr::Return(*op)),
-        IndexedInstr::Throw => Ok(IndexedInstr::Throw),
-        IndexedInstr::Monitor(op) => Ok(IndexedInstr::Monitor(*op)),
-        IndexedInstr::Constant(index) => Ok(IndexedInstr::Constant(*index)),
-        IndexedInstr::LongConstant(index) => Ok(IndexedInstr::LongConstant(*index)),
-        IndexedInstr::Field(op, index) => Ok(IndexedInstr::Field(*op, *index)),
-        IndexedInstr::Invoke(op, index) => Ok(IndexedInstr::Invoke(*op, *index)),
-        IndexedInstr::InvokeInterface(index, count, last) => {
-            Ok(IndexedInstr::InvokeInterface(*index, *count, *last))
-        }
-        IndexedInstr::New(index) => Ok(IndexedInstr::New(*index)),
-        IndexedInstr::Type(op, index) => Ok(IndexedInstr::Type(*op, *index)),
+        other => Ok(other),
     }
 }
 
 #[tactic(auto, unfolding(jm_class_format::specs::Code::numbered))]
-fn numbered(alloc: Global, starts: &Starts, placed: &PlacedInstr) -> Result<PlacedInstr, CodeFault>
-    ensures { GivesAll (λ x. x) OutOfMemory result (numbered starts.now placed.now) }
+fn numbered(alloc: Global, starts: &Starts, placed: PlacedInstr) -> Result<PlacedInstr, CodeFault>
+    ensures { GivesAll (λ x. x) OutOfMemory result (numbered starts.now placed) }
 {
-    let instr = instr_numbered(alloc, starts, &placed.instr)?;
+    let instr = instr_numbered(alloc, starts, placed.instr)?;
     Ok(PlacedInstr {
         offset: placed.offset,
         instr,
     })
 }
 
-#[tactic(auto, using(jm_bytes::proofs::Loops::each_steps))]
+#[tactic(auto, using(crate::proofs::Taken::taken_steps))]
 fn each_numbered(
     alloc: Global,
     starts: &Starts,
-    code: &[PlacedInstr],
+    code: Vec<PlacedInstr>,
 ) -> Result<Vec<PlacedInstr>, CodeFault>
-    ensures len { IfOk result (λ v. length v.items ≡ length code.now) }
-    ensures given { GivesAll (λ v. v.items) OutOfMemory result (each (numbered starts.now) code.now) }
+    ensures len { IfOk result (λ v. length v.items ≡ length code.items) }
+    ensures given { GivesAll (λ v. v.items) OutOfMemory result (each (numbered starts.now) code.items) }
 {
-    let mut all = Vec::new(alloc);
+    let mut all = Vec::with_capacity(alloc, code.len())?;
     for placed in code {
         let one = numbered(alloc, starts, placed)?;
         all.push(one)?;
@@ -173,15 +158,15 @@ fn each_numbered(
 
 /// The same instructions, with the numbers of their targets.
 #[tactic(auto, unfolding(jm_class_format::specs::Code::all_numbered))]
-pub fn all_numbered(alloc: Global, code: &[PlacedInstr]) -> Result<Vec<PlacedInstr>, CodeFault>
-    requires { length code.now < 2 ^ 32 }
-    ensures len { IfOk result (λ v. length v.items ≡ length code.now) }
-    ensures given { GivesAll (λ v. v.items) OutOfMemory result (all_numbered code.now) }
+pub fn all_numbered(alloc: Global, code: Vec<PlacedInstr>) -> Result<Vec<PlacedInstr>, CodeFault>
+    requires { length code.items < 2 ^ 32 }
+    ensures len { IfOk result (λ v. length v.items ≡ length code.items) }
+    ensures given { GivesAll (λ v. v.items) OutOfMemory result (all_numbered code.items) }
 {
     if code.is_empty() {
         return Err(CodeFault::Cut(0));
     }
-    let starts = Starts::new(alloc, code)?;
+    let starts = Starts::new(alloc, &code)?;
     let all = each_numbered(alloc, &starts, code)?;
     Ok(all)
 }

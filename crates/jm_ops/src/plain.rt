@@ -132,8 +132,8 @@ pub fn step(frame: &mut Frame, op: &Plain) -> Result<Flow, Fault>
             Ok(Flow::On)
         }
         Plain::Branch(op, target) => step_branch(frame, *op, *target),
-        Plain::TableSwitch(table) => step_table_switch(frame, table),
-        Plain::LookupSwitch(lookup) => step_lookup_switch(frame, lookup),
+        Plain::TableSwitch(table) => step_table_switch(frame, table.get()),
+        Plain::LookupSwitch(lookup) => step_lookup_switch(frame, lookup.get()),
     }
 }
 

@@ -2,7 +2,7 @@
 // table uses.
 
 use jm_program::{
-    Arithmetic, Bitwise, Branch, Comparison, Conversion, Equality, Integral, LookupSwitch,
+    Arithmetic, Bitwise, Boxed, Branch, Comparison, Conversion, Equality, Integral, LookupSwitch,
     OperandType, Plain, Sequence, Shift, ShortIndex, Simple, SmallInt, SmallLong, StackOp,
     SwitchPair, TableSwitch,
 };
@@ -133,11 +133,12 @@ fn push_locals(ops: &mut Vec<Plain>) -> Result<(), AllocError> {
 // The tableswitch of the table: -1, 0 and 1 have the targets 20, 21 and 22, all others 9.
 fn table_switch(alloc: Global) -> Result<Plain, AllocError> {
     let targets = Sequence::new([20, 21, 22].to_vec(alloc)?);
-    Ok(Plain::TableSwitch(TableSwitch {
+    let table = TableSwitch {
         low: -1,
         targets,
         default: 9,
-    }))
+    };
+    Ok(Plain::TableSwitch(Boxed::new(alloc, table)?))
 }
 
 // The lookupswitch of the table: five keys have the targets 20 to 24, all others 9.
@@ -152,10 +153,11 @@ fn lookup_switch(alloc: Global) -> Result<Plain, AllocError> {
     ] {
         pairs.push(SwitchPair { key, target })?;
     }
-    Ok(Plain::LookupSwitch(LookupSwitch {
+    let lookup = LookupSwitch {
         pairs: Sequence::new(pairs),
         default: 9,
-    }))
+    };
+    Ok(Plain::LookupSwitch(Boxed::new(alloc, lookup)?))
 }
 
 /// All of them.

@@ -1,2 +1,4 @@
+pub mod Building
 pub mod Fronts
 pub mod Leads
+pub mod Numbered

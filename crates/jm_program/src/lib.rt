@@ -9,6 +9,7 @@
 //! The crate stands on std alone.
 #![tactic(auto)]
 
+mod boxed;
 mod class;
 mod code;
 mod constant;
@@ -24,6 +25,7 @@ mod reference;
 mod sequence;
 mod text;
 
+pub use boxed::Boxed;
 pub use class::{Class, ClassParts, Field, Method, Version};
 pub use code::{Code, Handler, LineNumber};
 pub use constant::Constant;
@@ -41,4 +43,4 @@ pub use limits::{MAX_ARGUMENT_SLOTS, MAX_CODE_BYTES, MAX_DIMENSIONS, NEWEST_MAJO
 pub use name::Name;
 pub use reference::{ClassRef, FieldRef, MethodRef};
 pub use sequence::Sequence;
-pub use text::code_units;
+pub use text::{code_units, is_text};

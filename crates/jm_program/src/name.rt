@@ -1,7 +1,9 @@
-ghost use Rattle.std.specs.Prelude.{◌≡◌, codes};
+ghost use Rattle.std.specs.Prelude.{◌≡◌, IfOk, codes};
 ghost use Rattle.std.specs.List.{list_all};
 ghost use Rattle.jm_program.specs.Names.{same_text, is_unqualified, is_method_name, is_invoked_name, is_class_name, is_init, is_clinit, is_name_unit, is_method_unit, is_ordinary_method_name};
 
+use crate::text::is_text;
+use std::alloc::{AllocError, Global};
 use std::hash::{Hash, Hasher};
 use std::marker::Model;
 
@@ -52,6 +54,21 @@ impl Name {
         ensures { result.items ≡ self }
     {
         self.units
+    }
+
+    /// A name of the same code units, or the error where there is no memory for it.
+    pub fn copy(&self, alloc: Global) -> Result<Name, AllocError>
+        ensures { IfOk result (λ copy. copy ≡ self.now) }
+    {
+        let units = Vec::from_slice(alloc, &self.units)?;
+        Ok(Name { units })
+    }
+
+    /// Whether this is the ASCII text.
+    pub fn is_text(&self, text: &[u8]) -> bool
+        ensures { result ≡ same_text self.now text.now }
+    {
+        is_text(&self.units, text)
     }
 }
 
@@ -123,35 +140,35 @@ impl Name {
     pub fn is_init(&self) -> bool
         ensures { result ≡ is_init self.now }
     {
-        is_ascii(&self.units, b"<init>")
+        is_text(&self.units, b"<init>")
     }
 
     /// Whether this is `java/lang/Object`.
     pub fn is_object(&self) -> bool
         ensures { result ≡ same_text self.now (codes "java/lang/Object") }
     {
-        is_ascii(&self.units, b"java/lang/Object")
+        is_text(&self.units, b"java/lang/Object")
     }
 
     /// Whether this is `java/lang/String`.
     pub fn is_string(&self) -> bool
         ensures { result ≡ same_text self.now (codes "java/lang/String") }
     {
-        is_ascii(&self.units, b"java/lang/String")
+        is_text(&self.units, b"java/lang/String")
     }
 
     /// Whether this is `finalize`.
     pub fn is_finalize(&self) -> bool
         ensures { result ≡ same_text self.now (codes "finalize") }
     {
-        is_ascii(&self.units, b"finalize")
+        is_text(&self.units, b"finalize")
     }
 
     /// Whether this is the name of class initialization methods, `<clinit>` (JVMS 2.9).
     pub fn is_clinit(&self) -> bool
         ensures { result ≡ is_clinit self.now }
     {
-        is_ascii(&self.units, b"<clinit>")
+        is_text(&self.units, b"<clinit>")
     }
 }
 
@@ -187,19 +204,4 @@ fn is_name_unit(unit: u16) -> bool
     ensures { result ≡ is_name_unit unit }
 {
     !(unit == DOT || unit == SEMICOLON || unit == BRACKET || unit == SLASH)
-}
-
-// Whether the code units are those of an ASCII text.
-fn is_ascii(units: &[u16], text: &[u8]) -> bool
-    ensures { result ≡ same_text units.now text.now }
-{
-    if units.len() != text.len() {
-        return false;
-    }
-    for (index, byte) in text.iter().enumerate() {
-        if units[index] != u16::from(*byte) {
-            return false;
-        }
-    }
-    true
 }

@@ -1,5 +1,6 @@
 ghost use Rattle.std.specs.Prelude.{◌≡◌, ◌++◌, OnOk, IfOk};
 ghost use Rattle.std.specs.Char.Escape.{encode_utf16};
+ghost use Rattle.jm_program.specs.Names.{same_text};
 ghost use Rattle.jm_program.specs.Texts.{utf16_of};
 
 use std::alloc::{AllocError, Global};
@@ -28,4 +29,19 @@ fn push_character(units: &mut Vec<u16>, character: char) -> Result<(), AllocErro
         units.push((0xDC00 + above % 0x400) as u16)?;
     }
     Ok(())
+}
+
+/// Whether the code units are those of an ASCII text.
+pub fn is_text(units: &[u16], text: &[u8]) -> bool
+    ensures { result ≡ same_text units.now text.now }
+{
+    if units.len() != text.len() {
+        return false;
+    }
+    for (index, byte) in text.iter().enumerate() {
+        if units[index] != u16::from(*byte) {
+            return false;
+        }
+    }
+    true
 }

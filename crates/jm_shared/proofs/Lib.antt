@@ -1,1 +1,2 @@
 pub mod Turns
+pub mod Stretches

@@ -7,6 +7,10 @@ use Rattle.jm_machine.specs.View.{MachineView, MatchesWorld}
 use Rattle.jm_shared.specs.declared.entry.Entry.{Entry}
 use Rattle.jm_shared.specs.Legal.{IsLegal, reply_of, events_of, world_after}
 
+-- a journal without entries
+pub begun : (first : World) (es : List Entry) (m : MachineView) → es ≡ [] → MatchesWorld m first → IsLegal first es × MatchesWorld m (world_after first es)
+begun first es m none matches = subst (λ xs. IsLegal first xs × MatchesWorld m (world_after first xs)) (sym none) (refl, matches)
+
 legal_more : (w : World) (es : List Entry) (e : Entry) → IsLegal w es → reply_of e ≡ (after (world_after w es) e.event).reply → IsLegal w (es ++ e ∷ [])
 legal_more w [] e l r = ap (λ x. x ∷ []) r
 legal_more w (x ∷ xs) e l r =

@@ -1,11 +1,11 @@
-// What a journal keeps of a turn, and what the turn answers.
+// What a journal tells of a turn, and what the turn answers.
 
 ghost use Rattle.std.specs.Prelude.{◌≡◌};
 ghost use Rattle.jm_shared.specs.Legal.{reply_of};
 
 use jm_world::{Event, Reply, ReplyKind};
 
-/// What a journal keeps of a turn, in 40 bytes.
+/// What a journal tells of a turn.
 #[derive(Clone, Copy, Debug, PartialEq, Eq)]
 pub struct Entry {
     pub event: Event,
@@ -17,8 +17,6 @@ pub struct Entry {
     /// The number of the seat.
     pub seat: u8,
 }
-
-const _: () = prove!(size_of::<Entry>() <= 40);
 
 impl Entry {
     /// The answer to the event.

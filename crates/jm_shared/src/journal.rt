@@ -8,6 +8,7 @@ ghost use Rattle.jm_shared.specs.Legal.{IsLegal, world_after, entry_of, receipt_
 
 use crate::entry::{Entry, Receipt};
 use crate::room::Room;
+use crate::stretch::{Stretch, add, entry_at};
 use jm_heap::Heap;
 use jm_machine::{Machine, OutOfMemory};
 use jm_world::Event;
@@ -16,10 +17,15 @@ use std::marker::{Model, PhantomData};
 
 /// A machine and the journal of its events. The journal is legal from its room's first world, and
 /// the machine matches the world to which it leads.
+///
+/// Equal entries in a row are kept once: a schedule that makes one thread's steps takes next to no
+/// memory, and no journal takes more than 40 bytes an entry.
 #[derive(Drop)]
 pub struct Journal<H: Heap, R: Room> {
     machine: Machine<H>,
-    entries: Vec<Entry>,
+    // those before the last
+    stretches: Vec<Stretch>,
+    last: Stretch,
     room: PhantomData<R>,
 }
 
@@ -30,10 +36,11 @@ impl<H: Heap, R: Room> Model for Journal<H, R> {
     ghost Value = { Book };
 
     ghost use Rattle.jm_shared.specs.Legal.{IsLegal, world_after};
+    ghost use Rattle.jm_shared.specs.Stretches.{Rises, entries_of};
 
-    ghost view = { λ j. record { machine = j.machine; entries = j.entries.items } };
+    ghost view = { λ j. record { machine = j.machine; entries = entries_of j.stretches.items j.last } };
 
-    ghost invariant = { λ j. IsLegal R.first j.entries.items × MatchesWorld j.machine (world_after R.first j.entries.items) };
+    ghost invariant = { λ j. Rises j.stretches.items j.last × IsLegal R.first (entries_of j.stretches.items j.last) × MatchesWorld j.machine (world_after R.first (entries_of j.stretches.items j.last)) };
 }
 
 impl<H: Heap, R: Room> Journal<H, R> {
@@ -44,29 +51,35 @@ impl<H: Heap, R: Room> Journal<H, R> {
     {
         Journal {
             machine,
-            entries: Vec::new(alloc),
+            stretches: Vec::new(alloc),
+            last: Stretch::empty(),
             room: PhantomData,
         }
     }
 
     /// Makes one event for a seat, in the nursery of the seat's number, and adds one entry. The
-    /// time of a turn does not grow with the journal, but where the entries' room doubles.
-    /// `OutOfMemory`: there is no new entry, and the machine is that of the world before.
+    /// time of a turn does not grow with the journal, but where its room doubles.
+    /// `OutOfMemory`: there is no new entry, and the machine is that of the world before. It comes
+    /// after 2^64 - 1 turns too, since no number is left.
     pub fn turn(&mut self, seat: u8, event: Event) -> Result<Receipt, OutOfMemory>
         ensures receipt { IfOk result (λ receipt. receipt ≡ receipt_of (length self.old.entries) (entry_of seat event receipt.reply)) }
         ensures entries { MatchResult result (λ receipt. self.new.entries ≡ self.old.entries ++ entry_of seat event receipt.reply ∷ []) (λ _. self.new.entries ≡ self.old.entries) }
         ensures machine { (w : World) → MatchesWorld self.old.machine w → MatchResult result (λ receipt. MatchesWorld self.new.machine (after w event).world × (receipt.reply ≡ (after w event).reply)) (λ _. MatchesWorld self.new.machine w) }
     {
-        self.entries.reserve(1)?;
+        let number = self.last.end;
+        let Some(end) = number.checked_add(1) else {
+            return Err(OutOfMemory);
+        };
+        self.stretches.reserve(1)?;
         let reply = self.machine.step_at(usize::from(seat), event)?;
-        let number = self.entries.len();
-        self.entries.push_reserved(Entry {
+        let entry = Entry {
             event,
             made: reply.made,
             live: reply.live,
             kind: reply.kind,
             seat,
-        });
+        };
+        add(&mut self.stretches, &mut self.last, Stretch::of(entry, end));
         Ok(Receipt {
             seat,
             number,
@@ -83,12 +96,12 @@ impl<H: Heap, R: Room> Journal<H, R> {
         &self.machine
     }
 
-    /// The entry of a number, from 0; None past the last.
+    /// The entry of a number, from 0; None past the last. It takes a search by halves.
     pub fn entry(&self, number: usize) -> Option<Entry>
         ensures entry { result ≡ slice_get self.now.entries number }
         ensures legal { IsLegal R.first self.now.entries }
     {
-        self.entries.get(number).copied()
+        entry_at(&self.stretches, &self.last, number)
     }
 
     /// The machine, without its journal.
@@ -98,7 +111,8 @@ impl<H: Heap, R: Room> Journal<H, R> {
     {
         let Journal {
             machine,
-            entries: _,
+            stretches: _,
+            last: _,
             room: _,
         } = self;
         machine

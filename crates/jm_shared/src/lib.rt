@@ -3,7 +3,7 @@
 //! A [`Journal`] makes each event of its machine in a turn of a seat, and keeps what was made: for
 //! each turn its seat, its event and the reply. It is legal at any time: the replies are those of
 //! the model from the first world on, and the machine matches the world to which the events lead.
-//! A lock can be put round it.
+//! Equal turns in a row are kept once. A lock can be put round it.
 //!
 //! The crate stands on `jm_machine`, and passes on what leads to one: linking, loading and the
 //! reading of schedules.
@@ -12,6 +12,7 @@
 mod entry;
 mod journal;
 mod room;
+mod stretch;
 
 pub use entry::{Entry, Receipt};
 pub use jm_linker::{LinkFault, link};

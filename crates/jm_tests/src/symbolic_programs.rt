@@ -2,7 +2,7 @@
 // succeed with ample memory.
 
 use jm_program::{
-    AccessFlags, ArrayOp, BaseType, Branch, Class, ClassParts, ClassRef, Code, Comparison,
+    AccessFlags, ArrayOp, BaseType, Boxed, Branch, Class, ClassParts, ClassRef, Code, Comparison,
     Constant, Descriptor, DescriptorFault, ElementType, FieldType, Instr, Integral, InvokeOp,
     LookupSwitch, Method, MethodDescriptor, MethodRef, Name, OperandType, Plain, PrimitiveType,
     ReturnOp, Sequence, Shift, ShortIndex, Simple, SmallInt, StackOp, SwitchPair, Version,
@@ -206,9 +206,10 @@ fn lines(alloc: Global) -> Result<Vec<(Instr, &'static str)>, AllocError> {
         pairs: pairs(alloc)?,
         default: 2,
     };
-    let switch = Instr::Plain(Plain::LookupSwitch(lookup));
+    let switch = Instr::Plain(Plain::LookupSwitch(Boxed::new(alloc, lookup)?));
     lines.push((switch, "lookupswitch\n  -5 : L1\n  7 : L0\n  default : L2"))?;
-    let invoke = Instr::Invoke(InvokeOp::Interface, method_ref(alloc, "a/B", "m")?);
+    let method = Boxed::new(alloc, method_ref(alloc, "a/B", "m")?)?;
+    let invoke = Instr::Invoke(InvokeOp::Interface, method);
     lines.push((invoke, "invokeinterface a/B/m(J)V 3"))?;
     Ok(lines)
 }

@@ -1,3 +1,4 @@
+use crate::boxed::Boxed;
 use crate::instruction::operation::{
     Arithmetic, Bitwise, Branch, Conversion, Integral, OperandType, Shift, ShortIndex, SmallInt,
     SmallLong, StackOp,
@@ -39,8 +40,8 @@ pub enum Plain {
     /// `iinc` of a local variable by a constant, wide or not.
     Increment(u16, i16),
     Branch(Branch, u32),
-    TableSwitch(TableSwitch),
-    LookupSwitch(LookupSwitch),
+    TableSwitch(Boxed<TableSwitch>),
+    LookupSwitch(Boxed<LookupSwitch>),
 }
 
 /// The operands of `tableswitch` (JVMS 6.5): the targets of `low`, `low` + 1, .. in order, of

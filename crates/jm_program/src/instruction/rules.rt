@@ -49,8 +49,8 @@ impl Plain {
     {
         match self {
             Plain::Branch(_, target) => (*target as usize) < count,
-            Plain::TableSwitch(table) => table.fits(count),
-            Plain::LookupSwitch(lookup) => lookup.fits(count),
+            Plain::TableSwitch(table) => table.get().fits(count),
+            Plain::LookupSwitch(lookup) => lookup.get().fits(count),
             _ => true,
         }
     }
@@ -64,10 +64,10 @@ impl Instr {
     {
         match self {
             Instr::Plain(plain) => plain.fits(count),
-            Instr::Field(_, field) => field.fits(),
-            Instr::Invoke(op, method) => method.fits(*op),
+            Instr::Field(_, field) => field.get().fits(),
+            Instr::Invoke(op, method) => method.get().fits(*op),
             Instr::New(name) => name.is_class_name(),
-            Instr::Type(op, class) => type_op_fits(*op, class),
+            Instr::Type(op, class) => type_op_fits(*op, class.get()),
             _ => true,
         }
     }

@@ -1,3 +1,4 @@
+use crate::boxed::Boxed;
 use crate::constant::Constant;
 use crate::instruction::operation::{ArrayOp, FieldOp, InvokeOp, MonitorOp, ReturnOp, TypeOp};
 use crate::instruction::plain::Plain;
@@ -16,9 +17,9 @@ pub enum Instr {
     Monitor(MonitorOp),
     /// `ldc` of an int or a string, `ldc2_w` of a long.
     Constant(Constant),
-    Field(FieldOp, FieldRef),
-    Invoke(InvokeOp, MethodRef),
+    Field(FieldOp, Boxed<FieldRef>),
+    Invoke(InvokeOp, Boxed<MethodRef>),
     /// `new`.
     New(Name),
-    Type(TypeOp, ClassRef),
+    Type(TypeOp, Boxed<ClassRef>),
 }

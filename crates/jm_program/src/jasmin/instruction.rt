@@ -124,8 +124,8 @@ impl Display for Plain {
             Plain::Store(letter, index) => write!(f, "{letter}store {index}"),
             Plain::Increment(index, by) => write!(f, "iinc {index} {by}"),
             Plain::Branch(op, target) => write!(f, "{op} L{target}"),
-            Plain::TableSwitch(table) => write!(f, "{table}"),
-            Plain::LookupSwitch(lookup) => write!(f, "{lookup}"),
+            Plain::TableSwitch(table) => table.get().fmt(f),
+            Plain::LookupSwitch(lookup) => lookup.get().fmt(f),
         }
     }
 }
@@ -199,10 +199,10 @@ impl Display for Instr {
             Instr::Throw => f.write_str("athrow"),
             Instr::Monitor(op) => write!(f, "{op}"),
             Instr::Constant(constant) => write!(f, "{constant}"),
-            Instr::Field(op, field) => write!(f, "{op} {field}"),
-            Instr::Invoke(op, method) => write_invoke(f, *op, method),
+            Instr::Field(op, field) => write!(f, "{op} {}", field.get()),
+            Instr::Invoke(op, method) => write_invoke(f, *op, method.get()),
             Instr::New(name) => write!(f, "new {name}"),
-            Instr::Type(op, class) => write!(f, "{op} {class}"),
+            Instr::Type(op, class) => write!(f, "{op} {}", class.get()),
         }
     }
 }

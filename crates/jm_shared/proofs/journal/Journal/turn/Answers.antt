@@ -1,10 +1,23 @@
-use Rattle.jm_shared.specs.Legal.{world_after, entry_of}
+-- The journal has one entry more.
+use Rattle.std.proofs.Common.{◌∙◌, ap, sym, length}
+use Rattle.jm_shared.specs.Legal.{world_after, entry_of, receipt_of}
+use Rattle.jm_shared.specs.Stretches.{entries_of}
+use Rattle.jm_shared.proofs.Stretches.{how_many}
 use Rattle.jm_shared.proofs.Turns.{turned}
 use Rattle.jm_shared.proofs.journal.Journal.turn.Goals as goal
 
 pub invariant_of-self-2 : goal.invariant_of-self-2
 invariant_of-self-2 g c =
-    let entries = c.self.inside.entries.items in
+    let (rises, legal, matches) = c.self.invariant in
+    let last = c.self.inside.last in
+    let entries = entries_of c.self.inside.stretches.items last in
     let entry = entry_of c.args.seat c.args.event c.in_ok-reply.reply in
-    let made = c.in_ok-reply.ensures (world_after g.R.Room.first entries) c.self.invariant.1 in
-    turned g.R.Room.first entries _ _ entry c.step_at.new.self c.self.invariant.0 made.0 made.1 c.push_reserved.ensures.items c.in_ok-reserve.ensures.items
+    let made = c.in_ok-reply.ensures (world_after g.R.Room.first entries) matches in
+    let kept = ap (λ ss. entries_of ss last) c.in_ok-reserve.ensures.items in
+    let whole = turned g.R.Room.first entries _ _ entry c.step_at.new.self legal made.0 made.1 (rw c.of.ensures.0 at c.add.ensures.entries) kept in
+    (c.add.ensures.rises, whole.0, whole.1)
+
+pub returns-clause-receipt : goal.returns-clause-receipt
+returns-clause-receipt g c =
+    let entry = entry_of c.args.seat c.args.event c.in_ok-reply.reply in
+    ap (λ n. receipt_of n entry) (sym (how_many _ _ c.self.invariant.0) ∙ ap (λ b. length b.entries) c.self.view_is)

@@ -1,0 +1,12 @@
+pub mod Loops
+pub mod Fitting
+pub mod Steps
+pub mod Symbols
+pub mod Growth
+pub mod PoolLaws
+pub mod PartLaws
+pub mod TextRanges
+pub mod ClassLaws
+pub mod FileLaws
+pub mod CodeLaws
+pub mod BodyLaws

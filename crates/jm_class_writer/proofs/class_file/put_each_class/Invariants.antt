@@ -1,0 +1,7 @@
+use Rattle.std.proofs.Common.{◌≡◌, drop}
+use Rattle.jm_class_writer.specs.Drafts.{all_of}
+use Rattle.jm_class_writer.specs.ClassParts.{put_class}
+use Rattle.jm_class_writer.proofs.class_file.put_each_class.Given as goal
+
+abbrev pub invariant-loop-name : goal.invariant-loop-name
+invariant-loop-name l = all_of put_class (drop l.name-index l.names) l.draft ≡ all_of put_class l.names l.fn.draft

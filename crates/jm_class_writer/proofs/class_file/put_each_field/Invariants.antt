@@ -1,0 +1,7 @@
+use Rattle.std.proofs.Common.{◌≡◌, drop}
+use Rattle.jm_class_writer.specs.Drafts.{all_of}
+use Rattle.jm_class_writer.specs.ClassParts.{put_field}
+use Rattle.jm_class_writer.proofs.class_file.put_each_field.Given as goal
+
+abbrev pub invariant-loop-field : goal.invariant-loop-field
+invariant-loop-field l = all_of put_field (drop l.field-index l.fields) l.draft ≡ all_of put_field l.fields l.fn.draft

@@ -1,0 +1,7 @@
+use Rattle.std.proofs.Common.{◌≡◌, drop}
+use Rattle.jm_class_writer.specs.Drafts.{all_of}
+use Rattle.jm_class_writer.specs.ClassParts.{put_method}
+use Rattle.jm_class_writer.proofs.class_file.put_each_method.Given as goal
+
+abbrev pub invariant-loop-method : goal.invariant-loop-method
+invariant-loop-method l = all_of put_method (drop l.method-index l.methods) l.draft ≡ all_of put_method l.methods l.fn.draft

@@ -1,0 +1,3 @@
+pub mod OpcodeBytes
+pub mod Encoding
+pub mod Ranges

@@ -1,0 +1,12 @@
+pub mod Faults
+pub mod Flags
+pub mod Digits
+pub mod Steps
+pub mod Rest
+pub mod ItemLaws
+pub mod Ranges
+pub mod PartTables
+pub mod Taken
+pub mod Ends
+pub mod Rules
+pub mod Denoted

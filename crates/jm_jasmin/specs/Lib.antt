@@ -1,0 +1,11 @@
+pub mod Lines
+pub mod Words
+pub mod Symbols
+pub mod Header
+pub mod Fields
+pub mod MethodHeader
+pub mod Items
+pub mod Labels
+pub mod Body
+pub mod Methods
+pub mod Text

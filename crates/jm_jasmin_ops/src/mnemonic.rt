@@ -1,0 +1,565 @@
+// The opcodes by their mnemonics (JVMS 6.5, 7), in the groups of JVMS 7.
+
+ghost use Rattle.std.specs.Prelude.{◌≡◌, find};
+ghost use Rattle.std.specs.Option.{option_map};
+ghost use Rattle.jm_program.specs.Names.{same_text};
+ghost use Rattle.jm_class_format.specs.Opcodes.{constants, loads, stores, stack, math, conversions, comparisons, control, references, extended};
+ghost use Rattle.jm_jasmin_ops.specs.Mnemonics.{by_word, in_rows, opcode_named};
+
+use jm_class_format::{LaterOp, LeftOutOp, Opcode};
+use jm_program::{
+    Arithmetic, ArrayKind, ArrayOp, Bitwise, Branch, Comparison, Conversion, Equality, FieldOp,
+    Integral, InvokeOp, MonitorOp, OperandType, ReturnOp, Shift, ShortIndex, Simple, SmallInt,
+    SmallLong, StackOp, TypeOp,
+};
+
+static CONSTANTS: [(&str, Opcode); 21] = [
+    ("nop", Opcode::Simple(Simple::Nop)),
+    ("aconst_null", Opcode::Simple(Simple::Null)),
+    (
+        "iconst_m1",
+        Opcode::Simple(Simple::IntConstant(SmallInt::MinusOne)),
+    ),
+    (
+        "iconst_0",
+        Opcode::Simple(Simple::IntConstant(SmallInt::Zero)),
+    ),
+    (
+        "iconst_1",
+        Opcode::Simple(Simple::IntConstant(SmallInt::One)),
+    ),
+    (
+        "iconst_2",
+        Opcode::Simple(Simple::IntConstant(SmallInt::Two)),
+    ),
+    (
+        "iconst_3",
+        Opcode::Simple(Simple::IntConstant(SmallInt::Three)),
+    ),
+    (
+        "iconst_4",
+        Opcode::Simple(Simple::IntConstant(SmallInt::Four)),
+    ),
+    (
+        "iconst_5",
+        Opcode::Simple(Simple::IntConstant(SmallInt::Five)),
+    ),
+    (
+        "lconst_0",
+        Opcode::Simple(Simple::LongConstant(SmallLong::Zero)),
+    ),
+    (
+        "lconst_1",
+        Opcode::Simple(Simple::LongConstant(SmallLong::One)),
+    ),
+    ("fconst_0", Opcode::LeftOut(LeftOutOp::FConst0)),
+    ("fconst_1", Opcode::LeftOut(LeftOutOp::FConst1)),
+    ("fconst_2", Opcode::LeftOut(LeftOutOp::FConst2)),
+    ("dconst_0", Opcode::LeftOut(LeftOutOp::DConst0)),
+    ("dconst_1", Opcode::LeftOut(LeftOutOp::DConst1)),
+    ("bipush", Opcode::PushByte),
+    ("sipush", Opcode::PushShort),
+    ("ldc", Opcode::LoadConstant),
+    ("ldc_w", Opcode::LoadConstantWide),
+    ("ldc2_w", Opcode::LoadLong),
+];
+
+static LOADS: [(&str, Opcode); 33] = [
+    ("iload", Opcode::Load(OperandType::Int)),
+    ("lload", Opcode::Load(OperandType::Long)),
+    ("fload", Opcode::LeftOut(LeftOutOp::FLoad)),
+    ("dload", Opcode::LeftOut(LeftOutOp::DLoad)),
+    ("aload", Opcode::Load(OperandType::Reference)),
+    (
+        "iload_0",
+        Opcode::Simple(Simple::Load(OperandType::Int, ShortIndex::Zero)),
+    ),
+    (
+        "iload_1",
+        Opcode::Simple(Simple::Load(OperandType::Int, ShortIndex::One)),
+    ),
+    (
+        "iload_2",
+        Opcode::Simple(Simple::Load(OperandType::Int, ShortIndex::Two)),
+    ),
+    (
+        "iload_3",
+        Opcode::Simple(Simple::Load(OperandType::Int, ShortIndex::Three)),
+    ),
+    (
+        "lload_0",
+        Opcode::Simple(Simple::Load(OperandType::Long, ShortIndex::Zero)),
+    ),
+    (
+        "lload_1",
+        Opcode::Simple(Simple::Load(OperandType::Long, ShortIndex::One)),
+    ),
+    (
+        "lload_2",
+        Opcode::Simple(Simple::Load(OperandType::Long, ShortIndex::Two)),
+    ),
+    (
+        "lload_3",
+        Opcode::Simple(Simple::Load(OperandType::Long, ShortIndex::Three)),
+    ),
+    ("fload_0", Opcode::LeftOut(LeftOutOp::FLoad0)),
+    ("fload_1", Opcode::LeftOut(LeftOutOp::FLoad1)),
+    ("fload_2", Opcode::LeftOut(LeftOutOp::FLoad2)),
+    ("fload_3", Opcode::LeftOut(LeftOutOp::FLoad3)),
+    ("dload_0", Opcode::LeftOut(LeftOutOp::DLoad0)),
+    ("dload_1", Opcode::LeftOut(LeftOutOp::DLoad1)),
+    ("dload_2", Opcode::LeftOut(LeftOutOp::DLoad2)),
+    ("dload_3", Opcode::LeftOut(LeftOutOp::DLoad3)),
+    (
+        "aload_0",
+        Opcode::Simple(Simple::Load(OperandType::Reference, ShortIndex::Zero)),
+    ),
+    (
+        "aload_1",
+        Opcode::Simple(Simple::Load(OperandType::Reference, ShortIndex::One)),
+    ),
+    (
+        "aload_2",
+        Opcode::Simple(Simple::Load(OperandType::Reference, ShortIndex::Two)),
+    ),
+    (
+        "aload_3",
+        Opcode::Simple(Simple::Load(OperandType::Reference, ShortIndex::Three)),
+    ),
+    ("iaload", Opcode::Array(ArrayOp::Load(ArrayKind::Int))),
+    ("laload", Opcode::Array(ArrayOp::Load(ArrayKind::Long))),
+    ("faload", Opcode::LeftOut(LeftOutOp::FALoad)),
+    ("daload", Opcode::LeftOut(LeftOutOp::DALoad)),
+    ("aaload", Opcode::Array(ArrayOp::Load(ArrayKind::Reference))),
+    ("baload", Opcode::Array(ArrayOp::Load(ArrayKind::Byte))),
+    ("caload", Opcode::Array(ArrayOp::Load(ArrayKind::Char))),
+    ("saload", Opcode::Array(ArrayOp::Load(ArrayKind::Short))),
+];
+
+static STORES: [(&str, Opcode); 33] = [
+    ("istore", Opcode::Store(OperandType::Int)),
+    ("lstore", Opcode::Store(OperandType::Long)),
+    ("fstore", Opcode::LeftOut(LeftOutOp::FStore)),
+    ("dstore", Opcode::LeftOut(LeftOutOp::DStore)),
+    ("astore", Opcode::Store(OperandType::Reference)),
+    (
+        "istore_0",
+        Opcode::Simple(Simple::Store(OperandType::Int, ShortIndex::Zero)),
+    ),
+    (
+        "istore_1",
+        Opcode::Simple(Simple::Store(OperandType::Int, ShortIndex::One)),
+    ),
+    (
+        "istore_2",
+        Opcode::Simple(Simple::Store(OperandType::Int, ShortIndex::Two)),
+    ),
+    (
+        "istore_3",
+        Opcode::Simple(Simple::Store(OperandType::Int, ShortIndex::Three)),
+    ),
+    (
+        "lstore_0",
+        Opcode::Simple(Simple::Store(OperandType::Long, ShortIndex::Zero)),
+    ),
+    (
+        "lstore_1",
+        Opcode::Simple(Simple::Store(OperandType::Long, ShortIndex::One)),
+    ),
+    (
+        "lstore_2",
+        Opcode::Simple(Simple::Store(OperandType::Long, ShortIndex::Two)),
+    ),
+    (
+        "lstore_3",
+        Opcode::Simple(Simple::Store(OperandType::Long, ShortIndex::Three)),
+    ),
+    ("fstore_0", Opcode::LeftOut(LeftOutOp::FStore0)),
+    ("fstore_1", Opcode::LeftOut(LeftOutOp::FStore1)),
+    ("fstore_2", Opcode::LeftOut(LeftOutOp::FStore2)),
+    ("fstore_3", Opcode::LeftOut(LeftOutOp::FStore3)),
+    ("dstore_0", Opcode::LeftOut(LeftOutOp::DStore0)),
+    ("dstore_1", Opcode::LeftOut(LeftOutOp::DStore1)),
+    ("dstore_2", Opcode::LeftOut(LeftOutOp::DStore2)),
+    ("dstore_3", Opcode::LeftOut(LeftOutOp::DStore3)),
+    (
+        "astore_0",
+        Opcode::Simple(Simple::Store(OperandType::Reference, ShortIndex::Zero)),
+    ),
+    (
+        "astore_1",
+        Opcode::Simple(Simple::Store(OperandType::Reference, ShortIndex::One)),
+    ),
+    (
+        "astore_2",
+        Opcode::Simple(Simple::Store(OperandType::Reference, ShortIndex::Two)),
+    ),
+    (
+        "astore_3",
+        Opcode::Simple(Simple::Store(OperandType::Reference, ShortIndex::Three)),
+    ),
+    ("iastore", Opcode::Array(ArrayOp::Store(ArrayKind::Int))),
+    ("lastore", Opcode::Array(ArrayOp::Store(ArrayKind::Long))),
+    ("fastore", Opcode::LeftOut(LeftOutOp::FAStore)),
+    ("dastore", Opcode::LeftOut(LeftOutOp::DAStore)),
+    (
+        "aastore",
+        Opcode::Array(ArrayOp::Store(ArrayKind::Reference)),
+    ),
+    ("bastore", Opcode::Array(ArrayOp::Store(ArrayKind::Byte))),
+    ("castore", Opcode::Array(ArrayOp::Store(ArrayKind::Char))),
+    ("sastore", Opcode::Array(ArrayOp::Store(ArrayKind::Short))),
+];
+
+static STACK: [(&str, Opcode); 9] = [
+    ("pop", Opcode::Simple(Simple::Stack(StackOp::Pop))),
+    ("pop2", Opcode::Simple(Simple::Stack(StackOp::Pop2))),
+    ("dup", Opcode::Simple(Simple::Stack(StackOp::Dup))),
+    ("dup_x1", Opcode::Simple(Simple::Stack(StackOp::DupX1))),
+    ("dup_x2", Opcode::Simple(Simple::Stack(StackOp::DupX2))),
+    ("dup2", Opcode::Simple(Simple::Stack(StackOp::Dup2))),
+    ("dup2_x1", Opcode::Simple(Simple::Stack(StackOp::Dup2X1))),
+    ("dup2_x2", Opcode::Simple(Simple::Stack(StackOp::Dup2X2))),
+    ("swap", Opcode::Simple(Simple::Stack(StackOp::Swap))),
+];
+
+static MATH: [(&str, Opcode); 37] = [
+    (
+        "iadd",
+        Opcode::Simple(Simple::Arithmetic(Arithmetic::Add, Integral::Int)),
+    ),
+    (
+        "ladd",
+        Opcode::Simple(Simple::Arithmetic(Arithmetic::Add, Integral::Long)),
+    ),
+    ("fadd", Opcode::LeftOut(LeftOutOp::FAdd)),
+    ("dadd", Opcode::LeftOut(LeftOutOp::DAdd)),
+    (
+        "isub",
+        Opcode::Simple(Simple::Arithmetic(Arithmetic::Sub, Integral::Int)),
+    ),
+    (
+        "lsub",
+        Opcode::Simple(Simple::Arithmetic(Arithmetic::Sub, Integral::Long)),
+    ),
+    ("fsub", Opcode::LeftOut(LeftOutOp::FSub)),
+    ("dsub", Opcode::LeftOut(LeftOutOp::DSub)),
+    (
+        "imul",
+        Opcode::Simple(Simple::Arithmetic(Arithmetic::Mul, Integral::Int)),
+    ),
+    (
+        "lmul",
+        Opcode::Simple(Simple::Arithmetic(Arithmetic::Mul, Integral::Long)),
+    ),
+    ("fmul", Opcode::LeftOut(LeftOutOp::FMul)),
+    ("dmul", Opcode::LeftOut(LeftOutOp::DMul)),
+    (
+        "idiv",
+        Opcode::Simple(Simple::Arithmetic(Arithmetic::Div, Integral::Int)),
+    ),
+    (
+        "ldiv",
+        Opcode::Simple(Simple::Arithmetic(Arithmetic::Div, Integral::Long)),
+    ),
+    ("fdiv", Opcode::LeftOut(LeftOutOp::FDiv)),
+    ("ddiv", Opcode::LeftOut(LeftOutOp::DDiv)),
+    (
+        "irem",
+        Opcode::Simple(Simple::Arithmetic(Arithmetic::Rem, Integral::Int)),
+    ),
+    (
+        "lrem",
+        Opcode::Simple(Simple::Arithmetic(Arithmetic::Rem, Integral::Long)),
+    ),
+    ("frem", Opcode::LeftOut(LeftOutOp::FRem)),
+    ("drem", Opcode::LeftOut(LeftOutOp::DRem)),
+    ("ineg", Opcode::Simple(Simple::Negate(Integral::Int))),
+    ("lneg", Opcode::Simple(Simple::Negate(Integral::Long))),
+    ("fneg", Opcode::LeftOut(LeftOutOp::FNeg)),
+    ("dneg", Opcode::LeftOut(LeftOutOp::DNeg)),
+    (
+        "ishl",
+        Opcode::Simple(Simple::Shift(Shift::Left, Integral::Int)),
+    ),
+    (
+        "lshl",
+        Opcode::Simple(Simple::Shift(Shift::Left, Integral::Long)),
+    ),
+    (
+        "ishr",
+        Opcode::Simple(Simple::Shift(Shift::Right, Integral::Int)),
+    ),
+    (
+        "lshr",
+        Opcode::Simple(Simple::Shift(Shift::Right, Integral::Long)),
+    ),
+    (
+        "iushr",
+        Opcode::Simple(Simple::Shift(Shift::UnsignedRight, Integral::Int)),
+    ),
+    (
+        "lushr",
+        Opcode::Simple(Simple::Shift(Shift::UnsignedRight, Integral::Long)),
+    ),
+    (
+        "iand",
+        Opcode::Simple(Simple::Bitwise(Bitwise::And, Integral::Int)),
+    ),
+    (
+        "land",
+        Opcode::Simple(Simple::Bitwise(Bitwise::And, Integral::Long)),
+    ),
+    (
+        "ior",
+        Opcode::Simple(Simple::Bitwise(Bitwise::Or, Integral::Int)),
+    ),
+    (
+        "lor",
+        Opcode::Simple(Simple::Bitwise(Bitwise::Or, Integral::Long)),
+    ),
+    (
+        "ixor",
+        Opcode::Simple(Simple::Bitwise(Bitwise::Xor, Integral::Int)),
+    ),
+    (
+        "lxor",
+        Opcode::Simple(Simple::Bitwise(Bitwise::Xor, Integral::Long)),
+    ),
+    ("iinc", Opcode::Increment),
+];
+
+static CONVERSIONS: [(&str, Opcode); 15] = [
+    (
+        "i2l",
+        Opcode::Simple(Simple::Convert(Conversion::IntToLong)),
+    ),
+    ("i2f", Opcode::LeftOut(LeftOutOp::I2F)),
+    ("i2d", Opcode::LeftOut(LeftOutOp::I2D)),
+    (
+        "l2i",
+        Opcode::Simple(Simple::Convert(Conversion::LongToInt)),
+    ),
+    ("l2f", Opcode::LeftOut(LeftOutOp::L2F)),
+    ("l2d", Opcode::LeftOut(LeftOutOp::L2D)),
+    ("f2i", Opcode::LeftOut(LeftOutOp::F2I)),
+    ("f2l", Opcode::LeftOut(LeftOutOp::F2L)),
+    ("f2d", Opcode::LeftOut(LeftOutOp::F2D)),
+    ("d2i", Opcode::LeftOut(LeftOutOp::D2I)),
+    ("d2l", Opcode::LeftOut(LeftOutOp::D2L)),
+    ("d2f", Opcode::LeftOut(LeftOutOp::D2F)),
+    (
+        "i2b",
+        Opcode::Simple(Simple::Convert(Conversion::IntToByte)),
+    ),
+    (
+        "i2c",
+        Opcode::Simple(Simple::Convert(Conversion::IntToChar)),
+    ),
+    (
+        "i2s",
+        Opcode::Simple(Simple::Convert(Conversion::IntToShort)),
+    ),
+];
+
+static COMPARISONS: [(&str, Opcode); 19] = [
+    ("lcmp", Opcode::Simple(Simple::CompareLongs)),
+    ("fcmpl", Opcode::LeftOut(LeftOutOp::FCmpL)),
+    ("fcmpg", Opcode::LeftOut(LeftOutOp::FCmpG)),
+    ("dcmpl", Opcode::LeftOut(LeftOutOp::DCmpL)),
+    ("dcmpg", Opcode::LeftOut(LeftOutOp::DCmpG)),
+    ("ifeq", Opcode::Branch(Branch::If(Comparison::Equal))),
+    ("ifne", Opcode::Branch(Branch::If(Comparison::NotEqual))),
+    ("iflt", Opcode::Branch(Branch::If(Comparison::Less))),
+    (
+        "ifge",
+        Opcode::Branch(Branch::If(Comparison::GreaterOrEqual)),
+    ),
+    ("ifgt", Opcode::Branch(Branch::If(Comparison::Greater))),
+    ("ifle", Opcode::Branch(Branch::If(Comparison::LessOrEqual))),
+    (
+        "if_icmpeq",
+        Opcode::Branch(Branch::IfInts(Comparison::Equal)),
+    ),
+    (
+        "if_icmpne",
+        Opcode::Branch(Branch::IfInts(Comparison::NotEqual)),
+    ),
+    (
+        "if_icmplt",
+        Opcode::Branch(Branch::IfInts(Comparison::Less)),
+    ),
+    (
+        "if_icmpge",
+        Opcode::Branch(Branch::IfInts(Comparison::GreaterOrEqual)),
+    ),
+    (
+        "if_icmpgt",
+        Opcode::Branch(Branch::IfInts(Comparison::Greater)),
+    ),
+    (
+        "if_icmple",
+        Opcode::Branch(Branch::IfInts(Comparison::LessOrEqual)),
+    ),
+    (
+        "if_acmpeq",
+        Opcode::Branch(Branch::IfReferences(Equality::Equal)),
+    ),
+    (
+        "if_acmpne",
+        Opcode::Branch(Branch::IfReferences(Equality::NotEqual)),
+    ),
+];
+
+static CONTROL: [(&str, Opcode); 11] = [
+    ("goto", Opcode::Branch(Branch::Goto)),
+    ("jsr", Opcode::LeftOut(LeftOutOp::Jsr)),
+    ("ret", Opcode::LeftOut(LeftOutOp::Ret)),
+    ("tableswitch", Opcode::TableSwitch),
+    ("lookupswitch", Opcode::LookupSwitch),
+    ("ireturn", Opcode::Return(ReturnOp::Int)),
+    ("lreturn", Opcode::Return(ReturnOp::Long)),
+    ("freturn", Opcode::LeftOut(LeftOutOp::FReturn)),
+    ("dreturn", Opcode::LeftOut(LeftOutOp::DReturn)),
+    ("areturn", Opcode::Return(ReturnOp::Reference)),
+    ("return", Opcode::Return(ReturnOp::Void)),
+];
+
+static REFERENCES: [(&str, Opcode); 18] = [
+    ("getstatic", Opcode::Field(FieldOp::GetStatic)),
+    ("putstatic", Opcode::Field(FieldOp::PutStatic)),
+    ("getfield", Opcode::Field(FieldOp::GetField)),
+    ("putfield", Opcode::Field(FieldOp::PutField)),
+    ("invokevirtual", Opcode::Invoke(InvokeOp::Virtual)),
+    ("invokespecial", Opcode::Invoke(InvokeOp::Special)),
+    ("invokestatic", Opcode::Invoke(InvokeOp::Static)),
+    ("invokeinterface", Opcode::InvokeInterface),
+    ("invokedynamic", Opcode::LeftOut(LeftOutOp::InvokeDynamic)),
+    ("new", Opcode::New),
+    ("newarray", Opcode::NewArray),
+    ("anewarray", Opcode::Type(TypeOp::NewArray)),
+    ("arraylength", Opcode::Array(ArrayOp::Length)),
+    ("athrow", Opcode::Throw),
+    ("checkcast", Opcode::Type(TypeOp::CheckCast)),
+    ("instanceof", Opcode::Type(TypeOp::InstanceOf)),
+    ("monitorenter", Opcode::Monitor(MonitorOp::Enter)),
+    ("monitorexit", Opcode::Monitor(MonitorOp::Exit)),
+];
+
+static EXTENDED: [(&str, Opcode); 6] = [
+    ("wide", Opcode::Wide),
+    ("multianewarray", Opcode::Later(LaterOp::MultiANewArray)),
+    ("ifnull", Opcode::Branch(Branch::IfNull(Equality::Equal))),
+    (
+        "ifnonnull",
+        Opcode::Branch(Branch::IfNull(Equality::NotEqual)),
+    ),
+    ("goto_w", Opcode::BranchWide(Branch::GotoW)),
+    ("jsr_w", Opcode::LeftOut(LeftOutOp::JsrW)),
+];
+
+// What the first row of a word says, as a search finds it.
+fn row_found(rows: &[(&str, Opcode)], word: &str) -> Option<Opcode>
+    ensures { result ≡ option_map (λ r. r.1) (find (λ r. same_text r.0.now word.now) rows.now) }
+{
+    rows.iter()
+        .find(|(mnemonic, _)| *mnemonic == word)
+        .map(|(_, opcode)| *opcode)
+}
+
+// What the first row of a word says.
+fn row_named(rows: &[(&str, Opcode)], word: &str) -> Option<Opcode>
+    ensures { result ≡ by_word (λ r. r.0.now) (λ r. r.1) rows.now word.now }
+{
+    row_found(rows, word)
+}
+
+#[tactic(auto, unfolding(crate::specs::Mnemonics::in_rows, crate::specs::Mnemonics::mnemonic, jm_class_format::specs::Opcodes::constants, crate::specs::Mnemonics::left_out_mnemonic, jm_program::specs::JasminInstructions::simple_line, jm_program::specs::Mnemonics::small_int_digit, jm_program::specs::Mnemonics::small_long_digit))]
+fn constants(word: &str) -> Option<Opcode>
+    ensures { result ≡ in_rows constants word.now }
+{
+    row_named(&CONSTANTS, word)
+}
+
+#[tactic(auto, unfolding(crate::specs::Mnemonics::in_rows, crate::specs::Mnemonics::mnemonic, jm_class_format::specs::Opcodes::loads, crate::specs::Mnemonics::left_out_mnemonic, jm_program::specs::JasminInstructions::simple_line, jm_program::specs::Mnemonics::operand_letter, jm_program::specs::Mnemonics::index_digit, jm_program::specs::Mnemonics::array_letter, jm_program::specs::Mnemonics::array_line))]
+fn loads(word: &str) -> Option<Opcode>
+    ensures { result ≡ in_rows loads word.now }
+{
+    row_named(&LOADS, word)
+}
+
+#[tactic(auto, unfolding(crate::specs::Mnemonics::in_rows, crate::specs::Mnemonics::mnemonic, jm_class_format::specs::Opcodes::stores, crate::specs::Mnemonics::left_out_mnemonic, jm_program::specs::JasminInstructions::simple_line, jm_program::specs::Mnemonics::operand_letter, jm_program::specs::Mnemonics::index_digit, jm_program::specs::Mnemonics::array_letter, jm_program::specs::Mnemonics::array_line))]
+fn stores(word: &str) -> Option<Opcode>
+    ensures { result ≡ in_rows stores word.now }
+{
+    row_named(&STORES, word)
+}
+
+#[tactic(auto, unfolding(crate::specs::Mnemonics::in_rows, crate::specs::Mnemonics::mnemonic, jm_class_format::specs::Opcodes::stack, jm_program::specs::JasminInstructions::simple_line, jm_program::specs::Mnemonics::stack_mnemonic))]
+fn stack(word: &str) -> Option<Opcode>
+    ensures { result ≡ in_rows stack word.now }
+{
+    row_named(&STACK, word)
+}
+
+#[tactic(auto, unfolding(crate::specs::Mnemonics::in_rows, crate::specs::Mnemonics::mnemonic, jm_class_format::specs::Opcodes::math, crate::specs::Mnemonics::left_out_mnemonic, jm_program::specs::JasminInstructions::simple_line, jm_program::specs::Mnemonics::integral_letter, jm_program::specs::Mnemonics::arithmetic_name, jm_program::specs::Mnemonics::shift_name, jm_program::specs::Mnemonics::bitwise_name))]
+fn math(word: &str) -> Option<Opcode>
+    ensures { result ≡ in_rows math word.now }
+{
+    row_named(&MATH, word)
+}
+
+#[tactic(auto, unfolding(crate::specs::Mnemonics::in_rows, crate::specs::Mnemonics::mnemonic, jm_class_format::specs::Opcodes::conversions, crate::specs::Mnemonics::left_out_mnemonic, jm_program::specs::JasminInstructions::simple_line, jm_program::specs::Mnemonics::conversion_mnemonic))]
+fn conversions(word: &str) -> Option<Opcode>
+    ensures { result ≡ in_rows conversions word.now }
+{
+    row_named(&CONVERSIONS, word)
+}
+
+#[tactic(auto, unfolding(crate::specs::Mnemonics::in_rows, crate::specs::Mnemonics::mnemonic, jm_class_format::specs::Opcodes::comparisons, crate::specs::Mnemonics::left_out_mnemonic, jm_program::specs::JasminInstructions::simple_line, jm_program::specs::Mnemonics::branch_mnemonic, jm_program::specs::Mnemonics::comparison_name, jm_program::specs::Mnemonics::equality_name))]
+fn comparisons(word: &str) -> Option<Opcode>
+    ensures { result ≡ in_rows comparisons word.now }
+{
+    row_named(&COMPARISONS, word)
+}
+
+#[tactic(auto, unfolding(crate::specs::Mnemonics::in_rows, crate::specs::Mnemonics::mnemonic, jm_class_format::specs::Opcodes::control, crate::specs::Mnemonics::left_out_mnemonic, jm_program::specs::Mnemonics::branch_mnemonic, jm_program::specs::Mnemonics::return_mnemonic))]
+fn control(word: &str) -> Option<Opcode>
+    ensures { result ≡ in_rows control word.now }
+{
+    row_named(&CONTROL, word)
+}
+
+#[tactic(auto, unfolding(crate::specs::Mnemonics::in_rows, crate::specs::Mnemonics::mnemonic, jm_class_format::specs::Opcodes::references, crate::specs::Mnemonics::left_out_mnemonic, jm_program::specs::Mnemonics::field_mnemonic, jm_program::specs::Mnemonics::invoke_mnemonic, jm_program::specs::Mnemonics::type_mnemonic, jm_program::specs::Mnemonics::array_line, jm_program::specs::Mnemonics::monitor_mnemonic))]
+fn references(word: &str) -> Option<Opcode>
+    ensures { result ≡ in_rows references word.now }
+{
+    row_named(&REFERENCES, word)
+}
+
+#[tactic(auto, unfolding(crate::specs::Mnemonics::in_rows, crate::specs::Mnemonics::mnemonic, jm_class_format::specs::Opcodes::extended, crate::specs::Mnemonics::left_out_mnemonic, jm_program::specs::Mnemonics::branch_mnemonic, jm_program::specs::Mnemonics::null_mnemonic))]
+fn extended(word: &str) -> Option<Opcode>
+    ensures { result ≡ in_rows extended word.now }
+{
+    row_named(&EXTENDED, word)
+}
+
+#[tactic(auto, unfolding(crate::specs::Mnemonics::opcode_named))]
+/// The opcode that a word names by its mnemonic; `invokenonvirtual` is `invokespecial`.
+pub fn opcode_named(word: &str) -> Option<Opcode>
+    ensures { result ≡ opcode_named word.now }
+{
+    if word == "invokenonvirtual" {
+        return Some(Opcode::Invoke(InvokeOp::Special));
+    }
+    constants(word)
+        .or_else(|| loads(word))
+        .or_else(|| stores(word))
+        .or_else(|| stack(word))
+        .or_else(|| math(word))
+        .or_else(|| conversions(word))
+        .or_else(|| comparisons(word))
+        .or_else(|| control(word))
+        .or_else(|| references(word))
+        .or_else(|| extended(word))
+}

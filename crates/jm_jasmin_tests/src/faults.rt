@@ -1,0 +1,334 @@
+// The faults of the language, each in a text that has no other.
+
+use crate::outcome::outcome_of_lines;
+use std::test::Fail;
+
+/// The text of a class whose method has these lines behind its limits.
+const HEAD: [&str; 5] = [
+    ".class public Main",
+    ".super java/lang/Object",
+    ".method public static main([Ljava/lang/String;)V",
+    ".limit stack 8",
+    ".limit locals 8",
+];
+
+/// Lines from the sixth on, before the last, and what the text comes to.
+const BODIES: [(&[&str], &str); 41] = [
+    (&["return"], "class"),
+    (&["L:", "L:", "return"], "42 DuplicateLabel(7)"),
+    (&["goto X"], "43 NoLabel(6)"),
+    (&["return", "goto L", "L:"], "43 NoLabel(7)"),
+    (&["L:", "goto L"], "class"),
+    (&["invokeinterface A/m()V 2"], "45 BadCount(6)"),
+    (&["bipush 128"], "41 Syntax(6)"),
+    (&["ldc \"a"], "40 BadToken(6)"),
+    (&["fadd"], "46 LeftOut(fadd)"),
+    (&["multianewarray [[I 2"], "47 Later(multianewarray)"),
+    (&[".limit stack 9", "return"], "41 Syntax(6)"),
+    (&[".limit locals 9", "return"], "41 Syntax(6)"),
+    (&[".limit heap 9", "return"], "41 Syntax(6)"),
+    (&[".line 65535", "return"], "class"),
+    (&[".line 65536", "return"], "41 Syntax(6)"),
+    (&[".line 1 2", "return"], "41 Syntax(6)"),
+    (&["return", ".line 7"], "class"),
+    (
+        &[".var 0 is args [Ljava/lang/String; from L to M", "return"],
+        "class",
+    ),
+    (&[".throws java/lang/Exception", "return"], "class"),
+    (&[".throws", "return"], "41 Syntax(6)"),
+    (
+        &["A:", "return", "B:", ".catch all from A to B using A"],
+        "class",
+    ),
+    (
+        &["A:", "return", "B:", ".catch all from B to B using A"],
+        "43 NoLabel(9)",
+    ),
+    (
+        &["A:", "return", "B:", ".catch all from A to B using B"],
+        "43 NoLabel(9)",
+    ),
+    (
+        &[
+            "A:",
+            "nop",
+            "B:",
+            "return",
+            ".catch all from A to A using B",
+        ],
+        "45 BadCount(10)",
+    ),
+    (
+        &[
+            "A:",
+            "nop",
+            "B:",
+            "return",
+            ".catch all from B to A using B",
+        ],
+        "45 BadCount(10)",
+    ),
+    (
+        &["A:", "return", "B:", ".catch a.b from A to B using A"],
+        "2 BadName(9)",
+    ),
+    (
+        &["A:", "return", "B:", ".catch all from A B using A"],
+        "41 Syntax(9)",
+    ),
+    (
+        &["A:", "return", "B:", ".catch all to A from B using A"],
+        "41 Syntax(9)",
+    ),
+    (&[], "45 BadCount(6)"),
+    (&["A:"], "45 BadCount(7)"),
+    (&["A :"], "41 Syntax(6)"),
+    (&[":"], "41 Syntax(6)"),
+    (&[".end method", ".end method"], "45 BadCount(6)"),
+    (&["return", ".end class"], "41 Syntax(7)"),
+    (&["return", ".end method", ".field x I"], "41 Syntax(8)"),
+    (
+        &["iconst_0", "tableswitch 0", "default : A", "A:"],
+        "45 BadCount(8)",
+    ),
+    (
+        &[
+            "iconst_0",
+            "tableswitch 0",
+            "A",
+            "default : A",
+            "A:",
+            "return",
+        ],
+        "class",
+    ),
+    (
+        &["iconst_0", "lookupswitch", "1 : A", "1 : A", "default : A"],
+        "45 BadCount(9)",
+    ),
+    (
+        &[
+            "iconst_0",
+            "lookupswitch",
+            "1 : A",
+            "default : B",
+            "A:",
+            "return",
+        ],
+        "43 NoLabel(9)",
+    ),
+    (&["goto A", "goto B"], "43 NoLabel(6)"),
+    (&["wide", "return"], "41 Syntax(6)"),
+];
+
+#[test]
+fn faults_of_bodies(rt: HostRuntime) -> Result<(), Fail> {
+    let alloc = rt.alloc();
+    for (body, want) in BODIES {
+        let mut lines = Vec::from_slice(alloc, &HEAD)?;
+        lines.extend_from_slice(body)?;
+        lines.push(".end method")?;
+        let said = outcome_of_lines(alloc, &lines)?;
+        assert_eq!(rt; said.as_str(), want, "{body:?}");
+    }
+    Ok(())
+}
+
+/// Whole texts, and what each comes to.
+const TEXTS: [(&[&str], &str); 47] = [
+    (&[], "41 Syntax(1)"),
+    (&["; only a comment"], "41 Syntax(1)"),
+    (&[".class A"], "41 Syntax(1)"),
+    (&[".class A", ".super B"], "class"),
+    (
+        &[".class A", ".super B", ".implements C", ".implements D"],
+        "class",
+    ),
+    (&[".class A", ".implements C", ".super B"], "41 Syntax(2)"),
+    (&[".interface A", ".super java/lang/Object"], "class"),
+    (&[".bytecode 45.0", ".class A", ".super B"], "class"),
+    (&[".bytecode 52.0", ".class A", ".super B"], "class"),
+    (&[".bytecode 44.9", ".class A", ".super B"], "41 Syntax(1)"),
+    (&[".bytecode 52.1", ".class A", ".super B"], "41 Syntax(1)"),
+    (
+        &[".bytecode 0x31.0", ".class A", ".super B"],
+        "41 Syntax(1)",
+    ),
+    (&[".bytecode 49", ".class A", ".super B"], "41 Syntax(1)"),
+    (&[".bytecode 49.", ".class A", ".super B"], "41 Syntax(1)"),
+    (
+        &[".bytecode 49.65536", ".class A", ".super B"],
+        "41 Syntax(1)",
+    ),
+    (&[".bytecode 049.00", ".class A", ".super B"], "class"),
+    (&[".source A.j", ".class A", ".super B"], "class"),
+    (
+        &[".source A.j", ".bytecode 49.0", ".class A", ".super B"],
+        "41 Syntax(2)",
+    ),
+    (&[".class", ".super B"], "41 Syntax(1)"),
+    (&[".class public final A", ".super B"], "class"),
+    (&[".class publik A", ".super B"], "41 Syntax(1)"),
+    (&[".class native A", ".super B"], "46 LeftOut(native)"),
+    (&[".class a.b", ".super B"], "2 BadName(1)"),
+    (&[".class A", ".super a;b"], "2 BadName(2)"),
+    (&[".class A", ".super B", ".implements [C"], "2 BadName(3)"),
+    (&[".class A", ".super B", ".field x"], "41 Syntax(3)"),
+    (&[".class A", ".super B", ".field x I"], "class"),
+    (&[".class A", ".super B", ".field a/b I"], "2 BadName(3)"),
+    (
+        &[".class A", ".super B", ".field x Q"],
+        "1 BadDescriptor(3)",
+    ),
+    (&[".class A", ".super B", ".field x F"], "46 LeftOut(float)"),
+    (
+        &[".class A", ".super B", ".field x [D"],
+        "46 LeftOut(double)",
+    ),
+    (&[".class A", ".super B", ".field static x I = 5"], "class"),
+    (&[".class A", ".super B", ".field x I = 5"], "41 Syntax(3)"),
+    (
+        &[".class A", ".super B", ".field static x I = 2147483648"],
+        "41 Syntax(3)",
+    ),
+    (
+        &[".class A", ".super B", ".field static x J = 2147483648"],
+        "class",
+    ),
+    (
+        &[".class A", ".super B", ".field static x I = \"a\""],
+        "41 Syntax(3)",
+    ),
+    (
+        &[
+            ".class A",
+            ".super B",
+            ".field static x Ljava/lang/String; = \"a\"",
+        ],
+        "class",
+    ),
+    (
+        &[
+            ".class A",
+            ".super B",
+            ".field static x Ljava/lang/String; = 5",
+        ],
+        "41 Syntax(3)",
+    ),
+    (
+        &[".class A", ".super B", ".field static x LA; = 5"],
+        "41 Syntax(3)",
+    ),
+    (
+        &[".class A", ".super B", ".field static x [I = 5"],
+        "41 Syntax(3)",
+    ),
+    (&[".class A", ".super B", ".method m()V"], "41 Syntax(3)"),
+    (
+        &[".class A", ".super B", ".method m", "return", ".end method"],
+        "41 Syntax(3)",
+    ),
+    (&[".class A", ".super B", ".method a.b()V"], "2 BadName(3)"),
+    (
+        &[".class A", ".super B", ".method m()"],
+        "1 BadDescriptor(3)",
+    ),
+    (
+        &[".class A", ".super B", ".method m(D)V"],
+        "46 LeftOut(double)",
+    ),
+    (&[".class A", ".super B", "ldc \"a"], "40 BadToken(3)"),
+    (&[".class A", ".sup", "ldc \"a"], "41 Syntax(2)"),
+];
+
+#[test]
+fn faults_of_texts(rt: HostRuntime) -> Result<(), Fail> {
+    for (lines, want) in TEXTS {
+        let said = outcome_of_lines(rt.alloc(), lines)?;
+        assert_eq!(rt; said.as_str(), want, "{lines:?}");
+    }
+    Ok(())
+}
+
+/// The line of a method in a class or an interface, the lines of its body, and what it comes to.
+const METHODS: [(&str, &str, &[&str], &str); 15] = [
+    (".class A", ".method abstract m()V", &[], "class"),
+    (".class A", ".method abstract m(II)V", &[], "class"),
+    (
+        ".class A",
+        ".method abstract m()V",
+        &["return"],
+        "41 Syntax(4)",
+    ),
+    (
+        ".class A",
+        ".method abstract static m()V",
+        &[],
+        "41 Syntax(3)",
+    ),
+    (
+        ".class A",
+        ".method abstract <init>()V",
+        &[],
+        "41 Syntax(3)",
+    ),
+    (
+        ".class A",
+        ".method abstract <clinit>()V",
+        &[],
+        "41 Syntax(3)",
+    ),
+    (
+        ".class A",
+        ".method static synchronized m()V",
+        &["return"],
+        "46 LeftOut(static synchronized)",
+    ),
+    (
+        ".class A",
+        ".method finalize()V",
+        &["return"],
+        "46 LeftOut(finalize)",
+    ),
+    (
+        ".class A",
+        ".method finalize(I)V",
+        &[".limit locals 2", "return"],
+        "class",
+    ),
+    (".class A", ".method native m()V", &[], "46 LeftOut(native)"),
+    (".interface A", ".method abstract m()V", &[], "class"),
+    (
+        ".interface A",
+        ".method m()V",
+        &["return"],
+        "46 LeftOut(interface method)",
+    ),
+    (
+        ".interface A",
+        ".method static <clinit>()V",
+        &["return"],
+        "class",
+    ),
+    (".class A", ".method m(I)V", &["return"], "45 BadCount(3)"),
+    (
+        ".class A",
+        ".method m(J)V",
+        &[".limit locals 2", "return"],
+        "45 BadCount(4)",
+    ),
+];
+
+#[test]
+fn faults_of_methods(rt: HostRuntime) -> Result<(), Fail> {
+    let alloc = rt.alloc();
+    for (class, method, body, want) in METHODS {
+        let mut lines = vec![in alloc; class, ".super java/lang/Object", method]?;
+        lines.extend_from_slice(body)?;
+        lines.push(".end method")?;
+        let said = outcome_of_lines(alloc, &lines)?;
+        assert_eq!(rt; said.as_str(), want, "{method}");
+    }
+    Ok(())
+}

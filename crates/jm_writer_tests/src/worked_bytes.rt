@@ -1,0 +1,181 @@
+// Classes and their bytes.
+
+use crate::classes::{class, name};
+use jm_class_reader::read_class;
+use jm_class_writer::{WriteFault, write_class};
+use jm_program::{
+    Boxed, Class, Constant, Instr, Plain, ReturnOp, Sequence, Simple, SmallInt, StackOp,
+    TableSwitch,
+};
+use std::alloc::{AllocError, AllocGlobal, Global};
+use std::process::Abort;
+use std::test::Fail;
+
+/// The bytes of `Main`, whose `main` prints the sum of two and three.
+const WORKED: [u8; 245] = [
+    0xCA, 0xFE, 0xBA, 0xBE, 0x00, 0x00, 0x00, 0x31, 0x00, 0x14, 0x01, 0x00, 0x04, 0x4D, 0x61, 0x69,
+    0x6E, 0x07, 0x00, 0x01, 0x01, 0x00, 0x10, 0x6A, 0x61, 0x76, 0x61, 0x2F, 0x6C, 0x61, 0x6E, 0x67,
+    0x2F, 0x4F, 0x62, 0x6A, 0x65, 0x63, 0x74, 0x07, 0x00, 0x03, 0x01, 0x00, 0x04, 0x6D, 0x61, 0x69,
+    0x6E, 0x01, 0x00, 0x16, 0x28, 0x5B, 0x4C, 0x6A, 0x61, 0x76, 0x61, 0x2F, 0x6C, 0x61, 0x6E, 0x67,
+    0x2F, 0x53, 0x74, 0x72, 0x69, 0x6E, 0x67, 0x3B, 0x29, 0x56, 0x01, 0x00, 0x04, 0x43, 0x6F, 0x64,
+    0x65, 0x01, 0x00, 0x10, 0x6A, 0x61, 0x76, 0x61, 0x2F, 0x6C, 0x61, 0x6E, 0x67, 0x2F, 0x53, 0x79,
+    0x73, 0x74, 0x65, 0x6D, 0x07, 0x00, 0x08, 0x01, 0x00, 0x03, 0x6F, 0x75, 0x74, 0x01, 0x00, 0x15,
+    0x4C, 0x6A, 0x61, 0x76, 0x61, 0x2F, 0x69, 0x6F, 0x2F, 0x50, 0x72, 0x69, 0x6E, 0x74, 0x53, 0x74,
+    0x72, 0x65, 0x61, 0x6D, 0x3B, 0x0C, 0x00, 0x0A, 0x00, 0x0B, 0x09, 0x00, 0x09, 0x00, 0x0C, 0x01,
+    0x00, 0x13, 0x6A, 0x61, 0x76, 0x61, 0x2F, 0x69, 0x6F, 0x2F, 0x50, 0x72, 0x69, 0x6E, 0x74, 0x53,
+    0x74, 0x72, 0x65, 0x61, 0x6D, 0x07, 0x00, 0x0E, 0x01, 0x00, 0x07, 0x70, 0x72, 0x69, 0x6E, 0x74,
+    0x6C, 0x6E, 0x01, 0x00, 0x04, 0x28, 0x49, 0x29, 0x56, 0x0C, 0x00, 0x10, 0x00, 0x11, 0x0A, 0x00,
+    0x0F, 0x00, 0x12, 0x00, 0x21, 0x00, 0x02, 0x00, 0x04, 0x00, 0x00, 0x00, 0x00, 0x00, 0x01, 0x00,
+    0x09, 0x00, 0x05, 0x00, 0x06, 0x00, 0x01, 0x00, 0x07, 0x00, 0x00, 0x00, 0x16, 0x00, 0x08, 0x00,
+    0x08, 0x00, 0x00, 0x00, 0x0A, 0xB2, 0x00, 0x0D, 0x05, 0x06, 0x60, 0xB6, 0x00, 0x13, 0xB1, 0x00,
+    0x00, 0x00, 0x00, 0x00, 0x00,
+];
+
+/// What stands behind the code in a file whose one method has neither handlers nor lines, and which
+/// names no source file: three counts.
+const BEHIND: usize = 6;
+
+/// The class's file, which reads back as the class.
+fn written(rt: &(impl AllocGlobal + Abort), class: &Class) -> Result<Vec<u8>, Fail> {
+    let bytes = write_class(rt.alloc(), class)?;
+    let again = read_class(rt.alloc(), &bytes)?;
+    assert!(rt; again.parts() == class.parts());
+    Ok(bytes)
+}
+
+/// The bytes of the class's one code.
+fn code_of(bytes: &[u8], size: usize) -> Option<&[u8]> {
+    let end = bytes.len().checked_sub(BEHIND)?;
+    let start = end.checked_sub(size)?;
+    Some(&bytes[start..end])
+}
+
+#[test]
+fn worked_file_is_written(rt: HostRuntime) -> Result<(), Fail> {
+    let class = read_class(rt.alloc(), &WORKED)?;
+    let bytes = written(&rt, &class)?;
+    assert!(rt; bytes.as_slice() == WORKED.as_slice());
+    Ok(())
+}
+
+fn pop() -> Instr {
+    Instr::Plain(Plain::Simple(Simple::Stack(StackOp::Pop)))
+}
+
+/// The pool has 256 entries, and the last constant is at the index 256.
+#[test]
+fn constants_pass_a_byte(rt: HostRuntime) -> Result<(), Fail> {
+    let mut instructions = Vec::new(rt.alloc());
+    for n in 0..249 {
+        instructions.push(Instr::Constant(Constant::Int(n)))?;
+        instructions.push(pop())?;
+    }
+    instructions.push(Instr::Return(ReturnOp::Void))?;
+    let class = class(rt.alloc(), Vec::new(rt.alloc()), instructions)?.expect(&rt, "a class");
+    let bytes = written(&rt, &class)?;
+    assert_eq!(rt; &bytes[8..10], [0x01, 0x01].as_slice());
+    let code = code_of(&bytes, 749).expect(&rt, "a code");
+    assert_eq!(rt;
+        &code[741..749],
+        [0x12, 0xFF, 0x57, 0x13, 0x01, 0x00, 0x57, 0xB1].as_slice()
+    );
+    Ok(())
+}
+
+/// So many nops, a zero, a switch of one target and a return, which all targets are.
+fn switch_at(alloc: Global, nops: u32) -> Result<Vec<Instr>, AllocError> {
+    let mut instructions = Vec::new(alloc);
+    for _ in 0..nops {
+        instructions.push(Instr::Plain(Plain::Simple(Simple::Nop)))?;
+    }
+    let zero = Simple::IntConstant(SmallInt::Zero);
+    instructions.push(Instr::Plain(Plain::Simple(zero)))?;
+    let end = nops.saturating_add(2);
+    let mut targets = Vec::new(alloc);
+    targets.push(end)?;
+    let table = Boxed::new(
+        alloc,
+        TableSwitch {
+            low: 0,
+            targets: Sequence::new(targets),
+            default: end,
+        },
+    )?;
+    instructions.push(Instr::Plain(Plain::TableSwitch(table)))?;
+    instructions.push(Instr::Return(ReturnOp::Void))?;
+    Ok(instructions)
+}
+
+#[test]
+fn switches_are_padded(rt: HostRuntime) -> Result<(), Fail> {
+    let cases: [(u32, &[u8]); 4] = [
+        (
+            0,
+            &[
+                3, 0xAA, 0, 0, 0, 0, 0, 19, 0, 0, 0, 0, 0, 0, 0, 0, 0, 0, 0, 19, 0xB1,
+            ],
+        ),
+        (
+            1,
+            &[
+                0, 3, 0xAA, 0, 0, 0, 0, 18, 0, 0, 0, 0, 0, 0, 0, 0, 0, 0, 0, 18, 0xB1,
+            ],
+        ),
+        (
+            2,
+            &[
+                0, 0, 3, 0xAA, 0, 0, 0, 17, 0, 0, 0, 0, 0, 0, 0, 0, 0, 0, 0, 17, 0xB1,
+            ],
+        ),
+        (
+            3,
+            &[
+                0, 0, 0, 3, 0xAA, 0, 0, 0, 0, 0, 0, 20, 0, 0, 0, 0, 0, 0, 0, 0, 0, 0, 0, 20, 0xB1,
+            ],
+        ),
+    ];
+    for (nops, want) in cases {
+        let instructions = switch_at(rt.alloc(), nops)?;
+        let class = class(rt.alloc(), Vec::new(rt.alloc()), instructions)?.expect(&rt, "a class");
+        let bytes = written(&rt, &class)?;
+        let code = code_of(&bytes, want.len()).expect(&rt, "a code");
+        assert_eq!(rt; code, want, "behind {nops}");
+    }
+    Ok(())
+}
+
+/// A zero takes two bytes, and a supplementary character two of three.
+#[test]
+fn texts_are_modified_utf8(rt: HostRuntime) -> Result<(), Fail> {
+    let want: [u8; 11] = [1, 0, 8, 0xC0, 0x80, 0xED, 0xA0, 0xBD, 0xED, 0xB8, 0x80];
+    let units = Vec::from_slice(rt.alloc(), &[0, 0xD83D, 0xDE00])?;
+    let mut instructions = Vec::new(rt.alloc());
+    instructions.push(Instr::Constant(Constant::String(Sequence::new(units))))?;
+    instructions.push(pop())?;
+    instructions.push(Instr::Return(ReturnOp::Void))?;
+    let class = class(rt.alloc(), Vec::new(rt.alloc()), instructions)?.expect(&rt, "a class");
+    let bytes = written(&rt, &class)?;
+    assert!(rt;
+        bytes
+            .windows(want.len())
+            .any(|part| part == want.as_slice())
+    );
+    Ok(())
+}
+
+#[test]
+fn too_many_interfaces_are_refused(rt: HostRuntime) -> Result<(), Fail> {
+    let mut interfaces = Vec::new(rt.alloc());
+    for _ in 0..65_536 {
+        let interface = name(rt.alloc(), "I")?;
+        interfaces.push(interface)?;
+    }
+    let mut instructions = Vec::new(rt.alloc());
+    instructions.push(Instr::Return(ReturnOp::Void))?;
+    let class = class(rt.alloc(), interfaces, instructions)?.expect(&rt, "a class");
+    let fault = write_class(rt.alloc(), &class).err().expect(&rt, "a fault");
+    assert_eq!(rt; fault, WriteFault::TooMany);
+    let text = format!(in rt.alloc(); "{fault}")?;
+    assert_eq!(rt; text.as_str(), "36 TooMany");
+    Ok(())
+}
