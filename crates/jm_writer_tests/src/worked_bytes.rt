@@ -73,10 +73,12 @@ fn constants_pass_a_byte(rt: HostRuntime) -> Result<(), Fail> {
     instructions.push(Instr::Return(ReturnOp::Void))?;
     let class = class(rt.alloc(), Vec::new(rt.alloc()), instructions)?.expect(&rt, "a class");
     let bytes = written(&rt, &class)?;
-    assert_eq!(rt; &bytes[8..10], [0x01, 0x01].as_slice());
+    let count = bytes.get(8..10).expect(&rt, "a count");
+    assert_eq!(rt; count, [0x01, 0x01].as_slice());
     let code = code_of(&bytes, 749).expect(&rt, "a code");
+    let end = code.get(741..749).expect(&rt, "the last instructions");
     assert_eq!(rt;
-        &code[741..749],
+        end,
         [0x12, 0xFF, 0x57, 0x13, 0x01, 0x00, 0x57, 0xB1].as_slice()
     );
     Ok(())
