@@ -1,29 +1,43 @@
-//! `jm`: runs the class of a class file, by the events of a schedule.
+//! `jm`: runs the class of a class file or of an assembler text, by the events of a schedule, and
+//! assembles texts into class files.
 //!
 //! The command line is read by `jm_options`, and what a job does is `jm_execute`'s. What stands
-//! here reads the files, hands both over with the standard streams, and ends with the status.
+//! here reads the files, hands both over with the standard streams or the file to write, and ends
+//! with the status.
 #![tactic(auto)]
 
 mod files;
+mod output;
 mod word;
 
 use files::input_file;
-use jm_execute::{Job, Status, Watched, execute, write_out_of_memory};
-use jm_options::{Options, RunOptions, UsageFault, options};
+use jm_execute::{AssembleJob, Job, RunJob, Status, Watched, execute, write_out_of_memory};
+use jm_options::{AssembleOptions, Options, RunOptions, UsageFault, options};
+use output::Output;
 use std::process::ExitCode;
 use word::{WordsFault, words};
 
-// Does what the options ask for.
-fn run(rt: &HostRuntime, asked: RunOptions) -> Status {
-    let job = Job {
+fn run_job(rt: &HostRuntime, asked: RunOptions) -> Job {
+    Job::Run(RunJob {
         heap: asked.heap,
         schedule: input_file(rt, asked.schedule),
         program: input_file(rt, asked.file),
-    };
+    })
+}
+
+fn assemble_job(rt: &HostRuntime, asked: AssembleOptions) -> Job {
+    Job::Assemble(AssembleJob {
+        text: input_file(rt, asked.input),
+        output: asked.output,
+    })
+}
+
+// Does a job, with its output where it belongs.
+fn done(rt: &HostRuntime, job: &Job) -> Status {
     let mut input = Watched::new(rt.stdin());
-    let mut out = Watched::new(rt.stdout());
+    let mut out = Watched::new(Output::of(rt, job));
     let mut err = Watched::new(rt.stderr());
-    execute(rt.alloc(), &job, &mut input, &mut out, &mut err)
+    execute(rt.alloc(), job, &mut input, &mut out, &mut err)
 }
 
 // Says that a growth was refused.
@@ -54,7 +68,8 @@ fn status(rt: &HostRuntime) -> Status {
         }
     }
     match options(rt.alloc(), &texts) {
-        Ok(Options::Run(asked)) => run(rt, asked),
+        Ok(Options::Run(asked)) => done(rt, &run_job(rt, asked)),
+        Ok(Options::Assemble(asked)) => done(rt, &assemble_job(rt, asked)),
         Err(UsageFault::Usage(text)) => refused(rt, &text),
         Err(UsageFault::OutOfMemory) => out_of_memory(rt),
     }

@@ -2,6 +2,7 @@ pub mod ModifiedUtf8
 pub mod PoolEntries
 pub mod PoolLookups
 pub mod Opcodes
+pub mod Mnemonics
 pub mod Instructions
 pub mod Code
 pub mod FileFaults

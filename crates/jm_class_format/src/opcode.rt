@@ -1,3 +1,6 @@
+ghost use Rattle.std.specs.Prelude.{◌≡◌, Some};
+ghost use Rattle.jm_class_format.specs.Mnemonics.{left_out_mnemonic};
+
 use jm_program::{
     ArrayOp, Branch, FieldOp, InvokeOp, MonitorOp, OperandType, ReturnOp, Simple, TypeOp,
 };
@@ -131,6 +134,8 @@ impl fmt::Display for LaterOp {
 }
 
 impl fmt::Display for LeftOutOp {
+    ghost output = { λ op. Some (left_out_mnemonic op) };
+
     fn fmt<W: fmt::Write>(&self, f: &mut fmt::Formatter<W>) -> fmt::Result {
         f.write_str(self.mnemonic())
     }
@@ -138,7 +143,10 @@ impl fmt::Display for LeftOutOp {
 
 impl LeftOutOp {
     /// The mnemonic (JVMS 6.5), or the element type's name.
-    pub fn mnemonic(self) -> &'static str {
+    #[tactic(auto, unfolding(crate::specs::Mnemonics::left_out_mnemonic))]
+    pub fn mnemonic(self) -> &'static str
+        ensures { result.now ≡ left_out_mnemonic self }
+    {
         match self {
             LeftOutOp::FConst0 => "fconst_0",
             LeftOutOp::FConst1 => "fconst_1",

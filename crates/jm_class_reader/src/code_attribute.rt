@@ -1,8 +1,9 @@
 // The Code attribute (JVMS 4.7.3) and the LineNumberTable attributes in it (JVMS 4.7.12).
 
-ghost use Rattle.std.specs.Prelude.{◌≤◌, length, IfOk};
+ghost use Rattle.std.specs.Prelude.{◌≡◌, ◌≤◌, length, map, IfOk};
 ghost use Rattle.jm_bytes.specs.Reading.{Gives, GivesAll, Takes};
 ghost use Rattle.jm_bytes.specs.Format.{within};
+ghost use Rattle.jm_class_format.specs.declared.instruction.PlacedInstr.{PlacedInstr};
 ghost use Rattle.jm_class_format.specs.declared.read_fault.ReadFault.TheVariants.{OutOfMemory, BadAttribute};
 ghost use Rattle.jm_class_format.specs.NamedCode.{file_code};
 ghost use Rattle.jm_class_format.specs.CodeAttribute.{whole_info, catch_type, handler_places, handler, handlers, line_number, line_numbers, code_attribute_info, code_attribute, code_attributes, limits, code_length, code_body};
@@ -12,7 +13,7 @@ use crate::named_code::{class_name_at, instructions_of};
 use crate::places::Places;
 use jm_bytes::Reader;
 use jm_class_format::{PlacedInstr, ReadFault};
-use jm_opcodes::decode_code;
+use jm_opcodes::{Starts, decode_placed};
 use jm_pool::Pool;
 use jm_program::{Code, Handler, LineNumber, Name, Sequence, is_text};
 use std::alloc::Global;
@@ -217,19 +218,20 @@ fn code_length(reader: &mut Reader<'_>) -> Result<u32, ReadFault>
     Ok(length)
 }
 
-// The instructions of the next so many bytes.
+// The instructions of the next so many bytes, and where they begin.
 fn placed_instructions(
     alloc: Global,
     size: u32,
     reader: &mut Reader<'_>,
-) -> Result<Vec<PlacedInstr>, ReadFault>
-    ensures few { IfOk result (λ v. length v.items ≤ 65535) }
-    ensures given { Gives (λ v. v.items) OutOfMemory result reader.new ((within BadAttribute size file_code).read reader.old) }
+) -> Result<(Vec<PlacedInstr>, Starts), ReadFault>
+    ensures few { IfOk result (λ x. length x.0.items ≤ 65535) }
+    ensures starts { IfOk result (λ x. x.1 ≡ map (λ (p : PlacedInstr). p.offset) x.0.items) }
+    ensures given { Gives (λ x. x.0.items) OutOfMemory result reader.new ((within BadAttribute size file_code).read reader.old) }
 {
     let bytes = reader
         .take(size as usize)
         .map_err(|_| ReadFault::BadAttribute)?;
-    match decode_code(alloc, bytes) {
+    match decode_placed(alloc, bytes) {
         Ok(placed) => Ok(placed),
         Err(fault) => Err(ReadFault::from(fault)),
     }
@@ -248,8 +250,8 @@ pub fn code_body(
 {
     let (max_stack, max_locals) = limits(slots, reader)?;
     let size = code_length(reader)?;
-    let placed = placed_instructions(alloc, size, reader)?;
-    let places = Places::new(alloc, size, &placed)?;
+    let (placed, starts) = placed_instructions(alloc, size, reader)?;
+    let places = Places::new(starts, placed.len() as u32, size);
     let instructions = instructions_of(alloc, pool, placed)?;
     let handlers = handlers(alloc, pool, &places, reader)?;
     let lines = code_attributes(alloc, pool, &places, reader)?;

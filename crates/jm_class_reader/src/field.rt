@@ -13,7 +13,9 @@ use crate::named_code::{bad_index, text_of};
 use jm_bytes::Reader;
 use jm_class_format::{Entry, ReadFault};
 use jm_pool::Pool;
-use jm_program::{AccessFlags, BaseType, Constant, ElementType, Field, FieldType, Name, is_text};
+use jm_program::{
+    AccessFlags, BaseType, Boxed, Constant, ElementType, Field, FieldType, Name, is_text,
+};
 use jm_symbols::{field_name_of, field_type_of};
 use std::alloc::Global;
 
@@ -46,6 +48,7 @@ fn constant_of(alloc: Global, pool: &Pool, index: u16) -> Result<Constant, ReadF
         Some(Entry::Long(number)) => Ok(Constant::Long(*number)),
         Some(Entry::String(text)) => {
             let units = text_of(alloc, pool, *text)?;
+            let units = Boxed::new(alloc, units)?;
             Ok(Constant::String(units))
         }
         _ => Err(bad_index(index)),

@@ -4,13 +4,16 @@ ghost use Rattle.std.specs.Prelude.{◌≡◌};
 ghost use Rattle.std.specs.Option.{ok_or, option_map};
 ghost use Rattle.jm_bytes.specs.Reading.{GivesAll, TakesAll, each};
 ghost use Rattle.jm_class_format.specs.declared.read_fault.ReadFault.TheVariants.{OutOfMemory};
+ghost use Rattle.jm_class_format.specs.declared.instruction.IndexedInstr.TheVariants as indexed;
 ghost use Rattle.jm_class_format.specs.FileFaults.{bad_index};
 ghost use Rattle.jm_class_format.specs.PoolLookups.{entry_at, text_at, class_at};
 ghost use Rattle.jm_class_format.specs.NamedCode.{loaded, loaded_long, calls_interface, class_method, counted, interface_method, class_ref_at, type_operand, class_name_at, named, placed_named};
 
 use jm_class_format::{Entry, IndexedInstr, LeftOutPart, PlacedInstr, PoolFault, ReadFault};
 use jm_pool::{Member, Pool};
-use jm_program::{Boxed, ClassRef, Constant, Instr, InvokeOp, MethodRef, Name, Sequence, TypeOp};
+use jm_program::{
+    Boxed, ClassRef, Constant, FieldOp, Instr, InvokeOp, MethodRef, Name, Sequence, TypeOp,
+};
 use jm_symbols::{class_name_of, class_ref_of, element_ref, field_ref_of, method_ref_of};
 use std::alloc::Global;
 
@@ -59,6 +62,7 @@ fn loaded(alloc: Global, pool: &Pool, index: u16) -> Result<Constant, ReadFault>
         Some(Entry::Integer(number)) => Ok(Constant::Int(*number)),
         Some(Entry::String(text)) => {
             let units = text_of(alloc, pool, *text)?;
+            let units = Boxed::new(alloc, units)?;
             Ok(Constant::String(units))
         }
         Some(Entry::Class(_)) => Err(ReadFault::LeftOut(LeftOutPart::LdcClass)),
@@ -178,6 +182,81 @@ pub fn class_name_at(alloc: Global, pool: &Pool, index: u16) -> Result<Name, Rea
     Ok(name)
 }
 
+// `ldc` or `ldc_w` with its constant.
+#[tactic(auto, unfolding(jm_class_format::specs::NamedCode::named))]
+fn named_constant(alloc: Global, pool: &Pool, index: u16) -> Result<Instr, ReadFault>
+    ensures { GivesAll (λ instr. instr) OutOfMemory result (named pool.now (indexed.Constant index)) }
+{
+    let constant = loaded(alloc, pool, index)?;
+    Ok(Instr::Constant(constant))
+}
+
+// `ldc2_w` with its constant.
+#[tactic(auto, unfolding(jm_class_format::specs::NamedCode::named))]
+fn named_long(pool: &Pool, index: u16) -> Result<Instr, ReadFault>
+    ensures { GivesAll (λ instr. instr) OutOfMemory result (named pool.now (indexed.LongConstant index)) }
+{
+    let constant = loaded_long(pool, index)?;
+    Ok(Instr::Constant(constant))
+}
+
+// An instruction with the field that its index names.
+#[tactic(auto, unfolding(jm_class_format::specs::NamedCode::named))]
+fn named_field(alloc: Global, pool: &Pool, op: FieldOp, index: u16) -> Result<Instr, ReadFault>
+    ensures { GivesAll (λ instr. instr) OutOfMemory result (named pool.now (indexed.Field op index)) }
+{
+    let texts = pool.field(index).ok_or(bad_index(index))?;
+    let field = field_ref_of(alloc, texts.class, texts.name, texts.descriptor)?;
+    let field = Boxed::new(alloc, field)?;
+    Ok(Instr::Field(op, field))
+}
+
+// An instruction with the method of a class that its index names.
+#[tactic(auto, unfolding(jm_class_format::specs::NamedCode::named))]
+fn named_method(alloc: Global, pool: &Pool, op: InvokeOp, index: u16) -> Result<Instr, ReadFault>
+    ensures { GivesAll (λ instr. instr) OutOfMemory result (named pool.now (indexed.Invoke op index)) }
+{
+    let method = class_method(alloc, pool, op, index)?;
+    let method = Boxed::new(alloc, method)?;
+    Ok(Instr::Invoke(op, method))
+}
+
+// `invokeinterface` with its method.
+#[tactic(auto, unfolding(jm_class_format::specs::NamedCode::named))]
+fn named_interface_method(
+    alloc: Global,
+    pool: &Pool,
+    index: u16,
+    count: u8,
+    last: u8,
+) -> Result<Instr, ReadFault>
+    ensures { GivesAll (λ instr. instr) OutOfMemory result (named pool.now (indexed.InvokeInterface index count last)) }
+{
+    let method = interface_method(alloc, pool, index, count, last)?;
+    let method = Boxed::new(alloc, method)?;
+    Ok(Instr::Invoke(InvokeOp::Interface, method))
+}
+
+// `new` with its class.
+#[tactic(auto, unfolding(jm_class_format::specs::NamedCode::named))]
+fn named_class(alloc: Global, pool: &Pool, index: u16) -> Result<Instr, ReadFault>
+    ensures { GivesAll (λ instr. instr) OutOfMemory result (named pool.now (indexed.New index)) }
+{
+    let name = class_name_at(alloc, pool, index)?;
+    let name = Boxed::new(alloc, name)?;
+    Ok(Instr::New(name))
+}
+
+// An instruction with the type that its index names.
+#[tactic(auto, unfolding(jm_class_format::specs::NamedCode::named))]
+fn named_type(alloc: Global, pool: &Pool, op: TypeOp, index: u16) -> Result<Instr, ReadFault>
+    ensures { GivesAll (λ instr. instr) OutOfMemory result (named pool.now (indexed.Type op index)) }
+{
+    let class = type_operand(alloc, pool, op, index)?;
+    let class = Boxed::new(alloc, class)?;
+    Ok(Instr::Type(op, class))
+}
+
 // An instruction with what its index names.
 #[tactic(auto, unfolding(jm_class_format::specs::NamedCode::named))]
 fn named(alloc: Global, pool: &Pool, instr: IndexedInstr) -> Result<Instr, ReadFault>
@@ -189,39 +268,15 @@ fn named(alloc: Global, pool: &Pool, instr: IndexedInstr) -> Result<Instr, ReadF
         IndexedInstr::Return(op) => Ok(Instr::Return(op)),
         IndexedInstr::Throw => Ok(Instr::Throw),
         IndexedInstr::Monitor(op) => Ok(Instr::Monitor(op)),
-        IndexedInstr::Constant(index) => {
-            let constant = loaded(alloc, pool, index)?;
-            Ok(Instr::Constant(constant))
-        }
-        IndexedInstr::LongConstant(index) => {
-            let constant = loaded_long(pool, index)?;
-            Ok(Instr::Constant(constant))
-        }
-        IndexedInstr::Field(op, index) => {
-            let texts = pool.field(index).ok_or(bad_index(index))?;
-            let field = field_ref_of(alloc, texts.class, texts.name, texts.descriptor)?;
-            let field = Boxed::new(alloc, field)?;
-            Ok(Instr::Field(op, field))
-        }
-        IndexedInstr::Invoke(op, index) => {
-            let method = class_method(alloc, pool, op, index)?;
-            let method = Boxed::new(alloc, method)?;
-            Ok(Instr::Invoke(op, method))
-        }
+        IndexedInstr::Constant(index) => named_constant(alloc, pool, index),
+        IndexedInstr::LongConstant(index) => named_long(pool, index),
+        IndexedInstr::Field(op, index) => named_field(alloc, pool, op, index),
+        IndexedInstr::Invoke(op, index) => named_method(alloc, pool, op, index),
         IndexedInstr::InvokeInterface(index, count, last) => {
-            let method = interface_method(alloc, pool, index, count, last)?;
-            let method = Boxed::new(alloc, method)?;
-            Ok(Instr::Invoke(InvokeOp::Interface, method))
+            named_interface_method(alloc, pool, index, count, last)
         }
-        IndexedInstr::New(index) => {
-            let name = class_name_at(alloc, pool, index)?;
-            Ok(Instr::New(name))
-        }
-        IndexedInstr::Type(op, index) => {
-            let class = type_operand(alloc, pool, op, index)?;
-            let class = Boxed::new(alloc, class)?;
-            Ok(Instr::Type(op, class))
-        }
+        IndexedInstr::New(index) => named_class(alloc, pool, index),
+        IndexedInstr::Type(op, index) => named_type(alloc, pool, op, index),
     }
 }
 

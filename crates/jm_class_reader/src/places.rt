@@ -1,12 +1,11 @@
 // The numbers of instructions by the offsets at which they begin (JVMS 4.7.3, 4.7.12).
 
-ghost use Rattle.std.specs.Prelude.{◌≡◌, ◌≤◌, length, IfOk};
+ghost use Rattle.std.specs.Prelude.{◌≡◌, length};
 ghost use Rattle.jm_bytes.specs.Reading.{TakesAll};
-ghost use Rattle.jm_class_format.specs.CodeAttribute.{number_at, end_at, places_of};
+ghost use Rattle.jm_class_format.specs.CodeAttribute.{number_at, end_at};
 
-use jm_class_format::{PlacedInstr, ReadFault};
+use jm_class_format::ReadFault;
 use jm_opcodes::Starts;
-use std::alloc::{AllocError, Global};
 use std::marker::Model;
 
 /// Where the instructions of a code begin, and how many bytes it has.
@@ -29,21 +28,16 @@ impl Model for Places {
 }
 
 impl Places {
-    /// The places of these instructions, in a code of so many bytes.
-    ///
-    /// # Errors
-    /// [`AllocError`] where a growth was refused.
-    pub fn new(alloc: Global, size: u32, placed: &[PlacedInstr]) -> Result<Places, AllocError>
-        requires { length placed.now ≤ 65535 }
-        ensures { IfOk result (λ p. p ≡ places_of size placed.now) }
+    /// The places of instructions that begin there, so many, in a code of so many bytes.
+    pub fn new(starts: Starts, count: u32, size: u32) -> Places
+        requires { count ≡ length starts }
+        ensures { result ≡ (record { starts = starts; size = size }) }
     {
-        let starts = Starts::new(alloc, placed)?;
-        let count = placed.len() as u32;
-        Ok(Places {
+        Places {
             starts,
             count,
             size,
-        })
+        }
     }
 
     /// The number of the instruction that begins at an offset.

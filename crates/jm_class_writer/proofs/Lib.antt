@@ -10,3 +10,6 @@ pub mod ClassLaws
 pub mod FileLaws
 pub mod CodeLaws
 pub mod BodyLaws
+pub mod Written
+pub mod TargetLaws
+pub mod PlaceLaws

@@ -1,6 +1,8 @@
 -- What a loop keeps that makes one step for each item: the steps for the items that are left, from the draft so far, come to what all of them come to.
-use Rattle.std.proofs.Common.{◌≡◌, ℕ, suc, ◌+◌, ◌<◌, ◌≤◌, List, [], ◌∷◌, ◌++◌, length, Result, Ok, Err, refl, sym, ap, ◌∙◌, append_assoc, arith, add-one, get_or, drop, length-drop, drop-cons}
-use Rattle.std.proofs.lemmas.List.{append-nil, nil_from_length}
+use Rattle.std.proofs.Common.{◌≡◌, ℕ, suc, ◌+◌, ◌<◌, ◌≤◌, List, [], ◌∷◌, ◌++◌, length, Result, Ok, Err, refl, sym, ap, subst, ◌∙◌, append_assoc, arith, add-one, get_or, take, drop, length-drop, drop-cons}
+use Rattle.std.specs.List.{All}
+use Rattle.std.proofs.lemmas.List.{append-nil, nil_from_length, take_all}
+use Rattle.std.proofs.lemmas.List.Elements.{All-more, All-same}
 use Rattle.jm_bytes.specs.Reading.{and_then}
 use Rattle.jm_class_writer.specs.declared.fault.WriteFault.{WriteFault}
 use Rattle.jm_class_writer.specs.Drafts.{DraftParts, Drafting, all_of, each_of}
@@ -76,6 +78,14 @@ each_done {A} {B} f front xs i s le =
     let none : drop i xs ≡ [] = nil_from_length (drop i xs) (omega (arith, length-drop i xs)) in
     ap (λ (ys : List A). with_front front (each_of f ys s)) none ∙ ap (λ (ys : List B). Ok (ys, s)) (append-nil front)
 
-pub ruleset all_steps = (all_next, all_fault, all_done)
+-- ---- what is known of each item that was gone over
+
+pub known_next : {A : Type 0} (P : A → Type 0) (xs : List A) (i : ℕ) (x : A) → i < length xs → x ≡ get_or xs i x → All P (take i xs) → P x → All P (take (i + 1) xs)
+known_next P xs i x lt is known new = All-more P xs i x lt known (subst P is new)
+
+pub known_all : {A : Type 0} (P : A → Type 0) (xs : List A) (i : ℕ) → length xs ≤ i → All P (take i xs) → All P xs
+known_all P xs i le known = All-same P xs (take i xs) (sym (take_all i xs le)) known
+
+pub ruleset all_steps = (all_next, all_fault, all_done, known_next, known_all)
 
 pub ruleset each_steps = (with_front-nil, each_next, each_fault, each_done)

@@ -4,3 +4,4 @@ pub mod PoolUse
 pub mod CodeParts
 pub mod ClassParts
 pub mod Ranges
+pub mod Places

@@ -1,13 +1,15 @@
 // The class file (JVMS 4.1), its fields (JVMS 4.5) and its methods (JVMS 4.6).
 
-ghost use Rattle.std.specs.Prelude.{Bool, IsTrue};
+ghost use Rattle.std.specs.Prelude.{◌≡◌, Bool, IsTrue, All, OnOk, IfOk, Ok};
 ghost use Rattle.std.specs.List.{list_all};
 ghost use Rattle.jm_bytes.specs.Reading.{GivesAll};
 ghost use Rattle.jm_program.specs.Fits.{method_fits, Fits};
+ghost use Rattle.jm_class_format.specs.ClassFile.{Spells, class_file};
 ghost use Rattle.jm_class_writer.specs.declared.fault.WriteFault.TheVariants.{OutOfMemory};
 ghost use Rattle.jm_class_writer.specs.Drafts.{Leaves, all_of};
 ghost use Rattle.jm_class_writer.specs.CodeParts.{InstructionsFit};
 ghost use Rattle.jm_class_writer.specs.ClassParts.{put_class, put_superclass, put_interfaces, put_head, put_constant, put_field_attributes, put_field, put_fields, put_method_attributes, put_method, put_methods, put_class_attributes, put_body, put_contents, put_version, written};
+ghost use Rattle.jm_class_writer.specs.Ranges.{OfSome, UnitsInRange, ConstantInRange, CodeInRange, FieldInRange, MethodInRange, InRange};
 
 use crate::code_attribute::{put_code_body, put_name};
 use crate::draft::Draft;
@@ -30,7 +32,8 @@ const SOURCE_FILE: [u16; 10] = [83, 111, 117, 114, 99, 101, 70, 105, 108, 101];
 
 #[tactic(auto, unfolding(crate::specs::ClassParts::put_class))]
 fn put_class(draft: &mut Draft, alloc: Global, name: &Name) -> Result<(), WriteFault>
-    ensures { Leaves (λ _. tt) result draft.new (put_class name.now draft.old) }
+    ensures class { Leaves (λ _. tt) result draft.new (put_class name.now draft.old) }
+    ensures range { UnitsInRange name.now }
 {
     let index = class_index(draft, alloc, name)?;
     draft.put_u2(usize::from(index))
@@ -43,7 +46,8 @@ fn put_superclass(
     alloc: Global,
     superclass: &Option<Name>,
 ) -> Result<(), WriteFault>
-    ensures { Leaves (λ _. tt) result draft.new (put_superclass superclass.now draft.old) }
+    ensures superclass { Leaves (λ _. tt) result draft.new (put_superclass superclass.now draft.old) }
+    ensures range { OfSome UnitsInRange superclass.now }
 {
     match superclass {
         None => draft.put_u2(0),
@@ -53,7 +57,8 @@ fn put_superclass(
 
 #[tactic(auto, using(crate::proofs::Loops::all_steps))]
 fn put_each_class(draft: &mut Draft, alloc: Global, names: &[Name]) -> Result<(), WriteFault>
-    ensures { Leaves (λ _. tt) result draft.new (all_of put_class names.now draft.old) }
+    ensures classes { Leaves (λ _. tt) result draft.new (all_of put_class names.now draft.old) }
+    ensures range { OnOk result (All UnitsInRange names.now) }
 {
     for name in names {
         put_class(draft, alloc, name)?;
@@ -63,7 +68,8 @@ fn put_each_class(draft: &mut Draft, alloc: Global, names: &[Name]) -> Result<()
 
 #[tactic(auto, unfolding(crate::specs::ClassParts::put_interfaces))]
 fn put_interfaces(draft: &mut Draft, alloc: Global, names: &[Name]) -> Result<(), WriteFault>
-    ensures { Leaves (λ _. tt) result draft.new (put_interfaces names.now draft.old) }
+    ensures interfaces { Leaves (λ _. tt) result draft.new (put_interfaces names.now draft.old) }
+    ensures range { OnOk result (All UnitsInRange names.now) }
 {
     draft.put_u2(names.len())?;
     put_each_class(draft, alloc, names)
@@ -71,7 +77,8 @@ fn put_interfaces(draft: &mut Draft, alloc: Global, names: &[Name]) -> Result<()
 
 #[tactic(auto, unfolding(crate::specs::ClassParts::put_head))]
 fn put_head(draft: &mut Draft, alloc: Global, class: &ClassParts) -> Result<(), WriteFault>
-    ensures { Leaves (λ _. tt) result draft.new (put_head class.now draft.old) }
+    ensures head { Leaves (λ _. tt) result draft.new (put_head class.now draft.old) }
+    ensures range { OnOk result (UnitsInRange class.now.name × OfSome UnitsInRange class.now.superclass × All UnitsInRange class.now.interfaces) }
 {
     draft.put_u2(usize::from(class.flags.bits))?;
     put_class(draft, alloc, &class.name)?;
@@ -84,7 +91,8 @@ fn put_head(draft: &mut Draft, alloc: Global, class: &ClassParts) -> Result<(), 
 // The index of the constant's entry.
 #[tactic(auto, unfolding(crate::specs::ClassParts::put_constant))]
 fn put_constant(draft: &mut Draft, alloc: Global, constant: &Constant) -> Result<(), WriteFault>
-    ensures { Leaves (λ _. tt) result draft.new (put_constant constant.now draft.old) }
+    ensures constant { Leaves (λ _. tt) result draft.new (put_constant constant.now draft.old) }
+    ensures range { ConstantInRange constant.now }
 {
     let index = constant_index(draft, alloc, constant)?;
     draft.put_u2(usize::from(index))
@@ -97,7 +105,8 @@ fn put_field_attributes(
     alloc: Global,
     constant: &Option<Constant>,
 ) -> Result<(), WriteFault>
-    ensures { Leaves (λ _. tt) result draft.new (put_field_attributes constant.now draft.old) }
+    ensures attributes { Leaves (λ _. tt) result draft.new (put_field_attributes constant.now draft.old) }
+    ensures range { OnOk result (OfSome ConstantInRange constant.now) }
 {
     let Some(constant) = constant else {
         return draft.put_u2(0);
@@ -111,7 +120,8 @@ fn put_field_attributes(
 
 #[tactic(auto, unfolding(crate::specs::ClassParts::put_field))]
 fn put_field(draft: &mut Draft, alloc: Global, field: &Field) -> Result<(), WriteFault>
-    ensures { Leaves (λ _. tt) result draft.new (put_field field.now draft.old) }
+    ensures field { Leaves (λ _. tt) result draft.new (put_field field.now draft.old) }
+    ensures range { OnOk result (FieldInRange field.now) }
 {
     draft.put_u2(usize::from(field.flags.bits))?;
     put_name(draft, alloc, field.name.units())?;
@@ -122,7 +132,8 @@ fn put_field(draft: &mut Draft, alloc: Global, field: &Field) -> Result<(), Writ
 
 #[tactic(auto, using(crate::proofs::Loops::all_steps))]
 fn put_each_field(draft: &mut Draft, alloc: Global, fields: &[Field]) -> Result<(), WriteFault>
-    ensures { Leaves (λ _. tt) result draft.new (all_of put_field fields.now draft.old) }
+    ensures fields { Leaves (λ _. tt) result draft.new (all_of put_field fields.now draft.old) }
+    ensures range { OnOk result (All FieldInRange fields.now) }
 {
     for field in fields {
         put_field(draft, alloc, field)?;
@@ -132,7 +143,8 @@ fn put_each_field(draft: &mut Draft, alloc: Global, fields: &[Field]) -> Result<
 
 #[tactic(auto, unfolding(crate::specs::ClassParts::put_fields))]
 fn put_fields(draft: &mut Draft, alloc: Global, fields: &[Field]) -> Result<(), WriteFault>
-    ensures { Leaves (λ _. tt) result draft.new (put_fields fields.now draft.old) }
+    ensures fields { Leaves (λ _. tt) result draft.new (put_fields fields.now draft.old) }
+    ensures range { OnOk result (All FieldInRange fields.now) }
 {
     draft.put_u2(fields.len())?;
     put_each_field(draft, alloc, fields)
@@ -148,7 +160,8 @@ fn put_method_attributes(
     code: &Option<Code>,
 ) -> Result<(), WriteFault>
     requires { InstructionsFit code.now }
-    ensures { Leaves (λ _. tt) result draft.new (put_method_attributes code.now draft.old) }
+    ensures attributes { Leaves (λ _. tt) result draft.new (put_method_attributes code.now draft.old) }
+    ensures range { OnOk result (OfSome CodeInRange code.now) }
 {
     let Some(code) = code else {
         return draft.put_u2(0);
@@ -163,7 +176,8 @@ fn put_method_attributes(
 #[tactic(auto, unfolding(crate::specs::ClassParts::put_method))]
 fn put_method(draft: &mut Draft, alloc: Global, method: &Method) -> Result<(), WriteFault>
     requires { InstructionsFit method.now.code }
-    ensures { Leaves (λ _. tt) result draft.new (put_method method.now draft.old) }
+    ensures method { Leaves (λ _. tt) result draft.new (put_method method.now draft.old) }
+    ensures range { OnOk result (MethodInRange method.now) }
 {
     draft.put_u2(usize::from(method.flags.bits))?;
     put_name(draft, alloc, method.name.units())?;
@@ -175,7 +189,8 @@ fn put_method(draft: &mut Draft, alloc: Global, method: &Method) -> Result<(), W
 #[tactic(auto, using(crate::proofs::Loops::all_steps))]
 fn put_each_method(draft: &mut Draft, alloc: Global, methods: &[Method]) -> Result<(), WriteFault>
     requires { (in_interface : Bool) × IsTrue (list_all (method_fits in_interface) methods.now) }
-    ensures { Leaves (λ _. tt) result draft.new (all_of put_method methods.now draft.old) }
+    ensures methods { Leaves (λ _. tt) result draft.new (all_of put_method methods.now draft.old) }
+    ensures range { OnOk result (All MethodInRange methods.now) }
 {
     for method in methods {
         put_method(draft, alloc, method)?;
@@ -186,7 +201,8 @@ fn put_each_method(draft: &mut Draft, alloc: Global, methods: &[Method]) -> Resu
 #[tactic(auto, unfolding(crate::specs::ClassParts::put_methods))]
 fn put_methods(draft: &mut Draft, alloc: Global, methods: &[Method]) -> Result<(), WriteFault>
     requires { (in_interface : Bool) × IsTrue (list_all (method_fits in_interface) methods.now) }
-    ensures { Leaves (λ _. tt) result draft.new (put_methods methods.now draft.old) }
+    ensures methods { Leaves (λ _. tt) result draft.new (put_methods methods.now draft.old) }
+    ensures range { OnOk result (All MethodInRange methods.now) }
 {
     draft.put_u2(methods.len())?;
     put_each_method(draft, alloc, methods)
@@ -201,7 +217,8 @@ fn put_class_attributes(
     alloc: Global,
     source_file: &Option<Sequence<u16>>,
 ) -> Result<(), WriteFault>
-    ensures { Leaves (λ _. tt) result draft.new (put_class_attributes source_file.now draft.old) }
+    ensures attributes { Leaves (λ _. tt) result draft.new (put_class_attributes source_file.now draft.old) }
+    ensures range { OnOk result (OfSome UnitsInRange source_file.now) }
 {
     let Some(name) = source_file else {
         return draft.put_u2(0);
@@ -216,7 +233,8 @@ fn put_class_attributes(
 #[tactic(auto, unfolding(crate::specs::ClassParts::put_body))]
 fn put_body(draft: &mut Draft, alloc: Global, class: &ClassParts) -> Result<(), WriteFault>
     requires { Fits class.now }
-    ensures { Leaves (λ _. tt) result draft.new (put_body class.now draft.old) }
+    ensures body { Leaves (λ _. tt) result draft.new (put_body class.now draft.old) }
+    ensures range { OnOk result (All FieldInRange class.now.fields × All MethodInRange class.now.methods × OfSome UnitsInRange class.now.source_file) }
 {
     put_fields(draft, alloc, class.fields.as_slice())?;
     put_methods(draft, alloc, class.methods.as_slice())?;
@@ -227,7 +245,8 @@ fn put_body(draft: &mut Draft, alloc: Global, class: &ClassParts) -> Result<(), 
 #[tactic(auto, unfolding(crate::specs::ClassParts::put_contents))]
 fn put_contents(draft: &mut Draft, alloc: Global, class: &ClassParts) -> Result<(), WriteFault>
     requires { Fits class.now }
-    ensures { Leaves (λ _. tt) result draft.new (put_contents class.now draft.old) }
+    ensures contents { Leaves (λ _. tt) result draft.new (put_contents class.now draft.old) }
+    ensures range { OnOk result (InRange class.now) }
 {
     put_head(draft, alloc, class)?;
     put_body(draft, alloc, class)
@@ -243,7 +262,24 @@ fn put_version(draft: &mut Draft, version: Version) -> Result<(), WriteFault>
     draft.put_u2(usize::from(version.major))
 }
 
-/// The class file of a class (JVMS 4.1). The pool's entries stand in the order of their first use,
+// The version, the pool that the contents came to need, and the contents.
+#[tactic(auto, unfolding(crate::specs::ClassParts::written))]
+fn written(alloc: Global, class: &ClassParts) -> Result<Vec<u8>, WriteFault>
+    requires { Fits class.now }
+    ensures exact { GivesAll (λ v. v.items) OutOfMemory result (written class.now) }
+    ensures range { OnOk result (InRange class.now) }
+{
+    let mut front = Draft::new(alloc);
+    put_version(&mut front, class.version)?;
+    let mut draft = Draft::new(alloc);
+    put_contents(&mut draft, alloc, class)?;
+    let mut bytes = front.into_bytes();
+    draft.write(&mut bytes)?;
+    Ok(bytes)
+}
+
+/// The class file of a class (JVMS 4.1), which spells that class: reading it gives the class back.
+/// The pool's entries stand in the order of their first use,
 /// the parts of an entry before it.
 ///
 /// # Errors
@@ -252,16 +288,12 @@ fn put_version(draft: &mut Draft, version: Version) -> Result<(), WriteFault>
 /// - `36 TooMany`: interfaces, fields, methods, handlers or line numbers are more than 65,535, or
 ///   a text has more bytes.
 /// - `61 OutOfMemory`: a growth was refused.
-#[tactic(auto, unfolding(crate::specs::ClassParts::written))]
+#[tactic(auto, using(crate::proofs::Written::spelled_given, crate::proofs::Written::read_back_given))]
 pub fn write_class(alloc: Global, class: &Class) -> Result<Vec<u8>, WriteFault>
-    ensures { GivesAll (λ v. v.items) OutOfMemory result (written class.now) }
+    ensures exact { GivesAll (λ v. v.items) OutOfMemory result (written class.now) }
+    // The bytes are a class file that spells the class, and reading gives it back.
+    ensures spelled { IfOk result (λ bytes. Spells bytes.items class.now) }
+    ensures read_back { IfOk result (λ bytes. class_file.read bytes.items ≡ Ok class.now) }
 {
-    let parts = class.parts();
-    let mut front = Draft::new(alloc);
-    put_version(&mut front, parts.version)?;
-    let mut draft = Draft::new(alloc);
-    put_contents(&mut draft, alloc, parts)?;
-    let mut bytes = front.into_bytes();
-    draft.write(&mut bytes)?;
-    Ok(bytes)
+    written(alloc, class.parts())
 }

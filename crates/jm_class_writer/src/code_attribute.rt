@@ -1,11 +1,12 @@
 // The Code attribute (JVMS 4.7.3) and the LineNumberTable in it (JVMS 4.7.12).
 
-ghost use Rattle.std.specs.Prelude.{◌<◌, ℕ, IsTrue, length};
+ghost use Rattle.std.specs.Prelude.{◌<◌, ℕ, IsTrue, All, OnOk, length};
 ghost use Rattle.std.specs.List.{list_all};
 ghost use Rattle.jm_bytes.specs.Reading.{TakesAll};
 ghost use Rattle.jm_program.specs.Instructions.{instr_fits};
 ghost use Rattle.jm_class_writer.specs.Drafts.{Leaves, all_of};
 ghost use Rattle.jm_class_writer.specs.CodeParts.{start_of, end_of, put_start, put_end, put_catch_type, put_handler, put_handlers, put_line, put_lines, put_name, put_line_table, put_code_attributes, put_instructions, put_code_body};
+ghost use Rattle.jm_class_writer.specs.Ranges.{OfSome, UnitsInRange, HandlerInRange, CodeInRange};
 
 use crate::draft::Draft;
 use crate::fault::WriteFault;
@@ -23,7 +24,8 @@ const LINE_NUMBER_TABLE: [u16; 15] = [
 /// The index of an attribute's name.
 #[tactic(auto, unfolding(crate::specs::CodeParts::put_name))]
 pub fn put_name(draft: &mut Draft, alloc: Global, name: &[u16]) -> Result<(), WriteFault>
-    ensures { Leaves (λ _. tt) result draft.new (put_name name.now draft.old) }
+    ensures name { Leaves (λ _. tt) result draft.new (put_name name.now draft.old) }
+    ensures range { UnitsInRange name.now }
 {
     let index = text_index(draft, alloc, name)?;
     draft.put_u2(usize::from(index))
@@ -77,7 +79,8 @@ fn put_catch_type(
     alloc: Global,
     catch_type: &Option<Name>,
 ) -> Result<(), WriteFault>
-    ensures { Leaves (λ _. tt) result draft.new (put_catch_type catch_type.now draft.old) }
+    ensures catch_type { Leaves (λ _. tt) result draft.new (put_catch_type catch_type.now draft.old) }
+    ensures range { OfSome UnitsInRange catch_type.now }
 {
     match catch_type {
         None => draft.put_u2(0),
@@ -95,7 +98,8 @@ fn put_handler(
     code: &EncodedCode,
     handler: &Handler,
 ) -> Result<(), WriteFault>
-    ensures { Leaves (λ _. tt) result draft.new (put_handler code.now handler.now draft.old) }
+    ensures handler { Leaves (λ _. tt) result draft.new (put_handler code.now handler.now draft.old) }
+    ensures range { OnOk result (HandlerInRange handler.now) }
 {
     put_start(draft, code, handler.start)?;
     put_end(draft, code, handler.end)?;
@@ -110,7 +114,8 @@ fn put_each_handler(
     code: &EncodedCode,
     handlers: &[Handler],
 ) -> Result<(), WriteFault>
-    ensures { Leaves (λ _. tt) result draft.new (all_of (put_handler code.now) handlers.now draft.old) }
+    ensures handlers { Leaves (λ _. tt) result draft.new (all_of (put_handler code.now) handlers.now draft.old) }
+    ensures range { OnOk result (All HandlerInRange handlers.now) }
 {
     for handler in handlers {
         put_handler(draft, alloc, code, handler)?;
@@ -125,7 +130,8 @@ fn put_handlers(
     code: &EncodedCode,
     handlers: &[Handler],
 ) -> Result<(), WriteFault>
-    ensures { Leaves (λ _. tt) result draft.new (put_handlers code.now handlers.now draft.old) }
+    ensures handlers { Leaves (λ _. tt) result draft.new (put_handlers code.now handlers.now draft.old) }
+    ensures range { OnOk result (All HandlerInRange handlers.now) }
 {
     draft.put_u2(handlers.len())?;
     put_each_handler(draft, alloc, code, handlers)
@@ -212,7 +218,8 @@ fn put_instructions(draft: &mut Draft, code: &EncodedCode) -> Result<(), WriteFa
 pub fn put_code_body(draft: &mut Draft, alloc: Global, code: &Code) -> Result<(), WriteFault>
     requires some { 0 < length code.now.instructions }
     requires fit { (count : ℕ) × IsTrue (list_all (instr_fits count) code.now.instructions) }
-    ensures { Leaves (λ _. tt) result draft.new (put_code_body code.now draft.old) }
+    ensures body { Leaves (λ _. tt) result draft.new (put_code_body code.now draft.old) }
+    ensures range { OnOk result (CodeInRange code.now) }
 {
     draft.put_u2(usize::from(code.max_stack))?;
     draft.put_u2(usize::from(code.max_locals))?;

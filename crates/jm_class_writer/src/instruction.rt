@@ -1,13 +1,15 @@
 // Instructions with indexes of the pool for what they name (JVMS 6.5).
 
-ghost use Rattle.std.specs.Prelude.{◌≡◌, ◌<◌, ◌+◌, ℕ, IsTrue, IfOk, length};
+ghost use Rattle.std.specs.Prelude.{◌≡◌, ◌<◌, ◌+◌, ℕ, IsTrue, IfOk, OnOk, All, length};
 ghost use Rattle.std.specs.List.{list_all};
 ghost use Rattle.jm_program.specs.Instructions.{instr_fits};
 ghost use Rattle.jm_program.specs.Descriptors.{argument_slots};
 ghost use Rattle.jm_program.specs.References.{method_ref_fits};
 ghost use Rattle.jm_encode.specs.Encoding.{has_bytes};
+ghost use Rattle.jm_encode.specs.Ranges.{InRange};
 ghost use Rattle.jm_class_writer.specs.Drafts.{Leaves, each_of};
 ghost use Rattle.jm_class_writer.specs.CodeParts.{load_of, invoke_of, instr_indexed, code_encoded};
+ghost use Rattle.jm_class_writer.specs.Ranges.{InstrInRange};
 
 use crate::draft::Draft;
 use crate::fault::WriteFault;
@@ -112,6 +114,7 @@ fn instr_indexed(
     requires { (count : ℕ) × IsTrue (instr_fits count instruction.now) }
     ensures indexed { Leaves (λ instr. instr) result draft.new (instr_indexed instruction.now draft.old) }
     ensures bytes { IfOk result (λ instr. IsTrue (has_bytes instr)) }
+    ensures range { IfOk result (λ instr. InRange instr → InstrInRange instruction.now) }
 {
     match instruction {
         Instr::Plain(plain) => {
@@ -135,7 +138,7 @@ fn instr_indexed(
             Ok(invoke_of(*op, method.get(), index))
         }
         Instr::New(name) => {
-            let index = class_index(draft, alloc, name)?;
+            let index = class_index(draft, alloc, name.get())?;
             Ok(IndexedInstr::New(index))
         }
         Instr::Type(op, class) => {
@@ -156,6 +159,7 @@ fn all_indexed(
     ensures indexed { Leaves (λ v. v.items) result draft.new (each_of instr_indexed instructions.now draft.old) }
     ensures bytes { IfOk result (λ v. IsTrue (list_all has_bytes v.items)) }
     ensures count { IfOk result (λ v. length v.items ≡ length instructions.now) }
+    ensures range { IfOk result (λ v. All InRange v.items → All InstrInRange instructions.now) }
 {
     let mut all = Vec::new(alloc);
     for instruction in instructions {
@@ -174,7 +178,8 @@ pub fn code_encoded(
 ) -> Result<EncodedCode, WriteFault>
     requires some { 0 < length instructions.now }
     requires fit { (count : ℕ) × IsTrue (list_all (instr_fits count) instructions.now) }
-    ensures { Leaves (λ code. code) result draft.new (code_encoded instructions.now draft.old) }
+    ensures code { Leaves (λ code. code) result draft.new (code_encoded instructions.now draft.old) }
+    ensures range { OnOk result (All InstrInRange instructions.now) }
 {
     let all = all_indexed(draft, alloc, instructions)?;
     match encode_code(alloc, &all) {

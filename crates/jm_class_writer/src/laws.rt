@@ -1,10 +1,19 @@
-// What is written of a class is a class file that spells it.
+// What the definitions promise of one another, each as a call that does nothing.
 
-ghost use Rattle.std.specs.Prelude.{◌≡◌, ℕ, List, Ok};
+ghost use Rattle.std.specs.Prelude.{◌≡◌, ℕ, List, Ok, Err, true};
 ghost use Rattle.jm_program.specs.Fits.{Fits};
 ghost use Rattle.jm_program.specs.declared.class.ClassParts.{ClassParts};
+ghost use Rattle.jm_program.specs.Codes.{code_fits};
+ghost use Rattle.jm_program.specs.declared.code.Code.{Code};
 ghost use Rattle.jm_class_format.specs.ClassFile.{Spells, class_file};
+ghost use Rattle.jm_class_format.specs.declared.instruction.IndexedInstr.{IndexedInstr};
+ghost use Rattle.jm_encode.specs.declared.encoded.EncodedCode.{EncodedCode};
+ghost use Rattle.jm_encode.specs.declared.fault.EncodeFault.TheVariants.{BadTarget};
+ghost use Rattle.jm_encode.specs.Encoding.{encoded};
+ghost use Rattle.jm_class_writer.specs.Drafts.{DraftParts, each_of};
+ghost use Rattle.jm_class_writer.specs.CodeParts.{instr_indexed, code_encoded};
 ghost use Rattle.jm_class_writer.specs.ClassParts.{written};
+ghost use Rattle.jm_class_writer.specs.Places.{PlacesFound};
 ghost use Rattle.jm_class_writer.specs.Ranges.{InRange};
 
 /// The bytes that are written for a class spell that class (JVMS 4), and reading them as a class
@@ -12,4 +21,11 @@ ghost use Rattle.jm_class_writer.specs.Ranges.{InRange};
 pub fn written_is_spelled()
     ensures spelled { (c : ClassParts) (bytes : List ℕ) → InRange c → Fits c → written c ≡ Ok bytes → Spells bytes c }
     ensures read_back { (c : ClassParts) (bytes : List ℕ) → InRange c → Fits c → written c ≡ Ok bytes → class_file.read bytes ≡ Ok c }
+{}
+
+/// Each target in a class's code is an instruction of it (JVMS 4.9.1), so that `13 BadTarget` never
+/// comes of a class; and each number in its tables has an offset.
+pub fn class_targets_are_found()
+    ensures targets { (slots : ℕ) (c : Code) (before after : DraftParts) (all : List IndexedInstr) → code_fits slots c ≡ true → each_of instr_indexed c.instructions before ≡ Ok (all, after) → ¬ (encoded all ≡ Err BadTarget) }
+    ensures places { (slots : ℕ) (c : Code) (before after : DraftParts) (e : EncodedCode) → code_fits slots c ≡ true → code_encoded c.instructions before ≡ Ok (e, after) → PlacesFound e c }
 {}

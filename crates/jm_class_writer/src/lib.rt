@@ -18,4 +18,4 @@ mod texts;
 
 pub use class_file::write_class;
 pub use fault::WriteFault;
-pub use laws::written_is_spelled;
+pub use laws::{class_targets_are_found, written_is_spelled};

@@ -2,7 +2,8 @@
 
 ghost use Rattle.jm_class_writer.specs.Drafts.{Leaves};
 ghost use Rattle.jm_class_writer.specs.PoolUse.{text_index, class_index, string_index, constant_index, name_and_type_index, class_ref_index, field_ref_index, method_entry, method_ref_index};
-ghost use Rattle.std.specs.Prelude.{◌≡◌};
+ghost use Rattle.jm_class_writer.specs.Ranges.{UnitsInRange, ConstantInRange, ClassRefInRange, FieldRefInRange, MethodRefInRange};
+ghost use Rattle.std.specs.Prelude.{◌≡◌, OnOk};
 
 use crate::draft::Draft;
 use crate::fault::WriteFault;
@@ -13,7 +14,8 @@ use std::alloc::Global;
 
 /// Of a text (JVMS 4.4.7).
 pub fn text_index(draft: &mut Draft, alloc: Global, units: &[u16]) -> Result<u16, WriteFault>
-    ensures { Leaves (λ index. index) result draft.new (text_index units.now draft.old) }
+    ensures index { Leaves (λ index. index) result draft.new (text_index units.now draft.old) }
+    ensures range { UnitsInRange units.now }
 {
     let text = copied(alloc, units)?;
     draft.entry_index(PoolConstant::Utf8(text))
@@ -30,7 +32,8 @@ fn class_text_index(draft: &mut Draft, text: Name) -> Result<u16, WriteFault>
 
 /// Of a class or an interface (JVMS 4.4.1).
 pub fn class_index(draft: &mut Draft, alloc: Global, name: &Name) -> Result<u16, WriteFault>
-    ensures { Leaves (λ index. index) result draft.new (class_index name.now draft.old) }
+    ensures index { Leaves (λ index. index) result draft.new (class_index name.now draft.old) }
+    ensures range { UnitsInRange name.now }
 {
     let text = copied(alloc, name.units())?;
     class_text_index(draft, text)
@@ -39,7 +42,8 @@ pub fn class_index(draft: &mut Draft, alloc: Global, name: &Name) -> Result<u16,
 // Of a string (JVMS 4.4.3).
 #[tactic(auto, unfolding(crate::specs::PoolUse::string_index))]
 fn string_index(draft: &mut Draft, alloc: Global, units: &[u16]) -> Result<u16, WriteFault>
-    ensures { Leaves (λ index. index) result draft.new (string_index units.now draft.old) }
+    ensures index { Leaves (λ index. index) result draft.new (string_index units.now draft.old) }
+    ensures range { UnitsInRange units.now }
 {
     let text = text_index(draft, alloc, units)?;
     draft.entry_index(PoolConstant::String(text))
@@ -52,12 +56,13 @@ pub fn constant_index(
     alloc: Global,
     constant: &Constant,
 ) -> Result<u16, WriteFault>
-    ensures { Leaves (λ index. index) result draft.new (constant_index constant.now draft.old) }
+    ensures index { Leaves (λ index. index) result draft.new (constant_index constant.now draft.old) }
+    ensures range { ConstantInRange constant.now }
 {
     match constant {
         Constant::Int(n) => draft.entry_index(PoolConstant::Integer(*n)),
         Constant::Long(n) => draft.entry_index(PoolConstant::Long(*n)),
-        Constant::String(units) => string_index(draft, alloc, units.as_slice()),
+        Constant::String(units) => string_index(draft, alloc, units.get().as_slice()),
     }
 }
 
@@ -69,7 +74,8 @@ fn name_and_type_index(
     name: &Name,
     descriptor: Name,
 ) -> Result<u16, WriteFault>
-    ensures { Leaves (λ index. index) result draft.new (name_and_type_index name.now descriptor draft.old) }
+    ensures index { Leaves (λ index. index) result draft.new (name_and_type_index name.now descriptor draft.old) }
+    ensures range { UnitsInRange name.now }
 {
     let first = text_index(draft, alloc, name.units())?;
     let second = draft.entry_index(PoolConstant::Utf8(descriptor))?;
@@ -83,7 +89,8 @@ pub fn class_ref_index(
     alloc: Global,
     class: &ClassRef,
 ) -> Result<u16, WriteFault>
-    ensures { Leaves (λ index. index) result draft.new (class_ref_index class.now draft.old) }
+    ensures index { Leaves (λ index. index) result draft.new (class_ref_index class.now draft.old) }
+    ensures range { OnOk result (ClassRefInRange class.now) }
 {
     let text = class_text(alloc, class)?;
     class_text_index(draft, text)
@@ -96,7 +103,8 @@ pub fn field_ref_index(
     alloc: Global,
     field: &FieldRef,
 ) -> Result<u16, WriteFault>
-    ensures { Leaves (λ index. index) result draft.new (field_ref_index field.now draft.old) }
+    ensures index { Leaves (λ index. index) result draft.new (field_ref_index field.now draft.old) }
+    ensures range { OnOk result (FieldRefInRange field.now) }
 {
     let class = class_ref_index(draft, alloc, &field.class)?;
     let descriptor = field_text(alloc, &field.descriptor)?;
@@ -121,7 +129,8 @@ pub fn method_ref_index(
     op: InvokeOp,
     method: &MethodRef,
 ) -> Result<u16, WriteFault>
-    ensures { Leaves (λ index. index) result draft.new (method_ref_index op method.now draft.old) }
+    ensures index { Leaves (λ index. index) result draft.new (method_ref_index op method.now draft.old) }
+    ensures range { OnOk result (MethodRefInRange method.now) }
 {
     let class = class_ref_index(draft, alloc, &method.class)?;
     let descriptor = method_text(alloc, &method.descriptor)?;

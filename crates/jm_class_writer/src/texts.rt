@@ -1,9 +1,10 @@
 // The texts of types, in code units (JVMS 4.3).
 
-ghost use Rattle.std.specs.Prelude.{◌≡◌, ◌++◌, ◌∷◌, [], OnOk, IfOk, replicate};
+ghost use Rattle.std.specs.Prelude.{◌≡◌, ◌++◌, ◌∷◌, [], All, OnOk, IfOk, replicate};
 ghost use Rattle.std.specs.List.{flat_map};
 ghost use Rattle.jm_program.specs.Descriptors.{base_letter, element_text, field_text, return_text, method_text};
 ghost use Rattle.jm_class_writer.specs.PoolUse.{class_text};
+ghost use Rattle.jm_class_writer.specs.Ranges.{OfSome, UnitsInRange, ElementInRange, TypeInRange, MethodTypeInRange, ClassRefInRange};
 
 use jm_program::{BaseType, ClassRef, ElementType, FieldType, MethodDescriptor, Name};
 use std::alloc::{AllocError, Global};
@@ -36,14 +37,22 @@ fn base_letter(base: BaseType) -> u16
     }
 }
 
+fn push_units(text: &mut Vec<u16>, units: &[u16]) -> Result<(), AllocError>
+    ensures text { OnOk result (text.new.items ≡ text.old.items ++ units.now) }
+    ensures range { UnitsInRange units.now }
+{
+    text.extend_from_slice(units)
+}
+
 fn push_element(text: &mut Vec<u16>, element: &ElementType) -> Result<(), AllocError>
-    ensures { OnOk result (text.new.items ≡ text.old.items ++ element_text element.now) }
+    ensures text { OnOk result (text.new.items ≡ text.old.items ++ element_text element.now) }
+    ensures range { OnOk result (ElementInRange element.now) }
 {
     match element {
         ElementType::Base(base) => text.push(base_letter(*base))?,
         ElementType::Class(name) => {
             text.push(CLASS)?;
-            text.extend_from_slice(name.units())?;
+            push_units(text, name.units())?;
             text.push(CLASS_END)?;
         }
     }
@@ -61,15 +70,17 @@ fn push_dimensions(text: &mut Vec<u16>, dimensions: u8) -> Result<(), AllocError
 }
 
 fn push_field_type(text: &mut Vec<u16>, field_type: &FieldType) -> Result<(), AllocError>
-    ensures { OnOk result (text.new.items ≡ text.old.items ++ field_text field_type.now) }
+    ensures text { OnOk result (text.new.items ≡ text.old.items ++ field_text field_type.now) }
+    ensures range { OnOk result (TypeInRange field_type.now) }
 {
     push_dimensions(text, field_type.dimensions)?;
     push_element(text, &field_type.element)
 }
 
-#[tactic(auto, using(jm_bytes::proofs::Loops::text_steps))]
+#[tactic(auto, using(jm_bytes::proofs::Loops::text_steps, crate::proofs::Loops::known_next, crate::proofs::Loops::known_all))]
 fn push_parameters(text: &mut Vec<u16>, parameters: &[FieldType]) -> Result<(), AllocError>
-    ensures { OnOk result (text.new.items ≡ text.old.items ++ flat_map field_text parameters.now) }
+    ensures text { OnOk result (text.new.items ≡ text.old.items ++ flat_map field_text parameters.now) }
+    ensures range { OnOk result (All TypeInRange parameters.now) }
 {
     for parameter in parameters {
         push_field_type(text, parameter)?;
@@ -78,7 +89,8 @@ fn push_parameters(text: &mut Vec<u16>, parameters: &[FieldType]) -> Result<(), 
 }
 
 fn push_return(text: &mut Vec<u16>, return_type: &Option<FieldType>) -> Result<(), AllocError>
-    ensures { OnOk result (text.new.items ≡ text.old.items ++ return_text return_type.now) }
+    ensures text { OnOk result (text.new.items ≡ text.old.items ++ return_text return_type.now) }
+    ensures range { OnOk result (OfSome TypeInRange return_type.now) }
 {
     match return_type {
         None => {
@@ -91,7 +103,8 @@ fn push_return(text: &mut Vec<u16>, return_type: &Option<FieldType>) -> Result<(
 
 /// The descriptor of a field's type (JVMS 4.3.2).
 pub fn field_text(alloc: Global, field_type: &FieldType) -> Result<Name, AllocError>
-    ensures { IfOk result (λ name. name ≡ field_text field_type.now) }
+    ensures text { IfOk result (λ name. name ≡ field_text field_type.now) }
+    ensures range { OnOk result (TypeInRange field_type.now) }
 {
     let mut text = Vec::new(alloc);
     push_field_type(&mut text, field_type)?;
@@ -100,7 +113,8 @@ pub fn field_text(alloc: Global, field_type: &FieldType) -> Result<Name, AllocEr
 
 /// The descriptor of a method's type (JVMS 4.3.3).
 pub fn method_text(alloc: Global, method_type: &MethodDescriptor) -> Result<Name, AllocError>
-    ensures { IfOk result (λ name. name ≡ method_text method_type.now) }
+    ensures text { IfOk result (λ name. name ≡ method_text method_type.now) }
+    ensures range { OnOk result (MethodTypeInRange method_type.now) }
 {
     let mut text = Vec::new(alloc);
     text.push(PARAMETERS)?;
@@ -112,7 +126,8 @@ pub fn method_text(alloc: Global, method_type: &MethodDescriptor) -> Result<Name
 
 /// The same code units in a place of their own.
 pub fn copied(alloc: Global, units: &[u16]) -> Result<Name, AllocError>
-    ensures { IfOk result (λ name. name ≡ units.now) }
+    ensures text { IfOk result (λ name. name ≡ units.now) }
+    ensures range { UnitsInRange units.now }
 {
     let units = Vec::from_slice(alloc, units)?;
     Ok(Name::new(units))
@@ -120,7 +135,8 @@ pub fn copied(alloc: Global, units: &[u16]) -> Result<Name, AllocError>
 
 /// The name of a class, or the descriptor of an array type (JVMS 4.4.1).
 pub fn class_text(alloc: Global, class: &ClassRef) -> Result<Name, AllocError>
-    ensures { IfOk result (λ name. name ≡ class_text class.now) }
+    ensures text { IfOk result (λ name. name ≡ class_text class.now) }
+    ensures range { OnOk result (ClassRefInRange class.now) }
 {
     match class {
         ClassRef::Class(name) => copied(alloc, name.units()),

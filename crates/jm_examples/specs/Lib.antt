@@ -1,1 +1,2 @@
 pub mod Row
+pub mod Again

@@ -1,7 +1,7 @@
-// The class files among the data: the worked file, and those that the compiler made of the programs
-// in java/ and in refused/.
+// The files among the data: the worked class file, those that the compiler made of the programs in
+// java/ and in refused/, and the assembler's texts in texts/.
 
-pub const ACCEPTED: [&str; 78] = [
+pub const ACCEPTED: &[&str] = &[
     "sum.class",
     "java/Anonymous$1.class",
     "java/Anonymous$1Doubling.class",
@@ -82,7 +82,7 @@ pub const ACCEPTED: [&str; 78] = [
     "java/Varargs.class",
 ];
 
-pub const REFUSED: [&str; 16] = [
+pub const REFUSED: &[&str] = &[
     "refused/ClassLiteral.class",
     "refused/DefaultMethod.class",
     "refused/DoubleConstant.class",
@@ -99,4 +99,43 @@ pub const REFUSED: [&str; 16] = [
     "refused/StaticInterfaceMethod.class",
     "refused/StaticSynchronized.class",
     "refused/Version61.class",
+];
+
+pub const TEXTS: &[&str] = &[
+    "texts/Animal.j",
+    "texts/ArraySum.j",
+    "texts/Bits.j",
+    "texts/BubbleSort.j",
+    "texts/Catch.j",
+    "texts/Collatz.j",
+    "texts/Constants.j",
+    "texts/Counter.j",
+    "texts/Dog.j",
+    "texts/Factorial.j",
+    "texts/Fibonacci.j",
+    "texts/Finally.j",
+    "texts/Gcd.j",
+    "texts/Goto.j",
+    "texts/Hanoi.j",
+    "texts/Initializer.j",
+    "texts/Lines.j",
+    "texts/LongFactorial.j",
+    "texts/Longs.j",
+    "texts/LookupSwitch.j",
+    "texts/Monitor.j",
+    "texts/Node.j",
+    "texts/Overflow.j",
+    "texts/Shape.j",
+    "texts/Shifts.j",
+    "texts/Sieve.j",
+    "texts/Square.j",
+    "texts/StackOfLongs.j",
+    "texts/StackPuzzle.j",
+    "texts/Strings.j",
+    "texts/Sum.j",
+    "texts/TableSwitch.j",
+    "texts/Throwing.j",
+    "texts/Triangle.j",
+    "texts/Wide.j",
+    "texts/Worker.j",
 ];

@@ -1,41 +1,94 @@
-//! Reads the class files among its data and prints a table: for each class how many fields and
-//! methods it has and, over its methods, the sums of max_stack and of max_locals and the rows of
-//! the codes, of the exception tables and of the line number tables; for each file that is refused
-//! why.
+//! Reads the class files among its data, assembles the texts, and prints a table: for each class how
+//! many fields and methods it has and, over its methods, the sums of max_stack and of max_locals and
+//! the rows of the codes, of the exception tables and of the line number tables, and whether it is
+//! equal when it is written and read again; for each file that is refused why. The last line compares
+//! the bytes of the worked text with the worked class file.
 #![tactic(auto)]
 
+mod again;
 mod files;
 mod row;
 
-use files::{ACCEPTED, REFUSED};
+use again::read_again;
+use files::{ACCEPTED, REFUSED, TEXTS};
 use jm_class_reader::read_class;
+use jm_class_writer::write_class;
+use jm_jasmin::assemble;
+use jm_program::Class;
 use row::row_of;
 use std::rt::Files;
 use std::{fs, io};
 
 fn main(rt: HostRuntime) -> io::Result<()> {
-    println!(rt; "file fields methods max_stack max_locals instructions handlers lines")?;
-    for file in ACCEPTED {
-        print_line(&rt, file)?;
-    }
-    for file in REFUSED {
-        print_line(&rt, file)?;
+    println!(rt; "file fields methods max_stack max_locals instructions handlers lines again")?;
+    print_class_files(&rt, ACCEPTED)?;
+    print_class_files(&rt, REFUSED)?;
+    print_texts(&rt, TEXTS)?;
+    print_bytes(&rt, "sum.j", "sum.class")
+}
+
+fn print_class_files(rt: &(impl Print + Files + AllocGlobal), files: &[&str]) -> io::Result<()> {
+    for file in files {
+        print_class_file(rt, file)?;
     }
     Ok(())
 }
 
-// Prints the line of a file, under its name without the folder.
-fn print_line(rt: &(impl Print + Files + AllocGlobal), file: &str) -> io::Result<()> {
-    let bytes = fs::read(rt, file)?;
-    let name = match file.split_once("/") {
+fn print_texts(rt: &(impl Print + Files + AllocGlobal), files: &[&str]) -> io::Result<()> {
+    for file in files {
+        print_text(rt, file)?;
+    }
+    Ok(())
+}
+
+// The name of a file without its folder.
+fn name_of(file: &str) -> &str {
+    match file.split_once("/") {
         Some((_, name)) => name,
         None => file,
-    };
+    }
+}
+
+// Prints the line of a class file.
+fn print_class_file(rt: &(impl Print + Files + AllocGlobal), file: &str) -> io::Result<()> {
+    let bytes = fs::read(rt, file)?;
     match read_class(rt.alloc(), &bytes) {
-        Ok(class) => {
-            let row = row_of(class.parts());
-            println!(rt; "{name} {row}")
-        }
-        Err(fault) => println!(rt; "{name} {fault}"),
+        Ok(class) => print_class(rt, file, &class),
+        Err(fault) => println!(rt; "{} {fault}", name_of(file)),
+    }
+}
+
+// Prints the line of a text.
+fn print_text(rt: &(impl Print + Files + AllocGlobal), file: &str) -> io::Result<()> {
+    let text = fs::read_to_string(rt, file)?;
+    match assemble(rt.alloc(), &text) {
+        Ok(class) => print_class(rt, file, &class),
+        Err(fault) => println!(rt; "{} {fault}", name_of(file)),
+    }
+}
+
+// Prints the line of a class that a file gave.
+fn print_class(rt: &(impl Print + AllocGlobal), file: &str, class: &Class) -> io::Result<()> {
+    let name = name_of(file);
+    let row = row_of(class.parts());
+    let again = read_again(rt.alloc(), class);
+    println!(rt; "{name} {row} {again}")
+}
+
+// Prints whether a text's class is written as the bytes of a class file.
+fn print_bytes(rt: &(impl Print + Files + AllocGlobal), text: &str, file: &str) -> io::Result<()> {
+    let wanted = fs::read(rt, file)?;
+    let source = fs::read_to_string(rt, text)?;
+    let class = match assemble(rt.alloc(), &source) {
+        Ok(class) => class,
+        Err(fault) => return println!(rt; "{text} {fault}"),
+    };
+    match write_class(rt.alloc(), &class) {
+        Ok(bytes) if bytes == wanted => println!(rt;
+            "{text} has the {} bytes of {file}",
+            bytes.len()
+        ),
+        Ok(_) => println!(rt; "{text} has other bytes than {file}"),
+        Err(fault) => println!(rt; "{text} {fault}"),
     }
 }

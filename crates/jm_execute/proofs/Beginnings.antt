@@ -6,7 +6,7 @@ use Rattle.jm_world.specs.declared.event.Event.{Event}
 use Rattle.jm_state.specs.Parts.{parts}
 use Rattle.jm_machine.specs.View.{MachineView, MatchesWorld}
 use Rattle.jm_execute.specs.Verdicts.{Verdict, runs}
-use Rattle.jm_execute.specs.Endings.{Ending, completed, interrupted, exhausted, turned_away, Ends, Allows}
+use Rattle.jm_execute.specs.Endings.{Ending, completed, interrupted, assembled, exhausted, turned_away, Ends, Allows}
 use Rattle.jm_execute.specs.Refusals.{IsReady}
 
 -- a loaded world has its program and its limit
@@ -31,6 +31,7 @@ begins v m events r = subst (MatchesWorld m) (same_beginning m r.program r.limit
 allowed_from : (v : Verdict) (program : List ClassParts) (limit : ℕ) (events : List Event) → v ≡ runs program limit events → (e : Ending) → Ends (loaded_world program limit) events e → Allows v e
 allowed_from v program limit events is (completed w) h = record { program = program; limit = limit; events = events; runs_is = is; world_is = h }
 allowed_from v program limit events is (interrupted w) (made, rest, whole, h) = record { program = program; limit = limit; made = made; rest = rest; runs_is = is ∙ ap (runs program limit) whole; world_is = h }
+allowed_from v program limit events is (assembled bytes) h = absurd h
 allowed_from v program limit events is exhausted h = absurd h
 allowed_from v program limit events is (turned_away status) h = absurd h
 

@@ -1,12 +1,7 @@
 -- What is told of an ending.
 use Rattle.std.proofs.Common.{◌≡◌, ℕ, List, refl, sym, subst, ◌∙◌, Some, Result, Ok, Err, false}
 use Rattle.jm_execute.specs.Written.{WatchedView, AllWritten, Broken, WritesLines}
-use Rattle.jm_execute.specs.Verdicts.{Verdict}
-use Rattle.jm_execute.specs.Endings.{status_without, Ending, Leaves, LinesWritten, output_of, status_after, lines_after}
-use Rattle.jm_execute.specs.Refusals.{GivesRun, refusal_status}
-use Rattle.jm_execute.specs.declared.refusal.Refusal.{Refusal}
-use Rattle.jm_execute.specs.declared.refusal.Obstacle.{Obstacle}
-use Rattle.jm_execute.specs.declared.refusal.Obstacle.TheVariants.{Refused}
+use Rattle.jm_execute.specs.Endings.{Ending, Leaves, LinesWritten, output_of, status_after, lines_after}
 use Rattle.jm_execute.specs.declared.status.Status.{Status}
 use Rattle.jm_execute.specs.declared.status.Status.TheVariants as ends
 
@@ -20,5 +15,6 @@ whole_told e status out new_out err new_err fresh written status_is lines = subs
 pub broken_told : (e : Ending) (out new_out err new_err : WatchedView) → Broken out new_out (output_of e) → Leaves e new_out.failed ends.Files out new_out err new_err
 broken_told e out new_out err new_err broken = subst (λ b. Leaves e b ends.Files out new_out err new_err) (sym broken.failed) (broken, refl)
 
-pub refused_given : (v : Verdict) (o : Obstacle) (r : Refusal) → o ≡ Refused r → GivesRun v (Err o) → status_without v ≡ Some (refusal_status r)
-refused_given v o r is h = subst (λ p. GivesRun v (Err p)) is h
+-- where nothing was written to the output, it has not failed
+pub untouched_told : (e : Ending) (status : Status) (out err new_err : WatchedView) → out.failed ≡ false → Leaves e false status out out err new_err → Leaves e out.failed status out out err new_err
+untouched_told e status out err new_err fresh h = subst (λ b. Leaves e b status out out err new_err) (sym fresh) h

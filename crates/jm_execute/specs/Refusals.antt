@@ -1,16 +1,21 @@
--- What keeps a run from its first event, and the status that follows.
-use Rattle.std.specs.Prelude.{◌≡◌, ℕ, List, ◌++◌, Option, Some, None, Result, Ok, Err, true, false, codes, ⊤}
+-- What keeps a run from its first event, or a class file from being written, and the status that follows.
+use Rattle.std.specs.declared.alloc.Global.{Global}
+use Rattle.std.specs.Prelude.{◌≡◌, ℕ, List, ◌++◌, Vec, Option, Some, None, Result, Ok, Err, true, false, codes, ⊤}
 use Rattle.std.specs.Fmt.{decimal}
 use Rattle.jm_program.specs.declared.class.ClassParts.{ClassParts}
+use Rattle.jm_class_format.specs.ClassFile.{Spells}
 use Rattle.jm_class_format.specs.declared.read_fault.ReadFault.{ReadFault}
+use Rattle.jm_class_writer.specs.ClassParts.{written}
+use Rattle.jm_jasmin_ops.specs.declared.fault.AsmFault.{AsmFault}
 use Rattle.jm_world.specs.Loading.{loaded_world, is_too_small}
 use Rattle.jm_world.specs.Schedules.{schedule}
 use Rattle.jm_world.specs.declared.event.Event.{Event}
 use Rattle.jm_linker.specs.FaultTexts.{fault_text}
 use Rattle.jm_linked.specs.Links.{LinkedView}
 use Rattle.jm_machine.specs.View.{MachineView, MatchesWorld}
+use Rattle.jm_execute.specs.ProgramFiles.{FileFault, in_text, in_class_file}
 use Rattle.jm_execute.specs.Verdicts.{Verdict, links, runs}
-use Rattle.jm_execute.specs.Endings.{status_without}
+use Rattle.jm_execute.specs.Endings.{Assembles, status_without}
 use Rattle.jm_execute.specs.declared.refusal.Refusal.{Refusal}
 use Rattle.jm_execute.specs.declared.refusal.Refusal.TheVariants as refusal
 use Rattle.jm_execute.specs.declared.refusal.Obstacle.{Obstacle}
@@ -21,24 +26,50 @@ use Rattle.jm_execute.specs.declared.status.Status.TheVariants as ends
 abbrev pub refusal_status : Refusal → Status
 refusal_status (refusal.NotRead file) = ends.Files
 refusal_status (refusal.BadClass file fault) = ends.Refused
+refusal_status (refusal.BadText file fault) = ends.Refused
+refusal_status (refusal.Unwritten file fault) = ends.Refused
 refusal_status (refusal.Unlinked fault) = ends.Refused
 refusal_status refusal.HeapTooSmall = ends.Refused
 refusal_status (refusal.BadSchedule line) = ends.BadSchedule
 
--- the line of standard error, without its end; of the names of a class file's faults nothing is said
+-- the line of standard error, without its end; of the names of the faults of a file nothing is said
 abbrev pub refusal_line : Refusal → Option (List ℕ)
 refusal_line (refusal.NotRead file) = Some (codes "jm: " ++ file.now ++ codes ": not read")
 refusal_line (refusal.BadClass file fault) = None
+refusal_line (refusal.BadText file fault) = None
+refusal_line (refusal.Unwritten file fault) = None
 refusal_line (refusal.Unlinked fault) = Some (codes "jm: " ++ fault_text fault)
 refusal_line refusal.HeapTooSmall = Some (codes "jm: 63 HeapTooSmall")
 refusal_line (refusal.BadSchedule line) = Some (codes "jm: 70 BadSchedule(" ++ decimal line ++ codes ")")
 
--- the class that bytes spell, or the fault in them
-abbrev pub GivesClass : Result ClassParts ReadFault → Result ClassParts Obstacle → Type 0
-GivesClass read (Ok class) = read ≡ Ok class
-GivesClass read (Err (Refused (refusal.BadClass file fault))) = read ≡ Err fault
-GivesClass read (Err (Refused _)) = ⊥
-GivesClass read (Err OutOfMemory) = ⊤
+-- the class that a class file spells, or the fault in it
+abbrev pub GivesFileClass : Result ClassParts ReadFault → Result ClassParts Obstacle → Type 0
+GivesFileClass read (Ok class) = read ≡ Ok class
+GivesFileClass read (Err (Refused (refusal.BadClass file fault))) = read ≡ Err fault
+GivesFileClass read (Err (Refused _)) = ⊥
+GivesFileClass read (Err OutOfMemory) = ⊤
+
+-- the class that a program's file holds, or the fault in it
+abbrev pub GivesClass : Result ClassParts FileFault → Result ClassParts Obstacle → Type 0
+GivesClass held (Ok class) = held ≡ Ok class
+GivesClass held (Err (Refused (refusal.BadClass file fault))) = held ≡ Err (in_class_file fault)
+GivesClass held (Err (Refused (refusal.BadText file fault))) = held ≡ Err (in_text fault)
+GivesClass held (Err (Refused _)) = ⊥
+GivesClass held (Err OutOfMemory) = ⊤
+
+-- the class that a text denotes, or the fault in it
+abbrev pub GivesTextClass : Result ClassParts AsmFault → Result ClassParts Obstacle → Type 0
+GivesTextClass denoted (Ok class) = denoted ≡ Ok class
+GivesTextClass denoted (Err (Refused (refusal.BadText file fault))) = denoted ≡ Err fault
+GivesTextClass denoted (Err (Refused _)) = ⊥
+GivesTextClass denoted (Err OutOfMemory) = ⊤
+
+-- the bytes that are written for a class and spell it, or why it has none
+abbrev pub GivesWritten : ClassParts → Result (Vec ℕ Global) Obstacle → Type 0
+GivesWritten class (Ok bytes) = (written class ≡ Ok bytes.items) × Spells bytes.items class
+GivesWritten class (Err (Refused (refusal.Unwritten file fault))) = written class ≡ Err fault
+GivesWritten class (Err (Refused _)) = ⊥
+GivesWritten class (Err OutOfMemory) = ⊤
 
 abbrev pub GivesLinked : List ClassParts → Result LinkedView Obstacle → Type 0
 GivesLinked program (Ok l) = (links program ≡ true) × (l.program ≡ program)
@@ -65,7 +96,15 @@ pub record IsReady (v : Verdict) (m : MachineView) (events : List Event) : Type 
   pub runs_is : v ≡ runs program limit events
   pub matches : MatchesWorld m (loaded_world program limit)
 
+-- memory may be refused at any time
+abbrev pub Hinders : Verdict → Obstacle → Type 0
+Hinders v (Refused r) = status_without v ≡ Some (refusal_status r)
+Hinders v OutOfMemory = ⊤
+
 abbrev pub GivesRun : Verdict → Result (MachineView × List Event) Obstacle → Type 0
 GivesRun v (Ok (m, events)) = IsReady v m events
-GivesRun v (Err (Refused r)) = status_without v ≡ Some (refusal_status r)
-GivesRun v (Err OutOfMemory) = ⊤
+GivesRun v (Err obstacle) = Hinders v obstacle
+
+abbrev pub GivesAssembled : Verdict → Result (Vec ℕ Global) Obstacle → Type 0
+GivesAssembled v (Ok bytes) = Assembles v bytes.items
+GivesAssembled v (Err obstacle) = Hinders v obstacle

@@ -1,15 +1,18 @@
-// What `jm run` does.
+// What `jm run` and `jm asm` do.
 
 ghost use Rattle.std.specs.Prelude.{◌≡◌, false};
+ghost use Rattle.std.specs.String.{string_bytes};
 ghost use Rattle.jm_machine.specs.View.{MatchesWorld};
 ghost use Rattle.jm_shared.specs.Legal.{world_after};
-ghost use Rattle.jm_execute.specs.Endings.{Ending, completed, interrupted, Allows, Ends, Leaves};
-ghost use Rattle.jm_execute.specs.Verdicts.{verdict};
-ghost use Rattle.jm_execute.specs.Written.{held};
+ghost use Rattle.jm_execute.specs.Endings.{Ending, assembled, completed, interrupted, Allows, Ends, Leaves};
+ghost use Rattle.jm_execute.specs.Refusals.{Hinders};
+ghost use Rattle.jm_execute.specs.Verdicts.{Verdict, of_text, run_verdict, verdict};
+ghost use Rattle.jm_execute.specs.Written.{WatchedView, held};
 
+use crate::assembly::assemble_file;
 use crate::ends::status_of;
 use crate::events::make_events;
-use crate::job::Job;
+use crate::job::{AssembleJob, Job, RunJob};
 use crate::preparation::prepare;
 use crate::refusal::Obstacle;
 use crate::report::{write_out_of_memory, write_report};
@@ -89,15 +92,91 @@ fn run_events<R: Room, O: Write, E: Write>(
     }
 }
 
-/// Runs the class of a job by the events of its schedule, one after the other, each a turn of the
-/// first seat in a journal. What the Java program prints goes to `out`, once the last event is
-/// made. Then `err` gets a line for each thread that an exception has ended, and one for the stop
-/// or for the threads that have not ended, if any; the status says how the run ended. A job that
-/// makes no run gets a line on `err` that says why. Where a growth was refused, the output of the
-/// events made is written, and one line says so. Nothing is read from `reader`.
+// Tells of class-file bytes that were made for a file of this name.
+fn tell_assembled<O: Write, E: Write>(
+    bytes: &[u8],
+    file: &str,
+    out: &mut Watched<O>,
+    err: &mut Watched<E>,
+) -> Status
+    requires out { out.old.failed ≡ false }
+    requires err { err.old.failed ≡ false }
+    ensures { Leaves (assembled bytes.now) out.new.failed result (held O.contents out.old) (held O.contents out.new) (held E.contents err.old) (held E.contents err.new) }
+{
+    match out.write_all(bytes) {
+        Ok(()) => Status::Done,
+        Err(_) => {
+            let _told = err.write_line(format_args!("jm: {file}: not written"));
+            Status::Files
+        }
+    }
+}
+
+// Tells why a job is not done. Nothing is written to the output.
+fn tell_obstacle<E: Write>(obstacle: Obstacle<'_>, err: &mut Watched<E>) -> Status
+    requires { err.old.failed ≡ false }
+    ensures { (v : Verdict) → Hinders v obstacle.entry → (out : WatchedView) → out.failed ≡ false → (e : Ending) × Allows v e × Leaves e false result out out (held E.contents err.old) (held E.contents err.new) }
+{
+    match obstacle {
+        Obstacle::Refused(refusal) => {
+            let status = refusal.status();
+            let _told = err.write_line(refusal);
+            status
+        }
+        Obstacle::OutOfMemory => {
+            let _told = write_out_of_memory(err);
+            Status::OutOfMemory
+        }
+    }
+}
+
+fn execute_run<O: Write, E: Write>(
+    alloc: Global,
+    job: &RunJob,
+    out: &mut Watched<O>,
+    err: &mut Watched<E>,
+) -> Status
+    requires out { out.old.failed ≡ false }
+    requires err { err.old.failed ≡ false }
+    ensures { (e : Ending) × Allows (run_verdict job.now) e × Leaves e out.new.failed result (held O.contents out.old) (held O.contents out.new) (held E.contents err.old) (held E.contents err.new) }
+{
+    match prepare(alloc, job) {
+        Ok((machine, schedule)) => run_events::<Brand, O, E>(alloc, machine, &schedule, out, err),
+        Err(obstacle) => tell_obstacle(obstacle, err),
+    }
+}
+
+fn execute_assemble<O: Write, E: Write>(
+    alloc: Global,
+    job: &AssembleJob,
+    out: &mut Watched<O>,
+    err: &mut Watched<E>,
+) -> Status
+    requires out { out.old.failed ≡ false }
+    requires err { err.old.failed ≡ false }
+    ensures { (e : Ending) × Allows (of_text job.now.text.contents) e × Leaves e out.new.failed result (held O.contents out.old) (held O.contents out.new) (held E.contents err.old) (held E.contents err.new) }
+{
+    match assemble_file(alloc, &job.text) {
+        Ok(bytes) => tell_assembled(&bytes, &job.output, out, err),
+        Err(obstacle) => tell_obstacle(obstacle, err),
+    }
+}
+
+/// Does what a job says. A job that cannot be done gets a line on `err` that says why, and writes
+/// nothing to `out`; where a growth was refused that is one line, and the output of the events made
+/// before it is written. Nothing is read from `reader`.
+///
+/// `Run`: the class of the program is run by the events of the schedule, one after the other, each a
+/// turn of the first seat in a journal. What the Java program prints goes to `out`, once the last
+/// event is made. Then `err` gets a line for each thread that an exception has ended, and one for
+/// the stop or for the threads that have not ended, if any; the status says how the run ended.
+///
+/// `Assemble`: the bytes of the class file of the class that the text denotes go to `out`, once they
+/// stand whole in memory, and the status is `Done`.
 ///
 /// Where `out` fails, a beginning of the output stands in it, and the status is `Files`. A failing
 /// `err` changes no status.
+#[tactic(auto, unfolding(crate::specs::Verdicts::verdict))]
 pub fn execute<R: Read, O: Write, E: Write>(
     alloc: Global,
     job: &Job,
@@ -107,19 +186,11 @@ pub fn execute<R: Read, O: Write, E: Write>(
 ) -> Status
     requires out { out.old.failed ≡ false }
     requires err { err.old.failed ≡ false }
-    ensures run { (e : Ending) × Allows (verdict job.now) e × Leaves e out.new.failed result (held O.contents out.old) (held O.contents out.new) (held E.contents err.old) (held E.contents err.new) }
+    ensures done { (e : Ending) × Allows (verdict job.now) e × Leaves e out.new.failed result (held O.contents out.old) (held O.contents out.new) (held E.contents err.old) (held E.contents err.new) }
     ensures reader { reader.new ≡ reader.old }
 {
-    match prepare(alloc, job) {
-        Ok((machine, schedule)) => run_events::<Brand, O, E>(alloc, machine, &schedule, out, err),
-        Err(Obstacle::Refused(refusal)) => {
-            let status = refusal.status();
-            let _told = err.write_line(refusal);
-            status
-        }
-        Err(Obstacle::OutOfMemory) => {
-            let _told = write_out_of_memory(err);
-            Status::OutOfMemory
-        }
+    match job {
+        Job::Run(run) => execute_run(alloc, run, out, err),
+        Job::Assemble(assemble) => execute_assemble(alloc, assemble, out, err),
     }
 }

@@ -15,11 +15,30 @@ pub struct InputFile {
     pub contents: Contents,
 }
 
-/// What `jm run` is to do: to run the class of a file by the events of a schedule.
+/// What `jm` is to do.
 #[derive(Debug, Drop)]
-pub struct Job {
+pub enum Job {
+    /// `jm run`
+    Run(RunJob),
+    /// `jm asm`
+    Assemble(AssembleJob),
+}
+
+/// To run the class of a file by the events of a schedule.
+#[derive(Debug, Drop)]
+pub struct RunJob {
     /// The limit of the heap, in cells.
     pub heap: u32,
     pub schedule: InputFile,
+    /// A class file, or an assembler text where the name ends in `.j`.
     pub program: InputFile,
+}
+
+/// To write the class that an assembler text denotes as a class file.
+#[derive(Debug, Drop)]
+pub struct AssembleJob {
+    /// The assembler text, whatever its name is.
+    pub text: InputFile,
+    /// The name of the class file, for the line that says that it could not be written.
+    pub output: String,
 }

@@ -1,32 +1,42 @@
-//! What `jm run` does with the files that it was given.
+//! What `jm run` and `jm asm` do with the files that they were given.
 //!
-//! [`execute`] runs the class of a [`Job`] by the events of its schedule, writes what the Java
-//! program prints and how the run ended, and answers the [`Status`] of the program. It knows no
+//! [`execute`] does a [`Job`] and answers the [`Status`] of the program. It runs the class of a
+//! program's file by the events of a schedule, and writes what the Java program prints and how the
+//! run ended; or it writes the class file of the class that an assembler text denotes. It knows no
 //! file and no terminal: the files' bytes stand in the job, and the two writers are any writers,
 //! each [`Watched`], so that its contract can say which bytes are written. The output and the lines
-//! are those of the model's run (`jm_world`) over the events that the schedule spells.
+//! of a run are those of the model's run (`jm_world`) over the events that the schedule spells; the
+//! bytes of a class file spell the class of its text (`jm_class_format`, `jm_jasmin`).
 //!
-//! `preparation` goes from files to a machine, `events` makes the events, `report` and `ends` say
-//! how a run ended. The crate stands on `jm_class_reader`, `jm_linker`, `jm_machine`, `jm_heap` and
-//! `jm_schedule`.
+//! `program_file` says which class a file holds, `preparation` goes from files to a machine,
+//! `events` makes the events, `report` and `ends` say how a run ended, and `assembly` goes from a
+//! text to a class file. The crate stands on `jm_class_reader`, `jm_jasmin`, `jm_class_writer`,
+//! `jm_linker`, `jm_machine`, `jm_heap` and `jm_schedule`.
 #![tactic(auto)]
 
+mod assembly;
 mod class_name;
 mod ends;
 mod events;
 mod execution;
 mod job;
+mod laws;
+mod number;
 mod preparation;
+mod program_file;
 mod refusal;
 mod report;
 mod status;
 mod watched;
 
+pub use assembly::assemble_file;
 pub use ends::status_of;
 pub use events::make_events;
 pub use execution::execute;
-pub use job::{Contents, InputFile, Job};
+pub use job::{AssembleJob, Contents, InputFile, Job, RunJob};
+pub use laws::class_of_its_text;
 pub use preparation::{Ready, prepare};
+pub use program_file::{class_in_file, class_in_text};
 pub use refusal::{Obstacle, Refusal};
 pub use report::{write_out_of_memory, write_report};
 pub use status::Status;

@@ -1,18 +1,19 @@
 // From a job's files to a machine and the events that it is to make.
 
 ghost use Rattle.std.specs.Prelude.{◌∷◌, [], ℕ, List};
-ghost use Rattle.jm_class_format.specs.ClassFile.{class_file};
-ghost use Rattle.jm_execute.specs.Refusals.{GivesClass, GivesLinked, GivesMachine, GivesSchedule, GivesRun};
-ghost use Rattle.jm_execute.specs.Verdicts.{of_class, of_link, of_load, of_program, of_schedule, verdict};
+ghost use Rattle.std.specs.String.{string_bytes};
+ghost use Rattle.jm_execute.specs.ProgramFiles.{file_class};
+ghost use Rattle.jm_execute.specs.Refusals.{GivesLinked, GivesMachine, GivesSchedule, GivesRun};
+ghost use Rattle.jm_execute.specs.Verdicts.{of_class, of_link, of_load, of_program, of_schedule, run_verdict};
 ghost use Rattle.jm_machine.specs.View.{MatchesWorld};
 ghost use Rattle.jm_program.specs.declared.class.ClassParts.{ClassParts};
 ghost use Rattle.jm_world.specs.Loading.{is_too_small, loaded_world};
 ghost use Rattle.jm_world.specs.Schedules.{schedule};
 ghost use Rattle.jm_execute.specs.Verdicts.{links};
 
-use crate::job::{Contents, InputFile, Job};
+use crate::job::{Contents, InputFile, RunJob};
+use crate::program_file::class_in_file;
 use crate::refusal::{Obstacle, Refusal};
-use jm_class_reader::{ReadFault, read_class};
 use jm_heap::PlainHeap;
 use jm_linked::Linked;
 use jm_linker::{LinkFault, link};
@@ -20,16 +21,6 @@ use jm_machine::{LoadFault, Machine};
 use jm_program::Class;
 use jm_schedule::{Schedule, ScheduleFault, read_schedule};
 use std::alloc::Global;
-
-fn class_of<'a>(alloc: Global, file: &'a str, bytes: &[u8]) -> Result<Class, Obstacle<'a>>
-    ensures { GivesClass (class_file.read bytes.now) result }
-{
-    match read_class(alloc, bytes) {
-        Ok(class) => Ok(class),
-        Err(ReadFault::OutOfMemory) => Err(Obstacle::OutOfMemory),
-        Err(fault) => Err(Obstacle::Refused(Refusal::BadClass(file, fault))),
-    }
-}
 
 fn linked_of<'a>(alloc: Global, class: Class) -> Result<Linked, Obstacle<'a>>
     ensures { GivesLinked (class ∷ []) result }
@@ -122,9 +113,9 @@ fn with_bytes<'a>(
     limit: u32,
     text: &[u8],
 ) -> Result<Ready, Obstacle<'a>>
-    ensures { GivesRun (of_class limit text.now (class_file.read bytes.now)) result }
+    ensures { GivesRun (of_class limit text.now (file_class file.now bytes.now)) result }
 {
-    match class_of(alloc, file, bytes) {
+    match class_in_file(alloc, file, bytes) {
         Ok(class) => with_class(alloc, class, limit, text),
         Err(obstacle) => Err(obstacle),
     }
@@ -136,7 +127,7 @@ fn with_text<'a>(
     limit: u32,
     text: &[u8],
 ) -> Result<Ready, Obstacle<'a>>
-    ensures { GivesRun (of_program limit text.now program.now.contents) result }
+    ensures { GivesRun (of_program limit text.now (string_bytes program.now.name) program.now.contents) result }
 {
     match &program.contents {
         Contents::Bytes(bytes) => with_bytes(alloc, &program.name, bytes, limit, text),
@@ -147,10 +138,10 @@ fn with_text<'a>(
 
 /// The machine that a job's program begins with, and the events that its schedule spells. A file
 /// that could not be read is the first obstacle, the schedule before the program; then what is
-/// wrong with the class file, with the class, with the heap's limit, and with the schedule.
-#[tactic(auto, unfolding(crate::specs::Verdicts::verdict))]
-pub fn prepare<'a>(alloc: Global, job: &'a Job) -> Result<Ready, Obstacle<'a>>
-    ensures { GivesRun (verdict job.now) result }
+/// wrong with the program's file, with its class, with the heap's limit, and with the schedule.
+#[tactic(auto, unfolding(crate::specs::Verdicts::run_verdict))]
+pub fn prepare<'a>(alloc: Global, job: &'a RunJob) -> Result<Ready, Obstacle<'a>>
+    ensures { GivesRun (run_verdict job.now) result }
 {
     match &job.schedule.contents {
         Contents::Bytes(text) => with_text(alloc, &job.program, job.heap, text),

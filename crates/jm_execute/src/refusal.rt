@@ -1,21 +1,28 @@
-// Why a job makes no run.
+// Why a job is not done.
 
 ghost use Rattle.std.specs.Prelude.{◌≡◌};
 ghost use Rattle.jm_execute.specs.Refusals.{refusal_line, refusal_status};
 
+use crate::number::Number;
 use crate::status::Status;
 use jm_class_reader::ReadFault;
+use jm_class_writer::WriteFault;
+use jm_jasmin::AsmFault;
 use jm_linker::LinkFault;
 use std::fmt;
 use std::fmt::Display;
 
-/// Why a job makes no run, as a line of standard error says it.
+/// Why a job is not done, as a line of standard error says it.
 #[derive(Debug, Drop)]
 pub enum Refusal<'a> {
     /// The file of this name could not be read.
     NotRead(&'a str),
     /// The file of this name spells no class.
     BadClass(&'a str, ReadFault),
+    /// The file of this name holds a text that denotes no class.
+    BadText(&'a str, AsmFault),
+    /// The class of the text of this name passes a limit of class files.
+    Unwritten(&'a str, WriteFault),
     Unlinked(LinkFault),
     HeapTooSmall,
     /// The line of this number, from 1, spells no event, or one too many.
@@ -30,6 +37,8 @@ impl Refusal<'_> {
         match self {
             Refusal::NotRead(_) => Status::Files,
             Refusal::BadClass(_, _) => Status::Refused,
+            Refusal::BadText(_, _) => Status::Refused,
+            Refusal::Unwritten(_, _) => Status::Refused,
             Refusal::Unlinked(_) => Status::Refused,
             Refusal::HeapTooSmall => Status::Refused,
             Refusal::BadSchedule(_) => Status::BadSchedule,
@@ -44,14 +53,16 @@ impl Display for Refusal<'_> {
         match self {
             Refusal::NotRead(file) => write!(f, "jm: {file}: not read"),
             Refusal::BadClass(file, fault) => write!(f, "jm: {file}: {fault}"),
+            Refusal::BadText(file, fault) => write!(f, "jm: {file}: {fault}"),
+            Refusal::Unwritten(file, fault) => write!(f, "jm: {file}: {fault}"),
             Refusal::Unlinked(fault) => write!(f, "jm: {fault}"),
             Refusal::HeapTooSmall => f.write_str("jm: 63 HeapTooSmall"),
-            Refusal::BadSchedule(line) => write!(f, "jm: 70 BadSchedule({line})"),
+            Refusal::BadSchedule(line) => write!(f, "jm: 70 BadSchedule({})", Number(*line)),
         }
     }
 }
 
-/// What keeps a run from its first event.
+/// What keeps a run from its first event, or a class file from being written.
 #[derive(Debug, Drop)]
 pub enum Obstacle<'a> {
     Refused(Refusal<'a>),

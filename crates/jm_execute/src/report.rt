@@ -8,6 +8,7 @@ ghost use Rattle.jm_execute.specs.Written.{WritesLines, held};
 ghost use Rattle.jm_execute.specs.Reports.{ended_line, thread_line, thread_lines, stop_text, live_line, last_line, report, memory_line};
 
 use crate::class_name::ClassName;
+use crate::number::Number;
 use crate::watched::{Watched, WriteFailed};
 use jm_heap::Heap;
 use jm_machine::Machine;
@@ -23,6 +24,7 @@ fn write_ended<W: Write>(
 ) -> Result<(), WriteFailed>
     ensures { WritesLines result (held W.contents err.old) (held W.contents err.new) (ended_line number class.now) }
 {
+    let number = Number(number);
     let class = ClassName(class);
     err.write_line(format_args!("jm: thread {number} ended by {class}"))
 }
@@ -83,6 +85,7 @@ fn write_live<W: Write>(err: &mut Watched<W>, live: u64) -> Result<(), WriteFail
     if live == 0 {
         return Ok(());
     }
+    let live = Number(live);
     err.write_line(format_args!("jm: {live} threads not ended"))
 }
 

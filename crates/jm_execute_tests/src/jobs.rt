@@ -1,7 +1,7 @@
 // Jobs with their output, their lines and their status.
 
 use crate::class_file::{BY_ZERO, LATER, SUM, WRONG_TAG, main_with};
-use jm_execute::{Contents, InputFile, Job, Status, Watched, execute};
+use jm_execute::{Contents, InputFile, Job, RunJob, Status, Watched, execute};
 use std::alloc::{AllocError, Global};
 use std::process::Abort;
 use std::test::Fail;
@@ -120,29 +120,34 @@ const CASES: [Case; 12] = [
     },
 ];
 
-// A file with this content.
-fn file(alloc: Global, name: &str, contents: Contents) -> Result<InputFile, AllocError> {
+/// A file with this content.
+pub fn file(alloc: Global, name: &str, contents: Contents) -> Result<InputFile, AllocError> {
     Ok(InputFile {
         name: String::from_str(alloc, name)?,
         contents,
     })
 }
 
-// A run of these files.
+/// A run of these files.
 pub fn job(alloc: Global, schedule: Contents, program: Contents) -> Result<Job, AllocError> {
-    Ok(Job {
-        heap: 65_536,
-        schedule: file(alloc, "events", schedule)?,
-        program: file(alloc, "Main.class", program)?,
-    })
+    run_of(alloc, schedule, file(alloc, "Main.class", program)?)
 }
 
-// Runs a job, and compares the output, the lines and the status.
-fn compare(
+/// A run of a program's file.
+pub fn run_of(alloc: Global, schedule: Contents, program: InputFile) -> Result<Job, AllocError> {
+    Ok(Job::Run(RunJob {
+        heap: 65_536,
+        schedule: file(alloc, "events", schedule)?,
+        program,
+    }))
+}
+
+/// Does a job, and compares the output, the lines and the status.
+pub fn compare(
     rt: &impl Abort,
     alloc: Global,
     job: &Job,
-    output: &str,
+    output: &[u8],
     lines: &str,
     status: Status,
 ) -> Result<(), Fail> {
@@ -160,7 +165,7 @@ fn compare(
         assert!(rt; !out.has_failed());
         assert!(rt; !err.has_failed());
     }
-    assert_eq!(rt; written.as_slice(), output.as_bytes(), "{lines}");
+    assert_eq!(rt; written.as_slice(), output, "{lines}");
     assert_eq!(rt; told.as_slice(), lines.as_bytes(), "{lines}");
     Ok(())
 }
@@ -173,7 +178,14 @@ fn worked_programs(rt: HostRuntime) -> Result<(), Fail> {
             let program = Contents::Bytes(main_with(alloc, case.code)?);
             let schedule = Contents::Bytes(case.schedule.as_bytes().to_vec(alloc)?);
             let job = job(alloc, schedule, program)?;
-            compare(&rt, alloc, &job, case.output, case.lines, case.status)?;
+            compare(
+                &rt,
+                alloc,
+                &job,
+                case.output.as_bytes(),
+                case.lines,
+                case.status,
+            )?;
             assert_eq!(rt; case.status.code(), case.code_of_status);
         }
     }
@@ -189,7 +201,7 @@ fn files_that_are_not_read(rt: HostRuntime) -> Result<(), Fail> {
         &rt,
         alloc,
         &missing,
-        "",
+        b"",
         "jm: events: not read\n",
         Status::Files,
     )?;
@@ -198,7 +210,7 @@ fn files_that_are_not_read(rt: HostRuntime) -> Result<(), Fail> {
         &rt,
         alloc,
         &missing,
-        "",
+        b"",
         "jm: events: not read\n",
         Status::Files,
     )?;
@@ -208,7 +220,7 @@ fn files_that_are_not_read(rt: HostRuntime) -> Result<(), Fail> {
         &rt,
         alloc,
         &missing,
-        "",
+        b"",
         "jm: Main.class: not read\n",
         Status::Files,
     )?;
@@ -219,7 +231,7 @@ fn files_that_are_not_read(rt: HostRuntime) -> Result<(), Fail> {
         &rt,
         alloc,
         &exhausted,
-        "",
+        b"",
         "jm: 61 OutOfMemory\n",
         Status::OutOfMemory,
     )?;
@@ -238,7 +250,7 @@ fn a_class_that_is_cut(rt: HostRuntime) -> Result<(), Fail> {
         &rt,
         alloc,
         &cut,
-        "",
+        b"",
         "jm: Main.class: 32 Cut\n",
         Status::Refused,
     )

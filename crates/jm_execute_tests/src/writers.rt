@@ -9,8 +9,8 @@ use std::test::Fail;
 
 /// Takes so many bytes, one at a call, and then none.
 #[derive(Drop)]
-struct Narrow {
-    room: usize,
+pub struct Narrow {
+    pub room: usize,
 }
 
 impl Write for Narrow {
@@ -29,7 +29,7 @@ impl Write for Narrow {
 
 /// Answers an error to each write, as a pipe that is closed does.
 #[derive(Drop)]
-struct Closed;
+pub struct Closed;
 
 impl Write for Closed {
     fn write(&mut self, _buf: &[u8]) -> io::Result<usize> {

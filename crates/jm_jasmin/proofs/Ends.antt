@@ -1,6 +1,5 @@
 -- A fault at the end of the text is never the want of memory.
-use Rattle.std.proofs.Common.{◌≡◌, ℕ, Bool, true, false, Result, Ok, Err, refl, ap, ◌∙◌, if◌then◌else◌}
-use Rattle.jm_jasmin_ops.specs.Faults.{line_of}
+use Rattle.std.proofs.Common.{◌≡◌, Result, Err, refl, ap, ◌∙◌}
 use Rattle.jm_jasmin_ops.specs.declared.fault.AsmFault.{AsmFault}
 use Rattle.jm_jasmin_ops.specs.declared.fault.AsmFault.TheVariants as fault
 use Rattle.jm_jasmin.specs.Text.{fault_at_end, with_end}

@@ -1,5 +1,5 @@
 -- What the items of a body come to with one more.
-use Rattle.std.proofs.Common.{◌≡◌, ℕ, suc, ◌+◌, Bool, true, false, cond, List, [], ◌∷◌, ◌++◌, Option, Some, None, refl, ap, ◌∙◌, sym, arith}
+use Rattle.std.proofs.Common.{◌≡◌, ℕ, ◌+◌, Bool, true, false, List, [], ◌∷◌, ◌++◌, Option, Some, None, refl, ap, ◌∙◌, arith}
 use Rattle.std.specs.Prelude.{if◌then◌else◌}
 use Rattle.jm_program.specs.Names.{same_text}
 use Rattle.jm_class_format.specs.Symbols.{or_else}
@@ -16,7 +16,7 @@ or_assoc : {A : Type 0} (o p q : Option A) → or_else (or_else o p) q ≡ or_el
 or_assoc None p q = refl
 or_assoc (Some x) p q = refl
 
-label_more : (items : List Item) (i : Item) (name : List ℕ) → label_value (items ++ i ∷ []) name ≡ or_else (value_here name i) (label_value items name)
+pub label_more : (items : List Item) (i : Item) (name : List ℕ) → label_value (items ++ i ∷ []) name ≡ or_else (value_here name i) (label_value items name)
 unfolding label_value
 label_more [] i name = or_none (value_here name i)
 label_more (j ∷ items) i name = ap (λ (o : Option ℕ). or_else o (value_here name j)) (label_more items i name) ∙ or_assoc (value_here name i) (label_value items name) (value_here name j)
@@ -31,7 +31,7 @@ unfolding locals_limit
 locals_more [] i = or_none (locals_here i)
 locals_more (j ∷ items) i = ap (λ (o : Option ℕ). or_else o (locals_here j)) (locals_more items i) ∙ or_assoc (locals_here i) (locals_limit items) (locals_here j)
 
-count_more : (items : List Item) (i : Item) → instruction_count (items ++ i ∷ []) ≡ instruction_count items + instruction_here i
+pub count_more : (items : List Item) (i : Item) → instruction_count (items ++ i ∷ []) ≡ instruction_count items + instruction_here i
 unfolding instruction_count
 count_more [] i = refl
 count_more (j ∷ items) i = omega (arith, count_more items i)

@@ -8,5 +8,11 @@ pub mod Ranges
 pub mod PartTables
 pub mod Taken
 pub mod Ends
-pub mod Rules
 pub mod Denoted
+pub mod Readings
+pub mod HeaderFits
+pub mod FieldsFit
+pub mod DeclarationFits
+pub mod ItemsFit
+pub mod CodeFits
+pub mod ClassFits

@@ -1,9 +1,8 @@
 -- The lines before the fields (Jasmin User Guide, "Jasmin Assembler Directives", .bytecode, .source, .class, .interface, .super,
 -- .implements).
-use Rattle.std.specs.Prelude.{ℕ, ◌+◌, ◌-◌, ◌*◌, ◌==◌, nat_lt, nat_le, Bool, ◌&&◌, if◌then◌else◌, List, [], ◌∷◌, length, take, drop, Option, Some, None, Result, Ok, Err, codes}
+use Rattle.std.specs.Prelude.{ℕ, ◌+◌, ◌-◌, ◌*◌, ◌==◌, nat_lt, nat_le, ◌&&◌, if◌then◌else◌, List, [], ◌∷◌, length, take, drop, Option, Some, None, Result, Ok, Err, codes}
 use Rattle.std.specs.List.{position}
 use Rattle.jm_program.specs.Fits.{version_fits}
-use Rattle.jm_program.specs.Texts.{utf16_of}
 use Rattle.jm_program.specs.declared.class.Version.{Version}
 use Rattle.jm_jasmin_lex.specs.Token.{TokenParts}
 use Rattle.jm_jasmin_ops.specs.declared.fault.AsmFault.{AsmFault}

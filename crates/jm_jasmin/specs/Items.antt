@@ -4,7 +4,6 @@ use Rattle.std.specs.Prelude.{ℕ, ◌+◌, ◌-◌, ◌^◌, ◌==◌, nat_lt, 
 use Rattle.jm_program.specs.Flags.{is_abstract}
 use Rattle.jm_program.specs.Names.{same_text}
 use Rattle.jm_program.specs.Fits.{method_slots}
-use Rattle.jm_program.specs.Texts.{utf16_of}
 use Rattle.jm_program.specs.declared.class.Method.{Method}
 use Rattle.jm_class_format.specs.Symbols.{or_else}
 use Rattle.jm_jasmin_lex.specs.Token.{TokenParts}
@@ -12,11 +11,10 @@ use Rattle.jm_jasmin_lex.specs.Lines.{first_line}
 use Rattle.jm_jasmin_ops.specs.Instruction.{instruction_at}
 use Rattle.jm_jasmin_ops.specs.declared.fault.AsmFault.{AsmFault}
 use Rattle.jm_jasmin_ops.specs.declared.fault.AsmFault.TheVariants as fault
-use Rattle.jm_jasmin.specs.declared.item.CatchRow.{CatchRow}
 use Rattle.jm_jasmin.specs.declared.item.Item.{Item}
 use Rattle.jm_jasmin.specs.declared.item.Item.TheVariants as item
 use Rattle.jm_jasmin.specs.Lines.{◌>>=◌, Reading, is_word_kind, is_word_at, begins, line_number, by_line, taken_on}
-use Rattle.jm_jasmin.specs.Words.{with_length, only_operand, operand, short_operand}
+use Rattle.jm_jasmin.specs.Words.{with_length, only_operand, short_operand}
 use Rattle.jm_jasmin.specs.Symbols.{class_name_at, units_at}
 
 -- ---- what the items of a body come to

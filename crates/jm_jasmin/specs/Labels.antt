@@ -1,9 +1,8 @@
 -- Labels and what uses them (Jasmin User Guide, "Labels"): each use becomes the number of an instruction, by where the labels stand.
-use Rattle.std.specs.Prelude.{ℕ, ◌==◌, nat_lt, nat_le, Bool, if◌then◌else◌, List, Option, Some, None, Result, Ok, Err}
+use Rattle.std.specs.Prelude.{ℕ, nat_lt, if◌then◌else◌, List, Option, Some, None, Result, Ok, Err}
 use Rattle.jm_bytes.specs.Reading.{each}
 use Rattle.jm_program.specs.Texts.{utf16_of}
 use Rattle.jm_program.specs.declared.code.Handler.{Handler}
-use Rattle.jm_program.specs.declared.code.LineNumber.{LineNumber}
 use Rattle.jm_program.specs.declared.instruction.plain.SwitchPair.{SwitchPair}
 use Rattle.jm_program.specs.declared.instruction.plain.Plain.TheVariants as plain
 use Rattle.jm_program.specs.declared.instruction.symbolic.Instr.{Instr}
@@ -71,6 +70,6 @@ handler_of value_of count row = do
 -- what becomes of an item: a line that begins behind the last instruction names none
 unfoldable pub part_of : (List ℕ → Option ℕ) → ℕ → Item → Result Part AsmFault
 part_of value_of count (item.Instruction i) = instruction_of value_of count i >>= λ i. Ok (part.Instruction i)
-part_of value_of count (item.Catch row) = handler_of value_of count row >>= λ h. Ok (part.Handler h row.line)
+part_of value_of count (item.Catch row) = handler_of value_of count row >>= λ h. Ok (part.Handler h)
 part_of value_of count (item.Line entry) = Ok (if nat_lt entry.start count then part.Line entry else part.Nothing)
 part_of value_of count _ = Ok part.Nothing

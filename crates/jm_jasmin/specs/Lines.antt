@@ -1,6 +1,6 @@
 -- Readings of an assembler text by its lines (Jasmin User Guide, "Jasmin Syntax"): what the line or the lines at the front of the tokens
 -- say, and the tokens behind them, or the fault that ends the reading.
-use Rattle.std.specs.Prelude.{◌≡◌, ℕ, zero, suc, ◌+◌, ◌==◌, Bool, true, false, ◌&&◌, if◌then◌else◌, List, [], ◌∷◌, ◌++◌, length, Option, Some, None, Result, Ok, Err, slice_get}
+use Rattle.std.specs.Prelude.{◌≡◌, ℕ, zero, suc, Bool, true, false, ◌&&◌, if◌then◌else◌, List, [], ◌∷◌, ◌++◌, Option, Some, None, Result, Ok, Err, slice_get}
 use Rattle.jm_bytes.specs.Reading.{and_then}
 use Rattle.jm_program.specs.Names.{same_text}
 use Rattle.jm_jasmin_lex.specs.Token.{TokenParts}

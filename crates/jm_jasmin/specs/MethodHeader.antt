@@ -1,11 +1,10 @@
 -- The line of a method: .method [flags] NAMEDESC (Jasmin User Guide, "Method Definitions").
-use Rattle.std.specs.Prelude.{ℕ, ◌-◌, ◌==◌, Bool, true, false, not, ◌&&◌, ◌||◌, if◌then◌else◌, List, length, take, drop, Option, Some, None, Result, Ok, Err}
+use Rattle.std.specs.Prelude.{ℕ, ◌-◌, ◌==◌, Bool, not, ◌&&◌, ◌||◌, if◌then◌else◌, List, length, take, drop, Option, Some, None, Result, Ok, Err}
 use Rattle.std.specs.List.{position}
 use Rattle.jm_program.specs.Flags.{is_static, is_synchronized, is_abstract}
 use Rattle.jm_program.specs.Names.{is_init, is_clinit}
 use Rattle.jm_program.specs.Fits.{is_class_initializer, is_finalizer}
 use Rattle.jm_program.specs.declared.class.Method.{Method}
-use Rattle.jm_program.specs.declared.flags.AccessFlags.{AccessFlags}
 use Rattle.jm_class_format.specs.Members.{own_receiver}
 use Rattle.jm_class_format.specs.declared.read_fault.LeftOutPart.{LeftOutPart}
 use Rattle.jm_class_format.specs.declared.read_fault.LeftOutPart.TheVariants as part

@@ -1,19 +1,18 @@
 -- The class that an assembler text denotes (Jasmin User Guide), or the first fault in the order of its lines.
-use Rattle.std.specs.Prelude.{ℕ, ◌==◌, Bool, true, false, not, if◌then◌else◌, List, [], ◌∷◌, ◌++◌, length, take, ◌-◌, Option, Some, None, Result, Ok, Err, slice_get}
+use Rattle.std.specs.Prelude.{ℕ, ◌==◌, Bool, false, if◌then◌else◌, List, [], ◌∷◌, ◌++◌, length, take, ◌-◌, Option, Some, None, Result, Ok, Err, slice_get}
 use Rattle.std.specs.List.{position}
 use Rattle.jm_program.specs.Flags.{is_interface}
 use Rattle.jm_program.specs.declared.class.ClassParts.{ClassParts}
 use Rattle.jm_program.specs.declared.class.Field.{Field}
 use Rattle.jm_program.specs.declared.class.Method.{Method}
-use Rattle.jm_class_format.specs.ClassFile.{class_fits}
-use Rattle.jm_jasmin_lex.specs.Token.{TokenParts, LexedParts}
+use Rattle.jm_jasmin_lex.specs.Token.{TokenParts}
 use Rattle.jm_jasmin_lex.specs.Tokens.{lexed_of}
 use Rattle.jm_jasmin_lex.specs.declared.token.TokenKind.TheVariants as kind
 use Rattle.jm_jasmin_ops.specs.Faults.{line_of}
 use Rattle.jm_jasmin_ops.specs.declared.fault.AsmFault.{AsmFault}
 use Rattle.jm_jasmin_ops.specs.declared.fault.AsmFault.TheVariants as fault
 use Rattle.jm_jasmin.specs.declared.header.Header.{Header}
-use Rattle.jm_jasmin.specs.Lines.{◌>>=◌, line_number, line_at}
+use Rattle.jm_jasmin.specs.Lines.{◌>>=◌, line_number}
 use Rattle.jm_jasmin.specs.Header.{header}
 use Rattle.jm_jasmin.specs.Fields.{fields}
 use Rattle.jm_jasmin.specs.Methods.{methods}
@@ -40,14 +39,14 @@ parts_of h fs ms = record {
 unfoldable pub text_ends : List TokenParts → Result (Unit {0}) AsmFault
 text_ends ts = if line_number ts == 0 then Ok tt else Err (fault.Syntax (line_number ts))
 
--- the lines up to the end of the text, which keep the rules of a class
+-- the lines up to the end of the text
 unfoldable pub class_of : List TokenParts → Result ClassParts AsmFault
 class_of ts = do
   h ← header ts
   fs ← fields h.1
   ms ← methods (is_interface h.0.flags) fs.1
   _ ← text_ends ms.1
-  if class_fits (parts_of h.0 fs.0 ms.0) then Ok (parts_of h.0 fs.0 ms.0) else Err (fault.Syntax 0)
+  Ok (parts_of h.0 fs.0 ms.0)
 
 -- ---- faults at the end of the text
 

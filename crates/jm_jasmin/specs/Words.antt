@@ -1,5 +1,5 @@
 -- The operands of a directive's line (Jasmin User Guide, "Jasmin Assembler Directives").
-use Rattle.std.specs.Prelude.{ℕ, ℤ, pos, ◌+◌, ◌-◌, ◌*◌, ◌==◌, nat_lt, nat_le, Bool, ◌&&◌, if◌then◌else◌, List, [], ◌∷◌, length, take, drop, Option, Some, None, Result, Ok, Err, slice_get, bit_or, codes}
+use Rattle.std.specs.Prelude.{ℕ, ℤ, pos, ◌==◌, nat_le, if◌then◌else◌, List, [], ◌∷◌, length, take, drop, Option, Some, None, Result, Ok, Err, slice_get, bit_or, codes}
 use Rattle.jm_program.specs.Names.{same_text}
 use Rattle.jm_class_format.specs.declared.read_fault.LeftOutPart.TheVariants as part
 use Rattle.jm_jasmin_lex.specs.Token.{TokenParts}

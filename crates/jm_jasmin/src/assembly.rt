@@ -1,11 +1,10 @@
 // The class that a text denotes (Jasmin User Guide).
 
 ghost use Rattle.std.specs.List.{position};
-ghost use Rattle.std.specs.Prelude.{◌≡◌, ◌==◌, ◌++◌, ◌∷◌, [], IfOk, IsTrue, Ok};
+ghost use Rattle.std.specs.Prelude.{◌≡◌, ◌==◌, ◌++◌, ◌∷◌, [], IfOk, Ok};
 ghost use Rattle.jm_bytes.specs.Reading.{GivesAll, TakesAll};
 ghost use Rattle.jm_program.specs.Fits.{Fits};
 ghost use Rattle.jm_program.specs.declared.class.ClassParts.{ClassParts};
-ghost use Rattle.jm_class_format.specs.ClassFile.{class_fits};
 ghost use Rattle.jm_jasmin_ops.specs.declared.fault.AsmFault.TheVariants.{OutOfMemory};
 ghost use Rattle.jm_jasmin.specs.Text.{end_of_text, with_end, parts_of, text_ends, class_of, fault_at_end, last_line, before_line, read_whole, read_up_to, denoted};
 
@@ -48,14 +47,6 @@ fn text_ends(lines: &Lines<'_, '_>) -> Result<(), AsmFault>
     }
 }
 
-// Whether these are the parts of a class.
-fn fits(parts: &ClassParts) -> bool
-    ensures value { result ≡ class_fits parts.now }
-    ensures fits { IsTrue result → Fits parts.now }
-{
-    parts.fits()
-}
-
 // The class of the lines up to the end of the text.
 #[tactic(auto, unfolding(crate::specs::Text::class_of))]
 fn class_of(alloc: Global, tokens: &[Token<'_>]) -> Result<ClassParts, AsmFault>
@@ -68,11 +59,7 @@ fn class_of(alloc: Global, tokens: &[Token<'_>]) -> Result<ClassParts, AsmFault>
     let fields = fields(alloc, &mut lines)?;
     let methods = methods(alloc, in_interface, &mut lines)?;
     text_ends(&lines)?;
-    let parts = parts_of(header, fields, methods);
-    if !fits(&parts) {
-        return Err(AsmFault::Syntax(0));
-    }
-    Ok(parts)
+    Ok(parts_of(header, fields, methods))
 }
 
 // ---- the end of the text
@@ -179,9 +166,9 @@ fn parts_in(alloc: Global, text: &str) -> Result<ClassParts, AsmFault>
 /// and a name that are none, 40 for a line that is not of words and strings, 41 for a line that
 /// the grammar does not have there, or whose text ends too early, 42 for a label that its method
 /// has already, 45 for a number or a count that does not fit its place, 46 for what is left out,
-/// 47 for what is refused for now; and at the end of a method 43 for the use of a label that it
-/// does not have, 45 for an empty range, for no instruction, and for locals that do not hold the
-/// arguments. [`AsmFault::OutOfMemory`] where a growth was refused.
+/// 47 for what is refused for now; and at the end of a method, in this order, 45 for locals that
+/// do not hold the arguments, 45 for an empty range, 43 for the use of a label that the method does
+/// not have, and 45 for no instruction. [`AsmFault::OutOfMemory`] where a growth was refused.
 pub fn assemble(alloc: Global, text: &str) -> Result<Class, AsmFault>
     ensures given { GivesAll (λ c. c) OutOfMemory result (denoted text.now) }
     ensures fits { (c : ClassParts) → denoted text.now ≡ Ok c → Fits c }

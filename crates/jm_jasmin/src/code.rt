@@ -7,10 +7,11 @@ ghost use Rattle.jm_program.specs.Fits.{method_slots};
 ghost use Rattle.jm_jasmin_ops.specs.declared.fault.AsmFault.TheVariants.{OutOfMemory};
 ghost use Rattle.jm_jasmin.specs.Items.{instruction_count, label_value, stack_limit, locals_limit};
 ghost use Rattle.jm_jasmin.specs.Labels.{part_of};
-ghost use Rattle.jm_jasmin.specs.Body.{limit_or_one, checked_limits, code_with, code_of, tables_of};
+ghost use Rattle.jm_jasmin.specs.Body.{limit_or_one, unless_fault, empty_range, checked_locals, checked_count, code_with, code_of, tables_of};
 
 use crate::body::Body;
-use crate::part::{Part, empty_range, parts_of, tables_of};
+use crate::part::{Part, parts_of, tables_of};
+use crate::range::empty_range;
 use jm_jasmin_ops::AsmFault;
 use jm_program::{AccessFlags, Code, Method};
 use std::alloc::{AllocError, Global};
@@ -34,29 +35,39 @@ fn limit_or_one(limit: Option<u16>) -> u16
     limit.unwrap_or(1)
 }
 
-// A method that is not abstract has an instruction, and its locals hold its arguments.
-#[tactic(auto, unfolding(crate::specs::Body::checked_limits))]
-fn checked_limits(
-    method: &Method,
-    line: usize,
-    end_line: usize,
-    count: u32,
-    max_locals: u16,
-) -> Result<(), AsmFault>
+// The locals of a method that is not abstract hold its arguments.
+#[tactic(auto, unfolding(crate::specs::Body::checked_locals))]
+fn checked_locals(method: &Method, line: usize, max_locals: u16) -> Result<(), AsmFault>
     requires { method_slots method.now ≤ 255 }
-    ensures { TakesAll (λ x. x) result (checked_limits method.now line end_line count max_locals) }
+    ensures { TakesAll (λ x. x) result (checked_locals method.now line max_locals) }
 {
-    if method.flags.has(AccessFlags::ABSTRACT) {
-        return Ok(());
-    }
-    if count == 0 {
-        return Err(AsmFault::BadCount(end_line));
-    }
     let slots = u16::from(method.argument_slots().unwrap());
-    if slots <= max_locals {
+    if method.flags.has(AccessFlags::ABSTRACT) || slots <= max_locals {
         Ok(())
     } else {
         Err(AsmFault::BadCount(line))
+    }
+}
+
+// A method that is not abstract has an instruction.
+#[tactic(auto, unfolding(crate::specs::Body::checked_count))]
+fn checked_count(method: &Method, end_line: usize, count: u32) -> Result<(), AsmFault>
+    ensures { TakesAll (λ x. x) result (checked_count method.now end_line count) }
+{
+    if method.flags.has(AccessFlags::ABSTRACT) || 0 < count {
+        Ok(())
+    } else {
+        Err(AsmFault::BadCount(end_line))
+    }
+}
+
+// No range is empty.
+fn checked_ranges(body: &Body<'_>) -> Result<(), AsmFault>
+    ensures { TakesAll (λ x. x) result (unless_fault (empty_range (label_value body.now.items.items) (instruction_count body.now.items.items) body.now.items.items)) }
+{
+    match empty_range(&body.labels, body.count, &body.items) {
+        None => Ok(()),
+        Some(fault) => Err(fault),
     }
 }
 
@@ -93,11 +104,10 @@ pub fn code_of(
     let max_stack = limit_or_one(body.stack);
     let max_locals = limit_or_one(body.locals);
     let count = body.count;
+    checked_locals(method, line, max_locals)?;
+    checked_ranges(&body)?;
     let parts = parts_in(alloc, body)?;
-    if let Some(fault) = empty_range(&parts) {
-        return Err(fault);
-    }
-    checked_limits(method, line, end_line, count, max_locals)?;
+    checked_count(method, end_line, count)?;
     if method.flags.has(AccessFlags::ABSTRACT) {
         return Ok(None);
     }

@@ -15,7 +15,8 @@ use jm_program::{
 use std::alloc::Global;
 use std::collections::HashMap;
 
-fn value_of(values: &HashMap<Name, u32>, name: &Name) -> Option<u32>
+/// The value of a label.
+pub fn value_of(values: &HashMap<Name, u32>, name: &Name) -> Option<u32>
     ensures { result ≡ get same_text values.now name.now }
 {
     values.get(name).copied()

@@ -18,6 +18,7 @@ mod lines;
 mod method;
 mod method_header;
 mod part;
+mod range;
 mod symbols;
 mod words;
 

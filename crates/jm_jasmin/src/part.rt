@@ -6,7 +6,7 @@ ghost use Rattle.jm_bytes.specs.Reading.{GivesAll, TakesAll, each};
 ghost use Rattle.jm_program.specs.Names.{same_text};
 ghost use Rattle.jm_jasmin_ops.specs.declared.fault.AsmFault.TheVariants.{OutOfMemory};
 ghost use Rattle.jm_jasmin.specs.Labels.{part_of};
-ghost use Rattle.jm_jasmin.specs.Body.{instruction_in, handler_in, line_in, tables_of, empty_range_in, empty_range};
+ghost use Rattle.jm_jasmin.specs.Body.{instruction_in, handler_in, line_in, tables_of};
 
 use crate::item::Item;
 use crate::labels::{handler_of, instruction_of};
@@ -19,8 +19,8 @@ use std::collections::HashMap;
 #[derive(Drop)]
 pub enum Part {
     Instruction(Instr),
-    /// A row of the exception table, and the line that it stands in.
-    Handler(Handler, usize),
+    /// A row of the exception table.
+    Handler(Handler),
     Line(LineNumber),
     Nothing,
 }
@@ -48,9 +48,8 @@ fn part_of(
             Ok(Part::Instruction(instr))
         }
         Item::Catch(row) => {
-            let line = row.line;
             let handler = handler_of(values, count, row)?;
-            Ok(Part::Handler(handler, line))
+            Ok(Part::Handler(handler))
         }
         Item::Line(entry) => {
             if entry.start < count {
@@ -81,36 +80,6 @@ pub fn parts_of(
     Ok(parts)
 }
 
-// A fault where a part is an empty range.
-fn empty_range_in(part: &Part) -> Option<AsmFault>
-    ensures { result ≡ empty_range_in part.now }
-{
-    match part {
-        Part::Handler(handler, line) => {
-            if handler.start < handler.end {
-                None
-            } else {
-                Some(AsmFault::BadCount(*line))
-            }
-        }
-        _ => None,
-    }
-}
-
-/// The first empty range.
-#[tactic(auto, using(crate::proofs::Ranges::range_steps))]
-pub fn empty_range(parts: &[Part]) -> Option<AsmFault>
-    ensures { result ≡ empty_range parts.now }
-{
-    for part in parts {
-        let fault = empty_range_in(part);
-        if fault.is_some() {
-            return fault;
-        }
-    }
-    None
-}
-
 // The tables with one more part.
 #[tactic(auto, using(crate::proofs::PartTables::table_steps))]
 fn with_part(tables: Tables, part: Part) -> Result<Tables, AllocError>
@@ -128,7 +97,7 @@ fn with_part(tables: Tables, part: Part) -> Result<Tables, AllocError>
                 lines: tables.lines,
             })
         }
-        Part::Handler(handler, _) => {
+        Part::Handler(handler) => {
             let mut handlers = tables.handlers.into_vec();
             handlers.push(handler)?;
             Ok(Tables {

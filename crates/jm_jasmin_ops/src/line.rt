@@ -220,7 +220,7 @@ fn named_instr(
         }
         Opcode::New => {
             let name = one_class(alloc, line, words)?;
-            Ok(Instr::New(name))
+            Ok(Instr::New(Boxed::new(alloc, name)?))
         }
         Opcode::NewArray => {
             let element = one_element(line, words)?;

@@ -14,7 +14,7 @@ use crate::words::word;
 use jm_class_format::LeftOutOp;
 use jm_jasmin_lex::{Token, TokenKind, literal};
 use jm_program::{
-    ClassRef, Constant, FieldRef, InvokeOp, MethodRef, Name, PrimitiveType, Sequence, TypeOp,
+    Boxed, ClassRef, Constant, FieldRef, InvokeOp, MethodRef, Name, PrimitiveType, Sequence, TypeOp,
 };
 use std::alloc::Global;
 
@@ -34,7 +34,8 @@ pub fn loaded(alloc: Global, token: &Token<'_>) -> Result<Constant, AsmFault>
         }
         TokenKind::Text => {
             let units = literal(alloc, token.text())?;
-            Ok(Constant::String(Sequence::new(units)))
+            let units = Boxed::new(alloc, Sequence::new(units))?;
+            Ok(Constant::String(units))
         }
     }
 }

@@ -1,7 +1,8 @@
 // Classes of texts, by the parts that the lines of the texts give.
 
+use crate::outcome::text_of_body;
 use jm_jasmin::{AsmFault, assemble};
-use jm_program::{Code, Handler, Method};
+use jm_program::{Code, Constant, Handler, Instr, Method, code_units};
 use std::alloc::Global;
 use std::test::Fail;
 
@@ -89,5 +90,68 @@ fn fields_and_interfaces(rt: HostRuntime) -> Result<(), Fail> {
 fn want_of_memory_has_no_line(rt: HostRuntime) -> Result<(), Fail> {
     let text = format!(in rt.alloc(); "{}", AsmFault::OutOfMemory)?;
     assert_eq!(rt; text.as_str(), "61 OutOfMemory");
+    Ok(())
+}
+
+/// Operands of `ldc` in a text, and the string that each is ("Numbers and Strings").
+const STRINGS: [(&str, &str); 6] = [
+    ("\"\"", ""),
+    ("\"a;b ; c\"", "a;b ; c"),
+    (
+        "\"say \\\"a\\\", then \\\"b\\\"\" ; \"c\"",
+        "say \"a\", then \"b\"",
+    ),
+    ("\"\\\\\\n\\t\"", "\\\n\t"),
+    ("\"\\u0041\\u00e9\"", "Aé"),
+    ("\"\t.end method\"", "\t.end method"),
+];
+
+// The code units of the string that the first instruction of a method loads.
+fn string_of(method: &Method) -> Option<&[u16]> {
+    let code = method.code.as_ref()?;
+    match code.instructions.as_slice().first()? {
+        Instr::Constant(Constant::String(units)) => Some(units.get().as_slice()),
+        _ => None,
+    }
+}
+
+#[test]
+fn strings_of_texts(rt: HostRuntime) -> Result<(), Fail> {
+    let alloc = rt.alloc();
+    for (operand, want) in STRINGS {
+        let line = format!(in alloc; "ldc {operand}")?;
+        let text = text_of_body(alloc, &[line.as_str()])?;
+        let class = assemble(alloc, text.as_str())?;
+        let method = class.parts().methods.as_slice().first().ok_or("a method")?;
+        let units = code_units(alloc, want)?;
+        assert_eq!(rt;
+            string_of(method).ok_or("a string")?,
+            units.as_slice(),
+            "{operand}"
+        );
+    }
+    Ok(())
+}
+
+#[test]
+fn flags_of_texts(rt: HostRuntime) -> Result<(), Fail> {
+    // Tables 4.1-B, 4.5-A and 4.6-A of JVMS: 1 public, 2 private, 4 protected, 8 static, 10 final,
+    // 20 super and synchronized, 40 volatile, 80 transient, 400 abstract.
+    let text = ".class public public final abstract A
+.super B
+.field private volatile transient x I
+.field final protected static final y J = 0x7fffffffffffffff
+.method protected synchronized public m()V
+return
+.end method";
+    let class = assemble(rt.alloc(), text)?;
+    let parts = class.parts();
+    assert_eq!(rt; parts.flags.bits, 0x0431);
+    let x = parts.fields.as_slice().first().ok_or("a field")?;
+    let y = parts.fields.as_slice().get(1).ok_or("a second field")?;
+    assert_eq!(rt; (x.flags.bits, y.flags.bits), (0x00C2, 0x001C));
+    assert!(rt; matches!(y.constant, Some(Constant::Long(9_223_372_036_854_775_807))));
+    let method = parts.methods.as_slice().first().ok_or("a method")?;
+    assert_eq!(rt; method.flags.bits, 0x0025);
     Ok(())
 }

@@ -1,10 +1,14 @@
-// Texts that end early: each is answered, with a class or with a fault that has its number.
+// Texts that end early: each is answered, with a class or with a fault that has its number and a
+// line of the text.
 
 use crate::outcome::outcome;
+use jm_jasmin::assemble;
+use std::alloc::Global;
 use std::test::Fail;
 
-/// Two threads that call a method of one object, which throws.
-const TEXTS: [&str; 3] = [
+/// Two threads that call a synchronized method of one object, which throws; and a class with a line
+/// of every kind.
+const TEXTS: [&str; 4] = [
     ".class public Main
 .super java/lang/Object
 .field static k LK;
@@ -30,15 +34,32 @@ invokevirtual K/f()V
 return
 .end method
 ",
-    ".bytecode 49.0
-.source K.j
-.class K
+    ".class K
 .super java/lang/Object
-.field static final s Ljava/lang/String; = \"k\"
 .method synchronized f()V
 .limit stack 8
 .limit locals 8
+iconst_1
+iconst_0
+idiv
+pop
+return
+.end method
+",
+    ".bytecode 49.0
+.source K.j
+.class public final K
+.super java/lang/Object
+.implements java/io/Serializable
+.field static final s Ljava/lang/String; = \"k ; \\u00e9\\n\"
+.field private j J
+.method synchronized f(IJ)V
+.limit stack 8
+.limit locals 8
+.throws java/lang/Exception
+.var 0 is this LK; from L0 to L1
 .catch all from L0 to L1 using H
+.line 7
 L0: ; of the range
 iconst_1
 iconst_0
@@ -47,27 +68,77 @@ L1:
 pop
 return
 H:
+iconst_0
+lookupswitch
+-1 : L0
+2 : L1
+default : H
 tableswitch 0
 L0
+L1
 default : H
+.end method
+.method protected abstract g()V
 .end method
 ",
 ];
 
+// Whether a text comes to a class, or to a fault at one of its lines.
+fn is_answered(alloc: Global, text: &str) -> bool {
+    let lines = text.bytes().filter(|byte| *byte == b'\n').count();
+    match assemble(alloc, text) {
+        Ok(_) => true,
+        Err(fault) => match fault.line() {
+            Some(line) => 1 <= line && line <= lines.saturating_add(1),
+            None => false,
+        },
+    }
+}
+
 #[test]
 fn texts_that_end_early(rt: HostRuntime) -> Result<(), Fail> {
+    let alloc = rt.alloc();
     for text in TEXTS {
         for length in 0..=text.len() {
             let front = text.get(0..length).ok_or("an ASCII text")?;
-            let said = outcome(rt.alloc(), front)?;
+            assert!(rt; is_answered(alloc, front), "{length}");
+            let said = outcome(alloc, front)?;
             let said = said.as_str();
             assert!(rt;
                 said == "class" || said.starts_with(|c: char| c.is_ascii_digit()),
                 "{length}: {said}"
             );
         }
-        let said = outcome(rt.alloc(), text)?;
+        let said = outcome(alloc, text)?;
         assert_eq!(rt; said.as_str(), "class");
+    }
+    Ok(())
+}
+
+/// How many bytes of the third text stand, and what they come to.
+const CUTS: [(usize, &str); 12] = [
+    (0, "41 Syntax(1)"),
+    (6, "41 Syntax(1)"),
+    (8, "41 Syntax(1)"),
+    (9, "41 Syntax(1)"),
+    (10, "41 Syntax(2)"),
+    (16, "41 Syntax(2)"),
+    // `.super java`, then `.super java/`.
+    (20, "class"),
+    (21, "2 BadName(2)"),
+    (32, "class"),
+    (33, "class"),
+    (34, "41 Syntax(3)"),
+    (40, "41 Syntax(3)"),
+];
+
+#[test]
+fn faults_of_cut_texts(rt: HostRuntime) -> Result<(), Fail> {
+    let text = TEXTS.get(2).ok_or("a third text")?;
+    for (length, want) in CUTS {
+        let front = text.get(0..length).ok_or("an ASCII text")?;
+        let said = outcome(rt.alloc(), front)?;
+        assert_eq!(rt; said.as_str(), want, "{length}");
     }
     Ok(())
 }

@@ -1,29 +1,13 @@
 // The faults of the language, each in a text that has no other.
 
-use crate::outcome::outcome_of_lines;
+use crate::outcome::{outcome_of_body, outcome_of_lines, text_of_body};
+use jm_jasmin::assemble;
 use std::test::Fail;
 
-/// The text of a class whose method has these lines behind its limits.
-const HEAD: [&str; 5] = [
-    ".class public Main",
-    ".super java/lang/Object",
-    ".method public static main([Ljava/lang/String;)V",
-    ".limit stack 8",
-    ".limit locals 8",
-];
-
 /// Lines from the sixth on, before the last, and what the text comes to.
-const BODIES: [(&[&str], &str); 41] = [
-    (&["return"], "class"),
-    (&["L:", "L:", "return"], "42 DuplicateLabel(7)"),
-    (&["goto X"], "43 NoLabel(6)"),
+const BODIES: [(&[&str], &str); 73] = [
     (&["return", "goto L", "L:"], "43 NoLabel(7)"),
     (&["L:", "goto L"], "class"),
-    (&["invokeinterface A/m()V 2"], "45 BadCount(6)"),
-    (&["bipush 128"], "41 Syntax(6)"),
-    (&["ldc \"a"], "40 BadToken(6)"),
-    (&["fadd"], "46 LeftOut(fadd)"),
-    (&["multianewarray [[I 2"], "47 Later(multianewarray)"),
     (&[".limit stack 9", "return"], "41 Syntax(6)"),
     (&[".limit locals 9", "return"], "41 Syntax(6)"),
     (&[".limit heap 9", "return"], "41 Syntax(6)"),
@@ -118,25 +102,148 @@ const BODIES: [(&[&str], &str); 41] = [
         ],
         "43 NoLabel(9)",
     ),
-    (&["goto A", "goto B"], "43 NoLabel(6)"),
     (&["wide", "return"], "41 Syntax(6)"),
+    // "Labels": one label of a name in a method, whatever stands between.
+    (&["L:", "nop", "goto L", "L:"], "42 DuplicateLabel(9)"),
+    (&["L:", "l:", "goto L", "goto l"], "class"),
+    (&["A: B:", "return"], "41 Syntax(6)"),
+    (&["A: return"], "41 Syntax(6)"),
+    (&["return", "A", "B:"], "41 Syntax(7)"),
+    (&["return", "ifeq A", "A:"], "43 NoLabel(7)"),
+    // "The lookupswitch instruction": keys rise strictly.
+    (
+        &[
+            "iconst_0",
+            "lookupswitch",
+            "2 : A",
+            "1 : A",
+            "default : A",
+            "A:",
+            "return",
+        ],
+        "45 BadCount(9)",
+    ),
+    (
+        &[
+            "iconst_0",
+            "lookupswitch",
+            "-1 : A",
+            "0 : A",
+            "1 : A",
+            "default : A",
+            "A:",
+            "return",
+        ],
+        "class",
+    ),
+    (
+        &["iconst_0", "lookupswitch", "default : A", "A:", "return"],
+        "class",
+    ),
+    (
+        &[
+            "iconst_0",
+            "lookupswitch",
+            "1 : A",
+            "return",
+            "A:",
+            "return",
+        ],
+        "41 Syntax(9)",
+    ),
+    (
+        &["iconst_0", "lookupswitch 1", "default : A", "A:", "return"],
+        "41 Syntax(7)",
+    ),
+    // JVMS 6.5 tableswitch: the last key is an int.
+    (
+        &[
+            "iconst_0",
+            "tableswitch 2147483647",
+            "A",
+            "default : A",
+            "A:",
+            "return",
+        ],
+        "class",
+    ),
+    (
+        &[
+            "iconst_0",
+            "tableswitch 2147483647",
+            "A",
+            "A",
+            "default : A",
+            "A:",
+            "return",
+        ],
+        "45 BadCount(9)",
+    ),
+    (
+        &[
+            "iconst_0",
+            "tableswitch 2147483648",
+            "A",
+            "default : A",
+            "A:",
+            "return",
+        ],
+        "41 Syntax(7)",
+    ),
+    (
+        &[
+            "iconst_0",
+            "tableswitch 0",
+            "1 : A",
+            "default : A",
+            "A:",
+            "return",
+        ],
+        "41 Syntax(8)",
+    ),
+    // Directives that the language has elsewhere or not at all.
+    (&[".set x 1", "return"], "41 Syntax(6)"),
+    (&[".stack", "return"], "41 Syntax(6)"),
+    (&[".super A", "return"], "41 Syntax(6)"),
+    (&["return", ".method n()V"], "41 Syntax(7)"),
+    (&[".limit stack", "return"], "41 Syntax(6)"),
+    (&[".line -1", "return"], "41 Syntax(6)"),
+    // "Numbers and Strings": quotes in a string, and something behind its end.
+    (&["ldc \"a\\\"b\\\"c\""], "class"),
+    (&["ldc \"a\"b\"c\""], "40 BadToken(6)"),
+    (&["nop", "ldc \"\"a\"\""], "40 BadToken(7)"),
+    (&["ldc \"a;b ; c\" ; \"d"], "class"),
+    (&["nop", "ldc \"a ; b"], "40 BadToken(7)"),
+    (&["ldc \"\\x\""], "40 BadToken(6)"),
+    // A word may begin with anything but a quote and a comment sign.
+    (&["return;"], "41 Syntax(6)"),
+    (&["return ;"], "class"),
+    (&["return\t;;"], "class"),
+    // "Local variable instructions", "The bipush, sipush and iinc instructions": ranges.
+    (&["sipush 32767", "sipush -32768"], "class"),
+    (&["nop", "sipush 32768"], "41 Syntax(7)"),
+    (&["sipush -32769"], "41 Syntax(6)"),
+    (&["bipush 0x7f", "bipush -128"], "class"),
+    (&["bipush 0x80"], "41 Syntax(6)"),
+    (&["ldc 2147483647", "ldc -2147483648"], "class"),
+    (&["ldc 2147483648"], "41 Syntax(6)"),
+    (&["ldc2_w 9223372036854775807"], "class"),
+    (&["ldc2_w 9223372036854775808"], "41 Syntax(6)"),
+    (&["iload 65535", "iinc 65535 -32768"], "class"),
+    (&["iload -1"], "41 Syntax(6)"),
 ];
 
 #[test]
 fn faults_of_bodies(rt: HostRuntime) -> Result<(), Fail> {
-    let alloc = rt.alloc();
     for (body, want) in BODIES {
-        let mut lines = Vec::from_slice(alloc, &HEAD)?;
-        lines.extend_from_slice(body)?;
-        lines.push(".end method")?;
-        let said = outcome_of_lines(alloc, &lines)?;
+        let said = outcome_of_body(rt.alloc(), body)?;
         assert_eq!(rt; said.as_str(), want, "{body:?}");
     }
     Ok(())
 }
 
 /// Whole texts, and what each comes to.
-const TEXTS: [(&[&str], &str); 47] = [
+const TEXTS: [(&[&str], &str); 64] = [
     (&[], "41 Syntax(1)"),
     (&["; only a comment"], "41 Syntax(1)"),
     (&[".class A"], "41 Syntax(1)"),
@@ -240,6 +347,77 @@ const TEXTS: [(&[&str], &str); 47] = [
     ),
     (&[".class A", ".super B", "ldc \"a"], "40 BadToken(3)"),
     (&[".class A", ".sup", "ldc \"a"], "41 Syntax(2)"),
+    // "Jasmin Assembler Directives": each line of the front once, in its order, and none that is unknown.
+    (
+        &[".source A.j", ".source B.j", ".class A", ".super B"],
+        "41 Syntax(2)",
+    ),
+    (&[".class A", ".class B", ".super C"], "41 Syntax(2)"),
+    (&[".class A", ".super B", ".super C"], "41 Syntax(3)"),
+    (&[".class A", ".super B", ".deprecated"], "41 Syntax(3)"),
+    (
+        &[".class A", ".super B", ".field x I", ".implements C"],
+        "41 Syntax(4)",
+    ),
+    (&[".class A", ".super B", ".end method"], "41 Syntax(3)"),
+    (&[".class A", ".super B", "L:"], "41 Syntax(3)"),
+    (&[".source A.j B.j", ".class A", ".super B"], "41 Syntax(1)"),
+    (&[".source", ".class A", ".super B"], "41 Syntax(1)"),
+    (&[".class A", ".super"], "41 Syntax(2)"),
+    // Flags in any order, and as often as wanted.
+    (&[".class public public A", ".super B"], "class"),
+    (&[".class A public", ".super B"], "41 Syntax(1)"),
+    // A label is one of its method.
+    (
+        &[
+            ".class A",
+            ".super B",
+            ".method static m()V",
+            "L:",
+            "return",
+            ".end method",
+            ".method static n()V",
+            "goto L",
+            ".end method",
+        ],
+        "43 NoLabel(8)",
+    ),
+    (
+        &[
+            ".class A",
+            ".super B",
+            ".method static m()V",
+            "L:",
+            "goto L",
+            ".end method",
+            ".method static n()V",
+            "L:",
+            "goto L",
+            ".end method",
+        ],
+        "class",
+    ),
+    // "Numbers and Strings": a comment sign and quotes in a value.
+    (
+        &[
+            ".class A",
+            ".super B",
+            ".field static x Ljava/lang/String; = \"a ; \\\"b\\\"\" ; c",
+        ],
+        "class",
+    ),
+    (
+        &[
+            ".class A",
+            ".super B",
+            ".field static x J = 9223372036854775808",
+        ],
+        "41 Syntax(3)",
+    ),
+    (
+        &[".class A", ".super B", ".field static x Z = 2147483647"],
+        "class",
+    ),
 ];
 
 #[test]
@@ -329,6 +507,38 @@ fn faults_of_methods(rt: HostRuntime) -> Result<(), Fail> {
         lines.push(".end method")?;
         let said = outcome_of_lines(alloc, &lines)?;
         assert_eq!(rt; said.as_str(), want, "{method}");
+    }
+    Ok(())
+}
+
+/// Lines of a body from the sixth on whose fault is printed without its line, and that line.
+const LEFT_OUT: [(&[&str], &str, usize); 7] = [
+    (&["fadd"], "46 LeftOut(fadd)", 6),
+    (&["return", "jsr A"], "46 LeftOut(jsr)", 7),
+    (&["nop", "nop", "newarray double"], "46 LeftOut(double)", 8),
+    (&["nop", "getstatic A/x F"], "46 LeftOut(float)", 7),
+    (
+        &["return", ".end method", ".method native n()V"],
+        "46 LeftOut(native)",
+        8,
+    ),
+    (&["multianewarray [[I 2"], "47 Later(multianewarray)", 6),
+    (
+        &["nop", "multianewarray [[I 2"],
+        "47 Later(multianewarray)",
+        7,
+    ),
+];
+
+#[test]
+fn lines_of_what_is_left_out(rt: HostRuntime) -> Result<(), Fail> {
+    let alloc = rt.alloc();
+    for (body, want, line) in LEFT_OUT {
+        let text = text_of_body(alloc, body)?;
+        let fault = assemble(alloc, text.as_str()).err().ok_or("a fault")?;
+        let said = format!(in alloc; "{fault}")?;
+        assert_eq!(rt; said.as_str(), want, "{body:?}");
+        assert_eq!(rt; fault.line(), Some(line), "{body:?}");
     }
     Ok(())
 }

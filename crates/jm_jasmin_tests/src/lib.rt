@@ -4,10 +4,14 @@
 #![tactic(auto)]
 
 #[cfg(test)]
+mod changes;
+#[cfg(test)]
 mod classes;
 #[cfg(test)]
 mod cut;
 #[cfg(test)]
 mod faults;
+#[cfg(test)]
+mod order;
 #[cfg(test)]
 mod outcome;

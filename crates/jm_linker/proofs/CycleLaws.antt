@@ -40,7 +40,7 @@ pub has_name : (program : List ClassParts) (name : List ℕ) (c : ClassParts) �
 unfolding class_named
 has_name program name c e = among_has_name program name c e
 
-text_is : (a b : List ℕ) → same_text a b ≡ true → a ≡ b
+pub text_is : (a b : List ℕ) → same_text a b ≡ true → a ≡ b
 text_is a b e = std_text.same_text a b (sym e)
 
 -- a class of the program is found by its name

@@ -1,6 +1,7 @@
 pub mod TypeLaws
 pub mod Reasons
 pub mod Seen
+pub mod KeyLaws
 pub mod ClassLaws
 pub mod LaterLaws
 pub mod WalkLaws
@@ -9,3 +10,4 @@ pub mod CycleLaws
 pub mod CodeLaws
 pub mod MainLaws
 pub mod Numbers
+pub mod RankLaws

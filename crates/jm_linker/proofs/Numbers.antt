@@ -1,8 +1,8 @@
 -- Classes by their numbers.
-use Rattle.std.proofs.Common.{◌≡◌, ℕ, ◌+◌, ◌-◌, ◌<◌, ◌≤◌, zero, suc, Bool, true, false, cond, List, [], ◌∷◌, Option, Some, None, length, get_or, drop, refl, sym, ap, ◌∙◌, arith}
-use Rattle.std.specs.Prelude.{slice_get}
+use Rattle.std.proofs.Common.{◌≡◌, ℕ, ◌+◌, ◌-◌, ◌<◌, ◌≤◌, zero, suc, Bool, true, false, cond, ◌||◌, List, [], ◌∷◌, Option, Some, None, length, get_or, drop, refl, sym, ap, ◌∙◌, arith}
+use Rattle.std.specs.Prelude.{slice_get, take, nat_lt}
+use Rattle.std.specs.List.{list_any}
 use Rattle.std.proofs.lemmas.List.{drop_more}
-use Rattle.std.proofs.lemmas.Option.{slice_get_within}
 use Rattle.jm_program.specs.Names.{same_text}
 use Rattle.jm_program.specs.declared.class.ClassParts.{ClassParts}
 use Rattle.jm_builtins.specs.List.{the_builtins}
@@ -73,3 +73,31 @@ one_more program n c name l is =
     by : (b : Bool) → (elim b as (λ _. Option ℕ) [ true ↦ Some n | false ↦ number_from (n + 1) (drop (n + 1) program) name ]) ≡ cond b (Some n) (number_from (n + 1) (drop (n + 1) program) name)
     by true = refl
     by false = refl
+
+-- a class of the name before a number
+not_below : (k : ℕ) (cs : List ClassParts) (name : List ℕ) → elim (number_from k cs name) as (λ _. Bool) [ None ↦ false | Some n ↦ nat_lt n k ] ≡ false
+not_below k cs name = by (number_from k cs name) refl
+  where
+    by : (o : Option ℕ) → number_from k cs name ≡ o → elim o as (λ _. Bool) [ None ↦ false | Some n ↦ nat_lt n k ] ≡ false
+    by None e = refl
+    by (Some n) e = grind (arith, (numbered k cs name n e).from)
+
+before_from : (k : ℕ) (cs : List ClassParts) (i : ℕ) (name : List ℕ) → list_any (λ c. same_text c.name name) (take i cs) ≡ (elim (number_from k cs name) as (λ _. Bool) [ None ↦ false | Some n ↦ nat_lt n (k + i) ])
+before_from k [] zero name = refl
+before_from k [] (suc i) name = refl
+before_from k (c ∷ cs) zero name = let all : k + 0 ≡ k = omega arith in sym (ap (λ j. elim (number_from k (c ∷ cs) name) as (λ _. Bool) [ None ↦ false | Some n ↦ nat_lt n j ]) all ∙ not_below k (c ∷ cs) name)
+before_from k (c ∷ cs) (suc i) name = by (same_text c.name name) (before_from (k + 1) cs i name)
+  where
+    next : (k + 1) + i ≡ k + suc i
+    next = omega arith
+
+    below : nat_lt k (k + suc i) ≡ true
+    below = grind arith
+
+    by : (t : Bool) → list_any (λ c. same_text c.name name) (take i cs) ≡ (elim (number_from (k + 1) cs name) as (λ _. Bool) [ None ↦ false | Some n ↦ nat_lt n ((k + 1) + i) ]) → (t || list_any (λ c. same_text c.name name) (take i cs)) ≡ (elim (elim t as (λ _. Option ℕ) [ true ↦ Some k | false ↦ number_from (k + 1) cs name ]) as (λ _. Bool) [ None ↦ false | Some n ↦ nat_lt n (k + suc i) ])
+    by true e = sym below
+    by false e = e ∙ ap (λ j. elim (number_from (k + 1) cs name) as (λ _. Bool) [ None ↦ false | Some n ↦ nat_lt n j ]) next
+
+pub before : (program : List ClassParts) (i : ℕ) (name : List ℕ) (o : Option ℕ) → number_from 0 program name ≡ o → list_any (λ c. same_text c.name name) (take i program) ≡ (elim o as (λ _. Bool) [ None ↦ false | Some n ↦ nat_lt n i ])
+before program i name o e = let all : 0 + i ≡ i = omega arith in
+    before_from 0 program i name ∙ ap (λ j. elim (number_from 0 program name) as (λ _. Bool) [ None ↦ false | Some n ↦ nat_lt n j ]) all ∙ ap (λ p. elim p as (λ _. Bool) [ None ↦ false | Some n ↦ nat_lt n i ]) e

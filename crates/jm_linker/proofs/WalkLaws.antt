@@ -1,12 +1,15 @@
 -- One more turn of a walk up.
-use Rattle.std.proofs.Common.{◌≡◌, ◌≢◌, ℕ, zero, suc, ◌+◌, ◌-◌, ◌<◌, Bool, true, false, List, [], ◌∷◌, ◌++◌, Option, Some, None, refl, sym, ap, ◌∙◌, arith}
+use Rattle.std.proofs.Common.{◌≡◌, ◌≢◌, ℕ, zero, suc, ◌+◌, ◌-◌, ◌<◌, Bool, true, false, List, [], ◌∷◌, ◌++◌, Option, Some, None, refl, sym, ap, subst, ◌∙◌, ◌≤◌, cond, Bor, append_assoc, arith}
 use Rattle.std.specs.Prelude.{option_to_list}
+use Rattle.std.specs.Map.{lookup}
+use Rattle.jm_program.specs.Names.{same_text}
 use Rattle.jm_program.specs.declared.class.ClassParts.{ClassParts}
 use Rattle.jm_world.specs.Classes.{class_named, height}
 use Rattle.jm_world.specs.Hierarchy.{up_from, chain}
 use Rattle.jm_world.specs.Resolution.{first_found, interfaces_first}
 use Rattle.jm_linker.specs.declared.walk.Pending.{Pending}
-use Rattle.jm_linker.specs.Walks.{above_from, above_any, or_found, found_pending, first_along}
+use Rattle.jm_linker.proofs.CycleLaws.{text_is}
+use Rattle.jm_linker.specs.Walks.{AllVain, Says, AllSay, above_from, above_any, or_found, found_pending, first_along}
 
 or_none : (a : Option ClassParts) → or_found a None ≡ a
 or_none None = refl
@@ -60,23 +63,6 @@ none_pending test program = refl
 
 any_one : (test : ClassParts → Bool) (program : List ClassParts) (d : ℕ) (xs ys : List (List ℕ)) → xs ≡ ys → above_any test d program xs ≡ above_any test d program ys
 any_one test program d xs ys e = ap (above_any test d program) e
-
--- the superclass, where there is one
-pub superclass_pushed : (test : ClassParts → Bool) (program : List ClassParts) (ps qs : List Pending) (p : Pending) (s : Option (List ℕ)) (name : List ℕ) → s ≡ Some name → p.names.now ≡ name ∷ [] → qs ≡ ps ++ p ∷ [] → found_pending test program qs ≡ or_found (above_any test p.depth program (option_to_list s)) (found_pending test program ps)
-superclass_pushed test program ps qs p s name is names e =
-    ap (found_pending test program) e ∙ pushed test program ps p
-    ∙ ap (λ xs. or_found (above_any test p.depth program xs) (found_pending test program ps)) (names ∙ sym (ap option_to_list is))
-
-pub no_superclass : (test : ClassParts → Bool) (program : List ClassParts) (ps : List Pending) (d : ℕ) (s : Option (List ℕ)) → s ≡ None → found_pending test program ps ≡ or_found (above_any test d program (option_to_list s)) (found_pending test program ps)
-no_superclass test program ps d s is = sym (ap (λ xs. or_found (above_any test d program xs) (found_pending test program ps)) (ap option_to_list is) ∙ ap (λ o. or_found o (found_pending test program ps)) (any_nil test d program))
-
--- the superinterfaces over the superclass
-pub parents_pushed : (test : ClassParts → Bool) (program : List ClassParts) (ps qs rs : List Pending) (p : Pending) (c : ClassParts) → p.names.now ≡ c.interfaces → found_pending test program qs ≡ or_found (above_any test p.depth program (option_to_list c.superclass)) (found_pending test program ps) → rs ≡ qs ++ p ∷ [] → found_pending test program rs ≡ or_found (above_any test p.depth program (interfaces_first c)) (found_pending test program ps)
-parents_pushed test program ps qs rs p c names below e =
-    ap (found_pending test program) e ∙ pushed test program qs p ∙ ap (λ xs. or_found (above_any test p.depth program xs) (found_pending test program qs)) names
-    ∙ ap (or_found (above_any test p.depth program c.interfaces)) below
-    ∙ sym (or_assoc (above_any test p.depth program c.interfaces) (above_any test p.depth program (option_to_list c.superclass)) (found_pending test program ps))
-    ∙ ap (λ o. or_found o (found_pending test program ps)) (sym (any_append test p.depth program c.interfaces (option_to_list c.superclass)))
 
 -- no more classes up
 pub too_deep : (test : ClassParts → Bool) (program : List ClassParts) (ps qs : List Pending) (p : Pending) → qs ≡ ps ++ p ∷ [] → p.depth ≡ 0 → found_pending test program qs ≡ found_pending test program ps
@@ -150,3 +136,170 @@ along_more test program h i name c s l is other super =
 pub along_from : (test : ClassParts → Bool) (program : List ClassParts) (name : List ℕ) → first_along test (up_from (height program - 0) program name) ≡ first_along test (chain program name)
 unfolding chain
 along_from test program name = let all : height program - 0 ≡ height program = omega arith in ap (λ n. first_along test (up_from n program name)) all
+
+-- what is pending in two parts
+found_append : (test : ClassParts → Bool) (program : List ClassParts) (ps qs : List Pending) → found_pending test program (ps ++ qs) ≡ or_found (found_pending test program qs) (found_pending test program ps)
+unfolding found_pending
+found_append test program [] qs = sym (or_none (found_pending test program qs))
+found_append test program (p ∷ ps) qs =
+    ap (λ o. or_found o (above_any test p.depth program p.names.now)) (found_append test program ps qs)
+    ∙ or_assoc (found_pending test program qs) (found_pending test program ps) (above_any test p.depth program p.names.now)
+
+say_upper : (test : ClassParts → Bool) (program : List ClassParts) (ps qs : List Pending) → AllSay test program (ps ++ qs) → AllSay test program qs
+unfolding AllSay
+say_upper test program [] qs a = a
+say_upper test program (p ∷ ps) qs a = say_upper test program ps qs a.1
+
+says_same : (test : ClassParts → Bool) (program : List ClassParts) (p : Pending) (a b : Option ClassParts) → a ≡ b → Says test program p a → Says test program p b
+says_same test program p a b e h = subst (λ o. Says test program p o) e h
+
+-- other names in the place of the last ones, of which the same is found
+say_other : (test : ClassParts → Bool) (program : List ClassParts) (ps qs rs : List Pending) → found_pending test program qs ≡ found_pending test program rs → AllSay test program (ps ++ qs) → AllSay test program rs → AllSay test program (ps ++ rs)
+unfolding AllSay found_pending
+say_other test program [] qs rs e a b = b
+say_other test program (p ∷ ps) qs rs e a b =
+    let same : found_pending test program (ps ++ qs) ≡ found_pending test program (ps ++ rs) = found_append test program ps qs ∙ ap (λ o. or_found o (found_pending test program ps)) e ∙ sym (found_append test program ps rs) in
+    (says_same test program p _ _ (ap (λ o. or_found o (above_any test p.depth program p.names.now)) same) a.0, say_other test program ps qs rs e a.1 b)
+
+one_pending : (test : ClassParts → Bool) (program : List ClassParts) (p : Pending) → found_pending test program (p ∷ []) ≡ above_any test p.depth program p.names.now
+unfolding found_pending
+one_pending test program p = refl
+
+say_one : (test : ClassParts → Bool) (program : List ClassParts) (p : Pending) → AllSay test program (p ∷ []) → Says test program p (above_any test p.depth program p.names.now)
+unfolding AllSay found_pending
+say_one test program p a = a.0
+
+one_says : (test : ClassParts → Bool) (program : List ClassParts) (p : Pending) → Says test program p (above_any test p.depth program p.names.now) → AllSay test program (p ∷ [])
+unfolding AllSay found_pending
+one_says test program p h = (h, tt)
+
+nil_right : (ps : List Pending) → ps ++ [] ≡ ps
+nil_right [] = refl
+nil_right (p ∷ ps) = ap (λ qs. p ∷ qs) (nil_right ps)
+
+none_says : (test : ClassParts → Bool) (program : List ClassParts) → AllSay test program []
+unfolding AllSay
+none_says test program = tt
+
+-- names of which nothing is found are dropped
+pub say_dropped : (test : ClassParts → Bool) (program : List ClassParts) (ps qs : List Pending) (p : Pending) → qs ≡ ps ++ p ∷ [] → above_any test p.depth program p.names.now ≡ None → AllSay test program qs → AllSay test program ps
+say_dropped test program ps qs p e none a =
+    subst (AllSay test program) (nil_right ps)
+    (say_other test program ps (p ∷ []) [] (one_pending test program p ∙ none ∙ sym (none_pending test program)) (subst (AllSay test program) e a) (none_says test program))
+
+pub deep_none : (test : ClassParts → Bool) (program : List ClassParts) (p : Pending) → p.depth ≡ 0 → above_any test p.depth program p.names.now ≡ None
+deep_none test program p z = ap (λ d. above_any test d program p.names.now) z ∙ any_zero test program p.names.now
+
+pub empty_none : (test : ClassParts → Bool) (program : List ClassParts) (p : Pending) → p.names.now ≡ [] → above_any test p.depth program p.names.now ≡ None
+empty_none test program p z = ap (λ xs. above_any test p.depth program xs) z ∙ any_nil test p.depth program
+
+-- the last names above a class, when none are left
+pub was_vain : (test : ClassParts → Bool) (program : List ClassParts) (ps qs : List Pending) (p : Pending) → qs ≡ ps ++ p ∷ [] → p.names.now ≡ [] → AllSay test program qs → Says test program p None
+was_vain test program ps qs p e z a = says_same test program p _ _ (empty_none test program p z) (say_one test program p (say_upper test program ps (p ∷ []) (subst (AllSay test program) e a)))
+
+pub begin_says : (test : ClassParts → Bool) (program : List ClassParts) (ps qs : List Pending) (p : Pending) → ps ≡ [] → qs ≡ ps ++ p ∷ [] → p.below ≡ None → AllSay test program qs
+begin_says test program ps qs p none e below =
+    subst (AllSay test program) (sym (e ∙ ap (λ xs. xs ++ p ∷ []) none))
+    (one_says test program p (subst (λ o. elim o as (λ _. Type 0) [ None ↦ Unit {0} | Some name ↦ above_from test (suc p.depth) program name.now ≡ above_any test p.depth program p.names.now ]) (sym below) tt))
+
+-- a walk over fewer classes is in vain where one over more is
+none_of_names : (f g : List ℕ → Option ClassParts) → ((y : List ℕ) → f y ≡ None → g y ≡ None) → (xs : List (List ℕ)) → first_found f xs ≡ None → first_found g xs ≡ None
+none_of_names f g h [] e = refl
+none_of_names f g h (y ∷ ys) e = by (none_of_names f g h ys) (f y) refl e
+  where
+    by : (first_found f ys ≡ None → first_found g ys ≡ None) → (o : Option ClassParts) → f y ≡ o → (elim o as (λ _. Option ClassParts) [ Some a ↦ Some a | None ↦ first_found f ys ]) ≡ None → (elim (g y) as (λ _. Option ClassParts) [ Some a ↦ Some a | None ↦ first_found g ys ]) ≡ None
+    by more None is d = ap (λ o. elim o as (λ _. Option ClassParts) [ Some a ↦ Some a | None ↦ first_found g ys ]) (h y is) ∙ more d
+    by more (Some c) is d = cc
+
+less_vain : (test : ClassParts → Bool) (program : List ClassParts) (m d : ℕ) (x : List ℕ) → m ≤ d → above_from test d program x ≡ None → above_from test m program x ≡ None
+unfolding above_from
+less_vain test program zero d x l e = refl
+less_vain test program (suc m) zero x l e = absurd (omega (arith, l))
+less_vain test program (suc m) (suc d) x l e = by (λ y h. less_vain test program m d y (omega (arith, l)) h) (class_named program x) e
+  where
+    tested : ((y : List ℕ) → above_from test d program y ≡ None → above_from test m program y ≡ None) → (c : ClassParts) (t : Bool) → (elim t as (λ _. Option ClassParts) [ true ↦ Some c | false ↦ first_found (above_from test d program) (interfaces_first c) ]) ≡ None → (elim t as (λ _. Option ClassParts) [ true ↦ Some c | false ↦ first_found (above_from test m program) (interfaces_first c) ]) ≡ None
+    tested more c true h = h
+    tested more c false h = none_of_names (above_from test d program) (above_from test m program) more (interfaces_first c) h
+
+    by : ((y : List ℕ) → above_from test d program y ≡ None → above_from test m program y ≡ None) → (o : Option ClassParts) → (elim o as (λ _. Option ClassParts) [ None ↦ None | Some c ↦ elim (test c) as (λ _. Option ClassParts) [ true ↦ Some c | false ↦ first_found (above_from test d program) (interfaces_first c) ] ]) ≡ None → (elim o as (λ _. Option ClassParts) [ None ↦ None | Some c ↦ elim (test c) as (λ _. Option ClassParts) [ true ↦ Some c | false ↦ first_found (above_from test m program) (interfaces_first c) ] ]) ≡ None
+    by more None h = refl
+    by more (Some c) h = tested more c (test c) h
+
+pub is_vain : (test : ClassParts → Bool) (program : List ClassParts) (depth most : ℕ) (name : List ℕ) → depth ≤ most → above_from test (suc most) program name ≡ None → above_from test (suc depth) program name ≡ None
+is_vain test program depth most name l e = less_vain test program (suc depth) (suc most) name (omega (arith, l)) e
+
+-- one more walk that is kept
+pub kept_more : (test : ClassParts → Bool) (program : List ClassParts) (old now : List ℕ → Option ℕ) (p : Pending) (name : Bor (List ℕ)) (key : List ℕ) → p.below ≡ Some name → key ≡ name.now → ((q : List ℕ) → now q ≡ cond (same_text key q) (Some p.depth) (old q)) → AllVain test program old → Says test program p None → AllVain test program now
+kept_more test program old now p name key below is updates vain says = λ q depth kept. by q depth (same_text key q) refl (sym (updates q) ∙ kept)
+  where
+    said : above_from test (suc p.depth) program name.now ≡ None
+    said = subst (λ o. elim o as (λ _. Type 0) [ None ↦ Unit {0} | Some n ↦ above_from test (suc p.depth) program n.now ≡ None ]) below says
+
+    same : (depth : ℕ) → Some p.depth ≡ Some depth → p.depth ≡ depth
+    same depth e = cc
+
+    by : (q : List ℕ) (depth : ℕ) (t : Bool) → same_text key q ≡ t → cond t (Some p.depth) (old q) ≡ Some depth → above_from test (suc depth) program q ≡ None
+    by q depth true e f = subst (λ n. above_from test (suc n) program q ≡ None) (same depth f) (subst (λ n. above_from test (suc p.depth) program n ≡ None) (sym is ∙ text_is key q e) said)
+    by q depth false e f = vain q depth f
+
+-- of names above the same class the same is said
+says_as : (test : ClassParts → Bool) (program : List ClassParts) (p q : Pending) → q.depth ≡ p.depth → q.below ≡ p.below → (found : Option ClassParts) → Says test program p found → Says test program q found
+says_as test program p q depth below found h =
+    subst (λ o. elim o as (λ _. Type 0) [ None ↦ Unit {0} | Some name ↦ above_from test (suc q.depth) program name.now ≡ found ]) (sym below)
+    (subst (λ d. elim p.below as (λ _. Type 0) [ None ↦ Unit {0} | Some name ↦ above_from test (suc d) program name.now ≡ found ]) (sym depth) h)
+
+-- a name of which nothing is found
+pub say_skipped : (test : ClassParts → Bool) (program : List ClassParts) (ps qs rs : List Pending) (p q : Pending) (x : List ℕ) (xs : List (List ℕ)) → qs ≡ ps ++ p ∷ [] → p.names.now ≡ x ∷ xs → q.names.now ≡ xs → q.depth ≡ p.depth → q.below ≡ p.below → rs ≡ ps ++ q ∷ [] → above_from test p.depth program x ≡ None → AllSay test program qs → AllSay test program rs
+say_skipped test program ps qs rs p q x xs e names others depth below f none a =
+    let first : above_any test p.depth program p.names.now ≡ above_any test p.depth program xs = ap (λ ys. above_any test p.depth program ys) names ∙ any_cons test p.depth program x xs ∙ ap (λ o. or_found o (above_any test p.depth program xs)) none in
+    let left : above_any test q.depth program q.names.now ≡ above_any test p.depth program xs = ap (λ ys. above_any test q.depth program ys) others ∙ ap (λ d. above_any test d program xs) depth in
+    let all = subst (AllSay test program) e a in
+    subst (AllSay test program) (sym f)
+    (say_other test program ps (p ∷ []) (q ∷ []) (one_pending test program p ∙ first ∙ sym left ∙ sym (one_pending test program q)) all
+    (one_says test program q (says_as test program p q depth below _ (says_same test program p _ _ (first ∙ sym left) (say_one test program p (say_upper test program ps (p ∷ []) all))))))
+
+three_found : (test : ClassParts → Bool) (program : List ClassParts) (q s i : Pending) → found_pending test program (q ∷ s ∷ i ∷ []) ≡ or_found (or_found (above_any test i.depth program i.names.now) (above_any test s.depth program s.names.now)) (above_any test q.depth program q.names.now)
+unfolding found_pending
+three_found test program q s i = refl
+
+three_say : (test : ClassParts → Bool) (program : List ClassParts) (q s i : Pending) → Says test program q (found_pending test program (q ∷ s ∷ i ∷ [])) → Says test program s (or_found (above_any test i.depth program i.names.now) (above_any test s.depth program s.names.now)) → i.below ≡ None → AllSay test program (q ∷ s ∷ i ∷ [])
+unfolding AllSay found_pending
+three_say test program q s i a b below = (a, (b, (subst (λ o. elim o as (λ _. Type 0) [ None ↦ Unit {0} | Some name ↦ above_from test (suc i.depth) program name.now ≡ above_any test i.depth program i.names.now ]) (sym below) tt, tt)))
+
+-- the names above a class, after those that were there
+pub say_above : (test : ClassParts → Bool) (program : List ClassParts) (ps qs os ts rs : List Pending) (p q s i : Pending) (x : Bor (List ℕ)) (xs : List (List ℕ)) (c : ClassParts) → qs ≡ ps ++ p ∷ [] → p.names.now ≡ x.now ∷ xs → q.names.now ≡ xs → q.depth ≡ p.depth → q.below ≡ p.below → os ≡ ps ++ q ∷ [] → s.names.now ≡ option_to_list c.superclass → s.depth ≡ p.depth - 1 → s.below ≡ Some x → ts ≡ os ++ s ∷ [] → i.names.now ≡ c.interfaces → i.depth ≡ p.depth - 1 → i.below ≡ None → rs ≡ ts ++ i ∷ [] → p.depth ≢ 0 → class_named program x.now ≡ Some c → test c ≡ false → AllSay test program qs → (found_pending test program qs ≡ found_pending test program rs) × AllSay test program rs
+say_above test program ps qs os ts rs p q s i x xs c e names others depth below f super up same g interfaces up' below' h ne is other a =
+    let d : ℕ = p.depth - 1 in
+    let inner : or_found (above_any test i.depth program i.names.now) (above_any test s.depth program s.names.now) ≡ above_from test p.depth program x.now =
+    ap (λ ys. or_found (above_any test i.depth program ys) (above_any test s.depth program s.names.now)) interfaces
+    ∙ ap (λ n. or_found (above_any test n program c.interfaces) (above_any test s.depth program s.names.now)) up'
+    ∙ ap (λ ys. or_found (above_any test d program c.interfaces) (above_any test s.depth program ys)) super
+    ∙ ap (λ n. or_found (above_any test d program c.interfaces) (above_any test n program (option_to_list c.superclass))) up
+    ∙ sym (any_append test d program c.interfaces (option_to_list c.superclass)) ∙ sym (is_above test program p.depth x.now c ne is other) in
+    let left : above_any test q.depth program q.names.now ≡ above_any test p.depth program xs = ap (λ ys. above_any test q.depth program ys) others ∙ ap (λ n. above_any test n program xs) depth in
+    let whole : found_pending test program (q ∷ s ∷ i ∷ []) ≡ above_any test p.depth program p.names.now =
+    three_found test program q s i ∙ ap (λ o. or_found o (above_any test q.depth program q.names.now)) inner ∙ ap (or_found (above_from test p.depth program x.now)) left
+    ∙ sym (ap (λ ys. above_any test p.depth program ys) names ∙ any_cons test p.depth program x.now xs) in
+    let list : rs ≡ ps ++ q ∷ s ∷ i ∷ [] = h ∙ ap (λ ys. ys ++ i ∷ []) (g ∙ ap (λ ys. ys ++ s ∷ []) f) ∙ three ps in
+    let all = subst (AllSay test program) e a in
+    let was = say_one test program p (say_upper test program ps (p ∷ []) all) in
+    let one : suc s.depth ≡ p.depth = omega (arith, up, ne) in
+    let said : Says test program s (or_found (above_any test i.depth program i.names.now) (above_any test s.depth program s.names.now)) =
+    subst (λ o. elim o as (λ _. Type 0) [ None ↦ Unit {0} | Some name ↦ above_from test (suc s.depth) program name.now ≡ or_found (above_any test i.depth program i.names.now) (above_any test s.depth program s.names.now) ]) (sym same)
+    (ap (λ n. above_from test n program x.now) one ∙ sym inner) in (
+      ap (found_pending test program) e ∙ found_append test program ps (p ∷ []) ∙ ap (λ o. or_found o (found_pending test program ps)) (one_pending test program p ∙ sym whole) ∙ sym (found_append test program ps (q ∷ s ∷ i ∷ [])) ∙ ap (found_pending test program) (sym list),
+      subst (AllSay test program) (sym list)
+          (say_other test program ps (p ∷ []) (q ∷ s ∷ i ∷ []) (one_pending test program p ∙ sym whole) all
+          (three_say test program q s i (says_as test program p q depth below _ (says_same test program p _ _ (sym whole) was)) said below')),
+    )
+  where
+    three : (ps : List Pending) → ((ps ++ q ∷ []) ++ s ∷ []) ++ i ∷ [] ≡ ps ++ q ∷ s ∷ i ∷ []
+    three ps = append_assoc (ps ++ q ∷ []) (s ∷ []) (i ∷ []) ∙ append_assoc ps (q ∷ []) (s ∷ i ∷ [])
+
+-- no walk is kept yet
+pub none_kept : (test : ClassParts → Bool) (program : List ClassParts) (kept : List (List ℕ × ℕ)) → kept ≡ [] → AllVain test program (λ name. lookup (same_text name) kept)
+none_kept test program kept e = λ name depth is. by name depth (lookup (same_text name) kept) (ap (lookup (same_text name)) e) is
+  where
+    by : (name : List ℕ) (depth : ℕ) (o : Option ℕ) → o ≡ None → o ≡ Some depth → above_from test (suc depth) program name ≡ None
+    by name depth None e f = cc
+    by name depth (Some d) e f = cc

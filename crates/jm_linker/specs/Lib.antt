@@ -7,3 +7,5 @@ pub mod Found
 pub mod Cycles
 pub mod MainLinks
 pub mod Linking
+pub mod Keys
+pub mod Ranks

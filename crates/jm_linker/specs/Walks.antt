@@ -1,6 +1,6 @@
 -- The first class from a name up in which something is found: the class itself, its superinterfaces,
 -- its superclass, each with all above it.
-use Rattle.std.specs.Prelude.{ℕ, zero, suc, List, [], ◌∷◌, Option, Some, None, Bool, true, false, is_some}
+use Rattle.std.specs.Prelude.{◌≡◌, ℕ, zero, suc, List, [], ◌∷◌, Option, Some, None, Bool, true, false, is_some}
 use Rattle.jm_program.specs.Names.{same_text}
 use Rattle.jm_program.specs.declared.class.ClassParts.{ClassParts}
 use Rattle.jm_world.specs.Classes.{class_named, field_in, method_in}
@@ -33,6 +33,18 @@ or_found None next = next
 unfoldable pub found_pending : (ClassParts → Bool) → List ClassParts → List Pending → Option ClassParts
 found_pending test program [] = None
 found_pending test program (p ∷ ps) = or_found (found_pending test program ps) (above_any test p.depth program p.names.now)
+
+-- of the last names above a class: what they and all after them give is what the class gives
+abbrev pub Says : (ClassParts → Bool) → List ClassParts → Pending → Option ClassParts → Type 0
+Says test program p found = elim p.below [ None ↦ Unit {0} | Some name ↦ above_from test (suc p.depth) program name.now ≡ found ]
+
+unfoldable pub AllSay : (ClassParts → Bool) → List ClassParts → List Pending → Type 0
+AllSay test program [] = Unit {0}
+AllSay test program (p ∷ ps) = Says test program p (found_pending test program (p ∷ ps)) × AllSay test program ps
+
+-- the walks that are kept, by name and by how many classes above the name, were in vain
+abbrev pub AllVain : (ClassParts → Bool) → List ClassParts → (List ℕ → Option ℕ) → Type 0
+AllVain test program kept = (name : List ℕ) (depth : ℕ) → kept name ≡ Some depth → above_from test (suc depth) program name ≡ None
 
 -- the first of a list of classes
 abbrev pub first_along : (ClassParts → Bool) → List ClassParts → Option ClassParts

@@ -1,12 +1,14 @@
 // The classes of a program and the built-in ones, found by name.
 
-ghost use Rattle.std.specs.Prelude.{◌≡◌, ◌<◌, IfOk, List, Some, ℕ, length, option_copied, slice_get};
+ghost use Rattle.std.specs.Prelude.{◌≡◌, ◌<◌, IfOk, List, Some, ℕ, length, option_copied, slice_get, take};
+ghost use Rattle.std.specs.List.{list_any};
 ghost use Rattle.std.specs.HashMap.{get};
 ghost use Rattle.jm_program.specs.Names.{same_text};
+ghost use Rattle.jm_program.specs.declared.class.ClassParts.{ClassParts};
 ghost use Rattle.jm_world.specs.Classes.{as_class, class_named, height};
 ghost use Rattle.jm_linker.specs.BuiltInClasses.{built_in_classes, class_in, number_from};
 
-use crate::name::{copy_of, is_same};
+use crate::name::is_same;
 use jm_builtins::{BuiltIn, builtins};
 use jm_program::{Class, ClassParts, Name, Version};
 use std::alloc::{AllocError, Global};
@@ -30,7 +32,7 @@ pub fn numbers_of(alloc: Global, program: &[Class]) -> Result<HashMap<Name, usiz
     let mut number = program.len();
     while number > 0 {
         number -= 1;
-        let name = copy_of(alloc, &program[number].parts().name)?;
+        let name = program[number].parts().name.copy(alloc)?;
         numbers.insert(name, number)?;
     }
     Ok(numbers)
@@ -99,6 +101,16 @@ impl<'a> Classes<'a> {
         ensures { result ≡ height self.now.program.now }
     {
         self.program.len() + self.built_ins.len()
+    }
+
+    /// Whether a class of the name stands before the number in the program.
+    pub fn stands_before(&self, name: &Name, number: usize) -> bool
+        ensures { result ≡ list_any (λ (c : ClassParts). same_text c.name name.now) (take number self.now.program.now) }
+    {
+        match self.numbers.get(name) {
+            Some(first) => *first < number,
+            None => false,
+        }
     }
 
     /// The class of the name: the program's, or else a built-in one.

@@ -9,6 +9,7 @@ ghost use Rattle.jm_linker.specs.Cycles.{is_above_itself};
 
 use crate::classes::Classes;
 use crate::fault::{LinkFault, cycle};
+use crate::ranks::{are_ranks, ranks_of};
 use crate::walk::{Sought, find_above};
 use jm_program::ClassParts;
 use std::alloc::Global;
@@ -53,6 +54,9 @@ fn check_cycle<'a>(
 pub fn check_cycles(alloc: Global, classes: &Classes) -> Result<(), LinkFault>
     ensures { Answers result (first_of_all (cycle_refusal classes.now.program.now) classes.now.program.now) }
 {
+    if are_ranks(classes, &ranks_of(alloc, classes)?) {
+        return Ok(());
+    }
     for class in classes.program {
         check_cycle(alloc, classes, class.parts())?;
     }

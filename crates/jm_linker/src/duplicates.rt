@@ -1,45 +1,21 @@
 // Classes and members of one name.
 
-ghost use Rattle.std.specs.Prelude.{◌≡◌, ◌<◌, [], length, take, is_some, Some};
-ghost use Rattle.std.specs.List.{list_any};
-ghost use Rattle.jm_program.specs.Names.{same_text};
-ghost use Rattle.jm_program.specs.declared.class.ClassParts.{ClassParts};
-ghost use Rattle.jm_world.specs.Classes.{field_in, method_in};
-ghost use Rattle.jm_world.specs.Loads.{is_named_among, duplicates, duplicate_fields, duplicate_methods, duplicate_members, first_of_all};
+ghost use Rattle.std.specs.Prelude.{◌≡◌, []};
+ghost use Rattle.jm_world.specs.Loads.{duplicates, duplicate_fields, duplicate_methods, duplicate_members};
 ghost use Rattle.jm_linker.specs.Answers.{Answers};
 ghost use Rattle.jm_linker.specs.BuiltInClasses.{is_built_in_name};
 
 use crate::classes::{Classes, find_in};
 use crate::fault::{LinkFault, duplicate_class, duplicate_member};
-use crate::members::{find_field, find_method};
-use crate::name::is_same;
-use jm_program::{Class, ClassParts, Field, Method, Name};
+use crate::key::{field_key, method_key};
+use jm_program::{ClassParts, Field, Method, Name};
 use std::alloc::Global;
-
-fn is_named_in(program: &[Class], name: &Name) -> bool
-    ensures { result ≡ list_any (λ (c : ClassParts). same_text c.name name.now) program.now }
-{
-    program
-        .iter()
-        .any(|class| is_same(&class.parts().name, name))
-}
+use std::collections::BTreeSet;
 
 fn is_built_in(classes: &Classes, name: &Name) -> bool
     ensures { result ≡ is_built_in_name name.now }
 {
     find_in(classes.built_ins, name).is_some()
-}
-
-fn has_field(fields: &[Field], field: &Field) -> bool
-    ensures { result ≡ is_some (field_in fields.now field.now.name field.now.descriptor) }
-{
-    find_field(fields, &field.name, &field.descriptor).is_some()
-}
-
-fn has_method(methods: &[Method], method: &Method) -> bool
-    ensures { result ≡ is_some (method_in methods.now method.now.name method.now.descriptor) }
-{
-    find_method(methods, &method.name, &method.descriptor).is_some()
 }
 
 /// That no two classes have one name, the built-in ones included.
@@ -49,7 +25,7 @@ pub fn no_duplicate_classes(alloc: Global, classes: &Classes) -> Result<(), Link
     let program = classes.program;
     for (index, class) in program.iter().enumerate() {
         let name = &class.parts().name;
-        if is_named_in(&program[..index], name) || is_built_in(classes, name) {
+        if classes.stands_before(name, index) || is_built_in(classes, name) {
             return Err(duplicate_class(alloc, name));
         }
     }
@@ -59,8 +35,9 @@ pub fn no_duplicate_classes(alloc: Global, classes: &Classes) -> Result<(), Link
 fn no_duplicate_fields(alloc: Global, fields: &[Field]) -> Result<(), LinkFault>
     ensures { Answers result (duplicate_fields [] fields.now) }
 {
-    for (index, field) in fields.iter().enumerate() {
-        if has_field(&fields[..index], field) {
+    let mut seen = BTreeSet::new(alloc);
+    for field in fields {
+        if !seen.insert(field_key(field))? {
             return Err(duplicate_member(alloc, &field.name));
         }
     }
@@ -70,8 +47,9 @@ fn no_duplicate_fields(alloc: Global, fields: &[Field]) -> Result<(), LinkFault>
 fn no_duplicate_methods(alloc: Global, methods: &[Method]) -> Result<(), LinkFault>
     ensures { Answers result (duplicate_methods [] methods.now) }
 {
-    for (index, method) in methods.iter().enumerate() {
-        if has_method(&methods[..index], method) {
+    let mut seen = BTreeSet::new(alloc);
+    for method in methods {
+        if !seen.insert(method_key(alloc, method)?)? {
             return Err(duplicate_member(alloc, &method.name));
         }
     }

@@ -5,7 +5,6 @@ ghost use Rattle.jm_linker.specs.FaultTexts.{fault_text};
 ghost use Rattle.jm_linker.specs.Answers.{SaysWhy};
 ghost use Rattle.jm_world.specs.Loads.{duplicate_class, no_class, cycle, no_field, no_method, wrong_kind, duplicate_member};
 
-use crate::name::copy_of;
 use jm_linked::LaterPart;
 use jm_program::Name;
 use std::alloc::{AllocError, AllocFailed, Global};
@@ -85,7 +84,7 @@ impl<T: Drop> From<AllocFailed<T>> for LinkFault {
 pub fn duplicate_class(alloc: Global, name: &Name) -> LinkFault
     ensures { SaysWhy result (Some (duplicate_class name.now)) }
 {
-    match copy_of(alloc, name) {
+    match name.copy(alloc) {
         Ok(name) => LinkFault::DuplicateClass(name),
         Err(_) => LinkFault::OutOfMemory,
     }
@@ -95,7 +94,7 @@ pub fn duplicate_class(alloc: Global, name: &Name) -> LinkFault
 pub fn duplicate_member(alloc: Global, name: &Name) -> LinkFault
     ensures { SaysWhy result (Some (duplicate_member name.now)) }
 {
-    match copy_of(alloc, name) {
+    match name.copy(alloc) {
         Ok(name) => LinkFault::DuplicateMember(name),
         Err(_) => LinkFault::OutOfMemory,
     }
@@ -105,7 +104,7 @@ pub fn duplicate_member(alloc: Global, name: &Name) -> LinkFault
 pub fn no_class(alloc: Global, name: &Name) -> LinkFault
     ensures { SaysWhy result (Some (no_class name.now)) }
 {
-    match copy_of(alloc, name) {
+    match name.copy(alloc) {
         Ok(name) => LinkFault::NoClass(name),
         Err(_) => LinkFault::OutOfMemory,
     }
@@ -115,7 +114,7 @@ pub fn no_class(alloc: Global, name: &Name) -> LinkFault
 pub fn cycle(alloc: Global, name: &Name) -> LinkFault
     ensures { SaysWhy result (Some (cycle name.now)) }
 {
-    match copy_of(alloc, name) {
+    match name.copy(alloc) {
         Ok(name) => LinkFault::Cycle(name),
         Err(_) => LinkFault::OutOfMemory,
     }
@@ -125,7 +124,7 @@ pub fn cycle(alloc: Global, name: &Name) -> LinkFault
 pub fn no_field(alloc: Global, name: &Name) -> LinkFault
     ensures { SaysWhy result (Some (no_field name.now)) }
 {
-    match copy_of(alloc, name) {
+    match name.copy(alloc) {
         Ok(name) => LinkFault::NoField(name),
         Err(_) => LinkFault::OutOfMemory,
     }
@@ -135,7 +134,7 @@ pub fn no_field(alloc: Global, name: &Name) -> LinkFault
 pub fn no_method(alloc: Global, name: &Name) -> LinkFault
     ensures { SaysWhy result (Some (no_method name.now)) }
 {
-    match copy_of(alloc, name) {
+    match name.copy(alloc) {
         Ok(name) => LinkFault::NoMethod(name),
         Err(_) => LinkFault::OutOfMemory,
     }
@@ -145,7 +144,7 @@ pub fn no_method(alloc: Global, name: &Name) -> LinkFault
 pub fn wrong_kind(alloc: Global, name: &Name) -> LinkFault
     ensures { SaysWhy result (Some (wrong_kind name.now)) }
 {
-    match copy_of(alloc, name) {
+    match name.copy(alloc) {
         Ok(name) => LinkFault::WrongKind(name),
         Err(_) => LinkFault::OutOfMemory,
     }

@@ -9,7 +9,7 @@ ghost use Rattle.jm_world.specs.Loading.{strings_type};
 ghost use Rattle.jm_world.specs.Classes.{system_class, print_stream_class};
 ghost use Rattle.jm_world.specs.Types.{class_type, same_type, same_types, same_result};
 
-use crate::name::{is_print_stream, is_system, is_text};
+use crate::name::{is_print_stream, is_system};
 use crate::types::letter;
 use jm_linked::{LaterPart, PrintMethod, Printed};
 use jm_program::{
@@ -50,7 +50,7 @@ pub fn is_system_out(field: &FieldRef) -> bool
     ensures { result ≡ is_system_out field.now }
 {
     is_system_ref(&field.class)
-        && is_text(&field.name, b"out")
+        && field.name.is_text(b"out")
         && is_print_stream_type(&field.descriptor)
 }
 
@@ -78,8 +78,8 @@ fn is_print_name(name: &Name, method: PrintMethod) -> bool
     ensures { result ≡ same_text name.now (print_name method) }
 {
     match method {
-        PrintMethod::Print(_) => is_text(name, b"print"),
-        PrintMethod::Println(_) | PrintMethod::EndLine => is_text(name, b"println"),
+        PrintMethod::Print(_) => name.is_text(b"print"),
+        PrintMethod::Println(_) | PrintMethod::EndLine => name.is_text(b"println"),
     }
 }
 
@@ -258,7 +258,7 @@ fn are_main_parameters(types: &[FieldType]) -> bool
 pub fn is_main_method(method: &Method) -> bool
     ensures { result ≡ is_main_method method.now }
 {
-    is_text(&method.name, b"main")
+    method.name.is_text(b"main")
         && are_main_parameters(method.descriptor.parameters.as_slice())
         && returns_nothing(&method.descriptor)
 }

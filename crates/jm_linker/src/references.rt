@@ -229,7 +229,7 @@ fn check_instruction(alloc: Global, classes: &Classes, instruction: &Instr) -> R
     match instruction {
         Instr::Field(op, field) => check_field(alloc, classes, *op, field.get()),
         Instr::Invoke(op, method) => check_method(alloc, classes, *op, method.get()),
-        Instr::New(name) => check_new(alloc, classes, name),
+        Instr::New(name) => check_new(alloc, classes, name.get()),
         Instr::Type(_, class) => check_ref(alloc, classes, class.get()),
         _ => Ok(()),
     }

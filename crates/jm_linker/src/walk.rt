@@ -1,12 +1,13 @@
 // Walks from a name up, over superinterfaces and superclasses (JVMS 5.4.3).
 
-ghost use Rattle.std.specs.Prelude.{◌≡◌, MatchResult, OnOk, Bool, List, option_copied, option_to_list};
+ghost use Rattle.std.specs.Prelude.{◌≡◌, MatchResult, OnOk, Bool, List, None, suc, true, option_copied, option_to_list};
+ghost use Rattle.std.specs.HashMap.{get};
+ghost use Rattle.jm_program.specs.Names.{same_text};
 ghost use Rattle.jm_program.specs.declared.class.ClassParts.{ClassParts};
 ghost use Rattle.jm_world.specs.Classes.{height};
 ghost use Rattle.jm_world.specs.Hierarchy.{chain};
-ghost use Rattle.jm_world.specs.Resolution.{interfaces_first};
 ghost use Rattle.jm_linker.specs.Answers.{IsOutOfMemory};
-ghost use Rattle.jm_linker.specs.Walks.{sought_in, above_any, or_found, found_pending, first_along};
+ghost use Rattle.jm_linker.specs.Walks.{AllVain, Says, sought_in, above_from, above_any, first_along};
 
 use crate::classes::Classes;
 use crate::fault::LinkFault;
@@ -14,6 +15,7 @@ use crate::members::{find_method, find_nameable};
 use crate::name::is_same;
 use jm_program::{ClassParts, FieldRef, MethodRef, Name};
 use std::alloc::{AllocError, Global};
+use std::collections::HashMap;
 use std::slice;
 
 /// What is looked for in each class of a walk.
@@ -27,11 +29,13 @@ pub enum Sought<'a> {
     Method(&'a MethodRef),
 }
 
-// Names that a walk has still to look at, and how many classes up it may go from them.
+// Names that a walk has still to look at, and how many classes up it may go from them. Where they
+// are the last ones above a class, its name stands with them.
 #[derive(Clone, Copy)]
 pub struct Pending<'a> {
     names: &'a [Name],
     depth: usize,
+    below: Option<&'a Name>,
 }
 
 impl Sought<'_> {
@@ -48,34 +52,36 @@ impl Sought<'_> {
     }
 }
 
-fn push_superclass<'a>(
-    pending: &mut Vec<Pending<'a>>,
-    class: &'a ClassParts,
-    depth: usize,
-) -> Result<(), AllocError>
-    ensures { OnOk result ((test : ClassParts → Bool) (program : List ClassParts) → found_pending test program pending.new.items ≡ or_found (above_any test depth program (option_to_list class.now.superclass)) (found_pending test program pending.old.items)) }
+fn superclass_of(class: &ClassParts) -> &[Name]
+    ensures { result.now ≡ option_to_list class.now.superclass }
 {
-    if let Some(name) = &class.superclass {
-        pending.push(Pending {
-            names: slice::from_ref(name),
-            depth,
-        })?;
+    match &class.superclass {
+        Some(name) => slice::from_ref(name),
+        None => &[],
     }
-    Ok(())
 }
 
-fn push_parents<'a>(
-    pending: &mut Vec<Pending<'a>>,
-    class: &'a ClassParts,
-    depth: usize,
-) -> Result<(), AllocError>
-    ensures { OnOk result ((test : ClassParts → Bool) (program : List ClassParts) → found_pending test program pending.new.items ≡ or_found (above_any test depth program (interfaces_first class.now)) (found_pending test program pending.old.items)) }
+// Whether a walk up from the name, over as many classes above it, was in vain.
+fn is_tried(tried: &HashMap<Name, usize>, name: &Name, depth: usize) -> bool
+    ensures { (test : ClassParts → Bool) (program : List ClassParts) → AllVain test program (get same_text tried.now) → result ≡ true → above_from test (suc depth) program name.now ≡ None }
 {
-    push_superclass(pending, class, depth)?;
-    pending.push(Pending {
-        names: class.interfaces.as_slice(),
-        depth,
-    })?;
+    match tried.get(name) {
+        Some(most) => depth <= *most,
+        None => false,
+    }
+}
+
+// Keeps that a walk was in vain, whose last names these were.
+fn keep_tried(
+    alloc: Global,
+    tried: &mut HashMap<Name, usize>,
+    last: Pending,
+) -> Result<(), AllocError>
+    ensures { OnOk result ((test : ClassParts → Bool) (program : List ClassParts) → AllVain test program (get same_text tried.old) → Says test program last.entry None → AllVain test program (get same_text tried.new)) }
+{
+    if let Some(name) = last.below {
+        tried.insert(name.copy(alloc)?, last.depth)?;
+    }
     Ok(())
 }
 
@@ -89,10 +95,12 @@ pub fn find_above<'a>(
 ) -> Result<Option<&'a ClassParts>, LinkFault>
     ensures { MatchResult result (λ c. option_copied c ≡ above_any (sought_in sought.now) (height classes.now.program.now) classes.now.program.now names.now) (λ fault. IsOutOfMemory fault) }
 {
+    let mut tried = HashMap::new(alloc);
     let mut pending = Vec::new(alloc);
     pending.push(Pending {
         names,
         depth: classes.height(),
+        below: None,
     })?;
     for _ in 0..u64::MAX {
         let Some(next) = pending.pop() else {
@@ -101,18 +109,29 @@ pub fn find_above<'a>(
         if next.depth == 0 {
             continue;
         }
-        let Some((name, others)) = next.names.split_first() else {
+        let depth = next.depth - 1;
+        let Some((name, names)) = next.names.split_first() else {
+            keep_tried(alloc, &mut tried, next)?;
             continue;
         };
-        pending.push(Pending {
-            names: others,
-            depth: next.depth,
-        })?;
+        pending.push(Pending { names, ..next })?;
+        if is_tried(&tried, name, depth) {
+            continue;
+        }
         if let Some(class) = classes.find(name) {
             if sought.is_in(class) {
                 return Ok(Some(class));
             }
-            push_parents(&mut pending, class, next.depth - 1)?;
+            pending.push(Pending {
+                names: superclass_of(class),
+                depth,
+                below: Some(name),
+            })?;
+            pending.push(Pending {
+                names: class.interfaces.as_slice(),
+                depth,
+                below: None,
+            })?;
         }
     }
     Err(LinkFault::OutOfMemory)

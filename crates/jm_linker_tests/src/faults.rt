@@ -1,235 +1,128 @@
 // How programs link, and the order of the faults (JVMS 5.3, 5.4).
 
 use crate::programs::{
-    CLASS, INTERFACE, PUBLIC, PUBLIC_STATIC, class, field_ref, main_class, method, method_ref,
-    name, outcome,
+    CLASS, INTERFACE, Line, Member, Row, class, class_with, implementing, main_of, said,
 };
-use jm_program::{
-    Arithmetic, Boxed, Class, DescriptorFault, FieldOp, FieldRef, Instr, Integral, InvokeOp,
-    MethodRef, Plain, ReturnOp, Simple, SmallInt,
-};
-use std::alloc::Global;
+use jm_program::{FieldOp, InvokeOp};
 use std::test::Fail;
-
-fn simple(simple: Simple) -> Instr {
-    Instr::Plain(Plain::Simple(simple))
-}
-
-fn returns(alloc: Global) -> Result<Vec<Instr>, DescriptorFault> {
-    Ok(vec![in alloc; Instr::Return(ReturnOp::Void)]?)
-}
-
-fn field_use(alloc: Global, op: FieldOp, field: FieldRef) -> Result<Instr, DescriptorFault> {
-    Ok(Instr::Field(op, Boxed::new(alloc, field)?))
-}
-
-fn call(alloc: Global, op: InvokeOp, method: MethodRef) -> Result<Instr, DescriptorFault> {
-    Ok(Instr::Invoke(op, Boxed::new(alloc, method)?))
-}
-
-// main of one instruction and a return.
-fn main_of(alloc: Global, instruction: Instr) -> Result<Class, DescriptorFault> {
-    let instructions = vec![in alloc; instruction, Instr::Return(ReturnOp::Void)]?;
-    main_class(alloc, instructions)
-}
 
 #[test]
 fn the_sum_of_two_and_three(rt: HostRuntime) -> Result<(), Fail> {
-    let alloc = rt.alloc();
-    let out = field_ref(alloc, "java/lang/System", "out", "Ljava/io/PrintStream;")?;
-    let println = method_ref(alloc, "java/io/PrintStream", "println", "(I)V")?;
-    let mut code = Vec::new(alloc);
-    code.push(field_use(alloc, FieldOp::GetStatic, out)?)?;
-    code.push(simple(Simple::IntConstant(SmallInt::Two)))?;
-    code.push(simple(Simple::IntConstant(SmallInt::Three)))?;
-    code.push(simple(Simple::Arithmetic(Arithmetic::Add, Integral::Int)))?;
-    code.push(call(alloc, InvokeOp::Virtual, println)?)?;
-    code.push(Instr::Return(ReturnOp::Void))?;
-    let main = main_class(alloc, code)?;
-    let said = outcome(alloc, vec![in alloc; main]?)?;
+    let said = said(rt.alloc(), &[main_of(Line::Sum)])?;
     assert_eq!(rt; said.as_str(), "linked 1");
     Ok(())
 }
 
 #[test]
 fn classes_of_one_name(rt: HostRuntime) -> Result<(), Fail> {
-    let alloc = rt.alloc();
-    let first = main_class(alloc, returns(alloc)?)?;
-    let second = main_class(alloc, returns(alloc)?)?;
-    let said = outcome(alloc, vec![in alloc; first, second]?)?;
-    assert_eq!(rt; said.as_str(), "50 DuplicateClass(Main)");
-    let main = main_class(alloc, returns(alloc)?)?;
-    let thread = class(
-        alloc,
-        CLASS,
-        "java/lang/Thread",
-        "java/lang/Object",
-        None,
-        Vec::new(alloc),
+    let main = main_of(Line::Nothing);
+    let twice = said(rt.alloc(), &[main, main])?;
+    assert_eq!(rt; twice.as_str(), "50 DuplicateClass(Main)");
+    let built_in = said(
+        rt.alloc(),
+        &[main, class("java/lang/Thread", "java/lang/Object")],
     )?;
-    let said = outcome(alloc, vec![in alloc; main, thread]?)?;
-    assert_eq!(rt; said.as_str(), "50 DuplicateClass(java/lang/Thread)");
+    assert_eq!(rt; built_in.as_str(), "50 DuplicateClass(java/lang/Thread)");
     Ok(())
 }
 
 #[test]
 fn members_come_before_parents(rt: HostRuntime) -> Result<(), Fail> {
-    let alloc = rt.alloc();
-    let one = method(alloc, PUBLIC, "f", "()V", returns(alloc)?)?;
-    let two = method(alloc, PUBLIC_STATIC, "f", "()V", returns(alloc)?)?;
-    let odd = class(alloc, CLASS, "A", "a/B", None, vec![in alloc; one, two]?)?;
-    let said = outcome(alloc, vec![in alloc; odd]?)?;
-    assert_eq!(rt; said.as_str(), "57 DuplicateMember(f)");
-    let odd = class(alloc, CLASS, "A", "a/B", None, Vec::new(alloc))?;
-    let said = outcome(alloc, vec![in alloc; odd]?)?;
-    assert_eq!(rt; said.as_str(), "51 NoClass(a/B)");
+    let odd = Row {
+        flags: CLASS,
+        name: "A",
+        superclass: "a/B",
+        interface: None,
+        members: [Some(Member::Method), Some(Member::StaticMethod)],
+    };
+    let twice = said(rt.alloc(), &[odd])?;
+    assert_eq!(rt; twice.as_str(), "57 DuplicateMember(f)");
+    let missing = said(rt.alloc(), &[class("A", "a/B")])?;
+    assert_eq!(rt; missing.as_str(), "51 NoClass(a/B)");
     Ok(())
 }
 
 #[test]
 fn parents_of_the_wrong_kind(rt: HostRuntime) -> Result<(), Fail> {
-    let alloc = rt.alloc();
-    let odd = class(alloc, CLASS, "A", "java/lang/String", None, Vec::new(alloc))?;
-    let said = outcome(alloc, vec![in alloc; odd]?)?;
-    assert_eq!(rt; said.as_str(), "55 WrongKind(java/lang/String)");
-    let odd = class(
-        alloc,
-        CLASS,
-        "A",
-        "java/lang/Object",
-        Some("java/lang/Thread"),
-        Vec::new(alloc),
-    )?;
-    let said = outcome(alloc, vec![in alloc; odd]?)?;
-    assert_eq!(rt; said.as_str(), "55 WrongKind(java/lang/Thread)");
+    let sealed = said(rt.alloc(), &[class("A", "java/lang/String")])?;
+    assert_eq!(rt; sealed.as_str(), "55 WrongKind(java/lang/String)");
+    let odd = implementing(CLASS, "A", "java/lang/Object", "java/lang/Thread");
+    let class = said(rt.alloc(), &[odd])?;
+    assert_eq!(rt; class.as_str(), "55 WrongKind(java/lang/Thread)");
     Ok(())
 }
 
 #[test]
 fn classes_above_themselves(rt: HostRuntime) -> Result<(), Fail> {
-    let alloc = rt.alloc();
-    let below = class(alloc, CLASS, "C", "A", None, Vec::new(alloc))?;
-    let first = class(alloc, CLASS, "A", "B", None, Vec::new(alloc))?;
-    let second = class(alloc, CLASS, "B", "A", None, Vec::new(alloc))?;
-    let said = outcome(alloc, vec![in alloc; below, first, second]?)?;
-    assert_eq!(rt; said.as_str(), "52 Cycle(A)");
-    let first = class(
-        alloc,
-        INTERFACE,
-        "I",
-        "java/lang/Object",
-        Some("J"),
-        Vec::new(alloc),
-    )?;
-    let second = class(
-        alloc,
-        INTERFACE,
-        "J",
-        "java/lang/Object",
-        Some("I"),
-        Vec::new(alloc),
-    )?;
-    let said = outcome(alloc, vec![in alloc; first, second]?)?;
-    assert_eq!(rt; said.as_str(), "52 Cycle(I)");
+    let classes = [class("C", "A"), class("A", "B"), class("B", "A")];
+    let classes = said(rt.alloc(), &classes)?;
+    assert_eq!(rt; classes.as_str(), "52 Cycle(A)");
+    let interfaces = [
+        implementing(INTERFACE, "I", "java/lang/Object", "J"),
+        implementing(INTERFACE, "J", "java/lang/Object", "I"),
+    ];
+    let interfaces = said(rt.alloc(), &interfaces)?;
+    assert_eq!(rt; interfaces.as_str(), "52 Cycle(I)");
     Ok(())
 }
 
 #[test]
 fn mains_that_are_none(rt: HostRuntime) -> Result<(), Fail> {
-    let alloc = rt.alloc();
-    let none = class(alloc, CLASS, "A", "java/lang/Object", None, Vec::new(alloc))?;
-    let said = outcome(alloc, vec![in alloc; none]?)?;
-    assert_eq!(rt; said.as_str(), "56 NoMain");
-    let said = outcome(alloc, Vec::new(alloc))?;
-    assert_eq!(rt; said.as_str(), "56 NoMain");
-    let main = method(
-        alloc,
-        PUBLIC,
-        "main",
-        "([Ljava/lang/String;)V",
-        returns(alloc)?,
-    )?;
-    let odd = class(
-        alloc,
-        CLASS,
-        "A",
-        "java/lang/Object",
-        None,
-        vec![in alloc; main]?,
-    )?;
-    let said = outcome(alloc, vec![in alloc; odd]?)?;
-    assert_eq!(rt; said.as_str(), "56 NoMain");
+    let none = said(rt.alloc(), &[class("A", "java/lang/Object")])?;
+    assert_eq!(rt; none.as_str(), "56 NoMain");
+    let empty = said(rt.alloc(), &[])?;
+    assert_eq!(rt; empty.as_str(), "56 NoMain");
+    let instance = said(rt.alloc(), &[class_with("A", Member::InstanceMain)])?;
+    assert_eq!(rt; instance.as_str(), "56 NoMain");
     Ok(())
 }
 
 #[test]
 fn fields_that_are_not_found(rt: HostRuntime) -> Result<(), Fail> {
-    let alloc = rt.alloc();
-    let field = field_ref(alloc, "Main", "x", "I")?;
-    let main = main_of(alloc, field_use(alloc, FieldOp::GetStatic, field)?)?;
-    let said = outcome(alloc, vec![in alloc; main]?)?;
-    assert_eq!(rt; said.as_str(), "53 NoField(x)");
-    let field = field_ref(alloc, "java/lang/System", "out", "Ljava/io/PrintStream;")?;
-    let main = main_of(alloc, field_use(alloc, FieldOp::GetField, field)?)?;
-    let said = outcome(alloc, vec![in alloc; main]?)?;
-    assert_eq!(rt; said.as_str(), "55 WrongKind(out)");
-    let field = field_ref(alloc, "java/lang/String", "value", "[C")?;
-    let main = main_of(alloc, field_use(alloc, FieldOp::GetField, field)?)?;
-    let said = outcome(alloc, vec![in alloc; main]?)?;
-    assert_eq!(rt; said.as_str(), "53 NoField(value)");
+    let missing = Line::Field(FieldOp::GetStatic, "Main", "x", "I");
+    let missing = said(rt.alloc(), &[main_of(missing)])?;
+    assert_eq!(rt; missing.as_str(), "53 NoField(x)");
+    let stream = "Ljava/io/PrintStream;";
+    let instance = Line::Field(FieldOp::GetField, "java/lang/System", "out", stream);
+    let instance = said(rt.alloc(), &[main_of(instance)])?;
+    assert_eq!(rt; instance.as_str(), "55 WrongKind(out)");
+    let hidden = Line::Field(FieldOp::GetField, "java/lang/String", "value", "[C");
+    let hidden = said(rt.alloc(), &[main_of(hidden)])?;
+    assert_eq!(rt; hidden.as_str(), "53 NoField(value)");
     Ok(())
 }
 
 #[test]
 fn methods_that_are_not_found(rt: HostRuntime) -> Result<(), Fail> {
-    let alloc = rt.alloc();
-    let missing = method_ref(alloc, "Main", "f", "()V")?;
-    let main = main_of(alloc, call(alloc, InvokeOp::Static, missing)?)?;
-    let said = outcome(alloc, vec![in alloc; main]?)?;
-    assert_eq!(rt; said.as_str(), "54 NoMethod(f)");
-    let missing = method_ref(alloc, "java/lang/Cloneable", "f", "()V")?;
-    let main = main_of(alloc, call(alloc, InvokeOp::Virtual, missing)?)?;
-    let said = outcome(alloc, vec![in alloc; main]?)?;
-    assert_eq!(rt; said.as_str(), "55 WrongKind(java/lang/Cloneable)");
+    let missing = Line::Invoke(InvokeOp::Static, "Main", "f", "()V");
+    let missing = said(rt.alloc(), &[main_of(missing)])?;
+    assert_eq!(rt; missing.as_str(), "54 NoMethod(f)");
+    let interface = Line::Invoke(InvokeOp::Virtual, "java/lang/Cloneable", "f", "()V");
+    let interface = said(rt.alloc(), &[main_of(interface)])?;
+    assert_eq!(rt; interface.as_str(), "55 WrongKind(java/lang/Cloneable)");
     // run stands in Thread, and getMessage in no class of the profile.
-    let found = method_ref(alloc, "java/lang/Thread", "run", "()V")?;
-    let main = main_of(alloc, call(alloc, InvokeOp::Virtual, found)?)?;
-    let said = outcome(alloc, vec![in alloc; main]?)?;
-    assert_eq!(rt; said.as_str(), "16 Later(invokevirtual)");
+    let found = Line::Invoke(InvokeOp::Virtual, "java/lang/Thread", "run", "()V");
+    let found = said(rt.alloc(), &[main_of(found)])?;
+    assert_eq!(rt; found.as_str(), "16 Later(invokevirtual)");
     Ok(())
 }
 
 #[test]
-fn parts_that_come_later(rt: HostRuntime) -> Result<(), Fail> {
-    let alloc = rt.alloc();
-    let main = main_of(alloc, Instr::New(name(alloc, "java/lang/Object")?))?;
-    let said = outcome(alloc, vec![in alloc; main]?)?;
-    assert_eq!(rt; said.as_str(), "16 Later(new)");
-    let main = main_of(alloc, Instr::Throw)?;
-    let said = outcome(alloc, vec![in alloc; main]?)?;
-    assert_eq!(rt; said.as_str(), "16 Later(athrow)");
-    let main = main_class(alloc, returns(alloc)?)?;
-    let other = method(alloc, PUBLIC, "f", "()V", returns(alloc)?)?;
-    let second = class(
-        alloc,
-        CLASS,
-        "A",
-        "java/lang/Object",
-        None,
-        vec![in alloc; other]?,
-    )?;
-    let said = outcome(alloc, vec![in alloc; main, second]?)?;
-    assert_eq!(rt; said.as_str(), "16 Later(methods)");
-    let main = main_class(alloc, returns(alloc)?)?;
-    let second = class(
-        alloc,
-        CLASS,
-        "A",
-        "Main",
-        Some("java/lang/Cloneable"),
-        Vec::new(alloc),
-    )?;
-    let said = outcome(alloc, vec![in alloc; main, second]?)?;
-    assert_eq!(rt; said.as_str(), "16 Later(superclass)");
+fn instructions_that_come_later(rt: HostRuntime) -> Result<(), Fail> {
+    let new = said(rt.alloc(), &[main_of(Line::NewObject)])?;
+    assert_eq!(rt; new.as_str(), "16 Later(new)");
+    let throw = said(rt.alloc(), &[main_of(Line::Throw)])?;
+    assert_eq!(rt; throw.as_str(), "16 Later(athrow)");
+    Ok(())
+}
+
+#[test]
+fn classes_that_come_later(rt: HostRuntime) -> Result<(), Fail> {
+    let main = main_of(Line::Nothing);
+    let methods = said(rt.alloc(), &[main, class_with("A", Member::Method)])?;
+    assert_eq!(rt; methods.as_str(), "16 Later(methods)");
+    let below = implementing(CLASS, "A", "Main", "java/lang/Cloneable");
+    let superclass = said(rt.alloc(), &[main, below])?;
+    assert_eq!(rt; superclass.as_str(), "16 Later(superclass)");
     Ok(())
 }

@@ -50,7 +50,7 @@ module _ (l : LinkedView) (c : Content ClassId) (ts : List held.Thread) (ss : Li
   output_is = m.output
 
   -- the thread of a number is the world's
-  thread_is : (n : ℕ) → thread_at w n ≡ option_map (λ t. rename_thread (name_of c) (thread_part l t)) (thread_numbered ts n)
+  pub thread_is : (n : ℕ) → thread_at w n ≡ option_map (λ t. rename_thread (name_of c) (thread_part l t)) (thread_numbered ts n)
   thread_is zero = refl
   thread_is (suc n) = ap (λ xs. slice_get xs n) (sym threads_are) ∙ slice_get-map (rename_thread (name_of c)) (map (thread_part l) ts) n ∙ ap (option_map (rename_thread (name_of c))) (slice_get-map (thread_part l) ts n) ∙ twice (slice_get ts n)
     where

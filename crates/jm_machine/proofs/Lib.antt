@@ -6,3 +6,6 @@ pub mod FirstObjects
 pub mod Started
 pub mod FirstFrames
 pub mod ClassNumbers
+pub mod Parted
+pub mod Told
+pub mod Reading

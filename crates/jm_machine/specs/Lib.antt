@@ -2,3 +2,6 @@ pub mod View
 pub mod Threads
 pub mod Answered
 pub mod Start
+pub mod MethodFrames
+pub mod Seen
+pub mod Readers

@@ -1,13 +1,30 @@
 -- The threads of a machine by number.
-use Rattle.std.specs.Prelude.{ℕ, zero, suc, List, Option, Some, None, option_map, slice_get}
+use Rattle.std.specs.Prelude.{ℕ, zero, suc, List, Option, Some, None, option_map, reverse, slice_get}
 use Rattle.jm_world.specs.World.{Ending as ModelEnding, running, returned, ended_by, Thread as ModelThread}
 use Rattle.jm_state.specs.declared.thread.Thread.{Thread}
+use Rattle.jm_state.specs.declared.thread.StackFrame.{StackFrame}
 use Rattle.jm_state.specs.declared.thread.Ending.{Ending}
 
 -- thread n, counted from 1
 abbrev pub thread_numbered : List Thread → ℕ → Option Thread
 thread_numbered ts zero = None
 thread_numbered ts (suc n) = slice_get ts n
+
+-- its frame that is so many below the top, which is the last
+abbrev pub frame_below : Option Thread → ℕ → Option StackFrame
+frame_below None depth = None
+frame_below (Some t) depth = slice_get (reverse t.frames.items) depth
+
+abbrev pub frame_numbered : List Thread → ℕ → ℕ → Option StackFrame
+frame_numbered ts n depth = frame_below (thread_numbered ts n) depth
+
+-- the place of its pending exception
+abbrev pub pending_in : Option Thread → Option ℕ
+pending_in None = None
+pending_in (Some t) = t.pending
+
+abbrev pub pending_numbered : List Thread → ℕ → Option ℕ
+pending_numbered ts n = pending_in (thread_numbered ts n)
 
 -- how it has ended
 abbrev pub ending_numbered : List Thread → ℕ → Option Ending

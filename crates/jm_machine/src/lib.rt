@@ -4,7 +4,7 @@
 //! A [`Machine`] matches a world of the model (`jm_world`) in every part, and each event leads it
 //! to a machine that matches the model's next world, with the model's reply. So the machine after
 //! any list of events matches the fold of those events, which the contract of [`Machine::run`]
-//! says.
+//! says. Its readers tell each part of that world, with references as numbers of objects.
 //!
 //! The crate stands on `jm_interp`, `jm_state`, `jm_linked` and `jm_heap`; what a schedule spells is
 //! read by `jm_schedule`.
@@ -13,9 +13,20 @@
 mod class;
 mod event;
 mod fault;
+mod frame;
 mod load;
 mod machine;
+mod monitor;
+mod object;
+mod statics;
+mod thread;
+mod value;
 
 pub use fault::{Interrupted, LoadFault, OutOfMemory};
+pub use frame::{MethodFrame, WorldFrame};
 pub use jm_schedule::{Schedule, ScheduleFault, read_schedule};
 pub use machine::Machine;
+pub use monitor::WorldMonitor;
+pub use object::{ElementKind, ObjectKind, WorldObject};
+pub use statics::{WorldStatic, WorldStatics};
+pub use value::WorldValue;

@@ -1,20 +1,27 @@
 // The machine.
 
-ghost use Rattle.std.specs.Prelude.{◌≡◌, ℕ, List, MatchResult, MatchOption, Some, None, take, length, IfOk, IfErr, ◌≤◌};
+ghost use Rattle.std.specs.Prelude.{◌≡◌, ℕ, List, MatchResult, MatchOption, Some, None, take, length, option_map, IfSome, IfOk, IfErr, ◌≤◌};
+ghost use Rattle.jm_world.specs.Monitors.{monitor_in};
 ghost use Rattle.jm_world.specs.World.{World, live_among, thread_at};
 ghost use Rattle.jm_world.specs.Run.{after, run_from, replies_from};
 ghost use Rattle.jm_state.specs.Reached.{AreReachable};
+ghost use Rattle.jm_machine.specs.Readers.{model_frame, model_monitor, frame_at, pending_of, IsOfProgram, TellsObject};
 ghost use Rattle.jm_machine.specs.Threads.{class_ended_by};
 ghost use Rattle.jm_machine.specs.View.{MatchesWorld};
 
 use crate::class::class_name;
 use crate::event::{ending_of, make_event, reply_of};
 use crate::fault::{Interrupted, LoadFault, OutOfMemory};
+use crate::frame::{WorldFrame, world_frame};
 use crate::load::{is_too_small, make_first_state};
+use crate::monitor::WorldMonitor;
+use crate::object::WorldObject;
+use crate::statics::WorldStatics;
+use crate::thread::{frame_of, pending_of};
 use jm_heap::Heap;
 use jm_linked::Linked;
 use jm_program::Class;
-use jm_state::{Ending, State, reachable};
+use jm_state::{Ending, State, find_reachable, reachable};
 use jm_world::{Event, Reply, Stop};
 use std::alloc::Global;
 use std::marker::Model;
@@ -163,5 +170,60 @@ impl<H: Heap> Machine<H> {
             Ok(numbers) => Ok(numbers),
             Err(_) => Err(OutOfMemory),
         }
+    }
+
+    /// The frame of the thread of a number that is so many below the top one, which is 0 (JVMS
+    /// 2.6); None where there is no such thread or no such frame.
+    pub fn frame(&self, number: u64, depth: usize) -> Option<WorldFrame<'_, H>>
+        ensures frame { (w : World) → MatchesWorld self.now w → MatchOption result (frame_at (thread_at w number) depth ≡ None) (λ frame. frame_at (thread_at w number) depth ≡ Some (model_frame frame)) }
+        ensures method { (w : World) → MatchesWorld self.now w → IfSome result (IsOfProgram w.program) }
+    {
+        match frame_of(&self.state.threads, number, depth) {
+            Some(frame) => Some(world_frame(&self.state.heap, &self.linked, frame)),
+            None => None,
+        }
+    }
+
+    /// The number of the pending exception of the thread of a number (JVMS 2.10); None where there
+    /// is no such thread, or nothing is pending.
+    pub fn pending(&self, number: u64) -> Option<u64>
+        ensures { (w : World) → MatchesWorld self.now w → result ≡ pending_of (thread_at w number) }
+    {
+        match pending_of(&self.state.threads, number) {
+            Some(place) => Some(self.state.heap.serial(place)),
+            None => None,
+        }
+    }
+
+    /// The static fields (JVMS 2.5.4): `System.out`, then those of the program's classes, in order.
+    pub fn statics(&self) -> WorldStatics<'_, H>
+        ensures { (w : World) → MatchesWorld self.now w → result ≡ w.statics }
+    {
+        WorldStatics::new(&self.state.heap, &self.linked, &self.state.statics)
+    }
+
+    /// The object of a number; None where it is not reachable, also where it is garbage that still
+    /// has a place (JVMS 2.5.3). It looks at each reachable object once at most. `OutOfMemory`: a
+    /// growth was refused.
+    pub fn object(&self, number: u64) -> Result<Option<WorldObject<'_, H>>, OutOfMemory>
+        ensures { (w : World) → MatchesWorld self.now w → IfOk result (TellsObject w number) }
+    {
+        match find_reachable(self.alloc, &self.linked, &self.state, number) {
+            Ok(Some(place)) => {
+                let object = WorldObject::new(&self.state.heap, &self.linked, place);
+                Ok(Some(object))
+            }
+            Ok(None) => Ok(None),
+            Err(_) => Err(OutOfMemory),
+        }
+    }
+
+    /// The monitor of the object of a number, if a thread holds it (JVMS 2.11.10). A linked program
+    /// has no instruction that enters one, so none is held.
+    pub fn monitor(&self, _number: u64) -> Option<WorldMonitor>
+        ensures { (w : World) → MatchesWorld self.now w → option_map model_monitor result ≡ monitor_in w.monitors _number }
+    {
+        let _ = &self.state;
+        None
     }
 }

@@ -1,2 +1,3 @@
+pub mod InPlace
 pub mod Positions
 pub mod Taken

@@ -1,4 +1,4 @@
-ghost use Rattle.std.specs.Prelude.{◌≡◌, ◌<◌, ◌≤◌, length, List, Ok, IfOk, OnOk};
+ghost use Rattle.std.specs.Prelude.{◌≡◌, ◌<◌, ◌≤◌, length, map, List, Ok, IfOk, OnOk};
 ghost use Rattle.jm_bytes.specs.Reading.{Gives, GivesAll};
 ghost use Rattle.jm_bytes.specs.Format.{Format, Whole};
 ghost use Rattle.jm_class_format.specs.declared.fault.CodeFault.TheVariants.{OutOfMemory};
@@ -6,6 +6,7 @@ ghost use Rattle.jm_class_format.specs.declared.instruction.PlacedInstr.{PlacedI
 ghost use Rattle.jm_class_format.specs.Code.{placed, placed_code, code};
 
 use crate::instruction::instruction;
+use crate::starts::Starts;
 use crate::targets::all_numbered;
 use jm_bytes::Reader;
 use jm_class_format::{CodeFault, PlacedInstr};
@@ -33,7 +34,7 @@ fn placed_in(alloc: Global, bytes: &[u8]) -> Result<Vec<PlacedInstr>, CodeFault>
     ensures few { IfOk result (λ v. length v.items ≤ 65535) }
     ensures given { GivesAll (λ v. v.items) OutOfMemory result (placed_code.read bytes.now) }
 {
-    let mut all = Vec::new(alloc);
+    let mut all = Vec::with_capacity(alloc, bytes.len().min(MAX_CODE_BYTES))?;
     let mut reader = Reader::new(bytes);
     while !reader.is_empty() {
         let at = bytes.len() - reader.len();
@@ -43,14 +44,25 @@ fn placed_in(alloc: Global, bytes: &[u8]) -> Result<Vec<PlacedInstr>, CodeFault>
     Ok(all)
 }
 
+/// The instructions that the bytes of a code spell, and where they begin: as [`decode_code`], whose
+/// errors it has, for callers that look offsets up.
 #[tactic(auto, unfolding(jm_class_format::specs::Code::code))]
-fn code_in(alloc: Global, bytes: &[u8]) -> Result<Vec<PlacedInstr>, CodeFault>
-    ensures few { IfOk result (λ v. length v.items ≤ 65535) }
-    ensures given { GivesAll (λ v. v.items) OutOfMemory result (code.read bytes.now) }
+pub fn decode_placed(alloc: Global, bytes: &[u8]) -> Result<(Vec<PlacedInstr>, Starts), CodeFault>
+    ensures few { IfOk result (λ x. length x.0.items ≤ 65535) }
+    ensures starts { IfOk result (λ x. x.1 ≡ map (λ (p : PlacedInstr). p.offset) x.0.items) }
+    ensures given { GivesAll (λ x. x.0.items) OutOfMemory result (code.read bytes.now) }
 {
     let placed = placed_in(alloc, bytes)?;
     let all = all_numbered(alloc, placed)?;
     Ok(all)
+}
+
+fn code_in(alloc: Global, bytes: &[u8]) -> Result<Vec<PlacedInstr>, CodeFault>
+    ensures few { IfOk result (λ v. length v.items ≤ 65535) }
+    ensures given { GivesAll (λ v. v.items) OutOfMemory result (code.read bytes.now) }
+{
+    let placed = decode_placed(alloc, bytes)?;
+    Ok(placed.0)
 }
 
 /// The instructions that the bytes of a code spell, each with the offset of its opcode and with

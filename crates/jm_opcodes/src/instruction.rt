@@ -4,7 +4,11 @@ ghost use Rattle.jm_bytes.specs.Format.{Format};
 ghost use Rattle.jm_class_format.specs.declared.fault.CodeFault.TheVariants.{OutOfMemory};
 ghost use Rattle.jm_class_format.specs.Instructions.{operands, instruction};
 
-use crate::operands::{far_target, increment, invoke_interface, near_target, new_array, wide};
+use crate::operands::{
+    far_branch, field, increment, invoke, invoke_interface, load, load_constant,
+    load_constant_wide, load_long, near_branch, new_array, new_object, push_byte, push_short,
+    store, type_index, wide,
+};
 use crate::switch::{lookup_switch, table_switch};
 use crate::table::opcode_of;
 use jm_bytes::Reader;
@@ -29,63 +33,24 @@ fn operands(
         Opcode::Return(op) => Ok(IndexedInstr::Return(op)),
         Opcode::Throw => Ok(IndexedInstr::Throw),
         Opcode::Monitor(op) => Ok(IndexedInstr::Monitor(op)),
-        Opcode::PushByte => {
-            let n = reader.s1().map_err(|_| CodeFault::Cut(at))?;
-            Ok(IndexedInstr::Plain(Plain::PushByte(n)))
-        }
-        Opcode::PushShort => {
-            let n = reader.s2().map_err(|_| CodeFault::Cut(at))?;
-            Ok(IndexedInstr::Plain(Plain::PushShort(n)))
-        }
-        Opcode::LoadConstant => {
-            let index = reader.u1().map_err(|_| CodeFault::Cut(at))?;
-            Ok(IndexedInstr::Constant(u16::from(index)))
-        }
-        Opcode::LoadConstantWide => {
-            let index = reader.u2().map_err(|_| CodeFault::Cut(at))?;
-            Ok(IndexedInstr::Constant(index))
-        }
-        Opcode::LoadLong => {
-            let index = reader.u2().map_err(|_| CodeFault::Cut(at))?;
-            Ok(IndexedInstr::LongConstant(index))
-        }
-        Opcode::Load(kind) => {
-            let local = reader.u1().map_err(|_| CodeFault::Cut(at))?;
-            Ok(IndexedInstr::Plain(Plain::Load(kind, u16::from(local))))
-        }
-        Opcode::Store(kind) => {
-            let local = reader.u1().map_err(|_| CodeFault::Cut(at))?;
-            Ok(IndexedInstr::Plain(Plain::Store(kind, u16::from(local))))
-        }
+        Opcode::PushByte => push_byte(at, reader),
+        Opcode::PushShort => push_short(at, reader),
+        Opcode::LoadConstant => load_constant(at, reader),
+        Opcode::LoadConstantWide => load_constant_wide(at, reader),
+        Opcode::LoadLong => load_long(at, reader),
+        Opcode::Load(kind) => load(at, kind, reader),
+        Opcode::Store(kind) => store(at, kind, reader),
         Opcode::Increment => increment(at, reader),
-        Opcode::Branch(branch) => {
-            let target = near_target(at, reader)?;
-            Ok(IndexedInstr::Plain(Plain::Branch(branch, target)))
-        }
-        Opcode::BranchWide(branch) => {
-            let target = far_target(at, reader)?;
-            Ok(IndexedInstr::Plain(Plain::Branch(branch, target)))
-        }
+        Opcode::Branch(branch) => near_branch(at, branch, reader),
+        Opcode::BranchWide(branch) => far_branch(at, branch, reader),
         Opcode::TableSwitch => table_switch(alloc, at, reader),
         Opcode::LookupSwitch => lookup_switch(alloc, at, reader),
-        Opcode::Field(op) => {
-            let index = reader.u2().map_err(|_| CodeFault::Cut(at))?;
-            Ok(IndexedInstr::Field(op, index))
-        }
-        Opcode::Invoke(op) => {
-            let index = reader.u2().map_err(|_| CodeFault::Cut(at))?;
-            Ok(IndexedInstr::Invoke(op, index))
-        }
+        Opcode::Field(op) => field(at, op, reader),
+        Opcode::Invoke(op) => invoke(at, op, reader),
         Opcode::InvokeInterface => invoke_interface(at, reader),
-        Opcode::New => {
-            let index = reader.u2().map_err(|_| CodeFault::Cut(at))?;
-            Ok(IndexedInstr::New(index))
-        }
+        Opcode::New => new_object(at, reader),
         Opcode::NewArray => new_array(at, reader),
-        Opcode::Type(op) => {
-            let index = reader.u2().map_err(|_| CodeFault::Cut(at))?;
-            Ok(IndexedInstr::Type(op, index))
-        }
+        Opcode::Type(op) => type_index(at, op, reader),
         Opcode::Wide => wide(at, reader),
         Opcode::LeftOut(op) => Err(CodeFault::LeftOut(op)),
         Opcode::Later(op) => Err(CodeFault::Later(op)),

@@ -1,8 +1,9 @@
 //! The code of a method from its bytes: instructions with their offsets (JVMS 4.7.3, 6.5).
 //!
 //! [`decode_code`] gives the instructions that the bytes spell, their branch targets as numbers of
-//! instructions, and refuses bytes that spell no code by the first fault. What an instruction names
-//! stays an index of the constant pool. It stands on the definitions of `jm_class_format` and reads
+//! instructions, and refuses bytes that spell no code by the first fault; [`decode_placed`] gives
+//! with them where they begin. What an instruction names stays an index of the constant pool. It
+//! stands on the definitions of `jm_class_format` and reads
 //! with `jm_bytes`.
 #![tactic(auto)]
 
@@ -14,6 +15,6 @@ mod switch;
 mod table;
 mod targets;
 
-pub use decode::decode_code;
+pub use decode::{decode_code, decode_placed};
 pub use jm_class_format::{CodeFault, IndexedInstr, LaterOp, LeftOutOp, PlacedInstr};
 pub use starts::Starts;

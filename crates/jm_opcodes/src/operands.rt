@@ -1,12 +1,13 @@
 ghost use Rattle.std.specs.Prelude.{◌≡◌, ◌<◌, ◌+◌, ◌+ℤ◌, ℤ, pos, Ok, Err, IfOk};
 ghost use Rattle.jm_bytes.specs.Reading.{Takes, TakesAll};
 ghost use Rattle.jm_bytes.specs.Format.{Format};
-ghost use Rattle.jm_class_format.specs.Instructions.{offset_of, target_from, near_target, far_target, element_at, new_array, invoke_interface, increment, wide_increment, can_be_wide, no_wide, wide_operands, wide};
+ghost use Rattle.jm_class_format.specs.Instructions.{offset_of, target_from, near_target, far_target, element_at, new_array, invoke_interface, increment, wide_increment, can_be_wide, no_wide, wide_operands, wide, operands};
+ghost use Rattle.jm_class_format.specs.declared.opcode.Opcode.TheVariants as opcode;
 
 use crate::table::opcode_of;
 use jm_bytes::Reader;
 use jm_class_format::{CodeFault, IndexedInstr, LeftOutOp, Opcode};
-use jm_program::{ArrayOp, Plain, PrimitiveType};
+use jm_program::{ArrayOp, Branch, FieldOp, InvokeOp, OperandType, Plain, PrimitiveType, TypeOp};
 
 /// The offset that a branch at an offset jumps to, or the largest number where it is before the
 /// start of the code.
@@ -21,7 +22,7 @@ fn target_from(at: u32, jump: i32) -> u32
 
 /// A target in two bytes.
 #[tactic(auto, unfolding(jm_class_format::specs::Instructions::near_target))]
-pub fn near_target(at: u32, reader: &mut Reader<'_>) -> Result<u32, CodeFault>
+fn near_target(at: u32, reader: &mut Reader<'_>) -> Result<u32, CodeFault>
     requires { at < 65536 }
     ensures { Takes result reader.new ((near_target at).read reader.old) }
 {
@@ -37,6 +38,133 @@ pub fn far_target(at: u32, reader: &mut Reader<'_>) -> Result<u32, CodeFault>
 {
     let jump = reader.s4().map_err(|_| CodeFault::Cut(at))?;
     Ok(target_from(at, jump))
+}
+
+/// The operand of `bipush`.
+#[tactic(auto, unfolding(jm_class_format::specs::Instructions::operands))]
+pub fn push_byte(at: u32, reader: &mut Reader<'_>) -> Result<IndexedInstr, CodeFault>
+    ensures { Takes result reader.new ((operands at opcode.PushByte).read reader.old) }
+{
+    let n = reader.s1().map_err(|_| CodeFault::Cut(at))?;
+    Ok(IndexedInstr::Plain(Plain::PushByte(n)))
+}
+
+/// The operand of `sipush`.
+#[tactic(auto, unfolding(jm_class_format::specs::Instructions::operands))]
+pub fn push_short(at: u32, reader: &mut Reader<'_>) -> Result<IndexedInstr, CodeFault>
+    ensures { Takes result reader.new ((operands at opcode.PushShort).read reader.old) }
+{
+    let n = reader.s2().map_err(|_| CodeFault::Cut(at))?;
+    Ok(IndexedInstr::Plain(Plain::PushShort(n)))
+}
+
+/// The index of `ldc`.
+#[tactic(auto, unfolding(jm_class_format::specs::Instructions::operands))]
+pub fn load_constant(at: u32, reader: &mut Reader<'_>) -> Result<IndexedInstr, CodeFault>
+    ensures { Takes result reader.new ((operands at opcode.LoadConstant).read reader.old) }
+{
+    let index = reader.u1().map_err(|_| CodeFault::Cut(at))?;
+    Ok(IndexedInstr::Constant(u16::from(index)))
+}
+
+/// The index of `ldc_w`.
+#[tactic(auto, unfolding(jm_class_format::specs::Instructions::operands))]
+pub fn load_constant_wide(at: u32, reader: &mut Reader<'_>) -> Result<IndexedInstr, CodeFault>
+    ensures { Takes result reader.new ((operands at opcode.LoadConstantWide).read reader.old) }
+{
+    let index = reader.u2().map_err(|_| CodeFault::Cut(at))?;
+    Ok(IndexedInstr::Constant(index))
+}
+
+/// The index of `ldc2_w`.
+#[tactic(auto, unfolding(jm_class_format::specs::Instructions::operands))]
+pub fn load_long(at: u32, reader: &mut Reader<'_>) -> Result<IndexedInstr, CodeFault>
+    ensures { Takes result reader.new ((operands at opcode.LoadLong).read reader.old) }
+{
+    let index = reader.u2().map_err(|_| CodeFault::Cut(at))?;
+    Ok(IndexedInstr::LongConstant(index))
+}
+
+/// The local variable of a load.
+#[tactic(auto, unfolding(jm_class_format::specs::Instructions::operands))]
+pub fn load(at: u32, kind: OperandType, reader: &mut Reader<'_>) -> Result<IndexedInstr, CodeFault>
+    ensures { Takes result reader.new ((operands at (opcode.Load kind)).read reader.old) }
+{
+    let local = reader.u1().map_err(|_| CodeFault::Cut(at))?;
+    Ok(IndexedInstr::Plain(Plain::Load(kind, u16::from(local))))
+}
+
+/// The local variable of a store.
+#[tactic(auto, unfolding(jm_class_format::specs::Instructions::operands))]
+pub fn store(at: u32, kind: OperandType, reader: &mut Reader<'_>) -> Result<IndexedInstr, CodeFault>
+    ensures { Takes result reader.new ((operands at (opcode.Store kind)).read reader.old) }
+{
+    let local = reader.u1().map_err(|_| CodeFault::Cut(at))?;
+    Ok(IndexedInstr::Plain(Plain::Store(kind, u16::from(local))))
+}
+
+/// The target of a branch by 16 bits.
+#[tactic(auto, unfolding(jm_class_format::specs::Instructions::operands))]
+pub fn near_branch(
+    at: u32,
+    branch: Branch,
+    reader: &mut Reader<'_>,
+) -> Result<IndexedInstr, CodeFault>
+    requires { at < 65536 }
+    ensures { Takes result reader.new ((operands at (opcode.Branch branch)).read reader.old) }
+{
+    let target = near_target(at, reader)?;
+    Ok(IndexedInstr::Plain(Plain::Branch(branch, target)))
+}
+
+/// The target of a branch by 32 bits.
+#[tactic(auto, unfolding(jm_class_format::specs::Instructions::operands))]
+pub fn far_branch(
+    at: u32,
+    branch: Branch,
+    reader: &mut Reader<'_>,
+) -> Result<IndexedInstr, CodeFault>
+    requires { at < 65536 }
+    ensures { Takes result reader.new ((operands at (opcode.BranchWide branch)).read reader.old) }
+{
+    let target = far_target(at, reader)?;
+    Ok(IndexedInstr::Plain(Plain::Branch(branch, target)))
+}
+
+/// The index of an instruction that names a field.
+#[tactic(auto, unfolding(jm_class_format::specs::Instructions::operands))]
+pub fn field(at: u32, op: FieldOp, reader: &mut Reader<'_>) -> Result<IndexedInstr, CodeFault>
+    ensures { Takes result reader.new ((operands at (opcode.Field op)).read reader.old) }
+{
+    let index = reader.u2().map_err(|_| CodeFault::Cut(at))?;
+    Ok(IndexedInstr::Field(op, index))
+}
+
+/// The index of an instruction that names a method of a class.
+#[tactic(auto, unfolding(jm_class_format::specs::Instructions::operands))]
+pub fn invoke(at: u32, op: InvokeOp, reader: &mut Reader<'_>) -> Result<IndexedInstr, CodeFault>
+    ensures { Takes result reader.new ((operands at (opcode.Invoke op)).read reader.old) }
+{
+    let index = reader.u2().map_err(|_| CodeFault::Cut(at))?;
+    Ok(IndexedInstr::Invoke(op, index))
+}
+
+/// The index of `new`.
+#[tactic(auto, unfolding(jm_class_format::specs::Instructions::operands))]
+pub fn new_object(at: u32, reader: &mut Reader<'_>) -> Result<IndexedInstr, CodeFault>
+    ensures { Takes result reader.new ((operands at opcode.New).read reader.old) }
+{
+    let index = reader.u2().map_err(|_| CodeFault::Cut(at))?;
+    Ok(IndexedInstr::New(index))
+}
+
+/// The index of an instruction that names a type.
+#[tactic(auto, unfolding(jm_class_format::specs::Instructions::operands))]
+pub fn type_index(at: u32, op: TypeOp, reader: &mut Reader<'_>) -> Result<IndexedInstr, CodeFault>
+    ensures { Takes result reader.new ((operands at (opcode.Type op)).read reader.old) }
+{
+    let index = reader.u2().map_err(|_| CodeFault::Cut(at))?;
+    Ok(IndexedInstr::Type(op, index))
 }
 
 /// The element type of `newarray` (JVMS 6.5, table 6.5.newarray-A).

@@ -1,7 +1,8 @@
-ghost use Rattle.std.specs.Prelude.{◌≡◌, ◌<◌, ◌^◌, List, length, IfOk};
+ghost use Rattle.std.specs.Prelude.{◌≡◌, ◌<◌, ◌^◌, List, length, map, IfOk};
 ghost use Rattle.jm_bytes.specs.Reading.{GivesAll, TakesAll, each};
 ghost use Rattle.jm_class_format.specs.declared.fault.CodeFault.TheVariants.{OutOfMemory};
-ghost use Rattle.jm_class_format.specs.Code.{number_of, table_numbered, pair_numbered, lookup_numbered, plain_numbered, instr_numbered, numbered, all_numbered};
+ghost use Rattle.jm_class_format.specs.declared.instruction.PlacedInstr.{PlacedInstr};
+ghost use Rattle.jm_class_format.specs.Code.{number_of, table_numbered, pair_numbered, lookup_numbered, plain_numbered, numbered, all_numbered};
 
 use crate::starts::Starts;
 use jm_class_format::{CodeFault, IndexedInstr, PlacedInstr};
@@ -88,85 +89,68 @@ fn lookup_numbered(
     })
 }
 
+// A plain instruction gets the numbers of its targets.
 #[tactic(auto, unfolding(jm_class_format::specs::Code::plain_numbered))]
-fn plain_numbered(alloc: Global, starts: &Starts, plain: Plain) -> Result<Plain, CodeFault>
-    ensures { GivesAll (λ x. x) OutOfMemory result (plain_numbered starts.now plain) }
+fn number_plain(alloc: Global, starts: &Starts, plain: &mut Plain) -> Result<(), CodeFault>
+    ensures { GivesAll (λ _. plain.new) OutOfMemory result (plain_numbered starts.now plain.old) }
 {
     match plain {
-        Plain::Branch(branch, target) => {
-            let number = number_at(starts, target)?;
-            Ok(Plain::Branch(branch, number))
+        Plain::Branch(_, target) => {
+            *target = number_at(starts, *target)?;
         }
         Plain::TableSwitch(table) => {
-            let table = table_numbered(alloc, starts, table.get())?;
-            let table = Boxed::new(alloc, table)?;
-            Ok(Plain::TableSwitch(table))
+            let numbered = table_numbered(alloc, starts, table.get())?;
+            *table = Boxed::new(alloc, numbered)?;
         }
         Plain::LookupSwitch(lookup) => {
-            let lookup = lookup_numbered(alloc, starts, lookup.get())?;
-            let lookup = Boxed::new(alloc, lookup)?;
-            Ok(Plain::LookupSwitch(lookup))
+            let numbered = lookup_numbered(alloc, starts, lookup.get())?;
+            *lookup = Boxed::new(alloc, numbered)?;
         }
-        other => Ok(other),
+        _ => {}
     }
+    Ok(())
 }
 
-#[tactic(auto, unfolding(jm_class_format::specs::Code::instr_numbered))]
-fn instr_numbered(
-    alloc: Global,
-    starts: &Starts,
-    instr: IndexedInstr,
-) -> Result<IndexedInstr, CodeFault>
-    ensures { GivesAll (λ x. x) OutOfMemory result (instr_numbered starts.now instr) }
+// An instruction gets the numbers of its targets.
+#[tactic(auto, unfolding(jm_class_format::specs::Code::instr_numbered, jm_class_format::specs::Code::numbered))]
+fn number(alloc: Global, starts: &Starts, placed: &mut PlacedInstr) -> Result<(), CodeFault>
+    ensures offset { placed.new.offset ≡ placed.old.offset }
+    ensures given { GivesAll (λ _. placed.new) OutOfMemory result (numbered starts.now placed.old) }
 {
-    match instr {
-        IndexedInstr::Plain(plain) => {
-            let plain = plain_numbered(alloc, starts, plain)?;
-            Ok(IndexedInstr::Plain(plain))
-        }
-        other => Ok(other),
+    if let IndexedInstr::Plain(plain) = &mut placed.instr {
+        number_plain(alloc, starts, plain)?;
     }
+    Ok(())
 }
 
-#[tactic(auto, unfolding(jm_class_format::specs::Code::numbered))]
-fn numbered(alloc: Global, starts: &Starts, placed: PlacedInstr) -> Result<PlacedInstr, CodeFault>
-    ensures { GivesAll (λ x. x) OutOfMemory result (numbered starts.now placed) }
+// Each instruction gets the numbers of its targets, in its place.
+#[tactic(auto, using(crate::proofs::InPlace::in_place_steps))]
+fn number_each(alloc: Global, starts: &Starts, code: &mut [PlacedInstr]) -> Result<(), CodeFault>
+    ensures offsets { map (λ (p : PlacedInstr). p.offset) code.new ≡ map (λ (p : PlacedInstr). p.offset) code.old }
+    ensures given { GivesAll (λ _. code.new) OutOfMemory result (each (numbered starts.now) code.old) }
 {
-    let instr = instr_numbered(alloc, starts, placed.instr)?;
-    Ok(PlacedInstr {
-        offset: placed.offset,
-        instr,
-    })
-}
-
-#[tactic(auto, using(crate::proofs::Taken::taken_steps))]
-fn each_numbered(
-    alloc: Global,
-    starts: &Starts,
-    code: Vec<PlacedInstr>,
-) -> Result<Vec<PlacedInstr>, CodeFault>
-    ensures len { IfOk result (λ v. length v.items ≡ length code.items) }
-    ensures given { GivesAll (λ v. v.items) OutOfMemory result (each (numbered starts.now) code.items) }
-{
-    let mut all = Vec::with_capacity(alloc, code.len())?;
-    for placed in code {
-        let one = numbered(alloc, starts, placed)?;
-        all.push(one)?;
+    for placed in code.iter_mut() {
+        number(alloc, starts, placed)?;
     }
-    Ok(all)
+    Ok(())
 }
 
-/// The same instructions, with the numbers of their targets.
+/// The same instructions, with the numbers of their targets, and where they begin.
 #[tactic(auto, unfolding(jm_class_format::specs::Code::all_numbered))]
-pub fn all_numbered(alloc: Global, code: Vec<PlacedInstr>) -> Result<Vec<PlacedInstr>, CodeFault>
-    requires { length code.items < 2 ^ 32 }
-    ensures len { IfOk result (λ v. length v.items ≡ length code.items) }
-    ensures given { GivesAll (λ v. v.items) OutOfMemory result (all_numbered code.items) }
+pub fn all_numbered(
+    alloc: Global,
+    placed: Vec<PlacedInstr>,
+) -> Result<(Vec<PlacedInstr>, Starts), CodeFault>
+    requires { length placed.items < 2 ^ 32 }
+    ensures len { IfOk result (λ x. length x.0.items ≡ length placed.items) }
+    ensures starts { IfOk result (λ x. x.1 ≡ map (λ (p : PlacedInstr). p.offset) x.0.items) }
+    ensures given { GivesAll (λ x. x.0.items) OutOfMemory result (all_numbered placed.items) }
 {
-    if code.is_empty() {
+    if placed.is_empty() {
         return Err(CodeFault::Cut(0));
     }
+    let mut code = placed;
     let starts = Starts::new(alloc, &code)?;
-    let all = each_numbered(alloc, &starts, code)?;
-    Ok(all)
+    number_each(alloc, &starts, &mut code)?;
+    Ok((code, starts))
 }

@@ -59,3 +59,38 @@ an_unknown_option = refl
 nothing : fault_of jm (codes "jm" ∷ []) ≡ kind.DisplayHelpOnMissingArgumentOrSubcommand ∷ []
 unfolding jm clap_on_literals
 nothing = refl
+
+-- the words after jm asm
+abbrev assembled : List Text → Option (Text × Option Text × Option Text)
+assembled words = option_map (λ (s : Subcommand). (s.0, first_of (codes "input") s.1, first_of (codes "output") s.1)) (subcommand_of jm (codes "jm" ∷ codes "asm" ∷ words))
+
+abbrev assembly_fault : List Text → Kinds
+assembly_fault words = fault_of jm (codes "jm" ∷ codes "asm" ∷ words)
+
+an_assembly : assembled (codes "A.j" ∷ codes "A.class" ∷ []) ≡ Some (codes "asm", Some (codes "A.j"), Some (codes "A.class"))
+unfolding jm clap_on_literals
+an_assembly = refl
+
+no_assembly_fault : assembly_fault (codes "A.j" ∷ codes "A.class" ∷ []) ≡ []
+unfolding jm clap_on_literals
+no_assembly_fault = refl
+
+a_dash : assembled (codes "--" ∷ codes "-A.j" ∷ codes "A.class" ∷ []) ≡ Some (codes "asm", Some (codes "-A.j"), Some (codes "A.class"))
+unfolding jm clap_on_literals
+a_dash = refl
+
+no_text : assembly_fault [] ≡ kind.MissingRequiredArgument ∷ []
+unfolding jm clap_on_literals
+no_text = refl
+
+no_output : assembly_fault (codes "A.j" ∷ []) ≡ kind.MissingRequiredArgument ∷ []
+unfolding jm clap_on_literals
+no_output = refl
+
+one_word_more : assembly_fault (codes "A.j" ∷ codes "A.class" ∷ codes "B.class" ∷ []) ≡ kind.UnknownArgument ∷ []
+unfolding jm clap_on_literals
+one_word_more = refl
+
+an_option_of_run : assembly_fault (codes "--heap=16" ∷ codes "A.j" ∷ codes "A.class" ∷ []) ≡ kind.UnknownArgument ∷ []
+unfolding jm clap_on_literals
+an_option_of_run = refl

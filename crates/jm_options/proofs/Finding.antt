@@ -1,6 +1,6 @@
 -- What the matches of a run hold, from what the calls of clap say of them.
-use Rattle.std.proofs.Common.{◌≡◌, true, [], ◌∷◌, inl, inr, ℕ, ◌<◌, ◌≤◌, ◌^◌, List, Option, Some, None, Result, Ok, Err, refl, sym, ap, ◌∙◌, subst, codes, arith, ap₂}
-use Rattle.std.specs.Prelude.{option_map, unwrap_or}
+use Rattle.std.proofs.Common.{◌≡◌, true, [], ◌∷◌, inl, inr, ℕ, ◌<◌, ◌≤◌, ◌^◌, slice_index, List, Option, Some, None, Result, Ok, Err, refl, sym, ap, ◌∙◌, subst, codes, arith, ap₂}
+use Rattle.std.specs.Prelude.{option_map, unwrap_or, MatchResult, IsOkAnd}
 use Rattle.std.specs.Str.Parse.{ParsesUnsigned, digits_value, without_leading_plus}
 use Rattle.std.specs.Box.{box_value}
 use Rattle.clap.specs.Words.{ReadsOne, Row, found_of, rows_of, Text, first_of, fault_of, is_simple, is_simple_and_free, HasKind, Kinds, kind_of, subcommand_of, subcommand_name_of, subcommand_rows_of}
@@ -8,11 +8,12 @@ use Rattle.clap.specs.declared.parser.matches.ArgMatches.{ArgMatches}
 use Rattle.clap.specs.declared.parser.matches.ArgMatches.TheViews.{out-ArgMatches, out-SubCommand}
 use Rattle.clap.specs.declared.error.Error.{Error}
 use Rattle.clap.specs.declared.error.kind.ErrorKind.TheVariants as kind
-use Rattle.jm_options.specs.Asked.{SpellsNumber, HoldsRun, Holds, Subcommand, Finds, FindsRun, Answers}
+use Rattle.jm_options.specs.Asked.{SpellsNumber, HoldsRun, HoldsAssemble, Holds, Subcommand, Finds, FindsRun, FindsAssemble, Answers}
 use Rattle.jm_options.specs.CommandLine.{jm}
 use Rattle.jm_options.specs.declared.request.Options.{Options}
-use Rattle.jm_options.specs.declared.request.Options.TheVariants.{Run}
+use Rattle.jm_options.specs.declared.request.Options.TheVariants.{Run, Assemble}
 use Rattle.jm_options.specs.declared.request.RunOptions.{RunOptions}
+use Rattle.jm_options.specs.declared.request.AssembleOptions.{AssembleOptions}
 use Rattle.jm_options.specs.declared.fault.UsageFault.{UsageFault}
 use Rattle.jm_options.specs.declared.fault.UsageFault.TheVariants.{Usage, OutOfMemory}
 
@@ -54,6 +55,18 @@ pub none_asked : (rows : List Row) (fault : UsageFault) → ((o : RunOptions) �
 none_asked rows (Usage text) none = none
 none_asked rows OutOfMemory none = tt
 
+-- ---- the options of an assembly
+
+pub no_input : (rows : List Row) → None ≡ first_of (codes "input") rows → (o : AssembleOptions) → HoldsAssemble rows o → ⊥
+no_input rows none o holds = let some = none ∙ holds.input in cc
+
+pub no_output : (rows : List Row) → None ≡ first_of (codes "output") rows → (o : AssembleOptions) → HoldsAssemble rows o → ⊥
+no_output rows none o holds = let some = none ∙ holds.output in cc
+
+pub none_assembled : (rows : List Row) (fault : UsageFault) → ((o : AssembleOptions) → HoldsAssemble rows o → ⊥) → FindsAssemble rows (Err fault)
+none_assembled rows (Usage text) none = none
+none_assembled rows OutOfMemory none = tt
+
 -- ---- the subcommand
 
 firsts : {A : Type 0} (f : A → Text) (g : A → List Row) (o : Option A) → option_map f o ≡ option_map (λ (p : Subcommand). p.0) (option_map (λ a. (f a, g a)) o)
@@ -75,21 +88,46 @@ pub subcommand_is : (m : ArgMatches) (name : Text) (rows : List Row) → subcomm
     → subcommand_rows_of m ≡ Some (name, rows)
 subcommand_is m name rows named is = is_pair (subcommand_rows_of m) name rows (sym (name_of_rows m) ∙ named) is
 
-pub other_subcommand : (m : ArgMatches) → (subcommand_name_of m ≡ Some (codes "run") → ⊥) → (o : Options) → Holds (subcommand_rows_of m) o → ⊥
-other_subcommand m other (Run o) holds = other (name_of_rows m ∙ ap (option_map (λ (p : Subcommand). p.0)) holds.1)
+pub other_subcommand : (m : ArgMatches) → (subcommand_name_of m ≡ Some (codes "run") → ⊥) → (subcommand_name_of m ≡ Some (codes "asm") → ⊥)
+    → (o : Options) → Holds (subcommand_rows_of m) o → ⊥
+other_subcommand m not_run not_asm (Run o) holds = not_run (name_of_rows m ∙ ap (option_map (λ (p : Subcommand). p.0)) holds.1)
+other_subcommand m not_run not_asm (Assemble o) holds = not_asm (name_of_rows m ∙ ap (option_map (λ (p : Subcommand). p.0)) holds.1)
 
 pub nothing_found : (s : Option Subcommand) (fault : UsageFault) → ((o : Options) → Holds s o → ⊥) → Finds s (Err fault)
 nothing_found s (Usage text) none = none
 nothing_found s OutOfMemory none = tt
 
-same_run : (s : Option Subcommand) (rows : List Row) → s ≡ Some (codes "run", rows) → ((o : RunOptions) → HoldsRun rows o → ⊥) → (o : Options) → Holds s o → ⊥
-same_run s rows is none (Run o) holds =
-    let same : rows ≡ holds.0 = ap (λ (x : Option Subcommand). (unwrap_or x (codes "run", rows)).1) (sym is ∙ holds.1) in
-    none o (subst (λ (x : List Row). HoldsRun x o) (sym same) holds.2)
+same_name : (s : Option Subcommand) (p q : Subcommand) → s ≡ Some p → s ≡ Some q → p.0 ≡ q.0
+same_name s p q first second = ap (λ (x : Option Subcommand). (unwrap_or x p).0) (sym first ∙ second)
 
-pub passed_on : (s : Option Subcommand) (rows : List Row) (fault : UsageFault) → s ≡ Some (codes "run", rows) → FindsRun rows (Err fault) → Finds s (Err fault)
-passed_on s rows (Usage text) is none = same_run s rows is none
-passed_on s rows OutOfMemory is none = tt
+same_rows : (s : Option Subcommand) (p q : Subcommand) → s ≡ Some p → s ≡ Some q → q.1 ≡ p.1
+same_rows s p q first second = sym (ap (λ (x : Option Subcommand). (unwrap_or x p).1) (sym first ∙ second))
+
+run_is_not_asm : codes "run" ≡ codes "asm" → ⊥
+run_is_not_asm same = let first : 114 ≡ 97 = ap (λ (t : List ℕ). slice_index t 0) same in absurd (omega (arith, first))
+
+no_run : (s : Option Subcommand) (rows : List Row) → s ≡ Some (codes "run", rows) → ((o : RunOptions) → HoldsRun rows o → ⊥) → (o : Options) → Holds s o → ⊥
+no_run s rows is none (Run o) holds = none o (subst (λ (x : List Row). HoldsRun x o) (same_rows s _ _ is holds.1) holds.2)
+no_run s rows is none (Assemble o) holds = run_is_not_asm (same_name s _ _ is holds.1)
+
+no_assembly : (s : Option Subcommand) (rows : List Row) → s ≡ Some (codes "asm", rows) → ((o : AssembleOptions) → HoldsAssemble rows o → ⊥) → (o : Options) → Holds s o → ⊥
+no_assembly s rows is none (Run o) holds = run_is_not_asm (same_name s _ _ holds.1 is)
+no_assembly s rows is none (Assemble o) holds = none o (subst (λ (x : List Row). HoldsAssemble x o) (same_rows s _ _ is holds.1) holds.2)
+
+-- what a run, or an assembly, finds is what the subcommand finds
+pub finds_run : (s : Option Subcommand) (rows : List Row) (r : Result RunOptions UsageFault) (found : Result Options UsageFault) → s ≡ Some (codes "run", rows) → FindsRun rows r
+    → MatchResult r (λ o. IsOkAnd found (λ given. given ≡ Run o)) (λ fault. found ≡ Err fault) → Finds s found
+finds_run s rows (Ok o) (Ok given) is holds same = rw same (rows, is, holds)
+finds_run s rows (Ok o) (Err fault) is holds same = absurd same
+finds_run s rows (Err (Usage text)) found is none same = rw same (no_run s rows is none)
+finds_run s rows (Err OutOfMemory) found is none same = rw same tt
+
+pub finds_assembly : (s : Option Subcommand) (rows : List Row) (r : Result AssembleOptions UsageFault) (found : Result Options UsageFault) → s ≡ Some (codes "asm", rows) → FindsAssemble rows r
+    → MatchResult r (λ o. IsOkAnd found (λ given. given ≡ Assemble o)) (λ fault. found ≡ Err fault) → Finds s found
+finds_assembly s rows (Ok o) (Ok given) is holds same = rw same (rows, is, holds)
+finds_assembly s rows (Ok o) (Err fault) is holds same = absurd same
+finds_assembly s rows (Err (Usage text)) found is none same = rw same (no_assembly s rows is none)
+finds_assembly s rows (Err OutOfMemory) found is none same = rw same tt
 
 -- ---- the words
 

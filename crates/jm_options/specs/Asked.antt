@@ -4,8 +4,9 @@ use Rattle.std.specs.Str.Parse.{IsNumeral, digits_value, without_leading_plus}
 use Rattle.clap.specs.Words.{Row, Text, first_of, one_of, fault_of, subcommand_of}
 use Rattle.jm_options.specs.CommandLine.{jm}
 use Rattle.jm_options.specs.declared.request.Options.{Options}
-use Rattle.jm_options.specs.declared.request.Options.TheVariants.{Run}
+use Rattle.jm_options.specs.declared.request.Options.TheVariants.{Run, Assemble}
 use Rattle.jm_options.specs.declared.request.RunOptions.{RunOptions}
+use Rattle.jm_options.specs.declared.request.AssembleOptions.{AssembleOptions}
 use Rattle.jm_options.specs.declared.fault.UsageFault.{UsageFault}
 use Rattle.jm_options.specs.declared.fault.UsageFault.TheVariants.{Usage, OutOfMemory}
 
@@ -28,9 +29,15 @@ pub record HoldsRun (matches : List Row) (o : RunOptions) : Type 0 where
   pub schedule : first_of (codes "schedule") matches ≡ Some (string_bytes o.schedule)
   pub file : first_of (codes "file") matches ≡ Some (string_bytes o.file)
 
+-- the options are what the matches of an assembly hold
+pub record HoldsAssemble (matches : List Row) (o : AssembleOptions) : Type 0 where
+  pub input : first_of (codes "input") matches ≡ Some (string_bytes o.input)
+  pub output : first_of (codes "output") matches ≡ Some (string_bytes o.output)
+
 -- the options are what the subcommand and its matches hold
 abbrev pub Holds : Option Subcommand → Options → Type 0
 Holds s (Run o) = (matches : List Row) × (s ≡ Some (codes "run", matches)) × HoldsRun matches o
+Holds s (Assemble o) = (matches : List Row) × (s ≡ Some (codes "asm", matches)) × HoldsAssemble matches o
 
 -- the words, of which the first is the program's name, are without a fault and ask for these options
 pub record Asks (words : List Text) (o : Options) : Type 0 where
@@ -44,7 +51,7 @@ Answers words (Ok o) = Asks words o
 Answers words (Err (Usage text)) = (o : Options) → ¬ (Asks words o)
 Answers words (Err OutOfMemory) = ⊤
 
--- the same of a subcommand, and of the matches of a run
+-- the same of a subcommand, and of the matches of a run and of an assembly
 abbrev pub Finds : Option Subcommand → Result Options UsageFault → Type 0
 Finds s (Ok o) = Holds s o
 Finds s (Err (Usage text)) = (o : Options) → ¬ (Holds s o)
@@ -54,6 +61,11 @@ abbrev pub FindsRun : List Row → Result RunOptions UsageFault → Type 0
 FindsRun matches (Ok o) = HoldsRun matches o
 FindsRun matches (Err (Usage text)) = (o : RunOptions) → ¬ (HoldsRun matches o)
 FindsRun matches (Err OutOfMemory) = ⊤
+
+abbrev pub FindsAssemble : List Row → Result AssembleOptions UsageFault → Type 0
+FindsAssemble matches (Ok o) = HoldsAssemble matches o
+FindsAssemble matches (Err (Usage text)) = (o : AssembleOptions) → ¬ (HoldsAssemble matches o)
+FindsAssemble matches (Err OutOfMemory) = ⊤
 
 -- the status that the program ends with
 abbrev pub status_of : UsageFault → ℕ

@@ -27,12 +27,24 @@ file_argument = record (new_rule (codes "file")) { value_names = 1; required = t
 abbrev pub run_command : App
 run_command = with_rule (with_rule (with_rule (new_app (codes "run")) heap_argument) schedule_argument) file_argument
 
+-- IN, which has to be there
+abbrev pub input_argument : Rule
+input_argument = record (new_rule (codes "input")) { value_names = 1; required = true }
+
+-- OUT, which has to be there
+abbrev pub output_argument : Rule
+output_argument = record (new_rule (codes "output")) { value_names = 1; required = true }
+
+-- asm IN OUT
+abbrev pub assemble_command : App
+assemble_command = with_rule (with_rule (new_app (codes "asm")) input_argument) output_argument
+
 -- jm, which does nothing without a subcommand
 abbrev pub top_command : App
 top_command = on_top (λ (s : Shape). record s { subcommand_required = true; arg_required_else_help = true }) (new_app (codes "jm"))
 
 unfoldable pub jm : App
-jm = with_subcommand top_command run_command.top
+jm = with_subcommand (with_subcommand top_command run_command.top) assemble_command.top
 
 -- a command that clap sees so, with no argument that its subcommands share
 pub record IsSeenAs (c : Command) (a : App) : Type 0 where

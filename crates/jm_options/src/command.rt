@@ -2,7 +2,7 @@
 
 ghost use Rattle.std.specs.Prelude.{◌≡◌, false, IfOk};
 ghost use Rattle.clap.specs.Words.{rule_of};
-ghost use Rattle.jm_options.specs.CommandLine.{heap_argument, schedule_argument, file_argument, run_command, top_command, jm, IsSeenAs};
+ghost use Rattle.jm_options.specs.CommandLine.{heap_argument, schedule_argument, file_argument, run_command, input_argument, output_argument, assemble_command, top_command, jm, IsSeenAs};
 
 use clap::{Arg, Command, value_parser};
 use std::alloc::{AllocError, Global};
@@ -37,7 +37,7 @@ fn file_argument<'a>(alloc: Global) -> Arg<'a>
     Arg::new(alloc, "file")
         .value_name("FILE")
         .required(true)
-        .help("Class file whose `main` is run")
+        .help("Class file, or text ending in .j, whose `main` is run")
 }
 
 fn run_command<'a>(alloc: Global) -> Result<Command<'a>, AllocError>
@@ -48,6 +48,35 @@ fn run_command<'a>(alloc: Global) -> Result<Command<'a>, AllocError>
         .arg(heap_argument(alloc))?
         .arg(schedule_argument(alloc))?
         .arg(file_argument(alloc))
+}
+
+fn input_argument<'a>(alloc: Global) -> Arg<'a>
+    ensures rule { rule_of result ≡ input_argument }
+    ensures local { result.global ≡ false }
+{
+    Arg::new(alloc, "input")
+        .value_name("IN")
+        .required(true)
+        .help("Text of a class in Jasmin's syntax")
+}
+
+fn output_argument<'a>(alloc: Global) -> Arg<'a>
+    ensures rule { rule_of result ≡ output_argument }
+    ensures local { result.global ≡ false }
+{
+    Arg::new(alloc, "output")
+        .value_name("OUT")
+        .required(true)
+        .help("Class file to write")
+}
+
+fn assemble_command<'a>(alloc: Global) -> Result<Command<'a>, AllocError>
+    ensures { IfOk result (λ c. IsSeenAs c assemble_command) }
+{
+    Command::new(alloc, "asm")
+        .about("Assemble a text in Jasmin's syntax into a class file")
+        .arg(input_argument(alloc))?
+        .arg(output_argument(alloc))
 }
 
 fn top_command<'a>(alloc: Global) -> Command<'a>
@@ -64,5 +93,7 @@ fn top_command<'a>(alloc: Global) -> Command<'a>
 pub fn command<'a>(alloc: Global) -> Result<Command<'a>, AllocError>
     ensures { IfOk result (λ c. IsSeenAs c jm) }
 {
-    top_command(alloc).subcommand(run_command(alloc)?)
+    top_command(alloc)
+        .subcommand(run_command(alloc)?)?
+        .subcommand(assemble_command(alloc)?)
 }

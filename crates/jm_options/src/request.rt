@@ -9,6 +9,8 @@ pub const MAX_HEAP: u32 = 16_777_216;
 pub enum Options {
     /// `jm run`: to run a class.
     Run(RunOptions),
+    /// `jm asm`: to assemble a text into a class file.
+    Assemble(AssembleOptions),
 }
 
 /// What `jm run` is given.
@@ -18,6 +20,15 @@ pub struct RunOptions {
     pub heap: u32,
     /// The file of the schedule.
     pub schedule: String,
-    /// The class file.
+    /// The class file, or the text of the class if its name ends in `.j`.
     pub file: String,
+}
+
+/// What `jm asm` is given.
+#[derive(Debug, Drop)]
+pub struct AssembleOptions {
+    /// The file of the text.
+    pub input: String,
+    /// The class file to write.
+    pub output: String,
 }

@@ -3,11 +3,11 @@
 ghost use Rattle.std.specs.Prelude.{◌≡◌, ◌≤◌, ℕ, List, codes, Some, None, MatchOption, map};
 ghost use Rattle.clap.specs.Words.{found_of, kind_of, one_of, rows_of, subcommand_rows_of};
 ghost use Rattle.clap.specs.declared.error.kind.ErrorKind.TheVariants as kind;
-ghost use Rattle.jm_options.specs.Asked.{Answers, Finds, FindsRun, SpellsNumber};
+ghost use Rattle.jm_options.specs.Asked.{Answers, Finds, FindsAssemble, FindsRun, SpellsNumber};
 
 use crate::command::command;
 use crate::fault::UsageFault;
-use crate::request::{MAX_HEAP, MIN_HEAP, Options, RunOptions};
+use crate::request::{AssembleOptions, MAX_HEAP, MIN_HEAP, Options, RunOptions};
 use clap::error::ErrorKind;
 use clap::{ArgMatches, Error};
 use std::alloc::Global;
@@ -70,16 +70,31 @@ fn run_options(alloc: Global, matches: &ArgMatches<'_>) -> Result<RunOptions, Us
     })
 }
 
+fn assemble_options(alloc: Global, matches: &ArgMatches<'_>) -> Result<AssembleOptions, UsageFault>
+    ensures { FindsAssemble (rows_of (found_of matches.now)) result }
+{
+    let Some(input) = matches.get_str("input") else {
+        return Err(nothing_asked(alloc));
+    };
+    let Some(output) = matches.get_str("output") else {
+        return Err(nothing_asked(alloc));
+    };
+    Ok(AssembleOptions {
+        input: String::from_str(alloc, input)?,
+        output: String::from_str(alloc, output)?,
+    })
+}
+
 fn found_options(alloc: Global, matches: &ArgMatches<'_>) -> Result<Options, UsageFault>
     ensures { Finds (subcommand_rows_of matches.now) result }
 {
-    match matches.subcommand_matches("run") {
-        Some(run) => match run_options(alloc, run) {
-            Ok(options) => Ok(Options::Run(options)),
-            Err(fault) => Err(fault),
-        },
-        None => Err(nothing_asked(alloc)),
+    if let Some(run) = matches.subcommand_matches("run") {
+        return run_options(alloc, run).map(Options::Run);
     }
+    if let Some(assemble) = matches.subcommand_matches("asm") {
+        return assemble_options(alloc, assemble).map(Options::Assemble);
+    }
+    Err(nothing_asked(alloc))
 }
 
 /// What words ask for. The first word is the program's name, as the system gives it.

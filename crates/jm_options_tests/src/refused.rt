@@ -4,8 +4,10 @@ use std::test::Fail;
 
 const ABOUT: &str = "A Java virtual machine that makes one event after the other";
 
+const ASSEMBLE: &str = "Assemble a text in Jasmin's syntax into a class file";
+
 /// Words that are refused, and the first line of the text.
-const REFUSED: [(&[&str], &str); 34] = [
+const REFUSED: [(&[&str], &str); 47] = [
     (&[], ABOUT),
     (&["jm"], ABOUT),
     (&["jm", "--help"], ABOUT),
@@ -22,10 +24,6 @@ const REFUSED: [(&[&str], &str); 34] = [
     (
         &["jm", "--version"],
         "error: unexpected argument '--version' found",
-    ),
-    (
-        &["jm", "asm", "A.j", "A.class"],
-        "error: unrecognized subcommand 'asm'",
     ),
     (
         &["jm", "replay", "r", "A.class"],
@@ -140,6 +138,50 @@ const REFUSED: [(&[&str], &str); 34] = [
         &["jm", "--heap=16", "run", "--schedule=s", "A.class"],
         "error: unexpected argument '--heap' found",
     ),
+    (&["jm", "asm", "--help"], ASSEMBLE),
+    (&["jm", "asm", "-h"], ASSEMBLE),
+    (&["jm", "help", "asm"], ASSEMBLE),
+    (&["jm", "asm", "A.j", "A.class", "--help"], ASSEMBLE),
+    (
+        &["jm", "asm"],
+        "error: the following required arguments were not provided:",
+    ),
+    (
+        &["jm", "asm", "A.j"],
+        "error: the following required arguments were not provided:",
+    ),
+    (
+        &["jm", "asm", "A.j", "A.class", "B.class"],
+        "error: unexpected argument 'B.class' found",
+    ),
+    (
+        &["jm", "asm", "--output", "A.class", "A.j"],
+        "error: unexpected argument '--output' found",
+    ),
+    (
+        &["jm", "asm", "--heap=16", "A.j", "A.class"],
+        "error: unexpected argument '--heap' found",
+    ),
+    (
+        &["jm", "asm", "-o", "A.class", "A.j"],
+        "error: unexpected argument '-o' found",
+    ),
+    (
+        &["jm", "asm", "-A.j", "A.class"],
+        "error: unexpected argument '-A' found",
+    ),
+    (
+        &["jm", "asm", "A.j", "-A.class"],
+        "error: unexpected argument '-A' found",
+    ),
+    (
+        &["jm", "asn", "A.j", "A.class"],
+        "error: unrecognized subcommand 'asn'",
+    ),
+    (
+        &["jm", "run", "asm", "A.j", "A.class"],
+        "error: unexpected argument 'A.j' found",
+    ),
 ];
 
 // The text of a refusal, with its status.
@@ -161,8 +203,35 @@ fn refusals_name_the_word(rt: HostRuntime) -> Result<(), Fail> {
 
 #[test]
 fn refusals_say_what_to_write(rt: HostRuntime) -> Result<(), Fail> {
-    let tables: [(&[&str], &str); 5] = [
+    let tables: [(&[&str], &str); 17] = [
         (&["jm"], "Usage: jm <COMMAND>"),
+        (
+            &["jm", "--help"],
+            "  run   Run a class by the events of a schedule",
+        ),
+        (
+            &["jm", "--help"],
+            "  asm   Assemble a text in Jasmin's syntax into a class file",
+        ),
+        (
+            &["jm", "run", "-h"],
+            "Class file, or text ending in .j, whose `main` is run",
+        ),
+        (&["jm", "asm", "-h"], "Usage: jm asm <IN> <OUT>"),
+        (
+            &["jm", "asm", "-h"],
+            "  <IN>   Text of a class in Jasmin's syntax",
+        ),
+        (&["jm", "asm", "-h"], "  <OUT>  Class file to write"),
+        (&["jm", "asm"], "  <IN>\n  <OUT>\n"),
+        (&["jm", "asm", "A.j"], "not provided:\n  <OUT>\n"),
+        (&["jm", "asm"], "Usage: jm asm <IN> <OUT>"),
+        (
+            &["jm", "asm", "-A.j", "A.class"],
+            "to pass '-A' as a value, use '-- -A'",
+        ),
+        (&["jm", "asn"], "a similar subcommand exists: 'asm'"),
+        (&["jm", "as"], "a similar subcommand exists: 'asm'"),
         (
             &["jm", "run", "-h"],
             "Usage: jm run [OPTIONS] --schedule <FILE> <FILE>",

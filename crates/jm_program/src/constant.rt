@@ -1,3 +1,4 @@
+use crate::boxed::Boxed;
 use crate::sequence::Sequence;
 
 /// A constant that is pushed or that a static field begins with (JVMS 4.4.3, 4.4.4, 4.4.5).
@@ -6,5 +7,5 @@ pub enum Constant {
     Int(i32),
     Long(i64),
     /// The literal's UTF-16 code units, lone surrogates included.
-    String(Sequence<u16>),
+    String(Boxed<Sequence<u16>>),
 }

@@ -1,14 +1,15 @@
 -- What a heap's making of an object comes to, beside the model's.
-use Rattle.std.proofs.Common.{◌≡◌, ℕ, ◌+◌, ◌^◌, ◌<◌, ◌≤◌, List, [], Option, Result, Ok, Err, Bool, true, false, length, refl, sym, ap, ◌∙◌, subst, arith}
+use Rattle.std.proofs.Common.{◌≡◌, ℕ, ◌+◌, ◌^◌, ◌<◌, ◌≤◌, List, [], Option, Some, None, Result, Ok, Err, Bool, true, false, length, refl, sym, ap, ◌∙◌, subst, arith}
 use Rattle.std.specs.Prelude.{OnOk, nat_lt, nat_le}
 use Rattle.std.proofs.Math.Path.{fun_ext}
 use Rattle.std.proofs.lemmas.Bool.Decides.{nat_tests}
 use Rattle.std.specs.List.Sorted.{IsStrictlyIncreasing}
 use Rattle.std.proofs.lemmas.Bool.{le-ltb}
 use Rattle.jm_program.specs.declared.class.ClassParts.{ClassParts}
+use Rattle.jm_values.specs.Shape.{Among}
 use Rattle.jm_values.specs.declared.value.Value.{Value}
 use Rattle.jm_world.specs.Objects.{ObjectOf, Object, header, size, size_by}
-use Rattle.jm_world.specs.World.{World, reach_cells}
+use Rattle.jm_world.specs.World.{World, reach, reach_cells}
 use Rattle.jm_world.specs.Content.{Content, IsSound, Kept, Made, AllResident, Reached, used_by}
 use Rattle.jm_world.specs.Loading.{first_statics}
 use Rattle.jm_world.specs.Matches.{Matches, places, as_named}
@@ -31,7 +32,7 @@ use Rattle.jm_linked.specs.Links.{LinkedView, class_name_of}
 use Rattle.jm_state.specs.Ends.{MadeOrNot, halt_from, with_object}
 use Rattle.jm_state.specs.Parts.{named_type, parts}
 use Rattle.jm_state.specs.Places.{places_of}
-use Rattle.jm_state.specs.Reached.{AreReachable, AreReached, LeavesReachable}
+use Rattle.jm_state.specs.Reached.{AreReachable, AreReached, FindsReached, FindsReachable, LeavesReachable}
 use Rattle.jm_state.specs.declared.thread.Thread.{Thread}
 use Rattle.jm_state.proofs.Moved.{NamesAlike, same_alike, kept_matches, made_matches, made_lies}
 use Rattle.jm_state.proofs.PlacesOfParts.{places_are}
@@ -168,6 +169,24 @@ reaches l c ts vs cs out stop w e h roots serials rs all rising =
       rising = rising;
       same = λ k. (λ a. (least k).1 ((alike k).0 ((here k).0 a)), λ a. (here k).1 ((alike k).1 ((least k).0 a)));
     }
+
+-- and so is what is found
+pub finds : (l : LinkedView) (c : Content ClassId) (ts : List Thread) (vs : List Value) (cs : List ClassState) (out : List ℕ) (stop : Option Stop) (w : World) → length vs ≡ length (first_statics l.program) → Matches (parts l c ts vs cs out stop) w → (roots : List ℕ) → roots ≡ places_of ts vs → (k : ℕ) (found : Option ℕ) → FindsReached c roots k found → FindsReachable c w k found
+unfolding parts
+finds l c ts vs cs out stop w e h roots rs k found f = by found f
+  where
+    from : roots ≡ places (parts l c ts vs cs out stop)
+    from = rs ∙ sym (places_are l c ts vs cs out stop e)
+
+    inward : Reached c roots k → Among k (reach w)
+    inward r = ((reach_is_least w h.bound).same k).1 (((reaches_alike (parts l c ts vs cs out stop) w h).same k).0 (subst (λ x. Reached c x k) from r))
+
+    outward : Among k (reach w) → Reached c roots k
+    outward a = subst (λ x. Reached c x k) (sym from) (((reaches_alike (parts l c ts vs cs out stop) w h).same k).1 (((reach_is_least w h.bound).same k).0 a))
+
+    by : (found : Option ℕ) → FindsReached c roots k found → FindsReachable c w k found
+    by None unreached = λ a. unreached (outward a)
+    by (Some p) here = (inward here.0, here.1)
 
 -- so a full collection leaves what the world reaches
 pub leaves : (l : LinkedView) (c c' : Content ClassId) (ts : List Thread) (vs : List Value) (cs : List ClassState) (out : List ℕ) (stop : Option Stop) (w : World) → length vs ≡ length (first_statics l.program) → Matches (parts l c ts vs cs out stop) w → (roots : List ℕ) → roots ≡ places_of ts vs → (kind : Kind) → LeavesReached kind c roots c' → LeavesReachable kind c' w

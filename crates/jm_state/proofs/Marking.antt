@@ -234,6 +234,30 @@ module _ {T : Type 0} (c : Content T) where
       less k (inl h) = old.below k h
       less k (inr h) = below_next whole t (λ q m. (waiting q (f.new_pending q m)).1) k h.1
 
+  -- a serial that is looked for has not been looked at: where it has been seen, a place of it is
+  -- pending
+  abbrev pub IsAhead : ℕ → List ℕ → List ℕ → Type 0
+  IsAhead n seen pending = Among n seen → IsNamed c pending n
+
+  pub first_ahead : (roots now pending : List ℕ) (n : ℕ) → MarkedAll c (map (name_of c) roots) [] [] now pending → IsAhead n now pending
+  first_ahead roots now pending n f = λ h. by (f.new_seen n h)
+    where
+      by : Among n [] ⊎ (Among n (map (name_of c) roots) × IsNamed c pending n) → IsNamed c pending n
+      by (inl h) = absurd h
+      by (inr h) = h.1
+
+  pub next_ahead : (a b s t ks : List ℕ) (p n : ℕ) → name_of c p ≢ n → IsAhead n a (s ++ p ∷ []) → MarkedAll c ks a s b t → IsAhead n b t
+  next_ahead a b s t ks p n differs old f = λ h. by (f.new_seen n h)
+    where
+      stays : (q : ℕ) → name_of c q ≡ n → Among q s ⊎ Among q (p ∷ []) → IsNamed c t n
+      stays q e (inl m) = (q, f.stays q m, e)
+      stays q e (inr (inl i)) = absurd (differs (ap (name_of c) (sym i) ∙ e))
+      stays q e (inr (inr m)) = absurd m
+
+      by : Among n a ⊎ (Among n ks × IsNamed c t n) → IsNamed c t n
+      by (inl h) = let x = old h in stays x.0 x.2 (among_both x.0 s (p ∷ []) x.1)
+      by (inr h) = h.1
+
   -- what may still be seen, and what is pending, has become less
   pub less_is_left : (roots a b s t pending ks : List ℕ) (p : ℕ) → pending ≡ s ++ p ∷ [] → Frontier roots a pending → Frontier roots b t → MarkedAll c ks a s b t → c.next - length b + length t < c.next - length a + length pending
   less_is_left roots a b s t pending ks p e old new f =
@@ -249,6 +273,10 @@ module _ {T : Type 0} (c : Content T) where
       over : (i j : ℕ) → IsNamed c [] i ⊎ ((n : ℕ) → Among n (refs_of (object_at c i)) → Among n seen) → Among j (refs_of (object_at c i)) → Among j seen
       over i j (inl h) a = absurd h.1
       over i j (inr h) a = h j a
+
+  -- so a serial that is still ahead is not reached
+  pub not_reached : (roots seen : List ℕ) (n : ℕ) → Frontier roots seen [] → IsAhead n seen [] → Reached c roots n → ⊥
+  not_reached roots seen n f ahead r = (ahead ((frontier_is_reach roots seen f n).1 r)).1
 
 -- the values of an object, if there is one
 abbrev pub values_in : {T : Type 0} → Option (ObjectOf T) → List Value

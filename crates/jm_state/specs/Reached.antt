@@ -1,5 +1,5 @@
 -- What is reached from places, found by marking serials.
-use Rattle.std.specs.Prelude.{◌≡◌, ◌⊎◌, ◌↔◌, ℕ, ◌+◌, List, Some, length}
+use Rattle.std.specs.Prelude.{◌≡◌, ◌⊎◌, ◌↔◌, ℕ, ◌+◌, List, Option, Some, None, length}
 use Rattle.std.specs.List.Sorted.{IsStrictlyIncreasing}
 use Rattle.jm_values.specs.Shape.{Among}
 use Rattle.jm_world.specs.Objects.{ObjectOf}
@@ -22,6 +22,16 @@ LeavesReachable Full c w = (k : ℕ) (o : ObjectOf _) → object_at c k ≡ Some
 -- exactly the serials of what is reached from places
 abbrev pub AreReached : {T : Type 0} → Content T → List ℕ → List ℕ → Type 0
 AreReached c roots serials = (k : ℕ) → Among k serials ↔ Reached c roots k
+
+-- where the object of a serial that is reached from places lies; none of a serial that is not
+abbrev pub FindsReached : {T : Type 0} → Content T → List ℕ → ℕ → Option ℕ → Type 0
+FindsReached c roots k None = Reached c roots k → ⊥
+FindsReached c roots k (Some p) = Reached c roots k × (serial_at c p ≡ Some k)
+
+-- where the object of a number that the world reaches lies; none of a number that it does not
+abbrev pub FindsReachable : {T : Type 0} → Content T → World → ℕ → Option ℕ → Type 0
+FindsReachable c w k None = Among k (reach w) → ⊥
+FindsReachable c w k (Some p) = Among k (reach w) × (serial_at c p ≡ Some k)
 
 -- one of the places names the serial
 abbrev pub IsNamed : {T : Type 0} → Content T → List ℕ → ℕ → Type 0

@@ -19,6 +19,6 @@ mod thread;
 pub use halt::{Halt, StepEnd};
 pub use make::{collect, make_exception};
 pub use places::{gather, put_back};
-pub use reach::reachable;
+pub use reach::{find_reachable, reachable};
 pub use state::State;
 pub use thread::{Ending, StackFrame, Thread};

@@ -8,7 +8,7 @@ ghost use Rattle.jm_world.specs.Matches.{Matches};
 ghost use Rattle.jm_world.specs.Objects.{refs_of};
 ghost use Rattle.jm_world.specs.World.{World};
 ghost use Rattle.jm_state.specs.Parts.{state_parts};
-ghost use Rattle.jm_state.specs.Reached.{AreReachable, AreReached, MarkedAll};
+ghost use Rattle.jm_state.specs.Reached.{AreReachable, AreReached, FindsReached, FindsReachable, MarkedAll};
 ghost use Rattle.jm_state.specs.Runnable.{StateRuns};
 
 use crate::places::gather;
@@ -101,6 +101,29 @@ fn mark<H: Heap>(alloc: Global, heap: &H, roots: &[Place]) -> Result<BTreeSet<u6
     Ok(seen)
 }
 
+// The place of the object of a serial, where places reach it.
+fn search<H: Heap>(
+    alloc: Global,
+    heap: &H,
+    roots: &[Place],
+    serial: u64,
+) -> Result<Option<Place>, AllocError>
+    requires sound { IsSound (H.content heap.now) }
+    requires resident { AllResident (H.content heap.now) roots.now }
+    ensures { IfOk result (FindsReached (H.content heap.now) roots.now serial) }
+{
+    let mut seen = BTreeSet::new(alloc);
+    let mut pending = Vec::new(alloc);
+    mark_places(heap, roots, &mut seen, &mut pending)?;
+    while let Some(place) = pending.pop() {
+        if heap.serial(place) == serial {
+            return Ok(Some(place));
+        }
+        mark_object(heap, place, &mut seen, &mut pending)?;
+    }
+    Ok(None)
+}
+
 // The serials of a set, rising.
 fn rising(alloc: Global, serials: &BTreeSet<u64>) -> Result<Vec<u64>, AllocError>
     ensures same { IfOk result (λ list. list.items ≡ serials.now.keys) }
@@ -124,4 +147,21 @@ pub fn reachable<H: Heap>(
     let roots = gather(alloc, state)?;
     let seen = mark(alloc, &state.heap, roots.as_slice())?;
     rising(alloc, &seen)
+}
+
+/// The place of the object of a serial, where the state reaches it; None where it does not, and so
+/// for garbage that still has a place too. Each object is looked at once at most. `AllocError`: a
+/// growth was refused.
+pub fn find_reachable<H: Heap>(
+    alloc: Global,
+    linked: &Linked,
+    state: &State<H>,
+    serial: u64,
+) -> Result<Option<Place>, AllocError>
+    requires runs { StateRuns linked.now state.now }
+    requires matched { (w : World) × Matches (state_parts linked.now (H.content state.now.heap) state.now) w }
+    ensures { IfOk result (λ found. (w : World) → Matches (state_parts linked.now (H.content state.now.heap) state.now) w → FindsReachable (H.content state.now.heap) w serial found) }
+{
+    let roots = gather(alloc, state)?;
+    search(alloc, &state.heap, roots.as_slice(), serial)
 }

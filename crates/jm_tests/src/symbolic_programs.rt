@@ -200,7 +200,7 @@ fn lines(alloc: Global) -> Result<Vec<(Instr, &'static str)>, AllocError> {
         "newarray boolean",
     ))?;
     lines.push((Instr::Constant(Constant::Long(-9)), "ldc2_w -9"))?;
-    let text = Sequence::new(code_units(alloc, "a\"b")?);
+    let text = Boxed::new(alloc, Sequence::new(code_units(alloc, "a\"b")?))?;
     lines.push((Instr::Constant(Constant::String(text)), "ldc \"a\\u0022b\""))?;
     let lookup = LookupSwitch {
         pairs: pairs(alloc)?,

@@ -1,11 +1,12 @@
 // Classes and their bytes.
 
-use crate::classes::{class, name};
+use crate::classes::{class, nops};
+use crate::round_trip::written_and_read;
 use jm_class_reader::read_class;
-use jm_class_writer::{WriteFault, write_class};
+use jm_class_writer::write_class;
 use jm_program::{
-    Boxed, Class, Constant, Instr, Plain, ReturnOp, Sequence, Simple, SmallInt, StackOp,
-    TableSwitch,
+    Boxed, Class, Constant, Instr, LookupSwitch, Plain, ReturnOp, Sequence, Simple, SmallInt,
+    StackOp, SwitchPair, TableSwitch,
 };
 use std::alloc::{AllocError, AllocGlobal, Global};
 use std::process::Abort;
@@ -36,18 +37,18 @@ const WORKED: [u8; 245] = [
 const BEHIND: usize = 6;
 
 /// The class's file, which reads back as the class.
-fn written(rt: &(impl AllocGlobal + Abort), class: &Class) -> Result<Vec<u8>, Fail> {
+pub fn written(rt: &(impl AllocGlobal + Abort), class: &Class) -> Result<Vec<u8>, Fail> {
     let bytes = write_class(rt.alloc(), class)?;
-    let again = read_class(rt.alloc(), &bytes)?;
+    let again = written_and_read(rt.alloc(), class)?;
     assert!(rt; again.parts() == class.parts());
     Ok(bytes)
 }
 
 /// The bytes of the class's one code.
-fn code_of(bytes: &[u8], size: usize) -> Option<&[u8]> {
+pub fn code_of(bytes: &[u8], size: usize) -> Option<&[u8]> {
     let end = bytes.len().checked_sub(BEHIND)?;
     let start = end.checked_sub(size)?;
-    Some(&bytes[start..end])
+    bytes.get(start..end)
 }
 
 #[test]
@@ -71,7 +72,7 @@ fn constants_pass_a_byte(rt: HostRuntime) -> Result<(), Fail> {
         instructions.push(pop())?;
     }
     instructions.push(Instr::Return(ReturnOp::Void))?;
-    let class = class(rt.alloc(), Vec::new(rt.alloc()), instructions)?.expect(&rt, "a class");
+    let class = class(rt.alloc(), instructions)?.expect(&rt, "a class");
     let bytes = written(&rt, &class)?;
     let count = bytes.get(8..10).expect(&rt, "a count");
     assert_eq!(rt; count, [0x01, 0x01].as_slice());
@@ -84,32 +85,55 @@ fn constants_pass_a_byte(rt: HostRuntime) -> Result<(), Fail> {
     Ok(())
 }
 
-/// So many nops, a zero, a switch of one target and a return, which all targets are.
-fn switch_at(alloc: Global, nops: u32) -> Result<Vec<Instr>, AllocError> {
-    let mut instructions = Vec::new(alloc);
-    for _ in 0..nops {
-        instructions.push(Instr::Plain(Plain::Simple(Simple::Nop)))?;
-    }
+/// A switch of the int 0, to the instruction of a number.
+fn table_to(alloc: Global, target: u32) -> Result<Plain, AllocError> {
+    let targets = Vec::from_slice(alloc, &[target])?;
+    let table = TableSwitch {
+        low: 0,
+        targets: Sequence::new(targets),
+        default: target,
+    };
+    Ok(Plain::TableSwitch(Boxed::new(alloc, table)?))
+}
+
+/// A switch of the int -2, to the instruction of a number.
+fn lookup_to(alloc: Global, target: u32) -> Result<Plain, AllocError> {
+    let mut pairs = Vec::new(alloc);
+    pairs.push(SwitchPair { key: -2, target })?;
+    let lookup = LookupSwitch {
+        pairs: Sequence::new(pairs),
+        default: target,
+    };
+    Ok(Plain::LookupSwitch(Boxed::new(alloc, lookup)?))
+}
+
+/// So many nops, a zero, a switch and a return.
+fn switch_behind(alloc: Global, count: u32, switch: Plain) -> Result<Vec<Instr>, AllocError> {
+    let mut instructions = nops(alloc, count)?;
+    instructions.pop();
     let zero = Simple::IntConstant(SmallInt::Zero);
     instructions.push(Instr::Plain(Plain::Simple(zero)))?;
-    let end = nops.saturating_add(2);
-    let mut targets = Vec::new(alloc);
-    targets.push(end)?;
-    let table = Boxed::new(
-        alloc,
-        TableSwitch {
-            low: 0,
-            targets: Sequence::new(targets),
-            default: end,
-        },
-    )?;
-    instructions.push(Instr::Plain(Plain::TableSwitch(table)))?;
+    instructions.push(Instr::Plain(switch))?;
     instructions.push(Instr::Return(ReturnOp::Void))?;
     Ok(instructions)
 }
 
+/// The class's code is these bytes.
+fn assert_code(
+    rt: &(impl AllocGlobal + Abort),
+    instructions: Vec<Instr>,
+    want: &[u8],
+) -> Result<(), Fail> {
+    let class = class(rt.alloc(), instructions)?.expect(rt, "a class");
+    let bytes = written(rt, &class)?;
+    let code = code_of(&bytes, want.len()).expect(rt, "a code");
+    assert_eq!(*rt; code, want);
+    Ok(())
+}
+
+/// The default, low, high and the target stand at a multiple of four (JVMS 6.5 tableswitch).
 #[test]
-fn switches_are_padded(rt: HostRuntime) -> Result<(), Fail> {
+fn tables_are_padded(rt: HostRuntime) -> Result<(), Fail> {
     let cases: [(u32, &[u8]); 4] = [
         (
             0,
@@ -136,12 +160,49 @@ fn switches_are_padded(rt: HostRuntime) -> Result<(), Fail> {
             ],
         ),
     ];
-    for (nops, want) in cases {
-        let instructions = switch_at(rt.alloc(), nops)?;
-        let class = class(rt.alloc(), Vec::new(rt.alloc()), instructions)?.expect(&rt, "a class");
-        let bytes = written(&rt, &class)?;
-        let code = code_of(&bytes, want.len()).expect(&rt, "a code");
-        assert_eq!(rt; code, want, "behind {nops}");
+    for (count, want) in cases {
+        let switch = table_to(rt.alloc(), count.saturating_add(2))?;
+        let instructions = switch_behind(rt.alloc(), count, switch)?;
+        assert_code(&rt, instructions, want)?;
+    }
+    Ok(())
+}
+
+/// The default, the count, the key and the target stand at a multiple of four
+/// (JVMS 6.5 lookupswitch).
+#[test]
+fn lookups_are_padded(rt: HostRuntime) -> Result<(), Fail> {
+    let cases: [(u32, &[u8]); 4] = [
+        (
+            0,
+            &[
+                3, 0xAB, 0, 0, 0, 0, 0, 19, 0, 0, 0, 1, 255, 255, 255, 254, 0, 0, 0, 19, 0xB1,
+            ],
+        ),
+        (
+            1,
+            &[
+                0, 3, 0xAB, 0, 0, 0, 0, 18, 0, 0, 0, 1, 255, 255, 255, 254, 0, 0, 0, 18, 0xB1,
+            ],
+        ),
+        (
+            2,
+            &[
+                0, 0, 3, 0xAB, 0, 0, 0, 17, 0, 0, 0, 1, 255, 255, 255, 254, 0, 0, 0, 17, 0xB1,
+            ],
+        ),
+        (
+            3,
+            &[
+                0, 0, 0, 3, 0xAB, 0, 0, 0, 0, 0, 0, 20, 0, 0, 0, 1, 255, 255, 255, 254, 0, 0, 0,
+                20, 0xB1,
+            ],
+        ),
+    ];
+    for (count, want) in cases {
+        let switch = lookup_to(rt.alloc(), count.saturating_add(2))?;
+        let instructions = switch_behind(rt.alloc(), count, switch)?;
+        assert_code(&rt, instructions, want)?;
     }
     Ok(())
 }
@@ -152,32 +213,16 @@ fn texts_are_modified_utf8(rt: HostRuntime) -> Result<(), Fail> {
     let want: [u8; 11] = [1, 0, 8, 0xC0, 0x80, 0xED, 0xA0, 0xBD, 0xED, 0xB8, 0x80];
     let units = Vec::from_slice(rt.alloc(), &[0, 0xD83D, 0xDE00])?;
     let mut instructions = Vec::new(rt.alloc());
-    instructions.push(Instr::Constant(Constant::String(Sequence::new(units))))?;
+    let text = Boxed::new(rt.alloc(), Sequence::new(units))?;
+    instructions.push(Instr::Constant(Constant::String(text)))?;
     instructions.push(pop())?;
     instructions.push(Instr::Return(ReturnOp::Void))?;
-    let class = class(rt.alloc(), Vec::new(rt.alloc()), instructions)?.expect(&rt, "a class");
+    let class = class(rt.alloc(), instructions)?.expect(&rt, "a class");
     let bytes = written(&rt, &class)?;
     assert!(rt;
         bytes
             .windows(want.len())
             .any(|part| part == want.as_slice())
     );
-    Ok(())
-}
-
-#[test]
-fn too_many_interfaces_are_refused(rt: HostRuntime) -> Result<(), Fail> {
-    let mut interfaces = Vec::new(rt.alloc());
-    for _ in 0..65_536 {
-        let interface = name(rt.alloc(), "I")?;
-        interfaces.push(interface)?;
-    }
-    let mut instructions = Vec::new(rt.alloc());
-    instructions.push(Instr::Return(ReturnOp::Void))?;
-    let class = class(rt.alloc(), interfaces, instructions)?.expect(&rt, "a class");
-    let fault = write_class(rt.alloc(), &class).err().expect(&rt, "a fault");
-    assert_eq!(rt; fault, WriteFault::TooMany);
-    let text = format!(in rt.alloc(); "{fault}")?;
-    assert_eq!(rt; text.as_str(), "36 TooMany");
     Ok(())
 }

@@ -66,7 +66,7 @@ impl Instr {
             Instr::Plain(plain) => plain.fits(count),
             Instr::Field(_, field) => field.get().fits(),
             Instr::Invoke(op, method) => method.get().fits(*op),
-            Instr::New(name) => name.is_class_name(),
+            Instr::New(name) => name.get().is_class_name(),
             Instr::Type(op, class) => type_op_fits(*op, class.get()),
             _ => true,
         }

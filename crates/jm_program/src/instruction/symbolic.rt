@@ -20,6 +20,6 @@ pub enum Instr {
     Field(FieldOp, Boxed<FieldRef>),
     Invoke(InvokeOp, Boxed<MethodRef>),
     /// `new`.
-    New(Name),
+    New(Boxed<Name>),
     Type(TypeOp, Boxed<ClassRef>),
 }

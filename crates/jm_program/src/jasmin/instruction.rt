@@ -141,7 +141,7 @@ impl Display for Constant {
             Constant::Long(number) => write!(f, "ldc2_w {number}"),
             Constant::String(units) => {
                 f.write_str("ldc \"")?;
-                write_units(f, Context::InString, units.as_slice())?;
+                write_units(f, Context::InString, units.get().as_slice())?;
                 f.write_str("\"")
             }
         }
@@ -201,7 +201,7 @@ impl Display for Instr {
             Instr::Constant(constant) => write!(f, "{constant}"),
             Instr::Field(op, field) => write!(f, "{op} {}", field.get()),
             Instr::Invoke(op, method) => write_invoke(f, *op, method.get()),
-            Instr::New(name) => write!(f, "new {name}"),
+            Instr::New(name) => write!(f, "new {}", name.get()),
             Instr::Type(op, class) => write!(f, "{op} {}", class.get()),
         }
     }

@@ -1,7 +1,12 @@
-use Rattle.std.proofs.Common.{◌≡◌, drop}
+use Rattle.std.proofs.Common.{◌≡◌, take, drop}
+use Rattle.std.specs.List.{All}
 use Rattle.jm_class_writer.specs.Drafts.{all_of}
 use Rattle.jm_class_writer.specs.ClassParts.{put_class}
+use Rattle.jm_class_writer.specs.Ranges.{UnitsInRange}
 use Rattle.jm_class_writer.proofs.class_file.put_each_class.Given as goal
 
 abbrev pub invariant-loop-name : goal.invariant-loop-name
-invariant-loop-name l = all_of put_class (drop l.name-index l.names) l.draft ≡ all_of put_class l.names l.fn.draft
+invariant-loop-name l = record {
+  so_far : all_of put_class (drop l.name-index l.names) l.draft ≡ all_of put_class l.names l.fn.draft;
+  range : All UnitsInRange (take l.name-index l.names);
+}

@@ -1,26 +1,61 @@
 -- A turn of the walk.
-use Rattle.std.proofs.Common.{◌≡◌, [], ◌++◌, ◌-◌, take, refl, sym, ap, ◌∙◌}
+use Rattle.std.proofs.Common.{◌≡◌, suc, [], ◌++◌, ◌-◌, take, refl, sym, ap, subst, ◌∙◌, arith}
 use Rattle.std.proofs.lemmas.List.{nil_from_length}
-use Rattle.jm_linker.specs.Walks.{sought_in, found_pending}
-use Rattle.jm_linker.proofs.WalkLaws.{only_pending, none_pending, too_deep, no_more, taken, no_such, is_here, is_above, here_first, nothing_first, above_first}
+use Rattle.jm_linker.specs.Walks.{sought_in, above_from, found_pending, AllSay}
+use Rattle.jm_linker.proofs.WalkLaws.{only_pending, none_pending, too_deep, no_more, taken, no_such, is_here, here_first, nothing_first, say_dropped, say_skipped, say_above, was_vain, begin_says, none_kept, deep_none, empty_none}
 use Rattle.jm_linker.proofs.walk.find_above.Goals as goal
-use Rattle.jm_linker.proofs.walk.find_above.Goals.{in-Some-find+else-is_in+in_ok-push_parents, in_default-find}
+use Rattle.jm_linker.proofs.walk.find_above.Goals.{in-Some-find+else-is_in+in_ok-push-3+in_ok-push-4, in_default-find}
 
 pub loop-init : goal.loop-init
-loop-init c = only_pending (sought_in c.args.sought.now) c.args.classes.now.program.now _ _ _ _ c.new-pending.ensures.items c.in_ok-push.ensures.items c.height.ensures
+loop-init c =
+    let test = sought_in c.args.sought.now in
+    let program = c.args.classes.now.program.now in (
+      only_pending test program _ _ _ _ c.new-pending.ensures.items c.in_ok-push.ensures.items c.height.ensures,
+      begin_says test program _ _ _ c.new-pending.ensures.items c.in_ok-push.ensures.items refl,
+      none_kept test program c.new-tried.result.entries c.new-tried.ensures.empty,
+    )
 
 pub returns-in_default : goal.returns-in_default
 returns-in_default c =
     let rest : c.pop.new.self.items ≡ [] = c.in_default.ensures.rest ∙ ap (λ n. take (n - 1) c.loop.pending.items) c.in_default.ensures.cases.0 in
     let empty : c.loop.pending.items ≡ [] = c.in_default.ensures.items ∙ ap (λ xs. xs ++ []) rest in
     sym (none_pending (sought_in c.args.sought.now) c.args.classes.now.program.now)
-    ∙ ap (found_pending (sought_in c.args.sought.now) c.args.classes.now.program.now) (sym empty) ∙ c.loop.invariant
+    ∙ ap (found_pending (sought_in c.args.sought.now) c.args.classes.now.program.now) (sym empty) ∙ c.loop.invariant.0
 
 pub loop-preserved-then-next-eq0 : goal.loop-preserved-then-next-eq0
-loop-preserved-then-next-eq0 c = sym (too_deep _ _ _ _ _ c.in-Some.ensures.items c.if-next-eq0.true) ∙ c.loop.invariant
+loop-preserved-then-next-eq0 c =
+    let test = sought_in c.args.sought.now in
+    let program = c.args.classes.now.program.now in
+    let inv = c.loop.invariant in (
+      sym (too_deep test program _ _ _ c.in-Some.ensures.items c.if-next-eq0.true) ∙ inv.0,
+      say_dropped test program _ _ _ c.in-Some.ensures.items (deep_none test program c.in-Some.next c.if-next-eq0.true) inv.1,
+      inv.2,
+    )
 
 pub loop-preserved-in_default-split_first : goal.loop-preserved-in_default-split_first
-loop-preserved-in_default-split_first c = sym (no_more _ _ _ _ _ c.in-Some.ensures.items (nil_from_length _ c.in_default-split_first.ensures.cases)) ∙ c.loop.invariant
+loop-preserved-in_default-split_first c =
+    let test = sought_in c.args.sought.now in
+    let program = c.args.classes.now.program.now in
+    let inv = c.loop.invariant in
+    let none = nil_from_length _ c.in_default-split_first.ensures.cases in (
+      sym (no_more test program _ _ _ c.in-Some.ensures.items none) ∙ inv.0,
+      say_dropped test program _ _ _ c.in-Some.ensures.items (empty_none test program c.in-Some.next none) inv.1,
+      c.in_ok-keep_tried.ensures test program inv.2 (was_vain test program _ _ _ c.in-Some.ensures.items none inv.1),
+    )
+
+pub loop-preserved-then-is_tried : goal.loop-preserved-then-is_tried
+loop-preserved-then-is_tried c =
+    let test = sought_in c.args.sought.now in
+    let program = c.args.classes.now.program.now in
+    let inv = c.loop.invariant in
+    let one : suc (c.in-Some.next.depth - 1) ≡ c.in-Some.next.depth = omega (arith, c.if-next-eq0.false) in
+    let vain = c.is_tried.ensures test program inv.2 c.if-is_tried.true in
+    let none = ap (λ n. above_from test n program c.in-Some-split_first.name.now) (sym one) ∙ vain in
+    let first = taken test program _ _ _ _ _ c.in-Some-split_first.name.now _ c.in-Some.ensures.items c.in-Some-split_first.ensures.cases.0 refl refl c.in_ok-push-2.ensures.items in (
+      nothing_first _ _ _ _ first none inv.0,
+      say_skipped test program _ _ _ _ _ c.in-Some-split_first.name.now _ c.in-Some.ensures.items c.in-Some-split_first.ensures.cases.0 refl refl refl c.in_ok-push-2.ensures.items none inv.1,
+      inv.2,
+    )
 
 pub returns-then-is_in : goal.returns-then-is_in
 returns-then-is_in c =
@@ -28,18 +63,22 @@ returns-then-is_in c =
     let program = c.args.classes.now.program.now in
     let first = taken test program _ _ _ _ _ c.in-Some-split_first.name.now _ c.in-Some.ensures.items c.in-Some-split_first.ensures.cases.0 refl refl c.in_ok-push-2.ensures.items in
     let here = is_here test program c.in-Some.next.depth c.in-Some-split_first.name.now c.in-Some-find.class.now c.if-next-eq0.false (sym c.in-Some-find.ensures) (sym c.is_in.ensures ∙ c.if-is_in.true) in
-    here_first _ _ _ _ c.in-Some-find.class.now first here c.loop.invariant
+    here_first _ _ _ _ c.in-Some-find.class.now first here c.loop.invariant.0
 
 pub loop-preserved : goal.loop-preserved
 loop-preserved c =
     let test = sought_in c.args.sought.now in
     let program = c.args.classes.now.program.now in
+    let inv = c.loop.invariant in
     let first = taken test program _ _ _ _ _ c.in-Some-split_first.name.now _ c.in-Some.ensures.items c.in-Some-split_first.ensures.cases.0 refl refl c.in_ok-push-2.ensures.items in
     elim c.match-find.branch [
-      | in-Some-find+else-is_in+in_ok-push_parents w ↦
-          ap (λ v. found_pending test program v.items) w.pending-is ∙ above_first _ _ _ _ _ _ first
-          (is_above test program c.in-Some.next.depth c.in-Some-split_first.name.now w.in-Some-find.class.now c.if-next-eq0.false (sym w.in-Some-find.ensures) (sym w.is_in.ensures ∙ w.if-is_in.false))
-          (w.in_ok-push_parents.ensures test program) c.loop.invariant
+      | in-Some-find+else-is_in+in_ok-push-3+in_ok-push-4 w ↦
+          let turn = say_above test program _ _ _ _ _ c.in-Some.next _ _ _ c.in-Some-split_first.name _ w.in-Some-find.class.now c.in-Some.ensures.items c.in-Some-split_first.ensures.cases.0 refl refl refl c.in_ok-push-2.ensures.items w.superclass_of.ensures refl refl w.in_ok-push-3.ensures.items w.as_slice.ensures refl refl w.in_ok-push-4.ensures.items c.if-next-eq0.false (sym w.in-Some-find.ensures) (sym w.is_in.ensures ∙ w.if-is_in.false) inv.1 in
+          (ap (λ v. found_pending test program v.items) w.pending-is ∙ sym turn.0 ∙ inv.0, subst (λ v. AllSay test program v.items) (sym w.pending-is) turn.1, inv.2)
       | in_default-find w ↦
-          ap (λ v. found_pending test program v.items) w.pending-is ∙ nothing_first _ _ _ _ first (no_such test program c.in-Some.next.depth c.in-Some-split_first.name.now (sym w.in_default-find.ensures)) c.loop.invariant
+          let none = no_such test program c.in-Some.next.depth c.in-Some-split_first.name.now (sym w.in_default-find.ensures) in (
+            ap (λ v. found_pending test program v.items) w.pending-is ∙ nothing_first _ _ _ _ first none inv.0,
+            subst (λ v. AllSay test program v.items) (sym w.pending-is) (say_skipped test program _ _ _ _ _ c.in-Some-split_first.name.now _ c.in-Some.ensures.items c.in-Some-split_first.ensures.cases.0 refl refl refl c.in_ok-push-2.ensures.items none inv.1),
+            inv.2,
+          )
     ]

@@ -1,7 +1,21 @@
 -- The subcommand that was met.
 use Rattle.std.proofs.Common.{refl, codes}
-use Rattle.jm_options.proofs.Finding.{subcommand_is, passed_on}
+use Rattle.jm_options.proofs.Finding.{subcommand_is, other_subcommand, nothing_found, finds_run, finds_assembly}
 use Rattle.jm_options.proofs.words.found_options.Goals as goal
 
-pub returns-in-Err : goal.returns-in-Err
-returns-in-Err c = passed_on _ _ _ (subcommand_is c.args.matches.now (codes "run") _ (c.in-Some.ensures.found.0 refl) c.in-Some.ensures.rows) c.in-Err.ensures
+pub returns-in-Some : goal.returns-in-Some
+returns-in-Some c =
+    let met = c.in-Some.ensures in
+    let is = subcommand_is c.args.matches.now (codes "run") _ (met.found.0 refl) met.rows in
+    finds_run _ _ c.run_options.result c.map.result is c.run_options.ensures c.map.ensures.cases
+
+pub returns-in-Some-subcommand_matches : goal.returns-in-Some-subcommand_matches
+returns-in-Some-subcommand_matches c =
+    let met = c.in-Some-subcommand_matches.ensures in
+    let is = subcommand_is c.args.matches.now (codes "asm") _ (met.found.0 refl) met.rows in
+    finds_assembly _ _ c.assemble_options.result c.map-in-Some-subcommand_matches.result is c.assemble_options.ensures c.map-in-Some-subcommand_matches.ensures.cases
+
+pub returns : goal.returns
+returns c = nothing_found _ _ (other_subcommand c.args.matches.now
+    (λ run. let is = c.in_default.ensures.found.1 run in cc)
+    (λ asm. let is = c.in_default-subcommand_matches.ensures.found.1 asm in cc))

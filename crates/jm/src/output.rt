@@ -1,0 +1,70 @@
+// Where the output of a job goes.
+
+use jm_execute::{AssembleJob, Job};
+use std::fs::File;
+use std::io;
+use std::io::{Stdout, Write};
+
+/// A file that is made, or emptied, when its first byte is written.
+#[derive(Drop)]
+pub struct OutputFile<'a> {
+    rt: &'a HostRuntime,
+    name: &'a str,
+    opened: Option<File>,
+}
+
+impl Write for OutputFile<'_> {
+    fn write(&mut self, buf: &[u8]) -> io::Result<usize> {
+        if buf.is_empty() {
+            return Ok(0);
+        }
+        if self.opened.is_none() {
+            self.opened = Some(File::create(self.rt, self.name)?);
+        }
+        match &mut self.opened {
+            Some(file) => file.write(buf),
+            None => Ok(0),
+        }
+    }
+
+    fn flush(&mut self) -> io::Result<()> {
+        Ok(())
+    }
+}
+
+/// The standard output, or the class file of a text.
+#[derive(Drop)]
+pub enum Output<'a> {
+    Standard(Stdout),
+    ClassFile(OutputFile<'a>),
+}
+
+impl<'a> Output<'a> {
+    /// The output of a job. Nothing is opened yet.
+    pub fn of(rt: &'a HostRuntime, job: &'a Job) -> Output<'a> {
+        match job {
+            Job::Run(_) => Output::Standard(rt.stdout()),
+            Job::Assemble(AssembleJob { output, .. }) => Output::ClassFile(OutputFile {
+                rt,
+                name: output,
+                opened: None,
+            }),
+        }
+    }
+}
+
+impl Write for Output<'_> {
+    fn write(&mut self, buf: &[u8]) -> io::Result<usize> {
+        match self {
+            Output::Standard(standard) => standard.write(buf),
+            Output::ClassFile(file) => file.write(buf),
+        }
+    }
+
+    fn flush(&mut self) -> io::Result<()> {
+        match self {
+            Output::Standard(standard) => standard.flush(),
+            Output::ClassFile(file) => file.flush(),
+        }
+    }
+}

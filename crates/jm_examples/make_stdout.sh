@@ -1,0 +1,15 @@
+#!/bin/sh
+# Writes stdout, what the program has to print, from the tables that other programs gave: javap of
+# the class files, and of what the real Jasmin made of the texts. Each class is equal when it is
+# written and read again, and the worked text has the bytes of the worked class file. Needs javap
+# and python3. No check runs this: stdout is committed.
+set -eu
+cd "$(dirname "$0")"
+{
+    echo "file fields methods max_stack max_locals instructions handlers lines again"
+    python3 expected.py data/sum.class | sed 's/$/ equal/'
+    sed 's/$/ equal/' data/java/expected.txt
+    cat data/refused/expected.txt
+    sed 's/$/ equal/' data/texts/expected.txt
+    echo "sum.j has the $(wc -c < data/sum.class) bytes of sum.class"
+} > stdout

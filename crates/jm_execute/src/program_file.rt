@@ -1,0 +1,92 @@
+// The class that a program's file holds.
+
+ghost use Rattle.std.specs.Prelude.{◌≡◌, ◌≤◌, length, true, false, MatchResult};
+ghost use Rattle.std.specs.Str.{is_utf8};
+ghost use Rattle.std.specs.Str.Lossy.{utf8_valid_len};
+ghost use Rattle.jm_bytes.specs.Reading.{GivesAll};
+ghost use Rattle.jm_class_format.specs.ClassFile.{class_file};
+ghost use Rattle.jm_jasmin_ops.specs.declared.fault.AsmFault.TheVariants as asm;
+ghost use Rattle.jm_execute.specs.ProgramFiles.{file_class, is_text_name, line_at, text_class};
+ghost use Rattle.jm_execute.specs.Refusals.{GivesClass, GivesFileClass, GivesTextClass};
+
+use crate::refusal::{Obstacle, Refusal};
+use jm_class_reader::{ReadFault, read_class};
+use jm_jasmin::{AsmFault, assemble};
+use jm_program::Class;
+use std::alloc::Global;
+
+// Whether a file of this name holds an assembler text.
+fn is_text_name(name: &str) -> bool
+    ensures { result ≡ is_text_name name.now }
+{
+    name.as_bytes().ends_with(b".j")
+}
+
+// The line, counted from 1, in which the byte at an offset stands.
+fn line_at(bytes: &[u8], at: usize) -> usize
+    requires { at ≤ length bytes.now }
+    ensures { result ≡ line_at bytes.now at }
+{
+    1 + bytes[..at].iter().filter(|byte| **byte == b'\n').count()
+}
+
+// The text that bytes spell in UTF-8.
+fn text_of(bytes: &[u8]) -> Result<&str, AsmFault>
+    ensures { MatchResult result
+        (λ text. (text.now ≡ bytes.now) × (is_utf8 bytes.now ≡ true))
+        (λ fault. (fault ≡ asm.BadToken (line_at bytes.now (utf8_valid_len bytes.now))) × (is_utf8 bytes.now ≡ false)) }
+{
+    match str::from_utf8(bytes) {
+        Ok(text) => Ok(text),
+        Err(error) => Err(AsmFault::BadToken(line_at(bytes, error.valid_up_to()))),
+    }
+}
+
+// The class that the bytes of an assembler text denote.
+#[tactic(auto, unfolding(crate::specs::ProgramFiles::text_class))]
+fn assembled(alloc: Global, bytes: &[u8]) -> Result<Class, AsmFault>
+    ensures { GivesAll (λ class. class) asm.OutOfMemory result (text_class bytes.now) }
+{
+    match text_of(bytes) {
+        Ok(text) => assemble(alloc, text),
+        Err(fault) => Err(fault),
+    }
+}
+
+/// The class that the bytes of an assembler text of this name denote.
+pub fn class_in_text<'a>(alloc: Global, file: &'a str, bytes: &[u8]) -> Result<Class, Obstacle<'a>>
+    ensures { GivesTextClass (text_class bytes.now) result }
+{
+    match assembled(alloc, bytes) {
+        Ok(class) => Ok(class),
+        Err(AsmFault::OutOfMemory) => Err(Obstacle::OutOfMemory),
+        Err(fault) => Err(Obstacle::Refused(Refusal::BadText(file, fault))),
+    }
+}
+
+// The class that the bytes of a class file of this name spell.
+fn class_in_class_file<'a>(
+    alloc: Global,
+    file: &'a str,
+    bytes: &[u8],
+) -> Result<Class, Obstacle<'a>>
+    ensures { GivesFileClass (class_file.read bytes.now) result }
+{
+    match read_class(alloc, bytes) {
+        Ok(class) => Ok(class),
+        Err(ReadFault::OutOfMemory) => Err(Obstacle::OutOfMemory),
+        Err(fault) => Err(Obstacle::Refused(Refusal::BadClass(file, fault))),
+    }
+}
+
+/// The class that a file of this name with these bytes holds.
+#[tactic(auto, unfolding(crate::specs::ProgramFiles::file_class))]
+pub fn class_in_file<'a>(alloc: Global, file: &'a str, bytes: &[u8]) -> Result<Class, Obstacle<'a>>
+    ensures { GivesClass (file_class file.now bytes.now) result }
+{
+    if is_text_name(file) {
+        class_in_text(alloc, file, bytes)
+    } else {
+        class_in_class_file(alloc, file, bytes)
+    }
+}

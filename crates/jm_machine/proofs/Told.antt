@@ -1,0 +1,105 @@
+-- What readers tell beside what the world has.
+use Rattle.std.proofs.Common.{◌≡◌, ℕ, zero, suc, ◌<◌, List, [], ◌∷◌, Some, refl, sym, ap, ◌∙◌, subst, length, get_or, arith}
+use Rattle.std.specs.Prelude.{slice_get}
+use Rattle.std.proofs.lemmas.Option.{slice_get_within}
+use Rattle.std.proofs.lemmas.List.{length-map}
+use Rattle.jm_program.specs.declared.class.ClassParts.{ClassParts}
+use Rattle.jm_program.specs.declared.class.Field.{Field}
+use Rattle.jm_program.specs.declared.class.Method.{Method}
+use Rattle.jm_builtins.specs.declared.built_in.BuiltIn.{BuiltIn}
+use Rattle.jm_builtins.specs.List.{the_builtins, system}
+use Rattle.jm_values.specs.Shape.{list_shape}
+use Rattle.jm_values.specs.Rename.{rename, refs, value_shape, stack_shape}
+use Rattle.jm_values.specs.declared.value.Value.{Value}
+use Rattle.jm_values.specs.declared.value.Value.TheVariants.{Ref}
+use Rattle.jm_world.specs.Classes.{name_of_method, method_named}
+use Rattle.jm_world.specs.Content.{Content, IsSound, AllResident, HasValue, serial_at, object_at, name_of}
+use Rattle.jm_world.specs.Loading.{first_statics, out_field}
+use Rattle.jm_world.specs.Matches.{as_named}
+use Rattle.jm_world.specs.Objects.{ObjectOf}
+use Rattle.jm_world.specs.Renaming.{static_shape}
+use Rattle.jm_world.specs.World.{Static}
+use Rattle.jm_heap.specs.declared.class_id.ClassId.{ClassId}
+use Rattle.jm_linked.specs.Links.{LinkedView, IsLinked, MethodLinks, name_of_number, name_among, name_in_class, member_name}
+use Rattle.jm_linked.specs.declared.method.LinkedMethod.{LinkedMethod}
+use Rattle.jm_state.specs.Parts.{named_type, named_statics, program_class_name, name_in_program}
+use Rattle.jm_state.proofs.Marking.{name_is, object_there}
+use Rattle.jm_machine.specs.Seen.{object_or_none, object_seen, statics_seen}
+use Rattle.jm_machine.proofs.Path.{no_statics}
+use Rattle.jm_machine.proofs.Parted.{among_element}
+
+-- the method of a number
+module _ (l : LinkedView) (linked : IsLinked l) (n : ℕ) (m : LinkedMethod) (at : slice_get l.methods n ≡ Some m) where
+  links : MethodLinks l.program m
+  links = linked.methods n m at
+
+  pub class_within : m.class < length l.program
+  class_within = slice_get_within l.program m.class links.class links.class_is
+
+  module _ (c : ClassParts) (e : slice_get l.program m.class ≡ Some c) where
+    same_class : links.class ≡ c
+    same_class = let h : Some links.class ≡ Some c = sym links.class_is ∙ e in cc
+
+    pub member_within : m.member < length c.methods
+    member_within = subst (λ (x : ClassParts). m.member < length x.methods) same_class (slice_get_within links.class.methods m.member links.method links.method_is)
+
+    module _ (x : Method) (f : slice_get c.methods m.member ≡ Some x) where
+      same_method : links.method ≡ x
+      same_method = let h : Some links.method ≡ Some x = sym links.method_is ∙ ap (λ (y : ClassParts). slice_get y.methods m.member) same_class ∙ f in cc
+
+      pub named_by : name_of_number l n ≡ name_of_method (record { class = c; method = x })
+      unfolding name_of_number
+      named_by = ap (name_among l.program) at ∙ ap (λ o. name_in_class o m.member) e ∙ ap (member_name c) f
+
+      pub found_by : method_named l.program (name_of_method (record { class = c; method = x })) ≡ Some x
+      found_by = (λ i. method_named l.program (name_of_method (record { class = sym same_class i; method = sym same_method i }))) ∙ links.named ∙ ap Some same_method
+
+pub class_name_is : (program : List ClassParts) (n : ℕ) (c : ClassParts) → slice_get program n ≡ Some c → program_class_name program n ≡ c.name
+unfolding program_class_name
+class_name_is program n c e = ap name_in_program e
+
+-- the object at a place
+module _ (l : LinkedView) (c : Content ClassId) (p : ℕ) (sound : IsSound c) (there : (k : ℕ) × (serial_at c p ≡ Some k)) where
+  pub object : (k : ℕ) × (o : ObjectOf ClassId) × (serial_at c p ≡ Some k) × (object_at c k ≡ Some o)
+  object = object_there c p sound there
+
+  pub seen_is : object_seen l c p ≡ as_named (named_type l.program) object.1
+  seen_is = ap (object_or_none (named_type l.program)) (ap (object_at c) (name_is c p object.0 object.2) ∙ object.3)
+
+  pub value_seen : (i : ℕ) (v : Value) → HasValue c p i v → slice_get (object_seen l c p).values i ≡ Some v
+  value_seen i v h = ap (λ x. slice_get (object_or_none (named_type l.program) x).values i) (ap (object_at c) (name_is c p h.0 h.2) ∙ h.3) ∙ h.4
+
+-- static fields with their values
+named_length : (ss : List Static) (vs : List Value) → length vs ≡ length ss → length (named_statics ss vs) ≡ length vs
+named_length [] [] e = refl
+named_length [] (v ∷ vs) e = absurd (omega arith)
+named_length (s ∷ ss) [] e = absurd (omega arith)
+named_length (s ∷ ss) (v ∷ vs) e = ap suc (named_length ss vs (omega arith))
+
+pub statics_length : (l : LinkedView) (c : Content ClassId) (vs : List Value) → length vs ≡ length (first_statics l.program) → length (statics_seen l c vs) ≡ length vs
+statics_length l c vs e = length-map (named_statics (first_statics l.program) vs) (static_shape.rename (name_of c)) ∙ named_length (first_statics l.program) vs e
+
+one_static : (f : ℕ → ℕ) (ss : List Static) (vs : List Value) (i : ℕ) (v : Value) → ss ≡ record { field = out_field; value = Ref 0 } ∷ [] → length vs ≡ length ss → slice_get vs i ≡ Some v → slice_get ((list_shape static_shape).rename f (named_statics ss vs)) i ≡ Some (record { field = out_field; value = rename f v })
+one_static f ss vs i v e long g =
+    let few : length vs ≡ 1 = long ∙ ap length e in
+    ap (λ xs. slice_get ((list_shape static_shape).rename f (named_statics xs vs)) i) e ∙ by vs i few g
+  where
+    by : (vs : List Value) (i : ℕ) → length vs ≡ 1 → slice_get vs i ≡ Some v → slice_get ((list_shape static_shape).rename f (named_statics (record { field = out_field; value = Ref 0 } ∷ []) vs)) i ≡ Some (record { field = out_field; value = rename f v })
+    by [] i few g = cc
+    by (x ∷ []) zero few g = let h : x ≡ v = cc in ap (λ (y : Value). Some (record { field = out_field; value = rename f y })) h
+    by (x ∷ []) (suc i) few g = cc
+    by (x ∷ y ∷ vs) i few g = absurd (omega arith)
+
+-- the static field is System.out
+module _ (l : LinkedView) (linked : IsLinked l) (c : Content ClassId) (vs : List Value) (long : length vs ≡ length (first_statics l.program)) (i : ℕ) (v : Value) (g : slice_get vs i ≡ Some v) where
+  pub static_resident : AllResident c (stack_shape.refs vs) → AllResident c (refs v)
+  static_resident all = λ p a. all p (among_element value_shape vs i v p g a)
+
+  pub static_is : slice_get (statics_seen l c vs) i ≡ Some (record { field = out_field; value = rename (name_of c) v })
+  static_is = one_static (name_of c) (first_statics l.program) vs i v (ap (λ ss. record { field = out_field; value = Ref 0 } ∷ ss) (no_statics l.program linked.whole)) long g
+
+pub out_is : (bs : List BuiltIn) (b : BuiltIn) (fs : List Field) (f : Field) → bs ≡ the_builtins → b ≡ get_or bs 4 b → fs ≡ b.fields → f ≡ get_or fs 0 f → out_field ≡ record { class = b.name; name = f.name; type = f.descriptor }
+out_is bs b fs f e g s h =
+    let system_is : b ≡ system = g ∙ ap (λ xs. get_or xs 4 b) e in
+    let field_is : f ≡ get_or system.fields 0 f = h ∙ ap (λ xs. get_or xs 0 f) (s ∙ ap (λ (x : BuiltIn). x.fields) system_is) in
+    λ i. record { class = (sym system_is i).name; name = (sym field_is i).name; type = (sym field_is i).descriptor }

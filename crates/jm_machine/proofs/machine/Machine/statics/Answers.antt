@@ -1,0 +1,21 @@
+use Rattle.std.proofs.Common.{sym, subst, ap, ◌∙◌}
+use Rattle.jm_values.specs.Rename.{stack_shape}
+use Rattle.jm_world.specs.Content.{AllResident}
+use Rattle.jm_machine.specs.Seen.{statics_seen}
+use Rattle.jm_machine.specs.View.{MatchesWorld}
+use Rattle.jm_machine.proofs.Reading.{statics_read, statics_resident}
+use Rattle.jm_machine.proofs.machine.Machine.statics.Goals as goal
+
+pub new-requires-clause-resident : goal.new-requires-clause-resident
+new-requires-clause-resident g c =
+    let s = c.self.inside.state in
+    let l = c.self.inside.linked in
+    let heap = g.H.Heap.content s.heap in
+    subst (λ vs. AllResident heap (stack_shape.refs vs)) (sym c.deref.ensures.value) (statics_resident l heap s.threads.items s.statics.items s.classes.items s.output.items s.stop c.self.invariant.world c.self.invariant.matches c.self.invariant.runs.statics)
+
+pub returns : goal.returns
+returns g c = λ w m.
+    let s = c.self.inside.state in
+    let l = c.self.inside.linked in
+    let heap = g.H.Heap.content s.heap in
+    c.new.ensures ∙ ap (statics_seen l heap) c.deref.ensures.value ∙ statics_read l heap s.threads.items s.statics.items s.classes.items s.output.items s.stop w (subst (λ v. MatchesWorld v w) (sym c.self.view_is) m)

@@ -1,0 +1,25 @@
+-- What the matches of an assembly hold, and what they lack.
+use Rattle.std.proofs.Common.{Some, sym, ap, ◌∙◌, codes}
+use Rattle.clap.specs.Words.{found_of}
+use Rattle.clap.proofs.WalkLemmas.{first_value-rows}
+use Rattle.jm_options.proofs.Finding.{no_input, no_output, none_assembled}
+use Rattle.jm_options.proofs.words.assemble_options.Goals as goal
+
+pub returns-in_default : goal.returns-in_default
+returns-in_default c =
+    let none = rw c.in_default.is at c.get_str.ensures in
+    none_assembled _ _ (no_input _ (none ∙ first_value-rows (found_of c.args.matches.now) (codes "input")))
+
+pub returns-in_default-get_str : goal.returns-in_default-get_str
+returns-in_default-get_str c =
+    let none = rw c.in_default-get_str.is at c.get_str-2.ensures in
+    none_assembled _ _ (no_output _ (none ∙ first_value-rows (found_of c.args.matches.now) (codes "output")))
+
+pub returns : goal.returns
+returns c =
+    let input = rw c.in-Some.is at c.get_str.ensures in
+    let output = rw c.in-Some-get_str.is at c.get_str-2.ensures in
+    record {
+      input = sym (first_value-rows (found_of c.args.matches.now) (codes "input")) ∙ sym input ∙ ap Some (sym c.in_ok-from_str.ensures.ok);
+      output = sym (first_value-rows (found_of c.args.matches.now) (codes "output")) ∙ sym output ∙ ap Some (sym c.in_ok-from_str-2.ensures.ok);
+    }
