@@ -1,2 +1,9 @@
+pub mod CodeFits
 pub mod Descriptors
+pub mod InstructionsFit
+pub mod Kept
+pub mod MembersFit
+pub mod OperandsFit
+pub mod ReadFits
 pub mod Rules
+pub mod SymbolsFit

@@ -1,5 +1,5 @@
 -- A class that bytes spell keeps the rules of a class.
-use Rattle.std.proofs.Common.{◌≡◌, ℕ, Bool, true, false, ◌&&◌, List, Some, None, if◌then◌else◌, refl, subst, arith}
+use Rattle.std.proofs.Common.{◌≡◌, ℕ, Bool, true, ◌&&◌, List, subst}
 use Rattle.std.specs.List.{list_all}
 use Rattle.jm_program.specs.Flags.{is_interface}
 use Rattle.jm_program.specs.Names.{is_class_name}
@@ -7,6 +7,7 @@ use Rattle.jm_program.specs.Fits.{Fits, version_fits, superclass_fits, field_fit
 use Rattle.jm_program.proofs.DescriptorLaws.{both_true, and_true}
 use Rattle.jm_program.specs.declared.class.ClassParts.{ClassParts}
 use Rattle.jm_class_format.specs.ClassFile.{Spells, class, class_fits, parts_of}
+use Rattle.jm_class_format.proofs.Kept.{guard_held}
 
 pub fits_of : (c : ClassParts) → class_fits c ≡ true → Fits c
 unfolding class_fits
@@ -37,10 +38,6 @@ of_fits c h =
     (and_true (version && name && superclass && interfaces) fields
     (and_true (version && name && superclass) interfaces
     (and_true (version && name) superclass (and_true version name h.version h.name) h.superclass) h.interfaces) h.fields) h.methods
-
-guard_held : (b : Bool) → (if b then Some (tt {0}) else None) ≡ Some (tt {0}) → b ≡ true
-guard_held true e = refl
-guard_held false e = grind arith
 
 pub spelled_fits : (bytes : List ℕ) (c : ClassParts) → Spells bytes c → Fits c
 unfolding class

@@ -1,13 +1,15 @@
-ghost use Rattle.std.specs.Prelude.{◌≡◌, ◌↔◌, ◌++◌, IsTrue, List, ℕ};
+ghost use Rattle.std.specs.Prelude.{◌≡◌, ◌↔◌, ◌++◌, IsTrue, true, List, ℕ, Ok};
 ghost use Rattle.jm_bytes.specs.Format.{Format, Whole};
+ghost use Rattle.jm_program.specs.Flags.{is_interface};
 ghost use Rattle.jm_program.specs.Fits.{Fits};
+ghost use Rattle.jm_program.specs.declared.class.Version.{Version};
 ghost use Rattle.jm_program.specs.declared.class.ClassParts.{ClassParts};
 ghost use Rattle.jm_class_format.specs.declared.constant_pool.Entry.{Entry};
 ghost use Rattle.jm_class_format.specs.declared.instruction.PlacedInstr.{PlacedInstr};
 ghost use Rattle.jm_class_format.specs.ModifiedUtf8.{text};
 ghost use Rattle.jm_class_format.specs.PoolEntries.{pool};
 ghost use Rattle.jm_class_format.specs.Code.{code};
-ghost use Rattle.jm_class_format.specs.ClassFile.{Spells, class_fits};
+ghost use Rattle.jm_class_format.specs.ClassFile.{Spells, class_fits, version, Head, head, Body, body, parts_of};
 
 /// No bytes spell two classes.
 pub fn one_class()
@@ -22,6 +24,11 @@ pub fn spelled_class_fits()
 /// The rules of a class are what the test of the definition says.
 pub fn fits_is_tested()
     ensures { (c : ClassParts) → IsTrue (class_fits c) ↔ Fits c }
+{}
+
+/// What the bytes spell keeps the rules of a class: the last test of the definition never fails.
+pub fn read_classes_fit()
+    ensures { (es : List Entry) (s t u left_s left_t left_u : List ℕ) (v : Version) (h : Head) (b : Body) → version.read s ≡ Ok (v, left_s) → (head es).read t ≡ Ok (h, left_t) → (body es (is_interface h.access)).read u ≡ Ok (b, left_u) → class_fits (parts_of v h b) ≡ true }
 {}
 
 /// No bytes spell two codes.

@@ -16,6 +16,8 @@ mod read_fault;
 pub use constant_pool::{Bytes, Entry, Lead, RawEntry, Tag};
 pub use fault::{CodeFault, PoolFault};
 pub use instruction::{IndexedInstr, PlacedInstr};
-pub use laws::{fits_is_tested, one_class, one_code, one_pool, one_text, spelled_class_fits};
+pub use laws::{
+    fits_is_tested, one_class, one_code, one_pool, one_text, read_classes_fit, spelled_class_fits,
+};
 pub use opcode::{LaterOp, LeftOutOp, Opcode};
 pub use read_fault::{LeftOutPart, ReadFault};

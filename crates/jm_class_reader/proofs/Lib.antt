@@ -1,2 +1,4 @@
 pub mod Attributes
-pub mod Rules
+pub mod KnownValues
+pub mod SameUses
+pub mod PartsFit

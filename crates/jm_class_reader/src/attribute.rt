@@ -19,8 +19,8 @@ pub fn attribute_name<'p>(
     ensures { TakesAs (λ units. units.now) result reader.new ((attribute_name cut pool.now).read reader.old) }
 {
     let index = reader.u2().map_err(|_| cut)?;
-    let units = text_at(pool, index)?;
-    Ok(units)
+    let text = text_at(pool, index)?;
+    Ok(text.units)
 }
 
 /// The bytes of an attribute, after their length.

@@ -1,17 +1,19 @@
 // The class file (JVMS 4.1): magic and version, the pool, the class, its members and its attributes.
 
-ghost use Rattle.std.specs.Prelude.{◌≡◌, Ok, IfOk, IsTrue};
+ghost use Rattle.std.specs.Prelude.{◌≡◌, true, Ok, IfOk};
 ghost use Rattle.jm_bytes.specs.Reading.{Gives, GivesAll, Takes};
-ghost use Rattle.jm_program.specs.Fits.{Fits};
+ghost use Rattle.jm_program.specs.Fits.{version_fits};
 ghost use Rattle.jm_program.specs.declared.class.ClassParts.{ClassParts};
 ghost use Rattle.jm_class_format.specs.declared.read_fault.ReadFault.TheVariants.{OutOfMemory, Cut};
 ghost use Rattle.jm_class_format.specs.CodeAttribute.{whole_info};
-ghost use Rattle.jm_class_format.specs.ClassFile.{version, file_pool, class_name, superclass_at, superclass, interfaces, source_file, class_attribute_info, class_attribute, class_attributes, head, body, parts_of, class_fits, class, class_file, Spells};
+ghost use Rattle.jm_class_reader.specs.BehindPool.{behind_pool};
+ghost use Rattle.jm_class_format.specs.ClassFile.{version, file_pool, class_name, superclass_at, superclass, interfaces, source_file, class_attribute_info, class_attribute, class_attributes, head, body, parts_of, class, class_file, Spells};
 
 use crate::attribute::{attribute_name, info};
 use crate::field::{fields, flags};
 use crate::method::methods;
 use crate::named_code::{bad_index, class_name_at, text_of};
+use crate::symbols::Symbols;
 use jm_bytes::Reader;
 use jm_class_format::ReadFault;
 use jm_pool::Pool;
@@ -26,7 +28,8 @@ const MAGIC: u32 = 0xCAFE_BABE;
 // The magic number and the version, from 45.0 to 52.0.
 #[tactic(auto, unfolding(jm_class_format::specs::ClassFile::version))]
 fn version(reader: &mut Reader<'_>) -> Result<Version, ReadFault>
-    ensures { Takes result reader.new (version.read reader.old) }
+    ensures given { Takes result reader.new (version.read reader.old) }
+    ensures fits { IfOk result (λ version. version_fits version ≡ true) }
 {
     let magic = reader.u4()?;
     if magic != MAGIC {
@@ -55,11 +58,16 @@ fn file_pool(alloc: Global, reader: &mut Reader<'_>) -> Result<Pool, ReadFault>
 
 // The class that the next index names.
 #[tactic(auto, unfolding(jm_class_format::specs::ClassFile::class_name))]
-fn class_name(alloc: Global, pool: &Pool, reader: &mut Reader<'_>) -> Result<Name, ReadFault>
-    ensures { Gives (λ name. name) OutOfMemory result reader.new ((class_name pool.now).read reader.old) }
+fn class_name(
+    alloc: Global,
+    symbols: &mut Symbols<'_>,
+    reader: &mut Reader<'_>,
+) -> Result<Name, ReadFault>
+    ensures given { Gives (λ name. name) OutOfMemory result reader.new ((class_name symbols.old).read reader.old) }
+    ensures same { symbols.new ≡ symbols.old }
 {
     let index = reader.u2()?;
-    let name = class_name_at(alloc, pool, index)?;
+    let name = class_name_at(alloc, symbols, index)?;
     Ok(name)
 }
 
@@ -67,11 +75,12 @@ fn class_name(alloc: Global, pool: &Pool, reader: &mut Reader<'_>) -> Result<Nam
 #[tactic(auto, unfolding(jm_class_format::specs::ClassFile::superclass_at))]
 fn superclass_at(
     alloc: Global,
-    pool: &Pool,
+    symbols: &mut Symbols<'_>,
     name: &Name,
     index: u16,
 ) -> Result<Option<Name>, ReadFault>
-    ensures { GivesAll (λ name. name) OutOfMemory result (superclass_at pool.now name.now index) }
+    ensures given { GivesAll (λ name. name) OutOfMemory result (superclass_at symbols.old name.now index) }
+    ensures same { symbols.new ≡ symbols.old }
 {
     if index == 0 {
         return if name.is_object() {
@@ -80,33 +89,39 @@ fn superclass_at(
             Err(bad_index(0))
         };
     }
-    let superclass = class_name_at(alloc, pool, index)?;
+    let superclass = class_name_at(alloc, symbols, index)?;
     Ok(Some(superclass))
 }
 
 #[tactic(auto, unfolding(jm_class_format::specs::ClassFile::superclass))]
 fn superclass(
     alloc: Global,
-    pool: &Pool,
+    symbols: &mut Symbols<'_>,
     name: &Name,
     reader: &mut Reader<'_>,
 ) -> Result<Option<Name>, ReadFault>
-    ensures { Gives (λ name. name) OutOfMemory result reader.new ((superclass pool.now name.now).read reader.old) }
+    ensures given { Gives (λ name. name) OutOfMemory result reader.new ((superclass symbols.old name.now).read reader.old) }
+    ensures same { symbols.new ≡ symbols.old }
 {
     let index = reader.u2()?;
-    let superclass = superclass_at(alloc, pool, name, index)?;
+    let superclass = superclass_at(alloc, symbols, name, index)?;
     Ok(superclass)
 }
 
 // The interfaces, their count first.
 #[tactic(auto, unfolding(jm_class_format::specs::ClassFile::interfaces), using(jm_bytes::proofs::Loops::many_steps))]
-fn interfaces(alloc: Global, pool: &Pool, reader: &mut Reader<'_>) -> Result<Vec<Name>, ReadFault>
-    ensures { Gives (λ v. v.items) OutOfMemory result reader.new ((interfaces pool.now).read reader.old) }
+fn interfaces(
+    alloc: Global,
+    symbols: &mut Symbols<'_>,
+    reader: &mut Reader<'_>,
+) -> Result<Vec<Name>, ReadFault>
+    ensures given { Gives (λ v. v.items) OutOfMemory result reader.new ((interfaces symbols.old).read reader.old) }
+    ensures same { symbols.new ≡ symbols.old }
 {
     let count = reader.u2()?;
     let mut names = Vec::new(alloc);
     for _ in 0..count {
-        let name = class_name(alloc, pool, reader)?;
+        let name = class_name(alloc, symbols, reader)?;
         names.push(name)?;
     }
     Ok(names)
@@ -237,13 +252,18 @@ impl Model for Body {
 }
 
 #[tactic(auto, unfolding(jm_class_format::specs::ClassFile::head))]
-fn head_of(alloc: Global, pool: &Pool, reader: &mut Reader<'_>) -> Result<Head, ReadFault>
-    ensures { Gives (λ head. head) OutOfMemory result reader.new ((head pool.now).read reader.old) }
+fn head_of(
+    alloc: Global,
+    symbols: &mut Symbols<'_>,
+    reader: &mut Reader<'_>,
+) -> Result<Head, ReadFault>
+    ensures given { Gives (λ head. head) OutOfMemory result reader.new ((head symbols.old).read reader.old) }
+    ensures same { symbols.new ≡ symbols.old }
 {
     let access = flags(reader)?;
-    let name = class_name(alloc, pool, reader)?;
-    let superclass = superclass(alloc, pool, &name, reader)?;
-    let interfaces = interfaces(alloc, pool, reader)?;
+    let name = class_name(alloc, symbols, reader)?;
+    let superclass = superclass(alloc, symbols, &name, reader)?;
+    let interfaces = interfaces(alloc, symbols, reader)?;
     Ok(Head {
         access,
         name,
@@ -255,15 +275,16 @@ fn head_of(alloc: Global, pool: &Pool, reader: &mut Reader<'_>) -> Result<Head, 
 #[tactic(auto, unfolding(jm_class_format::specs::ClassFile::body))]
 fn body_of(
     alloc: Global,
-    pool: &Pool,
+    symbols: &mut Symbols<'_>,
     in_interface: bool,
     reader: &mut Reader<'_>,
 ) -> Result<Body, ReadFault>
-    ensures { Gives (λ body. body) OutOfMemory result reader.new ((body pool.now in_interface).read reader.old) }
+    ensures given { Gives (λ body. body) OutOfMemory result reader.new ((body symbols.old in_interface).read reader.old) }
+    ensures same { symbols.new ≡ symbols.old }
 {
-    let fields = fields(alloc, pool, reader)?;
-    let methods = methods(alloc, pool, in_interface, reader)?;
-    let source_file = class_attributes(alloc, pool, reader)?;
+    let fields = fields(alloc, symbols, reader)?;
+    let methods = methods(alloc, symbols, in_interface, reader)?;
+    let source_file = class_attributes(alloc, symbols.pool(), reader)?;
     Ok(Body {
         fields: Sequence::new(fields),
         methods: Sequence::new(methods),
@@ -286,33 +307,49 @@ fn parts_of(version: Version, head: Head, body: Body) -> ClassParts
     }
 }
 
-// Whether these are the parts of a class.
-fn fits(parts: &ClassParts) -> bool
-    ensures value { result ≡ class_fits parts.now }
-    ensures fits { IsTrue result → Fits parts.now }
+// The parts of a class of such a version, behind its pool. What is read keeps the rules of a
+// class, so that no test of them is left.
+#[tactic(auto, unfolding(crate::specs::BehindPool::behind_pool), using(crate::proofs::PartsFit::parts_fit))]
+fn parts(
+    alloc: Global,
+    version: Version,
+    symbols: &mut Symbols<'_>,
+    reader: &mut Reader<'_>,
+) -> Result<ClassParts, ReadFault>
+    requires { version_fits version ≡ true }
+    ensures given { Gives (λ parts. parts) OutOfMemory result reader.new ((behind_pool version symbols.old).read reader.old) }
 {
-    parts.fits()
+    let head = head_of(alloc, symbols, reader)?;
+    let in_interface = head.access.has(AccessFlags::INTERFACE);
+    let body = body_of(alloc, symbols, in_interface, reader)?;
+    Ok(parts_of(version, head, body))
+}
+
+fn parts_behind(
+    alloc: Global,
+    version: Version,
+    pool: &Pool,
+    reader: &mut Reader<'_>,
+) -> Result<ClassParts, ReadFault>
+    requires { version_fits version ≡ true }
+    ensures { Gives (λ parts. parts) OutOfMemory result reader.new ((behind_pool version pool.now).read reader.old) }
+{
+    let mut symbols = Symbols::new(alloc, pool);
+    parts(alloc, version, &mut symbols, reader)
 }
 
 // The parts of the class at the front of the bytes.
-#[tactic(auto, unfolding(jm_class_format::specs::ClassFile::class))]
+#[tactic(auto, unfolding(jm_class_format::specs::ClassFile::class, crate::specs::BehindPool::behind_pool))]
 fn class(alloc: Global, reader: &mut Reader<'_>) -> Result<ClassParts, ReadFault>
-    ensures given { Gives (λ parts. parts) OutOfMemory result reader.new (class.read reader.old) }
-    ensures fits { IfOk result Fits }
+    ensures { Gives (λ parts. parts) OutOfMemory result reader.new (class.read reader.old) }
 {
     let version = version(reader)?;
     let pool = file_pool(alloc, reader)?;
-    let head = head_of(alloc, &pool, reader)?;
-    let in_interface = head.access.has(AccessFlags::INTERFACE);
-    let body = body_of(alloc, &pool, in_interface, reader)?;
-    let parts = parts_of(version, head, body);
-    if !fits(&parts) {
-        return Err(ReadFault::BadAttribute);
-    }
-    Ok(parts)
+    parts_behind(alloc, version, &pool, reader)
 }
 
 // The class that all of the bytes spell.
+#[tactic(auto, using(jm_class_format::proofs::ReadFits::class_keeps_rules))]
 fn whole_class(alloc: Global, bytes: &[u8]) -> Result<Class, ReadFault>
     ensures { GivesAll (λ class. class) OutOfMemory result (class_file.read bytes.now) }
 {

@@ -11,6 +11,7 @@ ghost use Rattle.jm_class_format.specs.CodeAttribute.{whole_info, catch_type, ha
 use crate::attribute::{attribute_name, info};
 use crate::named_code::{class_name_at, instructions_of};
 use crate::places::Places;
+use crate::symbols::Symbols;
 use jm_bytes::Reader;
 use jm_class_format::{PlacedInstr, ReadFault};
 use jm_opcodes::{Starts, decode_placed};
@@ -22,13 +23,18 @@ use std::alloc::Global;
 
 // The class that is caught, or any for 0.
 #[tactic(auto, unfolding(jm_class_format::specs::CodeAttribute::catch_type))]
-fn catch_type(alloc: Global, pool: &Pool, index: u16) -> Result<Option<Name>, ReadFault>
-    ensures { GivesAll (λ name. name) OutOfMemory result (catch_type pool.now index) }
+fn catch_type(
+    alloc: Global,
+    symbols: &mut Symbols<'_>,
+    index: u16,
+) -> Result<Option<Name>, ReadFault>
+    ensures given { GivesAll (λ name. name) OutOfMemory result (catch_type symbols.old index) }
+    ensures same { symbols.new ≡ symbols.old }
 {
     if index == 0 {
         return Ok(None);
     }
-    let name = class_name_at(alloc, pool, index)?;
+    let name = class_name_at(alloc, symbols, index)?;
     Ok(Some(name))
 }
 
@@ -52,15 +58,16 @@ fn handler_places(places: &Places, reader: &mut Reader<'_>) -> Result<(u32, u32,
 #[tactic(auto, unfolding(jm_class_format::specs::CodeAttribute::handler))]
 fn handler(
     alloc: Global,
-    pool: &Pool,
+    symbols: &mut Symbols<'_>,
     places: &Places,
     reader: &mut Reader<'_>,
 ) -> Result<Handler, ReadFault>
-    ensures { Gives (λ handler. handler) OutOfMemory result reader.new ((handler pool.now places.now).read reader.old) }
+    ensures given { Gives (λ handler. handler) OutOfMemory result reader.new ((handler symbols.old places.now).read reader.old) }
+    ensures same { symbols.new ≡ symbols.old }
 {
     let (start, end, target) = handler_places(places, reader)?;
     let index = reader.u2().map_err(|_| ReadFault::BadAttribute)?;
-    let catch_type = catch_type(alloc, pool, index)?;
+    let catch_type = catch_type(alloc, symbols, index)?;
     Ok(Handler {
         start,
         end,
@@ -73,16 +80,17 @@ fn handler(
 #[tactic(auto, unfolding(jm_class_format::specs::CodeAttribute::handlers), using(jm_bytes::proofs::Loops::many_steps))]
 fn handlers(
     alloc: Global,
-    pool: &Pool,
+    symbols: &mut Symbols<'_>,
     places: &Places,
     reader: &mut Reader<'_>,
 ) -> Result<Vec<Handler>, ReadFault>
-    ensures { Gives (λ v. v.items) OutOfMemory result reader.new ((handlers pool.now places.now).read reader.old) }
+    ensures given { Gives (λ v. v.items) OutOfMemory result reader.new ((handlers symbols.old places.now).read reader.old) }
+    ensures same { symbols.new ≡ symbols.old }
 {
     let count = reader.u2().map_err(|_| ReadFault::BadAttribute)?;
     let mut handlers = Vec::new(alloc);
     for _ in 0..count {
-        let handler = handler(alloc, pool, places, reader)?;
+        let handler = handler(alloc, symbols, places, reader)?;
         handlers.push(handler)?;
     }
     Ok(handlers)
@@ -242,19 +250,20 @@ fn placed_instructions(
 #[tactic(auto, unfolding(jm_class_format::specs::CodeAttribute::code_body, jm_class_format::specs::CodeAttribute::code_tables))]
 pub fn code_body(
     alloc: Global,
-    pool: &Pool,
+    symbols: &mut Symbols<'_>,
     slots: u16,
     reader: &mut Reader<'_>,
 ) -> Result<Code, ReadFault>
-    ensures { Gives (λ code. code) OutOfMemory result reader.new ((code_body pool.now slots).read reader.old) }
+    ensures given { Gives (λ code. code) OutOfMemory result reader.new ((code_body symbols.old slots).read reader.old) }
+    ensures same { symbols.new ≡ symbols.old }
 {
     let (max_stack, max_locals) = limits(slots, reader)?;
     let size = code_length(reader)?;
     let (placed, starts) = placed_instructions(alloc, size, reader)?;
     let places = Places::new(starts, placed.len() as u32, size);
-    let instructions = instructions_of(alloc, pool, placed)?;
-    let handlers = handlers(alloc, pool, &places, reader)?;
-    let lines = code_attributes(alloc, pool, &places, reader)?;
+    let instructions = instructions_of(alloc, symbols, placed)?;
+    let handlers = handlers(alloc, symbols, &places, reader)?;
+    let lines = code_attributes(alloc, symbols.pool(), &places, reader)?;
     Ok(Code {
         max_stack,
         max_locals,

@@ -1,22 +1,21 @@
 // Fields (JVMS 4.5) with their ConstantValue (JVMS 4.7.2).
 
-ghost use Rattle.std.specs.Prelude.{◌≡◌};
+ghost use Rattle.std.specs.Prelude.{◌≡◌, IfOk};
 ghost use Rattle.jm_bytes.specs.Reading.{Gives, GivesAll, Takes, TakesAs};
 ghost use Rattle.jm_program.specs.Fits.{constant_is_of};
+ghost use Rattle.jm_pool.specs.Texts.{Stands};
 ghost use Rattle.jm_class_format.specs.declared.read_fault.ReadFault.TheVariants.{OutOfMemory, Cut};
 ghost use Rattle.jm_class_format.specs.PoolLookups.{entry_at};
 ghost use Rattle.jm_class_format.specs.CodeAttribute.{whole_info};
 ghost use Rattle.jm_class_format.specs.Members.{flags, text, constant_of, constant_value, field_attribute_info, field_attribute, field_attributes, field_name, field_type, field, fields};
 
 use crate::attribute::{attribute_name, info};
-use crate::named_code::{bad_index, text_of};
+use crate::named_code::{bad_index, text_at};
+use crate::symbols::{NameKind, Symbols};
 use jm_bytes::Reader;
 use jm_class_format::{Entry, ReadFault};
-use jm_pool::Pool;
-use jm_program::{
-    AccessFlags, BaseType, Boxed, Constant, ElementType, Field, FieldType, Name, is_text,
-};
-use jm_symbols::{field_name_of, field_type_of};
+use jm_pool::{Pool, Text};
+use jm_program::{AccessFlags, BaseType, Constant, ElementType, Field, FieldType, Name, is_text};
 use std::alloc::Global;
 
 /// The access flags, whichever they are.
@@ -28,27 +27,31 @@ pub fn flags(reader: &mut Reader<'_>) -> Result<AccessFlags, ReadFault>
     Ok(AccessFlags { bits })
 }
 
-/// The code units of the text that the next index names.
+/// The text that the next index names.
 #[tactic(auto, unfolding(jm_class_format::specs::Members::text, jm_class_format::specs::CodeAttribute::attribute_name))]
-pub fn text<'p>(pool: &'p Pool, reader: &mut Reader<'_>) -> Result<&'p [u16], ReadFault>
-    ensures { TakesAs (λ units. units.now) result reader.new ((text pool.now).read reader.old) }
+pub fn text<'p>(pool: &'p Pool, reader: &mut Reader<'_>) -> Result<Text<'p>, ReadFault>
+    ensures given { TakesAs (λ text. text.units.now) result reader.new ((text pool.now).read reader.old) }
+    ensures stands { IfOk result (Stands pool.now) }
 {
-    attribute_name(ReadFault::Cut, pool, reader)
+    let index = reader.u2()?;
+    let text = text_at(pool, index)?;
+    Ok(text)
 }
 
 // ---- the value that a static field begins with
 
 // The entry that a ConstantValue names (JVMS 4.7.2, table 4.7.2-A).
 #[tactic(auto, unfolding(jm_class_format::specs::Members::constant_of))]
-fn constant_of(alloc: Global, pool: &Pool, index: u16) -> Result<Constant, ReadFault>
-    ensures { GivesAll (λ constant. constant) OutOfMemory result (constant_of pool.now index (entry_at pool.now index)) }
+fn constant_of(alloc: Global, symbols: &mut Symbols<'_>, index: u16) -> Result<Constant, ReadFault>
+    ensures given { GivesAll (λ constant. constant) OutOfMemory result (constant_of symbols.old index (entry_at symbols.old index)) }
+    ensures same { symbols.new ≡ symbols.old }
 {
-    match pool.entry(index) {
+    match symbols.pool().entry(index) {
         Some(Entry::Integer(number)) => Ok(Constant::Int(*number)),
         Some(Entry::Long(number)) => Ok(Constant::Long(*number)),
         Some(Entry::String(text)) => {
-            let units = text_of(alloc, pool, *text)?;
-            let units = Boxed::new(alloc, units)?;
+            let text = text_at(symbols.pool(), *text)?;
+            let units = symbols.string(alloc, text)?;
             Ok(Constant::String(units))
         }
         _ => Err(bad_index(index)),
@@ -80,14 +83,15 @@ fn constant_is_of(constant: &Constant, element: &ElementType) -> bool
 #[tactic(auto, unfolding(jm_class_format::specs::Members::constant_value))]
 fn constant_value(
     alloc: Global,
-    pool: &Pool,
+    symbols: &mut Symbols<'_>,
     field_type: &FieldType,
     reader: &mut Reader<'_>,
 ) -> Result<Constant, ReadFault>
-    ensures { Gives (λ constant. constant) OutOfMemory result reader.new ((constant_value pool.now field_type.now).read reader.old) }
+    ensures given { Gives (λ constant. constant) OutOfMemory result reader.new ((constant_value symbols.old field_type.now).read reader.old) }
+    ensures same { symbols.new ≡ symbols.old }
 {
     let index = reader.u2().map_err(|_| ReadFault::BadAttribute)?;
-    let value = constant_of(alloc, pool, index)?;
+    let value = constant_of(alloc, symbols, index)?;
     if field_type.dimensions == 0 && constant_is_of(&value, &field_type.element) {
         Ok(value)
     } else {
@@ -99,15 +103,16 @@ fn constant_value(
 #[tactic(auto, using(crate::proofs::Attributes::whole_info_steps))]
 fn whole_constant(
     alloc: Global,
-    pool: &Pool,
+    symbols: &mut Symbols<'_>,
     field_type: &FieldType,
     reader: &mut Reader<'_>,
 ) -> Result<Constant, ReadFault>
-    ensures { Gives (λ constant. constant) OutOfMemory result reader.new ((whole_info Cut (constant_value pool.now field_type.now)).read reader.old) }
+    ensures given { Gives (λ constant. constant) OutOfMemory result reader.new ((whole_info Cut (constant_value symbols.old field_type.now)).read reader.old) }
+    ensures same { symbols.new ≡ symbols.old }
 {
     let bytes = info(ReadFault::Cut, reader)?;
     let mut inside = Reader::new(bytes);
-    let value = constant_value(alloc, pool, field_type, &mut inside)?;
+    let value = constant_value(alloc, symbols, field_type, &mut inside)?;
     if !inside.is_empty() {
         return Err(ReadFault::BadAttribute);
     }
@@ -118,19 +123,20 @@ fn whole_constant(
 #[tactic(auto, unfolding(jm_class_format::specs::Members::field_attribute_info))]
 fn field_attribute_info(
     alloc: Global,
-    pool: &Pool,
+    symbols: &mut Symbols<'_>,
     field_type: &FieldType,
     found: Option<Constant>,
     is_value: bool,
     reader: &mut Reader<'_>,
 ) -> Result<Option<Constant>, ReadFault>
-    ensures { Gives (λ found. found) OutOfMemory result reader.new ((field_attribute_info pool.now field_type.now found is_value).read reader.old) }
+    ensures given { Gives (λ found. found) OutOfMemory result reader.new ((field_attribute_info symbols.old field_type.now found is_value).read reader.old) }
+    ensures same { symbols.new ≡ symbols.old }
 {
     if is_value {
         if found.is_some() {
             return Err(ReadFault::BadAttribute);
         }
-        let value = whole_constant(alloc, pool, field_type, reader)?;
+        let value = whole_constant(alloc, symbols, field_type, reader)?;
         Ok(Some(value))
     } else {
         info(ReadFault::Cut, reader)?;
@@ -142,34 +148,36 @@ fn field_attribute_info(
 #[tactic(auto, unfolding(jm_class_format::specs::Members::field_attribute))]
 fn field_attribute(
     alloc: Global,
-    pool: &Pool,
+    symbols: &mut Symbols<'_>,
     access: AccessFlags,
     field_type: &FieldType,
     found: Option<Constant>,
     reader: &mut Reader<'_>,
 ) -> Result<Option<Constant>, ReadFault>
-    ensures { Gives (λ found. found) OutOfMemory result reader.new ((field_attribute pool.now access field_type.now found).read reader.old) }
+    ensures given { Gives (λ found. found) OutOfMemory result reader.new ((field_attribute symbols.old access field_type.now found).read reader.old) }
+    ensures same { symbols.new ≡ symbols.old }
 {
-    let name = attribute_name(ReadFault::Cut, pool, reader)?;
+    let name = attribute_name(ReadFault::Cut, symbols.pool(), reader)?;
     let is_value = access.has(AccessFlags::STATIC) && is_text(name, b"ConstantValue");
-    field_attribute_info(alloc, pool, field_type, found, is_value, reader)
+    field_attribute_info(alloc, symbols, field_type, found, is_value, reader)
 }
 
 // What the field begins with, its attributes' count first.
 #[tactic(auto, unfolding(jm_class_format::specs::Members::field_attributes), using(jm_bytes::proofs::Loops::repeated_steps))]
 fn field_attributes(
     alloc: Global,
-    pool: &Pool,
+    symbols: &mut Symbols<'_>,
     access: AccessFlags,
     field_type: &FieldType,
     reader: &mut Reader<'_>,
 ) -> Result<Option<Constant>, ReadFault>
-    ensures { Gives (λ found. found) OutOfMemory result reader.new ((field_attributes pool.now access field_type.now).read reader.old) }
+    ensures given { Gives (λ found. found) OutOfMemory result reader.new ((field_attributes symbols.old access field_type.now).read reader.old) }
+    ensures same { symbols.new ≡ symbols.old }
 {
     let count = reader.u2()?;
     let mut found = None;
     for _ in 0..count {
-        found = field_attribute(alloc, pool, access, field_type, found, reader)?;
+        found = field_attribute(alloc, symbols, access, field_type, found, reader)?;
     }
     Ok(found)
 }
@@ -177,31 +185,46 @@ fn field_attributes(
 // ---- the field
 
 #[tactic(auto, unfolding(jm_class_format::specs::Members::field_name))]
-fn field_name(alloc: Global, pool: &Pool, reader: &mut Reader<'_>) -> Result<Name, ReadFault>
-    ensures { Gives (λ name. name) OutOfMemory result reader.new ((field_name pool.now).read reader.old) }
+fn field_name(
+    alloc: Global,
+    symbols: &mut Symbols<'_>,
+    reader: &mut Reader<'_>,
+) -> Result<Name, ReadFault>
+    ensures given { Gives (λ name. name) OutOfMemory result reader.new ((field_name symbols.old).read reader.old) }
+    ensures same { symbols.new ≡ symbols.old }
 {
-    let units = text(pool, reader)?;
-    let name = field_name_of(alloc, units)?;
+    let text = text(symbols.pool(), reader)?;
+    let name = symbols.name(alloc, NameKind::Field, text)?;
     Ok(name)
 }
 
 #[tactic(auto, unfolding(jm_class_format::specs::Members::field_type))]
-fn field_type(alloc: Global, pool: &Pool, reader: &mut Reader<'_>) -> Result<FieldType, ReadFault>
-    ensures { Gives (λ t. t) OutOfMemory result reader.new ((field_type pool.now).read reader.old) }
+fn field_type(
+    alloc: Global,
+    symbols: &mut Symbols<'_>,
+    reader: &mut Reader<'_>,
+) -> Result<FieldType, ReadFault>
+    ensures given { Gives (λ t. t) OutOfMemory result reader.new ((field_type symbols.old).read reader.old) }
+    ensures same { symbols.new ≡ symbols.old }
 {
-    let units = text(pool, reader)?;
-    let field_type = field_type_of(alloc, units)?;
+    let text = text(symbols.pool(), reader)?;
+    let field_type = symbols.field_type(alloc, text)?;
     Ok(field_type)
 }
 
 #[tactic(auto, unfolding(jm_class_format::specs::Members::field))]
-fn field(alloc: Global, pool: &Pool, reader: &mut Reader<'_>) -> Result<Field, ReadFault>
-    ensures { Gives (λ field. field) OutOfMemory result reader.new ((field pool.now).read reader.old) }
+fn field(
+    alloc: Global,
+    symbols: &mut Symbols<'_>,
+    reader: &mut Reader<'_>,
+) -> Result<Field, ReadFault>
+    ensures given { Gives (λ field. field) OutOfMemory result reader.new ((field symbols.old).read reader.old) }
+    ensures same { symbols.new ≡ symbols.old }
 {
     let flags = flags(reader)?;
-    let name = field_name(alloc, pool, reader)?;
-    let descriptor = field_type(alloc, pool, reader)?;
-    let constant = field_attributes(alloc, pool, flags, &descriptor, reader)?;
+    let name = field_name(alloc, symbols, reader)?;
+    let descriptor = field_type(alloc, symbols, reader)?;
+    let constant = field_attributes(alloc, symbols, flags, &descriptor, reader)?;
     Ok(Field {
         flags,
         name,
@@ -212,13 +235,18 @@ fn field(alloc: Global, pool: &Pool, reader: &mut Reader<'_>) -> Result<Field, R
 
 /// The fields of a class, their count first.
 #[tactic(auto, unfolding(jm_class_format::specs::Members::fields), using(jm_bytes::proofs::Loops::many_steps))]
-pub fn fields(alloc: Global, pool: &Pool, reader: &mut Reader<'_>) -> Result<Vec<Field>, ReadFault>
-    ensures { Gives (λ v. v.items) OutOfMemory result reader.new ((fields pool.now).read reader.old) }
+pub fn fields(
+    alloc: Global,
+    symbols: &mut Symbols<'_>,
+    reader: &mut Reader<'_>,
+) -> Result<Vec<Field>, ReadFault>
+    ensures given { Gives (λ v. v.items) OutOfMemory result reader.new ((fields symbols.old).read reader.old) }
+    ensures same { symbols.new ≡ symbols.old }
 {
     let count = reader.u2()?;
     let mut fields = Vec::new(alloc);
     for _ in 0..count {
-        let field = field(alloc, pool, reader)?;
+        let field = field(alloc, symbols, reader)?;
         fields.push(field)?;
     }
     Ok(fields)

@@ -13,7 +13,9 @@ mod code_attribute;
 mod field;
 mod method;
 mod named_code;
+mod operand;
 mod places;
+mod symbols;
 
 pub use class::read_class;
 pub use jm_class_format::{CodeFault, LeftOutPart, PoolFault, ReadFault};

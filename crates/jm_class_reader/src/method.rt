@@ -10,11 +10,10 @@ ghost use Rattle.jm_class_format.specs.Members.{method_flags, method_name, own_r
 use crate::attribute::{attribute_name, info};
 use crate::code_attribute::code_body;
 use crate::field::{flags, text};
+use crate::symbols::{NameKind, Symbols};
 use jm_bytes::Reader;
 use jm_class_format::{LeftOutPart, ReadFault};
-use jm_pool::Pool;
 use jm_program::{AccessFlags, Code, Method, MethodDescriptor, Name, is_text};
-use jm_symbols::{method_name_of, method_type_of};
 use std::alloc::Global;
 
 // ---- flags, name and type
@@ -41,14 +40,15 @@ fn method_flags(reader: &mut Reader<'_>) -> Result<AccessFlags, ReadFault>
 #[tactic(auto, unfolding(jm_class_format::specs::Members::method_name))]
 fn method_name(
     alloc: Global,
-    pool: &Pool,
+    symbols: &mut Symbols<'_>,
     access: AccessFlags,
     reader: &mut Reader<'_>,
 ) -> Result<Name, ReadFault>
-    ensures { Gives (λ name. name) OutOfMemory result reader.new ((method_name pool.now access).read reader.old) }
+    ensures given { Gives (λ name. name) OutOfMemory result reader.new ((method_name symbols.old access).read reader.old) }
+    ensures same { symbols.new ≡ symbols.old }
 {
-    let units = text(pool, reader)?;
-    let name = method_name_of(alloc, units)?;
+    let text = text(symbols.pool(), reader)?;
+    let name = symbols.name(alloc, NameKind::Method, text)?;
     if access.has(AccessFlags::ABSTRACT) && (name.is_init() || name.is_clinit()) {
         return Err(ReadFault::BadAttribute);
     }
@@ -68,14 +68,19 @@ fn own_receiver(access: AccessFlags) -> u8
 
 // A method's flags, name and type, without code; `finalize()V` is left out.
 #[tactic(auto, unfolding(jm_class_format::specs::Members::declaration))]
-fn declaration(alloc: Global, pool: &Pool, reader: &mut Reader<'_>) -> Result<Method, ReadFault>
-    ensures given { Gives (λ method. method) OutOfMemory result reader.new ((declaration pool.now).read reader.old) }
+fn declaration(
+    alloc: Global,
+    symbols: &mut Symbols<'_>,
+    reader: &mut Reader<'_>,
+) -> Result<Method, ReadFault>
+    ensures given { Gives (λ method. method) OutOfMemory result reader.new ((declaration symbols.old).read reader.old) }
+    ensures same { symbols.new ≡ symbols.old }
     ensures few { IfOk result (λ method. method_slots method ≤ 255) }
 {
     let flags = method_flags(reader)?;
-    let name = method_name(alloc, pool, flags, reader)?;
-    let units = text(pool, reader)?;
-    let descriptor = method_type_of(alloc, own_receiver(flags), units)?;
+    let name = method_name(alloc, symbols, flags, reader)?;
+    let text = text(symbols.pool(), reader)?;
+    let descriptor = symbols.method_type(alloc, own_receiver(flags), text)?;
     let method = Method {
         flags,
         name,
@@ -114,15 +119,16 @@ fn may_have_code(
 #[tactic(auto, using(crate::proofs::Attributes::whole_info_steps))]
 fn whole_code(
     alloc: Global,
-    pool: &Pool,
+    symbols: &mut Symbols<'_>,
     slots: u16,
     reader: &mut Reader<'_>,
 ) -> Result<Code, ReadFault>
-    ensures { Gives (λ code. code) OutOfMemory result reader.new ((whole_info Cut (code_body pool.now slots)).read reader.old) }
+    ensures given { Gives (λ code. code) OutOfMemory result reader.new ((whole_info Cut (code_body symbols.old slots)).read reader.old) }
+    ensures same { symbols.new ≡ symbols.old }
 {
     let bytes = info(ReadFault::Cut, reader)?;
     let mut inside = Reader::new(bytes);
-    let code = code_body(alloc, pool, slots, &mut inside)?;
+    let code = code_body(alloc, symbols, slots, &mut inside)?;
     if !inside.is_empty() {
         return Err(ReadFault::BadAttribute);
     }
@@ -141,7 +147,7 @@ fn slots_of(method: &Method) -> u16
 #[tactic(auto, unfolding(jm_class_format::specs::Members::method_attribute_info))]
 fn method_attribute_info(
     alloc: Global,
-    pool: &Pool,
+    symbols: &mut Symbols<'_>,
     in_interface: bool,
     method: &Method,
     found: Option<Code>,
@@ -149,11 +155,12 @@ fn method_attribute_info(
     reader: &mut Reader<'_>,
 ) -> Result<Option<Code>, ReadFault>
     requires { method_slots method.now ≤ 255 }
-    ensures { Gives (λ found. found) OutOfMemory result reader.new ((method_attribute_info pool.now in_interface method.now found is_code).read reader.old) }
+    ensures given { Gives (λ found. found) OutOfMemory result reader.new ((method_attribute_info symbols.old in_interface method.now found is_code).read reader.old) }
+    ensures same { symbols.new ≡ symbols.old }
 {
     if is_code {
         may_have_code(in_interface, method, &found, reader)?;
-        let code = whole_code(alloc, pool, slots_of(method), reader)?;
+        let code = whole_code(alloc, symbols, slots_of(method), reader)?;
         Ok(Some(code))
     } else {
         info(ReadFault::Cut, reader)?;
@@ -165,36 +172,38 @@ fn method_attribute_info(
 #[tactic(auto, unfolding(jm_class_format::specs::Members::method_attribute))]
 fn method_attribute(
     alloc: Global,
-    pool: &Pool,
+    symbols: &mut Symbols<'_>,
     in_interface: bool,
     method: &Method,
     found: Option<Code>,
     reader: &mut Reader<'_>,
 ) -> Result<Option<Code>, ReadFault>
     requires { method_slots method.now ≤ 255 }
-    ensures { Gives (λ found. found) OutOfMemory result reader.new ((method_attribute pool.now in_interface method.now found).read reader.old) }
+    ensures given { Gives (λ found. found) OutOfMemory result reader.new ((method_attribute symbols.old in_interface method.now found).read reader.old) }
+    ensures same { symbols.new ≡ symbols.old }
 {
-    let name = attribute_name(ReadFault::Cut, pool, reader)?;
+    let name = attribute_name(ReadFault::Cut, symbols.pool(), reader)?;
     let is_code = is_text(name, b"Code");
-    method_attribute_info(alloc, pool, in_interface, method, found, is_code, reader)
+    method_attribute_info(alloc, symbols, in_interface, method, found, is_code, reader)
 }
 
 // The method's code, its attributes' count first.
 #[tactic(auto, unfolding(jm_class_format::specs::Members::method_attributes), using(jm_bytes::proofs::Loops::repeated_steps))]
 fn method_attributes(
     alloc: Global,
-    pool: &Pool,
+    symbols: &mut Symbols<'_>,
     in_interface: bool,
     method: &Method,
     reader: &mut Reader<'_>,
 ) -> Result<Option<Code>, ReadFault>
     requires { method_slots method.now ≤ 255 }
-    ensures { Gives (λ found. found) OutOfMemory result reader.new ((method_attributes pool.now in_interface method.now).read reader.old) }
+    ensures given { Gives (λ found. found) OutOfMemory result reader.new ((method_attributes symbols.old in_interface method.now).read reader.old) }
+    ensures same { symbols.new ≡ symbols.old }
 {
     let count = reader.u2()?;
     let mut found = None;
     for _ in 0..count {
-        found = method_attribute(alloc, pool, in_interface, method, found, reader)?;
+        found = method_attribute(alloc, symbols, in_interface, method, found, reader)?;
     }
     Ok(found)
 }
@@ -205,14 +214,15 @@ fn method_attributes(
 #[tactic(auto, unfolding(jm_class_format::specs::Members::method))]
 fn method(
     alloc: Global,
-    pool: &Pool,
+    symbols: &mut Symbols<'_>,
     in_interface: bool,
     reader: &mut Reader<'_>,
 ) -> Result<Method, ReadFault>
-    ensures { Gives (λ method. method) OutOfMemory result reader.new ((method pool.now in_interface).read reader.old) }
+    ensures given { Gives (λ method. method) OutOfMemory result reader.new ((method symbols.old in_interface).read reader.old) }
+    ensures same { symbols.new ≡ symbols.old }
 {
-    let mut method = declaration(alloc, pool, reader)?;
-    let code = method_attributes(alloc, pool, in_interface, &method, reader)?;
+    let mut method = declaration(alloc, symbols, reader)?;
+    let code = method_attributes(alloc, symbols, in_interface, &method, reader)?;
     if code.is_none() && !method.flags.has(AccessFlags::ABSTRACT) {
         return Err(ReadFault::BadAttribute);
     }
@@ -224,16 +234,17 @@ fn method(
 #[tactic(auto, unfolding(jm_class_format::specs::Members::methods), using(jm_bytes::proofs::Loops::many_steps))]
 pub fn methods(
     alloc: Global,
-    pool: &Pool,
+    symbols: &mut Symbols<'_>,
     in_interface: bool,
     reader: &mut Reader<'_>,
 ) -> Result<Vec<Method>, ReadFault>
-    ensures { Gives (λ v. v.items) OutOfMemory result reader.new ((methods pool.now in_interface).read reader.old) }
+    ensures given { Gives (λ v. v.items) OutOfMemory result reader.new ((methods symbols.old in_interface).read reader.old) }
+    ensures same { symbols.new ≡ symbols.old }
 {
     let count = reader.u2()?;
     let mut methods = Vec::new(alloc);
     for _ in 0..count {
-        let method = method(alloc, pool, in_interface, reader)?;
+        let method = method(alloc, symbols, in_interface, reader)?;
         methods.push(method)?;
     }
     Ok(methods)

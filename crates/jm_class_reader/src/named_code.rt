@@ -1,20 +1,24 @@
 // Instructions with what their indexes name (JVMS 4.9.1, 6.5).
 
-ghost use Rattle.std.specs.Prelude.{◌≡◌};
+ghost use Rattle.std.specs.Prelude.{◌≡◌, IfOk};
 ghost use Rattle.std.specs.Option.{ok_or, option_map};
 ghost use Rattle.jm_bytes.specs.Reading.{GivesAll, TakesAll, each};
 ghost use Rattle.jm_class_format.specs.declared.read_fault.ReadFault.TheVariants.{OutOfMemory};
 ghost use Rattle.jm_class_format.specs.declared.instruction.IndexedInstr.TheVariants as indexed;
 ghost use Rattle.jm_class_format.specs.FileFaults.{bad_index};
 ghost use Rattle.jm_class_format.specs.PoolLookups.{entry_at, text_at, class_at};
+ghost use Rattle.jm_pool.specs.Texts.{Stands};
+ghost use Rattle.jm_class_reader.specs.Known.{indexed_of};
 ghost use Rattle.jm_class_format.specs.NamedCode.{loaded, loaded_long, calls_interface, class_method, counted, interface_method, class_ref_at, type_operand, class_name_at, named, placed_named};
 
+use crate::operand::Operand;
+use crate::symbols::{NameKind, Symbols};
 use jm_class_format::{Entry, IndexedInstr, LeftOutPart, PlacedInstr, PoolFault, ReadFault};
-use jm_pool::{Member, Pool};
+use jm_pool::{Member, Pool, Text};
 use jm_program::{
     Boxed, ClassRef, Constant, FieldOp, Instr, InvokeOp, MethodRef, Name, Sequence, TypeOp,
 };
-use jm_symbols::{class_name_of, class_ref_of, element_ref, field_ref_of, method_ref_of};
+use jm_symbols::element_ref;
 use std::alloc::Global;
 
 /// The refusal of an index that names no entry of the kind that its place needs.
@@ -24,45 +28,48 @@ pub fn bad_index(index: u16) -> ReadFault
     ReadFault::Pool(PoolFault::BadIndex(index))
 }
 
-/// The code units of the text that an index names (JVMS 4.4.7).
-pub fn text_at<'p>(pool: &'p Pool, index: u16) -> Result<&'p [u16], ReadFault>
-    ensures { TakesAll (λ units. units.now) result (ok_or (text_at pool.now index) (bad_index index)) }
+/// The text that an index names (JVMS 4.4.7).
+pub fn text_at<'p>(pool: &'p Pool, index: u16) -> Result<Text<'p>, ReadFault>
+    ensures given { TakesAll (λ text. text.units.now) result (ok_or (text_at pool.now index) (bad_index index)) }
+    ensures stands { IfOk result (Stands pool.now) }
 {
     match pool.text(index) {
-        Some(units) => Ok(units),
+        Some(units) => Ok(Text { index, units }),
         None => Err(bad_index(index)),
     }
 }
 
-/// A copy of them.
+/// A copy of its code units.
 pub fn text_of(alloc: Global, pool: &Pool, index: u16) -> Result<Sequence<u16>, ReadFault>
     ensures { GivesAll (λ units. units) OutOfMemory result (ok_or (text_at pool.now index) (bad_index index)) }
 {
-    let units = text_at(pool, index)?;
-    let units = Vec::from_slice(alloc, units)?;
+    let text = text_at(pool, index)?;
+    let units = Vec::from_slice(alloc, text.units)?;
     Ok(Sequence::new(units))
 }
 
-// The code units of the class's name, or of the array type, that an index names (JVMS 4.4.1).
-fn class_at<'p>(pool: &'p Pool, index: u16) -> Result<&'p [u16], ReadFault>
-    ensures { TakesAll (λ units. units.now) result (ok_or (class_at pool.now index) (bad_index index)) }
+// The class's name, or the array type, that an index names (JVMS 4.4.1).
+fn class_at<'p>(pool: &'p Pool, index: u16) -> Result<Text<'p>, ReadFault>
+    ensures given { TakesAll (λ text. text.units.now) result (ok_or (class_at pool.now index) (bad_index index)) }
+    ensures stands { IfOk result (Stands pool.now) }
 {
     match pool.class(index) {
-        Some(units) => Ok(units),
+        Some(text) => Ok(text),
         None => Err(bad_index(index)),
     }
 }
 
 // What `ldc` pushes: an int, or the string of an entry's text (JVMS 6.5 ldc).
 #[tactic(auto, unfolding(jm_class_format::specs::NamedCode::loaded))]
-fn loaded(alloc: Global, pool: &Pool, index: u16) -> Result<Constant, ReadFault>
-    ensures { GivesAll (λ constant. constant) OutOfMemory result (loaded pool.now index (entry_at pool.now index)) }
+fn loaded(alloc: Global, symbols: &mut Symbols<'_>, index: u16) -> Result<Constant, ReadFault>
+    ensures given { GivesAll (λ constant. constant) OutOfMemory result (loaded symbols.old index (entry_at symbols.old index)) }
+    ensures same { symbols.new ≡ symbols.old }
 {
-    match pool.entry(index) {
+    match symbols.pool().entry(index) {
         Some(Entry::Integer(number)) => Ok(Constant::Int(*number)),
         Some(Entry::String(text)) => {
-            let units = text_of(alloc, pool, *text)?;
-            let units = Boxed::new(alloc, units)?;
+            let text = text_at(symbols.pool(), *text)?;
+            let units = symbols.string(alloc, text)?;
             Ok(Constant::String(units))
         }
         Some(Entry::Class(_)) => Err(ReadFault::LeftOut(LeftOutPart::LdcClass)),
@@ -83,7 +90,7 @@ fn loaded_long(pool: &Pool, index: u16) -> Result<Constant, ReadFault>
 
 // Whether `invokespecial` or `invokestatic` names a method of an interface.
 fn calls_interface(op: InvokeOp, texts: Option<Member<'_>>) -> bool
-    ensures { result ≡ calls_interface op (option_map (λ m. (m.class.now, m.name.now, m.descriptor.now)) texts.entry) }
+    ensures { result ≡ calls_interface op (option_map (λ m. (m.class.units.now, m.name.units.now, m.descriptor.units.now)) texts.entry) }
 {
     match (op, texts) {
         (InvokeOp::Special | InvokeOp::Static, Some(_)) => true,
@@ -95,17 +102,18 @@ fn calls_interface(op: InvokeOp, texts: Option<Member<'_>>) -> bool
 #[tactic(auto, unfolding(jm_class_format::specs::NamedCode::class_method))]
 fn class_method(
     alloc: Global,
-    pool: &Pool,
+    symbols: &mut Symbols<'_>,
     op: InvokeOp,
     index: u16,
 ) -> Result<MethodRef, ReadFault>
-    ensures { GivesAll (λ method. method) OutOfMemory result (class_method pool.now op index) }
+    ensures given { GivesAll (λ method. method) OutOfMemory result (class_method symbols.old op index) }
+    ensures same { symbols.new ≡ symbols.old }
 {
-    if calls_interface(op, pool.interface_method(index)) {
+    if calls_interface(op, symbols.pool().interface_method(index)) {
         return Err(ReadFault::LeftOut(LeftOutPart::InterfaceMethod));
     }
-    let texts = pool.method(index).ok_or(bad_index(index))?;
-    let method = method_ref_of(alloc, op, texts.class, texts.name, texts.descriptor)?;
+    let texts = symbols.pool().method(index).ok_or(bad_index(index))?;
+    let method = symbols.method_ref(alloc, op, texts)?;
     Ok(method)
 }
 
@@ -129,40 +137,45 @@ fn counted(count: u8, last: u8, method: MethodRef) -> Result<MethodRef, ReadFaul
 #[tactic(auto, unfolding(jm_class_format::specs::NamedCode::interface_method))]
 fn interface_method(
     alloc: Global,
-    pool: &Pool,
+    symbols: &mut Symbols<'_>,
     index: u16,
     count: u8,
     last: u8,
 ) -> Result<MethodRef, ReadFault>
-    ensures { GivesAll (λ method. method) OutOfMemory result (interface_method pool.now index count last) }
+    ensures given { GivesAll (λ method. method) OutOfMemory result (interface_method symbols.old index count last) }
+    ensures same { symbols.new ≡ symbols.old }
 {
-    let texts = pool.interface_method(index).ok_or(bad_index(index))?;
-    let method = method_ref_of(
-        alloc,
-        InvokeOp::Interface,
-        texts.class,
-        texts.name,
-        texts.descriptor,
-    )?;
+    let texts = symbols
+        .pool()
+        .interface_method(index)
+        .ok_or(bad_index(index))?;
+    let method = symbols.method_ref(alloc, InvokeOp::Interface, texts)?;
     let method = counted(count, last, method)?;
     Ok(method)
 }
 
 // The class, the interface or the array type that an index names.
 #[tactic(auto, unfolding(jm_class_format::specs::NamedCode::class_ref_at))]
-fn class_ref_at(alloc: Global, pool: &Pool, index: u16) -> Result<ClassRef, ReadFault>
-    ensures { GivesAll (λ class. class) OutOfMemory result (class_ref_at pool.now index) }
+fn class_ref_at(alloc: Global, symbols: &mut Symbols<'_>, index: u16) -> Result<ClassRef, ReadFault>
+    ensures given { GivesAll (λ class. class) OutOfMemory result (class_ref_at symbols.old index) }
+    ensures same { symbols.new ≡ symbols.old }
 {
-    let units = class_at(pool, index)?;
-    let class = class_ref_of(alloc, units)?;
+    let text = class_at(symbols.pool(), index)?;
+    let class = symbols.class_ref(alloc, text)?;
     Ok(class)
 }
 
 #[tactic(auto, unfolding(jm_class_format::specs::NamedCode::type_operand))]
-fn type_operand(alloc: Global, pool: &Pool, op: TypeOp, index: u16) -> Result<ClassRef, ReadFault>
-    ensures { GivesAll (λ class. class) OutOfMemory result (type_operand pool.now op index) }
+fn type_operand(
+    alloc: Global,
+    symbols: &mut Symbols<'_>,
+    op: TypeOp,
+    index: u16,
+) -> Result<ClassRef, ReadFault>
+    ensures given { GivesAll (λ class. class) OutOfMemory result (type_operand symbols.old op index) }
+    ensures same { symbols.new ≡ symbols.old }
 {
-    let class = class_ref_at(alloc, pool, index)?;
+    let class = class_ref_at(alloc, symbols, index)?;
     match op {
         TypeOp::NewArray => {
             let class = element_ref(class)?;
@@ -174,20 +187,26 @@ fn type_operand(alloc: Global, pool: &Pool, op: TypeOp, index: u16) -> Result<Cl
 
 /// The class or the interface that an index names (JVMS 4.4.1).
 #[tactic(auto, unfolding(jm_class_format::specs::NamedCode::class_name_at))]
-pub fn class_name_at(alloc: Global, pool: &Pool, index: u16) -> Result<Name, ReadFault>
-    ensures { GivesAll (λ name. name) OutOfMemory result (class_name_at pool.now index) }
+pub fn class_name_at(
+    alloc: Global,
+    symbols: &mut Symbols<'_>,
+    index: u16,
+) -> Result<Name, ReadFault>
+    ensures given { GivesAll (λ name. name) OutOfMemory result (class_name_at symbols.old index) }
+    ensures same { symbols.new ≡ symbols.old }
 {
-    let units = class_at(pool, index)?;
-    let name = class_name_of(alloc, units)?;
+    let text = class_at(symbols.pool(), index)?;
+    let name = symbols.name(alloc, NameKind::Class, text)?;
     Ok(name)
 }
 
 // `ldc` or `ldc_w` with its constant.
 #[tactic(auto, unfolding(jm_class_format::specs::NamedCode::named))]
-fn named_constant(alloc: Global, pool: &Pool, index: u16) -> Result<Instr, ReadFault>
-    ensures { GivesAll (λ instr. instr) OutOfMemory result (named pool.now (indexed.Constant index)) }
+fn named_constant(alloc: Global, symbols: &mut Symbols<'_>, index: u16) -> Result<Instr, ReadFault>
+    ensures given { GivesAll (λ instr. instr) OutOfMemory result (named symbols.old (indexed.Constant index)) }
+    ensures same { symbols.new ≡ symbols.old }
 {
-    let constant = loaded(alloc, pool, index)?;
+    let constant = loaded(alloc, symbols, index)?;
     Ok(Instr::Constant(constant))
 }
 
@@ -202,21 +221,33 @@ fn named_long(pool: &Pool, index: u16) -> Result<Instr, ReadFault>
 
 // An instruction with the field that its index names.
 #[tactic(auto, unfolding(jm_class_format::specs::NamedCode::named))]
-fn named_field(alloc: Global, pool: &Pool, op: FieldOp, index: u16) -> Result<Instr, ReadFault>
-    ensures { GivesAll (λ instr. instr) OutOfMemory result (named pool.now (indexed.Field op index)) }
+fn named_field(
+    alloc: Global,
+    symbols: &mut Symbols<'_>,
+    op: FieldOp,
+    index: u16,
+) -> Result<Instr, ReadFault>
+    ensures given { GivesAll (λ instr. instr) OutOfMemory result (named symbols.old (indexed.Field op index)) }
+    ensures same { symbols.new ≡ symbols.old }
 {
-    let texts = pool.field(index).ok_or(bad_index(index))?;
-    let field = field_ref_of(alloc, texts.class, texts.name, texts.descriptor)?;
+    let texts = symbols.pool().field(index).ok_or(bad_index(index))?;
+    let field = symbols.field_ref(alloc, texts)?;
     let field = Boxed::new(alloc, field)?;
     Ok(Instr::Field(op, field))
 }
 
 // An instruction with the method of a class that its index names.
 #[tactic(auto, unfolding(jm_class_format::specs::NamedCode::named))]
-fn named_method(alloc: Global, pool: &Pool, op: InvokeOp, index: u16) -> Result<Instr, ReadFault>
-    ensures { GivesAll (λ instr. instr) OutOfMemory result (named pool.now (indexed.Invoke op index)) }
+fn named_method(
+    alloc: Global,
+    symbols: &mut Symbols<'_>,
+    op: InvokeOp,
+    index: u16,
+) -> Result<Instr, ReadFault>
+    ensures given { GivesAll (λ instr. instr) OutOfMemory result (named symbols.old (indexed.Invoke op index)) }
+    ensures same { symbols.new ≡ symbols.old }
 {
-    let method = class_method(alloc, pool, op, index)?;
+    let method = class_method(alloc, symbols, op, index)?;
     let method = Boxed::new(alloc, method)?;
     Ok(Instr::Invoke(op, method))
 }
@@ -225,42 +256,90 @@ fn named_method(alloc: Global, pool: &Pool, op: InvokeOp, index: u16) -> Result<
 #[tactic(auto, unfolding(jm_class_format::specs::NamedCode::named))]
 fn named_interface_method(
     alloc: Global,
-    pool: &Pool,
+    symbols: &mut Symbols<'_>,
     index: u16,
     count: u8,
     last: u8,
 ) -> Result<Instr, ReadFault>
-    ensures { GivesAll (λ instr. instr) OutOfMemory result (named pool.now (indexed.InvokeInterface index count last)) }
+    ensures given { GivesAll (λ instr. instr) OutOfMemory result (named symbols.old (indexed.InvokeInterface index count last)) }
+    ensures same { symbols.new ≡ symbols.old }
 {
-    let method = interface_method(alloc, pool, index, count, last)?;
+    let method = interface_method(alloc, symbols, index, count, last)?;
     let method = Boxed::new(alloc, method)?;
     Ok(Instr::Invoke(InvokeOp::Interface, method))
 }
 
 // `new` with its class.
 #[tactic(auto, unfolding(jm_class_format::specs::NamedCode::named))]
-fn named_class(alloc: Global, pool: &Pool, index: u16) -> Result<Instr, ReadFault>
-    ensures { GivesAll (λ instr. instr) OutOfMemory result (named pool.now (indexed.New index)) }
+fn named_class(alloc: Global, symbols: &mut Symbols<'_>, index: u16) -> Result<Instr, ReadFault>
+    ensures given { GivesAll (λ instr. instr) OutOfMemory result (named symbols.old (indexed.New index)) }
+    ensures same { symbols.new ≡ symbols.old }
 {
-    let name = class_name_at(alloc, pool, index)?;
+    let name = class_name_at(alloc, symbols, index)?;
     let name = Boxed::new(alloc, name)?;
     Ok(Instr::New(name))
 }
 
 // An instruction with the type that its index names.
 #[tactic(auto, unfolding(jm_class_format::specs::NamedCode::named))]
-fn named_type(alloc: Global, pool: &Pool, op: TypeOp, index: u16) -> Result<Instr, ReadFault>
-    ensures { GivesAll (λ instr. instr) OutOfMemory result (named pool.now (indexed.Type op index)) }
+fn named_type(
+    alloc: Global,
+    symbols: &mut Symbols<'_>,
+    op: TypeOp,
+    index: u16,
+) -> Result<Instr, ReadFault>
+    ensures given { GivesAll (λ instr. instr) OutOfMemory result (named symbols.old (indexed.Type op index)) }
+    ensures same { symbols.new ≡ symbols.old }
 {
-    let class = type_operand(alloc, pool, op, index)?;
+    let class = type_operand(alloc, symbols, op, index)?;
     let class = Boxed::new(alloc, class)?;
     Ok(Instr::Type(op, class))
 }
 
 // An instruction with what its index names.
+fn named_anew(
+    alloc: Global,
+    symbols: &mut Symbols<'_>,
+    operand: Operand,
+) -> Result<Instr, ReadFault>
+    ensures given { GivesAll (λ instr. instr) OutOfMemory result (named symbols.old (indexed_of operand)) }
+    ensures same { symbols.new ≡ symbols.old }
+{
+    match operand {
+        Operand::Constant(index) => named_constant(alloc, symbols, index),
+        Operand::Field(op, index) => named_field(alloc, symbols, op, index),
+        Operand::Invoke(op, index) => named_method(alloc, symbols, op, index),
+        Operand::InvokeInterface(index, count, last) => {
+            named_interface_method(alloc, symbols, index, count, last)
+        }
+        Operand::New(index) => named_class(alloc, symbols, index),
+        Operand::Type(op, index) => named_type(alloc, symbols, op, index),
+    }
+}
+
+// The same, which is made once and shared.
+fn named_once(
+    alloc: Global,
+    symbols: &mut Symbols<'_>,
+    operand: Operand,
+) -> Result<Instr, ReadFault>
+    ensures given { GivesAll (λ instr. instr) OutOfMemory result (named symbols.old (indexed_of operand)) }
+    ensures same { symbols.new ≡ symbols.old }
+{
+    if let Some(known) = symbols.instruction(operand) {
+        let instr = known.share()?;
+        return Ok(instr);
+    }
+    let instr = named_anew(alloc, symbols, operand)?;
+    let shared = instr.share()?;
+    symbols.keep(operand, shared)?;
+    Ok(instr)
+}
+
 #[tactic(auto, unfolding(jm_class_format::specs::NamedCode::named))]
-fn named(alloc: Global, pool: &Pool, instr: IndexedInstr) -> Result<Instr, ReadFault>
-    ensures { GivesAll (λ instr. instr) OutOfMemory result (named pool.now instr) }
+fn named(alloc: Global, symbols: &mut Symbols<'_>, instr: IndexedInstr) -> Result<Instr, ReadFault>
+    ensures given { GivesAll (λ instr. instr) OutOfMemory result (named symbols.old instr) }
+    ensures same { symbols.new ≡ symbols.old }
 {
     match instr {
         IndexedInstr::Plain(plain) => Ok(Instr::Plain(plain)),
@@ -268,15 +347,15 @@ fn named(alloc: Global, pool: &Pool, instr: IndexedInstr) -> Result<Instr, ReadF
         IndexedInstr::Return(op) => Ok(Instr::Return(op)),
         IndexedInstr::Throw => Ok(Instr::Throw),
         IndexedInstr::Monitor(op) => Ok(Instr::Monitor(op)),
-        IndexedInstr::Constant(index) => named_constant(alloc, pool, index),
-        IndexedInstr::LongConstant(index) => named_long(pool, index),
-        IndexedInstr::Field(op, index) => named_field(alloc, pool, op, index),
-        IndexedInstr::Invoke(op, index) => named_method(alloc, pool, op, index),
+        IndexedInstr::LongConstant(index) => named_long(symbols.pool(), index),
+        IndexedInstr::Constant(index) => named_once(alloc, symbols, Operand::Constant(index)),
+        IndexedInstr::Field(op, index) => named_once(alloc, symbols, Operand::Field(op, index)),
+        IndexedInstr::Invoke(op, index) => named_once(alloc, symbols, Operand::Invoke(op, index)),
         IndexedInstr::InvokeInterface(index, count, last) => {
-            named_interface_method(alloc, pool, index, count, last)
+            named_once(alloc, symbols, Operand::InvokeInterface(index, count, last))
         }
-        IndexedInstr::New(index) => named_class(alloc, pool, index),
-        IndexedInstr::Type(op, index) => named_type(alloc, pool, op, index),
+        IndexedInstr::New(index) => named_once(alloc, symbols, Operand::New(index)),
+        IndexedInstr::Type(op, index) => named_once(alloc, symbols, Operand::Type(op, index)),
     }
 }
 
@@ -284,14 +363,15 @@ fn named(alloc: Global, pool: &Pool, instr: IndexedInstr) -> Result<Instr, ReadF
 #[tactic(auto, using(jm_opcodes::proofs::Taken::taken_steps))]
 pub fn instructions_of(
     alloc: Global,
-    pool: &Pool,
+    symbols: &mut Symbols<'_>,
     placed: Vec<PlacedInstr>,
 ) -> Result<Vec<Instr>, ReadFault>
-    ensures { GivesAll (λ v. v.items) OutOfMemory result (each (placed_named pool.now) placed.items) }
+    ensures given { GivesAll (λ v. v.items) OutOfMemory result (each (placed_named symbols.old) placed.items) }
+    ensures same { symbols.new ≡ symbols.old }
 {
     let mut all = Vec::with_capacity(alloc, placed.len())?;
     for one in placed {
-        let instr = named(alloc, pool, one.instr)?;
+        let instr = named(alloc, symbols, one.instr)?;
         all.push(instr)?;
     }
     Ok(all)

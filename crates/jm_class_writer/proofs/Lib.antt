@@ -13,3 +13,5 @@ pub mod BodyLaws
 pub mod Written
 pub mod TargetLaws
 pub mod PlaceLaws
+pub mod LengthLaws
+pub mod LimitLaws

@@ -61,7 +61,7 @@ handler_found e count h same fits =
     (start_found e h.start (omega (arith, before, within, same)), end_found e h.end (omega (arith, within, same)), start_found e h.target (omega (arith, at, same)))
 
 -- what a test finds of all of them
-all_found : {A : Type 0} (p : A → Bool) (P : A → Type 0) → ((x : A) → p x ≡ true → P x) → (xs : List A) → list_all p xs ≡ true → All P xs
+pub all_found : {A : Type 0} (p : A → Bool) (P : A → Type 0) → ((x : A) → p x ≡ true → P x) → (xs : List A) → list_all p xs ≡ true → All P xs
 all_found p P one [] h = All-nil P
 all_found p P one (x ∷ xs) h =
     let both = both_true (p x) (list_all p xs) h in

@@ -5,3 +5,5 @@ pub mod CodeParts
 pub mod ClassParts
 pub mod Ranges
 pub mod Places
+pub mod Lengths
+pub mod Limits

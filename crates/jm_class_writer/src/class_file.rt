@@ -1,15 +1,16 @@
 // The class file (JVMS 4.1), its fields (JVMS 4.5) and its methods (JVMS 4.6).
 
-ghost use Rattle.std.specs.Prelude.{◌≡◌, Bool, IsTrue, All, OnOk, IfOk, Ok};
+ghost use Rattle.std.specs.Prelude.{◌≡◌, Bool, IsTrue, All, OnOk, IfOk, IfErr, Ok};
 ghost use Rattle.std.specs.List.{list_all};
 ghost use Rattle.jm_bytes.specs.Reading.{GivesAll};
 ghost use Rattle.jm_program.specs.Fits.{method_fits, Fits};
 ghost use Rattle.jm_class_format.specs.ClassFile.{Spells, class_file};
-ghost use Rattle.jm_class_writer.specs.declared.fault.WriteFault.TheVariants.{OutOfMemory};
+ghost use Rattle.jm_class_writer.specs.declared.fault.WriteFault.TheVariants.{TooMany, OutOfMemory};
 ghost use Rattle.jm_class_writer.specs.Drafts.{Leaves, all_of};
 ghost use Rattle.jm_class_writer.specs.CodeParts.{InstructionsFit};
 ghost use Rattle.jm_class_writer.specs.ClassParts.{put_class, put_superclass, put_interfaces, put_head, put_constant, put_field_attributes, put_field, put_fields, put_method_attributes, put_method, put_methods, put_class_attributes, put_body, put_contents, put_version, written};
 ghost use Rattle.jm_class_writer.specs.Ranges.{OfSome, UnitsInRange, ConstantInRange, CodeInRange, FieldInRange, MethodInRange, InRange};
+ghost use Rattle.jm_class_writer.specs.Limits.{WithinLimits};
 
 use crate::code_attribute::{put_code_body, put_name};
 use crate::draft::Draft;
@@ -288,12 +289,14 @@ fn written(alloc: Global, class: &ClassParts) -> Result<Vec<u8>, WriteFault>
 /// - `36 TooMany`: interfaces, fields, methods, handlers or line numbers are more than 65,535, or
 ///   a text has more bytes.
 /// - `61 OutOfMemory`: a growth was refused.
-#[tactic(auto, using(crate::proofs::Written::spelled_given, crate::proofs::Written::read_back_given))]
+#[tactic(auto, using(crate::proofs::Written::spelled_given, crate::proofs::Written::read_back_given, crate::proofs::Written::limit_given))]
 pub fn write_class(alloc: Global, class: &Class) -> Result<Vec<u8>, WriteFault>
     ensures exact { GivesAll (λ v. v.items) OutOfMemory result (written class.now) }
     // The bytes are a class file that spells the class, and reading gives it back.
     ensures spelled { IfOk result (λ bytes. Spells bytes.items class.now) }
     ensures read_back { IfOk result (λ bytes. class_file.read bytes.items ≡ Ok class.now) }
+    // `36 TooMany` comes only where a count or a text passes its limit.
+    ensures limit { IfErr result (λ e. e ≡ TooMany → ¬ (WithinLimits class.now)) }
 {
     written(alloc, class.parts())
 }

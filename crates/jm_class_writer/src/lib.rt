@@ -18,4 +18,6 @@ mod texts;
 
 pub use class_file::write_class;
 pub use fault::WriteFault;
-pub use laws::{class_targets_are_found, written_is_spelled};
+pub use laws::{
+    attribute_lengths_fit, class_targets_are_found, too_many_is_past_a_limit, written_is_spelled,
+};

@@ -70,7 +70,7 @@ wide_text at byte op back instr e h = instruction_text at 196 opcode.Wide (byte 
       second = record { front = []; back = back; value = op; parts = refl; first = (refl, e); second = h };
     })
 
-local_text_size : (byte local : ℕ) → length (local_text byte local) ≡ local_size local
+pub local_text_size : (byte local : ℕ) → length (local_text byte local) ≡ local_size local
 unfolding local_text local_size
 local_text_size byte local = elim (nat_le local 255) as (λ b. length (cond b (byte ∷ to_be_bytes w8 local) (196 ∷ byte ∷ to_be_bytes w16 local)) ≡ cond b 2 4) [ true ↦ refl | false ↦ refl ]
 
@@ -104,7 +104,7 @@ short_parts local n h =
     let le = leb-true local 255 b.0 in
     (omega arith, fits_8 n b.1 a.1)
 
-increment_size : (local : ℕ) (n : ℤ) → length (increment_text local n) ≡ cond (is_short_increment local n) 3 6
+pub increment_size : (local : ℕ) (n : ℤ) → length (increment_text local n) ≡ cond (is_short_increment local n) 3 6
 unfolding increment_text
 increment_size local n = elim (is_short_increment local n) as (λ b. length (cond b (132 ∷ (to_be_bytes w8 local ++ signed_bytes w8 n)) (196 ∷ 132 ∷ (to_be_bytes w16 local ++ signed_bytes w16 n))) ≡ cond b 3 6) [ true ↦ refl | false ↦ refl ]
 

@@ -41,7 +41,7 @@ pub fn opcode_bytes_stand_for_opcodes()
 /// What is encoded is spelled: the bytes spell the instructions at their offsets.
 pub fn encoded_is_spelled()
     ensures spelled { (instrs : List IndexedInstr) (e : EncodedCode) → 0 < length instrs → All InRange instrs → IsTrue (list_all has_bytes instrs) → encoded instrs ≡ Ok e → code.Spells e.bytes (placed_from 0 instrs) }
-    ensures size { (instrs : List IndexedInstr) (e : EncodedCode) → All InRange instrs → IsTrue (list_all has_bytes instrs) → encoded instrs ≡ Ok e → length e.bytes ≡ end_from 0 instrs }
+    ensures size { (instrs : List IndexedInstr) (e : EncodedCode) → encoded instrs ≡ Ok e → length e.bytes ≡ end_from 0 instrs }
     ensures starts { (instrs : List IndexedInstr) (e : EncodedCode) → encoded instrs ≡ Ok e → e.starts ≡ starts_from 0 instrs }
     ensures short { (instrs : List IndexedInstr) (e : EncodedCode) → encoded instrs ≡ Ok e → end_from 0 instrs ≤ 65535 }
 {}

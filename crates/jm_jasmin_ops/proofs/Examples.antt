@@ -36,7 +36,8 @@ use Rattle.jm_jasmin_lex.specs.Literals.{hexadecimal_value, escaped_unit, part_a
 use Rattle.jm_class_format.specs.Instructions.{natural}
 use Rattle.jm_class_format.specs.Symbols.{class_name_of, field_name_of, method_name_of, invoked_name_of, descriptor_of, field_only, method_only, left_out_method_type, field_type_of, with_slots, method_type_of, class_ref_of, element_ref, method_ref_of}
 use Rattle.std.specs.Str.{chars}
-use Rattle.jm_jasmin_ops.specs.Mnemonics.{left_out_mnemonic, mnemonic, in_rows, opcode_named}
+use Rattle.jm_class_format.specs.Mnemonics.{left_out_mnemonic}
+use Rattle.jm_jasmin_ops.specs.Mnemonics.{mnemonic, in_rows, opcode_named}
 use Rattle.jm_jasmin_ops.specs.Words.{word, label}
 use Rattle.jm_jasmin_ops.specs.Operands.{integer, ranged, natural_within, loaded, loaded_long, element_type, units, class_name, class_ref, member, field_named, field_typed, method, counted}
 use Rattle.jm_jasmin_ops.specs.Switches.{with_token, lines_of, keyed_row, row_of, table_step, table_rows, lookup_step, lookup_rows}

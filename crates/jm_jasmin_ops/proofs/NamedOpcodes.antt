@@ -5,7 +5,8 @@ use Rattle.jm_class_format.specs.declared.opcode.Opcode.{Opcode}
 use Rattle.jm_class_format.specs.Opcodes.{row_at, opcode_at, constants, loads, stores, stack, math, conversions, comparisons, control, references, extended}
 use Rattle.jm_program.specs.Mnemonics.{operand_letter, integral_letter, index_digit, small_int_digit, small_long_digit, stack_mnemonic, arithmetic_name, shift_name, bitwise_name, conversion_mnemonic, comparison_name, equality_name, null_mnemonic, branch_mnemonic, array_letter, array_line, return_mnemonic, monitor_mnemonic, field_mnemonic, invoke_mnemonic, type_mnemonic}
 use Rattle.jm_program.specs.JasminInstructions.{simple_line}
-use Rattle.jm_jasmin_ops.specs.Mnemonics.{left_out_mnemonic, mnemonic, in_rows, opcode_named, IsNamed}
+use Rattle.jm_class_format.specs.Mnemonics.{left_out_mnemonic}
+use Rattle.jm_jasmin_ops.specs.Mnemonics.{mnemonic, in_rows, opcode_named, IsNamed}
 
 -- the same of the rows of a group
 abbrev AreNamed : List (ℕ × Opcode) → Type 0

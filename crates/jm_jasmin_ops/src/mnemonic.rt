@@ -474,21 +474,21 @@ fn row_named(rows: &[(&str, Opcode)], word: &str) -> Option<Opcode>
     row_found(rows, word)
 }
 
-#[tactic(auto, unfolding(crate::specs::Mnemonics::in_rows, crate::specs::Mnemonics::mnemonic, jm_class_format::specs::Opcodes::constants, crate::specs::Mnemonics::left_out_mnemonic, jm_program::specs::JasminInstructions::simple_line, jm_program::specs::Mnemonics::small_int_digit, jm_program::specs::Mnemonics::small_long_digit))]
+#[tactic(auto, unfolding(crate::specs::Mnemonics::in_rows, crate::specs::Mnemonics::mnemonic, jm_class_format::specs::Opcodes::constants, jm_class_format::specs::Mnemonics::left_out_mnemonic, jm_program::specs::JasminInstructions::simple_line, jm_program::specs::Mnemonics::small_int_digit, jm_program::specs::Mnemonics::small_long_digit))]
 fn constants(word: &str) -> Option<Opcode>
     ensures { result ≡ in_rows constants word.now }
 {
     row_named(&CONSTANTS, word)
 }
 
-#[tactic(auto, unfolding(crate::specs::Mnemonics::in_rows, crate::specs::Mnemonics::mnemonic, jm_class_format::specs::Opcodes::loads, crate::specs::Mnemonics::left_out_mnemonic, jm_program::specs::JasminInstructions::simple_line, jm_program::specs::Mnemonics::operand_letter, jm_program::specs::Mnemonics::index_digit, jm_program::specs::Mnemonics::array_letter, jm_program::specs::Mnemonics::array_line))]
+#[tactic(auto, unfolding(crate::specs::Mnemonics::in_rows, crate::specs::Mnemonics::mnemonic, jm_class_format::specs::Opcodes::loads, jm_class_format::specs::Mnemonics::left_out_mnemonic, jm_program::specs::JasminInstructions::simple_line, jm_program::specs::Mnemonics::operand_letter, jm_program::specs::Mnemonics::index_digit, jm_program::specs::Mnemonics::array_letter, jm_program::specs::Mnemonics::array_line))]
 fn loads(word: &str) -> Option<Opcode>
     ensures { result ≡ in_rows loads word.now }
 {
     row_named(&LOADS, word)
 }
 
-#[tactic(auto, unfolding(crate::specs::Mnemonics::in_rows, crate::specs::Mnemonics::mnemonic, jm_class_format::specs::Opcodes::stores, crate::specs::Mnemonics::left_out_mnemonic, jm_program::specs::JasminInstructions::simple_line, jm_program::specs::Mnemonics::operand_letter, jm_program::specs::Mnemonics::index_digit, jm_program::specs::Mnemonics::array_letter, jm_program::specs::Mnemonics::array_line))]
+#[tactic(auto, unfolding(crate::specs::Mnemonics::in_rows, crate::specs::Mnemonics::mnemonic, jm_class_format::specs::Opcodes::stores, jm_class_format::specs::Mnemonics::left_out_mnemonic, jm_program::specs::JasminInstructions::simple_line, jm_program::specs::Mnemonics::operand_letter, jm_program::specs::Mnemonics::index_digit, jm_program::specs::Mnemonics::array_letter, jm_program::specs::Mnemonics::array_line))]
 fn stores(word: &str) -> Option<Opcode>
     ensures { result ≡ in_rows stores word.now }
 {
@@ -502,42 +502,42 @@ fn stack(word: &str) -> Option<Opcode>
     row_named(&STACK, word)
 }
 
-#[tactic(auto, unfolding(crate::specs::Mnemonics::in_rows, crate::specs::Mnemonics::mnemonic, jm_class_format::specs::Opcodes::math, crate::specs::Mnemonics::left_out_mnemonic, jm_program::specs::JasminInstructions::simple_line, jm_program::specs::Mnemonics::integral_letter, jm_program::specs::Mnemonics::arithmetic_name, jm_program::specs::Mnemonics::shift_name, jm_program::specs::Mnemonics::bitwise_name))]
+#[tactic(auto, unfolding(crate::specs::Mnemonics::in_rows, crate::specs::Mnemonics::mnemonic, jm_class_format::specs::Opcodes::math, jm_class_format::specs::Mnemonics::left_out_mnemonic, jm_program::specs::JasminInstructions::simple_line, jm_program::specs::Mnemonics::integral_letter, jm_program::specs::Mnemonics::arithmetic_name, jm_program::specs::Mnemonics::shift_name, jm_program::specs::Mnemonics::bitwise_name))]
 fn math(word: &str) -> Option<Opcode>
     ensures { result ≡ in_rows math word.now }
 {
     row_named(&MATH, word)
 }
 
-#[tactic(auto, unfolding(crate::specs::Mnemonics::in_rows, crate::specs::Mnemonics::mnemonic, jm_class_format::specs::Opcodes::conversions, crate::specs::Mnemonics::left_out_mnemonic, jm_program::specs::JasminInstructions::simple_line, jm_program::specs::Mnemonics::conversion_mnemonic))]
+#[tactic(auto, unfolding(crate::specs::Mnemonics::in_rows, crate::specs::Mnemonics::mnemonic, jm_class_format::specs::Opcodes::conversions, jm_class_format::specs::Mnemonics::left_out_mnemonic, jm_program::specs::JasminInstructions::simple_line, jm_program::specs::Mnemonics::conversion_mnemonic))]
 fn conversions(word: &str) -> Option<Opcode>
     ensures { result ≡ in_rows conversions word.now }
 {
     row_named(&CONVERSIONS, word)
 }
 
-#[tactic(auto, unfolding(crate::specs::Mnemonics::in_rows, crate::specs::Mnemonics::mnemonic, jm_class_format::specs::Opcodes::comparisons, crate::specs::Mnemonics::left_out_mnemonic, jm_program::specs::JasminInstructions::simple_line, jm_program::specs::Mnemonics::branch_mnemonic, jm_program::specs::Mnemonics::comparison_name, jm_program::specs::Mnemonics::equality_name))]
+#[tactic(auto, unfolding(crate::specs::Mnemonics::in_rows, crate::specs::Mnemonics::mnemonic, jm_class_format::specs::Opcodes::comparisons, jm_class_format::specs::Mnemonics::left_out_mnemonic, jm_program::specs::JasminInstructions::simple_line, jm_program::specs::Mnemonics::branch_mnemonic, jm_program::specs::Mnemonics::comparison_name, jm_program::specs::Mnemonics::equality_name))]
 fn comparisons(word: &str) -> Option<Opcode>
     ensures { result ≡ in_rows comparisons word.now }
 {
     row_named(&COMPARISONS, word)
 }
 
-#[tactic(auto, unfolding(crate::specs::Mnemonics::in_rows, crate::specs::Mnemonics::mnemonic, jm_class_format::specs::Opcodes::control, crate::specs::Mnemonics::left_out_mnemonic, jm_program::specs::Mnemonics::branch_mnemonic, jm_program::specs::Mnemonics::return_mnemonic))]
+#[tactic(auto, unfolding(crate::specs::Mnemonics::in_rows, crate::specs::Mnemonics::mnemonic, jm_class_format::specs::Opcodes::control, jm_class_format::specs::Mnemonics::left_out_mnemonic, jm_program::specs::Mnemonics::branch_mnemonic, jm_program::specs::Mnemonics::return_mnemonic))]
 fn control(word: &str) -> Option<Opcode>
     ensures { result ≡ in_rows control word.now }
 {
     row_named(&CONTROL, word)
 }
 
-#[tactic(auto, unfolding(crate::specs::Mnemonics::in_rows, crate::specs::Mnemonics::mnemonic, jm_class_format::specs::Opcodes::references, crate::specs::Mnemonics::left_out_mnemonic, jm_program::specs::Mnemonics::field_mnemonic, jm_program::specs::Mnemonics::invoke_mnemonic, jm_program::specs::Mnemonics::type_mnemonic, jm_program::specs::Mnemonics::array_line, jm_program::specs::Mnemonics::monitor_mnemonic))]
+#[tactic(auto, unfolding(crate::specs::Mnemonics::in_rows, crate::specs::Mnemonics::mnemonic, jm_class_format::specs::Opcodes::references, jm_class_format::specs::Mnemonics::left_out_mnemonic, jm_program::specs::Mnemonics::field_mnemonic, jm_program::specs::Mnemonics::invoke_mnemonic, jm_program::specs::Mnemonics::type_mnemonic, jm_program::specs::Mnemonics::array_line, jm_program::specs::Mnemonics::monitor_mnemonic))]
 fn references(word: &str) -> Option<Opcode>
     ensures { result ≡ in_rows references word.now }
 {
     row_named(&REFERENCES, word)
 }
 
-#[tactic(auto, unfolding(crate::specs::Mnemonics::in_rows, crate::specs::Mnemonics::mnemonic, jm_class_format::specs::Opcodes::extended, crate::specs::Mnemonics::left_out_mnemonic, jm_program::specs::Mnemonics::branch_mnemonic, jm_program::specs::Mnemonics::null_mnemonic))]
+#[tactic(auto, unfolding(crate::specs::Mnemonics::in_rows, crate::specs::Mnemonics::mnemonic, jm_class_format::specs::Opcodes::extended, jm_class_format::specs::Mnemonics::left_out_mnemonic, jm_program::specs::Mnemonics::branch_mnemonic, jm_program::specs::Mnemonics::null_mnemonic))]
 fn extended(word: &str) -> Option<Opcode>
     ensures { result ≡ in_rows extended word.now }
 {

@@ -8,3 +8,5 @@ mod class_file;
 mod journals;
 #[cfg(test)]
 mod machines;
+#[cfg(test)]
+mod readers;

@@ -12,9 +12,11 @@ use jm_world::{Event, Reply, ReplyKind, Stop};
 use std::alloc::Global;
 use std::test::Fail;
 
-const STEP: Event = Event::Step(1);
+/// A step of the first thread.
+pub const STEP: Event = Event::Step(1);
 
-fn loaded(alloc: Global, code: &[u8], limit: u32) -> Result<Machine<PlainHeap>, Fail>
+/// The machine from which Main's run begins with this code for main, over a heap of so many cells.
+pub fn loaded(alloc: Global, code: &[u8], limit: u32) -> Result<Machine<PlainHeap>, Fail>
     requires { length code.now + 12 < 2 ^ 32 }
 {
     let linked = linked_main(alloc, code)?;

@@ -23,7 +23,7 @@ pub use builder_fault::BuilderFault;
 pub use constant::Constant;
 pub use jm_class_format::{Entry, PoolFault};
 pub use laws::{built_pool_spelled, interned_stands, one_pool, text_read_back};
-pub use look_ups::{Member, NameAndType};
+pub use look_ups::{Member, NameAndType, Text};
 pub use pool::Pool;
 pub use pool_builder::PoolBuilder;
 pub use text_reading::code_units;

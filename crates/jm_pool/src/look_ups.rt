@@ -1,24 +1,31 @@
-ghost use Rattle.std.specs.Prelude.{◌≡◌, ℤ, ℕ, List};
+ghost use Rattle.std.specs.Prelude.{◌≡◌, ℤ, ℕ, List, IfSome};
 ghost use Rattle.std.specs.Option.{option_copied, option_map};
 ghost use Rattle.jm_class_format.specs.PoolLookups.{when_some, class_of, string_of, field_of, method_of, interface_method_of, name_and_type_of, entry_at, text_at, integer_at, long_at, class_at, string_at, name_and_type_at, member_at, field_at, method_at, interface_method_at};
+ghost use Rattle.jm_pool.specs.Texts.{Stands, AllStand};
 
 use crate::pool::Pool;
 use jm_class_format::Entry;
 
-/// The code units of a name and of a descriptor (JVMS 4.4.6).
+/// A text of a pool (JVMS 4.4.7): its index, and the code units that stand there.
 #[derive(Clone, Copy, Debug)]
-pub struct NameAndType<'a> {
-    pub name: &'a [u16],
-    pub descriptor: &'a [u16],
+pub struct Text<'a> {
+    pub index: u16,
+    pub units: &'a [u16],
 }
 
-/// The code units of a class or an interface, and of its member's name and descriptor
-/// (JVMS 4.4.2).
+/// A name and a descriptor (JVMS 4.4.6).
+#[derive(Clone, Copy, Debug)]
+pub struct NameAndType<'a> {
+    pub name: Text<'a>,
+    pub descriptor: Text<'a>,
+}
+
+/// A class or an interface, and its member's name and descriptor (JVMS 4.4.2).
 #[derive(Clone, Copy, Debug)]
 pub struct Member<'a> {
-    pub class: &'a [u16],
-    pub name: &'a [u16],
-    pub descriptor: &'a [u16],
+    pub class: Text<'a>,
+    pub name: Text<'a>,
+    pub descriptor: Text<'a>,
 }
 
 impl Pool {
@@ -66,6 +73,15 @@ impl Pool {
         }
     }
 
+    // The text at an index, with the index.
+    fn text_with_index(&self, index: u16) -> Option<Text<'_>>
+        ensures units { option_map (λ text. text.units.now) result ≡ text_at self.now index }
+        ensures stands { IfSome result (Stands self.now) }
+    {
+        let units = self.text(index)?;
+        Some(Text { index, units })
+    }
+
     // The index of a class's name.
     fn class_name(&self, index: u16) -> Option<u16>
         ensures { result ≡ when_some (entry_at self.now index) class_of }
@@ -76,14 +92,15 @@ impl Pool {
         }
     }
 
-    /// The code units of the name of the class that an index names, or of its descriptor where it
-    /// is an array type (JVMS 4.4.1).
+    /// The name of the class that an index names, or its descriptor where it is an array type
+    /// (JVMS 4.4.1).
     #[tactic(auto, unfolding(jm_class_format::specs::PoolLookups::class_at))]
-    pub fn class(&self, index: u16) -> Option<&[u16]>
-        ensures { option_map (λ units. units.now) result ≡ class_at self.now index }
+    pub fn class(&self, index: u16) -> Option<Text<'_>>
+        ensures units { option_map (λ text. text.units.now) result ≡ class_at self.now index }
+        ensures stands { IfSome result (Stands self.now) }
     {
         let name = self.class_name(index)?;
-        let text = self.text(name)?;
+        let text = self.text_with_index(name)?;
         Some(text)
     }
 
@@ -117,22 +134,23 @@ impl Pool {
         }
     }
 
-    /// The code units of the name and of the descriptor of the NameAndType that an index names
-    /// (JVMS 4.4.6).
+    /// The name and the descriptor of the NameAndType that an index names (JVMS 4.4.6).
     #[tactic(auto, unfolding(jm_class_format::specs::PoolLookups::name_and_type_at))]
     pub fn name_and_type(&self, index: u16) -> Option<NameAndType<'_>>
-        ensures { option_map (λ n. (n.name.now, n.descriptor.now)) result ≡ name_and_type_at self.now index }
+        ensures units { option_map (λ n. (n.name.units.now, n.descriptor.units.now)) result ≡ name_and_type_at self.now index }
+        ensures stand { IfSome result (λ n. Stands self.now n.name × Stands self.now n.descriptor) }
     {
         let (name, descriptor) = self.name_and_type_indexes(index)?;
-        let name = self.text(name)?;
-        let descriptor = self.text(descriptor)?;
+        let name = self.text_with_index(name)?;
+        let descriptor = self.text_with_index(descriptor)?;
         Some(NameAndType { name, descriptor })
     }
 
     // A member of a class, and of a name and type.
     #[tactic(auto, unfolding(jm_class_format::specs::PoolLookups::member_at))]
     fn member(&self, class: u16, name_and_type: u16) -> Option<Member<'_>>
-        ensures { option_map (λ m. (m.class.now, m.name.now, m.descriptor.now)) result ≡ member_at self.now class name_and_type }
+        ensures units { option_map (λ m. (m.class.units.now, m.name.units.now, m.descriptor.units.now)) result ≡ member_at self.now class name_and_type }
+        ensures stand { IfSome result (AllStand self.now) }
     {
         let class = self.class(class)?;
         let NameAndType { name, descriptor } = self.name_and_type(name_and_type)?;
@@ -153,11 +171,11 @@ impl Pool {
         }
     }
 
-    /// The code units of the class, of the name and of the descriptor of the field that an index
-    /// names (JVMS 4.4.2).
+    /// The class, the name and the descriptor of the field that an index names (JVMS 4.4.2).
     #[tactic(auto, unfolding(jm_class_format::specs::PoolLookups::field_at))]
     pub fn field(&self, index: u16) -> Option<Member<'_>>
-        ensures { option_map (λ m. (m.class.now, m.name.now, m.descriptor.now)) result ≡ field_at self.now index }
+        ensures units { option_map (λ m. (m.class.units.now, m.name.units.now, m.descriptor.units.now)) result ≡ field_at self.now index }
+        ensures stand { IfSome result (AllStand self.now) }
     {
         let (class, name_and_type) = self.field_indexes(index)?;
         self.member(class, name_and_type)
@@ -173,11 +191,12 @@ impl Pool {
         }
     }
 
-    /// The code units of the class, of the name and of the descriptor of the method of a class
-    /// that an index names (JVMS 4.4.2).
+    /// The class, the name and the descriptor of the method of a class that an index names
+    /// (JVMS 4.4.2).
     #[tactic(auto, unfolding(jm_class_format::specs::PoolLookups::method_at))]
     pub fn method(&self, index: u16) -> Option<Member<'_>>
-        ensures { option_map (λ m. (m.class.now, m.name.now, m.descriptor.now)) result ≡ method_at self.now index }
+        ensures units { option_map (λ m. (m.class.units.now, m.name.units.now, m.descriptor.units.now)) result ≡ method_at self.now index }
+        ensures stand { IfSome result (AllStand self.now) }
     {
         let (class, name_and_type) = self.method_indexes(index)?;
         self.member(class, name_and_type)
@@ -195,11 +214,12 @@ impl Pool {
         }
     }
 
-    /// The code units of the interface, of the name and of the descriptor of the method of an
-    /// interface that an index names (JVMS 4.4.2).
+    /// The interface, the name and the descriptor of the method of an interface that an index
+    /// names (JVMS 4.4.2).
     #[tactic(auto, unfolding(jm_class_format::specs::PoolLookups::interface_method_at))]
     pub fn interface_method(&self, index: u16) -> Option<Member<'_>>
-        ensures { option_map (λ m. (m.class.now, m.name.now, m.descriptor.now)) result ≡ interface_method_at self.now index }
+        ensures units { option_map (λ m. (m.class.units.now, m.name.units.now, m.descriptor.units.now)) result ≡ interface_method_at self.now index }
+        ensures stand { IfSome result (AllStand self.now) }
     {
         let (interface, name_and_type) = self.interface_method_indexes(index)?;
         self.member(interface, name_and_type)

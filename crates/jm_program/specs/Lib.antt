@@ -1,4 +1,5 @@
 pub mod Flags
+pub mod NameUnits
 pub mod Names
 pub mod Descriptors
 pub mod References

@@ -1,13 +1,15 @@
 ghost use Rattle.std.specs.Prelude.{◌≡◌, IfOk};
 
+use crate::sequence::Sequence;
 use std::alloc::{AllocError, Global};
 use std::marker::Model;
+use std::sync::Arc;
 
 /// A value in a place of its own, which contracts see as the value itself. It keeps an enum small
-/// whose other variants are small.
+/// whose other variants are small, and any number of owners, in any threads, can share it.
 #[derive(Debug, Drop)]
 pub struct Boxed<T> {
-    content: Box<T>,
+    content: Arc<T>,
 }
 
 impl<T> Model for Boxed<T> {
@@ -21,7 +23,16 @@ impl<T: Drop> Boxed<T> {
     pub fn new(alloc: Global, value: T) -> Result<Boxed<T>, AllocError>
         ensures { IfOk result (λ boxed. boxed ≡ value) }
     {
-        let content = Box::new(alloc, value)?;
+        let content = Arc::new(alloc, value)?;
+        Ok(Boxed { content })
+    }
+
+    /// The same value once more, in the same place: it takes no memory. The error is for more
+    /// than 2^63 - 1 owners.
+    pub fn share(&self) -> Result<Boxed<T>, AllocError>
+        ensures { IfOk result (λ boxed. boxed ≡ self.now) }
+    {
+        let content = Arc::try_clone(&self.content)?;
         Ok(Boxed { content })
     }
 }
@@ -33,12 +44,14 @@ impl<T> Boxed<T> {
     {
         &self.content
     }
+}
 
-    /// The value, moved out.
-    pub fn into_inner(self) -> T
-        ensures { result ≡ self }
+impl<T> Boxed<Sequence<T>> {
+    /// The items, in order.
+    pub fn as_slice(&self) -> &[T]
+        ensures { result.now ≡ self.now }
     {
-        Box::into_inner(self.content)
+        self.get().as_slice()
     }
 }
 

@@ -1,12 +1,14 @@
-ghost use Rattle.std.specs.Prelude.{◌≡◌, ◌≤◌, ◌<◌, ◌^◌, ◌+◌, length};
+ghost use Rattle.std.specs.Prelude.{◌≡◌, ◌≤◌, ◌<◌, ◌^◌, ◌+◌, length, IfOk};
 ghost use Rattle.std.specs.List.{list_all};
 ghost use Rattle.jm_program.specs.Descriptors.{is_field_type, is_return_type, is_kept_field_type, is_kept_return_type};
 
 mod parse;
 
+use crate::boxed::Boxed;
 use crate::limits::MAX_DIMENSIONS;
 use crate::name::Name;
 use crate::sequence::Sequence;
+use std::alloc::{AllocError, Global};
 
 /// A primitive type, by its letter `B C D F I J S Z` (JVMS 4.3.2).
 #[derive(Clone, Copy, Debug, PartialEq, Eq, Hash)]
@@ -40,7 +42,7 @@ pub struct FieldType {
 /// The type of a method (JVMS 4.3.3).
 #[derive(Debug, PartialEq, Eq, Drop)]
 pub struct MethodDescriptor {
-    pub parameters: Sequence<FieldType>,
+    pub parameters: Boxed<Sequence<FieldType>>,
     /// None for `V`.
     pub return_type: Option<FieldType>,
 }
@@ -63,6 +65,16 @@ impl ElementType {
         match self {
             ElementType::Base(BaseType::Long | BaseType::Double) => 2,
             _ => 1,
+        }
+    }
+
+    // A copy, by [`Name::copy`].
+    fn copy(&self, alloc: Global) -> Result<ElementType, AllocError>
+        ensures { IfOk result (λ copy. copy ≡ self.now) }
+    {
+        match self {
+            ElementType::Base(base) => Ok(ElementType::Base(*base)),
+            ElementType::Class(name) => Ok(ElementType::Class(name.copy(alloc)?)),
         }
     }
 
@@ -103,6 +115,17 @@ impl FieldType {
         }
     }
 
+    /// A copy, whose name is copied by [`Name::copy`], with its error.
+    pub fn copy(&self, alloc: Global) -> Result<FieldType, AllocError>
+        ensures { IfOk result (λ copy. copy ≡ self.now) }
+    {
+        let element = self.element.copy(alloc)?;
+        Ok(FieldType {
+            dimensions: self.dimensions,
+            element,
+        })
+    }
+
     /// Whether the element's name, if it has one, is the name of a class (JVMS 4.3.2).
     pub fn is_field_type(&self) -> bool
         ensures { result ≡ is_field_type self.now }
@@ -130,6 +153,22 @@ impl MethodDescriptor {
     ghost use Rattle.std.specs.Option.{SomeIff};
     ghost use Rattle.jm_program.specs.Fits.{is_void};
     ghost use Rattle.jm_program.specs.Descriptors.{argument_slots, is_method_type, is_kept_method_type};
+
+    /// A copy, whose parameters are shared and whose result is copied by [`FieldType::copy`], with
+    /// its error.
+    pub fn copy(&self, alloc: Global) -> Result<MethodDescriptor, AllocError>
+        ensures { IfOk result (λ copy. copy ≡ self.now) }
+    {
+        let parameters = self.parameters.share()?;
+        let return_type = match &self.return_type {
+            None => None,
+            Some(field_type) => Some(field_type.copy(alloc)?),
+        };
+        Ok(MethodDescriptor {
+            parameters,
+            return_type,
+        })
+    }
 
     /// How many slots the arguments take, without a receiver, or None where they take more than
     /// 255 (JVMS 4.3.3).

@@ -2,6 +2,8 @@ ghost use Rattle.std.specs.Prelude.{◌≡◌, IfOk, codes};
 ghost use Rattle.std.specs.List.{list_all};
 ghost use Rattle.jm_program.specs.Names.{same_text, is_unqualified, is_method_name, is_invoked_name, is_class_name, is_init, is_clinit, is_name_unit, is_method_unit, is_ordinary_method_name};
 
+use crate::boxed::Boxed;
+use crate::sequence::Sequence;
 use crate::text::is_text;
 use std::alloc::{AllocError, Global};
 use std::hash::{Hash, Hasher};
@@ -23,15 +25,23 @@ const BRACKET: u16 = 91;
 /// surrogates included (JVMS 4.2, 4.4.7).
 #[derive(Debug, Drop)]
 pub struct Name {
-    units: Vec<u16>,
+    units: Units,
+}
+
+// Where the code units stand.
+#[derive(Debug, Drop)]
+enum Units {
+    Own(Vec<u16>),
+    Shared(Boxed<Sequence<u16>>),
 }
 
 impl Model for Name {
     ghost use Rattle.std.specs.Prelude.{List, ℕ};
+    ghost use Rattle.jm_program.specs.NameUnits.{units_of};
 
     ghost Value = { List ℕ };
 
-    ghost view = { λ n. n.units.items };
+    ghost view = { λ n. units_of n.units };
 }
 
 impl Name {
@@ -39,28 +49,42 @@ impl Name {
     pub fn new(units: Vec<u16>) -> Name
         ensures { result ≡ units.items }
     {
-        Name { units }
+        Name {
+            units: Units::Own(units),
+        }
+    }
+
+    /// The name of these code units, whose copies share them, or the error where there is no
+    /// memory for it.
+    pub fn shared(alloc: Global, units: &[u16]) -> Result<Name, AllocError>
+        ensures { IfOk result (λ name. name ≡ units.now) }
+    {
+        let units = Vec::from_slice(alloc, units)?;
+        let units = Boxed::new(alloc, Sequence::new(units))?;
+        Ok(Name {
+            units: Units::Shared(units),
+        })
     }
 
     /// The name's code units.
     pub fn units(&self) -> &[u16]
         ensures { result.now ≡ self.now }
     {
-        &self.units
+        match &self.units {
+            Units::Own(units) => units,
+            Units::Shared(units) => units.get().as_slice(),
+        }
     }
 
-    /// The name's code units as a `Vec`.
-    pub fn into_units(self) -> Vec<u16>
-        ensures { result.items ≡ self }
-    {
-        self.units
-    }
-
-    /// A name of the same code units, or the error where there is no memory for it.
+    /// A name of the same code units, or the error where there is no memory for it. The copies of
+    /// a shared name take none, whatever their lengths.
     pub fn copy(&self, alloc: Global) -> Result<Name, AllocError>
         ensures { IfOk result (λ copy. copy ≡ self.now) }
     {
-        let units = Vec::from_slice(alloc, &self.units)?;
+        let units = match &self.units {
+            Units::Own(units) => Units::Own(Vec::from_slice(alloc, units)?),
+            Units::Shared(units) => Units::Shared(units.share()?),
+        };
         Ok(Name { units })
     }
 
@@ -68,7 +92,7 @@ impl Name {
     pub fn is_text(&self, text: &[u8]) -> bool
         ensures { result ≡ same_text self.now text.now }
     {
-        is_text(&self.units, text)
+        is_text(self.units(), text)
     }
 }
 
@@ -110,14 +134,14 @@ impl Name {
     pub fn is_unqualified(&self) -> bool
         ensures { result ≡ is_unqualified self.now }
     {
-        is_unqualified_text(&self.units)
+        is_unqualified_text(self.units())
     }
 
     /// Whether this can be a method's name (JVMS 4.2.2).
     pub fn is_method_name(&self) -> bool
         ensures { result ≡ is_method_name self.now }
     {
-        is_ordinary_method_name(&self.units) || self.is_init() || self.is_clinit()
+        is_ordinary_method_name(self.units()) || self.is_init() || self.is_clinit()
     }
 
     /// Whether an instruction may invoke a method of this name (JVMS 4.4.2).
@@ -131,7 +155,7 @@ impl Name {
     pub fn is_class_name(&self) -> bool
         ensures { result ≡ is_class_name self.now }
     {
-        self.units
+        self.units()
             .split(|unit| *unit == SLASH)
             .all(|part| is_unqualified_text(part))
     }
@@ -140,35 +164,35 @@ impl Name {
     pub fn is_init(&self) -> bool
         ensures { result ≡ is_init self.now }
     {
-        is_text(&self.units, b"<init>")
+        is_text(self.units(), b"<init>")
     }
 
     /// Whether this is `java/lang/Object`.
     pub fn is_object(&self) -> bool
         ensures { result ≡ same_text self.now (codes "java/lang/Object") }
     {
-        is_text(&self.units, b"java/lang/Object")
+        is_text(self.units(), b"java/lang/Object")
     }
 
     /// Whether this is `java/lang/String`.
     pub fn is_string(&self) -> bool
         ensures { result ≡ same_text self.now (codes "java/lang/String") }
     {
-        is_text(&self.units, b"java/lang/String")
+        is_text(self.units(), b"java/lang/String")
     }
 
     /// Whether this is `finalize`.
     pub fn is_finalize(&self) -> bool
         ensures { result ≡ same_text self.now (codes "finalize") }
     {
-        is_text(&self.units, b"finalize")
+        is_text(self.units(), b"finalize")
     }
 
     /// Whether this is the name of class initialization methods, `<clinit>` (JVMS 2.9).
     pub fn is_clinit(&self) -> bool
         ensures { result ≡ is_clinit self.now }
     {
-        is_text(&self.units, b"<clinit>")
+        is_text(self.units(), b"<clinit>")
     }
 }
 

@@ -12,5 +12,5 @@ mod types;
 
 pub use jm_class_format::{LeftOutPart, PoolFault, ReadFault};
 pub use names::{class_name_of, field_name_of, invoked_name_of, method_name_of};
-pub use references::{class_ref_of, element_ref, field_ref_of, method_ref_of};
+pub use references::{begins_with_bracket, class_ref_of, element_ref, field_ref_of, method_ref_of};
 pub use types::{field_type_of, method_type_of};

@@ -12,8 +12,7 @@ use std::alloc::{AllocError, Global};
 fn name_of(alloc: Global, units: &[u16]) -> Result<Name, AllocError>
     ensures { IfOk result (λ name. name ≡ units.now) }
 {
-    let units = Vec::from_slice(alloc, units)?;
-    Ok(Name::new(units))
+    Name::shared(alloc, units)
 }
 
 /// The name of a class or an interface, its parts between `/` (JVMS 4.2.1).

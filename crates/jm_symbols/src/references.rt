@@ -13,7 +13,8 @@ use std::alloc::Global;
 
 const BRACKET: u16 = 91;
 
-fn begins_with_bracket(units: &[u16]) -> bool
+/// Whether a Class entry's text is that of an array type: it begins with `[` (JVMS 4.4.1).
+pub fn begins_with_bracket(units: &[u16]) -> bool
     ensures { result ≡ begins_with_bracket units.now }
 {
     match units.first() {

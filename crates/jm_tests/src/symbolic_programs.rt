@@ -163,7 +163,7 @@ fn method_ref(alloc: Global, class: &str, method: &str) -> Result<MethodRef, All
         class: ClassRef::Class(name(alloc, class)?),
         name: name(alloc, method)?,
         descriptor: MethodDescriptor {
-            parameters: Sequence::new(parameters),
+            parameters: Boxed::new(alloc, Sequence::new(parameters))?,
             return_type: None,
         },
     })

@@ -6,7 +6,7 @@ use jm_program::{
     AccessFlags, ArrayKind, ArrayOp, BaseType, Boxed, Class, ClassParts, ClassRef, Code, Constant,
     ElementType, Field, FieldOp, FieldRef, FieldType, Handler, Instr, InvokeOp, LineNumber, Method,
     MethodDescriptor, MethodRef, MonitorOp, Name, Plain, PrimitiveType, ReturnOp, Sequence, Simple,
-    TypeOp, Version,
+    TypeOp, Version, code_units,
 };
 use std::alloc::{AllocError, Global};
 use std::test::Fail;
@@ -35,13 +35,13 @@ fn descriptor(alloc: Global) -> Result<MethodDescriptor, AllocError> {
     parameters.push(base(BaseType::Long))?;
     parameters.push(strings)?;
     Ok(MethodDescriptor {
-        parameters: Sequence::new(parameters),
+        parameters: Boxed::new(alloc, Sequence::new(parameters))?,
         return_type: Some(base(BaseType::Int)),
     })
 }
 
 fn text(alloc: Global) -> Result<Constant, AllocError> {
-    let units = name(alloc, "text")?.into_units();
+    let units = code_units(alloc, "text")?;
     let units = Boxed::new(alloc, Sequence::new(units))?;
     Ok(Constant::String(units))
 }
@@ -191,7 +191,7 @@ fn parts(alloc: Global) -> Result<ClassParts, AllocError> {
         interfaces: Sequence::new(interfaces),
         fields: Sequence::new(fields(alloc)?),
         methods: Sequence::new(methods),
-        source_file: Some(Sequence::new(name(alloc, "Main.java")?.into_units())),
+        source_file: Some(Sequence::new(code_units(alloc, "Main.java")?)),
     })
 }
 

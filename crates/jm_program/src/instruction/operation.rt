@@ -173,7 +173,7 @@ pub enum MonitorOp {
 }
 
 /// What is done to a field: `getstatic`, `putstatic`, `getfield`, `putfield`.
-#[derive(Clone, Copy, Debug, PartialEq, Eq)]
+#[derive(Clone, Copy, Debug, PartialEq, Eq, Hash)]
 pub enum FieldOp {
     GetStatic,
     PutStatic,
@@ -182,7 +182,7 @@ pub enum FieldOp {
 }
 
 /// How a method is invoked (JVMS 2.11.8).
-#[derive(Clone, Copy, Debug, PartialEq, Eq)]
+#[derive(Clone, Copy, Debug, PartialEq, Eq, Hash)]
 pub enum InvokeOp {
     Virtual,
     Special,
@@ -191,7 +191,7 @@ pub enum InvokeOp {
 }
 
 /// What is done with a class, an interface or an array type.
-#[derive(Clone, Copy, Debug, PartialEq, Eq)]
+#[derive(Clone, Copy, Debug, PartialEq, Eq, Hash)]
 pub enum TypeOp {
     /// `anewarray`: an array whose elements are of the type.
     NewArray,

@@ -1,9 +1,12 @@
+ghost use Rattle.std.specs.Prelude.{◌≡◌, IfOk};
+
 use crate::boxed::Boxed;
 use crate::instruction::operation::{
     Arithmetic, Bitwise, Branch, Conversion, Integral, OperandType, Shift, ShortIndex, SmallInt,
     SmallLong, StackOp,
 };
 use crate::sequence::Sequence;
+use std::alloc::AllocError;
 
 /// An instruction of one byte that touches one frame alone.
 #[derive(Clone, Copy, Debug, PartialEq, Eq)]
@@ -66,4 +69,24 @@ pub struct LookupSwitch {
 pub struct SwitchPair {
     pub key: i32,
     pub target: u32,
+}
+
+impl Plain {
+    /// The same instruction once more; a switch is shared, and it takes no memory. The error is
+    /// that of [`Boxed::share`].
+    pub fn share(&self) -> Result<Plain, AllocError>
+        ensures { IfOk result (λ plain. plain ≡ self.now) }
+    {
+        match self {
+            Plain::Simple(simple) => Ok(Plain::Simple(*simple)),
+            Plain::PushByte(value) => Ok(Plain::PushByte(*value)),
+            Plain::PushShort(value) => Ok(Plain::PushShort(*value)),
+            Plain::Load(kind, index) => Ok(Plain::Load(*kind, *index)),
+            Plain::Store(kind, index) => Ok(Plain::Store(*kind, *index)),
+            Plain::Increment(index, by) => Ok(Plain::Increment(*index, *by)),
+            Plain::Branch(branch, target) => Ok(Plain::Branch(*branch, *target)),
+            Plain::TableSwitch(table) => Ok(Plain::TableSwitch(table.share()?)),
+            Plain::LookupSwitch(lookup) => Ok(Plain::LookupSwitch(lookup.share()?)),
+        }
+    }
 }

@@ -1,9 +1,12 @@
+ghost use Rattle.std.specs.Prelude.{◌≡◌, IfOk};
+
 use crate::boxed::Boxed;
 use crate::constant::Constant;
 use crate::instruction::operation::{ArrayOp, FieldOp, InvokeOp, MonitorOp, ReturnOp, TypeOp};
 use crate::instruction::plain::Plain;
 use crate::name::Name;
 use crate::reference::{ClassRef, FieldRef, MethodRef};
+use std::alloc::AllocError;
 
 /// An instruction with its operands, by name.
 #[derive(Debug, PartialEq, Eq, Drop)]
@@ -22,4 +25,25 @@ pub enum Instr {
     /// `new`.
     New(Boxed<Name>),
     Type(TypeOp, Boxed<ClassRef>),
+}
+
+impl Instr {
+    /// The same instruction once more; what it names is shared, and it takes no memory. The error
+    /// is that of [`Boxed::share`].
+    pub fn share(&self) -> Result<Instr, AllocError>
+        ensures { IfOk result (λ instr. instr ≡ self.now) }
+    {
+        match self {
+            Instr::Plain(plain) => Ok(Instr::Plain(plain.share()?)),
+            Instr::Array(op) => Ok(Instr::Array(*op)),
+            Instr::Return(op) => Ok(Instr::Return(*op)),
+            Instr::Throw => Ok(Instr::Throw),
+            Instr::Monitor(op) => Ok(Instr::Monitor(*op)),
+            Instr::Constant(constant) => Ok(Instr::Constant(constant.share()?)),
+            Instr::Field(op, field) => Ok(Instr::Field(*op, field.share()?)),
+            Instr::Invoke(op, method) => Ok(Instr::Invoke(*op, method.share()?)),
+            Instr::New(name) => Ok(Instr::New(name.share()?)),
+            Instr::Type(op, class) => Ok(Instr::Type(*op, class.share()?)),
+        }
+    }
 }

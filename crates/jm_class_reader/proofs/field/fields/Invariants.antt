@@ -5,4 +5,7 @@ use Rattle.jm_class_format.specs.Members.{field, fields}
 use Rattle.jm_class_reader.proofs.field.fields.Given as goal
 
 abbrev pub invariant-loop : goal.invariant-loop
-invariant-loop l = with_front l.fields.items ((many (l.count - l.counter) (field l.pool)).read l.reader) ≡ (fields l.pool).read l.fn.reader
+invariant-loop l = record {
+  same : l.symbols ≡ l.fn.symbols;
+  so_far : with_front l.fields.items ((many (l.count - l.counter) (field l.fn.symbols)).read l.reader) ≡ (fields l.fn.symbols).read l.fn.reader;
+}

@@ -4,7 +4,7 @@ use Rattle.jm_bytes.proofs.Loops.{repeated_fault}
 use Rattle.jm_class_format.specs.Members.{method_attribute}
 use Rattle.jm_class_reader.proofs.method.method_attributes.Goals as goal
 
-pub returns-in_err-found : goal.returns-in_err-found
-returns-in_err-found c =
+pub returns-in_err-found-clause-given : goal.returns-in_err-found-clause-given
+returns-in_err-found-clause-given c =
     let p = err_from_is_err_and c.from_residual-in_err-found.result c.from_residual-in_err-found.ensures.1 in
-    rw (p.1, p.2) (λ other. sym c.loop.invariant ∙ repeated_fault (method_attribute c.args.pool.now c.args.in_interface c.args.method.now) c.loop.found c.in_ok-count.count c.loop.counter c.loop.reader _ c.loop-test.true (c.in_err-found.ensures other))
+    rw (p.1, p.2) (λ other. sym c.loop.invariant.so_far ∙ repeated_fault (method_attribute c.args.symbols.now c.args.in_interface c.args.method.now) c.loop.found c.in_ok-count.count c.loop.counter c.loop.reader _ c.loop-test.true (rw c.loop.invariant.same at (c.in_err-found.ensures.given other)))

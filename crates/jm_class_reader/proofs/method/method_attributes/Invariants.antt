@@ -4,4 +4,7 @@ use Rattle.jm_class_format.specs.Members.{method_attribute, method_attributes}
 use Rattle.jm_class_reader.proofs.method.method_attributes.Given as goal
 
 abbrev pub invariant-loop : goal.invariant-loop
-invariant-loop l = (repeated (l.count - l.counter) (method_attribute l.pool l.in_interface l.method) l.found).read l.reader ≡ (method_attributes l.pool l.in_interface l.method).read l.fn.reader
+invariant-loop l = record {
+  same : l.symbols ≡ l.fn.symbols;
+  so_far : (repeated (l.count - l.counter) (method_attribute l.fn.symbols l.in_interface l.method) l.found).read l.reader ≡ (method_attributes l.fn.symbols l.in_interface l.method).read l.fn.reader;
+}

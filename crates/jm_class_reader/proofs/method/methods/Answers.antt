@@ -4,7 +4,7 @@ use Rattle.jm_bytes.proofs.Loops.{many_fault}
 use Rattle.jm_class_format.specs.Members.{method}
 use Rattle.jm_class_reader.proofs.method.methods.Goals as goal
 
-pub returns-in_err-method : goal.returns-in_err-method
-returns-in_err-method c =
+pub returns-in_err-method-clause-given : goal.returns-in_err-method-clause-given
+returns-in_err-method-clause-given c =
     let p = err_from_is_err_and c.from_residual-in_err-method.result c.from_residual-in_err-method.ensures.1 in
-    rw (p.1, p.2) (λ other. sym c.loop.invariant ∙ many_fault (method c.args.pool.now c.args.in_interface) c.loop.methods.items c.in_ok-count.count c.loop.counter c.loop.reader _ c.loop-test.true (c.in_err-method.ensures other))
+    rw (p.1, p.2) (λ other. sym c.loop.invariant.so_far ∙ many_fault (method c.args.symbols.now c.args.in_interface) c.loop.methods.items c.in_ok-count.count c.loop.counter c.loop.reader _ c.loop-test.true (rw c.loop.invariant.same at (c.in_err-method.ensures.given other)))

@@ -7,6 +7,7 @@ use Rattle.jm_class_reader.proofs.named_code.instructions_of.Given as goal
 
 abbrev pub invariant-loop-one : goal.invariant-loop-one
 invariant-loop-one l = record {
+  same : l.symbols ≡ l.fn.symbols;
   len : into_iter_len l.one-iterator ≡ length (into_iter_items l.one-iterator);
-  so_far : with_front_all l.all.items (each (placed_named l.pool) (into_iter_items l.one-iterator)) ≡ each (placed_named l.pool) l.fn.placed.items;
+  so_far : with_front_all l.all.items (each (placed_named l.fn.symbols) (into_iter_items l.one-iterator)) ≡ each (placed_named l.fn.symbols) l.fn.placed.items;
 }

@@ -1,0 +1,126 @@
+// What the readers tell of Main's runs over the plain heap. The answers are worked out by hand: the
+// stream of System.out is object 0, main's empty array object 1 and an exception object 2.
+
+use crate::class_file::{BY_ZERO, SUM};
+use crate::machines::{STEP, loaded};
+use jm_heap::PlainHeap;
+use jm_machine::{
+    ElementKind, Machine, MethodFrame, ObjectKind, OutOfMemory, WorldFrame, WorldObject, WorldValue,
+};
+use jm_program::is_text;
+use jm_world::Stage;
+use std::test::Fail;
+
+fn begins_main(machine: &Machine<PlainHeap>) -> bool {
+    match machine.frame(1, 0) {
+        Some(WorldFrame::Initialization { class, stage }) => {
+            stage == Stage::Begin && class.parts().name.is_text(b"Main")
+        }
+        _ => false,
+    }
+}
+
+fn is_of_main(frame: &MethodFrame<PlainHeap>) -> bool {
+    frame.class().parts().name.is_text(b"Main") && frame.method().name.is_text(b"main")
+}
+
+fn has_first_locals(frame: &MethodFrame<PlainHeap>) -> bool {
+    frame.max_locals() == 8
+        && frame.local(0) == Some(Some(WorldValue::Ref(1)))
+        && frame.local(7) == Some(None)
+        && frame.local(8).is_none()
+}
+
+fn has_operands_of_sum(frame: &MethodFrame<PlainHeap>) -> bool {
+    frame.operands() == 3
+        && frame.operand(0) == Some(WorldValue::Int(3))
+        && frame.operand(1) == Some(WorldValue::Int(2))
+        && frame.operand(2) == Some(WorldValue::Ref(0))
+        && frame.operand(3).is_none()
+}
+
+// Main's frame stands below the initialization of its class.
+fn is_at_start(machine: &Machine<PlainHeap>) -> bool {
+    match machine.frame(1, 1) {
+        Some(WorldFrame::Method(frame)) => {
+            begins_main(machine) && is_of_main(&frame) && has_first_locals(&frame)
+        }
+        _ => false,
+    }
+}
+
+// Both numbers are pushed, and not added yet.
+fn is_at_sum(machine: &Machine<PlainHeap>) -> bool {
+    match machine.frame(1, 0) {
+        Some(WorldFrame::Method(frame)) => {
+            frame.at() == 3
+                && has_operands_of_sum(&frame)
+                && frame.monitor().is_none()
+                && machine.monitor(0).is_none()
+        }
+        _ => false,
+    }
+}
+
+fn has_system_out(machine: &Machine<PlainHeap>) -> bool {
+    let statics = machine.statics();
+    match statics.get(0) {
+        Some(out) => {
+            out.class.is_text(b"java/lang/System")
+                && out.name.is_text(b"out")
+                && out.value == WorldValue::Ref(0)
+                && statics.len() == 1
+        }
+        None => false,
+    }
+}
+
+fn is_array_of_strings(object: &WorldObject<PlainHeap>) -> bool {
+    match object.kind() {
+        ObjectKind::Array {
+            dimensions,
+            element: ElementKind::Class(name),
+        } => dimensions == 0 && is_text(name, b"java/lang/String"),
+        _ => false,
+    }
+}
+
+fn has_empty_array(machine: &Machine<PlainHeap>) -> Result<bool, OutOfMemory> {
+    match machine.object(1)? {
+        Some(object) => Ok(
+            is_array_of_strings(&object) && object.length() == 0 && object.value(0).is_none(),
+        ),
+        None => Ok(false),
+    }
+}
+
+fn has_exception(machine: &Machine<PlainHeap>) -> Result<bool, OutOfMemory> {
+    match machine.object(2)? {
+        Some(object) => match object.kind() {
+            ObjectKind::Instance { class } => Ok(is_text(class, b"java/lang/ArithmeticException")),
+            ObjectKind::Array { .. } => Ok(false),
+        },
+        None => Ok(false),
+    }
+}
+
+#[test]
+fn frames_and_statics_are_told(rt: HostRuntime) -> Result<(), Fail> {
+    let mut machine = loaded(rt.alloc(), &SUM, 65536)?;
+    assert!(rt; is_at_start(&machine));
+    let _ = machine.run(&[STEP; 6])?;
+    assert!(rt; is_at_sum(&machine));
+    assert!(rt; has_system_out(&machine));
+    Ok(())
+}
+
+#[test]
+fn objects_are_told(rt: HostRuntime) -> Result<(), Fail> {
+    let mut machine = loaded(rt.alloc(), &BY_ZERO, 65536)?;
+    let _ = machine.run(&[STEP; 6])?;
+    assert!(rt; machine.pending(1) == Some(2));
+    assert!(rt; has_empty_array(&machine)?);
+    assert!(rt; has_exception(&machine)?);
+    assert!(rt; machine.reachable()?.len() == 3);
+    Ok(())
+}
