@@ -362,8 +362,8 @@ fn whole_class(alloc: Global, bytes: &[u8]) -> Result<Class, ReadFault>
 }
 
 /// The class that the bytes of a class file spell (JVMS 4.1). It takes time and memory in the
-/// bytes that are there, whatever counts and lengths they claim, and in the names and texts that
-/// are used, each of which is copied where it is used.
+/// bytes that are there, whatever counts and lengths they claim: what a text or an operand names
+/// is made at its first use, and the other uses share it.
 ///
 /// # Errors
 /// The first fault in this order. The magic number and the version (30, 31); the pool in the order
