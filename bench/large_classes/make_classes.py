@@ -65,6 +65,18 @@ def fields(pool):
     return [struct.pack(">HHHH", 1, pool.text("f"), pool.text("I"), 0)] * 65535, []
 
 
+def fields_of_long_names(pool):
+    name, descriptor = pool.text("f" * 60000), pool.text("L" + "c" * 60000 + ";")
+    return [struct.pack(">HHHH", 1, name, descriptor, 0)] * 65535, []
+
+
+def members_of_a_long_class(pool):
+    """20,000 methods of a class of a long name, each invoked once."""
+    owner = "c" * 60000
+    code = b"".join(struct.pack(">BH", 0xB6, pool.member(10, owner, f"m{n}", "()V")) for n in range(20000))
+    return [], [method(pool, "m", code + b"\xb1")]
+
+
 SHAPES = {
     "nop": full_methods(lambda pool: b"\x00"),
     "bipush": full_methods(lambda pool: b"\x10\x01"),
@@ -75,6 +87,9 @@ SHAPES = {
     "invokevirtual": indexed(0xB6, lambda pool: pool.member(10, "java/io/PrintStream", "println", "(I)V")),
     "small methods": small_methods,
     "fields": fields,
+    "long names": indexed(0xB6, lambda pool: pool.member(10, "c" * 60000, "m" * 60000, "(L" + "d" * 60000 + ";)V")),
+    "fields of long names": fields_of_long_names,
+    "a long class": members_of_a_long_class,
 }
 
 JAVA_METHOD = """    static int method{n}(int count, int[] values) {{
