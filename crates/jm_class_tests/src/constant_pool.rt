@@ -70,10 +70,8 @@ fn looks_up(rt: HostRuntime) -> Result<(), Fail> {
     assert_eq!(rt; pool.text(4), Some([0x49].as_slice()));
     assert_eq!(rt; pool.integer(9), Some(-2));
     assert_eq!(rt; pool.long(10), Some(-3));
-    assert_eq!(rt;
-        pool.class(2).map(|text| text.units),
-        Some([0x41].as_slice())
-    );
+    let class = pool.class(2).expect(&rt, "a class");
+    assert_eq!(rt; class.units, [0x41].as_slice());
     assert_eq!(rt; pool.string(12), Some([0x41].as_slice()));
     assert!(rt; pool.name_and_type(5).is_some());
     assert!(rt; pool.field(6).is_some() && pool.field(7).is_none());
