@@ -39,7 +39,7 @@ use Rattle.jm_jasmin.specs.declared.part.Part.TheVariants as part
 use Rattle.jm_jasmin.specs.Items.{instruction_here, instruction_count, label_value, locals_limit, stack_limit}
 use Rattle.jm_jasmin.specs.Labels.{end_at, place_at, target, pair_of, table_of, lookup_of, instruction_of, handler_of, part_of}
 use Rattle.jm_jasmin.specs.Body.{instruction_in, handler_in, line_in, tables_of, empty_between, empty_range_in, empty_range, unless_fault, limit_or_one, checked_locals, checked_count, code_of}
-use Rattle.jm_jasmin.proofs.Readings.{passed}
+use Rattle.jm_class_format.proofs.Kept.{passed}
 use Rattle.jm_jasmin.proofs.ItemsFit.{Keeps, AllKeep, BodyKeeps}
 
 abbrev Values : Type 0

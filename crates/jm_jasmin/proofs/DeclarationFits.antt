@@ -17,7 +17,7 @@ use Rattle.jm_jasmin_lex.specs.Token.{TokenParts}
 use Rattle.jm_jasmin_ops.specs.Faults.{of_read}
 use Rattle.jm_jasmin_ops.specs.declared.fault.AsmFault.{AsmFault}
 use Rattle.jm_jasmin_ops.specs.declared.fault.AsmFault.TheVariants as fault
-use Rattle.jm_jasmin_ops.proofs.SymbolsFit.{MethodKept, method_type_kept}
+use Rattle.jm_class_format.proofs.SymbolsFit.{MethodKept, method_type_kept}
 use Rattle.jm_jasmin.specs.Lines.{line_number}
 use Rattle.jm_jasmin.specs.Words.{word_text, with_length_from, flag_named, not_a_flag, flag_or, flag_of, flags_from, flags_before}
 use Rattle.jm_jasmin.specs.Symbols.{method_name, method_type, units_at}

@@ -23,7 +23,7 @@ use Rattle.jm_jasmin_lex.specs.Integers.{integer_of}
 use Rattle.jm_jasmin_lex.specs.Literals.{units_of_literal}
 use Rattle.jm_jasmin_ops.specs.Faults.{of_read}
 use Rattle.jm_jasmin_ops.specs.declared.fault.AsmFault.{AsmFault}
-use Rattle.jm_jasmin_ops.proofs.SymbolsFit.{field_type_kept}
+use Rattle.jm_class_format.proofs.SymbolsFit.{field_type_kept}
 use Rattle.jm_jasmin.specs.declared.field.ValueKind.{ValueKind}
 use Rattle.jm_jasmin.specs.declared.field.ValueKind.TheVariants as value
 use Rattle.jm_jasmin.specs.Lines.{is_word_kind, begins, line_number, by_line}

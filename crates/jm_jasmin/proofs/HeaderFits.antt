@@ -13,7 +13,7 @@ use Rattle.jm_jasmin_lex.specs.Token.{TokenParts}
 use Rattle.jm_jasmin_lex.specs.Lines.{first_line}
 use Rattle.jm_jasmin_ops.specs.Faults.{of_read}
 use Rattle.jm_jasmin_ops.specs.declared.fault.AsmFault.{AsmFault}
-use Rattle.jm_jasmin_ops.proofs.SymbolsFit.{class_name_fits, field_name_fits}
+use Rattle.jm_class_format.proofs.SymbolsFit.{class_name_fits, field_name_fits}
 use Rattle.jm_jasmin.specs.Lines.{begins, line_number, by_line, required, optional}
 use Rattle.jm_jasmin.specs.Words.{with_length_from, only_operand, flags_before}
 use Rattle.jm_jasmin.specs.Symbols.{class_name, field_name, method_name, units_at, class_name_at, field_name_at}

@@ -17,10 +17,6 @@ pub either_way : {A : Type 0} (Q : Type 0) (b : Bool) (r s : Result A AsmFault) 
 either_way Q true r s p h first second = first h
 either_way Q false r s p h first second = second h
 
-pub passed : {A : Type 0} (b : Bool) (x y : A) (e : AsmFault) → (if b then Ok x else Err e) ≡ Ok y → (b ≡ true) × (x ≡ y)
-passed true x y e h = (refl, same_Ok {F = AsmFault} x y h)
-passed false x y e h = absurd cc
-
 -- ---- lines
 
 pub by_line_is : {A : Type 0} (f : List TokenParts → Result A AsmFault) (ts : List TokenParts) (p : A × List TokenParts) → by_line f ts ≡ Ok p → f (first_line ts).0 ≡ Ok p.0

@@ -31,7 +31,7 @@ use Rattle.jm_jasmin_ops.specs.Operands.{signed_byte, signed_short, unsigned_sho
 use Rattle.jm_jasmin_ops.specs.Instruction.{named_instr}
 use Rattle.jm_jasmin_ops.specs.declared.fault.AsmFault.{AsmFault}
 use Rattle.jm_jasmin_ops.specs.declared.fault.AsmFault.TheVariants as fault
-use Rattle.jm_jasmin_ops.proofs.SymbolsFit.{class_name_fits, field_name_fits, field_type_kept, class_ref_kept, element_kept, method_ref_kept}
+use Rattle.jm_class_format.proofs.SymbolsFit.{class_name_fits, field_name_fits, field_type_kept, class_ref_kept, element_kept, method_ref_kept}
 
 -- ---- words
 

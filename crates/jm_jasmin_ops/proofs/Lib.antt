@@ -6,4 +6,3 @@ pub mod NamedOpcodes
 pub mod Rows
 pub mod SpelledFit
 pub mod SwitchesFit
-pub mod SymbolsFit
