@@ -11,148 +11,118 @@ use std::alloc::{AllocError, Global};
 use std::process::Abort;
 use std::test::Fail;
 
-// Magic and version.
-const MAGIC_AND_VERSION: [&str; 7] = [
-    "0:1 CB => 30 Magic",
-    "4:4 00 00 00 2C => 31 Version",
-    "4:4 00 00 00 2D => [] []; None",
-    "4:4 FF FF 00 33 => [] []; None",
-    "4:4 00 00 00 34 => [] []; None",
-    "4:4 00 01 00 34 => 31 Version",
-    "4:4 00 00 00 35 => 31 Version",
-];
-
-// The end.
-const THE_END: [&str; 1] = ["245:0 00 => 33 Trailing"];
-
-// The pool.
-const THE_POOL: [&str; 11] = [
-    "8:2 00 15 | 195:0 04 3F 80 00 00 => 35 LeftOut(Float)",
-    "8:2 00 15 | 195:0 04 3F 80 00 00 | 229:3 12 14 00 => 35 LeftOut(Float)",
-    "8:2 00 16 | 195:0 06 00 00 00 00 00 00 00 00 => 35 LeftOut(Double)",
-    "8:2 00 15 | 195:0 0F 01 00 13 => 35 LeftOut(MethodHandle)",
-    "8:2 00 15 | 195:0 10 00 06 => 35 LeftOut(MethodType)",
-    "8:2 00 15 | 195:0 12 00 00 00 12 => 35 LeftOut(InvokeDynamic)",
-    "8:2 00 15 | 195:0 02 00 00 => 20 BadTag(2)",
-    "8:2 00 15 | 195:0 07 00 02 => 21 BadIndex(2)",
-    "8:2 00 15 | 195:0 01 00 01 00 => 22 BadUtf8",
-    "8:2 00 15 | 195:0 05 00 00 00 00 00 00 00 07 => 21 BadIndex(21)",
-    "8:2 00 16 | 195:0 05 00 00 00 00 00 00 00 07 | 197:2 00 15 => 21 BadIndex(21)",
-];
-
-// The class, its superclass and its interfaces.
-const THE_CLASS_ITS_SUPERCLASS_AND_ITS_INTERFACES: [&str; 6] = [
-    "195:2 F0 21 => [] []; None",
-    "197:2 00 00 => 21 BadIndex(0)",
-    "199:2 00 00 => 21 BadIndex(0)",
-    "199:2 00 01 => 21 BadIndex(1)",
-    "201:2 00 01 00 04 => [] []; None",
-    "8:2 00 16 | 195:0 01 00 02 5B 49 07 00 14 | 197:2 00 15 => 2 BadName",
-];
-
-// Fields.
-const FIELDS: [&str; 8] = [
-    "8:2 00 18 | 195:0 01 00 01 49 01 00 0D 'ConstantValue 03 00 00 00 07 08 00 01 | 203:2 00 01 00 09 00 05 00 14 00 01 00 15 00 00 00 02 00 16 => Some(Int(7)); [] []; None",
-    "8:2 00 18 | 195:0 01 00 01 49 01 00 0D 'ConstantValue 03 00 00 00 07 08 00 01 | 203:2 00 01 00 01 00 05 00 14 00 01 00 15 00 00 00 02 00 16 => None; [] []; None",
-    "8:2 00 18 | 195:0 01 00 01 49 01 00 0D 'ConstantValue 03 00 00 00 07 08 00 01 | 203:2 00 01 00 01 00 05 00 14 00 02 00 15 00 00 00 02 00 01 00 15 00 00 00 02 00 00 => None; [] []; None",
-    "8:2 00 18 | 195:0 01 00 01 49 01 00 0D 'ConstantValue 03 00 00 00 07 08 00 01 | 203:2 00 01 00 09 00 05 00 14 00 01 00 15 00 00 00 02 00 17 => 34 BadAttribute",
-    "8:2 00 18 | 195:0 01 00 01 49 01 00 0D 'ConstantValue 03 00 00 00 07 08 00 01 | 203:2 00 01 00 09 00 05 00 14 00 01 00 15 00 00 00 02 00 01 => 21 BadIndex(1)",
-    "8:2 00 18 | 195:0 01 00 01 49 01 00 0D 'ConstantValue 03 00 00 00 07 08 00 01 | 203:2 00 01 00 09 00 05 00 14 00 02 00 15 00 00 00 02 00 16 00 15 00 00 00 02 00 16 => 34 BadAttribute",
-    "8:2 00 18 | 195:0 01 00 01 49 01 00 0D 'ConstantValue 03 00 00 00 07 08 00 01 | 203:2 00 01 00 09 00 05 00 14 00 01 00 15 00 00 00 03 00 16 00 => 34 BadAttribute",
-    "8:2 00 18 | 195:0 01 00 01 49 01 00 0D 'ConstantValue 03 00 00 00 07 08 00 01 | 203:2 00 01 00 09 00 05 00 11 00 00 => 1 BadDescriptor",
-];
-
-// Flags, names and types of methods.
-const FLAGS_NAMES_AND_TYPES_OF_METHODS: [&str; 17] = [
-    "207:2 01 09 => 35 LeftOut(native)",
-    "207:2 00 29 => 35 LeftOut(static synchronized)",
-    "207:2 04 09 => 34 BadAttribute",
-    "207:2 04 01 => 34 BadAttribute",
-    "207:2 04 01 | 213:30 00 00 => None",
-    "213:30 00 00 => 34 BadAttribute",
-    "209:2 00 04 => 21 BadIndex(4)",
-    "209:2 00 03 => 2 BadName",
-    "211:2 00 05 => 1 BadDescriptor",
-    "211:2 00 0B => 1 BadDescriptor",
-    "8:2 00 15 | 195:0 01 00 04 '(F)V | 211:2 00 14 => 35 LeftOut(float)",
-    "8:2 00 15 | 195:0 01 00 07 '([I)[[D | 211:2 00 14 => 35 LeftOut(double)",
-    "8:2 00 15 | 195:0 01 00 08 '(La.b;)V | 211:2 00 14 => 2 BadName",
-    "8:2 00 16 | 195:0 01 00 08 'finalize 01 00 03 28 29 56 | 209:4 00 14 00 15 => 35 LeftOut(finalize)",
-    "195:2 06 01 => 35 LeftOut(interface method)",
-    "8:2 00 16 | 195:0 01 00 08 '<clinit> 01 00 03 28 29 56 | 195:2 06 01 | 207:4 00 08 00 14 | 211:2 00 15 => [] []; None",
-    "8:2 00 16 | 195:0 01 00 06 '<init> 01 00 03 28 29 56 | 207:4 04 01 00 14 | 211:2 00 15 => 34 BadAttribute",
-];
-
-// The Code attribute.
-const THE_CODE_ATTRIBUTE: [&str; 9] = [
-    "217:4 00 00 00 15 => 34 BadAttribute",
-    "217:4 00 00 00 17 => 34 BadAttribute",
-    "217:4 00 00 00 19 => 32 Cut",
-    "217:4 FF FF FF FF => 32 Cut",
-    "213:2 00 02 | 243:0 00 07 00 00 00 16 00 08 00 08 00 00 00 0A B2 00 0D 05 06 60 B6 00 13 B1 00 00 00 00 => 34 BadAttribute",
-    "223:2 00 00 => 34 BadAttribute",
-    "225:4 00 00 00 00 => 34 BadAttribute",
-    "225:4 00 01 00 00 => 34 BadAttribute",
-    "225:4 00 00 00 0B => 34 BadAttribute",
-];
-
-// Instructions, and what they name.
-const INSTRUCTIONS_AND_WHAT_THEY_NAME: [&str; 16] = [
-    "229:1 BA => 11 LeftOut(invokedynamic)",
-    "229:1 FF => 10 BadOpcode(0)",
-    "238:1 B2 => 12 Cut(9)",
-    "229:3 A7 00 01 => 13 BadTarget",
-    "229:4 C5 00 02 01 => 16 Later(multianewarray)",
-    "230:2 00 04 => 21 BadIndex(4)",
-    "229:3 12 02 00 => 35 LeftOut(ldc class)",
-    "229:3 12 01 00 => 21 BadIndex(1)",
-    "229:3 14 00 01 => 21 BadIndex(1)",
-    "236:2 00 0D => 21 BadIndex(13)",
-    "8:2 00 15 | 195:0 0B 00 0F 00 12 | 235:3 B7 00 14 => 35 LeftOut(interface method)",
-    "8:2 00 15 | 195:0 0B 00 0F 00 12 | 235:3 B8 00 14 => 35 LeftOut(interface method)",
-    "8:2 00 15 | 195:0 0B 00 0F 00 12 | 235:3 B6 00 14 => 21 BadIndex(20)",
-    "8:2 00 15 | 195:0 0B 00 0F 00 12 | 234:5 B9 00 14 02 00 => [] []; None",
-    "8:2 00 15 | 195:0 0B 00 0F 00 12 | 234:5 B9 00 14 01 00 => 34 BadAttribute",
-    "8:2 00 15 | 195:0 0B 00 0F 00 12 | 234:5 B9 00 14 02 01 => 34 BadAttribute",
-];
-
-// The exception table.
-const THE_EXCEPTION_TABLE: [&str; 10] = [
-    "217:4 00 00 00 1E | 239:2 00 01 00 00 00 0A 00 00 00 00 => [Handler { start: 0, end: 6, target: 0, catch_type: None }] []; None",
-    "217:4 00 00 00 1E | 239:2 00 01 00 03 00 05 00 04 00 00 => [Handler { start: 1, end: 3, target: 2, catch_type: None }] []; None",
-    "217:4 00 00 00 1E | 239:2 00 01 00 03 00 03 00 00 00 00 => 34 BadAttribute",
-    "217:4 00 00 00 1E | 239:2 00 01 00 04 00 03 00 00 00 00 => 34 BadAttribute",
-    "217:4 00 00 00 1E | 239:2 00 01 00 01 00 03 00 00 00 00 => 34 BadAttribute",
-    "217:4 00 00 00 1E | 239:2 00 01 00 00 00 01 00 00 00 00 => 34 BadAttribute",
-    "217:4 00 00 00 1E | 239:2 00 01 00 00 00 0B 00 00 00 00 => 34 BadAttribute",
-    "217:4 00 00 00 1E | 239:2 00 01 00 00 00 0A 00 0A 00 00 => 34 BadAttribute",
-    "217:4 00 00 00 1E | 239:2 00 01 00 00 00 0A 00 02 00 00 => 34 BadAttribute",
-    "217:4 00 00 00 1E | 239:2 00 01 00 00 00 0A 00 00 00 01 => 21 BadIndex(1)",
-];
-
-// Line numbers.
-const LINE_NUMBERS: [&str; 5] = [
-    "8:2 00 15 | 195:0 01 00 0F 'LineNumberTable | 217:4 00 00 00 2E | 241:2 00 02 00 14 00 00 00 06 00 01 00 00 00 05 00 14 00 00 00 06 00 01 00 03 00 04 => [] [LineNumber { start: 0, line: 5 }, LineNumber { start: 1, line: 4 }]; None",
-    "8:2 00 15 | 195:0 01 00 0F 'LineNumberTable | 217:4 00 00 00 22 | 241:2 00 01 00 14 00 00 00 06 00 01 00 01 00 05 => 34 BadAttribute",
-    "8:2 00 15 | 195:0 01 00 0F 'LineNumberTable | 217:4 00 00 00 22 | 241:2 00 01 00 14 00 00 00 06 00 01 00 0A 00 05 => 34 BadAttribute",
-    "8:2 00 15 | 195:0 01 00 0F 'LineNumberTable | 217:4 00 00 00 23 | 241:2 00 01 00 14 00 00 00 07 00 01 00 00 00 05 00 => 34 BadAttribute",
-    "8:2 00 15 | 195:0 01 00 0F 'LineNumberTable | 217:4 00 00 00 22 | 241:2 00 01 00 14 00 00 00 05 00 01 00 00 00 05 => 34 BadAttribute",
-];
-
-// Attributes that are skipped.
-const ATTRIBUTES_THAT_ARE_SKIPPED: [&str; 2] = [
-    "8:2 00 15 | 195:0 01 00 01 58 | 243:2 00 01 00 04 00 00 00 02 01 02 => 21 BadIndex(4)",
-    "8:2 00 15 | 195:0 01 00 01 58 | 243:2 00 01 00 14 00 00 00 03 01 02 => 32 Cut",
-];
-
-// The source file.
-const THE_SOURCE_FILE: [&str; 5] = [
-    "8:2 00 15 | 195:0 01 00 0A 'SourceFile | 243:2 00 01 00 14 00 00 00 02 00 01 => [] []; Some(Sequence { items: [77, 97, 105, 110] })",
-    "8:2 00 15 | 195:0 01 00 0A 'SourceFile | 243:2 00 02 00 14 00 00 00 02 00 01 00 14 00 00 00 02 00 01 => 34 BadAttribute",
-    "8:2 00 15 | 195:0 01 00 0A 'SourceFile | 243:2 00 01 00 14 00 00 00 03 00 01 00 => 34 BadAttribute",
-    "8:2 00 15 | 195:0 01 00 0A 'SourceFile | 243:2 00 01 00 14 00 00 00 01 00 => 34 BadAttribute",
-    "8:2 00 15 | 195:0 01 00 0A 'SourceFile | 243:2 00 01 00 14 00 00 00 02 00 02 => 21 BadIndex(2)",
-];
+/// Edits and their answers. A line that begins with `#` names the part of JVMS 4 below it.
+const ANSWERS: &str = "\
+# Magic and version.
+0:1 CB => 30 Magic
+4:4 00 00 00 2C => 31 Version
+4:4 00 00 00 2D => [] []; None
+4:4 FF FF 00 33 => [] []; None
+4:4 00 00 00 34 => [] []; None
+4:4 00 01 00 34 => 31 Version
+4:4 00 00 00 35 => 31 Version
+# The end.
+245:0 00 => 33 Trailing
+# The pool.
+8:2 00 15 | 195:0 04 3F 80 00 00 => 35 LeftOut(Float)
+8:2 00 15 | 195:0 04 3F 80 00 00 | 229:3 12 14 00 => 35 LeftOut(Float)
+8:2 00 16 | 195:0 06 00 00 00 00 00 00 00 00 => 35 LeftOut(Double)
+8:2 00 15 | 195:0 0F 01 00 13 => 35 LeftOut(MethodHandle)
+8:2 00 15 | 195:0 10 00 06 => 35 LeftOut(MethodType)
+8:2 00 15 | 195:0 12 00 00 00 12 => 35 LeftOut(InvokeDynamic)
+8:2 00 15 | 195:0 02 00 00 => 20 BadTag(2)
+8:2 00 15 | 195:0 07 00 02 => 21 BadIndex(2)
+8:2 00 15 | 195:0 01 00 01 00 => 22 BadUtf8
+8:2 00 15 | 195:0 05 00 00 00 00 00 00 00 07 => 21 BadIndex(21)
+8:2 00 16 | 195:0 05 00 00 00 00 00 00 00 07 | 197:2 00 15 => 21 BadIndex(21)
+# The class, its superclass and its interfaces.
+195:2 F0 21 => [] []; None
+197:2 00 00 => 21 BadIndex(0)
+199:2 00 00 => 21 BadIndex(0)
+199:2 00 01 => 21 BadIndex(1)
+201:2 00 01 00 04 => [] []; None
+8:2 00 16 | 195:0 01 00 02 5B 49 07 00 14 | 197:2 00 15 => 2 BadName
+# Fields.
+8:2 00 18 | 195:0 01 00 01 49 01 00 0D 'ConstantValue 03 00 00 00 07 08 00 01 | 203:2 00 01 00 09 00 05 00 14 00 01 00 15 00 00 00 02 00 16 => Some(Int(7)); [] []; None
+8:2 00 18 | 195:0 01 00 01 49 01 00 0D 'ConstantValue 03 00 00 00 07 08 00 01 | 203:2 00 01 00 01 00 05 00 14 00 01 00 15 00 00 00 02 00 16 => None; [] []; None
+8:2 00 18 | 195:0 01 00 01 49 01 00 0D 'ConstantValue 03 00 00 00 07 08 00 01 | 203:2 00 01 00 01 00 05 00 14 00 02 00 15 00 00 00 02 00 01 00 15 00 00 00 02 00 00 => None; [] []; None
+8:2 00 18 | 195:0 01 00 01 49 01 00 0D 'ConstantValue 03 00 00 00 07 08 00 01 | 203:2 00 01 00 09 00 05 00 14 00 01 00 15 00 00 00 02 00 17 => 34 BadAttribute
+8:2 00 18 | 195:0 01 00 01 49 01 00 0D 'ConstantValue 03 00 00 00 07 08 00 01 | 203:2 00 01 00 09 00 05 00 14 00 01 00 15 00 00 00 02 00 01 => 21 BadIndex(1)
+8:2 00 18 | 195:0 01 00 01 49 01 00 0D 'ConstantValue 03 00 00 00 07 08 00 01 | 203:2 00 01 00 09 00 05 00 14 00 02 00 15 00 00 00 02 00 16 00 15 00 00 00 02 00 16 => 34 BadAttribute
+8:2 00 18 | 195:0 01 00 01 49 01 00 0D 'ConstantValue 03 00 00 00 07 08 00 01 | 203:2 00 01 00 09 00 05 00 14 00 01 00 15 00 00 00 03 00 16 00 => 34 BadAttribute
+8:2 00 18 | 195:0 01 00 01 49 01 00 0D 'ConstantValue 03 00 00 00 07 08 00 01 | 203:2 00 01 00 09 00 05 00 11 00 00 => 1 BadDescriptor
+# Flags, names and types of methods.
+207:2 01 09 => 35 LeftOut(native)
+207:2 00 29 => 35 LeftOut(static synchronized)
+207:2 04 09 => 34 BadAttribute
+207:2 04 01 => 34 BadAttribute
+207:2 04 01 | 213:30 00 00 => None
+213:30 00 00 => 34 BadAttribute
+209:2 00 04 => 21 BadIndex(4)
+209:2 00 03 => 2 BadName
+211:2 00 05 => 1 BadDescriptor
+211:2 00 0B => 1 BadDescriptor
+8:2 00 15 | 195:0 01 00 04 '(F)V | 211:2 00 14 => 35 LeftOut(float)
+8:2 00 15 | 195:0 01 00 07 '([I)[[D | 211:2 00 14 => 35 LeftOut(double)
+8:2 00 15 | 195:0 01 00 08 '(La.b;)V | 211:2 00 14 => 2 BadName
+8:2 00 16 | 195:0 01 00 08 'finalize 01 00 03 28 29 56 | 209:4 00 14 00 15 => 35 LeftOut(finalize)
+195:2 06 01 => 35 LeftOut(interface method)
+8:2 00 16 | 195:0 01 00 08 '<clinit> 01 00 03 28 29 56 | 195:2 06 01 | 207:4 00 08 00 14 | 211:2 00 15 => [] []; None
+8:2 00 16 | 195:0 01 00 06 '<init> 01 00 03 28 29 56 | 207:4 04 01 00 14 | 211:2 00 15 => 34 BadAttribute
+# The Code attribute.
+217:4 00 00 00 15 => 34 BadAttribute
+217:4 00 00 00 17 => 34 BadAttribute
+217:4 00 00 00 19 => 32 Cut
+217:4 FF FF FF FF => 32 Cut
+213:2 00 02 | 243:0 00 07 00 00 00 16 00 08 00 08 00 00 00 0A B2 00 0D 05 06 60 B6 00 13 B1 00 00 00 00 => 34 BadAttribute
+223:2 00 00 => 34 BadAttribute
+225:4 00 00 00 00 => 34 BadAttribute
+225:4 00 01 00 00 => 34 BadAttribute
+225:4 00 00 00 0B => 34 BadAttribute
+# Instructions, and what they name.
+229:1 BA => 11 LeftOut(invokedynamic)
+229:1 FF => 10 BadOpcode(0)
+238:1 B2 => 12 Cut(9)
+229:3 A7 00 01 => 13 BadTarget
+229:4 C5 00 02 01 => 16 Later(multianewarray)
+230:2 00 04 => 21 BadIndex(4)
+229:3 12 02 00 => 35 LeftOut(ldc class)
+229:3 12 01 00 => 21 BadIndex(1)
+229:3 14 00 01 => 21 BadIndex(1)
+236:2 00 0D => 21 BadIndex(13)
+8:2 00 15 | 195:0 0B 00 0F 00 12 | 235:3 B7 00 14 => 35 LeftOut(interface method)
+8:2 00 15 | 195:0 0B 00 0F 00 12 | 235:3 B8 00 14 => 35 LeftOut(interface method)
+8:2 00 15 | 195:0 0B 00 0F 00 12 | 235:3 B6 00 14 => 21 BadIndex(20)
+8:2 00 15 | 195:0 0B 00 0F 00 12 | 234:5 B9 00 14 02 00 => [] []; None
+8:2 00 15 | 195:0 0B 00 0F 00 12 | 234:5 B9 00 14 01 00 => 34 BadAttribute
+8:2 00 15 | 195:0 0B 00 0F 00 12 | 234:5 B9 00 14 02 01 => 34 BadAttribute
+# The exception table.
+217:4 00 00 00 1E | 239:2 00 01 00 00 00 0A 00 00 00 00 => [Handler { start: 0, end: 6, target: 0, catch_type: None }] []; None
+217:4 00 00 00 1E | 239:2 00 01 00 03 00 05 00 04 00 00 => [Handler { start: 1, end: 3, target: 2, catch_type: None }] []; None
+217:4 00 00 00 1E | 239:2 00 01 00 03 00 03 00 00 00 00 => 34 BadAttribute
+217:4 00 00 00 1E | 239:2 00 01 00 04 00 03 00 00 00 00 => 34 BadAttribute
+217:4 00 00 00 1E | 239:2 00 01 00 01 00 03 00 00 00 00 => 34 BadAttribute
+217:4 00 00 00 1E | 239:2 00 01 00 00 00 01 00 00 00 00 => 34 BadAttribute
+217:4 00 00 00 1E | 239:2 00 01 00 00 00 0B 00 00 00 00 => 34 BadAttribute
+217:4 00 00 00 1E | 239:2 00 01 00 00 00 0A 00 0A 00 00 => 34 BadAttribute
+217:4 00 00 00 1E | 239:2 00 01 00 00 00 0A 00 02 00 00 => 34 BadAttribute
+217:4 00 00 00 1E | 239:2 00 01 00 00 00 0A 00 00 00 01 => 21 BadIndex(1)
+# Line numbers.
+8:2 00 15 | 195:0 01 00 0F 'LineNumberTable | 217:4 00 00 00 2E | 241:2 00 02 00 14 00 00 00 06 00 01 00 00 00 05 00 14 00 00 00 06 00 01 00 03 00 04 => [] [LineNumber { start: 0, line: 5 }, LineNumber { start: 1, line: 4 }]; None
+8:2 00 15 | 195:0 01 00 0F 'LineNumberTable | 217:4 00 00 00 22 | 241:2 00 01 00 14 00 00 00 06 00 01 00 01 00 05 => 34 BadAttribute
+8:2 00 15 | 195:0 01 00 0F 'LineNumberTable | 217:4 00 00 00 22 | 241:2 00 01 00 14 00 00 00 06 00 01 00 0A 00 05 => 34 BadAttribute
+8:2 00 15 | 195:0 01 00 0F 'LineNumberTable | 217:4 00 00 00 23 | 241:2 00 01 00 14 00 00 00 07 00 01 00 00 00 05 00 => 34 BadAttribute
+8:2 00 15 | 195:0 01 00 0F 'LineNumberTable | 217:4 00 00 00 22 | 241:2 00 01 00 14 00 00 00 05 00 01 00 00 00 05 => 34 BadAttribute
+# Attributes that are skipped.
+8:2 00 15 | 195:0 01 00 01 58 | 243:2 00 01 00 04 00 00 00 02 01 02 => 21 BadIndex(4)
+8:2 00 15 | 195:0 01 00 01 58 | 243:2 00 01 00 14 00 00 00 03 01 02 => 32 Cut
+# The source file.
+8:2 00 15 | 195:0 01 00 0A 'SourceFile | 243:2 00 01 00 14 00 00 00 02 00 01 => [] []; Some(Sequence { items: [77, 97, 105, 110] })
+8:2 00 15 | 195:0 01 00 0A 'SourceFile | 243:2 00 02 00 14 00 00 00 02 00 01 00 14 00 00 00 02 00 01 => 34 BadAttribute
+8:2 00 15 | 195:0 01 00 0A 'SourceFile | 243:2 00 01 00 14 00 00 00 03 00 01 00 => 34 BadAttribute
+8:2 00 15 | 195:0 01 00 0A 'SourceFile | 243:2 00 01 00 14 00 00 00 01 00 => 34 BadAttribute
+8:2 00 15 | 195:0 01 00 0A 'SourceFile | 243:2 00 01 00 14 00 00 00 02 00 02 => 21 BadIndex(2)
+";
 
 // An attribute of two bytes that is not read, in Code and in the class.
 const SKIPPED: [&str; 2] = [
@@ -233,30 +203,25 @@ fn answer(alloc: Global, bytes: &[u8]) -> Result<String, AllocError> {
     }
 }
 
-fn check(rt: &(impl AllocGlobal + Abort), cases: &[&str]) -> Result<(), Fail> {
-    for case in cases {
-        let (edits, want) = case.split_once(" => ").expect(rt, "an answer");
-        let bytes = edited(rt.alloc(), edits)?;
-        let text = answer(rt.alloc(), &bytes)?;
-        assert_eq!(rt; text.as_str(), want, "{edits}");
-    }
+// Edits the worked file as a row says, and compares the answer.
+fn check(rt: &(impl AllocGlobal + Abort), row: &str) -> Result<(), Fail> {
+    let (edits, want) = row.split_once(" => ").expect(rt, "an answer");
+    let bytes = edited(rt.alloc(), edits)?;
+    let text = answer(rt.alloc(), &bytes)?;
+    assert_eq!(rt; text.as_str(), want, "{edits}");
     Ok(())
 }
 
 #[test]
 fn edited_files_are_answered(rt: HostRuntime) -> Result<(), Fail> {
-    check(&rt, &MAGIC_AND_VERSION)?;
-    check(&rt, &THE_END)?;
-    check(&rt, &THE_POOL)?;
-    check(&rt, &THE_CLASS_ITS_SUPERCLASS_AND_ITS_INTERFACES)?;
-    check(&rt, &FIELDS)?;
-    check(&rt, &FLAGS_NAMES_AND_TYPES_OF_METHODS)?;
-    check(&rt, &THE_CODE_ATTRIBUTE)?;
-    check(&rt, &INSTRUCTIONS_AND_WHAT_THEY_NAME)?;
-    check(&rt, &THE_EXCEPTION_TABLE)?;
-    check(&rt, &LINE_NUMBERS)?;
-    check(&rt, &ATTRIBUTES_THAT_ARE_SKIPPED)?;
-    check(&rt, &THE_SOURCE_FILE)?;
+    let mut count: u32 = 0;
+    for row in ANSWERS.lines() {
+        if !row.starts_with("#") {
+            check(&rt, row)?;
+            count = count.saturating_add(1);
+        }
+    }
+    assert_eq!(rt; count, 97);
     Ok(())
 }
 

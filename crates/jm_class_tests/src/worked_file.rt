@@ -2,8 +2,9 @@
 // from JVMS 4.
 
 use jm_class_reader::read_class;
-use jm_program::{ClassParts, code_units};
+use jm_program::{ClassParts, Code, Method, code_units};
 use std::alloc::{AllocError, Global};
+use std::process::Abort;
 use std::test::Fail;
 
 /// The bytes of the file.
@@ -40,43 +41,46 @@ fn is_text(alloc: Global, units: &[u16], text: &str) -> Result<bool, AllocError>
     Ok(units == text.as_slice())
 }
 
-#[test]
-fn worked_file_is_read(rt: HostRuntime) -> Result<(), Fail> {
-    let class = read_class(rt.alloc(), &WORKED)?;
-    let ClassParts {
-        version,
-        flags,
-        name,
-        superclass,
-        interfaces,
-        fields,
-        methods,
-        source_file,
-    } = class.into_parts();
-    assert_eq!(rt; (version.major, version.minor), (49, 0));
-    assert_eq!(rt; flags.bits, 0x0021);
-    assert!(rt; is_text(rt.alloc(), name.units(), "Main")?);
-    let superclass = superclass.expect(&rt, "a superclass");
-    assert!(rt; is_text(rt.alloc(), superclass.units(), "java/lang/Object")?);
-    assert!(rt; interfaces.as_slice().is_empty() && fields.as_slice().is_empty());
-    assert!(rt; source_file.is_none());
-    let mut methods = methods.into_vec();
-    let main = methods.pop().expect(&rt, "a method");
-    assert!(rt; methods.is_empty());
+fn check_class(rt: &impl Abort, alloc: Global, parts: &ClassParts) -> Result<(), Fail> {
+    assert_eq!(rt; (parts.version.major, parts.version.minor), (49, 0));
+    assert_eq!(rt; parts.flags.bits, 0x0021);
+    assert!(rt; is_text(alloc, parts.name.units(), "Main")?);
+    let superclass = parts.superclass.as_ref().expect(rt, "a superclass");
+    assert!(rt; is_text(alloc, superclass.units(), "java/lang/Object")?);
+    assert!(rt; parts.interfaces.as_slice().is_empty() && parts.fields.as_slice().is_empty());
+    assert!(rt; parts.source_file.is_none());
+    assert_eq!(rt; parts.methods.as_slice().len(), 1);
+    Ok(())
+}
+
+fn check_main(rt: &impl Abort, alloc: Global, main: &Method) -> Result<(), Fail> {
     assert_eq!(rt; main.flags.bits, 0x0009);
-    assert!(rt; is_text(rt.alloc(), main.name.units(), "main")?);
-    let descriptor = format!(in rt.alloc(); "{}", main.descriptor)?;
+    assert!(rt; is_text(alloc, main.name.units(), "main")?);
+    let descriptor = format!(in alloc; "{}", main.descriptor)?;
     assert_eq!(rt; descriptor.as_str(), "([Ljava/lang/String;)V");
-    let code = main.code.expect(&rt, "its code");
+    Ok(())
+}
+
+fn check_code(rt: &impl Abort, alloc: Global, code: &Code) -> Result<(), Fail> {
     assert_eq!(rt; (code.max_stack, code.max_locals), (8, 8));
     assert!(rt; code.handlers.as_slice().is_empty() && code.lines.as_slice().is_empty());
     let instructions = code.instructions.as_slice();
     assert_eq!(rt; instructions.len(), INSTRUCTIONS.len());
     for (instruction, want) in instructions.iter().zip(INSTRUCTIONS) {
-        let text = format!(in rt.alloc(); "{instruction}")?;
+        let text = format!(in alloc; "{instruction}")?;
         assert_eq!(rt; text.as_str(), want);
     }
     Ok(())
+}
+
+#[test]
+fn worked_file_is_read(rt: HostRuntime) -> Result<(), Fail> {
+    let parts = read_class(rt.alloc(), &WORKED)?.into_parts();
+    check_class(&rt, rt.alloc(), &parts)?;
+    let main = parts.methods.as_slice().first().expect(&rt, "a method");
+    check_main(&rt, rt.alloc(), main)?;
+    let code = main.code.as_ref().expect(&rt, "its code");
+    check_code(&rt, rt.alloc(), code)
 }
 
 /// The bytes end inside the pool or its count from 8 to 194, elsewhere outside of it.

@@ -44,8 +44,8 @@ no_linked program limit text (Refused _) h = absurd h
 pub some_class : (held : Result ClassParts FileFault) (class : ClassParts) (limit : ℕ) (text : List ℕ) (r : Given) → held ≡ Ok class → GivesRun (of_link (class ∷ []) limit text (links (class ∷ []))) r → GivesRun (of_class limit text held) r
 some_class held class limit text r h g = subst (λ c. GivesRun (of_class limit text c) r) (sym h) g
 
-pub no_class : (held : Result ClassParts FileFault) (limit : ℕ) (text : List ℕ) (o : Obstacle) → GivesClass held (Err o) → GivesRun (of_class limit text held) (Err o)
-no_class held limit text OutOfMemory h = tt
-no_class held limit text (Refused (refusal.BadClass file fault)) h = ap (λ c. status_without (of_class limit text c)) h
-no_class held limit text (Refused (refusal.BadText file fault)) h = ap (λ c. status_without (of_class limit text c)) h
-no_class held limit text (Refused _) h = absurd h
+pub no_class : (name : List ℕ) (held : Result ClassParts FileFault) (limit : ℕ) (text : List ℕ) (o : Obstacle) → GivesClass name held (Err o) → GivesRun (of_class limit text held) (Err o)
+no_class name held limit text OutOfMemory h = tt
+no_class name held limit text (Refused (refusal.BadClass file fault)) h = ap (λ c. status_without (of_class limit text c)) h.0
+no_class name held limit text (Refused (refusal.BadText file fault)) h = ap (λ c. status_without (of_class limit text c)) h.0
+no_class name held limit text (Refused _) h = absurd h

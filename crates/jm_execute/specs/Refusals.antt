@@ -42,34 +42,34 @@ refusal_line (refusal.Unlinked fault) = Some (codes "jm: " ++ fault_text fault)
 refusal_line refusal.HeapTooSmall = Some (codes "jm: 63 HeapTooSmall")
 refusal_line (refusal.BadSchedule line) = Some (codes "jm: 70 BadSchedule(" ++ decimal line ++ codes ")")
 
--- the class that a class file spells, or the fault in it
-abbrev pub GivesFileClass : Result ClassParts ReadFault → Result ClassParts Obstacle → Type 0
-GivesFileClass read (Ok class) = read ≡ Ok class
-GivesFileClass read (Err (Refused (refusal.BadClass file fault))) = read ≡ Err fault
-GivesFileClass read (Err (Refused _)) = ⊥
-GivesFileClass read (Err OutOfMemory) = ⊤
+-- the class that a class file of this name spells, or the fault in it, with the name
+abbrev pub GivesFileClass : List ℕ → Result ClassParts ReadFault → Result ClassParts Obstacle → Type 0
+GivesFileClass name read (Ok class) = read ≡ Ok class
+GivesFileClass name read (Err (Refused (refusal.BadClass file fault))) = (read ≡ Err fault) × (file.now ≡ name)
+GivesFileClass name read (Err (Refused _)) = ⊥
+GivesFileClass name read (Err OutOfMemory) = ⊤
 
--- the class that a program's file holds, or the fault in it
-abbrev pub GivesClass : Result ClassParts FileFault → Result ClassParts Obstacle → Type 0
-GivesClass held (Ok class) = held ≡ Ok class
-GivesClass held (Err (Refused (refusal.BadClass file fault))) = held ≡ Err (in_class_file fault)
-GivesClass held (Err (Refused (refusal.BadText file fault))) = held ≡ Err (in_text fault)
-GivesClass held (Err (Refused _)) = ⊥
-GivesClass held (Err OutOfMemory) = ⊤
+-- the class that a program's file of this name holds, or the fault in it, with the name
+abbrev pub GivesClass : List ℕ → Result ClassParts FileFault → Result ClassParts Obstacle → Type 0
+GivesClass name held (Ok class) = held ≡ Ok class
+GivesClass name held (Err (Refused (refusal.BadClass file fault))) = (held ≡ Err (in_class_file fault)) × (file.now ≡ name)
+GivesClass name held (Err (Refused (refusal.BadText file fault))) = (held ≡ Err (in_text fault)) × (file.now ≡ name)
+GivesClass name held (Err (Refused _)) = ⊥
+GivesClass name held (Err OutOfMemory) = ⊤
 
--- the class that a text denotes, or the fault in it
-abbrev pub GivesTextClass : Result ClassParts AsmFault → Result ClassParts Obstacle → Type 0
-GivesTextClass denoted (Ok class) = denoted ≡ Ok class
-GivesTextClass denoted (Err (Refused (refusal.BadText file fault))) = denoted ≡ Err fault
-GivesTextClass denoted (Err (Refused _)) = ⊥
-GivesTextClass denoted (Err OutOfMemory) = ⊤
+-- the class that a text of this name denotes, or the fault in it, with the name
+abbrev pub GivesTextClass : List ℕ → Result ClassParts AsmFault → Result ClassParts Obstacle → Type 0
+GivesTextClass name denoted (Ok class) = denoted ≡ Ok class
+GivesTextClass name denoted (Err (Refused (refusal.BadText file fault))) = (denoted ≡ Err fault) × (file.now ≡ name)
+GivesTextClass name denoted (Err (Refused _)) = ⊥
+GivesTextClass name denoted (Err OutOfMemory) = ⊤
 
--- the bytes that are written for a class and spell it, or why it has none
-abbrev pub GivesWritten : ClassParts → Result (Vec ℕ Global) Obstacle → Type 0
-GivesWritten class (Ok bytes) = (written class ≡ Ok bytes.items) × Spells bytes.items class
-GivesWritten class (Err (Refused (refusal.Unwritten file fault))) = written class ≡ Err fault
-GivesWritten class (Err (Refused _)) = ⊥
-GivesWritten class (Err OutOfMemory) = ⊤
+-- the bytes that are written for the class of a text of this name and spell it, or why it has none
+abbrev pub GivesWritten : List ℕ → ClassParts → Result (Vec ℕ Global) Obstacle → Type 0
+GivesWritten name class (Ok bytes) = (written class ≡ Ok bytes.items) × Spells bytes.items class
+GivesWritten name class (Err (Refused (refusal.Unwritten file fault))) = (written class ≡ Err fault) × (file.now ≡ name)
+GivesWritten name class (Err (Refused _)) = ⊥
+GivesWritten name class (Err OutOfMemory) = ⊤
 
 abbrev pub GivesLinked : List ClassParts → Result LinkedView Obstacle → Type 0
 GivesLinked program (Ok l) = (links program ≡ true) × (l.program ≡ program)

@@ -13,7 +13,7 @@ use std::alloc::Global;
 
 // The bytes that are written for the class of the text of this name.
 fn written<'a>(alloc: Global, file: &'a str, class: &Class) -> Result<Vec<u8>, Obstacle<'a>>
-    ensures { GivesWritten class.now result }
+    ensures { GivesWritten file.now class.now result }
 {
     match write_class(alloc, class) {
         Ok(bytes) => Ok(bytes),

@@ -55,7 +55,7 @@ fn assembled(alloc: Global, bytes: &[u8]) -> Result<Class, AsmFault>
 
 /// The class that the bytes of an assembler text of this name denote.
 pub fn class_in_text<'a>(alloc: Global, file: &'a str, bytes: &[u8]) -> Result<Class, Obstacle<'a>>
-    ensures { GivesTextClass (text_class bytes.now) result }
+    ensures { GivesTextClass file.now (text_class bytes.now) result }
 {
     match assembled(alloc, bytes) {
         Ok(class) => Ok(class),
@@ -70,7 +70,7 @@ fn class_in_class_file<'a>(
     file: &'a str,
     bytes: &[u8],
 ) -> Result<Class, Obstacle<'a>>
-    ensures { GivesFileClass (class_file.read bytes.now) result }
+    ensures { GivesFileClass file.now (class_file.read bytes.now) result }
 {
     match read_class(alloc, bytes) {
         Ok(class) => Ok(class),
@@ -82,7 +82,7 @@ fn class_in_class_file<'a>(
 /// The class that a file of this name with these bytes holds.
 #[tactic(auto, unfolding(crate::specs::ProgramFiles::file_class))]
 pub fn class_in_file<'a>(alloc: Global, file: &'a str, bytes: &[u8]) -> Result<Class, Obstacle<'a>>
-    ensures { GivesClass (file_class file.now bytes.now) result }
+    ensures { GivesClass file.now (file_class file.now bytes.now) result }
 {
     if is_text_name(file) {
         class_in_text(alloc, file, bytes)

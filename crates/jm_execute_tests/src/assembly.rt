@@ -7,6 +7,7 @@ use crate::texts::{SUM, WRONG, jump_over, with_source};
 use crate::writers::{Closed, Narrow};
 use jm_execute::{AssembleJob, Contents, Job, Status, Watched, execute};
 use std::alloc::{AllocError, Global};
+use std::process::Abort;
 use std::test::Fail;
 
 // The class file `Sum.class` from a text of this name.
@@ -30,7 +31,7 @@ fn the_class_file_of_a_sum(rt: HostRuntime) -> Result<(), Fail> {
     for name in ["sum.j", "sum.class", "sum", ""] {
         let text = Contents::Bytes(SUM.as_bytes().to_vec(alloc)?);
         let job = assembly(alloc, name, text)?;
-        compare(&rt, alloc, &job, &bytes, "", Status::Done)?;
+        compare(&rt, alloc, job, &bytes, "", Status::Done)?;
     }
     Ok(())
 }
@@ -91,7 +92,7 @@ fn texts_that_denote_no_class(rt: HostRuntime) -> Result<(), Fail> {
     compare(
         &rt,
         alloc,
-        &job,
+        job,
         b"",
         "jm: sum.j: 41 Syntax(6)\n",
         Status::Refused,
@@ -99,7 +100,7 @@ fn texts_that_denote_no_class(rt: HostRuntime) -> Result<(), Fail> {
     assert_eq!(rt; Status::Refused.code(), 4);
     for wrong in WRONG_TEXTS {
         let job = of_text(alloc, wrong.text)?;
-        compare(&rt, alloc, &job, b"", wrong.line, Status::Refused)?;
+        compare(&rt, alloc, job, b"", wrong.line, Status::Refused)?;
     }
     Ok(())
 }
@@ -111,7 +112,7 @@ fn texts_that_are_not_read(rt: HostRuntime) -> Result<(), Fail> {
     compare(
         &rt,
         alloc,
-        &missing,
+        missing,
         b"",
         "jm: sum.j: not read\n",
         Status::Files,
@@ -120,7 +121,7 @@ fn texts_that_are_not_read(rt: HostRuntime) -> Result<(), Fail> {
     compare(
         &rt,
         alloc,
-        &exhausted,
+        exhausted,
         b"",
         "jm: 61 OutOfMemory\n",
         Status::OutOfMemory,
@@ -136,7 +137,7 @@ fn classes_that_no_class_file_holds(rt: HostRuntime) -> Result<(), Fail> {
     compare(
         &rt,
         alloc,
-        &far,
+        far,
         b"",
         "jm: sum.j: 14 BranchTooFar\n",
         Status::Refused,
@@ -145,35 +146,46 @@ fn classes_that_no_class_file_holds(rt: HostRuntime) -> Result<(), Fail> {
     compare(
         &rt,
         alloc,
-        &long,
+        long,
         b"",
         "jm: sum.j: 36 TooMany\n",
         Status::Refused,
     )
 }
 
+// Writes the class file of a sum to an output with so much room.
+fn check_room(
+    rt: &impl Abort,
+    alloc: Global,
+    room: usize,
+    status: Status,
+    lines: &str,
+) -> Result<(), Fail> {
+    let job = of_text(alloc, SUM.as_bytes())?;
+    let mut told = Vec::new(alloc);
+    let mut input = Watched::new(b"".as_slice());
+    {
+        let mut out = Watched::new(Narrow { room });
+        let mut err = Watched::new(&mut told);
+        assert_eq!(rt;
+            execute(alloc, &job, &mut input, &mut out, &mut err),
+            status,
+            "{room}"
+        );
+        assert_eq!(rt; out.has_failed(), room < 245, "{room}");
+    }
+    assert_eq!(rt; told.as_slice(), lines.as_bytes(), "{room}");
+    Ok(())
+}
+
 #[test]
 fn an_output_that_is_full(rt: HostRuntime) -> Result<(), Fail> {
-    let alloc = rt.alloc();
     for (room, status, lines) in [
         (245, Status::Done, ""),
         (244, Status::Files, "jm: Sum.class: not written\n"),
         (0, Status::Files, "jm: Sum.class: not written\n"),
     ] {
-        let job = of_text(alloc, SUM.as_bytes())?;
-        let mut told = Vec::new(alloc);
-        let mut input = Watched::new(b"".as_slice());
-        {
-            let mut out = Watched::new(Narrow { room });
-            let mut err = Watched::new(&mut told);
-            assert_eq!(rt;
-                execute(alloc, &job, &mut input, &mut out, &mut err),
-                status,
-                "{room}"
-            );
-            assert_eq!(rt; out.has_failed(), room < 245, "{room}");
-        }
-        assert_eq!(rt; told.as_slice(), lines.as_bytes(), "{room}");
+        check_room(&rt, rt.alloc(), room, status, lines)?;
     }
     Ok(())
 }

@@ -146,7 +146,7 @@ pub fn run_of(alloc: Global, schedule: Contents, program: InputFile) -> Result<J
 pub fn compare(
     rt: &impl Abort,
     alloc: Global,
-    job: &Job,
+    job: Job,
     output: &[u8],
     lines: &str,
     status: Status,
@@ -158,7 +158,7 @@ pub fn compare(
         let mut out = Watched::new(&mut written);
         let mut err = Watched::new(&mut told);
         assert_eq!(rt;
-            execute(alloc, job, &mut input, &mut out, &mut err),
+            execute(alloc, &job, &mut input, &mut out, &mut err),
             status,
             "{lines}"
         );
@@ -170,24 +170,28 @@ pub fn compare(
     Ok(())
 }
 
+fn check_case(rt: &impl Abort, alloc: Global, case: &Case) -> Result<(), Fail> {
+    if case.code.len() < 100 {
+        let program = Contents::Bytes(main_with(alloc, case.code)?);
+        let schedule = Contents::Bytes(case.schedule.as_bytes().to_vec(alloc)?);
+        let job = job(alloc, schedule, program)?;
+        compare(
+            rt,
+            alloc,
+            job,
+            case.output.as_bytes(),
+            case.lines,
+            case.status,
+        )?;
+        assert_eq!(rt; case.status.code(), case.code_of_status);
+    }
+    Ok(())
+}
+
 #[test]
 fn worked_programs(rt: HostRuntime) -> Result<(), Fail> {
-    let alloc = rt.alloc();
-    for case in CASES {
-        if case.code.len() < 100 {
-            let program = Contents::Bytes(main_with(alloc, case.code)?);
-            let schedule = Contents::Bytes(case.schedule.as_bytes().to_vec(alloc)?);
-            let job = job(alloc, schedule, program)?;
-            compare(
-                &rt,
-                alloc,
-                &job,
-                case.output.as_bytes(),
-                case.lines,
-                case.status,
-            )?;
-            assert_eq!(rt; case.status.code(), case.code_of_status);
-        }
+    for case in &CASES {
+        check_case(&rt, rt.alloc(), case)?;
     }
     Ok(())
 }
@@ -200,7 +204,7 @@ fn files_that_are_not_read(rt: HostRuntime) -> Result<(), Fail> {
     compare(
         &rt,
         alloc,
-        &missing,
+        missing,
         b"",
         "jm: events: not read\n",
         Status::Files,
@@ -209,7 +213,7 @@ fn files_that_are_not_read(rt: HostRuntime) -> Result<(), Fail> {
     compare(
         &rt,
         alloc,
-        &missing,
+        missing,
         b"",
         "jm: events: not read\n",
         Status::Files,
@@ -219,7 +223,7 @@ fn files_that_are_not_read(rt: HostRuntime) -> Result<(), Fail> {
     compare(
         &rt,
         alloc,
-        &missing,
+        missing,
         b"",
         "jm: Main.class: not read\n",
         Status::Files,
@@ -230,7 +234,7 @@ fn files_that_are_not_read(rt: HostRuntime) -> Result<(), Fail> {
     compare(
         &rt,
         alloc,
-        &exhausted,
+        exhausted,
         b"",
         "jm: 61 OutOfMemory\n",
         Status::OutOfMemory,
@@ -249,7 +253,7 @@ fn a_class_that_is_cut(rt: HostRuntime) -> Result<(), Fail> {
     compare(
         &rt,
         alloc,
-        &cut,
+        cut,
         b"",
         "jm: Main.class: 32 Cut\n",
         Status::Refused,

@@ -20,13 +20,13 @@ fn texts_by_their_names(rt: HostRuntime) -> Result<(), Fail> {
     let alloc = rt.alloc();
     for name in ["sum.j", ".j", "a.class/.j", "Sum.class.j", "..j"] {
         let run = run_file(alloc, name, SUM.as_bytes())?;
-        compare(&rt, alloc, &run, b"5\n", "", Status::Done)?;
+        compare(&rt, alloc, run, b"5\n", "", Status::Done)?;
     }
     let wrong = run_file(alloc, "sum.j", WRONG.as_bytes())?;
     compare(
         &rt,
         alloc,
-        &wrong,
+        wrong,
         b"",
         "jm: sum.j: 41 Syntax(6)\n",
         Status::Refused,
@@ -37,7 +37,7 @@ fn texts_by_their_names(rt: HostRuntime) -> Result<(), Fail> {
     compare(
         &rt,
         alloc,
-        &class_file,
+        class_file,
         b"",
         "jm: Main.j: 40 BadToken(1)\n",
         Status::Refused,
@@ -58,7 +58,7 @@ fn class_files_by_their_names(rt: HostRuntime) -> Result<(), Fail> {
         "Main.j ",
     ] {
         let run = run_file(alloc, name, &bytes)?;
-        compare(&rt, alloc, &run, b"5\n", "", Status::Done)?;
+        compare(&rt, alloc, run, b"5\n", "", Status::Done)?;
     }
     for (name, line) in [
         ("sum.jj", "jm: sum.jj: 30 Magic\n"),
@@ -66,13 +66,13 @@ fn class_files_by_their_names(rt: HostRuntime) -> Result<(), Fail> {
         ("sum.j.txt", "jm: sum.j.txt: 30 Magic\n"),
     ] {
         let text = run_file(alloc, name, SUM.as_bytes())?;
-        compare(&rt, alloc, &text, b"", line, Status::Refused)?;
+        compare(&rt, alloc, text, b"", line, Status::Refused)?;
     }
     let empty = run_file(alloc, "Main.class", b"")?;
     compare(
         &rt,
         alloc,
-        &empty,
+        empty,
         b"",
         "jm: Main.class: 32 Cut\n",
         Status::Refused,
@@ -88,7 +88,7 @@ fn a_text_before_its_schedule(rt: HostRuntime) -> Result<(), Fail> {
     compare(
         &rt,
         alloc,
-        &wrong,
+        wrong,
         b"",
         "jm: sum.j: 41 Syntax(6)\n",
         Status::Refused,
@@ -99,7 +99,7 @@ fn a_text_before_its_schedule(rt: HostRuntime) -> Result<(), Fail> {
     compare(
         &rt,
         alloc,
-        &misspelled,
+        misspelled,
         b"",
         "jm: 70 BadSchedule(1)\n",
         Status::BadSchedule,

@@ -3,8 +3,10 @@
 use crate::class_file::{SUM, main_with};
 use crate::jobs::job;
 use jm_execute::{Contents, Status, Watched, execute};
+use std::alloc::Global;
 use std::io;
 use std::io::{ErrorKind, Write};
+use std::process::Abort;
 use std::test::Fail;
 
 /// Takes so many bytes, one at a call, and then none.
@@ -41,27 +43,32 @@ impl Write for Closed {
     }
 }
 
+// Prints a sum to an output with so much room.
+fn check_room(rt: &impl Abort, alloc: Global, room: usize, status: Status) -> Result<(), Fail> {
+    let program = Contents::Bytes(main_with(alloc, &SUM)?);
+    let schedule = Contents::Bytes(b"t 1 x 9".to_vec(alloc)?);
+    let job = job(alloc, schedule, program)?;
+    let mut told = Vec::new(alloc);
+    let mut input = Watched::new(b"".as_slice());
+    {
+        let mut out = Watched::new(Narrow { room });
+        let mut err = Watched::new(&mut told);
+        assert_eq!(rt;
+            execute(alloc, &job, &mut input, &mut out, &mut err),
+            status,
+            "{room}"
+        );
+        assert_eq!(rt; out.has_failed(), room < 2, "{room}");
+    }
+    let lines: &[u8] = if room < 2 { b"jm: write failed\n" } else { b"" };
+    assert_eq!(rt; told.as_slice(), lines, "{room}");
+    Ok(())
+}
+
 #[test]
 fn output_that_is_taken_in_parts(rt: HostRuntime) -> Result<(), Fail> {
-    let alloc = rt.alloc();
     for (room, status) in [(2, Status::Done), (1, Status::Files), (0, Status::Files)] {
-        let program = Contents::Bytes(main_with(alloc, &SUM)?);
-        let schedule = Contents::Bytes(b"t 1 x 9".to_vec(alloc)?);
-        let job = job(alloc, schedule, program)?;
-        let mut told = Vec::new(alloc);
-        let mut input = Watched::new(b"".as_slice());
-        {
-            let mut out = Watched::new(Narrow { room });
-            let mut err = Watched::new(&mut told);
-            assert_eq!(rt;
-                execute(alloc, &job, &mut input, &mut out, &mut err),
-                status,
-                "{room}"
-            );
-            assert_eq!(rt; out.has_failed(), room < 2, "{room}");
-        }
-        let lines: &[u8] = if room < 2 { b"jm: write failed\n" } else { b"" };
-        assert_eq!(rt; told.as_slice(), lines, "{room}");
+        check_room(&rt, rt.alloc(), room, status)?;
     }
     Ok(())
 }

@@ -1,7 +1,9 @@
 // Changes of one text of seven lines, each by itself.
 
 use crate::outcome::text_of;
+use crate::table::lines_of;
 use jm_jasmin::assemble;
+use jm_program::ClassParts;
 use std::alloc::Global;
 use std::test::Fail;
 
@@ -22,7 +24,8 @@ struct Change {
     /// The number of the first line that is taken out, and of the first that stays behind it.
     from: usize,
     to: usize,
-    lines: &'static [&'static str],
+    /// With ` / ` between them.
+    lines: &'static str,
     want: &'static str,
 }
 
@@ -30,99 +33,99 @@ const CHANGES: [Change; 15] = [
     Change {
         from: 6,
         to: 6,
-        lines: &[],
+        lines: "",
         want: "class 8 8",
     },
     // "Labels": a method has one label of a name.
     Change {
         from: 6,
         to: 6,
-        lines: &["L:", "L:"],
+        lines: "L: / L:",
         want: "42 DuplicateLabel(7)",
     },
     // "Labels", "Branch instructions": a target is a label of the method.
     Change {
         from: 6,
         to: 7,
-        lines: &["goto X"],
+        lines: "goto X",
         want: "43 NoLabel(6)",
     },
     // ".limit": 1 where it is left out.
     Change {
         from: 5,
         to: 6,
-        lines: &[],
+        lines: "",
         want: "class 8 1",
     },
     Change {
         from: 4,
         to: 5,
-        lines: &[],
+        lines: "",
         want: "class 1 8",
     },
     Change {
         from: 4,
         to: 6,
-        lines: &[],
+        lines: "",
         want: "class 1 1",
     },
     // JVMS 4.7.3, max_locals: the local variables hold the arguments.
     Change {
         from: 5,
         to: 6,
-        lines: &[".limit locals 0"],
+        lines: ".limit locals 0",
         want: "45 BadCount(5)",
     },
     Change {
         from: 4,
         to: 5,
-        lines: &[".limit stack 0"],
+        lines: ".limit stack 0",
         want: "class 0 8",
     },
     // JVMS 6.5 invokeinterface: the count is that of the argument slots with the receiver's.
     Change {
         from: 6,
         to: 7,
-        lines: &["invokeinterface A/m()V 2"],
+        lines: "invokeinterface A/m()V 2",
         want: "45 BadCount(6)",
     },
     Change {
         from: 6,
         to: 7,
-        lines: &["invokeinterface A/m()V 1"],
+        lines: "invokeinterface A/m()V 1",
         want: "class 8 8",
     },
     // JVMS 6.5 bipush: a byte.
     Change {
         from: 6,
         to: 7,
-        lines: &["bipush 128"],
+        lines: "bipush 128",
         want: "41 Syntax(6)",
     },
     // "Numbers and Strings": a string is closed in its line.
     Change {
         from: 6,
         to: 7,
-        lines: &["ldc \"a"],
+        lines: "ldc \"a",
         want: "40 BadToken(6)",
     },
     // JVMS 6.5: floats, and arrays of several dimensions by one instruction.
     Change {
         from: 6,
         to: 7,
-        lines: &["fadd"],
+        lines: "fadd",
         want: "46 LeftOut(fadd)",
     },
     Change {
         from: 6,
         to: 7,
-        lines: &["multianewarray [[I 2"],
+        lines: "multianewarray [[I 2",
         want: "47 Later(multianewarray)",
     },
     Change {
         from: 7,
         to: 8,
-        lines: &[],
+        lines: "",
         want: "41 Syntax(6)",
     },
 ];
@@ -136,20 +139,24 @@ fn changed(alloc: Global, change: &Change) -> Result<Vec<&'static str>, Fail> {
         .get(change.to.saturating_sub(1)..TEXT.len())
         .ok_or("lines behind")?;
     let mut lines = Vec::from_slice(alloc, front)?;
-    lines.extend_from_slice(change.lines)?;
+    lines.extend_from_slice(&lines_of(alloc, change.lines)?)?;
     lines.extend_from_slice(back)?;
     Ok(lines)
 }
 
-fn outcome(alloc: Global, text: &str) -> Result<String, Fail> {
-    let class = match assemble(alloc, text) {
-        Ok(class) => class,
-        Err(fault) => return Ok(format!(in alloc; "{fault}")?),
-    };
-    let method = class.parts().methods.as_slice().first().ok_or("a method")?;
+// The limits of the first method.
+fn limits(alloc: Global, parts: &ClassParts) -> Result<String, Fail> {
+    let method = parts.methods.as_slice().first().ok_or("a method")?;
     let code = method.code.as_ref().ok_or("a code")?;
     let (stack, locals) = (code.max_stack, code.max_locals);
     Ok(format!(in alloc; "class {stack} {locals}")?)
+}
+
+fn outcome(alloc: Global, text: &str) -> Result<String, Fail> {
+    match assemble(alloc, text) {
+        Ok(class) => limits(alloc, class.parts()),
+        Err(fault) => Ok(format!(in alloc; "{fault}")?),
+    }
 }
 
 #[test]

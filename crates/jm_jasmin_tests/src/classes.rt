@@ -2,8 +2,9 @@
 
 use crate::outcome::text_of_body;
 use jm_jasmin::{AsmFault, assemble};
-use jm_program::{Code, Constant, Handler, Instr, Method, code_units};
+use jm_program::{Class, ClassParts, Code, Constant, Handler, Instr, Method, code_units};
 use std::alloc::Global;
+use std::process::Abort;
 use std::test::Fail;
 
 // The handlers of a method, as start, end and target.
@@ -54,11 +55,7 @@ return
 .end method
 ";
 
-#[test]
-fn handlers_and_limits(rt: HostRuntime) -> Result<(), Fail> {
-    let alloc = rt.alloc();
-    let class = assemble(alloc, HANDLERS)?;
-    let parts = class.parts();
+fn check_handlers(rt: &impl Abort, alloc: Global, parts: &ClassParts) -> Result<(), Fail> {
     assert_eq!(rt; parts.version.major, 49);
     assert_eq!(rt; parts.version.minor, 0);
     assert_eq!(rt; parts.flags.bits, 0x0021);
@@ -72,11 +69,15 @@ fn handlers_and_limits(rt: HostRuntime) -> Result<(), Fail> {
 }
 
 #[test]
-fn fields_and_interfaces(rt: HostRuntime) -> Result<(), Fail> {
-    let text =
-        ".bytecode 50.3\r\n.source A.j\r\n.interface public A\r\n.super B\r\n.implements C\r\n.implements D\r\n.field public static final x I = -5";
-    let class = assemble(rt.alloc(), text)?;
-    let parts = class.parts();
+fn handlers_and_limits(rt: HostRuntime) -> Result<(), Fail> {
+    let class = assemble(rt.alloc(), HANDLERS)?;
+    check_handlers(&rt, rt.alloc(), class.parts())
+}
+
+const INTERFACE: &str =
+    ".bytecode 50.3\r\n.source A.j\r\n.interface public A\r\n.super B\r\n.implements C\r\n.implements D\r\n.field public static final x I = -5";
+
+fn check_interface(rt: &impl Abort, parts: &ClassParts) -> Result<(), Fail> {
     assert_eq!(rt; parts.version.minor, 3);
     assert_eq!(rt; parts.flags.bits, 0x0601);
     assert_eq!(rt; parts.interfaces.as_slice().len(), 2);
@@ -84,6 +85,12 @@ fn fields_and_interfaces(rt: HostRuntime) -> Result<(), Fail> {
     assert_eq!(rt; field.flags.bits, 0x0019);
     assert!(rt; field.constant.is_some());
     Ok(())
+}
+
+#[test]
+fn fields_and_interfaces(rt: HostRuntime) -> Result<(), Fail> {
+    let class = assemble(rt.alloc(), INTERFACE)?;
+    check_interface(&rt, class.parts())
 }
 
 #[test]
@@ -106,8 +113,9 @@ const STRINGS: [(&str, &str); 6] = [
     ("\"\t.end method\"", "\t.end method"),
 ];
 
-// The code units of the string that the first instruction of a method loads.
-fn string_of(method: &Method) -> Option<&[u16]> {
+// The code units of the string that the first instruction of the first method loads.
+fn string_of(parts: &ClassParts) -> Option<&[u16]> {
+    let method = parts.methods.as_slice().first()?;
     let code = method.code.as_ref()?;
     match code.instructions.as_slice().first()? {
         Instr::Constant(Constant::String(units)) => Some(units.get().as_slice()),
@@ -115,37 +123,38 @@ fn string_of(method: &Method) -> Option<&[u16]> {
     }
 }
 
+// A class whose one method loads the operand of `ldc`.
+fn class_of_operand(alloc: Global, operand: &str) -> Result<Class, Fail> {
+    let line = format!(in alloc; "ldc {operand}")?;
+    let text = text_of_body(alloc, line.as_str())?;
+    Ok(assemble(alloc, text.as_str())?)
+}
+
 #[test]
 fn strings_of_texts(rt: HostRuntime) -> Result<(), Fail> {
-    let alloc = rt.alloc();
     for (operand, want) in STRINGS {
-        let line = format!(in alloc; "ldc {operand}")?;
-        let text = text_of_body(alloc, &[line.as_str()])?;
-        let class = assemble(alloc, text.as_str())?;
-        let method = class.parts().methods.as_slice().first().ok_or("a method")?;
-        let units = code_units(alloc, want)?;
+        let units = code_units(rt.alloc(), want)?;
+        let class = class_of_operand(rt.alloc(), operand)?;
         assert_eq!(rt;
-            string_of(method).ok_or("a string")?,
-            units.as_slice(),
+            string_of(class.parts()),
+            Some(units.as_slice()),
             "{operand}"
         );
     }
     Ok(())
 }
 
-#[test]
-fn flags_of_texts(rt: HostRuntime) -> Result<(), Fail> {
-    // Tables 4.1-B, 4.5-A and 4.6-A of JVMS: 1 public, 2 private, 4 protected, 8 static, 10 final,
-    // 20 super and synchronized, 40 volatile, 80 transient, 400 abstract.
-    let text = ".class public public final abstract A
+const FLAGS: &str = ".class public public final abstract A
 .super B
 .field private volatile transient x I
 .field final protected static final y J = 0x7fffffffffffffff
 .method protected synchronized public m()V
 return
 .end method";
-    let class = assemble(rt.alloc(), text)?;
-    let parts = class.parts();
+
+// Tables 4.1-B, 4.5-A and 4.6-A of JVMS: 1 public, 2 private, 4 protected, 8 static, 10 final,
+// 20 super and synchronized, 40 volatile, 80 transient, 400 abstract.
+fn check_flags(rt: &impl Abort, parts: &ClassParts) -> Result<(), Fail> {
     assert_eq!(rt; parts.flags.bits, 0x0431);
     let x = parts.fields.as_slice().first().ok_or("a field")?;
     let y = parts.fields.as_slice().get(1).ok_or("a second field")?;
@@ -154,4 +163,10 @@ return
     let method = parts.methods.as_slice().first().ok_or("a method")?;
     assert_eq!(rt; method.flags.bits, 0x0025);
     Ok(())
+}
+
+#[test]
+fn flags_of_texts(rt: HostRuntime) -> Result<(), Fail> {
+    let class = assemble(rt.alloc(), FLAGS)?;
+    check_flags(&rt, class.parts())
 }

@@ -15,3 +15,5 @@ mod faults;
 mod order;
 #[cfg(test)]
 mod outcome;
+#[cfg(test)]
+mod table;

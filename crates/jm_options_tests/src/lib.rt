@@ -6,3 +6,5 @@
 mod asked;
 #[cfg(test)]
 mod refused;
+#[cfg(test)]
+mod table;

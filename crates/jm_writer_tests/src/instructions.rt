@@ -2,7 +2,7 @@
 // (JVMS 6.5 wide, iinc, goto; 4.7.3 code_length).
 
 use crate::classes::{class, nop, nops};
-use crate::worked_bytes::{code_of, written};
+use crate::worked_bytes::{code_of, file_of};
 use jm_class_writer::{WriteFault, write_class};
 use jm_program::{Branch, Class, Instr, OperandType, Plain, ReturnOp};
 use std::alloc::{AllocError, AllocGlobal, Global};
@@ -44,6 +44,14 @@ fn refused(rt: &(impl AllocGlobal + Abort), instructions: Vec<Instr>) -> Result<
     Ok(write_class(rt.alloc(), &class).err().expect(rt, "a fault"))
 }
 
+/// The code of an instruction and a return begins with these bytes.
+fn assert_begins(rt: &(impl AllocGlobal + Abort), plain: Plain, want: &[u8]) -> Result<(), Fail> {
+    let mut instructions = Vec::new(rt.alloc());
+    instructions.push(Instr::Plain(plain))?;
+    instructions.push(Instr::Return(ReturnOp::Void))?;
+    assert_code_begins(rt, instructions, want.len().saturating_add(1), want)
+}
+
 #[test]
 fn operands_are_widened(rt: HostRuntime) -> Result<(), Fail> {
     let cases: [(Plain, &[u8]); 11] = [
@@ -66,14 +74,21 @@ fn operands_are_widened(rt: HostRuntime) -> Result<(), Fail> {
         (Plain::PushShort(-32_768), &[0x11, 0x80, 0]),
     ];
     for (plain, want) in cases {
-        let mut instructions = Vec::new(rt.alloc());
-        instructions.push(Instr::Plain(plain))?;
-        instructions.push(Instr::Return(ReturnOp::Void))?;
-        let class = class_of(&rt, instructions)?;
-        let bytes = written(&rt, &class)?;
-        let code = code_of(&bytes, want.len().saturating_add(1)).expect(&rt, "a code");
-        assert_eq!(rt; code.get(..want.len()).expect(&rt, "an instruction"), want);
+        assert_begins(&rt, plain, want)?;
     }
+    Ok(())
+}
+
+/// The class's code has so many bytes, and begins with these.
+fn assert_code_begins(
+    rt: &(impl AllocGlobal + Abort),
+    instructions: Vec<Instr>,
+    size: usize,
+    want: &[u8],
+) -> Result<(), Fail> {
+    let bytes = file_of(rt, instructions)?;
+    let code = code_of(&bytes, size).expect(rt, "a code");
+    assert_eq!(rt; code.get(..want.len()).expect(rt, "its first bytes"), want);
     Ok(())
 }
 
@@ -81,17 +96,9 @@ fn operands_are_widened(rt: HostRuntime) -> Result<(), Fail> {
 #[test]
 fn farthest_branches_are_written(rt: HostRuntime) -> Result<(), Fail> {
     let instructions = forward(rt.alloc(), 32_764)?;
-    let bytes = written(&rt, &class_of(&rt, instructions)?)?;
-    let code = code_of(&bytes, 32_768).expect(&rt, "a code");
-    assert_eq!(rt;
-        code.get(..3).expect(&rt, "a branch"),
-        [0xA7, 0x7F, 0xFF].as_slice()
-    );
+    assert_code_begins(&rt, instructions, 32_768, &[0xA7, 0x7F, 0xFF])?;
     let instructions = backward(rt.alloc(), 32_768)?;
-    let bytes = written(&rt, &class_of(&rt, instructions)?)?;
-    let code = code_of(&bytes, 3).expect(&rt, "a branch");
-    assert_eq!(rt; code, [0xA7, 0x80, 0].as_slice());
-    Ok(())
+    assert_code_begins(&rt, instructions, 3, &[0xA7, 0x80, 0])
 }
 
 #[test]
@@ -105,15 +112,11 @@ fn branches_too_far_are_refused(rt: HostRuntime) -> Result<(), Fail> {
     Ok(())
 }
 
+/// The four bytes of a code's length stand before it.
 #[test]
 fn longest_code_is_written(rt: HostRuntime) -> Result<(), Fail> {
     let instructions = nops(rt.alloc(), 65_534)?;
-    let bytes = written(&rt, &class_of(&rt, instructions)?)?;
-    let code = code_of(&bytes, 65_539).expect(&rt, "a code behind its length");
-    assert_eq!(rt;
-        code.get(..5).expect(&rt, "a length"),
-        [0, 0, 0xFF, 0xFF, 0].as_slice()
-    );
+    assert_code_begins(&rt, instructions, 65_539, &[0, 0, 0xFF, 0xFF, 0])?;
     let instructions = nops(rt.alloc(), 65_535)?;
     let fault = refused(&rt, instructions)?;
     let text = format!(in rt.alloc(); "{fault}")?;

@@ -4,7 +4,7 @@ use crate::classes::{class, name, nops, table_code, whole_class};
 use crate::round_trip::written_and_read;
 use jm_class_writer::WriteFault;
 use jm_program::{
-    AccessFlags, BaseType, Class, Constant, ElementType, Field, FieldType, Handler, Instr,
+    AccessFlags, BaseType, Class, Code, Constant, ElementType, Field, FieldType, Handler, Instr,
     LineNumber, Name, Sequence,
 };
 use std::alloc::{AllocError, AllocGlobal, Global};
@@ -69,24 +69,39 @@ const SOME: Counts = Counts {
     source: 1,
 };
 
-/// The class of so many parts.
-fn class_of(rt: &(impl AllocGlobal + Abort), counts: Counts) -> Result<Class, Fail> {
-    let alloc = rt.alloc();
-    let instructions = nops(alloc, 0)?;
+/// A code of a return with so many handlers and lines.
+fn code_of(alloc: Global, counts: Counts) -> Result<Code, AllocError> {
     let handlers = handlers(alloc, counts.handlers)?;
     let mut lines = Vec::new(alloc);
     lines.resize(counts.lines, LineNumber { start: 0, line: 7 })?;
-    let code = table_code(alloc, instructions, handlers, lines);
+    let instructions = nops(alloc, 0)?;
+    Ok(table_code(alloc, instructions, handlers, lines))
+}
+
+/// The name of a source file, of so many code units.
+fn source_of(alloc: Global, counts: Counts) -> Result<Sequence<u16>, AllocError> {
     let mut source = Vec::new(alloc);
     source.resize(counts.source, 65)?;
-    let class = whole_class(
-        alloc,
-        interfaces(alloc, counts.interfaces)?,
-        fields(alloc, counts.fields)?,
-        code,
-        Some(Sequence::new(source)),
-    )?;
+    Ok(Sequence::new(source))
+}
+
+/// The class of so many parts.
+fn class_of(rt: &(impl AllocGlobal + Abort), counts: Counts) -> Result<Class, Fail> {
+    let alloc = rt.alloc();
+    let source = source_of(alloc, counts)?;
+    let interfaces = interfaces(alloc, counts.interfaces)?;
+    let fields = fields(alloc, counts.fields)?;
+    let code = code_of(alloc, counts)?;
+    let class = whole_class(alloc, interfaces, fields, code, Some(source))?;
     Ok(class.expect(rt, "a class"))
+}
+
+/// A class of so many parts is written, and read again.
+fn assert_written(rt: &(impl AllocGlobal + Abort), counts: Counts) -> Result<(), Fail> {
+    let class = class_of(rt, counts)?;
+    let again = written_and_read(rt.alloc(), &class)?;
+    assert!(rt; again.parts() == class.parts());
+    Ok(())
 }
 
 #[test]
@@ -98,25 +113,32 @@ fn counts_of_two_bytes_are_written(rt: HostRuntime) -> Result<(), Fail> {
         lines: 65_535,
         source: 65_535,
     };
-    for counts in [SOME, counts] {
-        let class = class_of(&rt, counts)?;
-        let again = written_and_read(rt.alloc(), &class)?;
-        assert!(rt; again.parts() == class.parts());
+    assert_written(&rt, SOME)?;
+    assert_written(&rt, counts)
+}
+
+/// Why a class is not written.
+fn refused(rt: &(impl AllocGlobal + Abort), class: &Class) -> WriteFault {
+    written_and_read(rt.alloc(), class)
+        .err()
+        .expect(rt, "a fault")
+}
+
+/// So many constants.
+fn constants(alloc: Global, count: i32) -> Result<Vec<Instr>, AllocError> {
+    let mut instructions = Vec::new(alloc);
+    for n in 0..count {
+        instructions.push(Instr::Constant(Constant::Int(n)))?;
     }
-    Ok(())
+    Ok(instructions)
 }
 
 /// More constants than indexes are refused before the code is found too long.
 #[test]
 fn full_pool_is_refused(rt: HostRuntime) -> Result<(), Fail> {
-    let mut instructions = Vec::new(rt.alloc());
-    for n in 0..65_535 {
-        instructions.push(Instr::Constant(Constant::Int(n)))?;
-    }
+    let instructions = constants(rt.alloc(), 65_535)?;
     let class = class(rt.alloc(), instructions)?.expect(&rt, "a class");
-    let fault = written_and_read(rt.alloc(), &class)
-        .err()
-        .expect(&rt, "a fault");
+    let fault = refused(&rt, &class);
     let text = format!(in rt.alloc(); "{fault}")?;
     assert_eq!(rt; text.as_str(), "23 PoolFull");
     Ok(())
@@ -148,10 +170,7 @@ fn greater_counts_are_refused(rt: HostRuntime) -> Result<(), Fail> {
     ];
     for counts in cases {
         let class = class_of(&rt, counts)?;
-        let fault = written_and_read(rt.alloc(), &class)
-            .err()
-            .expect(&rt, "a fault");
-        assert_eq!(rt; fault, WriteFault::TooMany);
+        assert_eq!(rt; refused(&rt, &class), WriteFault::TooMany);
     }
     let text = format!(in rt.alloc(); "{}", WriteFault::TooMany)?;
     assert_eq!(rt; text.as_str(), "36 TooMany");

@@ -44,6 +44,12 @@ pub fn written(rt: &(impl AllocGlobal + Abort), class: &Class) -> Result<Vec<u8>
     Ok(bytes)
 }
 
+/// The file of the class of these instructions.
+pub fn file_of(rt: &(impl AllocGlobal + Abort), instructions: Vec<Instr>) -> Result<Vec<u8>, Fail> {
+    let class = class(rt.alloc(), instructions)?.expect(rt, "a class");
+    written(rt, &class)
+}
+
 /// The bytes of the class's one code.
 pub fn code_of(bytes: &[u8], size: usize) -> Option<&[u8]> {
     let end = bytes.len().checked_sub(BEHIND)?;
@@ -63,17 +69,21 @@ fn pop() -> Instr {
     Instr::Plain(Plain::Simple(Simple::Stack(StackOp::Pop)))
 }
 
-/// The pool has 256 entries, and the last constant is at the index 256.
-#[test]
-fn constants_pass_a_byte(rt: HostRuntime) -> Result<(), Fail> {
-    let mut instructions = Vec::new(rt.alloc());
-    for n in 0..249 {
+/// So many constants, each of which is popped, and a return.
+fn constants(alloc: Global, count: i32) -> Result<Vec<Instr>, AllocError> {
+    let mut instructions = Vec::new(alloc);
+    for n in 0..count {
         instructions.push(Instr::Constant(Constant::Int(n)))?;
         instructions.push(pop())?;
     }
     instructions.push(Instr::Return(ReturnOp::Void))?;
-    let class = class(rt.alloc(), instructions)?.expect(&rt, "a class");
-    let bytes = written(&rt, &class)?;
+    Ok(instructions)
+}
+
+/// The pool has 256 entries, and the last constant is at the index 256.
+#[test]
+fn constants_pass_a_byte(rt: HostRuntime) -> Result<(), Fail> {
+    let bytes = file_of(&rt, constants(rt.alloc(), 249)?)?;
     let count = bytes.get(8..10).expect(&rt, "a count");
     assert_eq!(rt; count, [0x01, 0x01].as_slice());
     let code = code_of(&bytes, 749).expect(&rt, "a code");
@@ -124,8 +134,7 @@ fn assert_code(
     instructions: Vec<Instr>,
     want: &[u8],
 ) -> Result<(), Fail> {
-    let class = class(rt.alloc(), instructions)?.expect(rt, "a class");
-    let bytes = written(rt, &class)?;
+    let bytes = file_of(rt, instructions)?;
     let code = code_of(&bytes, want.len()).expect(rt, "a code");
     assert_eq!(*rt; code, want);
     Ok(())
@@ -207,18 +216,22 @@ fn lookups_are_padded(rt: HostRuntime) -> Result<(), Fail> {
     Ok(())
 }
 
+/// The constant of a zero and of a supplementary character, a pop and a return.
+fn text(alloc: Global) -> Result<Vec<Instr>, AllocError> {
+    let units = Vec::from_slice(alloc, &[0, 0xD83D, 0xDE00])?;
+    let text = Boxed::new(alloc, Sequence::new(units))?;
+    let mut instructions = Vec::new(alloc);
+    instructions.push(Instr::Constant(Constant::String(text)))?;
+    instructions.push(pop())?;
+    instructions.push(Instr::Return(ReturnOp::Void))?;
+    Ok(instructions)
+}
+
 /// A zero takes two bytes, and a supplementary character two of three.
 #[test]
 fn texts_are_modified_utf8(rt: HostRuntime) -> Result<(), Fail> {
     let want: [u8; 11] = [1, 0, 8, 0xC0, 0x80, 0xED, 0xA0, 0xBD, 0xED, 0xB8, 0x80];
-    let units = Vec::from_slice(rt.alloc(), &[0, 0xD83D, 0xDE00])?;
-    let mut instructions = Vec::new(rt.alloc());
-    let text = Boxed::new(rt.alloc(), Sequence::new(units))?;
-    instructions.push(Instr::Constant(Constant::String(text)))?;
-    instructions.push(pop())?;
-    instructions.push(Instr::Return(ReturnOp::Void))?;
-    let class = class(rt.alloc(), instructions)?.expect(&rt, "a class");
-    let bytes = written(&rt, &class)?;
+    let bytes = file_of(&rt, text(rt.alloc())?)?;
     assert!(rt;
         bytes
             .windows(want.len())

@@ -1,5 +1,4 @@
-use Rattle.std.proofs.Common.{rules, ◌≡◌, ℕ, ap, ◌∙◌, List, [], ◌++◌}
-use Rattle.std.specs.Fmt.{decimal}
+use Rattle.std.proofs.Common.{ℕ, ap, ◌∙◌, List, ◌++◌}
 use Rattle.std.specs.List.{concat}
 use Rattle.jm_execute.proofs.Calls.{calls_append}
 use Rattle.jm_execute.proofs.number.digits.Goals as goal
