@@ -3,6 +3,7 @@ pub mod Reports
 pub mod Codes
 pub mod Turns
 pub mod ProgramFiles
+pub mod Reasons
 pub mod Verdicts
 pub mod Endings
 pub mod Refusals
