@@ -33,7 +33,7 @@ allowed_from v program limit events is (completed w) h = record { program = prog
 allowed_from v program limit events is (interrupted w) (made, rest, whole, h) = record { program = program; limit = limit; made = made; rest = rest; runs_is = is ∙ ap (runs program limit) whole; world_is = h }
 allowed_from v program limit events is (assembled bytes) h = absurd h
 allowed_from v program limit events is exhausted h = absurd h
-allowed_from v program limit events is (turned_away reason) h = absurd h
+allowed_from v program limit events is (turned_away status) h = absurd h
 
 -- the endings of the run are those that the files allow
 pub allowed : (v : Verdict) (m : MachineView) (events : List Event) (e : Ending) → IsReady v m events → Ends (loaded_world m.linked.program m.content.limit) events e → Allows v e

@@ -1,18 +1,18 @@
 -- One stage more on the way to a run.
-use Rattle.std.proofs.Common.{◌≡◌, ℕ, List, [], ◌∷◌, sym, ap, subst, ◌∙◌, Result, Ok, Err, false}
+use Rattle.std.proofs.Common.{◌≡◌, ℕ, List, [], ◌∷◌, sym, ap, subst, Result, Ok, Err, false}
 use Rattle.jm_program.specs.declared.class.ClassParts.{ClassParts}
 use Rattle.jm_linked.specs.Links.{LinkedView}
 use Rattle.jm_machine.specs.View.{MachineView, MatchesWorld}
 use Rattle.jm_world.specs.Loading.{loaded_world, is_too_small}
 use Rattle.jm_world.specs.Schedules.{schedule}
 use Rattle.jm_world.specs.declared.event.Event.{Event}
-use Rattle.jm_execute.specs.ProgramFiles.{FileFault, in_text, in_class_file}
-use Rattle.jm_execute.specs.Reasons.{no_class as has_no_class}
-use Rattle.jm_execute.specs.Verdicts.{neither, of_class, of_link, of_load, of_schedule, link_fault}
+use Rattle.jm_execute.specs.ProgramFiles.{FileFault}
+use Rattle.jm_execute.specs.Verdicts.{of_class, of_link, of_load, of_schedule, links}
 use Rattle.jm_execute.specs.Refusals.{GivesClass, GivesLinked, GivesMachine, GivesRun, GivesSchedule}
 use Rattle.jm_execute.specs.declared.refusal.Refusal.TheVariants as refusal
 use Rattle.jm_execute.specs.declared.refusal.Obstacle.{Obstacle}
 use Rattle.jm_execute.specs.declared.refusal.Obstacle.TheVariants.{Refused, OutOfMemory}
+use Rattle.jm_execute.specs.Endings.{status_without}
 
 abbrev Given : Type 0
 Given = Result (MachineView × List Event) Obstacle
@@ -22,7 +22,7 @@ some_schedule m program limit text events h read = record { program = program; l
 
 pub no_schedule : (program : List ClassParts) (limit : ℕ) (text : List ℕ) (o : Obstacle) → GivesSchedule text (Err o) → GivesRun (of_schedule program limit (schedule text)) (Err o)
 no_schedule program limit text OutOfMemory h = tt
-no_schedule program limit text (Refused (refusal.BadSchedule line)) h = ap (of_schedule program limit) h
+no_schedule program limit text (Refused (refusal.BadSchedule line)) h = ap (λ r. status_without (of_schedule program limit r)) h
 no_schedule program limit text (Refused _) h = absurd h
 
 pub some_machine : (program : List ClassParts) (limit : ℕ) (text : List ℕ) (r : Given) → is_too_small program limit ≡ false → GivesRun (of_schedule program limit (schedule text)) r → GivesRun (of_load program limit text (is_too_small program limit)) r
@@ -30,25 +30,22 @@ some_machine program limit text r fits h = subst (λ b. GivesRun (of_load progra
 
 pub no_machine : (program : List ClassParts) (limit : ℕ) (text : List ℕ) (o : Obstacle) → GivesMachine program limit (Err o) → GivesRun (of_load program limit text (is_too_small program limit)) (Err o)
 no_machine program limit text OutOfMemory h = tt
-no_machine program limit text (Refused refusal.HeapTooSmall) h = ap (of_load program limit text) h
+no_machine program limit text (Refused refusal.HeapTooSmall) h = ap (λ b. status_without (of_load program limit text b)) h
 no_machine program limit text (Refused _) h = absurd h
 
-pub some_linked : (program : List ClassParts) (l : LinkedView) (limit : ℕ) (text : List ℕ) (r : Given) → GivesLinked program (Ok l) → GivesRun (of_load l.program limit text (is_too_small l.program limit)) r → GivesRun (of_link program limit text (link_fault program)) r
+pub some_linked : (program : List ClassParts) (l : LinkedView) (limit : ℕ) (text : List ℕ) (r : Given) → GivesLinked program (Ok l) → GivesRun (of_load l.program limit text (is_too_small l.program limit)) r → GivesRun (of_link program limit text (links program)) r
 some_linked program l limit text r h g = subst (λ b. GivesRun (of_link program limit text b) r) (sym h.0) (subst (λ p. GivesRun (of_load p limit text (is_too_small p limit)) r) h.1 g)
 
-pub no_linked : (program : List ClassParts) (limit : ℕ) (text : List ℕ) (o : Obstacle) → GivesLinked program (Err o) → GivesRun (of_link program limit text (link_fault program)) (Err o)
+pub no_linked : (program : List ClassParts) (limit : ℕ) (text : List ℕ) (o : Obstacle) → GivesLinked program (Err o) → GivesRun (of_link program limit text (links program)) (Err o)
 no_linked program limit text OutOfMemory h = tt
-no_linked program limit text (Refused (refusal.Unlinked fault)) h = ap (of_link program limit text) h
+no_linked program limit text (Refused (refusal.Unlinked fault)) h = ap (λ b. status_without (of_link program limit text b)) h
 no_linked program limit text (Refused _) h = absurd h
 
-pub some_class : (name : List ℕ) (held : Result ClassParts FileFault) (class : ClassParts) (limit : ℕ) (text : List ℕ) (r : Given) → held ≡ Ok class → GivesRun (of_link (class ∷ []) limit text (link_fault (class ∷ []))) r → GivesRun (of_class limit text name held) r
-some_class name held class limit text r h g = subst (λ c. GivesRun (of_class limit text name c) r) (sym h) g
+pub some_class : (held : Result ClassParts FileFault) (class : ClassParts) (limit : ℕ) (text : List ℕ) (r : Given) → held ≡ Ok class → GivesRun (of_link (class ∷ []) limit text (links (class ∷ []))) r → GivesRun (of_class limit text held) r
+some_class held class limit text r h g = subst (λ c. GivesRun (of_class limit text c) r) (sym h) g
 
-no_class_of : (name file : List ℕ) (held : Result ClassParts FileFault) (fault : FileFault) (limit : ℕ) (text : List ℕ) → held ≡ Err fault → file ≡ name → of_class limit text name held ≡ neither (has_no_class file fault)
-no_class_of name file held fault limit text h same = ap (of_class limit text name) h ∙ ap (λ n. neither (has_no_class n fault)) (sym same)
-
-pub no_class : (name : List ℕ) (held : Result ClassParts FileFault) (limit : ℕ) (text : List ℕ) (o : Obstacle) → GivesClass name held (Err o) → GivesRun (of_class limit text name held) (Err o)
+pub no_class : (name : List ℕ) (held : Result ClassParts FileFault) (limit : ℕ) (text : List ℕ) (o : Obstacle) → GivesClass name held (Err o) → GivesRun (of_class limit text held) (Err o)
 no_class name held limit text OutOfMemory h = tt
-no_class name held limit text (Refused (refusal.BadClass file fault)) h = no_class_of name file.now held (in_class_file fault) limit text h.0 h.1
-no_class name held limit text (Refused (refusal.BadText file fault)) h = no_class_of name file.now held (in_text fault) limit text h.0 h.1
+no_class name held limit text (Refused (refusal.BadClass file fault)) h = ap (λ c. status_without (of_class limit text c)) h.0
+no_class name held limit text (Refused (refusal.BadText file fault)) h = ap (λ c. status_without (of_class limit text c)) h.0
 no_class name held limit text (Refused _) h = absurd h

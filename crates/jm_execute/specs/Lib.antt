@@ -3,7 +3,6 @@ pub mod Reports
 pub mod Codes
 pub mod Turns
 pub mod ProgramFiles
-pub mod Reasons
 pub mod Verdicts
 pub mod Endings
 pub mod Refusals

@@ -1,6 +1,7 @@
--- What keeps a run from its first event, or a class file from being written.
+-- What keeps a run from its first event, or a class file from being written, and the status that follows.
 use Rattle.std.specs.declared.alloc.Global.{Global}
-use Rattle.std.specs.Prelude.{◌≡◌, ℕ, List, Vec, Some, None, Result, Ok, Err, true, false, ⊤}
+use Rattle.std.specs.Prelude.{◌≡◌, ℕ, List, ◌++◌, Vec, Option, Some, None, Result, Ok, Err, true, false, codes, ⊤}
+use Rattle.std.specs.Fmt.{decimal}
 use Rattle.jm_program.specs.declared.class.ClassParts.{ClassParts}
 use Rattle.jm_class_format.specs.ClassFile.{Spells}
 use Rattle.jm_class_format.specs.declared.read_fault.ReadFault.{ReadFault}
@@ -9,26 +10,37 @@ use Rattle.jm_jasmin_ops.specs.declared.fault.AsmFault.{AsmFault}
 use Rattle.jm_world.specs.Loading.{loaded_world, is_too_small}
 use Rattle.jm_world.specs.Schedules.{schedule}
 use Rattle.jm_world.specs.declared.event.Event.{Event}
+use Rattle.jm_linker.specs.FaultTexts.{fault_text}
 use Rattle.jm_linked.specs.Links.{LinkedView}
 use Rattle.jm_machine.specs.View.{MachineView, MatchesWorld}
 use Rattle.jm_execute.specs.ProgramFiles.{FileFault, in_text, in_class_file}
-use Rattle.jm_execute.specs.Reasons.{Reason, not_read, no_class, no_class_file, not_linked, heap_too_small, no_event}
-use Rattle.jm_execute.specs.Verdicts.{Verdict, link_fault, neither, runs}
-use Rattle.jm_execute.specs.Endings.{Assembles}
+use Rattle.jm_execute.specs.Verdicts.{Verdict, links, runs}
+use Rattle.jm_execute.specs.Endings.{Assembles, status_without}
 use Rattle.jm_execute.specs.declared.refusal.Refusal.{Refusal}
 use Rattle.jm_execute.specs.declared.refusal.Refusal.TheVariants as refusal
 use Rattle.jm_execute.specs.declared.refusal.Obstacle.{Obstacle}
 use Rattle.jm_execute.specs.declared.refusal.Obstacle.TheVariants.{Refused, OutOfMemory}
+use Rattle.jm_execute.specs.declared.status.Status.{Status}
+use Rattle.jm_execute.specs.declared.status.Status.TheVariants as ends
 
--- the reason that it says
-abbrev pub reason_of : Refusal → Reason
-reason_of (refusal.NotRead file) = not_read file.now
-reason_of (refusal.BadClass file fault) = no_class file.now (in_class_file fault)
-reason_of (refusal.BadText file fault) = no_class file.now (in_text fault)
-reason_of (refusal.Unwritten file fault) = no_class_file file.now fault
-reason_of (refusal.Unlinked fault) = not_linked fault
-reason_of refusal.HeapTooSmall = heap_too_small
-reason_of (refusal.BadSchedule line) = no_event line
+abbrev pub refusal_status : Refusal → Status
+refusal_status (refusal.NotRead file) = ends.Files
+refusal_status (refusal.BadClass file fault) = ends.Refused
+refusal_status (refusal.BadText file fault) = ends.Refused
+refusal_status (refusal.Unwritten file fault) = ends.Refused
+refusal_status (refusal.Unlinked fault) = ends.Refused
+refusal_status refusal.HeapTooSmall = ends.Refused
+refusal_status (refusal.BadSchedule line) = ends.BadSchedule
+
+-- the line of standard error, without its end; of the names of the faults of a file nothing is said
+abbrev pub refusal_line : Refusal → Option (List ℕ)
+refusal_line (refusal.NotRead file) = Some (codes "jm: " ++ file.now ++ codes ": not read")
+refusal_line (refusal.BadClass file fault) = None
+refusal_line (refusal.BadText file fault) = None
+refusal_line (refusal.Unwritten file fault) = None
+refusal_line (refusal.Unlinked fault) = Some (codes "jm: " ++ fault_text fault)
+refusal_line refusal.HeapTooSmall = Some (codes "jm: 63 HeapTooSmall")
+refusal_line (refusal.BadSchedule line) = Some (codes "jm: 70 BadSchedule(" ++ decimal line ++ codes ")")
 
 -- the class that a class file of this name spells, or the fault in it, with the name
 abbrev pub GivesFileClass : List ℕ → Result ClassParts ReadFault → Result ClassParts Obstacle → Type 0
@@ -60,8 +72,8 @@ GivesWritten name class (Err (Refused _)) = ⊥
 GivesWritten name class (Err OutOfMemory) = ⊤
 
 abbrev pub GivesLinked : List ClassParts → Result LinkedView Obstacle → Type 0
-GivesLinked program (Ok l) = (link_fault program ≡ None) × (l.program ≡ program)
-GivesLinked program (Err (Refused (refusal.Unlinked fault))) = link_fault program ≡ Some fault
+GivesLinked program (Ok l) = (links program ≡ true) × (l.program ≡ program)
+GivesLinked program (Err (Refused (refusal.Unlinked fault))) = links program ≡ false
 GivesLinked program (Err (Refused _)) = ⊥
 GivesLinked program (Err OutOfMemory) = ⊤
 
@@ -86,7 +98,7 @@ pub record IsReady (v : Verdict) (m : MachineView) (events : List Event) : Type 
 
 -- memory may be refused at any time
 abbrev pub Hinders : Verdict → Obstacle → Type 0
-Hinders v (Refused r) = v ≡ neither (reason_of r)
+Hinders v (Refused r) = status_without v ≡ Some (refusal_status r)
 Hinders v OutOfMemory = ⊤
 
 abbrev pub GivesRun : Verdict → Result (MachineView × List Event) Obstacle → Type 0

@@ -1,6 +1,5 @@
 // From an assembler text to the bytes of a class file.
 
-ghost use Rattle.std.specs.String.{string_bytes};
 ghost use Rattle.jm_execute.specs.Refusals.{GivesAssembled, GivesWritten};
 ghost use Rattle.jm_execute.specs.ProgramFiles.{text_class};
 ghost use Rattle.jm_execute.specs.Verdicts.{of_text, of_text_class};
@@ -24,7 +23,7 @@ fn written<'a>(alloc: Global, file: &'a str, class: &Class) -> Result<Vec<u8>, O
 }
 
 fn assemble_text<'a>(alloc: Global, file: &'a str, text: &[u8]) -> Result<Vec<u8>, Obstacle<'a>>
-    ensures { GivesAssembled (of_text_class file.now (text_class text.now)) result }
+    ensures { GivesAssembled (of_text_class (text_class text.now)) result }
 {
     match class_in_text(alloc, file, text) {
         Ok(class) => written(alloc, file, &class),
@@ -36,7 +35,7 @@ fn assemble_text<'a>(alloc: Global, file: &'a str, text: &[u8]) -> Result<Vec<u8
 /// that is the obstacle; then what is wrong with the text, and then the limit of class files that
 /// its class passes.
 pub fn assemble_file<'a>(alloc: Global, text: &'a InputFile) -> Result<Vec<u8>, Obstacle<'a>>
-    ensures { GivesAssembled (of_text (string_bytes text.now.name) text.now.contents) result }
+    ensures { GivesAssembled (of_text text.now.contents) result }
 {
     match &text.contents {
         Contents::Bytes(bytes) => assemble_text(alloc, &text.name, bytes),

@@ -154,7 +154,7 @@ fn execute_assemble<O: Write, E: Write>(
 ) -> Status
     requires out { out.old.failed ≡ false }
     requires err { err.old.failed ≡ false }
-    ensures { (e : Ending) × Allows (of_text (string_bytes job.now.text.name) job.now.text.contents) e × Leaves e out.new.failed result (held O.contents out.old) (held O.contents out.new) (held E.contents err.old) (held E.contents err.new) }
+    ensures { (e : Ending) × Allows (of_text job.now.text.contents) e × Leaves e out.new.failed result (held O.contents out.old) (held O.contents out.new) (held E.contents err.old) (held E.contents err.new) }
 {
     match assemble_file(alloc, &job.text) {
         Ok(bytes) => tell_assembled(&bytes, &job.output, out, err),

@@ -9,7 +9,7 @@ ghost use Rattle.jm_machine.specs.View.{MatchesWorld};
 ghost use Rattle.jm_program.specs.declared.class.ClassParts.{ClassParts};
 ghost use Rattle.jm_world.specs.Loading.{is_too_small, loaded_world};
 ghost use Rattle.jm_world.specs.Schedules.{schedule};
-ghost use Rattle.jm_execute.specs.Verdicts.{link_fault};
+ghost use Rattle.jm_execute.specs.Verdicts.{links};
 
 use crate::job::{Contents, InputFile, RunJob};
 use crate::program_file::class_in_file;
@@ -98,7 +98,7 @@ fn with_class<'a>(
     limit: u32,
     text: &[u8],
 ) -> Result<Ready, Obstacle<'a>>
-    ensures { GivesRun (of_link (class ∷ []) limit text.now (link_fault (class ∷ []))) result }
+    ensures { GivesRun (of_link (class ∷ []) limit text.now (links (class ∷ []))) result }
 {
     match linked_of(alloc, class) {
         Ok(linked) => with_machine(alloc, linked, limit, text),
@@ -113,7 +113,7 @@ fn with_bytes<'a>(
     limit: u32,
     text: &[u8],
 ) -> Result<Ready, Obstacle<'a>>
-    ensures { GivesRun (of_class limit text.now file.now (file_class file.now bytes.now)) result }
+    ensures { GivesRun (of_class limit text.now (file_class file.now bytes.now)) result }
 {
     match class_in_file(alloc, file, bytes) {
         Ok(class) => with_class(alloc, class, limit, text),

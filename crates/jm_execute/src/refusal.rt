@@ -1,8 +1,7 @@
 // Why a job is not done.
 
 ghost use Rattle.std.specs.Prelude.{◌≡◌};
-ghost use Rattle.jm_execute.specs.Reasons.{reason_status, reason_text};
-ghost use Rattle.jm_execute.specs.Refusals.{reason_of};
+ghost use Rattle.jm_execute.specs.Refusals.{refusal_line, refusal_status};
 
 use crate::number::Number;
 use crate::status::Status;
@@ -33,7 +32,7 @@ pub enum Refusal<'a> {
 impl Refusal<'_> {
     /// The status that the program ends with.
     pub fn status(&self) -> Status
-        ensures { result ≡ reason_status (reason_of self.now) }
+        ensures { result ≡ refusal_status self.now }
     {
         match self {
             Refusal::NotRead(_) => Status::Files,
@@ -48,7 +47,7 @@ impl Refusal<'_> {
 }
 
 impl Display for Refusal<'_> {
-    ghost output = { λ refusal. reason_text (reason_of refusal) };
+    ghost output = { λ refusal. refusal_line refusal };
 
     fn fmt<W: fmt::Write>(&self, f: &mut fmt::Formatter<W>) -> fmt::Result {
         match self {
