@@ -4,7 +4,7 @@ use std::env;
 use std::io::ErrorKind;
 
 /// Why the words are not known.
-#[derive(Clone, Copy, Debug, PartialEq, Eq)]
+#[derive(Clone, Copy)]
 pub enum WordsFault {
     /// A word is not UTF-8.
     NotText,

@@ -1,7 +1,7 @@
 use jm_program::{AccessFlags, Field, Method, Name, Sequence};
 
 /// A class or an interface that every program finds there.
-#[derive(Debug, Drop)]
+#[derive(Drop)]
 pub struct BuiltIn {
     pub flags: AccessFlags,
     pub name: Name,

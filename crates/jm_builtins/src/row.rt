@@ -1,5 +1,5 @@
 /// The types that built-in members name.
-#[derive(Clone, Copy, Debug, PartialEq, Eq)]
+#[derive(Clone, Copy)]
 pub enum MemberType {
     Int,
     Long,

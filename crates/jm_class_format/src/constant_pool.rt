@@ -4,7 +4,7 @@ use jm_program::Sequence;
 use std::marker::Model;
 
 /// The kinds of pool entries that are read (JVMS 4.4, table 4.4-A).
-#[derive(Clone, Copy, Debug, PartialEq, Eq)]
+#[derive(Clone, Copy)]
 pub enum Tag {
     Utf8,
     Integer,
@@ -19,7 +19,7 @@ pub enum Tag {
 
 /// What the first byte of a code unit in modified UTF-8 tells: how many bytes there are, and the
 /// bits that it gives (JVMS 4.4.7).
-#[derive(Clone, Copy, Debug, PartialEq, Eq)]
+#[derive(Clone, Copy)]
 pub enum Lead {
     One(u8),
     Two(u8),
@@ -27,7 +27,7 @@ pub enum Lead {
 }
 
 /// A part of a file's bytes. In a contract it is the list of them.
-#[derive(Debug, Drop)]
+#[derive(Drop)]
 pub struct Bytes<'a> {
     bytes: &'a [u8],
 }
@@ -57,7 +57,7 @@ impl<'a> Bytes<'a> {
 }
 
 /// An entry as its bytes spell it, before its text and its indexes are looked at.
-#[derive(Debug, Drop)]
+#[derive(Drop)]
 pub enum RawEntry<'a> {
     /// The bytes of a text in modified UTF-8.
     Utf8(Bytes<'a>),
@@ -81,7 +81,7 @@ pub enum RawEntry<'a> {
 
 /// An entry of the constant pool (JVMS 4.4). Each index in it names an entry of the kind that its
 /// place needs.
-#[derive(Debug, Drop)]
+#[derive(Drop)]
 pub enum Entry {
     /// The UTF-16 code units of a text (JVMS 4.4.7).
     Utf8(Sequence<u16>),

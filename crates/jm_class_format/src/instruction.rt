@@ -1,7 +1,7 @@
 use jm_program::{ArrayOp, FieldOp, InvokeOp, MonitorOp, Plain, ReturnOp, TypeOp};
 
 /// An instruction as its bytes spell it: what it names is an index of the constant pool.
-#[derive(Debug, Drop)]
+#[derive(Drop)]
 pub enum IndexedInstr {
     /// Touches one frame alone and names nothing.
     Plain(Plain),
@@ -25,7 +25,7 @@ pub enum IndexedInstr {
 }
 
 /// An instruction of a code, and the offset of its opcode.
-#[derive(Debug, Drop)]
+#[derive(Drop)]
 pub struct PlacedInstr {
     pub offset: u32,
     pub instr: IndexedInstr,

@@ -7,7 +7,7 @@ use jm_program::{
 use std::fmt;
 
 /// What an opcode stands for, and so which operands follow it (JVMS 6.5, 7).
-#[derive(Clone, Copy, Debug, PartialEq, Eq)]
+#[derive(Clone, Copy)]
 pub enum Opcode {
     Simple(Simple),
     /// `newarray` apart, which has an operand.

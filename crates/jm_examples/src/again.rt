@@ -10,7 +10,7 @@ use std::alloc::Global;
 use std::fmt;
 
 /// What came of writing a class and reading its bytes again.
-#[derive(Clone, Copy, Debug, PartialEq, Eq)]
+#[derive(Clone, Copy)]
 pub enum Again {
     /// The same class.
     Equal,

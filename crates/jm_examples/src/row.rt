@@ -5,7 +5,7 @@ use jm_program::{ClassParts, Method};
 use std::fmt;
 
 /// What a class declares, and the sums over the codes of its methods (JVMS 4.7.3).
-#[derive(Clone, Copy, Debug, PartialEq, Eq)]
+#[derive(Clone, Copy)]
 pub struct Row {
     pub fields: usize,
     pub methods: usize,

@@ -1,5 +1,5 @@
 /// What reading a file came to.
-#[derive(Debug, Drop)]
+#[derive(Drop)]
 pub enum Contents {
     Bytes(Vec<u8>),
     /// The file could not be read.
@@ -9,14 +9,14 @@ pub enum Contents {
 }
 
 /// A file of the command line, by the name that stands there.
-#[derive(Debug, Drop)]
+#[derive(Drop)]
 pub struct InputFile {
     pub name: String,
     pub contents: Contents,
 }
 
 /// What `jm` is to do.
-#[derive(Debug, Drop)]
+#[derive(Drop)]
 pub enum Job {
     /// `jm run`
     Run(RunJob),
@@ -25,7 +25,7 @@ pub enum Job {
 }
 
 /// To run the class of a file by the events of a schedule.
-#[derive(Debug, Drop)]
+#[derive(Drop)]
 pub struct RunJob {
     /// The limit of the heap, in cells.
     pub heap: u32,
@@ -35,7 +35,7 @@ pub struct RunJob {
 }
 
 /// To write the class that an assembler text denotes as a class file.
-#[derive(Debug, Drop)]
+#[derive(Drop)]
 pub struct AssembleJob {
     /// The assembler text, whatever its name is.
     pub text: InputFile,

@@ -13,7 +13,7 @@ use std::fmt;
 use std::fmt::Display;
 
 /// Why a job is not done, as a line of standard error says it.
-#[derive(Debug, Drop)]
+#[derive(Drop)]
 pub enum Refusal<'a> {
     /// The file of this name could not be read.
     NotRead(&'a str),
@@ -63,7 +63,7 @@ impl Display for Refusal<'_> {
 }
 
 /// What keeps a run from its first event, or a class file from being written.
-#[derive(Debug, Drop)]
+#[derive(Drop)]
 pub enum Obstacle<'a> {
     Refused(Refusal<'a>),
     OutOfMemory,

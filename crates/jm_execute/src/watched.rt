@@ -11,11 +11,11 @@ use std::io::{Read, Write};
 use std::marker::Model;
 
 /// The writer failed: a call answered an error, or took none of the bytes that it was given.
-#[derive(Clone, Copy, Debug, PartialEq, Eq)]
+#[derive(Clone, Copy)]
 pub struct WriteFailed;
 
 /// The reader failed: a call answered an error.
-#[derive(Clone, Copy, Debug, PartialEq, Eq)]
+#[derive(Clone, Copy, PartialEq, Eq)]
 pub struct ReadFailed;
 
 /// A reader or a writer with a flag that is set once a call has failed: it answered an error, or a

@@ -17,7 +17,7 @@ use jm_program::{Arithmetic, Bitwise, Conversion, Integral, Shift};
 use jm_values::{TagFault, Value};
 
 /// What comes of arithmetic on operands that are there and of its type.
-#[derive(Clone, Copy, Debug, PartialEq, Eq)]
+#[derive(Clone, Copy)]
 pub enum Computed {
     /// The result is on the stack, in the place of the operands.
     Pushed,

@@ -15,7 +15,7 @@ use std::slice::Iter;
 /// The frame of a method that runs (JVMS 2.6): the numbers of its method and of its instruction,
 /// the monitor that it entered, its local variables and its operand stack. A long is one operand
 /// and takes two of the `max_stack` units, and of its two local variables only the first is set.
-#[derive(Debug, Drop)]
+#[derive(Drop)]
 pub struct Frame {
     method: usize,
     monitor: Option<Place>,

@@ -4,14 +4,14 @@ use jm_program::BaseType;
 
 /// What an array holds in its last dimension (JVMS 4.3.2): a primitive type, or a class or an
 /// interface by the number that the linker gave it.
-#[derive(Clone, Copy, Debug, PartialEq, Eq)]
+#[derive(Clone, Copy, PartialEq, Eq)]
 pub enum Element {
     Base(BaseType),
     Class(u32),
 }
 
 /// The type of an array's elements (JVMS 2.4).
-#[derive(Clone, Copy, Debug, PartialEq, Eq)]
+#[derive(Clone, Copy, PartialEq, Eq)]
 pub struct Component {
     /// 0 where the elements are no arrays.
     pub dimensions: u8,
@@ -20,7 +20,7 @@ pub struct Component {
 
 /// The type of an object: the class of an instance by its number, or an array by the type of its
 /// elements (JVMS 2.4).
-#[derive(Clone, Copy, Debug, PartialEq, Eq)]
+#[derive(Clone, Copy, PartialEq, Eq)]
 pub enum ClassId {
     Instance(u32),
     Array(Component),

@@ -20,7 +20,7 @@ use jm_values::{Place, Value};
 use std::alloc::AllocError;
 
 /// Which objects a collection may give up.
-#[derive(Clone, Copy, Debug, PartialEq, Eq)]
+#[derive(Clone, Copy)]
 pub enum Kind {
     /// Those that the heap chooses to look at.
     Minor,

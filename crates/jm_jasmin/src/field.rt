@@ -15,7 +15,7 @@ use jm_program::{AccessFlags, BaseType, Boxed, Constant, ElementType, Field, Fie
 use std::alloc::{AllocError, Global};
 
 /// What the value of a field is (JVMS 4.7.2, table 4.7.2-A).
-#[derive(Clone, Copy, Debug, PartialEq, Eq)]
+#[derive(Clone, Copy)]
 pub enum ValueKind {
     Int,
     Long,

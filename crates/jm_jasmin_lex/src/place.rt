@@ -7,7 +7,7 @@ ghost use Rattle.jm_jasmin_lex.specs.Tokens.{next_line};
 use crate::token::TokenKind;
 
 /// What a byte is, wherever it stands.
-#[derive(Clone, Copy, Debug, PartialEq, Eq)]
+#[derive(Clone, Copy)]
 pub enum Sign {
     /// A blank, a tab, or a carriage return right before a line feed.
     Blank,
@@ -18,7 +18,7 @@ pub enum Sign {
 }
 
 /// Where the reading stands. A word or a string has the offset at which it began.
-#[derive(Clone, Copy, Debug, PartialEq, Eq)]
+#[derive(Clone, Copy, PartialEq, Eq)]
 pub enum Place {
     /// At the start of a line, or behind a blank.
     Between,
@@ -37,7 +37,7 @@ pub enum Place {
 }
 
 /// What a sign leads to.
-#[derive(Clone, Copy, Debug, PartialEq, Eq)]
+#[derive(Clone, Copy)]
 pub enum Step {
     /// The reading goes on.
     To(Place),

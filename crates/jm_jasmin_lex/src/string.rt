@@ -7,7 +7,7 @@ ghost use Rattle.std.specs.Char.Escape.{encode_utf16};
 use std::alloc::{AllocError, Global};
 
 /// Where a character of a string stands.
-#[derive(Clone, Copy, Debug, PartialEq, Eq)]
+#[derive(Clone, Copy)]
 pub enum Part {
     /// It is the opening quote.
     Before,

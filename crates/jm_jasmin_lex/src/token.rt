@@ -5,7 +5,7 @@ ghost use Rattle.std.specs.Prelude.{◌≡◌};
 use std::marker::Model;
 
 /// What a token is.
-#[derive(Clone, Copy, Debug, PartialEq, Eq)]
+#[derive(Clone, Copy)]
 pub enum TokenKind {
     /// A word: a directive, a mnemonic, a label, a name or a number.
     Word,
@@ -15,7 +15,7 @@ pub enum TokenKind {
 
 /// A word or a string of a text. In a contract it is its parts: what it is, the bytes of its text,
 /// the offset of the first of them, and the line.
-#[derive(Debug, Drop)]
+#[derive(Drop)]
 pub struct Token<'a> {
     kind: TokenKind,
     text: &'a str,
@@ -75,7 +75,7 @@ impl<'a> Token<'a> {
 
 /// The tokens of a text up to the first that is none, and the line of that one. In a contract it
 /// is a record of the two.
-#[derive(Debug, Drop)]
+#[derive(Drop)]
 pub struct Lexed<'a> {
     tokens: Vec<Token<'a>>,
     bad_line: Option<usize>,

@@ -7,7 +7,7 @@ use std::marker::Model;
 
 /// The use of a label. In a contract it is the bytes of the label's name, and the line in which it
 /// is used.
-#[derive(Debug, Drop)]
+#[derive(Drop)]
 pub struct Label<'a> {
     name: &'a str,
     line: usize,
@@ -45,7 +45,7 @@ impl<'a> Label<'a> {
 }
 
 /// An instruction as a text has it: its targets are labels (Jasmin User Guide, "Instructions").
-#[derive(Debug, Drop)]
+#[derive(Drop)]
 pub enum LabelledInstr<'a> {
     /// One that has no target.
     Named(Instr),
@@ -56,7 +56,7 @@ pub enum LabelledInstr<'a> {
 
 /// The operands of `tableswitch`: the targets of `low`, `low` + 1, .. in order, of which there is
 /// at least one, and the target of every other int (JVMS 6.5 tableswitch).
-#[derive(Debug, Drop)]
+#[derive(Drop)]
 pub struct LabelledTable<'a> {
     pub low: i32,
     pub targets: Sequence<Label<'a>>,
@@ -64,7 +64,7 @@ pub struct LabelledTable<'a> {
 }
 
 /// A key of `lookupswitch` with its target.
-#[derive(Debug, Drop)]
+#[derive(Drop)]
 pub struct LabelledPair<'a> {
     pub key: i32,
     pub target: Label<'a>,
@@ -72,14 +72,14 @@ pub struct LabelledPair<'a> {
 
 /// The operands of `lookupswitch`: the pairs, their keys strictly rising, and the target of every
 /// other int (JVMS 6.5 lookupswitch).
-#[derive(Debug, Drop)]
+#[derive(Drop)]
 pub struct LabelledLookup<'a> {
     pub pairs: Sequence<LabelledPair<'a>>,
     pub default: Label<'a>,
 }
 
 /// An instruction, and how many tokens it takes: a switch takes those of several lines.
-#[derive(Debug, Drop)]
+#[derive(Drop)]
 pub struct Line<'a> {
     pub instruction: LabelledInstr<'a>,
     pub used: usize,

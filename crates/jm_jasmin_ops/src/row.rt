@@ -4,7 +4,7 @@ use crate::labelled::{Label, LabelledLookup, LabelledPair, LabelledTable};
 use jm_program::Sequence;
 
 /// A line below `tableswitch` or `lookupswitch`.
-#[derive(Debug, Drop)]
+#[derive(Drop)]
 pub enum Row<'a> {
     /// `L`, the next target of a table.
     Target(Label<'a>),
@@ -15,7 +15,7 @@ pub enum Row<'a> {
 }
 
 /// What a line says to the targets of a table before it.
-#[derive(Debug, Drop)]
+#[derive(Drop)]
 pub enum TableStep<'a> {
     /// The targets go on: these, with the line's.
     More(Sequence<Label<'a>>),
@@ -24,7 +24,7 @@ pub enum TableStep<'a> {
 }
 
 /// What a line says to the pairs before it.
-#[derive(Debug, Drop)]
+#[derive(Drop)]
 pub enum LookupStep<'a> {
     /// The pairs go on: these, with the line's.
     More(Sequence<LabelledPair<'a>>),

@@ -3,7 +3,7 @@
 use jm_program::{Plain, ReturnOp};
 
 /// What a print stream's method prints.
-#[derive(Clone, Copy, Debug, PartialEq, Eq)]
+#[derive(Clone, Copy)]
 pub enum Printed {
     Int,
     Long,
@@ -11,7 +11,7 @@ pub enum Printed {
 }
 
 /// A method of a print stream.
-#[derive(Clone, Copy, Debug, PartialEq, Eq)]
+#[derive(Clone, Copy)]
 pub enum PrintMethod {
     Print(Printed),
     Println(Printed),
@@ -20,7 +20,7 @@ pub enum PrintMethod {
 }
 
 /// An instruction whose names are resolved.
-#[derive(Debug, PartialEq, Eq, Drop)]
+#[derive(Drop)]
 pub enum LinkedInstr {
     /// Touches one frame alone and names nothing.
     Plain(Plain),

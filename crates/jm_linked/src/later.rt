@@ -8,7 +8,7 @@ use std::fmt;
 use std::fmt::Display;
 
 /// A part of a program that the machine cannot run yet.
-#[derive(Clone, Copy, Debug, PartialEq, Eq)]
+#[derive(Clone, Copy, Debug)]
 pub enum LaterPart {
     /// A superclass other than java/lang/Object.
     Superclass,

@@ -10,7 +10,7 @@ use jm_program::{Class, Sequence};
 use std::marker::Model;
 
 /// A program that loads, with its names resolved.
-#[derive(Debug, Drop)]
+#[derive(Drop)]
 pub struct Linked {
     classes: Sequence<Class>,
     built_ins: Sequence<BuiltIn>,

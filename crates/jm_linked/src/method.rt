@@ -4,7 +4,7 @@ use crate::instruction::LinkedInstr;
 use jm_program::Sequence;
 
 /// A method that can run.
-#[derive(Debug, Drop)]
+#[derive(Drop)]
 pub struct LinkedMethod {
     /// The number of its class among the program's classes.
     pub class: u32,

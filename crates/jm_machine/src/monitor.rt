@@ -1,7 +1,7 @@
 // Monitors as readers tell them.
 
 /// A monitor that a thread holds (JVMS 2.11.10).
-#[derive(Clone, Copy, Debug, PartialEq, Eq)]
+#[derive(Clone, Copy)]
 pub struct WorldMonitor {
     /// The number of the object.
     pub object: u64,

@@ -17,7 +17,7 @@ use std::marker::Model;
 
 /// What an array holds in its last dimension (JVMS 4.3.2): a primitive type, or a class or an
 /// interface by its name in UTF-16 code units.
-#[derive(Clone, Copy)]
+#[derive(Clone, Copy, PartialEq, Eq)]
 pub enum ElementKind<'a> {
     Base(BaseType),
     Class(&'a [u16]),

@@ -11,7 +11,7 @@ use jm_values::Value;
 
 /// What a local variable, an operand, a field or an element holds (JVMS 2.11.1), as a reader of the
 /// machine tells it: a reference is the number of its object, which stays when the object moves.
-#[derive(Clone, Copy, Debug, PartialEq, Eq)]
+#[derive(Clone, Copy, PartialEq, Eq)]
 pub enum WorldValue {
     Int(i32),
     Long(i64),

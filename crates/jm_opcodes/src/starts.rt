@@ -8,7 +8,7 @@ use std::alloc::{AllocError, Global};
 use std::marker::Model;
 
 /// Where the instructions of a code begin. In a contract it is the list of their offsets.
-#[derive(Debug, Drop)]
+#[derive(Drop)]
 pub struct Starts {
     starts: Vec<u32>,
     numbers: Vec<Option<u32>>,

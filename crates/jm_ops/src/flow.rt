@@ -6,7 +6,7 @@ ghost use Rattle.jm_ops.specs.Flows.{class_of};
 use jm_values::TagFault;
 
 /// The class of an exception that an instruction on one frame throws.
-#[derive(Clone, Copy, Debug, PartialEq, Eq)]
+#[derive(Clone, Copy, PartialEq, Eq)]
 pub enum Thrown {
     /// A division by zero (JVMS 6.5 idiv).
     ArithmeticException,
@@ -24,7 +24,7 @@ impl Thrown {
 }
 
 /// Where the frame goes on.
-#[derive(Clone, Copy, Debug, PartialEq, Eq)]
+#[derive(Clone, Copy, PartialEq, Eq)]
 pub enum Flow {
     /// At the next instruction.
     On,

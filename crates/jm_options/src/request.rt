@@ -5,7 +5,7 @@ pub const MIN_HEAP: u32 = 16;
 pub const MAX_HEAP: u32 = 16_777_216;
 
 /// What a command line asks for.
-#[derive(Debug, Drop)]
+#[derive(Drop)]
 pub enum Options {
     /// `jm run`: to run a class.
     Run(RunOptions),
@@ -14,7 +14,7 @@ pub enum Options {
 }
 
 /// What `jm run` is given.
-#[derive(Debug, Drop)]
+#[derive(Drop)]
 pub struct RunOptions {
     /// The limit of the heap, in cells.
     pub heap: u32,
@@ -25,7 +25,7 @@ pub struct RunOptions {
 }
 
 /// What `jm asm` is given.
-#[derive(Debug, Drop)]
+#[derive(Drop)]
 pub struct AssembleOptions {
     /// The file of the text.
     pub input: String,

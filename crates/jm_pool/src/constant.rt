@@ -9,7 +9,7 @@ use std::alloc::AllocError;
 
 /// What an entry of the constant pool stands for (JVMS 4.4, table 4.4-A). Each index names an entry
 /// of the pool that the constant is for.
-#[derive(Debug, PartialEq, Eq, Hash, Drop)]
+#[derive(PartialEq, Eq, Hash, Drop)]
 pub enum Constant {
     /// The UTF-16 code units of a text (JVMS 4.4.7).
     Utf8(Name),

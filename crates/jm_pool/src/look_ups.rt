@@ -7,21 +7,21 @@ use crate::pool::Pool;
 use jm_class_format::Entry;
 
 /// A text of a pool (JVMS 4.4.7): its index, and the code units that stand there.
-#[derive(Clone, Copy, Debug)]
+#[derive(Clone, Copy)]
 pub struct Text<'a> {
     pub index: u16,
     pub units: &'a [u16],
 }
 
 /// A name and a descriptor (JVMS 4.4.6).
-#[derive(Clone, Copy, Debug)]
+#[derive(Clone, Copy)]
 pub struct NameAndType<'a> {
     pub name: Text<'a>,
     pub descriptor: Text<'a>,
 }
 
 /// A class or an interface, and its member's name and descriptor (JVMS 4.4.2).
-#[derive(Clone, Copy, Debug)]
+#[derive(Clone, Copy)]
 pub struct Member<'a> {
     pub class: Text<'a>,
     pub name: Text<'a>,

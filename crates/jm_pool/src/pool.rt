@@ -14,7 +14,7 @@ use std::alloc::Global;
 use std::marker::Model;
 
 /// A constant pool (JVMS 4.4). In a contract it is the list of its entries, from index 1 on.
-#[derive(Debug, Drop)]
+#[derive(Drop)]
 pub struct Pool {
     entries: Vec<Entry>,
 }

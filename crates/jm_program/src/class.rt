@@ -15,14 +15,14 @@ use crate::sequence::Sequence;
 use std::marker::Model;
 
 /// The version of a class file (JVMS 4.1), compared by major and then by minor.
-#[derive(Clone, Copy, Debug, PartialEq, Eq)]
+#[derive(Clone, Copy, PartialEq, Eq)]
 pub struct Version {
     pub major: u16,
     pub minor: u16,
 }
 
 /// A field that a class declares (JVMS 4.5).
-#[derive(Debug, PartialEq, Eq, Drop)]
+#[derive(PartialEq, Eq, Drop)]
 pub struct Field {
     pub flags: AccessFlags,
     pub name: Name,
@@ -32,7 +32,7 @@ pub struct Field {
 }
 
 /// A method that a class declares (JVMS 4.6).
-#[derive(Debug, PartialEq, Eq, Drop)]
+#[derive(PartialEq, Eq, Drop)]
 pub struct Method {
     pub flags: AccessFlags,
     pub name: Name,
@@ -42,7 +42,7 @@ pub struct Method {
 }
 
 /// The parts of a class or an interface (JVMS 4.1).
-#[derive(Debug, PartialEq, Eq, Drop)]
+#[derive(PartialEq, Eq, Drop)]
 pub struct ClassParts {
     pub version: Version,
     pub flags: AccessFlags,
@@ -58,7 +58,7 @@ pub struct ClassParts {
 
 /// A class or an interface that keeps the rules of a class (JVMS 4), which [`ClassParts::fits`]
 /// tests.
-#[derive(Debug, Drop)]
+#[derive(Drop)]
 pub struct Class {
     parts: ClassParts,
 }

@@ -9,7 +9,7 @@ use crate::sequence::Sequence;
 
 /// The code of a method (JVMS 4.7.3). An instruction's number is its place among the
 /// instructions, from 0.
-#[derive(Debug, PartialEq, Eq, Drop)]
+#[derive(PartialEq, Eq, Drop)]
 pub struct Code {
     /// The depth of the operand stack in units: a long takes two.
     pub max_stack: u16,
@@ -24,7 +24,7 @@ pub struct Code {
 
 /// A row of the exception table (JVMS 4.7.3). The range goes from `start`, included, to `end`,
 /// excluded.
-#[derive(Debug, PartialEq, Eq, Drop)]
+#[derive(PartialEq, Eq, Drop)]
 pub struct Handler {
     pub start: u32,
     pub end: u32,
@@ -36,7 +36,7 @@ pub struct Handler {
 
 /// A row of the line number table (JVMS 4.7.12): the instructions from `start` on come from the
 /// line.
-#[derive(Clone, Copy, Debug, PartialEq, Eq)]
+#[derive(Clone, Copy, PartialEq, Eq)]
 pub struct LineNumber {
     pub start: u32,
     pub line: u16,

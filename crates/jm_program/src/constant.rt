@@ -5,7 +5,7 @@ use crate::sequence::Sequence;
 use std::alloc::AllocError;
 
 /// A constant that is pushed or that a static field begins with (JVMS 4.4.3, 4.4.4, 4.4.5).
-#[derive(Debug, PartialEq, Eq, Drop)]
+#[derive(PartialEq, Eq, Drop)]
 pub enum Constant {
     Int(i32),
     Long(i64),

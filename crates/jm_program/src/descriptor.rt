@@ -11,7 +11,7 @@ use crate::sequence::Sequence;
 use std::alloc::{AllocError, Global};
 
 /// A primitive type, by its letter `B C D F I J S Z` (JVMS 4.3.2).
-#[derive(Clone, Copy, Debug, PartialEq, Eq, Hash)]
+#[derive(Clone, Copy, PartialEq, Eq, Hash)]
 pub enum BaseType {
     Byte,
     Char,
@@ -24,7 +24,7 @@ pub enum BaseType {
 }
 
 /// What an array holds in its last dimension, or a type that is no array (JVMS 4.3.2).
-#[derive(Debug, PartialEq, Eq, Drop)]
+#[derive(PartialEq, Eq, Drop)]
 pub enum ElementType {
     Base(BaseType),
     /// A class or an interface.
@@ -32,7 +32,7 @@ pub enum ElementType {
 }
 
 /// The type of a field, a parameter or a result (JVMS 4.3.2).
-#[derive(Debug, PartialEq, Eq, Drop)]
+#[derive(PartialEq, Eq, Drop)]
 pub struct FieldType {
     /// How many `[` stand before the element: 0 for a type that is no array.
     pub dimensions: u8,
@@ -40,7 +40,7 @@ pub struct FieldType {
 }
 
 /// The type of a method (JVMS 4.3.3).
-#[derive(Debug, PartialEq, Eq, Drop)]
+#[derive(PartialEq, Eq, Drop)]
 pub struct MethodDescriptor {
     pub parameters: Boxed<Sequence<FieldType>>,
     /// None for `V`.
@@ -48,7 +48,7 @@ pub struct MethodDescriptor {
 }
 
 /// The type of a field or of a method (JVMS 4.3).
-#[derive(Debug, PartialEq, Eq, Drop)]
+#[derive(PartialEq, Eq, Drop)]
 pub enum Descriptor {
     Field(FieldType),
     Method(MethodDescriptor),

@@ -2,7 +2,7 @@ ghost use Rattle.std.specs.Prelude.{◌≡◌};
 
 /// The access flags of a class, a field or a method (JVMS 4.1, 4.5, 4.6). Flags that nothing
 /// here names, as synthetic or varargs, are kept and mean nothing.
-#[derive(Clone, Copy, Debug, PartialEq, Eq)]
+#[derive(Clone, Copy, PartialEq, Eq)]
 pub struct AccessFlags {
     /// The u2 of a class file.
     pub bits: u16,

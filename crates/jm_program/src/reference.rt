@@ -5,7 +5,7 @@ use crate::instruction::InvokeOp;
 use crate::name::Name;
 
 /// A class, an interface or an array type, as a Class entry names it (JVMS 4.4.1).
-#[derive(Debug, PartialEq, Eq, Drop)]
+#[derive(PartialEq, Eq, Drop)]
 pub enum ClassRef {
     Class(Name),
     /// A type of at least one dimension.
@@ -13,7 +13,7 @@ pub enum ClassRef {
 }
 
 /// A field of a class, by name (JVMS 4.4.2).
-#[derive(Debug, PartialEq, Eq, Drop)]
+#[derive(PartialEq, Eq, Drop)]
 pub struct FieldRef {
     pub class: ClassRef,
     pub name: Name,
@@ -21,7 +21,7 @@ pub struct FieldRef {
 }
 
 /// A method of a class or of an interface, by name (JVMS 4.4.2).
-#[derive(Debug, PartialEq, Eq, Drop)]
+#[derive(PartialEq, Eq, Drop)]
 pub struct MethodRef {
     pub class: ClassRef,
     pub name: Name,

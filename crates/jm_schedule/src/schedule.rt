@@ -9,7 +9,7 @@ use std::marker::Model;
 pub const MAX_EVENTS: u64 = 10_000_000;
 
 /// An event, and how often it happens, one time after the other.
-#[derive(Clone, Copy, Debug, PartialEq, Eq)]
+#[derive(Clone, Copy)]
 pub struct Run {
     pub event: Event,
     pub count: u32,
@@ -17,7 +17,7 @@ pub struct Run {
 
 /// The events of a schedule, in order. Contracts see the list of them; the memory that it takes
 /// grows with its runs, and not with how often they repeat.
-#[derive(Debug, Drop)]
+#[derive(Drop)]
 pub struct Schedule {
     runs: Vec<Run>,
     len: u64,

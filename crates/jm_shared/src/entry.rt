@@ -6,7 +6,7 @@ ghost use Rattle.jm_shared.specs.Legal.{reply_of};
 use jm_world::{Event, Reply, ReplyKind};
 
 /// What a journal tells of a turn.
-#[derive(Clone, Copy, Debug, PartialEq, Eq)]
+#[derive(Clone, Copy)]
 pub struct Entry {
     pub event: Event,
     /// How many Java threads were ever made.
@@ -32,7 +32,7 @@ impl Entry {
 }
 
 /// What a turn answers to its seat.
-#[derive(Clone, Copy, Debug, PartialEq, Eq)]
+#[derive(Clone, Copy)]
 pub struct Receipt {
     /// The number of the seat.
     pub seat: u8,

@@ -7,7 +7,7 @@ use crate::entry::Entry;
 use jm_world::{Event, ReplyKind};
 
 /// What an event is, beside the number of a thread.
-#[derive(Clone, Copy, Debug, PartialEq, Eq)]
+#[derive(Clone, Copy)]
 pub(crate) enum EventKind {
     Step,
     Minor,
@@ -15,7 +15,7 @@ pub(crate) enum EventKind {
 }
 
 /// Turns in a row that are equal in seat, event and reply, in 40 bytes.
-#[derive(Clone, Copy, Debug)]
+#[derive(Clone, Copy)]
 pub(crate) struct Stretch {
     /// The number of the turn behind the last of them.
     pub(crate) end: usize,

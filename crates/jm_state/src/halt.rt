@@ -6,7 +6,7 @@ use jm_world::Stop;
 use std::alloc::AllocError;
 
 /// What a step of a thread came to.
-#[derive(Clone, Copy, Debug, PartialEq, Eq)]
+#[derive(Clone, Copy)]
 pub enum StepEnd {
     Done,
     /// Another thread holds what is needed; nothing changed.
@@ -14,7 +14,7 @@ pub enum StepEnd {
 }
 
 /// Why a step was not made.
-#[derive(Clone, Copy, Debug, PartialEq, Eq, Drop)]
+#[derive(Clone, Copy, Drop)]
 pub enum Halt {
     /// The machine stops: nothing else has changed.
     Stopped(Stop),

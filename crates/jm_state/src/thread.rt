@@ -5,7 +5,7 @@ use jm_values::Place;
 use jm_world::Stage;
 
 /// A frame of a thread (JVMS 2.6).
-#[derive(Debug, Drop)]
+#[derive(Drop)]
 pub enum StackFrame {
     /// Of a method that runs, by its number in the linked program.
     Method(Frame),
@@ -15,7 +15,7 @@ pub enum StackFrame {
 }
 
 /// How a thread has ended.
-#[derive(Clone, Copy, Debug, PartialEq, Eq)]
+#[derive(Clone, Copy)]
 pub enum Ending {
     /// It has not.
     Running,
@@ -26,7 +26,7 @@ pub enum Ending {
 }
 
 /// A Java thread. The first one has no object.
-#[derive(Debug, Drop)]
+#[derive(Drop)]
 pub struct Thread {
     /// The top frame is the last.
     pub frames: Vec<StackFrame>,

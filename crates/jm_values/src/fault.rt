@@ -7,7 +7,7 @@ use std::fmt::{self, Display, Formatter};
 
 /// Why an instruction cannot be made at all: what a verifier would have refused (JVMS 4.10), or a
 /// limit of this machine.
-#[derive(Clone, Copy, Debug, PartialEq, Eq)]
+#[derive(Clone, Copy, PartialEq, Eq)]
 pub enum TagFault {
     /// A value of another type than the instruction takes.
     WrongTag,

@@ -1,5 +1,5 @@
 /// How far the initialization of a class is (JVMS 5.5).
-#[derive(Clone, Copy, Debug, PartialEq, Eq)]
+#[derive(Clone, Copy)]
 pub enum ClassState {
     NotBegun,
     /// In progress by the thread of this number.

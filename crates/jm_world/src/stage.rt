@@ -1,5 +1,5 @@
 /// What is next in the initialization of a class (JVMS 5.5).
-#[derive(Clone, Copy, Debug, PartialEq, Eq)]
+#[derive(Clone, Copy)]
 pub enum Stage {
     /// Whether there is anything to do, and the constant fields.
     Begin,

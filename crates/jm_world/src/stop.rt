@@ -1,7 +1,7 @@
 use jm_values::TagFault;
 
 /// Why the whole machine stopped.
-#[derive(Clone, Copy, Debug, PartialEq, Eq)]
+#[derive(Clone, Copy, PartialEq, Eq)]
 pub enum Stop {
     /// An instruction of unverified code that cannot be made.
     TagFault(TagFault),

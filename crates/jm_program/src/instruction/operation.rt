@@ -1,5 +1,5 @@
 /// What a local variable or an operand holds, by the letters i, l and a (JVMS 2.11.1).
-#[derive(Clone, Copy, Debug, PartialEq, Eq)]
+#[derive(Clone, Copy, PartialEq, Eq)]
 pub enum OperandType {
     Int,
     Long,
@@ -7,14 +7,14 @@ pub enum OperandType {
 }
 
 /// The types of arithmetic, by the letters i and l (JVMS 2.11.1).
-#[derive(Clone, Copy, Debug, PartialEq, Eq)]
+#[derive(Clone, Copy, PartialEq, Eq)]
 pub enum Integral {
     Int,
     Long,
 }
 
 /// A local variable that a short form names: `iload_0` to `iload_3` and their like.
-#[derive(Clone, Copy, Debug, PartialEq, Eq)]
+#[derive(Clone, Copy, PartialEq, Eq)]
 pub enum ShortIndex {
     Zero,
     One,
@@ -23,7 +23,7 @@ pub enum ShortIndex {
 }
 
 /// The int of `iconst_m1` to `iconst_5`.
-#[derive(Clone, Copy, Debug, PartialEq, Eq)]
+#[derive(Clone, Copy, PartialEq, Eq)]
 pub enum SmallInt {
     MinusOne,
     Zero,
@@ -35,14 +35,14 @@ pub enum SmallInt {
 }
 
 /// The long of `lconst_0` and `lconst_1`.
-#[derive(Clone, Copy, Debug, PartialEq, Eq)]
+#[derive(Clone, Copy, PartialEq, Eq)]
 pub enum SmallLong {
     Zero,
     One,
 }
 
 /// What is done to the operand stack as it is (JVMS 2.11.6).
-#[derive(Clone, Copy, Debug, PartialEq, Eq)]
+#[derive(Clone, Copy, PartialEq, Eq)]
 pub enum StackOp {
     Pop,
     Pop2,
@@ -56,7 +56,7 @@ pub enum StackOp {
 }
 
 /// Arithmetic on two operands (JVMS 2.11.3).
-#[derive(Clone, Copy, Debug, PartialEq, Eq)]
+#[derive(Clone, Copy, PartialEq, Eq)]
 pub enum Arithmetic {
     Add,
     Sub,
@@ -66,7 +66,7 @@ pub enum Arithmetic {
 }
 
 /// A shift: `shl`, `shr` and `ushr` (JVMS 2.11.3).
-#[derive(Clone, Copy, Debug, PartialEq, Eq)]
+#[derive(Clone, Copy, PartialEq, Eq)]
 pub enum Shift {
     Left,
     Right,
@@ -74,7 +74,7 @@ pub enum Shift {
 }
 
 /// A bitwise operation (JVMS 2.11.3).
-#[derive(Clone, Copy, Debug, PartialEq, Eq)]
+#[derive(Clone, Copy, PartialEq, Eq)]
 pub enum Bitwise {
     And,
     Or,
@@ -82,7 +82,7 @@ pub enum Bitwise {
 }
 
 /// A conversion between integers: `i2l`, `l2i`, `i2b`, `i2c`, `i2s` (JVMS 2.11.4).
-#[derive(Clone, Copy, Debug, PartialEq, Eq)]
+#[derive(Clone, Copy, PartialEq, Eq)]
 pub enum Conversion {
     IntToLong,
     LongToInt,
@@ -92,7 +92,7 @@ pub enum Conversion {
 }
 
 /// How two ints, or an int and 0, are compared by a branch.
-#[derive(Clone, Copy, Debug, PartialEq, Eq)]
+#[derive(Clone, Copy, PartialEq, Eq)]
 pub enum Comparison {
     Equal,
     NotEqual,
@@ -103,14 +103,14 @@ pub enum Comparison {
 }
 
 /// How two references are compared by a branch.
-#[derive(Clone, Copy, Debug, PartialEq, Eq)]
+#[derive(Clone, Copy, PartialEq, Eq)]
 pub enum Equality {
     Equal,
     NotEqual,
 }
 
 /// A branch with one target (JVMS 2.11.7).
-#[derive(Clone, Copy, Debug, PartialEq, Eq)]
+#[derive(Clone, Copy, PartialEq, Eq)]
 pub enum Branch {
     /// `ifeq` to `ifle`: an int beside 0.
     If(Comparison),
@@ -157,7 +157,7 @@ pub enum ArrayOp {
 }
 
 /// A return: `ireturn`, `lreturn`, `areturn` and `return` (JVMS 2.11.8).
-#[derive(Clone, Copy, Debug, PartialEq, Eq)]
+#[derive(Clone, Copy, PartialEq, Eq)]
 pub enum ReturnOp {
     Int,
     Long,

@@ -9,7 +9,7 @@ use crate::sequence::Sequence;
 use std::alloc::AllocError;
 
 /// An instruction of one byte that touches one frame alone.
-#[derive(Clone, Copy, Debug, PartialEq, Eq)]
+#[derive(Clone, Copy, PartialEq, Eq)]
 pub enum Simple {
     Nop,
     /// `aconst_null`.
@@ -29,7 +29,7 @@ pub enum Simple {
 }
 
 /// An instruction that touches one frame alone and names nothing.
-#[derive(Debug, PartialEq, Eq, Drop)]
+#[derive(PartialEq, Eq, Drop)]
 pub enum Plain {
     Simple(Simple),
     /// `bipush`.
@@ -49,7 +49,7 @@ pub enum Plain {
 
 /// The operands of `tableswitch` (JVMS 6.5): the targets of `low`, `low` + 1, .. in order, of
 /// which there is at least one, and the target of every other int.
-#[derive(Debug, PartialEq, Eq, Drop)]
+#[derive(PartialEq, Eq, Drop)]
 pub struct TableSwitch {
     pub low: i32,
     pub targets: Sequence<u32>,
@@ -58,14 +58,14 @@ pub struct TableSwitch {
 
 /// The operands of `lookupswitch` (JVMS 6.5): the pairs, their keys strictly rising, and the
 /// target of every other int.
-#[derive(Debug, PartialEq, Eq, Drop)]
+#[derive(PartialEq, Eq, Drop)]
 pub struct LookupSwitch {
     pub pairs: Sequence<SwitchPair>,
     pub default: u32,
 }
 
 /// A key of `lookupswitch` with its target.
-#[derive(Clone, Copy, Debug, PartialEq, Eq)]
+#[derive(Clone, Copy, PartialEq, Eq)]
 pub struct SwitchPair {
     pub key: i32,
     pub target: u32,

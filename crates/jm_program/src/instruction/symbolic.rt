@@ -9,7 +9,7 @@ use crate::reference::{ClassRef, FieldRef, MethodRef};
 use std::alloc::AllocError;
 
 /// An instruction with its operands, by name.
-#[derive(Debug, PartialEq, Eq, Drop)]
+#[derive(PartialEq, Eq, Drop)]
 pub enum Instr {
     /// Touches one frame alone and names nothing.
     Plain(Plain),

@@ -7,7 +7,7 @@ ghost use Rattle.jm_program.specs.JasminUnits.{is_high, is_low, is_escaped, esca
 use std::fmt;
 
 /// What code units stand in.
-#[derive(Clone, Copy, Debug, PartialEq, Eq)]
+#[derive(Clone, Copy, PartialEq, Eq)]
 pub enum Context {
     InName,
     InString,
