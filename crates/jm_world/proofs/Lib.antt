@@ -7,6 +7,9 @@ pub mod KeepingForm
 pub mod FieldsKeepForm
 pub mod InvocationKeepsForm
 pub mod StepsKeepForm
+pub mod KeepingFrames
+pub mod RowsKeepFrames
+pub mod EventsKeepFrames
 pub mod LoadsWellFormed
 pub mod Reaching
 pub mod Runs

@@ -27,6 +27,7 @@ pub mod Schedules
 pub mod RoundRobin
 pub mod Reaching
 pub mod WellFormed
+pub mod FramesOfRuns
 pub mod Content
 pub mod Renaming
 pub mod Matches

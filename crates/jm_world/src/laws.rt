@@ -2,6 +2,7 @@
 
 ghost use Rattle.jm_values.specs.Shape.{IsShape};
 ghost use Rattle.jm_world.specs.Frames.{Frame, frame_shape};
+ghost use Rattle.jm_world.specs.FramesOfRuns.{EventsKeepFrames, RunsKeepFrames};
 ghost use Rattle.jm_world.specs.Renaming.{thread_shape, static_shape, monitor_shape, literal_shape};
 ghost use Rattle.jm_world.specs.World.{World, Thread, Static, Monitor, Literal};
 ghost use Rattle.jm_world.specs.Matched.{WorldsAreMatched};
@@ -24,6 +25,18 @@ pub fn events_keep_form()
 /// A world from a load is well formed after all lists of events, and what it reaches has objects.
 pub fn runs_are_well_formed()
     ensures { RunsAreWellFormed }
+{}
+
+/// An event keeps the frames of a world: of each method frame the operands fit in max_stack and
+/// longs are whole (JVMS 2.6.1, 2.6.2), a thread has at most 512 frames (JVMS 2.5.2), and a class
+/// in progress is initialized by a frame of the thread that owns it (JVMS 5.5).
+pub fn events_keep_frames()
+    ensures { EventsKeepFrames }
+{}
+
+/// In every world that a load and a list of events make, frames are so.
+pub fn runs_keep_frames()
+    ensures { RunsKeepFrames }
 {}
 
 /// Frames, threads, statics, monitors and literals have shapes: renaming, listing and refilling

@@ -1,0 +1,5 @@
+use Rattle.jm_world.proofs.EventsKeepFrames.{events_keep_frames}
+use Rattle.jm_world.proofs.laws.events_keep_frames.Goals as goal
+
+pub returns : goal.returns
+returns c = events_keep_frames
