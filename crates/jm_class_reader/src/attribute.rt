@@ -18,7 +18,9 @@ pub fn attribute_name<'p>(
 ) -> Result<&'p [u16], ReadFault>
     ensures { TakesAs (λ units. units.now) result reader.new ((attribute_name cut pool.now).read reader.old) }
 {
-    let index = reader.u2().map_err(|_| cut)?;
+    let Ok(index) = reader.u2() else {
+        return Err(cut);
+    };
     let text = text_at(pool, index)?;
     Ok(text.units)
 }
@@ -28,7 +30,11 @@ pub fn attribute_name<'p>(
 pub fn info<'a>(cut: ReadFault, reader: &mut Reader<'a>) -> Result<&'a [u8], ReadFault>
     ensures { TakesAs (λ bytes. bytes.now) result reader.new ((skipped_info cut).read reader.old) }
 {
-    let length = reader.u4().map_err(|_| cut)?;
-    let bytes = reader.take(length as usize).map_err(|_| cut)?;
+    let Ok(length) = reader.u4() else {
+        return Err(cut);
+    };
+    let Ok(bytes) = reader.take(length as usize) else {
+        return Err(cut);
+    };
     Ok(bytes)
 }

@@ -138,7 +138,9 @@ fn source_file(
 ) -> Result<Sequence<u16>, ReadFault>
     ensures { Gives (λ file. file) OutOfMemory result reader.new ((source_file pool.now).read reader.old) }
 {
-    let index = reader.u2().map_err(|_| ReadFault::BadAttribute)?;
+    let Ok(index) = reader.u2() else {
+        return Err(ReadFault::BadAttribute);
+    };
     let file = text_of(alloc, pool, index)?;
     Ok(file)
 }

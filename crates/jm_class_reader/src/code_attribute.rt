@@ -43,9 +43,15 @@ fn catch_type(
 fn handler_places(places: &Places, reader: &mut Reader<'_>) -> Result<(u32, u32, u32), ReadFault>
     ensures { Takes result reader.new ((handler_places places.now).read reader.old) }
 {
-    let start_pc = reader.u2().map_err(|_| ReadFault::BadAttribute)?;
-    let end_pc = reader.u2().map_err(|_| ReadFault::BadAttribute)?;
-    let handler_pc = reader.u2().map_err(|_| ReadFault::BadAttribute)?;
+    let Ok(start_pc) = reader.u2() else {
+        return Err(ReadFault::BadAttribute);
+    };
+    let Ok(end_pc) = reader.u2() else {
+        return Err(ReadFault::BadAttribute);
+    };
+    let Ok(handler_pc) = reader.u2() else {
+        return Err(ReadFault::BadAttribute);
+    };
     let start = places.number_at(start_pc)?;
     let end = places.end_at(end_pc)?;
     let target = places.number_at(handler_pc)?;
@@ -66,7 +72,9 @@ fn handler(
     ensures same { symbols.new ≡ symbols.old }
 {
     let (start, end, target) = handler_places(places, reader)?;
-    let index = reader.u2().map_err(|_| ReadFault::BadAttribute)?;
+    let Ok(index) = reader.u2() else {
+        return Err(ReadFault::BadAttribute);
+    };
     let catch_type = catch_type(alloc, symbols, index)?;
     Ok(Handler {
         start,
@@ -87,7 +95,9 @@ fn handlers(
     ensures given { Gives (λ v. v.items) OutOfMemory result reader.new ((handlers symbols.old places.now).read reader.old) }
     ensures same { symbols.new ≡ symbols.old }
 {
-    let count = reader.u2().map_err(|_| ReadFault::BadAttribute)?;
+    let Ok(count) = reader.u2() else {
+        return Err(ReadFault::BadAttribute);
+    };
     let mut handlers = Vec::new(alloc);
     for _ in 0..count {
         let handler = handler(alloc, symbols, places, reader)?;
@@ -102,9 +112,13 @@ fn handlers(
 fn line_number(places: &Places, reader: &mut Reader<'_>) -> Result<LineNumber, ReadFault>
     ensures { Takes result reader.new ((line_number places.now).read reader.old) }
 {
-    let start_pc = reader.u2().map_err(|_| ReadFault::BadAttribute)?;
+    let Ok(start_pc) = reader.u2() else {
+        return Err(ReadFault::BadAttribute);
+    };
     let start = places.number_at(start_pc)?;
-    let line = reader.u2().map_err(|_| ReadFault::BadAttribute)?;
+    let Ok(line) = reader.u2() else {
+        return Err(ReadFault::BadAttribute);
+    };
     Ok(LineNumber { start, line })
 }
 
@@ -117,7 +131,9 @@ fn line_numbers(
 ) -> Result<Vec<LineNumber>, ReadFault>
     ensures { Gives (λ v. v.items) OutOfMemory result reader.new ((line_numbers places.now).read reader.old) }
 {
-    let count = reader.u2().map_err(|_| ReadFault::BadAttribute)?;
+    let Ok(count) = reader.u2() else {
+        return Err(ReadFault::BadAttribute);
+    };
     let mut lines = Vec::new(alloc);
     for _ in 0..count {
         let line = line_number(places, reader)?;
@@ -191,7 +207,9 @@ fn code_attributes(
 ) -> Result<Vec<LineNumber>, ReadFault>
     ensures { Gives (λ v. v.items) OutOfMemory result reader.new ((code_attributes pool.now places.now).read reader.old) }
 {
-    let count = reader.u2().map_err(|_| ReadFault::BadAttribute)?;
+    let Ok(count) = reader.u2() else {
+        return Err(ReadFault::BadAttribute);
+    };
     let mut lines = Vec::new(alloc);
     for _ in 0..count {
         lines = code_attribute(alloc, pool, places, lines, reader)?;
@@ -206,8 +224,12 @@ fn code_attributes(
 fn limits(slots: u16, reader: &mut Reader<'_>) -> Result<(u16, u16), ReadFault>
     ensures { Takes result reader.new ((limits slots).read reader.old) }
 {
-    let max_stack = reader.u2().map_err(|_| ReadFault::BadAttribute)?;
-    let max_locals = reader.u2().map_err(|_| ReadFault::BadAttribute)?;
+    let Ok(max_stack) = reader.u2() else {
+        return Err(ReadFault::BadAttribute);
+    };
+    let Ok(max_locals) = reader.u2() else {
+        return Err(ReadFault::BadAttribute);
+    };
     if max_locals < slots {
         return Err(ReadFault::BadAttribute);
     }
@@ -219,7 +241,9 @@ fn limits(slots: u16, reader: &mut Reader<'_>) -> Result<(u16, u16), ReadFault>
 fn code_length(reader: &mut Reader<'_>) -> Result<u32, ReadFault>
     ensures { Takes result reader.new (code_length.read reader.old) }
 {
-    let length = reader.u4().map_err(|_| ReadFault::BadAttribute)?;
+    let Ok(length) = reader.u4() else {
+        return Err(ReadFault::BadAttribute);
+    };
     if length == 0 || length >= 65_536 {
         return Err(ReadFault::BadAttribute);
     }
@@ -236,9 +260,9 @@ fn placed_instructions(
     ensures starts { IfOk result (λ x. x.1 ≡ map (λ (p : PlacedInstr). p.offset) x.0.items) }
     ensures given { Gives (λ x. x.0.items) OutOfMemory result reader.new ((within BadAttribute size file_code).read reader.old) }
 {
-    let bytes = reader
-        .take(size as usize)
-        .map_err(|_| ReadFault::BadAttribute)?;
+    let Ok(bytes) = reader.take(size as usize) else {
+        return Err(ReadFault::BadAttribute);
+    };
     match decode_placed(alloc, bytes) {
         Ok(placed) => Ok(placed),
         Err(fault) => Err(ReadFault::from(fault)),

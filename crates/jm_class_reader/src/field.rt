@@ -90,7 +90,9 @@ fn constant_value(
     ensures given { Gives (λ constant. constant) OutOfMemory result reader.new ((constant_value symbols.old field_type.now).read reader.old) }
     ensures same { symbols.new ≡ symbols.old }
 {
-    let index = reader.u2().map_err(|_| ReadFault::BadAttribute)?;
+    let Ok(index) = reader.u2() else {
+        return Err(ReadFault::BadAttribute);
+    };
     let value = constant_of(alloc, symbols, index)?;
     if field_type.dimensions == 0 && constant_is_of(&value, &field_type.element) {
         Ok(value)

@@ -112,7 +112,9 @@ fn class_method(
     if calls_interface(op, symbols.pool().interface_method(index)) {
         return Err(ReadFault::LeftOut(LeftOutPart::InterfaceMethod));
     }
-    let texts = symbols.pool().method(index).ok_or(bad_index(index))?;
+    let Some(texts) = symbols.pool().method(index) else {
+        return Err(bad_index(index));
+    };
     let method = symbols.method_ref(alloc, op, texts)?;
     Ok(method)
 }
@@ -145,10 +147,9 @@ fn interface_method(
     ensures given { GivesAll (λ method. method) OutOfMemory result (interface_method symbols.old index count last) }
     ensures same { symbols.new ≡ symbols.old }
 {
-    let texts = symbols
-        .pool()
-        .interface_method(index)
-        .ok_or(bad_index(index))?;
+    let Some(texts) = symbols.pool().interface_method(index) else {
+        return Err(bad_index(index));
+    };
     let method = symbols.method_ref(alloc, InvokeOp::Interface, texts)?;
     let method = counted(count, last, method)?;
     Ok(method)
@@ -230,7 +231,9 @@ fn named_field(
     ensures given { GivesAll (λ instr. instr) OutOfMemory result (named symbols.old (indexed.Field op index)) }
     ensures same { symbols.new ≡ symbols.old }
 {
-    let texts = symbols.pool().field(index).ok_or(bad_index(index))?;
+    let Some(texts) = symbols.pool().field(index) else {
+        return Err(bad_index(index));
+    };
     let field = symbols.field_ref(alloc, texts)?;
     let field = Boxed::new(alloc, field)?;
     Ok(Instr::Field(op, field))

@@ -45,9 +45,10 @@ impl Places {
     pub fn number_at(&self, offset: u16) -> Result<u32, ReadFault>
         ensures { TakesAll (λ n. n) result (number_at self.now.starts offset) }
     {
-        self.starts
-            .number_at(u32::from(offset))
-            .ok_or(ReadFault::BadAttribute)
+        match self.starts.number_at(u32::from(offset)) {
+            Some(number) => Ok(number),
+            None => Err(ReadFault::BadAttribute),
+        }
     }
 
     /// Where a range ends: before the instruction at an offset, or at the code's end.
