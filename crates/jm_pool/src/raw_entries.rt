@@ -82,7 +82,9 @@ fn raw_entry_of<'a>(reader: &mut Reader<'a>) -> Result<RawEntry<'a>, PoolFault>
     ensures { Takes result reader.new (raw_entry.read reader.old) }
 {
     let byte = reader.u1()?;
-    let tag = tag_of(byte).ok_or(PoolFault::BadTag(byte))?;
+    let Some(tag) = tag_of(byte) else {
+        return Err(PoolFault::BadTag(byte));
+    };
     let entry = info_of(tag, reader)?;
     Ok(entry)
 }

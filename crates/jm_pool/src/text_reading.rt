@@ -30,7 +30,9 @@ fn six_bits(reader: &mut Reader<'_>) -> Result<u8, PoolFault>
     ensures fewer { OnOk result (length reader.new ≤ length reader.old) }
     ensures few { IfOk result (λ n. n < 64) }
 {
-    let byte = reader.u1().map_err(|_| PoolFault::BadUtf8)?;
+    let Ok(byte) = reader.u1() else {
+        return Err(PoolFault::BadUtf8);
+    };
     match byte {
         0x80..=0xBF => Ok(byte - 0x80),
         _ => Err(PoolFault::BadUtf8),
@@ -74,14 +76,18 @@ fn unit_after(lead: Lead, reader: &mut Reader<'_>) -> Result<u16, PoolFault>
         Lead::One(unit) => Ok(u16::from(unit)),
         Lead::Two(high) => {
             let low = six_bits(reader)?;
-            let unit = unit_of_two(high, low).ok_or(PoolFault::BadUtf8)?;
-            Ok(unit)
+            match unit_of_two(high, low) {
+                Some(unit) => Ok(unit),
+                None => Err(PoolFault::BadUtf8),
+            }
         }
         Lead::Three(high) => {
             let middle = six_bits(reader)?;
             let low = six_bits(reader)?;
-            let unit = unit_of_three(high, middle, low).ok_or(PoolFault::BadUtf8)?;
-            Ok(unit)
+            match unit_of_three(high, middle, low) {
+                Some(unit) => Ok(unit),
+                None => Err(PoolFault::BadUtf8),
+            }
         }
     }
 }
@@ -92,8 +98,12 @@ fn code_unit_at(at: usize, reader: &mut Reader<'_>) -> Result<u16, PoolFault>
     ensures taken { Takes result reader.new ((code_unit at).read reader.old) }
     ensures fewer { OnOk result (length reader.new < length reader.old) }
 {
-    let byte = reader.u1().map_err(|_| PoolFault::BadUtf8)?;
-    let lead = lead_of(byte).ok_or(PoolFault::BadUtf8)?;
+    let Ok(byte) = reader.u1() else {
+        return Err(PoolFault::BadUtf8);
+    };
+    let Some(lead) = lead_of(byte) else {
+        return Err(PoolFault::BadUtf8);
+    };
     let unit = unit_after(lead, reader)?;
     Ok(unit)
 }
