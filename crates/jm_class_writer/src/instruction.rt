@@ -18,57 +18,8 @@ use crate::pool_use::{
 };
 use jm_class_format::IndexedInstr;
 use jm_encode::{EncodedCode, encode_code};
-use jm_program::{
-    Boxed, Constant, Instr, InvokeOp, LookupSwitch, MethodRef, Plain, Sequence, TableSwitch,
-};
-use std::alloc::{AllocError, Global};
-
-// ---- an instruction in a place of its own
-
-fn table_copied(alloc: Global, table: &TableSwitch) -> Result<TableSwitch, AllocError>
-    ensures { IfOk result (λ copy. copy ≡ table.now) }
-{
-    let targets = Vec::from_slice(alloc, table.targets.as_slice())?;
-    Ok(TableSwitch {
-        low: table.low,
-        targets: Sequence::new(targets),
-        default: table.default,
-    })
-}
-
-fn lookup_copied(alloc: Global, lookup: &LookupSwitch) -> Result<LookupSwitch, AllocError>
-    ensures { IfOk result (λ copy. copy ≡ lookup.now) }
-{
-    let pairs = Vec::from_slice(alloc, lookup.pairs.as_slice())?;
-    Ok(LookupSwitch {
-        pairs: Sequence::new(pairs),
-        default: lookup.default,
-    })
-}
-
-fn plain_copied(alloc: Global, plain: &Plain) -> Result<Plain, AllocError>
-    ensures { IfOk result (λ copy. copy ≡ plain.now) }
-{
-    match plain {
-        Plain::Simple(simple) => Ok(Plain::Simple(*simple)),
-        Plain::PushByte(n) => Ok(Plain::PushByte(*n)),
-        Plain::PushShort(n) => Ok(Plain::PushShort(*n)),
-        Plain::Load(kind, local) => Ok(Plain::Load(*kind, *local)),
-        Plain::Store(kind, local) => Ok(Plain::Store(*kind, *local)),
-        Plain::Increment(local, n) => Ok(Plain::Increment(*local, *n)),
-        Plain::Branch(branch, target) => Ok(Plain::Branch(*branch, *target)),
-        Plain::TableSwitch(table) => {
-            let table = table_copied(alloc, table.get())?;
-            let table = Boxed::new(alloc, table)?;
-            Ok(Plain::TableSwitch(table))
-        }
-        Plain::LookupSwitch(lookup) => {
-            let lookup = lookup_copied(alloc, lookup.get())?;
-            let lookup = Boxed::new(alloc, lookup)?;
-            Ok(Plain::LookupSwitch(lookup))
-        }
-    }
-}
+use jm_program::{Constant, Instr, InvokeOp, MethodRef};
+use std::alloc::Global;
 
 // ---- what an instruction names, by its index
 
@@ -118,7 +69,7 @@ fn instr_indexed(
 {
     match instruction {
         Instr::Plain(plain) => {
-            let plain = plain_copied(alloc, plain)?;
+            let plain = plain.share()?;
             Ok(IndexedInstr::Plain(plain))
         }
         Instr::Array(op) => Ok(IndexedInstr::Array(*op)),
