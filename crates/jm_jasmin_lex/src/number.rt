@@ -70,11 +70,14 @@ pub fn integer(text: &str) -> Option<i64>
     let bytes = text.as_bytes();
     if byte_at(bytes, 0) == b'0' && byte_at(bytes, 1) == b'x' {
         let (_, digits) = bytes.split_at(2);
-        return numeral(digits, 16, MOST).map(|value| value as i64);
+        let value = numeral(digits, 16, MOST)?;
+        return Some(value as i64);
     }
     if byte_at(bytes, 0) == b'-' {
         let (_, digits) = bytes.split_at(1);
-        return numeral(digits, 10, MOST_NEGATIVE).map(below_zero);
+        let distance = numeral(digits, 10, MOST_NEGATIVE)?;
+        return Some(below_zero(distance));
     }
-    numeral(bytes, 10, MOST).map(|value| value as i64)
+    let value = numeral(bytes, 10, MOST)?;
+    Some(value as i64)
 }
