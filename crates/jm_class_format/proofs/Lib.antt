@@ -3,6 +3,7 @@ pub mod Descriptors
 pub mod InstructionsFit
 pub mod Kept
 pub mod MembersFit
+pub mod OpcodeTable
 pub mod OperandsFit
 pub mod ReadFits
 pub mod Rules

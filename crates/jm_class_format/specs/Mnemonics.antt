@@ -1,5 +1,10 @@
--- The mnemonics of the instructions that the profile leaves out (JVMS 6.5), and the names of the element types that it does (JVMS 6.5 newarray).
-use Rattle.std.specs.Prelude.{ℕ, List, codes}
+-- The mnemonics of the opcodes (JVMS 6.5): those of the instructions that the profile leaves out, with the names of the element types that it does (JVMS 6.5 newarray), and of all.
+use Rattle.std.specs.Prelude.{ℕ, List, ◌++◌, codes}
+use Rattle.jm_program.specs.Mnemonics.{operand_letter, branch_mnemonic, array_line, return_mnemonic, monitor_mnemonic, field_mnemonic, invoke_mnemonic, type_mnemonic}
+use Rattle.jm_program.specs.JasminInstructions.{simple_line}
+use Rattle.jm_program.specs.declared.instruction.operation.InvokeOp.TheVariants as invoke
+use Rattle.jm_class_format.specs.declared.opcode.Opcode.{Opcode}
+use Rattle.jm_class_format.specs.declared.opcode.Opcode.TheVariants as opcode
 use Rattle.jm_class_format.specs.declared.opcode.LeftOutOp.{LeftOutOp}
 use Rattle.jm_class_format.specs.declared.opcode.LeftOutOp.TheVariants as left_out
 
@@ -67,3 +72,32 @@ left_out_mnemonic left_out.InvokeDynamic = codes "invokedynamic"
 left_out_mnemonic left_out.JsrW = codes "jsr_w"
 left_out_mnemonic left_out.FloatArray = codes "float"
 left_out_mnemonic left_out.DoubleArray = codes "double"
+
+-- the first word of the instruction's line
+unfoldable pub mnemonic : Opcode → List ℕ
+mnemonic (opcode.Simple op) = simple_line op
+mnemonic (opcode.Array op) = array_line op
+mnemonic (opcode.Return op) = return_mnemonic op
+mnemonic opcode.Throw = codes "athrow"
+mnemonic (opcode.Monitor op) = monitor_mnemonic op
+mnemonic opcode.PushByte = codes "bipush"
+mnemonic opcode.PushShort = codes "sipush"
+mnemonic opcode.LoadConstant = codes "ldc"
+mnemonic opcode.LoadConstantWide = codes "ldc_w"
+mnemonic opcode.LoadLong = codes "ldc2_w"
+mnemonic (opcode.Load t) = operand_letter t ++ codes "load"
+mnemonic (opcode.Store t) = operand_letter t ++ codes "store"
+mnemonic opcode.Increment = codes "iinc"
+mnemonic (opcode.Branch op) = branch_mnemonic op
+mnemonic (opcode.BranchWide op) = branch_mnemonic op
+mnemonic opcode.TableSwitch = codes "tableswitch"
+mnemonic opcode.LookupSwitch = codes "lookupswitch"
+mnemonic (opcode.Field op) = field_mnemonic op
+mnemonic (opcode.Invoke op) = invoke_mnemonic op
+mnemonic opcode.InvokeInterface = invoke_mnemonic invoke.Interface
+mnemonic opcode.New = codes "new"
+mnemonic opcode.NewArray = codes "newarray"
+mnemonic (opcode.Type op) = type_mnemonic op
+mnemonic opcode.Wide = codes "wide"
+mnemonic (opcode.LeftOut op) = left_out_mnemonic op
+mnemonic (opcode.Later op) = codes "multianewarray"

@@ -1,5 +1,5 @@
 -- The table of opcodes, in the groups of JVMS 7. What an opcode stands for, and which are left out.
-use Rattle.std.specs.Prelude.{ℕ, List, [], ◌∷◌, Option, Some, None, ◌==◌, nat_le, if◌then◌else◌}
+use Rattle.std.specs.Prelude.{ℕ, List, [], ◌∷◌, ◌++◌, map, Option, Some, None, ◌==◌, nat_le, if◌then◌else◌}
 use Rattle.jm_class_format.specs.declared.opcode.Opcode.{Opcode}
 use Rattle.jm_class_format.specs.declared.opcode.Opcode.TheVariants as opcode
 use Rattle.jm_class_format.specs.declared.opcode.LeftOutOp.TheVariants as left_out
@@ -286,3 +286,7 @@ opcode_at byte =
     else if nat_le byte 177 then row_at control byte
     else if nat_le byte 195 then row_at references byte
     else row_at extended byte
+
+-- what the bytes from 0 on stand for, as the groups say one after the other
+unfoldable pub opcodes : List Opcode
+opcodes = map (λ (row : ℕ × Opcode). row.1) (constants ++ (loads ++ (stores ++ (stack ++ (math ++ (conversions ++ (comparisons ++ (control ++ (references ++ extended)))))))))
