@@ -3,8 +3,8 @@
 //! [`decode_code`] gives the instructions that the bytes spell, their branch targets as numbers of
 //! instructions, and refuses bytes that spell no code by the first fault; [`decode_placed`] gives
 //! with them where they begin. What an instruction names stays an index of the constant pool. It
-//! stands on the definitions of `jm_class_format` and reads
-//! with `jm_bytes`.
+//! stands on the definitions and the table of opcodes of `jm_class_format`, and reads with
+//! `jm_bytes`.
 #![tactic(auto)]
 
 mod decode;
