@@ -11,6 +11,7 @@ use Rattle.jm_jasmin_lex.specs.Token.{TokenParts}
 use Rattle.jm_jasmin_lex.specs.Lines.{first_line}
 use Rattle.jm_jasmin_ops.specs.Label.{LabelParts}
 use Rattle.jm_jasmin_ops.specs.Mnemonics.{opcode_named}
+use Rattle.jm_jasmin_ops.specs.Profile.{unknown_word}
 use Rattle.jm_jasmin_ops.specs.Words.{word, label, one}
 use Rattle.jm_jasmin_ops.specs.Operands.{signed_int}
 use Rattle.jm_jasmin_ops.specs.Switches.{lines_of, table_rows, lookup_rows}
@@ -93,8 +94,8 @@ in_line : (line below : List TokenParts) (l : Line) → instruction_in line belo
 unfolding instruction_in
 in_line [] below l h = absurd cc
 in_line (t ∷ words) below l h =
-    let a = and_then_ok (word t) (λ w. and_then (ok_or (opcode_named w) (fault.Syntax t.line)) (λ op. operands t.line op words below)) l h in
-    let b = and_then_ok (ok_or (opcode_named a.0) (fault.Syntax t.line)) (λ op. operands t.line op words below) l a.2 in
+    let a = and_then_ok (word t) (λ w. and_then (ok_or (opcode_named w) (unknown_word t.line w)) (λ op. operands t.line op words below)) l h in
+    let b = and_then_ok (ok_or (opcode_named a.0) (unknown_word t.line a.0)) (λ op. operands t.line op words below) l a.2 in
     operands_keep t.line b.0 words below l b.2
 
 pub spelled_keeps : SpelledKeepsRules

@@ -12,6 +12,7 @@ use Rattle.jm_class_format.specs.declared.opcode.Opcode.TheVariants as opcode
 use Rattle.jm_jasmin_lex.specs.Token.{TokenParts}
 use Rattle.jm_jasmin_lex.specs.Lines.{first_line}
 use Rattle.jm_jasmin_ops.specs.Mnemonics.{opcode_named}
+use Rattle.jm_jasmin_ops.specs.Profile.{unknown_word}
 use Rattle.jm_jasmin_ops.specs.Words.{word, label, ended, one, two}
 use Rattle.jm_jasmin_ops.specs.Operands.{signed_byte, signed_short, signed_int, unsigned_short, loaded, loaded_long, element_type, class_name, class_ref, field_named, field_typed, method, counted}
 use Rattle.jm_jasmin_ops.specs.Switches.{lines_of, table_rows, lookup_rows}
@@ -71,7 +72,7 @@ operands line other words below = and_then (named_instr line other words) (λ i.
 -- the first line's words, and the tokens below it
 unfoldable pub instruction_in : List TokenParts → List TokenParts → Result Line AsmFault
 instruction_in [] below = Err (fault.Syntax 0)
-instruction_in (t ∷ words) below = and_then (word t) (λ w. and_then (ok_or (opcode_named w) (fault.Syntax t.line)) (λ op. operands t.line op words below))
+instruction_in (t ∷ words) below = and_then (word t) (λ w. and_then (ok_or (opcode_named w) (unknown_word t.line w)) (λ op. operands t.line op words below))
 
 -- the instruction at the front of tokens, of which there is one at least, and how many tokens it takes
 unfoldable pub instruction_at : List TokenParts → Result Line AsmFault

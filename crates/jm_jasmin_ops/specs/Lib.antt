@@ -1,6 +1,7 @@
 pub mod Faults
 pub mod Label
 pub mod Mnemonics
+pub mod Profile
 pub mod Words
 pub mod Operands
 pub mod Switches

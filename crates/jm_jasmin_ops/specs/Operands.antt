@@ -16,6 +16,7 @@ use Rattle.jm_program.specs.declared.instruction.operation.PrimitiveType.TheVari
 use Rattle.jm_program.specs.declared.instruction.operation.TypeOp.{TypeOp}
 use Rattle.jm_program.specs.declared.instruction.operation.TypeOp.TheVariants as type
 use Rattle.jm_class_format.specs.declared.opcode.LeftOutOp.TheVariants as left_out
+use Rattle.jm_class_format.specs.declared.read_fault.LeftOutPart.TheVariants as part
 use Rattle.jm_class_format.specs.declared.read_fault.ReadFault.{ReadFault}
 use Rattle.jm_class_format.specs.Symbols.{class_name_of, field_name_of, field_type_of, class_ref_of, element_ref, method_ref_of}
 use Rattle.jm_jasmin_lex.specs.Token.{TokenParts}
@@ -25,6 +26,7 @@ use Rattle.jm_jasmin_lex.specs.declared.token.TokenKind.{TokenKind}
 use Rattle.jm_jasmin_lex.specs.declared.token.TokenKind.TheVariants as kind
 use Rattle.jm_class_format.specs.Instructions.{natural}
 use Rattle.jm_jasmin_ops.specs.Faults.{of_read}
+use Rattle.jm_jasmin_ops.specs.Profile.{is_real, is_named}
 use Rattle.jm_jasmin_ops.specs.Words.{word}
 use Rattle.jm_jasmin_ops.specs.declared.fault.AsmLeftOut.TheVariants as what
 use Rattle.jm_jasmin_ops.specs.declared.fault.AsmFault.{AsmFault}
@@ -69,17 +71,28 @@ unsigned_short = natural_within 65535
 
 -- ---- constants
 
+-- a float or a class instead, both of which are left out
+abbrev pub no_float_or_class : ℕ → List ℕ → Result (Unit {0}) AsmFault
+no_float_or_class line w =
+    if is_real w then Err (fault.LeftOut (what.Part part.FloatType) line)
+    else if is_named w then Err (fault.LeftOut (what.Part part.LdcClass) line)
+    else Ok tt
+
 abbrev pub loaded_by : TokenKind → TokenParts → Result Constant AsmFault
-loaded_by kind.Word t = and_then (signed_int t) (λ n. Ok (constant.Int n))
+loaded_by kind.Word t = and_then (no_float_or_class t.line t.text) (λ _. and_then (signed_int t) (λ n. Ok (constant.Int n)))
 loaded_by kind.Text t = Ok (constant.String (units_of_literal t.text))
 
 -- of ldc and ldc_w: an int or a string
 unfoldable pub loaded : TokenParts → Result Constant AsmFault
 loaded t = loaded_by t.kind t
 
+-- a double instead, which is left out
+abbrev pub no_double : ℕ → List ℕ → Result (Unit {0}) AsmFault
+no_double line w = if is_real w then Err (fault.LeftOut (what.Part part.DoubleType) line) else Ok tt
+
 -- of ldc2_w: a long
 unfoldable pub loaded_long : TokenParts → Result Constant AsmFault
-loaded_long t = and_then (integer t) (λ n. Ok (constant.Long n))
+loaded_long t = and_then (word t) (λ w. and_then (no_double t.line w) (λ _. and_then (integer t) (λ n. Ok (constant.Long n))))
 
 -- ---- element types
 

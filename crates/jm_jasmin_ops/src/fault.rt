@@ -3,6 +3,7 @@
 ghost use Rattle.std.specs.Prelude.{◌≡◌};
 ghost use Rattle.jm_jasmin_ops.specs.Faults.{line_of, of_read};
 
+use crate::directive::LeftOutDirective;
 use jm_class_format::{LaterOp, LeftOutOp, LeftOutPart, ReadFault};
 use std::alloc::{AllocError, AllocFailed};
 use std::fmt;
@@ -15,6 +16,10 @@ pub enum AsmLeftOut {
     Instruction(LeftOutOp),
     /// A part of a class.
     Part(LeftOutPart),
+    /// A branch offset as a number, in place of a label.
+    Offset,
+    /// A directive.
+    Directive(LeftOutDirective),
 }
 
 impl fmt::Display for AsmLeftOut {
@@ -22,6 +27,8 @@ impl fmt::Display for AsmLeftOut {
         match self {
             AsmLeftOut::Instruction(op) => write!(f, "{op}"),
             AsmLeftOut::Part(part) => write!(f, "{part}"),
+            AsmLeftOut::Offset => f.write_str("numeric branch offset"),
+            AsmLeftOut::Directive(directive) => write!(f, "{directive}"),
         }
     }
 }

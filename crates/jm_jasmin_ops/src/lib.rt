@@ -7,6 +7,7 @@
 //! `jm_class_format`, the names and types of `jm_symbols`, and the tokens of `jm_jasmin_lex`.
 #![tactic(auto)]
 
+mod directive;
 mod fault;
 mod labelled;
 mod laws;
@@ -14,12 +15,15 @@ mod line;
 mod mnemonic;
 mod numbers;
 mod operands;
+mod profile;
 mod row;
 mod switch;
 mod symbols;
 mod words;
 
+pub use directive::LeftOutDirective;
 pub use fault::{AsmFault, AsmLeftOut};
 pub use labelled::{Label, LabelledInstr, LabelledLookup, LabelledPair, LabelledTable, Line};
 pub use laws::{each_opcode_is_named, spelled_instructions_keep_rules};
 pub use line::instruction;
+pub use profile::unknown_word;

@@ -16,6 +16,7 @@ use crate::operands::{
     class_name, class_ref, counted, element_type, field_named, field_typed, left_out, loaded,
     loaded_long, method,
 };
+use crate::profile::unknown_word;
 use crate::switch::{lookup_rows, table_rows};
 use crate::words::{ended, first, label, word};
 use jm_class_format::Opcode;
@@ -330,7 +331,9 @@ fn instruction_in<'a>(
         return Err(AsmFault::Syntax(0));
     };
     let text = word(token)?;
-    let opcode = opcode_named(text).ok_or(AsmFault::Syntax(token.line()))?;
+    let Some(opcode) = opcode_named(text) else {
+        return Err(unknown_word(token.line(), text));
+    };
     operands(alloc, token.line(), opcode, words, below)
 }
 
@@ -343,7 +346,9 @@ fn instruction_in<'a>(
 /// many, and for a line that a switch does not have; `BadName` and `BadDescriptor` for a name and
 /// a type that are none; `BadCount` for an `invokeinterface` count that is not the argument slots
 /// with the receiver's, a table without targets or past the last int, and keys that do not rise;
-/// `LeftOut` and `Later` for what is left out or refused for now; `OutOfMemory`.
+/// `LeftOut` for an instruction, a directive, a number with a fraction or an exponent, a class of
+/// `ldc`, a type or a branch offset as a number that the profile leaves out; `Later` for what is
+/// refused for now; `OutOfMemory`.
 #[tactic(auto, unfolding(crate::specs::Instruction::instruction_at))]
 pub fn instruction<'a>(alloc: Global, tokens: &[Token<'a>]) -> Result<Line<'a>, AsmFault>
     ensures { GivesAll (λ x. x) OutOfMemory result (instruction_at tokens.now) }

@@ -5,13 +5,14 @@ ghost use Rattle.std.specs.Prelude.{◌≡◌, ◌<◌, IfSome, length, position
 ghost use Rattle.jm_bytes.specs.Reading.{GivesAll, TakesAll};
 ghost use Rattle.jm_jasmin_ops.specs.declared.fault.AsmFault.TheVariants.{OutOfMemory, LeftOut};
 ghost use Rattle.jm_jasmin_ops.specs.declared.fault.AsmLeftOut.TheVariants.{Instruction};
-ghost use Rattle.jm_jasmin_ops.specs.Operands.{loaded, loaded_long, element_named, element_type, class_name, class_ref, is_slash, parted_at, member, field_named, field_typed, is_parenthesis, method_at, method, counted};
+ghost use Rattle.jm_jasmin_ops.specs.Operands.{no_float_or_class, loaded, no_double, loaded_long, element_named, element_type, class_name, class_ref, is_slash, parted_at, member, field_named, field_typed, is_parenthesis, method_at, method, counted};
 
 use crate::fault::{AsmFault, AsmLeftOut};
 use crate::numbers::{integer, natural_within, signed_int};
+use crate::profile::{is_named, is_real};
 use crate::symbols::{class_name_at, class_ref_at, field_at, field_type_at, method_ref_at, units};
 use crate::words::word;
-use jm_class_format::LeftOutOp;
+use jm_class_format::{LeftOutOp, LeftOutPart};
 use jm_jasmin_lex::{Token, TokenKind, literal};
 use jm_program::{
     Boxed, ClassRef, Constant, FieldRef, InvokeOp, MethodRef, Name, PrimitiveType, Sequence, TypeOp,
@@ -22,6 +23,19 @@ const SLASH: u16 = 47;
 
 const PARENTHESIS: u16 = 40;
 
+// A number with a fraction or an exponent, and the name of a class, are left out.
+fn no_float_or_class(line: usize, word: &str) -> Result<(), AsmFault>
+    ensures { TakesAll (λ x. x) result (no_float_or_class line word.now) }
+{
+    if is_real(word) {
+        return Err(AsmFault::LeftOut(AsmLeftOut::Part(LeftOutPart::FloatType), line));
+    }
+    if is_named(word) {
+        return Err(AsmFault::LeftOut(AsmLeftOut::Part(LeftOutPart::LdcClass), line));
+    }
+    Ok(())
+}
+
 /// What `ldc` and `ldc_w` push: an int or a string.
 #[tactic(auto, unfolding(crate::specs::Operands::loaded))]
 pub fn loaded(alloc: Global, token: &Token<'_>) -> Result<Constant, AsmFault>
@@ -29,6 +43,7 @@ pub fn loaded(alloc: Global, token: &Token<'_>) -> Result<Constant, AsmFault>
 {
     match token.kind() {
         TokenKind::Word => {
+            no_float_or_class(token.line(), token.text())?;
             let number = signed_int(token)?;
             Ok(Constant::Int(number))
         }
@@ -40,11 +55,23 @@ pub fn loaded(alloc: Global, token: &Token<'_>) -> Result<Constant, AsmFault>
     }
 }
 
+// A number with a fraction or an exponent is left out.
+fn no_double(line: usize, word: &str) -> Result<(), AsmFault>
+    ensures { TakesAll (λ x. x) result (no_double line word.now) }
+{
+    if is_real(word) {
+        return Err(AsmFault::LeftOut(AsmLeftOut::Part(LeftOutPart::DoubleType), line));
+    }
+    Ok(())
+}
+
 /// What `ldc2_w` pushes: a long.
 #[tactic(auto, unfolding(crate::specs::Operands::loaded_long))]
 pub fn loaded_long(token: &Token<'_>) -> Result<Constant, AsmFault>
     ensures { TakesAll (λ c. c) result (loaded_long token.now) }
 {
+    let text = word(token)?;
+    no_double(token.line(), text)?;
     let number = integer(token)?;
     Ok(Constant::Long(number))
 }

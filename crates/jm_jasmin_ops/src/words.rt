@@ -2,10 +2,11 @@
 
 ghost use Rattle.std.specs.Prelude.{◌≡◌};
 ghost use Rattle.jm_bytes.specs.Reading.{TakesAll};
-ghost use Rattle.jm_jasmin_ops.specs.Words.{word, label, first, ended};
+ghost use Rattle.jm_jasmin_ops.specs.Words.{word, label_named, label, first, ended};
 
-use crate::fault::AsmFault;
+use crate::fault::{AsmFault, AsmLeftOut};
 use crate::labelled::Label;
+use crate::profile::{has_colon, is_offset};
 use jm_jasmin_lex::{Token, TokenKind};
 
 /// The text of a word; a string is none.
@@ -19,13 +20,26 @@ pub fn word<'a>(token: &Token<'a>) -> Result<&'a str, AsmFault>
     }
 }
 
-/// The use of a label.
+// The label of a name, which is no number and holds no colon.
+fn label_named<'a>(line: usize, name: &'a str) -> Result<Label<'a>, AsmFault>
+    ensures { TakesAll (λ label. label) result (label_named line name.now) }
+{
+    if is_offset(name) {
+        Err(AsmFault::LeftOut(AsmLeftOut::Offset, line))
+    } else if has_colon(name) {
+        Err(AsmFault::Syntax(line))
+    } else {
+        Ok(Label::new(name, line))
+    }
+}
+
+/// The use of a label, as the target of a branch or a switch.
 #[tactic(auto, unfolding(crate::specs::Words::label))]
 pub fn label<'a>(token: &Token<'a>) -> Result<Label<'a>, AsmFault>
     ensures { TakesAll (λ label. label) result (label token.now) }
 {
     let name = word(token)?;
-    Ok(Label::new(name, token.line()))
+    label_named(token.line(), name)
 }
 
 /// The next token of a line, and those after it.
