@@ -18,21 +18,21 @@ fn writes_numbers(rt: HostRuntime) -> Result<(), Fail> {
     put_s2(&mut out, -2)?;
     put_s4(&mut out, i32::MIN)?;
     put_s8(&mut out, -1)?;
-    assert_eq!(rt; out.as_slice(), NUMBERS.as_slice());
+    assert!(rt; out.as_slice() == NUMBERS.as_slice());
     Ok(())
 }
 
 #[test]
 fn reads_numbers(rt: HostRuntime) -> Result<(), Fail> {
     let mut reader = Reader::new(&NUMBERS);
-    assert_eq!(rt; reader.u1()?, u8::MAX);
-    assert_eq!(rt; reader.u2()?, 65534);
-    assert_eq!(rt; reader.u4()?, 256);
-    assert_eq!(rt; reader.u8()?, 9_223_372_036_854_775_809);
-    assert_eq!(rt; reader.s1()?, i8::MIN);
-    assert_eq!(rt; reader.s2()?, -2);
-    assert_eq!(rt; reader.s4()?, i32::MIN);
-    assert_eq!(rt; reader.s8()?, -1);
+    assert!(rt; reader.u1()? == u8::MAX);
+    assert!(rt; reader.u2()? == 65534);
+    assert!(rt; reader.u4()? == 256);
+    assert!(rt; reader.u8()? == 9_223_372_036_854_775_809);
+    assert!(rt; reader.s1()? == i8::MIN);
+    assert!(rt; reader.s2()? == -2);
+    assert!(rt; reader.s4()? == i32::MIN);
+    assert!(rt; reader.s8()? == -1);
     assert!(rt; reader.is_empty());
     Ok(())
 }
@@ -41,13 +41,13 @@ fn reads_numbers(rt: HostRuntime) -> Result<(), Fail> {
 fn reads_no_number_past_the_end(rt: HostRuntime) {
     for n in 0..8usize {
         let mut reader = Reader::new(&NUMBERS[..n]);
-        assert_eq!(rt; reader.u1().is_ok(), n >= 1, "one of {n}");
+        assert!(rt; reader.u1().is_ok() == (n >= 1), "one of {n}");
         let mut reader = Reader::new(&NUMBERS[..n]);
-        assert_eq!(rt; reader.s2().is_ok(), n >= 2, "two of {n}");
+        assert!(rt; reader.s2().is_ok() == (n >= 2), "two of {n}");
         let mut reader = Reader::new(&NUMBERS[..n]);
-        assert_eq!(rt; reader.u4().is_ok(), n >= 4, "four of {n}");
-        assert_eq!(rt; reader.s8(), Err(Cut), "eight of {n}");
-        assert_eq!(rt; reader.skip(8), Err(Cut), "eight of {n}");
+        assert!(rt; reader.u4().is_ok() == (n >= 4), "four of {n}");
+        assert!(rt; reader.s8() == Err(Cut), "eight of {n}");
+        assert!(rt; reader.skip(8) == Err(Cut), "eight of {n}");
     }
 }
 
@@ -55,9 +55,9 @@ fn reads_no_number_past_the_end(rt: HostRuntime) {
 fn takes_and_skips(rt: HostRuntime) -> Result<(), Fail> {
     let mut reader = Reader::new(&NUMBERS);
     reader.skip(2)?;
-    assert_eq!(rt; reader.take(3)?, [0xFE, 0, 0].as_slice());
-    assert_eq!(rt; reader.len(), 25);
+    assert!(rt; reader.take(3)? == [0xFE, 0, 0].as_slice());
+    assert!(rt; reader.len() == 25);
     let shown = format!(in rt.alloc(); "{Cut}")?;
-    assert_eq!(rt; shown.as_str(), "the bytes end before the value does");
+    assert!(rt; shown.as_str() == "the bytes end before the value does");
     Ok(())
 }

@@ -1,135 +1,174 @@
 // What no clause says: texts from JVMS 4.3 and from the Jasmin User Guide, and that the calls
 // succeed with ample memory.
 
+use crate::table::row_of;
 use jm_program::{
     AccessFlags, ArrayOp, BaseType, Boxed, Branch, Class, ClassParts, ClassRef, Code, Comparison,
-    Constant, Descriptor, DescriptorFault, ElementType, FieldType, Instr, Integral, InvokeOp,
-    LookupSwitch, Method, MethodDescriptor, MethodRef, Name, OperandType, Plain, PrimitiveType,
-    ReturnOp, Sequence, Shift, ShortIndex, Simple, SmallInt, StackOp, SwitchPair, Version,
-    code_units,
+    Constant, Descriptor, ElementType, FieldType, Instr, Integral, InvokeOp, LookupSwitch, Method,
+    MethodDescriptor, MethodRef, Name, OperandType, Plain, PrimitiveType, ReturnOp, Sequence,
+    Shift, ShortIndex, Simple, SmallInt, StackOp, SwitchPair, Version, code_units,
 };
 use std::alloc::{AllocError, Global};
 use std::test::Fail;
 
 // Each is a descriptor and prints as itself (JVMS 4.3.2, 4.3.3).
-const DESCRIPTORS: [&str; 32] = [
-    "B",
-    "C",
-    "D",
-    "F",
-    "I",
-    "J",
-    "S",
-    "Z",
-    "[I",
-    "[[J",
-    "[[[Z",
-    "LFoo;",
-    "Ljava/lang/Object;",
-    "[Ljava/lang/String;",
-    "[[La/b/C;",
-    "LI;",
-    "L);",
-    "L(;",
-    "LV;",
-    "L<init>;",
-    "L\u{e4}\u{f6}/\u{4e2d}\u{1f600};",
-    "()V",
-    "()I",
-    "()[I",
-    "()LFoo;",
-    "(I)V",
-    "(II)I",
-    "(J)J",
-    "([Ljava/lang/String;)V",
-    "(ILjava/lang/Object;[[JZ)[[Ljava/lang/Object;",
-    "(L);I)V",
-    "(BCDFIJSZ)V",
-];
+const DESCRIPTORS: &str = "\
+B
+C
+D
+F
+I
+J
+S
+Z
+[I
+[[J
+[[[Z
+LFoo;
+Ljava/lang/Object;
+[Ljava/lang/String;
+[[La/b/C;
+LI;
+L);
+L(;
+LV;
+L<init>;
+L\u{e4}\u{f6}/\u{4e2d}\u{1f600};
+()V
+()I
+()[I
+()LFoo;
+(I)V
+(II)I
+(J)J
+([Ljava/lang/String;)V
+(ILjava/lang/Object;[[JZ)[[Ljava/lang/Object;
+(L);I)V
+(BCDFIJSZ)V";
 
 // No type has this shape.
-const BAD_DESCRIPTORS: [&str; 35] = [
-    "", "V", "X", "i", "II", "I ", " I", "[", "[[", "[V", "L", "LFoo", "[LFoo", "LFoo;;", "LFoo;I",
-    "LFoo.bar", "(", ")", "()", "(I", "(I)", "(II", "(II)", "()VV", "()II", "()V ", "(V)V", "(I)X",
-    "((I)V)V", "I()V", "()()V", "(LFoo)V", "()LFoo", "([)V", "\u{0}",
-];
+const BAD_DESCRIPTORS: &str = "\
+V
+
+X
+i
+II
+I\u{20}
+\u{20}I
+[
+[[
+[V
+L
+LFoo
+[LFoo
+LFoo;;
+LFoo;I
+LFoo.bar
+(
+)
+()
+(I
+(I)
+(II
+(II)
+()VV
+()II
+()V\u{20}
+(V)V
+(I)X
+((I)V)V
+I()V
+()()V
+(LFoo)V
+()LFoo
+([)V
+\u{0}";
 
 // The shape is right around a name that is no name of a class (JVMS 4.2.1, 4.2.2).
-const BAD_NAMES: [&str; 12] = [
-    "L;", "L/;", "La//b;", "L/a;", "La/;", "La.b;", "La[b;", "[[L;", "(L;)V", "()L;", "(IL[I;)V",
-    "()La.b;",
-];
+const BAD_NAMES: &str = "\
+L;
+L/;
+La//b;
+L/a;
+La/;
+La.b;
+La[b;
+[[L;
+(L;)V
+()L;
+(IL[I;)V
+()La.b;";
 
-fn prints_as_itself(alloc: Global, text: &str) -> Result<bool, AllocError> {
+// What a text comes to: the descriptor as it prints, or the fault.
+fn answer(alloc: Global, text: &str) -> Result<String, AllocError> {
     match Descriptor::parse(alloc, text) {
-        Ok(descriptor) => {
-            let printed = descriptor.to_string(alloc)?;
-            Ok(printed.as_str() == text)
-        }
-        Err(_) => Ok(false),
-    }
-}
-
-fn is_refused(alloc: Global, text: &str, fault: DescriptorFault) -> bool {
-    match Descriptor::parse(alloc, text) {
-        Ok(_) => false,
-        Err(other) => other == fault,
+        Ok(descriptor) => descriptor.to_string(alloc),
+        Err(fault) => fault.to_string(alloc),
     }
 }
 
 #[test]
 fn descriptors_are_what_their_texts_spell(rt: HostRuntime) -> Result<(), Fail> {
-    for text in DESCRIPTORS {
-        let is_same = prints_as_itself(rt.alloc(), text)?;
-        assert!(rt; is_same, "{text}");
+    for text in DESCRIPTORS.lines() {
+        assert!(rt; answer(rt.alloc(), text)?.as_str() == text, "{text}");
     }
-    for text in BAD_DESCRIPTORS {
-        let is_refused = is_refused(rt.alloc(), text, DescriptorFault::BadDescriptor);
-        assert!(rt; is_refused, "{text}");
+    for text in BAD_DESCRIPTORS.lines() {
+        assert!(rt;
+            answer(rt.alloc(), text)?.as_str() == "1 BadDescriptor",
+            "{text}"
+        );
     }
-    for text in BAD_NAMES {
-        let is_refused = is_refused(rt.alloc(), text, DescriptorFault::BadName);
-        assert!(rt; is_refused, "{text}");
+    for text in BAD_NAMES.lines() {
+        assert!(rt; answer(rt.alloc(), text)?.as_str() == "2 BadName", "{text}");
     }
+    assert!(rt; DESCRIPTORS.lines().count() == 32);
+    assert!(rt; BAD_DESCRIPTORS.lines().count() == 35);
+    assert!(rt; BAD_NAMES.lines().count() == 12);
     Ok(())
 }
 
-fn repeated(
-    alloc: Global,
-    before: &str,
-    part: &str,
-    count: usize,
-    after: &str,
-) -> Result<String, AllocError> {
+// A text of many parts: what stands before them, the part, how often, and what stands after.
+fn repeated(alloc: Global, row: &str) -> Result<String, Fail> {
+    let (before, row) = row.split_once(" ").ok_or("a part")?;
+    let (part, row) = row.split_once(" ").ok_or("a count")?;
+    let (count, after) = row.split_once(" ").ok_or("an end")?;
     let mut text = String::from_str(alloc, before)?;
-    for _ in 0..count {
+    for _ in 0..count.parse::<u16>()? {
         text.push_str(part)?;
     }
     text.push_str(after)?;
     Ok(text)
 }
 
-// Texts of many parts: what stands before, the part, how often, what stands after, and whether
-// it is a descriptor. A long takes two of at most 255 slots; a type has at most 255 dimensions.
-const LONG_TEXTS: [(&str, &str, usize, &str, bool); 10] = [
-    ("(", "I", 255, ")V", true),
-    ("(", "I", 256, ")V", false),
-    ("(", "J", 127, ")V", true),
-    ("(I", "J", 127, ")V", true),
-    ("(", "J", 128, ")V", false),
-    ("(", "[J", 255, ")V", true),
-    ("", "[", 255, "I", true),
-    ("", "[", 300, "I", false),
-    ("", "[", 60_000, "", false),
-    ("(", "[I", 60_000, ")V", false),
-];
+// Texts of many parts, and `itself` where such a text prints as itself. A long takes two of at most
+// 255 slots; a type has at most 255 dimensions.
+const LONG_TEXTS: &str = "\
+( I 255 )V => itself
+( I 256 )V => 1 BadDescriptor
+( J 127 )V => itself
+(I J 127 )V => itself
+( J 128 )V => 1 BadDescriptor
+( [J 255 )V => itself
+ [ 255 I => itself
+ [ 300 I => 1 BadDescriptor
+ [ 60000  => 1 BadDescriptor
+( [I 60000 )V => 1 BadDescriptor";
 
 #[test]
 fn long_descriptors_have_limits(rt: HostRuntime) -> Result<(), Fail> {
-    for (before, part, count, after, is_good) in LONG_TEXTS {
-        let text = repeated(rt.alloc(), before, part, count, after)?;
-        let is_refused = is_refused(rt.alloc(), &text, DescriptorFault::BadDescriptor);
-        assert!(rt; is_refused != is_good, "{count} of {part}");
+    for line in LONG_TEXTS.lines() {
+        let (row, want) = row_of(line)?;
+        let text = repeated(rt.alloc(), row)?;
+        let said = answer(rt.alloc(), text.as_str())?;
+        let is_itself = said.as_str() == text.as_str();
+        assert!(rt;
+            if want == "itself" {
+                is_itself
+            } else {
+                said.as_str() == want
+            },
+            "{line}"
+        );
     }
     Ok(())
 }
@@ -141,10 +180,8 @@ fn names_print_what_jasmin_can_write(rt: HostRuntime) -> Result<(), Fail> {
     units.push(0x64)?;
     units.push(0xDE00)?;
     let name = Name::new(units);
-    assert_eq!(rt;
-        name.to_string(rt.alloc())?.as_str(),
-        "a\\u0020b\\u003bc\\u005c\u{1f600}\\ud83dd\\ude00"
-    );
+    let printed = name.to_string(rt.alloc())?;
+    assert!(rt; printed.as_str() == "a\\u0020b\\u003bc\\u005c\u{1f600}\\ud83dd\\ude00");
     assert!(rt; !name.is_class_name() && !name.is_unqualified());
     Ok(())
 }
@@ -218,7 +255,7 @@ fn lines(alloc: Global) -> Result<Vec<(Instr, &'static str)>, AllocError> {
 fn instructions_print_as_jasmin_writes_them(rt: HostRuntime) -> Result<(), Fail> {
     let lines = lines(rt.alloc())?;
     for (instruction, line) in &lines {
-        assert_eq!(rt; instruction.to_string(rt.alloc())?.as_str(), *line);
+        assert!(rt; instruction.to_string(rt.alloc())?.as_str() == *line);
         assert!(rt; instruction.fits(13));
     }
     Ok(())

@@ -13,7 +13,7 @@ fn a_fault_prints_its_name(rt: HostRuntime) -> Result<(), AllocError> {
         (TagFault::MonitorCount, "MonitorCount"),
     ] {
         let printed = format!(in rt.alloc(); "{fault}")?;
-        assert_eq!(rt; printed.as_str(), want);
+        assert!(rt; printed.as_str() == want);
     }
     Ok(())
 }
@@ -21,7 +21,7 @@ fn a_fault_prints_its_name(rt: HostRuntime) -> Result<(), AllocError> {
 #[test]
 fn a_reference_holds_its_place(rt: HostRuntime) {
     let place = Place::new(9223372036854775807);
-    assert_eq!(rt; place.number(), 9223372036854775807);
+    assert!(rt; place.number() == 9223372036854775807);
     assert!(rt; Value::Ref(place) == Value::Ref(Place::new(9223372036854775807)));
     assert!(rt; Value::Ref(place) != Value::Ref(Place::new(1)));
 }

@@ -1,6 +1,6 @@
-use crate::instructions::all_instructions;
-use crate::row::{check_row, is_of};
-use crate::rows;
+use super::all::all_instructions;
+use super::row::{check_row, is_of};
+use super::rows;
 use std::test::Fail;
 
 #[test]

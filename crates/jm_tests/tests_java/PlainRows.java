@@ -1,4 +1,4 @@
-/** Prints the rows of src/rows/numbers.rt: what Java computes for the plain instructions. */
+/** Prints the rows of src/plain_instructions/rows/numbers.rt: what Java computes for the plain instructions. */
 class PlainRows {
     static final int[][] INTS = {{7, 2}, {-7, 2}, {7, -2}, {2147483647, 1}, {-2147483648, -1}, {65536, 65536}, {-2147483648, 0}};
     static final long[][] LONGS = {{7, 2}, {-7, 2}, {7, -2}, {9223372036854775807L, 1}, {-9223372036854775808L, -1}, {4294967296L, 4294967296L}, {-9223372036854775808L, 0}};

@@ -14,7 +14,7 @@ import jdk.internal.org.objectweb.asm.Opcodes;
  * on, branches or throws, and refuse each fault for the reason that the row names. From this
  * folder:
  *
- * <pre>java --add-exports java.base/jdk.internal.org.objectweb.asm=ALL-UNNAMED RunRows.java ../src/rows/*.rt</pre>
+ * <pre>java --add-exports java.base/jdk.internal.org.objectweb.asm=ALL-UNNAMED RunRows.java ../src/plain_instructions/rows/*.rt</pre>
  */
 public class RunRows implements Opcodes {
     public static final Object[] REFERENCES = new Object[10];

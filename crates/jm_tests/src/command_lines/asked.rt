@@ -1,0 +1,47 @@
+use super::words::words_of;
+use crate::table::row_of;
+use jm_options::{Options, options};
+use std::alloc::Global;
+use std::test::Fail;
+
+/// Words, parted by `|`, and behind ` => ` what they ask for, with the files and the limit of the
+/// heap that they give.
+const ASKED: &str = "\
+jm|run|--schedule|s.txt|Main.class => run of Main.class by s.txt with 65536
+jm|run|--schedule=s.txt|Main.class => run of Main.class by s.txt with 65536
+jm|run|Main.class|--schedule|s.txt => run of Main.class by s.txt with 65536
+jm|run|--heap|16|--schedule|s.txt|Main.class => run of Main.class by s.txt with 16
+jm|run|--schedule=s.txt|Main.class|--heap=16777216 => run of Main.class by s.txt with 16777216
+jm|run|--heap|00100|--schedule=s.txt|--|Main.class => run of Main.class by s.txt with 100
+/usr/bin/other|run|--schedule=s.txt|Main.class => run of Main.class by s.txt with 65536
+jm|asm|Main.j|Main.class => assembly of Main.j to Main.class
+jm|asm|-|out => assembly of - to out
+jm|asm|--|-Main.j|--help => assembly of -Main.j to --help
+jm|asm|run|asm => assembly of run to asm
+/usr/bin/other|asm||A B.class => assembly of  to A B.class";
+
+fn answer(alloc: Global, words: &str) -> Result<String, Fail> {
+    let words = words_of(alloc, words, "|")?;
+    let asked = options(alloc, &words)?;
+    Ok(match &asked {
+        Options::Run(run) => {
+            let (file, schedule, heap) = (&run.file, &run.schedule, run.heap);
+            format!(in alloc; "run of {file} by {schedule} with {heap}")
+        }
+        Options::Assemble(files) => {
+            let (input, output) = (&files.input, &files.output);
+            format!(in alloc; "assembly of {input} to {output}")
+        }
+    }?)
+}
+
+#[test]
+fn words_ask_for_this(rt: HostRuntime) -> Result<(), Fail> {
+    for row in ASKED.lines() {
+        let (words, want) = row_of(row)?;
+        let answer = answer(rt.alloc(), words)?;
+        assert!(rt; answer.as_str() == want, "{row}");
+    }
+    assert!(rt; ASKED.lines().count() == 12);
+    Ok(())
+}

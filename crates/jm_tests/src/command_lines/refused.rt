@@ -1,0 +1,125 @@
+use super::words::words_of;
+use crate::table::{row_of, with_line_ends};
+use jm_options::{UsageFault, options};
+use std::alloc::Global;
+use std::test::Fail;
+
+/// Words that are refused, and behind ` => ` the status and the first line of the text.
+const REFUSED: &str = "\
+jm => 1 A Java virtual machine that makes one event after the other
+ => 1 A Java virtual machine that makes one event after the other
+jm --help => 1 A Java virtual machine that makes one event after the other
+jm -h => 1 A Java virtual machine that makes one event after the other
+jm help => 1 A Java virtual machine that makes one event after the other
+jm run --help => 1 Run a class by the events of a schedule
+jm help run => 1 Run a class by the events of a schedule
+jm --version => 1 error: unexpected argument '--version' found
+jm replay r A.class => 1 error: unrecognized subcommand 'replay'
+jm debug A.class => 1 error: unrecognized subcommand 'debug'
+jm A.class => 1 error: unrecognized subcommand 'A.class'
+jm run => 1 error: the following required arguments were not provided:
+jm run A.class => 1 error: the following required arguments were not provided:
+jm run --schedule s => 1 error: the following required arguments were not provided:
+jm run A.class --schedule => 1 error: a value is required for '--schedule <FILE>' but none was supplied
+jm run --schedule=s A.class B.class => 1 error: unexpected argument 'B.class' found
+jm run --schedule=s --schedule=t A.class => 1 error: the argument '--schedule <FILE>' cannot be used multiple times
+jm run --heap=16 --heap=17 --schedule=s A.class => 1 error: the argument '--heap <N>' cannot be used multiple times
+jm run --heap 15 --schedule=s A.class => 1 error: invalid value '15' for '--heap <N>': 15 is not in 16..=16777216
+jm run --heap=16777217 --schedule=s A.class => 1 error: invalid value '16777217' for '--heap <N>': 16777217 is not in 16..=16777216
+jm run --heap=99999999999999999999 --schedule=s A.class => 1 error: invalid value '99999999999999999999' for '--heap <N>': number too large to fit in target type
+jm run --heap x --schedule=s A.class => 1 error: invalid value 'x' for '--heap <N>': invalid digit found in string
+jm run --heap= --schedule=s A.class => 1 error: invalid value '' for '--heap <N>': cannot parse integer from empty string
+jm run --heap=-16 --schedule=s A.class => 1 error: invalid value '-16' for '--heap <N>': -16 is not in 16..=16777216
+jm run --shedule s A.class => 1 error: unexpected argument '--shedule' found
+jm run --copiers 2 --schedule=s A.class => 1 error: unexpected argument '--copiers' found
+jm run --steps 9 --schedule=s A.class => 1 error: unexpected argument '--steps' found
+jm run --quantum=2 --schedule=s A.class => 1 error: unexpected argument '--quantum' found
+jm run --workers=2 --schedule=s A.class => 1 error: unexpected argument '--workers' found
+jm run --record r --schedule=s A.class => 1 error: unexpected argument '--record' found
+jm run --show-heap --schedule=s A.class => 1 error: unexpected argument '--show-heap' found
+jm run --stress=minor --schedule=s A.class => 1 error: unexpected argument '--stress' found
+jm --heap=16 run --schedule=s A.class => 1 error: unexpected argument '--heap' found
+jm asm --help => 1 Assemble a text in Jasmin's syntax into a class file
+jm asm -h => 1 Assemble a text in Jasmin's syntax into a class file
+jm help asm => 1 Assemble a text in Jasmin's syntax into a class file
+jm asm A.j A.class --help => 1 Assemble a text in Jasmin's syntax into a class file
+jm asm => 1 error: the following required arguments were not provided:
+jm asm A.j => 1 error: the following required arguments were not provided:
+jm asm A.j A.class B.class => 1 error: unexpected argument 'B.class' found
+jm asm --output A.class A.j => 1 error: unexpected argument '--output' found
+jm asm --heap=16 A.j A.class => 1 error: unexpected argument '--heap' found
+jm asm -o A.class A.j => 1 error: unexpected argument '-o' found
+jm asm -A.j A.class => 1 error: unexpected argument '-A' found
+jm asm A.j -A.class => 1 error: unexpected argument '-A' found
+jm asn A.j A.class => 1 error: unrecognized subcommand 'asn'
+jm run asm A.j A.class => 1 error: unexpected argument 'A.j' found";
+
+/// Words that are refused, and behind ` => ` a part of the text, whose line ends are written `/`.
+const PARTS: &str = "\
+jm => Usage: jm <COMMAND>
+jm --help =>   run   Run a class by the events of a schedule
+jm --help =>   asm   Assemble a text in Jasmin's syntax into a class file
+jm run -h => Class file, or text ending in .j, whose `main` is run
+jm asm -h => Usage: jm asm <IN> <OUT>
+jm asm -h =>   <IN>   Text of a class in Jasmin's syntax
+jm asm -h =>   <OUT>  Class file to write
+jm asm =>   <IN>/  <OUT>/
+jm asm A.j => not provided:/  <OUT>/
+jm asm => Usage: jm asm <IN> <OUT>
+jm asm -A.j A.class => to pass '-A' as a value, use '-- -A'
+jm asn => a similar subcommand exists: 'asm'
+jm as => a similar subcommand exists: 'asm'
+jm run -h => Usage: jm run [OPTIONS] --schedule <FILE> <FILE>
+jm run -h => [default: 65536]
+jm run --shedule=s A.class => a similar argument exists: '--schedule'
+jm rum => a similar subcommand exists: 'run'";
+
+fn refusal(alloc: Global, words: &str) -> Result<UsageFault, Fail> {
+    let words = words_of(alloc, words, " ")?;
+    Ok(options(alloc, &words).err().ok_or("options")?)
+}
+
+// The status of a refusal, and the first line of its text.
+fn first_line(alloc: Global, words: &str) -> Result<String, Fail> {
+    let fault = refusal(alloc, words)?;
+    let text = format!(in alloc; "{fault}")?;
+    let line = text.as_str().lines().next().unwrap_or("");
+    Ok(format!(in alloc; "{} {line}", fault.status())?)
+}
+
+#[test]
+fn refusals_name_the_word(rt: HostRuntime) -> Result<(), Fail> {
+    for row in REFUSED.lines() {
+        let (words, want) = row_of(row)?;
+        let said = first_line(rt.alloc(), words)?;
+        assert!(rt; said.as_str() == want, "{row}");
+    }
+    assert!(rt; REFUSED.lines().count() == 47);
+    Ok(())
+}
+
+// Whether the text of a refusal has a part.
+fn says(alloc: Global, words: &str, part: &str) -> Result<bool, Fail> {
+    let part = with_line_ends(alloc, part)?;
+    let fault = refusal(alloc, words)?;
+    let text = format!(in alloc; "{fault}")?;
+    Ok(text.as_str().contains(part.as_str()))
+}
+
+#[test]
+fn refusals_say_what_to_write(rt: HostRuntime) -> Result<(), Fail> {
+    for row in PARTS.lines() {
+        let (words, part) = row_of(row)?;
+        assert!(rt; says(rt.alloc(), words, part)?, "{row}");
+    }
+    assert!(rt; PARTS.lines().count() == 17);
+    Ok(())
+}
+
+#[test]
+fn want_of_memory_has_status_seven(rt: HostRuntime) -> Result<(), Fail> {
+    let text = format!(in rt.alloc(); "{}", UsageFault::OutOfMemory)?;
+    assert!(rt; text.as_str() == "61 OutOfMemory");
+    assert!(rt; UsageFault::OutOfMemory.status() == 7);
+    Ok(())
+}
