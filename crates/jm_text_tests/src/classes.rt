@@ -1,9 +1,10 @@
 // Classes of texts, by the parts that the lines of the texts give.
 
-use crate::outcome::text_of_body;
+use crate::outcome::{Form, text_of};
+use crate::table::with_line_ends;
 use jm_jasmin::{AsmFault, assemble};
 use jm_program::{Class, ClassParts, Code, Constant, Handler, Instr, Method, code_units};
-use std::alloc::Global;
+use std::alloc::{AllocError, Global};
 use std::process::Abort;
 use std::test::Fail;
 
@@ -56,15 +57,14 @@ return
 ";
 
 fn check_handlers(rt: &impl Abort, alloc: Global, parts: &ClassParts) -> Result<(), Fail> {
-    assert_eq!(rt; parts.version.major, 49);
-    assert_eq!(rt; parts.version.minor, 0);
-    assert_eq!(rt; parts.flags.bits, 0x0021);
+    assert!(rt; parts.version.major == 49 && parts.version.minor == 0);
+    assert!(rt; parts.flags.bits == 0x0021);
     assert!(rt; parts.source_file.is_none());
     let method = parts.methods.as_slice().first().ok_or("a method")?;
-    assert_eq!(rt; method.flags.bits, 0x0009);
-    assert_eq!(rt; ranges(alloc, method)?.as_str(), "0 2 4;0 3 5;");
+    assert!(rt; method.flags.bits == 0x0009);
+    assert!(rt; ranges(alloc, method)?.as_str() == "0 2 4;0 3 5;");
     let code = method.code.as_ref().ok_or("a code")?;
-    assert_eq!(rt; limits(alloc, code)?.as_str(), "8 1");
+    assert!(rt; limits(alloc, code)?.as_str() == "8 1");
     Ok(())
 }
 
@@ -78,11 +78,11 @@ const INTERFACE: &str =
     ".bytecode 50.3\r\n.source A.j\r\n.interface public A\r\n.super B\r\n.implements C\r\n.implements D\r\n.field public static final x I = -5";
 
 fn check_interface(rt: &impl Abort, parts: &ClassParts) -> Result<(), Fail> {
-    assert_eq!(rt; parts.version.minor, 3);
-    assert_eq!(rt; parts.flags.bits, 0x0601);
-    assert_eq!(rt; parts.interfaces.as_slice().len(), 2);
+    assert!(rt; parts.version.minor == 3);
+    assert!(rt; parts.flags.bits == 0x0601);
+    assert!(rt; parts.interfaces.as_slice().len() == 2);
     let field = parts.fields.as_slice().first().ok_or("a field")?;
-    assert_eq!(rt; field.flags.bits, 0x0019);
+    assert!(rt; field.flags.bits == 0x0019);
     assert!(rt; field.constant.is_some());
     Ok(())
 }
@@ -96,22 +96,19 @@ fn fields_and_interfaces(rt: HostRuntime) -> Result<(), Fail> {
 #[test]
 fn want_of_memory_has_no_line(rt: HostRuntime) -> Result<(), Fail> {
     let text = format!(in rt.alloc(); "{}", AsmFault::OutOfMemory)?;
-    assert_eq!(rt; text.as_str(), "61 OutOfMemory");
+    assert!(rt; text.as_str() == "61 OutOfMemory");
     Ok(())
 }
 
-/// Operands of `ldc` in a text, and the string that each is ("Numbers and Strings").
-const STRINGS: [(&str, &str); 6] = [
-    ("\"\"", ""),
-    ("\"a;b ; c\"", "a;b ; c"),
-    (
-        "\"say \\\"a\\\", then \\\"b\\\"\" ; \"c\"",
-        "say \"a\", then \"b\"",
-    ),
-    ("\"\\\\\\n\\t\"", "\\\n\t"),
-    ("\"\\u0041\\u00e9\"", "Aé"),
-    ("\"\t.end method\"", "\t.end method"),
-];
+/// Operands of `ldc` in a text, and behind ` =>` the string that each is, whose line ends are
+/// written `/` ("Numbers and Strings").
+const STRINGS: &str = "\
+\"\" =>
+\"a;b ; c\" =>a;b ; c
+\"say \\\"a\\\", then \\\"b\\\"\" ; \"c\" =>say \"a\", then \"b\"
+\"\\\\\\n\\t\" =>\\/\t
+\"\\u0041\\u00e9\" =>Aé
+\"\t.end method\" =>\t.end method";
 
 // The code units of the string that the first instruction of the first method loads.
 fn string_of(parts: &ClassParts) -> Option<&[u16]> {
@@ -126,21 +123,25 @@ fn string_of(parts: &ClassParts) -> Option<&[u16]> {
 // A class whose one method loads the operand of `ldc`.
 fn class_of_operand(alloc: Global, operand: &str) -> Result<Class, Fail> {
     let line = format!(in alloc; "ldc {operand}")?;
-    let text = text_of_body(alloc, line.as_str())?;
+    let text = text_of(alloc, Form::Body, line.as_str())?;
     Ok(assemble(alloc, text.as_str())?)
+}
+
+// The code units of a text whose line ends are written `/`.
+fn units_of(alloc: Global, row: &str) -> Result<Vec<u16>, AllocError> {
+    let text = with_line_ends(alloc, row)?;
+    code_units(alloc, text.as_str())
 }
 
 #[test]
 fn strings_of_texts(rt: HostRuntime) -> Result<(), Fail> {
-    for (operand, want) in STRINGS {
-        let units = code_units(rt.alloc(), want)?;
+    for row in STRINGS.lines() {
+        let (operand, want) = row.split_once(" =>").ok_or("a row without ` =>`")?;
+        let units = units_of(rt.alloc(), want)?;
         let class = class_of_operand(rt.alloc(), operand)?;
-        assert_eq!(rt;
-            string_of(class.parts()),
-            Some(units.as_slice()),
-            "{operand}"
-        );
+        assert!(rt; string_of(class.parts()) == Some(units.as_slice()), "{row}");
     }
+    assert!(rt; STRINGS.lines().count() == 6);
     Ok(())
 }
 
@@ -155,13 +156,13 @@ return
 // Tables 4.1-B, 4.5-A and 4.6-A of JVMS: 1 public, 2 private, 4 protected, 8 static, 10 final,
 // 20 super and synchronized, 40 volatile, 80 transient, 400 abstract.
 fn check_flags(rt: &impl Abort, parts: &ClassParts) -> Result<(), Fail> {
-    assert_eq!(rt; parts.flags.bits, 0x0431);
+    assert!(rt; parts.flags.bits == 0x0431);
     let x = parts.fields.as_slice().first().ok_or("a field")?;
     let y = parts.fields.as_slice().get(1).ok_or("a second field")?;
-    assert_eq!(rt; (x.flags.bits, y.flags.bits), (0x00C2, 0x001C));
+    assert!(rt; x.flags.bits == 0x00C2 && y.flags.bits == 0x001C);
     assert!(rt; matches!(y.constant, Some(Constant::Long(9_223_372_036_854_775_807))));
     let method = parts.methods.as_slice().first().ok_or("a method")?;
-    assert_eq!(rt; method.flags.bits, 0x0025);
+    assert!(rt; method.flags.bits == 0x0025);
     Ok(())
 }
 

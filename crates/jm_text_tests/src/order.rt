@@ -2,8 +2,7 @@
 // of the lines, where a missing label is found at the end of its method; and of one line the one of
 // the earlier word. Tables are read by `table.rt`.
 
-use crate::outcome::{outcome_of_body, outcome_of_lines};
-use crate::table::rows_of;
+use crate::outcome::{Form, check_rows};
 use std::test::Fail;
 
 /// Lines of a body from the sixth on, and what they come to.
@@ -45,13 +44,7 @@ iconst_0 / lookupswitch / 1 : A / default : A / goto Y / A: / return => 43 NoLab
 
 #[test]
 fn first_fault_of_a_body(rt: HostRuntime) -> Result<(), Fail> {
-    let rows = rows_of(rt.alloc(), BODIES)?;
-    for (body, want) in &rows {
-        let said = outcome_of_body(rt.alloc(), body)?;
-        assert_eq!(rt; said.as_str(), *want, "{body}");
-    }
-    assert_eq!(rt; rows.len(), 29);
-    Ok(())
+    check_rows(&rt, Form::Body, BODIES, 29)
 }
 
 /// A line of a body, and what it comes to: the first fault in the order of its words.
@@ -80,13 +73,7 @@ new a.b c => 2 BadName(6)
 
 #[test]
 fn first_fault_of_a_line(rt: HostRuntime) -> Result<(), Fail> {
-    let rows = rows_of(rt.alloc(), LINES)?;
-    for (line, want) in &rows {
-        let said = outcome_of_body(rt.alloc(), line)?;
-        assert_eq!(rt; said.as_str(), *want, "{line}");
-    }
-    assert_eq!(rt; rows.len(), 20);
-    Ok(())
+    check_rows(&rt, Form::Body, LINES, 20)
 }
 
 /// Whole texts, and what each comes to.
@@ -124,11 +111,5 @@ const TEXTS: &str = "\
 
 #[test]
 fn first_fault_of_a_text(rt: HostRuntime) -> Result<(), Fail> {
-    let rows = rows_of(rt.alloc(), TEXTS)?;
-    for (lines, want) in &rows {
-        let said = outcome_of_lines(rt.alloc(), lines)?;
-        assert_eq!(rt; said.as_str(), *want, "{lines}");
-    }
-    assert_eq!(rt; rows.len(), 27);
-    Ok(())
+    check_rows(&rt, Form::Whole, TEXTS, 27)
 }

@@ -2,8 +2,9 @@
 // line of the text.
 
 use crate::outcome::outcome;
+use crate::table::row_of;
 use jm_jasmin::assemble;
-use std::alloc::Global;
+use std::alloc::{AllocError, Global};
 use std::test::Fail;
 
 /// Two threads that call a synchronized method of one object, which throws; and a class with a line
@@ -83,62 +84,62 @@ default : H
 ",
 ];
 
-// Whether a text comes to a class, or to a fault at one of its lines.
-fn is_answered(alloc: Global, text: &str) -> bool {
-    let lines = text.bytes().filter(|byte| *byte == b'\n').count();
+// Whether a text comes to a class, or to a fault that has its number at one of its lines.
+fn is_answered(alloc: Global, text: &str) -> Result<bool, AllocError> {
     match assemble(alloc, text) {
-        Ok(_) => true,
-        Err(fault) => match fault.line() {
-            Some(line) => 1 <= line && line <= lines.saturating_add(1),
-            None => false,
-        },
+        Ok(_) => Ok(true),
+        Err(fault) => {
+            let line = fault.line().unwrap_or(0);
+            let said = fault.to_string(alloc)?;
+            let has_number = matches!(said.as_bytes().first(), Some(b'0'..=b'9'));
+            Ok(has_number && 1 <= line && line <= text.split("\n").count())
+        }
     }
 }
 
 #[test]
 fn texts_that_end_early(rt: HostRuntime) -> Result<(), Fail> {
-    let alloc = rt.alloc();
     for text in TEXTS {
         for length in 0..=text.len() {
             let front = text.get(0..length).ok_or("an ASCII text")?;
-            assert!(rt; is_answered(alloc, front), "{length}");
-            let said = outcome(alloc, front)?;
-            let said = said.as_str();
-            assert!(rt;
-                said == "class" || said.starts_with(|c: char| c.is_ascii_digit()),
-                "{length}: {said}"
-            );
+            assert!(rt; is_answered(rt.alloc(), front)?, "{length}");
         }
-        let said = outcome(alloc, text)?;
-        assert_eq!(rt; said.as_str(), "class");
+        let said = outcome(rt.alloc(), text, false)?;
+        assert!(rt; said.as_str() == "class", "{said}");
     }
     Ok(())
 }
 
 /// How many bytes of the third text stand, and what they come to.
-const CUTS: [(usize, &str); 12] = [
-    (0, "41 Syntax(1)"),
-    (6, "41 Syntax(1)"),
-    (8, "41 Syntax(1)"),
-    (9, "41 Syntax(1)"),
-    (10, "41 Syntax(2)"),
-    (16, "41 Syntax(2)"),
-    // `.super java`, then `.super java/`.
-    (20, "class"),
-    (21, "2 BadName(2)"),
-    (32, "class"),
-    (33, "class"),
-    (34, "41 Syntax(3)"),
-    (40, "41 Syntax(3)"),
-];
+const CUTS: &str = "\
+0 => 41 Syntax(1)
+6 => 41 Syntax(1)
+8 => 41 Syntax(1)
+9 => 41 Syntax(1)
+10 => 41 Syntax(2)
+16 => 41 Syntax(2)
+# `.super java`, then `.super java/`.
+20 => class
+21 => 2 BadName(2)
+32 => class
+33 => class
+34 => 41 Syntax(3)
+40 => 41 Syntax(3)";
 
 #[test]
 fn faults_of_cut_texts(rt: HostRuntime) -> Result<(), Fail> {
     let text = TEXTS.get(2).ok_or("a third text")?;
-    for (length, want) in CUTS {
-        let front = text.get(0..length).ok_or("an ASCII text")?;
-        let said = outcome(rt.alloc(), front)?;
-        assert_eq!(rt; said.as_str(), want, "{length}");
+    let mut rows = 0u32;
+    for line in CUTS.lines() {
+        if !line.starts_with("# ") {
+            let (length, want) = row_of(line)?;
+            let length = length.parse::<usize>()?;
+            let front = text.get(0..length).ok_or("an ASCII text")?;
+            let said = outcome(rt.alloc(), front, false)?;
+            assert!(rt; said.as_str() == want, "{line}: {said}");
+            rows = rows.saturating_add(1);
+        }
     }
+    assert!(rt; rows == 12, "{rows} rows");
     Ok(())
 }

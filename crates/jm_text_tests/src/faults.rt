@@ -1,9 +1,6 @@
 // The faults of the language, each in a text that has no other. Tables are read by `table.rt`.
 
-use crate::outcome::{outcome_of_body, outcome_of_lines, text_of_body};
-use crate::table::rows_of;
-use jm_jasmin::assemble;
-use std::alloc::Global;
+use crate::outcome::{Form, check_rows};
 use std::test::Fail;
 
 /// Lines from the sixth on, before the last, and what the text comes to.
@@ -92,13 +89,7 @@ iload -1 => 41 Syntax(6)
 
 #[test]
 fn faults_of_bodies(rt: HostRuntime) -> Result<(), Fail> {
-    let rows = rows_of(rt.alloc(), BODIES)?;
-    for (body, want) in &rows {
-        let said = outcome_of_body(rt.alloc(), body)?;
-        assert_eq!(rt; said.as_str(), *want, "{body}");
-    }
-    assert_eq!(rt; rows.len(), 73);
-    Ok(())
+    check_rows(&rt, Form::Body, BODIES, 73)
 }
 
 /// Whole texts, and what each comes to.
@@ -175,13 +166,7 @@ const TEXTS: &str = "\
 
 #[test]
 fn faults_of_texts(rt: HostRuntime) -> Result<(), Fail> {
-    let rows = rows_of(rt.alloc(), TEXTS)?;
-    for (lines, want) in &rows {
-        let said = outcome_of_lines(rt.alloc(), lines)?;
-        assert_eq!(rt; said.as_str(), *want, "{lines}");
-    }
-    assert_eq!(rt; rows.len(), 64);
-    Ok(())
+    check_rows(&rt, Form::Whole, TEXTS, 64)
 }
 
 /// The lines of a class or an interface without those of its superclass and of its method's end,
@@ -204,48 +189,23 @@ const METHODS: &str = "\
 .class A / .method m(J)V / .limit locals 2 / return => 45 BadCount(4)
 ";
 
-// What a class comes to, of its first line, its method's and those of the body.
-fn outcome_of_method(alloc: Global, lines: &str) -> Result<String, Fail> {
-    let (class, method) = lines.split_once(" / ").ok_or("a class and its method")?;
-    let lines = format!(in alloc; "{class} / .super java/lang/Object / {method} / .end method")?;
-    outcome_of_lines(alloc, lines.as_str())
-}
-
 #[test]
 fn faults_of_methods(rt: HostRuntime) -> Result<(), Fail> {
-    let rows = rows_of(rt.alloc(), METHODS)?;
-    for (lines, want) in &rows {
-        let said = outcome_of_method(rt.alloc(), lines)?;
-        assert_eq!(rt; said.as_str(), *want, "{lines}");
-    }
-    assert_eq!(rt; rows.len(), 15);
-    Ok(())
+    check_rows(&rt, Form::Method, METHODS, 15)
 }
 
-/// Lines of a body from the sixth on whose fault is printed without its line, and that line.
-const LEFT_OUT: [(&str, &str, usize); 7] = [
-    ("fadd", "46 LeftOut(fadd)", 6),
-    ("return / jsr A", "46 LeftOut(jsr)", 7),
-    ("nop / nop / newarray double", "46 LeftOut(double)", 8),
-    ("nop / getstatic A/x F", "46 LeftOut(float)", 7),
-    (
-        "return / .end method / .method native n()V",
-        "46 LeftOut(native)",
-        8,
-    ),
-    ("multianewarray [[I 2", "47 Later(multianewarray)", 6),
-    ("nop / multianewarray [[I 2", "47 Later(multianewarray)", 7),
-];
+/// Lines of a body from the sixth on whose fault is printed without its line, and behind it that
+/// line.
+const LEFT_OUT: &str = "\
+fadd => 46 LeftOut(fadd) at 6
+return / jsr A => 46 LeftOut(jsr) at 7
+nop / nop / newarray double => 46 LeftOut(double) at 8
+nop / getstatic A/x F => 46 LeftOut(float) at 7
+return / .end method / .method native n()V => 46 LeftOut(native) at 8
+multianewarray [[I 2 => 47 Later(multianewarray) at 6
+nop / multianewarray [[I 2 => 47 Later(multianewarray) at 7";
 
 #[test]
 fn lines_of_what_is_left_out(rt: HostRuntime) -> Result<(), Fail> {
-    let alloc = rt.alloc();
-    for (body, want, line) in LEFT_OUT {
-        let text = text_of_body(alloc, body)?;
-        let fault = assemble(alloc, text.as_str()).err().ok_or("a fault")?;
-        let said = format!(in alloc; "{fault}")?;
-        assert_eq!(rt; said.as_str(), want, "{body}");
-        assert_eq!(rt; fault.line(), Some(line), "{body}");
-    }
-    Ok(())
+    check_rows(&rt, Form::Body, LEFT_OUT, 7)
 }
