@@ -140,7 +140,7 @@ fn full_pool_is_refused(rt: HostRuntime) -> Result<(), Fail> {
     let class = class(rt.alloc(), instructions)?.expect(&rt, "a class");
     let fault = refused(&rt, &class);
     let text = format!(in rt.alloc(); "{fault}")?;
-    assert_eq!(rt; text.as_str(), "23 PoolFull");
+    assert!(rt; text.as_str() == "23 PoolFull");
     Ok(())
 }
 
@@ -170,9 +170,9 @@ fn greater_counts_are_refused(rt: HostRuntime) -> Result<(), Fail> {
     ];
     for counts in cases {
         let class = class_of(&rt, counts)?;
-        assert_eq!(rt; refused(&rt, &class), WriteFault::TooMany);
+        assert!(rt; refused(&rt, &class) == WriteFault::TooMany);
     }
     let text = format!(in rt.alloc(); "{}", WriteFault::TooMany)?;
-    assert_eq!(rt; text.as_str(), "36 TooMany");
+    assert!(rt; text.as_str() == "36 TooMany");
     Ok(())
 }

@@ -1,7 +1,9 @@
 // Classes and their bytes.
 
+use crate::bytes::bytes_of;
 use crate::classes::{class, nops};
 use crate::round_trip::written_and_read;
+use crate::worked_file::WORKED;
 use jm_class_reader::read_class;
 use jm_class_writer::write_class;
 use jm_program::{
@@ -11,26 +13,6 @@ use jm_program::{
 use std::alloc::{AllocError, AllocGlobal, Global};
 use std::process::Abort;
 use std::test::Fail;
-
-/// The bytes of `Main`, whose `main` prints the sum of two and three.
-const WORKED: [u8; 245] = [
-    0xCA, 0xFE, 0xBA, 0xBE, 0x00, 0x00, 0x00, 0x31, 0x00, 0x14, 0x01, 0x00, 0x04, 0x4D, 0x61, 0x69,
-    0x6E, 0x07, 0x00, 0x01, 0x01, 0x00, 0x10, 0x6A, 0x61, 0x76, 0x61, 0x2F, 0x6C, 0x61, 0x6E, 0x67,
-    0x2F, 0x4F, 0x62, 0x6A, 0x65, 0x63, 0x74, 0x07, 0x00, 0x03, 0x01, 0x00, 0x04, 0x6D, 0x61, 0x69,
-    0x6E, 0x01, 0x00, 0x16, 0x28, 0x5B, 0x4C, 0x6A, 0x61, 0x76, 0x61, 0x2F, 0x6C, 0x61, 0x6E, 0x67,
-    0x2F, 0x53, 0x74, 0x72, 0x69, 0x6E, 0x67, 0x3B, 0x29, 0x56, 0x01, 0x00, 0x04, 0x43, 0x6F, 0x64,
-    0x65, 0x01, 0x00, 0x10, 0x6A, 0x61, 0x76, 0x61, 0x2F, 0x6C, 0x61, 0x6E, 0x67, 0x2F, 0x53, 0x79,
-    0x73, 0x74, 0x65, 0x6D, 0x07, 0x00, 0x08, 0x01, 0x00, 0x03, 0x6F, 0x75, 0x74, 0x01, 0x00, 0x15,
-    0x4C, 0x6A, 0x61, 0x76, 0x61, 0x2F, 0x69, 0x6F, 0x2F, 0x50, 0x72, 0x69, 0x6E, 0x74, 0x53, 0x74,
-    0x72, 0x65, 0x61, 0x6D, 0x3B, 0x0C, 0x00, 0x0A, 0x00, 0x0B, 0x09, 0x00, 0x09, 0x00, 0x0C, 0x01,
-    0x00, 0x13, 0x6A, 0x61, 0x76, 0x61, 0x2F, 0x69, 0x6F, 0x2F, 0x50, 0x72, 0x69, 0x6E, 0x74, 0x53,
-    0x74, 0x72, 0x65, 0x61, 0x6D, 0x07, 0x00, 0x0E, 0x01, 0x00, 0x07, 0x70, 0x72, 0x69, 0x6E, 0x74,
-    0x6C, 0x6E, 0x01, 0x00, 0x04, 0x28, 0x49, 0x29, 0x56, 0x0C, 0x00, 0x10, 0x00, 0x11, 0x0A, 0x00,
-    0x0F, 0x00, 0x12, 0x00, 0x21, 0x00, 0x02, 0x00, 0x04, 0x00, 0x00, 0x00, 0x00, 0x00, 0x01, 0x00,
-    0x09, 0x00, 0x05, 0x00, 0x06, 0x00, 0x01, 0x00, 0x07, 0x00, 0x00, 0x00, 0x16, 0x00, 0x08, 0x00,
-    0x08, 0x00, 0x00, 0x00, 0x0A, 0xB2, 0x00, 0x0D, 0x05, 0x06, 0x60, 0xB6, 0x00, 0x13, 0xB1, 0x00,
-    0x00, 0x00, 0x00, 0x00, 0x00,
-];
 
 /// What stands behind the code in a file whose one method has neither handlers nor lines, and which
 /// names no source file: three counts.
@@ -85,13 +67,10 @@ fn constants(alloc: Global, count: i32) -> Result<Vec<Instr>, AllocError> {
 fn constants_pass_a_byte(rt: HostRuntime) -> Result<(), Fail> {
     let bytes = file_of(&rt, constants(rt.alloc(), 249)?)?;
     let count = bytes.get(8..10).expect(&rt, "a count");
-    assert_eq!(rt; count, [0x01, 0x01].as_slice());
+    assert!(rt; count == [0x01, 0x01].as_slice());
     let code = code_of(&bytes, 749).expect(&rt, "a code");
     let end = code.get(741..749).expect(&rt, "the last instructions");
-    assert_eq!(rt;
-        end,
-        [0x12, 0xFF, 0x57, 0x13, 0x01, 0x00, 0x57, 0xB1].as_slice()
-    );
+    assert!(rt; end == [0x12, 0xFF, 0x57, 0x13, 0x01, 0x00, 0x57, 0xB1].as_slice());
     Ok(())
 }
 
@@ -136,83 +115,43 @@ fn assert_code(
 ) -> Result<(), Fail> {
     let bytes = file_of(rt, instructions)?;
     let code = code_of(&bytes, want.len()).expect(rt, "a code");
-    assert_eq!(*rt; code, want);
+    assert!(rt; code == want);
     Ok(())
 }
 
-/// The default, low, high and the target stand at a multiple of four (JVMS 6.5 tableswitch).
-#[test]
-fn tables_are_padded(rt: HostRuntime) -> Result<(), Fail> {
-    let cases: [(u32, &[u8]); 4] = [
-        (
-            0,
-            &[
-                3, 0xAA, 0, 0, 0, 0, 0, 19, 0, 0, 0, 0, 0, 0, 0, 0, 0, 0, 0, 19, 0xB1,
-            ],
-        ),
-        (
-            1,
-            &[
-                0, 3, 0xAA, 0, 0, 0, 0, 18, 0, 0, 0, 0, 0, 0, 0, 0, 0, 0, 0, 18, 0xB1,
-            ],
-        ),
-        (
-            2,
-            &[
-                0, 0, 3, 0xAA, 0, 0, 0, 17, 0, 0, 0, 0, 0, 0, 0, 0, 0, 0, 0, 17, 0xB1,
-            ],
-        ),
-        (
-            3,
-            &[
-                0, 0, 0, 3, 0xAA, 0, 0, 0, 0, 0, 0, 20, 0, 0, 0, 0, 0, 0, 0, 0, 0, 0, 0, 20, 0xB1,
-            ],
-        ),
-    ];
-    for (count, want) in cases {
-        let switch = table_to(rt.alloc(), count.saturating_add(2))?;
-        let instructions = switch_behind(rt.alloc(), count, switch)?;
-        assert_code(&rt, instructions, want)?;
-    }
-    Ok(())
+/// So many nops, a zero, a switch and a return, and the bytes of the code: the default, low, high
+/// and the target of a tableswitch, and the default, the count, the key and the target of a
+/// lookupswitch stand at a multiple of four (JVMS 6.5 tableswitch, lookupswitch).
+const PADDED: &str = "\
+table 0 => 03 AA 00 00 00 00 00 13 00 00 00 00 00 00 00 00 00 00 00 13 B1
+table 1 => 00 03 AA 00 00 00 00 12 00 00 00 00 00 00 00 00 00 00 00 12 B1
+table 2 => 00 00 03 AA 00 00 00 11 00 00 00 00 00 00 00 00 00 00 00 11 B1
+table 3 => 00 00 00 03 AA 00 00 00 00 00 00 14 00 00 00 00 00 00 00 00 00 00 00 14 B1
+lookup 0 => 03 AB 00 00 00 00 00 13 00 00 00 01 FF FF FF FE 00 00 00 13 B1
+lookup 1 => 00 03 AB 00 00 00 00 12 00 00 00 01 FF FF FF FE 00 00 00 12 B1
+lookup 2 => 00 00 03 AB 00 00 00 11 00 00 00 01 FF FF FF FE 00 00 00 11 B1
+lookup 3 => 00 00 00 03 AB 00 00 00 00 00 00 14 00 00 00 01 FF FF FF FE 00 00 00 14 B1";
+
+// The instructions of a row.
+fn padded(alloc: Global, row: &str) -> Result<Vec<Instr>, Fail> {
+    let (kind, count) = row.split_once(" ").ok_or("a count")?;
+    let count = count.parse::<u32>()?;
+    let target = count.saturating_add(2);
+    let switch = match kind {
+        "table" => table_to(alloc, target)?,
+        _ => lookup_to(alloc, target)?,
+    };
+    Ok(switch_behind(alloc, count, switch)?)
 }
 
-/// The default, the count, the key and the target stand at a multiple of four
-/// (JVMS 6.5 lookupswitch).
 #[test]
-fn lookups_are_padded(rt: HostRuntime) -> Result<(), Fail> {
-    let cases: [(u32, &[u8]); 4] = [
-        (
-            0,
-            &[
-                3, 0xAB, 0, 0, 0, 0, 0, 19, 0, 0, 0, 1, 255, 255, 255, 254, 0, 0, 0, 19, 0xB1,
-            ],
-        ),
-        (
-            1,
-            &[
-                0, 3, 0xAB, 0, 0, 0, 0, 18, 0, 0, 0, 1, 255, 255, 255, 254, 0, 0, 0, 18, 0xB1,
-            ],
-        ),
-        (
-            2,
-            &[
-                0, 0, 3, 0xAB, 0, 0, 0, 17, 0, 0, 0, 1, 255, 255, 255, 254, 0, 0, 0, 17, 0xB1,
-            ],
-        ),
-        (
-            3,
-            &[
-                0, 0, 0, 3, 0xAB, 0, 0, 0, 0, 0, 0, 20, 0, 0, 0, 1, 255, 255, 255, 254, 0, 0, 0,
-                20, 0xB1,
-            ],
-        ),
-    ];
-    for (count, want) in cases {
-        let switch = lookup_to(rt.alloc(), count.saturating_add(2))?;
-        let instructions = switch_behind(rt.alloc(), count, switch)?;
-        assert_code(&rt, instructions, want)?;
+fn switches_are_padded(rt: HostRuntime) -> Result<(), Fail> {
+    for line in PADDED.lines() {
+        let (row, want) = line.split_once(" => ").ok_or("a row without ` => `")?;
+        let want = bytes_of(rt.alloc(), want)?;
+        assert_code(&rt, padded(rt.alloc(), row)?, &want)?;
     }
+    assert!(rt; PADDED.lines().count() == 8);
     Ok(())
 }
 
