@@ -1,10 +1,10 @@
 // Making objects most of which are garbage, and marking those that are not.
 
 ghost use Rattle.std.specs.Prelude.{IfOk};
-ghost use Rattle.jm_heap_tests.specs.Ready.{IsReady};
+ghost use Rattle.jm_mutator.specs.Ready.{IsReady};
 
 use jm_heap::{Kind, PlainHeap, Shape};
-use jm_heap_tests::{Failure, Mutator};
+use jm_mutator::{Failure, Mutator};
 use jm_program::OperandType;
 use std::alloc::Global;
 
@@ -23,7 +23,7 @@ fn node<'a>() -> Shape<'a> {
 }
 
 // A heap with so many objects in registers.
-#[tactic(auto, using(jm_heap_tests::proofs::ReadyLemmas::empty_sound))]
+#[tactic(auto, using(jm_mutator::proofs::ReadyLemmas::empty_sound))]
 fn held(alloc: Global, count: usize) -> Result<Mutator<PlainHeap>, Failure>
     ensures { IfOk result (λ mutator. IsReady mutator.heap mutator.registers) }
 {

@@ -1,4 +1,4 @@
-use Rattle.jm_heap_tests.specs.Ready.{IsReady}
+use Rattle.jm_mutator.specs.Ready.{IsReady}
 use Rattle.jm_bench.proofs.heap.garbage.Given as goal
 
 abbrev pub invariant-loop-number : goal.invariant-loop-number

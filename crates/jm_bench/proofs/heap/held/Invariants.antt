@@ -1,4 +1,4 @@
-use Rattle.jm_heap_tests.specs.Ready.{IsReady}
+use Rattle.jm_mutator.specs.Ready.{IsReady}
 use Rattle.jm_bench.proofs.heap.held.Given as goal
 
 abbrev pub invariant-loop : goal.invariant-loop

@@ -1,5 +1,0 @@
-use Rattle.jm_heap_tests.specs.Ready.{IsReady}
-use Rattle.jm_heap_tests.proofs.limits.fills_to_the_limit.Given as goal
-
-abbrev pub invariant-loop : goal.invariant-loop
-invariant-loop g l = IsReady (g.H.Heap.content l.mutator.heap) l.mutator.registers

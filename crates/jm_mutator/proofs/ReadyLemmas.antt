@@ -1,0 +1,106 @@
+-- A heap and the places of a mutator, from call to call.
+use Rattle.std.proofs.Common.{◌≡◌, ◌⊎◌, ℕ, zero, suc, ◌<◌, List, [], ◌∷◌, ◌++◌, Some, refl, sym, ◌∙◌, subst, inl, inr, length, arith}
+use Rattle.std.specs.Prelude.{slice_get, slice_set}
+use Rattle.jm_values.specs.declared.value.Value.{Value}
+use Rattle.jm_values.specs.Shape.{Among}
+use Rattle.jm_world.specs.Objects.{ObjectOf}
+use Rattle.jm_world.specs.Content.{Content, IsSound, AllResident, Kept, Made, IsSet, HasValue, serial_at, object_at}
+use Rattle.jm_heap.specs.Allocation.{MadeHere}
+use Rattle.jm_heap.specs.declared.class_id.ClassId.{ClassId}
+use Rattle.jm_mutator.specs.Ready.{IsReady}
+
+pub none_ready : {T : Type 0} (c : Content T) → IsSound c → IsReady c []
+none_ready c s = record { sound = s; resident = λ p a. absurd a }
+
+pub among_read : (ps : List ℕ) (i p : ℕ) → slice_get ps i ≡ Some p → Among p ps
+among_read [] i p e = cc
+among_read (q ∷ ps) zero p e = inl (cc)
+among_read (q ∷ ps) (suc i) p e = inr (among_read ps i p e)
+
+-- the object at a place that is held
+pub object_held : {T : Type 0} (c : Content T) (ps : List ℕ) (p : ℕ) → IsReady c ps → Among p ps → (k : ℕ) × (o : ObjectOf T) × (serial_at c p ≡ Some k) × (object_at c k ≡ Some o)
+object_held c ps p r a =
+    let t = r.resident p a in
+    let o = r.sound.whole p t.0 t.1 in
+    (t.0, o.0, t.1, o.1)
+
+read_within : (vs : List Value) (i : ℕ) → i < length vs → (v : Value) × (slice_get vs i ≡ Some v)
+read_within [] i h = absurd (omega arith)
+read_within (v ∷ vs) zero h = (v, refl)
+read_within (v ∷ vs) (suc i) h = read_within vs i (omega arith)
+
+-- the value of a number below the length
+pub value_held : {T : Type 0} (c : Content T) (ps : List ℕ) (p i n : ℕ) → IsReady c ps → Among p ps → ((k : ℕ) (o : ObjectOf T) → serial_at c p ≡ Some k → object_at c k ≡ Some o → n ≡ length o.values) → i < n → (v : Value) × HasValue c p i v
+value_held c ps p i n r a h w =
+    let t = object_held c ps p r a in
+    let many = h t.0 t.1 t.2 t.3 in
+    let v = read_within t.1.values i (omega (arith, many, w)) in
+    (v.0, (t.0, t.1, t.2, t.3, v.1))
+
+one_more : (q p : ℕ) (ps : List ℕ) → Among q (ps ++ p ∷ []) → Among q ps ⊎ (q ≡ p)
+one_more q p [] (inl e) = inr e
+one_more q p [] (inr a) = absurd a
+one_more q p (x ∷ ps) (inl e) = inl (inl e)
+one_more q p (x ∷ ps) (inr a) = by (one_more q p ps a)
+  where
+    by : Among q ps ⊎ (q ≡ p) → ((q ≡ x) ⊎ Among q ps) ⊎ (q ≡ p)
+    by (inl b) = inl (inr b)
+    by (inr e) = inr e
+
+pub held_with : {T : Type 0} (c : Content T) (ps : List ℕ) (p : ℕ) → IsReady c ps → (k : ℕ) × (serial_at c p ≡ Some k) → IsReady c (ps ++ p ∷ [])
+held_with c ps p r t = record { sound = r.sound; resident = λ q a. by q (one_more q p ps a) }
+  where
+    by : (q : ℕ) → Among q ps ⊎ (q ≡ p) → (k : ℕ) × (serial_at c q ≡ Some k)
+    by q (inl a) = r.resident q a
+    by q (inr e) = (t.0, subst (λ n. serial_at c n ≡ Some t.0) (sym e) t.1)
+
+one_changed : (q p i : ℕ) (ps : List ℕ) → Among q (slice_set ps i p) → Among q ps ⊎ (q ≡ p)
+one_changed q p i [] a = absurd a
+one_changed q p zero (x ∷ ps) (inl e) = inr e
+one_changed q p zero (x ∷ ps) (inr a) = inl (inr a)
+one_changed q p (suc i) (x ∷ ps) (inl e) = inl (inl e)
+one_changed q p (suc i) (x ∷ ps) (inr a) = by (one_changed q p i ps a)
+  where
+    by : Among q ps ⊎ (q ≡ p) → ((q ≡ x) ⊎ Among q ps) ⊎ (q ≡ p)
+    by (inl b) = inl (inr b)
+    by (inr e) = inr e
+
+held_at : {T : Type 0} (c : Content T) (ps : List ℕ) (i p : ℕ) → IsReady c ps → (k : ℕ) × (serial_at c p ≡ Some k) → IsReady c (slice_set ps i p)
+held_at c ps i p r t = record { sound = r.sound; resident = λ q a. by q (one_changed q p i ps a) }
+  where
+    by : (q : ℕ) → Among q ps ⊎ (q ≡ p) → (k : ℕ) × (serial_at c q ≡ Some k)
+    by q (inl a) = r.resident q a
+    by q (inr e) = (t.0, subst (λ n. serial_at c n ≡ Some t.0) (sym e) t.1)
+
+pub held_in : {T : Type 0} (c : Content T) (ps changed : List ℕ) (i p : ℕ) → IsReady c ps → AllResident c (p ∷ []) → changed ≡ slice_set ps i p → IsReady c changed
+held_in c ps changed i p r h e = rw e (held_at c ps i p r (h p (inl refl)))
+
+pub kept_ready : {T : Type 0} (old new : Content T) (roots moved : List ℕ) → Kept old roots new moved → IsReady new moved
+kept_ready old new roots moved k = record { sound = k.sound; resident = k.resident }
+
+pub set_ready : {T : Type 0} (old new : Content T) (ps : List ℕ) (p i : ℕ) (v : Value) → IsReady old ps → IsSet old new p i v → IsReady new ps
+set_ready old new ps p i v r s = record { sound = s.sound; resident = λ q a. let t = r.resident q a in (t.0, s.serials q ∙ t.1) }
+
+pub one_resident : {T : Type 0} (c : Content T) (ps : List ℕ) (p : ℕ) → IsReady c ps → Among p ps → AllResident c (p ∷ [])
+one_resident c ps p r a q (inl e) = r.resident q (subst (λ n. Among n ps) (sym e) a)
+one_resident c ps p r a q (inr b) = absurd b
+
+placed_resident : {T : Type 0} (c : Content T) (p k : ℕ) → serial_at c p ≡ Some k → AllResident c (p ∷ [])
+placed_resident c p k e q (inl i) = (k, subst (λ n. serial_at c n ≡ Some k) (sym i) e)
+placed_resident c p k e q (inr b) = absurd b
+
+pub made_ready : {T : Type 0} (headers : T → ℕ) (old : Content T) (roots : List ℕ) (new : Content T) (moved pushed : List ℕ) (p : ℕ) (o : ObjectOf T) → Made headers old roots new moved p o → pushed ≡ moved ++ p ∷ [] → IsReady new pushed
+made_ready headers old roots new moved pushed p o m e = rw e (held_with new moved p (kept_ready old new roots moved m.kept) (old.next, m.placed))
+
+pub made_place : {T : Type 0} (headers : T → ℕ) (old : Content T) (roots : List ℕ) (new : Content T) (moved : List ℕ) (p : ℕ) (o : ObjectOf T) → Made headers old roots new moved p o → IsReady new moved × AllResident new (p ∷ [])
+made_place headers old roots new moved p o m = (kept_ready old new roots moved m.kept, placed_resident new p old.next m.placed)
+
+pub made_here_ready : (old new : Content ClassId) (ps : List ℕ) (p : ℕ) (o : ObjectOf ClassId) → IsReady old ps → MadeHere old new p o → IsReady new ps × AllResident new (p ∷ [])
+made_here_ready old new ps p o r m =
+    let made = m.made ps r.resident in
+    (kept_ready old new ps ps made.kept, placed_resident new p old.next made.placed)
+
+-- nothing lies in an empty heap
+pub empty_sound : {T : Type 0} (limit next : ℕ) → IsSound {T = T} (record { limit = limit; next = next; residents = [] })
+unfolding serial_at
+empty_sound limit next = record { one_to_one = λ p q k e f. cc; below = λ p k e. cc; whole = λ p k e. cc }
