@@ -3,7 +3,7 @@
 ghost use Rattle.std.specs.Prelude.{◌≡◌, Some};
 ghost use Rattle.jm_program.specs.declared.class.ClassParts.{ClassParts};
 ghost use Rattle.jm_world.specs.Classes.{class_named};
-ghost use Rattle.jm_world.specs.Loads.{superclass_refusal, interface_of_kind, parents_refusal, first_of_all};
+ghost use Rattle.jm_world.specs.Loads.{is_strange_interface, superclass_refusal, interface_of_kind, parents_refusal, first_of_all};
 ghost use Rattle.jm_linker.specs.Answers.{Answers};
 
 use crate::classes::Classes;
@@ -12,20 +12,26 @@ use crate::name::is_sealed;
 use jm_program::{AccessFlags, ClassParts, Name};
 use std::alloc::Global;
 
-fn check_superclass(
-    alloc: Global,
-    classes: &Classes,
-    superclass: &Option<Name>,
-) -> Result<(), LinkFault>
-    ensures { Answers result (superclass_refusal classes.now.program.now superclass.now) }
+// Whether it is an interface, and its superclass another one than java/lang/Object (JVMS 4.1).
+fn is_strange_interface(class: &ClassParts, superclass: &Name) -> bool
+    ensures { result ≡ is_strange_interface class.now superclass.now }
 {
-    let Some(name) = superclass else {
+    class.flags.has(AccessFlags::INTERFACE) && !superclass.is_object()
+}
+
+fn check_superclass(alloc: Global, classes: &Classes, class: &ClassParts) -> Result<(), LinkFault>
+    ensures { Answers result (superclass_refusal classes.now.program.now class.now class.now.superclass) }
+{
+    let Some(name) = &class.superclass else {
         return Ok(());
     };
     match classes.find(name) {
         None => Err(no_class(alloc, name)),
-        Some(class) => {
-            if class.flags.has(AccessFlags::INTERFACE) || is_sealed(name) {
+        Some(above) => {
+            if above.flags.has(AccessFlags::INTERFACE)
+                || is_sealed(name)
+                || is_strange_interface(class, name)
+            {
                 return Err(wrong_kind(alloc, name));
             }
             Ok(())
@@ -56,11 +62,11 @@ fn check_interfaces(alloc: Global, classes: &Classes, names: &[Name]) -> Result<
     Ok(())
 }
 
-/// That the superclass is there and can be extended, and the superinterfaces are there and are
-/// interfaces.
+/// That the superclass is there and can be extended, by an interface only java/lang/Object, and the
+/// superinterfaces are there and are interfaces.
 pub fn check_parents(alloc: Global, classes: &Classes, class: &ClassParts) -> Result<(), LinkFault>
     ensures { Answers result (parents_refusal classes.now.program.now class.now) }
 {
-    check_superclass(alloc, classes, &class.superclass)?;
+    check_superclass(alloc, classes, class)?;
     check_interfaces(alloc, classes, class.interfaces.as_slice())
 }

@@ -4,7 +4,7 @@ ghost use Rattle.std.specs.Prelude.{◌≡◌, option_copied};
 ghost use Rattle.jm_program.specs.declared.class.ClassParts.{ClassParts};
 ghost use Rattle.jm_program.specs.declared.class.Method.{Method};
 ghost use Rattle.jm_world.specs.Classes.{class_named};
-ghost use Rattle.jm_world.specs.Loads.{class_refusal, element_refusal, ref_refusal, is_static_use, is_stored, same_bool, found_field_refusal, field_refusal, is_interface_use, is_special_use, is_static_call, found_method_refusal, named_class_refusal, method_refusal, new_refusal, instruction_refusal, catch_refusal, method_code_refusal, first_of_all};
+ghost use Rattle.jm_world.specs.Loads.{class_refusal, element_refusal, ref_refusal, is_static_use, is_stored, same_bool, found_field_refusal, field_refusal, is_interface_use, is_special_use, is_static_call, init_refusal, found_method_refusal, named_class_refusal, method_refusal, new_refusal, instruction_refusal, catch_refusal, method_code_refusal, first_of_all};
 ghost use Rattle.jm_linker.specs.Answers.{Answers};
 ghost use Rattle.jm_linker.specs.Found.{found_field, found_method};
 
@@ -139,6 +139,16 @@ fn is_static_call(op: InvokeOp) -> bool
     }
 }
 
+// That <init> is invoked by invokespecial alone.
+fn check_init(alloc: Global, op: InvokeOp, name: &Name) -> Result<(), LinkFault>
+    ensures { Answers result (init_refusal op name.now) }
+{
+    if name.is_init() && !is_special_use(op) {
+        return Err(wrong_kind(alloc, name));
+    }
+    Ok(())
+}
+
 fn check_found_method(
     alloc: Global,
     op: InvokeOp,
@@ -153,9 +163,6 @@ fn check_found_method(
     let Some(found) = find_method(class.methods.as_slice(), &method.name, &method.descriptor) else {
         return Err(no_method(alloc, &method.name));
     };
-    if method.name.is_init() && !is_special_use(op) {
-        return Err(wrong_kind(alloc, &method.name));
-    }
     if !are_same(found.flags.has(AccessFlags::STATIC), is_static_call(op)) {
         return Err(wrong_kind(alloc, &method.name));
     }
@@ -196,11 +203,13 @@ fn check_method(
     match &method.class {
         ClassRef::Class(name) => {
             check_receiver(alloc, classes, op, name)?;
+            check_init(alloc, op, &method.name)?;
             let class = find_method_class(alloc, classes, method, name)?;
             check_found_method(alloc, op, method, class)
         }
         ClassRef::Array(array) => {
             check_element(alloc, classes, &array.element)?;
+            check_init(alloc, op, &method.name)?;
             Err(no_method(alloc, &method.name))
         }
     }

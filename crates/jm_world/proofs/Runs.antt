@@ -10,5 +10,6 @@ pub mod Methods
 pub mod OperandStack
 pub mod Schedules
 pub mod Loads
+pub mod LoadRules
 pub mod Arrays
 pub mod Calls

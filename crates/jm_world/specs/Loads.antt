@@ -19,7 +19,7 @@ use Rattle.jm_program.specs.declared.instruction.operation.FieldOp.TheVariants.{
 use Rattle.jm_program.specs.declared.instruction.operation.InvokeOp.{InvokeOp}
 use Rattle.jm_program.specs.declared.instruction.operation.InvokeOp.TheVariants.{Special, Static, Interface}
 use Rattle.jm_builtins.specs.List.{the_builtins}
-use Rattle.jm_world.specs.Classes.{FoundField, FoundMethod, class_named, built_in_named, height, field_in, method_in, string_class, system_class, print_stream_class}
+use Rattle.jm_world.specs.Classes.{FoundField, FoundMethod, class_named, built_in_named, height, field_in, method_in, object_class, string_class, system_class, print_stream_class}
 use Rattle.jm_world.specs.Hierarchy.{parents, holds_of_any, is_below}
 use Rattle.jm_world.specs.Resolution.{resolve_method}
 use Rattle.jm_world.specs.Fields.{resolved_field}
@@ -76,21 +76,26 @@ duplicate_members c = or_else (duplicate_fields [] c.fields) (duplicate_methods 
 abbrev pub is_sealed : List ℕ → Bool
 is_sealed name = same_text name string_class || same_text name system_class || same_text name print_stream_class
 
--- the superclass is there and is a class that can be extended; the superinterfaces are interfaces
-abbrev pub superclass_of_kind : List ℕ → Option ClassParts → Option Refusal
-superclass_of_kind name None = Some (no_class name)
-superclass_of_kind name (Some c) = when (is_interface c.flags || is_sealed name) (wrong_kind name)
+-- an interface whose superclass is another one than java/lang/Object (JVMS 4.1)
+abbrev pub is_strange_interface : ClassParts → List ℕ → Bool
+is_strange_interface c superclass = is_interface c.flags && not (same_text superclass object_class)
 
-abbrev pub superclass_refusal : List ClassParts → Option (List ℕ) → Option Refusal
-superclass_refusal program None = None
-superclass_refusal program (Some name) = superclass_of_kind name (class_named program name)
+-- the superclass is there and is a class that can be extended, java/lang/Object where an interface
+-- names it; the superinterfaces are interfaces
+abbrev pub superclass_of_kind : ClassParts → List ℕ → Option ClassParts → Option Refusal
+superclass_of_kind c name None = Some (no_class name)
+superclass_of_kind c name (Some above) = when (is_interface above.flags || is_sealed name || is_strange_interface c name) (wrong_kind name)
+
+abbrev pub superclass_refusal : List ClassParts → ClassParts → Option (List ℕ) → Option Refusal
+superclass_refusal program c None = None
+superclass_refusal program c (Some name) = superclass_of_kind c name (class_named program name)
 
 abbrev pub interface_of_kind : List ℕ → Option ClassParts → Option Refusal
 interface_of_kind name None = Some (no_class name)
 interface_of_kind name (Some c) = when (not (is_interface c.flags)) (wrong_kind name)
 
 abbrev pub parents_refusal : List ClassParts → ClassParts → Option Refusal
-parents_refusal program c = or_else (superclass_refusal program c.superclass) (first_of_all (λ name. interface_of_kind name (class_named program name)) c.interfaces)
+parents_refusal program c = or_else (superclass_refusal program c c.superclass) (first_of_all (λ name. interface_of_kind name (class_named program name)) c.interfaces)
 
 -- no class is above itself, superclasses and superinterfaces taken together (JVMS 5.3.5)
 abbrev pub cycle_refusal : List ClassParts → ClassParts → Option Refusal
@@ -137,8 +142,9 @@ found_field_refusal op name (Some found) = or_else
 abbrev pub field_refusal : List ClassParts → FieldOp → FieldRef → Option Refusal
 field_refusal program op f = or_else (ref_refusal program f.class) (found_field_refusal op f.name (resolved_field program f f.class))
 
--- invokeinterface names an interface, and the others a class; the method is found; <init> is
--- invoked by invokespecial alone; a static method by invokestatic alone
+-- invokeinterface names an interface, and the others a class; <init> is invoked by invokespecial
+-- alone, also where no class declares it; the method is found; a static method is invoked by
+-- invokestatic alone
 abbrev pub is_interface_use : InvokeOp → Bool
 is_interface_use Interface = true
 is_interface_use _ = false
@@ -151,21 +157,26 @@ abbrev pub is_static_call : InvokeOp → Bool
 is_static_call Static = true
 is_static_call _ = false
 
+abbrev pub init_refusal : InvokeOp → List ℕ → Option Refusal
+init_refusal op name = when (is_init name && not (is_special_use op)) (wrong_kind name)
+
 abbrev pub found_method_refusal : InvokeOp → List ℕ → Option FoundMethod → Option Refusal
 found_method_refusal op name None = Some (no_method name)
-found_method_refusal op name (Some found) = or_else
-    (when (is_init name && not (is_special_use op)) (wrong_kind name))
-    (when (not (same_bool (is_static found.method.flags) (is_static_call op))) (wrong_kind name))
+found_method_refusal op name (Some found) = when (not (same_bool (is_static found.method.flags) (is_static_call op))) (wrong_kind name)
 
 abbrev pub named_class_refusal : InvokeOp → List ℕ → Option ClassParts → Option Refusal
 named_class_refusal op class None = Some (no_class class)
 named_class_refusal op class (Some c) = when (not (same_bool (is_interface c.flags) (is_interface_use op))) (wrong_kind class)
 
 abbrev pub method_refusal : List ClassParts → InvokeOp → MethodRef → ClassRef → Option Refusal
-method_refusal program op m (named.Class class) = or_else
-    (named_class_refusal op class (class_named program class))
-    (found_method_refusal op m.name (resolve_method program class m.name m.descriptor))
-method_refusal program op m (named.Array t) = or_else (element_refusal program t.element) (Some (no_method m.name))
+method_refusal program op m (named.Class class) =
+    or_else (named_class_refusal op class (class_named program class))
+    (or_else (init_refusal op m.name)
+    (found_method_refusal op m.name (resolve_method program class m.name m.descriptor)))
+method_refusal program op m (named.Array t) =
+    or_else (element_refusal program t.element)
+    (or_else (init_refusal op m.name)
+    (Some (no_method m.name)))
 
 -- new makes no interface, no abstract class, and no String, System or PrintStream
 abbrev pub new_refusal : List ℕ → Option ClassParts → Option Refusal
