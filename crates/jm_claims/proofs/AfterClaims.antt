@@ -28,6 +28,14 @@ below_more h k i p r b b' won lost le lt a =
     (λ e. subst (λ (g : Hand). All (λ w. w.1 < b') g.wins) (sym (won e)) (All-push (λ w. w.1 < b') h.wins (i, p) up lt))
     (λ ne. subst (λ (g : Hand). All (λ w. w.1 < b') g.wins) (sym (lost ne)) up)
 
+-- its wins are of the indexes so far
+pub within_more : (h k : Hand) (i p r : ℕ) → (r ≡ p → k ≡ winning h i p) → (r ≢ p → k ≡ knowing h i r) → All (λ w. w.0 < i) h.wins → All (λ w. w.0 < i + 1) k.wins
+within_more h k i p r won lost a =
+    let up : All (λ w. w.0 < i + 1) h.wins = All-weaker (λ w. w.0 < i) (λ w. w.0 < i + 1) (λ w l. omega arith) h.wins a in
+    dite (ℕ_discrete r p)
+    (λ e. subst (λ (g : Hand). All (λ w. w.0 < i + 1) g.wins) (sym (won e)) (All-push (λ w. w.0 < i + 1) h.wins (i, p) up (omega arith)))
+    (λ ne. subst (λ (g : Hand). All (λ w. w.0 < i + 1) g.wins) (sym (lost ne)) up)
+
 pub numbers_same : (h k : Hand) (i p r : ℕ) → (r ≡ p → k ≡ winning h i p) → (r ≢ p → k ≡ knowing h i r) → (k.copier ≡ h.copier) × (k.copiers ≡ h.copiers)
 numbers_same h k i p r won lost = dite (ℕ_discrete r p)
     (λ e. (ap (λ (g : Hand). g.copier) (won e), ap (λ (g : Hand). g.copiers) (won e)))

@@ -5,7 +5,7 @@ use native.Mathlib.Decide.{ℕ_discrete}
 use Rattle.std.specs.Prelude.{slice_index_or}
 use Rattle.std.specs.List.{All, Contains}
 use Rattle.std.proofs.lemmas.List.{length_push}
-use Rattle.std.proofs.lemmas.List.Elements.{All-head, All-cons, All-nil, Contains-append_left}
+use Rattle.std.proofs.lemmas.List.Elements.{All-head, All-cons, All-nil, All-append, Contains-append_left}
 use Rattle.atomic_table.specs.Seated.{TableId}
 use Rattle.jm_forward.specs.declared.rule.Hand.{Hand}
 use Rattle.jm_forward.specs.Hands.{TableView, SeatView, seat_of, fresh, hands_from, times_index, times_place, one_at, weigh, all_wins, all_known, AreAll, Agree}
@@ -75,6 +75,11 @@ hands_of cs = map (λ (c : Copier). c.seat.hand) cs
 pub wins_are : (w : TableView) (b : ℕ) (cs : List Copier) → AreDone w b cs → won_by_all (map (λ (c : Copier). c.won) cs) ≡ all_wins (hands_of cs)
 wins_are w b [] a = refl
 wins_are w b (c ∷ cs) a = (λ t. a.0.3 t ++ wins_are w (b + 1) cs a.1 t)
+
+-- and each is of an index of the table
+pub all_within : (w : TableView) (b : ℕ) (cs : List Copier) → AreDone w b cs → All (λ (x : ℕ × ℕ). x.0 < w.objects) (won_by_all (map (λ (c : Copier). c.won) cs))
+all_within w b [] a = All-nil (λ (x : ℕ × ℕ). x.0 < w.objects)
+all_within w b (c ∷ cs) a = All-append (λ (x : ℕ × ℕ). x.0 < w.objects) c.won.items (won_by_all (map (λ (c : Copier). c.won) cs)) a.0.5 (all_within w (b + 1) cs a.1)
 
 number_among : (w : TableView) (b : ℕ) (cs : List Copier) → AreDone w b cs → (c : ℕ) → b ≤ c → c < b + length cs → 0 < weigh (λ (h : Hand). one_at c h.copier) (hands_of cs)
 number_among w b [] a c l m = absurd (omega arith)

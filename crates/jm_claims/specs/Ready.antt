@@ -1,6 +1,6 @@
 -- Copiers before and after they have claimed every index.
 use Rattle.std.specs.Prelude.{◌≡◌, ℕ, ◌+◌, ◌<◌, ◌≤◌, List, [], ◌∷◌, ◌++◌, Vec, vec_capacity}
-use Rattle.std.specs.List.{Contains}
+use Rattle.std.specs.List.{All, Contains}
 use Rattle.jm_forward.specs.Hands.{TableView, seat_of, fresh}
 use Rattle.jm_claims.specs.declared.copier.Copier.{Copier}
 
@@ -9,11 +9,11 @@ abbrev pub IsReady : TableView → ℕ → Copier → Type 0
 IsReady words number c =
     (c.seat ≡ seat_of words.table (fresh words.copiers number)) × (number < words.copiers) × (c.won.items ≡ []) × (words.objects ≤ vec_capacity c.won)
 
--- it has claimed every index, and these are its wins
+-- it has claimed every index of the table and no other, and these are its wins
 abbrev pub IsDone : TableView → ℕ → Copier → Type 0
 IsDone words number c =
     (c.seat.table ≡ words.table) × (c.seat.hand.copier ≡ number) × (c.seat.hand.copiers ≡ words.copiers) × (c.won.items ≡ c.seat.hand.wins)
-    × ((i : ℕ) → i < words.objects → (p : ℕ) × Contains c.seat.hand.known (i, p))
+    × ((i : ℕ) → i < words.objects → (p : ℕ) × Contains c.seat.hand.known (i, p)) × All (λ w. w.0 < words.objects) c.won.items
 
 -- copiers in the order of their numbers
 abbrev pub AreReady : TableView → ℕ → List Copier → Type 0

@@ -1,6 +1,7 @@
 // Many copiers.
 
 ghost use Rattle.std.specs.Prelude.{◌≡◌, ℕ, ◌<◌, ◌≤◌, ◌^◌, ◌++◌, [], map, length, vec_capacity, vec_len, IfOk, slice_index_or};
+ghost use Rattle.std.specs.List.{All};
 ghost use Rattle.jm_forward.specs.Hands.{hands_from, seat_of, times_index, times_place};
 ghost use Rattle.jm_claims.specs.Ready.{IsReady, IsDone, AreReady, AreDone, won_by_all};
 
@@ -70,8 +71,8 @@ fn take_apart(
 }
 
 /// So many copiers (1 to 16) claim all of so many indexes (below 2^32), each in a thread of its
-/// own: what each of them has won, in the order of the copiers. Each index is won once, and no
-/// place is won twice, whichever way the threads run. `AllocError`: a growth was refused.
+/// own: what each of them has won, in the order of the copiers. Each index is won once, no
+/// other number is, and no place is won twice, whichever way the threads run. `AllocError`: a growth was refused.
 pub fn claim_by_copiers<R: Threads + Sync>(
     rt: &R,
     alloc: Global,
@@ -81,6 +82,7 @@ pub fn claim_by_copiers<R: Threads + Sync>(
     requires objects { objects < 2 ^ 32 }
     requires copiers { (0 < copiers) × (copiers ≤ 16) }
     ensures each { IfOk result (λ wins. length wins.items ≡ copiers) }
+    ensures within { IfOk result (λ wins. All (λ w. w.0 < objects) (won_by_all wins.items)) }
     ensures once { IfOk result (λ wins. (i : ℕ) → i < objects → times_index i (won_by_all wins.items) ≡ 1) }
     ensures apart { IfOk result (λ wins. (p : ℕ) → times_place p (won_by_all wins.items) ≤ 1) }
 {

@@ -1,6 +1,6 @@
 use Rattle.std.proofs.Common.{ℕ, ◌+◌, ◌*◌, ◌++◌, [], ◌∷◌, sym, ap, ◌∙◌, arith, vec_len, vec_capacity}
 use Rattle.jm_forward.specs.declared.rule.Hand.{Hand}
-use Rattle.jm_claims.proofs.AfterClaims.{new_above, known_more, below_more, numbers_same}
+use Rattle.jm_claims.proofs.AfterClaims.{new_above, known_more, below_more, within_more, numbers_same}
 use Rattle.jm_claims.proofs.copier.claim_all.Goals as goal
 use Rattle.jm_claims.proofs.copier.claim_all.Goals.{then-number-offered, else-number-offered}
 
@@ -17,6 +17,7 @@ loop-index-preserved c =
       copier = same.0 ∙ i.copier;
       copiers = same.1 ∙ i.copiers;
       below = below_more _ _ _ _ _ _ _ e.won e.lost (omega arith) (omega (arith, c.new.ensures, ap (λ (k : ℕ). (c.loop-index.index + 1) * k) c.copiers.ensures, c.requires.ready.1)) i.below;
+      within = within_more _ _ _ _ _ e.won e.lost i.within;
       known = known_more _ _ _ _ _ e.won e.lost i.known;
       won = elim c.if-number-offered.branch [
         | then-number-offered w ↦
