@@ -102,6 +102,8 @@ narrow_int (Base base.Short) n = conversion_of IntToShort n
 narrow_int (Base base.Boolean) n = pos (cast_unsigned w32 n % 2)
 narrow_int _ n = n
 
+-- an int narrows by the element alone, whatever the dimensions: a variable of an array type holds
+-- no int
 abbrev pub narrow : FieldType → Value → Value
 narrow t (Int n) = Int (narrow_int t.element n)
 narrow t v = v
