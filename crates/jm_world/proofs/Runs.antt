@@ -1,5 +1,6 @@
 -- Closed runs: what the definitions make of programs that are written out, by computation.
 pub mod Computed
+pub mod Words
 pub mod Arithmetic
 pub mod Exceptions
 pub mod Threads
@@ -13,3 +14,7 @@ pub mod Loads
 pub mod LoadRules
 pub mod Arrays
 pub mod Calls
+pub mod Narrowing
+pub mod BeginningClasses
+pub mod Handlers
+pub mod Longs
