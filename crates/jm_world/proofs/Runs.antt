@@ -17,4 +17,8 @@ pub mod Calls
 pub mod Narrowing
 pub mod BeginningClasses
 pub mod Handlers
+pub mod Receivers
+pub mod Operands
 pub mod Longs
+pub mod Assignability
+pub mod Printing
