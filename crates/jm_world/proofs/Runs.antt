@@ -22,3 +22,8 @@ pub mod Operands
 pub mod Longs
 pub mod Assignability
 pub mod Printing
+pub mod Depth
+pub mod HoldingMonitors
+pub mod ThreadEntry
+pub mod Roots
+pub mod FullHeap
