@@ -11,7 +11,7 @@ pub mod Methods
 pub mod OperandStack
 pub mod Schedules
 pub mod Loads
-pub mod LoadRules
+pub mod InterfacesAndConstructors
 pub mod Arrays
 pub mod Calls
 pub mod Narrowing
@@ -27,3 +27,5 @@ pub mod HoldingMonitors
 pub mod ThreadEntry
 pub mod Roots
 pub mod FullHeap
+pub mod ChosenEvents
+pub mod LoadRules
