@@ -1,0 +1,18 @@
+.class public Main
+.super java/lang/Object
+
+.method public static main([Ljava/lang/String;)V
+    .limit stack 8
+    .limit locals 8
+    getstatic java/lang/System/out Ljava/io/PrintStream;
+    invokestatic Main/f()Z
+    invokevirtual java/io/PrintStream/println(I)V
+    return
+.end method
+
+.method static f()Z
+    .limit stack 8
+    .limit locals 8
+    ldc 2
+    ireturn
+.end method

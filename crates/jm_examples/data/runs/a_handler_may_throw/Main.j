@@ -1,0 +1,26 @@
+.class public Main
+.super java/lang/Object
+
+.method public static main([Ljava/lang/String;)V
+    .limit stack 8
+    .limit locals 8
+    .catch java/lang/ArithmeticException from A to B using H1
+    .catch java/lang/ArithmeticException from H1 to H2 using H2
+A:
+    iconst_1
+    iconst_0
+    idiv
+B:
+    return
+H1:
+    iconst_1
+    iconst_0
+    idiv
+    return
+H2:
+    pop
+    getstatic java/lang/System/out Ljava/io/PrintStream;
+    iconst_2
+    invokevirtual java/io/PrintStream/println(I)V
+    return
+.end method

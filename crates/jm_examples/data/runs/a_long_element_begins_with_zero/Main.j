@@ -1,0 +1,14 @@
+.class public Main
+.super java/lang/Object
+
+.method public static main([Ljava/lang/String;)V
+    .limit stack 8
+    .limit locals 8
+    getstatic java/lang/System/out Ljava/io/PrintStream;
+    iconst_1
+    newarray long
+    iconst_0
+    laload
+    invokevirtual java/io/PrintStream/println(J)V
+    return
+.end method

@@ -1,0 +1,19 @@
+.class public Main
+.super java/lang/Object
+
+.field f S
+
+.method public static main([Ljava/lang/String;)V
+    .limit stack 8
+    .limit locals 8
+    new Main
+    astore_1
+    aload_1
+    ldc 65535
+    putfield Main/f S
+    getstatic java/lang/System/out Ljava/io/PrintStream;
+    aload_1
+    getfield Main/f S
+    invokevirtual java/io/PrintStream/println(I)V
+    return
+.end method

@@ -1,0 +1,13 @@
+.class public Main
+.super java/lang/Object
+
+.method public static main([Ljava/lang/String;)V
+    .limit stack 8
+    .limit locals 8
+    iconst_2
+    newarray int
+    iconst_m1
+    iconst_1
+    iastore
+    return
+.end method

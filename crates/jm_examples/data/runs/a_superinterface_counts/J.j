@@ -1,0 +1,3 @@
+.interface public J
+.super java/lang/Object
+.implements I

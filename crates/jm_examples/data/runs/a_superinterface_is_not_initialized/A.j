@@ -1,0 +1,3 @@
+.class public A
+.super java/lang/Object
+.implements I

@@ -1,0 +1,12 @@
+.class public W
+.super java/lang/Thread
+
+.method public run()V
+    .limit stack 8
+    .limit locals 8
+    iconst_1
+    iconst_0
+    idiv
+    pop
+    return
+.end method

@@ -1,0 +1,12 @@
+.class public Main
+.super java/lang/Object
+
+.method public static main([Ljava/lang/String;)V
+    .limit stack 8
+    .limit locals 8
+    iconst_1
+    newarray int
+    checkcast [Ljava/lang/Object;
+    pop
+    return
+.end method

@@ -1,0 +1,2 @@
+.class public A
+.super java/lang/Object

@@ -1,0 +1,2 @@
+.interface public I
+.super java/lang/Object

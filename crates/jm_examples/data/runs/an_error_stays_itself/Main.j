@@ -1,0 +1,10 @@
+.class public Main
+.super java/lang/Object
+
+.method public static main([Ljava/lang/String;)V
+    .limit stack 8
+    .limit locals 8
+    getstatic A/x I
+    pop
+    return
+.end method

@@ -1,0 +1,3 @@
+.class public E
+.super java/lang/Exception
+.implements I

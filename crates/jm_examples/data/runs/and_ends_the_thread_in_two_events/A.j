@@ -1,0 +1,5 @@
+.class public abstract A
+.super java/lang/Thread
+
+.method public abstract run()V
+.end method

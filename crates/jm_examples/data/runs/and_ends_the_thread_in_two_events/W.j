@@ -1,0 +1,2 @@
+.class public W
+.super A

@@ -1,0 +1,4 @@
+.class public A
+.super java/lang/Object
+
+.field x I

@@ -1,0 +1,4 @@
+.class public N
+.super java/lang/Object
+
+.field public n LN;

@@ -1,0 +1,19 @@
+.class public Main
+.super java/lang/Object
+
+.method public static main([Ljava/lang/String;)V
+    .limit stack 8
+    .limit locals 8
+    getstatic java/lang/System/out Ljava/io/PrintStream;
+    new Main
+    invokevirtual Main/m()I
+    invokevirtual java/io/PrintStream/println(I)V
+    return
+.end method
+
+.method private m()I
+    .limit stack 8
+    .limit locals 8
+    iconst_3
+    ireturn
+.end method

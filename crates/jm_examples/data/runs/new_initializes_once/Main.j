@@ -1,0 +1,18 @@
+.class public Main
+.super java/lang/Object
+
+.method public static main([Ljava/lang/String;)V
+    .limit stack 8
+    .limit locals 8
+    getstatic java/lang/System/out Ljava/io/PrintStream;
+    iconst_2
+    invokevirtual java/io/PrintStream/println(I)V
+    new B
+    pop
+    new B
+    pop
+    getstatic java/lang/System/out Ljava/io/PrintStream;
+    iconst_3
+    invokevirtual java/io/PrintStream/println(I)V
+    return
+.end method

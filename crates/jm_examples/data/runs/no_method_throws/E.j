@@ -1,0 +1,3 @@
+.class public E
+.super java/lang/Object
+.implements I

@@ -1,0 +1,2 @@
+.class public B
+.super A

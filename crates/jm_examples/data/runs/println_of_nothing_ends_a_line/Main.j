@@ -1,0 +1,15 @@
+.class public Main
+.super java/lang/Object
+
+.method public static main([Ljava/lang/String;)V
+    .limit stack 8
+    .limit locals 8
+    getstatic java/lang/System/out Ljava/io/PrintStream;
+    invokevirtual java/io/PrintStream/println()V
+    getstatic java/lang/System/out Ljava/io/PrintStream;
+    bipush 65
+    invokevirtual java/io/PrintStream/println(C)V
+    getstatic java/lang/System/out Ljava/io/PrintStream;
+    invokevirtual java/io/PrintStream/println()V
+    return
+.end method

@@ -1,0 +1,10 @@
+.class public G
+.super B
+
+.method public m()I
+    .limit stack 8
+    .limit locals 8
+    aload_0
+    invokespecial A/m()I
+    ireturn
+.end method

@@ -1,0 +1,3 @@
+.class public C
+.super S
+.implements J

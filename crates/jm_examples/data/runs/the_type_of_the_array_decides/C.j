@@ -1,0 +1,3 @@
+.class public C
+.super java/lang/Object
+.implements J

@@ -1,0 +1,12 @@
+.class public A
+.super java/lang/Object
+
+.field static x I
+
+.method static <clinit>()V
+    .limit stack 8
+    .limit locals 8
+    iconst_5
+    putstatic A/x I
+    return
+.end method

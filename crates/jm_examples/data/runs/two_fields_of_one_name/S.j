@@ -1,0 +1,4 @@
+.class public S
+.super Main
+
+.field f B
