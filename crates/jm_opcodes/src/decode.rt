@@ -1,3 +1,5 @@
+//! The code of a method: its instructions one after the other, then their targets as numbers.
+
 ghost use Rattle.std.specs.Prelude.{◌≡◌, ◌<◌, ◌≤◌, length, map, List, Ok, IfOk, OnOk};
 ghost use Rattle.jm_bytes.specs.Reading.{Gives, GivesAll};
 ghost use Rattle.jm_bytes.specs.Format.{Format, Whole};

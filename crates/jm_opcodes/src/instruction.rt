@@ -1,3 +1,5 @@
+//! One instruction: its opcode, then the operands that the opcode asks for (JVMS 6.5).
+
 ghost use Rattle.std.specs.Prelude.{◌≡◌, ◌<◌, length, OnOk};
 ghost use Rattle.jm_bytes.specs.Reading.{Gives};
 ghost use Rattle.jm_bytes.specs.Format.{Format};
@@ -67,7 +69,9 @@ pub fn instruction(
     requires { at < 65536 }
     ensures { Gives (λ x. x) OutOfMemory result reader.new ((instruction at).read reader.old) }
 {
-    let byte = reader.u1().map_err(|_| CodeFault::Cut(at))?;
+    let Ok(byte) = reader.u1() else {
+        return Err(CodeFault::Cut(at));
+    };
     let opcode = opcode_of(byte).ok_or(CodeFault::BadOpcode(at))?;
     operands(alloc, at, opcode, reader)
 }

@@ -1,3 +1,6 @@
+//! The operands of each shape but those of switches (JVMS 6.5): immediate numbers, indexes of the
+//! constant pool, local variables, branch targets, and what `wide` widens.
+
 ghost use Rattle.std.specs.Prelude.{◌≡◌, ◌<◌, ◌+◌, ◌+ℤ◌, ℤ, pos, Ok, Err, IfOk};
 ghost use Rattle.jm_bytes.specs.Reading.{Takes, TakesAll};
 ghost use Rattle.jm_bytes.specs.Format.{Format};
@@ -26,7 +29,9 @@ fn near_target(at: u32, reader: &mut Reader<'_>) -> Result<u32, CodeFault>
     requires { at < 65536 }
     ensures { Takes result reader.new ((near_target at).read reader.old) }
 {
-    let jump = reader.s2().map_err(|_| CodeFault::Cut(at))?;
+    let Ok(jump) = reader.s2() else {
+        return Err(CodeFault::Cut(at));
+    };
     Ok(target_from(at, i32::from(jump)))
 }
 
@@ -36,7 +41,9 @@ pub fn far_target(at: u32, reader: &mut Reader<'_>) -> Result<u32, CodeFault>
     requires { at < 65536 }
     ensures { Takes result reader.new ((far_target at).read reader.old) }
 {
-    let jump = reader.s4().map_err(|_| CodeFault::Cut(at))?;
+    let Ok(jump) = reader.s4() else {
+        return Err(CodeFault::Cut(at));
+    };
     Ok(target_from(at, jump))
 }
 
@@ -45,7 +52,9 @@ pub fn far_target(at: u32, reader: &mut Reader<'_>) -> Result<u32, CodeFault>
 pub fn push_byte(at: u32, reader: &mut Reader<'_>) -> Result<IndexedInstr, CodeFault>
     ensures { Takes result reader.new ((operands at opcode.PushByte).read reader.old) }
 {
-    let n = reader.s1().map_err(|_| CodeFault::Cut(at))?;
+    let Ok(n) = reader.s1() else {
+        return Err(CodeFault::Cut(at));
+    };
     Ok(IndexedInstr::Plain(Plain::PushByte(n)))
 }
 
@@ -54,7 +63,9 @@ pub fn push_byte(at: u32, reader: &mut Reader<'_>) -> Result<IndexedInstr, CodeF
 pub fn push_short(at: u32, reader: &mut Reader<'_>) -> Result<IndexedInstr, CodeFault>
     ensures { Takes result reader.new ((operands at opcode.PushShort).read reader.old) }
 {
-    let n = reader.s2().map_err(|_| CodeFault::Cut(at))?;
+    let Ok(n) = reader.s2() else {
+        return Err(CodeFault::Cut(at));
+    };
     Ok(IndexedInstr::Plain(Plain::PushShort(n)))
 }
 
@@ -63,7 +74,9 @@ pub fn push_short(at: u32, reader: &mut Reader<'_>) -> Result<IndexedInstr, Code
 pub fn load_constant(at: u32, reader: &mut Reader<'_>) -> Result<IndexedInstr, CodeFault>
     ensures { Takes result reader.new ((operands at opcode.LoadConstant).read reader.old) }
 {
-    let index = reader.u1().map_err(|_| CodeFault::Cut(at))?;
+    let Ok(index) = reader.u1() else {
+        return Err(CodeFault::Cut(at));
+    };
     Ok(IndexedInstr::Constant(u16::from(index)))
 }
 
@@ -72,7 +85,9 @@ pub fn load_constant(at: u32, reader: &mut Reader<'_>) -> Result<IndexedInstr, C
 pub fn load_constant_wide(at: u32, reader: &mut Reader<'_>) -> Result<IndexedInstr, CodeFault>
     ensures { Takes result reader.new ((operands at opcode.LoadConstantWide).read reader.old) }
 {
-    let index = reader.u2().map_err(|_| CodeFault::Cut(at))?;
+    let Ok(index) = reader.u2() else {
+        return Err(CodeFault::Cut(at));
+    };
     Ok(IndexedInstr::Constant(index))
 }
 
@@ -81,7 +96,9 @@ pub fn load_constant_wide(at: u32, reader: &mut Reader<'_>) -> Result<IndexedIns
 pub fn load_long(at: u32, reader: &mut Reader<'_>) -> Result<IndexedInstr, CodeFault>
     ensures { Takes result reader.new ((operands at opcode.LoadLong).read reader.old) }
 {
-    let index = reader.u2().map_err(|_| CodeFault::Cut(at))?;
+    let Ok(index) = reader.u2() else {
+        return Err(CodeFault::Cut(at));
+    };
     Ok(IndexedInstr::LongConstant(index))
 }
 
@@ -90,7 +107,9 @@ pub fn load_long(at: u32, reader: &mut Reader<'_>) -> Result<IndexedInstr, CodeF
 pub fn load(at: u32, kind: OperandType, reader: &mut Reader<'_>) -> Result<IndexedInstr, CodeFault>
     ensures { Takes result reader.new ((operands at (opcode.Load kind)).read reader.old) }
 {
-    let local = reader.u1().map_err(|_| CodeFault::Cut(at))?;
+    let Ok(local) = reader.u1() else {
+        return Err(CodeFault::Cut(at));
+    };
     Ok(IndexedInstr::Plain(Plain::Load(kind, u16::from(local))))
 }
 
@@ -99,7 +118,9 @@ pub fn load(at: u32, kind: OperandType, reader: &mut Reader<'_>) -> Result<Index
 pub fn store(at: u32, kind: OperandType, reader: &mut Reader<'_>) -> Result<IndexedInstr, CodeFault>
     ensures { Takes result reader.new ((operands at (opcode.Store kind)).read reader.old) }
 {
-    let local = reader.u1().map_err(|_| CodeFault::Cut(at))?;
+    let Ok(local) = reader.u1() else {
+        return Err(CodeFault::Cut(at));
+    };
     Ok(IndexedInstr::Plain(Plain::Store(kind, u16::from(local))))
 }
 
@@ -136,7 +157,9 @@ pub fn far_branch(
 pub fn field(at: u32, op: FieldOp, reader: &mut Reader<'_>) -> Result<IndexedInstr, CodeFault>
     ensures { Takes result reader.new ((operands at (opcode.Field op)).read reader.old) }
 {
-    let index = reader.u2().map_err(|_| CodeFault::Cut(at))?;
+    let Ok(index) = reader.u2() else {
+        return Err(CodeFault::Cut(at));
+    };
     Ok(IndexedInstr::Field(op, index))
 }
 
@@ -145,7 +168,9 @@ pub fn field(at: u32, op: FieldOp, reader: &mut Reader<'_>) -> Result<IndexedIns
 pub fn invoke(at: u32, op: InvokeOp, reader: &mut Reader<'_>) -> Result<IndexedInstr, CodeFault>
     ensures { Takes result reader.new ((operands at (opcode.Invoke op)).read reader.old) }
 {
-    let index = reader.u2().map_err(|_| CodeFault::Cut(at))?;
+    let Ok(index) = reader.u2() else {
+        return Err(CodeFault::Cut(at));
+    };
     Ok(IndexedInstr::Invoke(op, index))
 }
 
@@ -154,7 +179,9 @@ pub fn invoke(at: u32, op: InvokeOp, reader: &mut Reader<'_>) -> Result<IndexedI
 pub fn new_object(at: u32, reader: &mut Reader<'_>) -> Result<IndexedInstr, CodeFault>
     ensures { Takes result reader.new ((operands at opcode.New).read reader.old) }
 {
-    let index = reader.u2().map_err(|_| CodeFault::Cut(at))?;
+    let Ok(index) = reader.u2() else {
+        return Err(CodeFault::Cut(at));
+    };
     Ok(IndexedInstr::New(index))
 }
 
@@ -163,7 +190,9 @@ pub fn new_object(at: u32, reader: &mut Reader<'_>) -> Result<IndexedInstr, Code
 pub fn type_index(at: u32, op: TypeOp, reader: &mut Reader<'_>) -> Result<IndexedInstr, CodeFault>
     ensures { Takes result reader.new ((operands at (opcode.Type op)).read reader.old) }
 {
-    let index = reader.u2().map_err(|_| CodeFault::Cut(at))?;
+    let Ok(index) = reader.u2() else {
+        return Err(CodeFault::Cut(at));
+    };
     Ok(IndexedInstr::Type(op, index))
 }
 
@@ -190,7 +219,9 @@ fn element_of(at: u32, code: u8) -> Result<PrimitiveType, CodeFault>
 pub fn new_array(at: u32, reader: &mut Reader<'_>) -> Result<IndexedInstr, CodeFault>
     ensures { Takes result reader.new ((new_array at).read reader.old) }
 {
-    let code = reader.u1().map_err(|_| CodeFault::Cut(at))?;
+    let Ok(code) = reader.u1() else {
+        return Err(CodeFault::Cut(at));
+    };
     let element = element_of(at, code)?;
     Ok(IndexedInstr::Array(ArrayOp::New(element)))
 }
@@ -200,9 +231,15 @@ pub fn new_array(at: u32, reader: &mut Reader<'_>) -> Result<IndexedInstr, CodeF
 pub fn invoke_interface(at: u32, reader: &mut Reader<'_>) -> Result<IndexedInstr, CodeFault>
     ensures { Takes result reader.new ((invoke_interface at).read reader.old) }
 {
-    let index = reader.u2().map_err(|_| CodeFault::Cut(at))?;
-    let count = reader.u1().map_err(|_| CodeFault::Cut(at))?;
-    let last = reader.u1().map_err(|_| CodeFault::Cut(at))?;
+    let Ok(index) = reader.u2() else {
+        return Err(CodeFault::Cut(at));
+    };
+    let Ok(count) = reader.u1() else {
+        return Err(CodeFault::Cut(at));
+    };
+    let Ok(last) = reader.u1() else {
+        return Err(CodeFault::Cut(at));
+    };
     Ok(IndexedInstr::InvokeInterface(index, count, last))
 }
 
@@ -211,8 +248,12 @@ pub fn invoke_interface(at: u32, reader: &mut Reader<'_>) -> Result<IndexedInstr
 pub fn increment(at: u32, reader: &mut Reader<'_>) -> Result<IndexedInstr, CodeFault>
     ensures { Takes result reader.new ((increment at).read reader.old) }
 {
-    let local = reader.u1().map_err(|_| CodeFault::Cut(at))?;
-    let n = reader.s1().map_err(|_| CodeFault::Cut(at))?;
+    let Ok(local) = reader.u1() else {
+        return Err(CodeFault::Cut(at));
+    };
+    let Ok(n) = reader.s1() else {
+        return Err(CodeFault::Cut(at));
+    };
     Ok(IndexedInstr::Plain(Plain::Increment(u16::from(local), i16::from(n))))
 }
 
@@ -221,8 +262,12 @@ pub fn increment(at: u32, reader: &mut Reader<'_>) -> Result<IndexedInstr, CodeF
 fn wide_increment(at: u32, reader: &mut Reader<'_>) -> Result<IndexedInstr, CodeFault>
     ensures { Takes result reader.new ((wide_increment at).read reader.old) }
 {
-    let local = reader.u2().map_err(|_| CodeFault::Cut(at))?;
-    let n = reader.s2().map_err(|_| CodeFault::Cut(at))?;
+    let Ok(local) = reader.u2() else {
+        return Err(CodeFault::Cut(at));
+    };
+    let Ok(n) = reader.s2() else {
+        return Err(CodeFault::Cut(at));
+    };
     Ok(IndexedInstr::Plain(Plain::Increment(local, n)))
 }
 
@@ -252,11 +297,15 @@ fn wide_operands(
 {
     match opcode {
         Opcode::Load(kind) => {
-            let local = reader.u2().map_err(|_| CodeFault::Cut(at))?;
+            let Ok(local) = reader.u2() else {
+                return Err(CodeFault::Cut(at));
+            };
             Ok(IndexedInstr::Plain(Plain::Load(kind, local)))
         }
         Opcode::Store(kind) => {
-            let local = reader.u2().map_err(|_| CodeFault::Cut(at))?;
+            let Ok(local) = reader.u2() else {
+                return Err(CodeFault::Cut(at));
+            };
             Ok(IndexedInstr::Plain(Plain::Store(kind, local)))
         }
         Opcode::Increment => wide_increment(at, reader),
@@ -270,7 +319,9 @@ fn wide_operands(
 pub fn wide(at: u32, reader: &mut Reader<'_>) -> Result<IndexedInstr, CodeFault>
     ensures { Takes result reader.new ((wide at).read reader.old) }
 {
-    let byte = reader.u1().map_err(|_| CodeFault::Cut(at))?;
+    let Ok(byte) = reader.u1() else {
+        return Err(CodeFault::Cut(at));
+    };
     let opcode = opcode_of(byte).ok_or(CodeFault::BadOpcode(at))?;
     wide_operands(at, opcode, reader)
 }

@@ -1,3 +1,5 @@
+//! Where the instructions of a code begin, and which instruction begins at an offset.
+
 ghost use Rattle.std.specs.Prelude.{◌≡◌, ◌==◌, ◌<◌, ◌^◌, [], List, ℕ, length, map, OnOk, IfOk};
 ghost use Rattle.std.specs.List.{position};
 ghost use Rattle.jm_class_format.specs.declared.instruction.PlacedInstr.{PlacedInstr};

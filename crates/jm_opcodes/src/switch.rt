@@ -1,3 +1,5 @@
+//! The operands of `tableswitch` and `lookupswitch` (JVMS 6.5).
+
 ghost use Rattle.std.specs.Prelude.{◌≡◌, ◌<◌, List, [], Option};
 ghost use Rattle.jm_bytes.specs.Reading.{Gives, Takes, TakesAs};
 ghost use Rattle.jm_bytes.specs.Format.{Format, many, repeated};
@@ -17,7 +19,9 @@ fn skip_padding<'a>(at: u32, reader: &mut Reader<'a>) -> Result<&'a [u8], CodeFa
     ensures { TakesAs (λ x. x.now) result reader.new ((padding at).read reader.old) }
 {
     let count = 3 - at % 4;
-    let bytes = reader.take(count as usize).map_err(|_| CodeFault::Cut(at))?;
+    let Ok(bytes) = reader.take(count as usize) else {
+        return Err(CodeFault::Cut(at));
+    };
     Ok(bytes)
 }
 
@@ -39,8 +43,12 @@ fn count_from(low: i32, high: i32) -> Option<u64>
 fn switch_range(at: u32, reader: &mut Reader<'_>) -> Result<(i32, u64), CodeFault>
     ensures { Takes result reader.new ((switch_range at).read reader.old) }
 {
-    let low = reader.s4().map_err(|_| CodeFault::Cut(at))?;
-    let high = reader.s4().map_err(|_| CodeFault::Cut(at))?;
+    let Ok(low) = reader.s4() else {
+        return Err(CodeFault::Cut(at));
+    };
+    let Ok(high) = reader.s4() else {
+        return Err(CodeFault::Cut(at));
+    };
     let count = count_from(low, high).ok_or(CodeFault::BadOpcode(at))?;
     Ok((low, count))
 }
@@ -89,7 +97,8 @@ pub fn table_switch(
 fn last_key(pairs: &[SwitchPair]) -> Option<i32>
     ensures { result ≡ last_key pairs.now }
 {
-    pairs.last().map(|pair| pair.key)
+    let pair = pairs.last()?;
+    Some(pair.key)
 }
 
 fn is_above(previous: Option<i32>, key: i32) -> bool
@@ -111,7 +120,9 @@ fn next_pair(
     requires { at < 65536 }
     ensures { Gives (λ v. v.items) OutOfMemory result reader.new ((next_pair at pairs.items).read reader.old) }
 {
-    let key = reader.s4().map_err(|_| CodeFault::Cut(at))?;
+    let Ok(key) = reader.s4() else {
+        return Err(CodeFault::Cut(at));
+    };
     if !is_above(last_key(&pairs), key) {
         return Err(CodeFault::BadOpcode(at));
     }
@@ -148,7 +159,9 @@ fn natural(n: i32) -> Option<u32>
 fn pair_count(at: u32, reader: &mut Reader<'_>) -> Result<u32, CodeFault>
     ensures { Takes result reader.new ((pair_count at).read reader.old) }
 {
-    let count = reader.s4().map_err(|_| CodeFault::Cut(at))?;
+    let Ok(count) = reader.s4() else {
+        return Err(CodeFault::Cut(at));
+    };
     let count = natural(count).ok_or(CodeFault::BadOpcode(at))?;
     Ok(count)
 }
