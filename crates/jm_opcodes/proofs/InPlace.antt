@@ -1,5 +1,5 @@
 -- What becomes of each item of a list, put where it stood: the items before the i-th, in front of what comes of those from it on, is the whole.
-use Rattle.std.proofs.Common.{◌≡◌, ℕ, ◌+◌, ◌<◌, ◌≤◌, List, length, take, drop, get_or, set, Result, Ok, Err, ap, ◌∙◌, arith}
+use Rattle.std.proofs.Common.{◌≡◌, ℕ, ◌+◌, ◌<◌, ◌≤◌, List, length, take, drop, get_or, set, Result, Ok, ap, ◌∙◌, arith}
 use Rattle.std.proofs.lemmas.List.{take_more_set, drop-set-lt, take_all}
 use Rattle.jm_bytes.specs.Reading.{each}
 use Rattle.jm_bytes.proofs.Loops.{with_front_all, with_front_all-nil, each_next, each_fault, each_done}

@@ -1,4 +1,4 @@
-use Rattle.std.proofs.Common.{◌≡◌, length, map, take, drop}
+use Rattle.std.proofs.Common.{◌≡◌, map, take, drop}
 use Rattle.jm_bytes.specs.Reading.{each}
 use Rattle.jm_bytes.proofs.Loops.{with_front_all}
 use Rattle.jm_class_format.specs.declared.instruction.PlacedInstr.{PlacedInstr}
