@@ -13,6 +13,8 @@ mod cut;
 #[cfg(test)]
 mod faults;
 #[cfg(test)]
+mod left_out;
+#[cfg(test)]
 mod literals;
 #[cfg(test)]
 mod order;
