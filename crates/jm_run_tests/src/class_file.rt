@@ -1,7 +1,7 @@
 // Class files of a class Main, of which only the code of main differs. Their bytes are written by
 // hand from JVMS 4.
 
-ghost use Rattle.std.specs.Prelude.{◌+◌, ◌<◌, ◌^◌, length};
+ghost use Rattle.std.specs.Prelude.{◌+◌, ◌<◌, ◌^◌, length, IfSome};
 
 use std::alloc::{AllocError, Global};
 
@@ -48,3 +48,20 @@ pub const BY_ZERO: [u8; 5] = [0x04, 0x03, 0x6C, 0x57, 0xB1];
 
 /// `aconst_null`, `iconst_0`, `iaload`, `pop`, `return`, of which `iaload` comes later.
 pub const LATER: [u8; 5] = [0x01, 0x03, 0x2E, 0x57, 0xB1];
+
+/// `jsr_w`, an opcode that is left out.
+pub const JSR_W: [u8; 5] = [0xC9, 0x00, 0x00, 0x00, 0x00];
+
+/// The code of main of this name.
+pub fn code_of(name: &str) -> Option<&'static [u8]>
+    ensures { IfSome result (λ code. length code.now < 100) }
+{
+    match name {
+        "sum" => Some(&SUM),
+        "wrong tag" => Some(&WRONG_TAG),
+        "by zero" => Some(&BY_ZERO),
+        "later" => Some(&LATER),
+        "jsr_w" => Some(&JSR_W),
+        _ => None,
+    }
+}

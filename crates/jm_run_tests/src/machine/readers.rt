@@ -2,7 +2,7 @@
 // stream of System.out is object 0, main's empty array object 1 and an exception object 2.
 
 use crate::class_file::{BY_ZERO, SUM};
-use crate::machines::{STEP, loaded};
+use crate::machine::runs::{STEP, loaded};
 use jm_heap::PlainHeap;
 use jm_machine::{
     ElementKind, Machine, MethodFrame, ObjectKind, OutOfMemory, WorldFrame, WorldObject, WorldValue,
@@ -14,7 +14,7 @@ use std::test::Fail;
 fn begins_main(machine: &Machine<PlainHeap>) -> bool {
     match machine.frame(1, 0) {
         Some(WorldFrame::Initialization { class, stage }) => {
-            stage == Stage::Begin && class.parts().name.is_text(b"Main")
+            matches!(stage, Stage::Begin) && class.parts().name.is_text(b"Main")
         }
         _ => false,
     }

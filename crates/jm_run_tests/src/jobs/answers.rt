@@ -1,0 +1,215 @@
+// Jobs with their output, their lines and their status.
+
+ghost use Rattle.std.specs.Prelude.{◌≡◌, false};
+
+use crate::jobs::files::{bytes_of, file_of};
+use jm_execute::{AssembleJob, Job, RunJob, Watched, execute};
+use std::alloc::Global;
+use std::io::Write;
+use std::process::Abort;
+use std::test::Fail;
+
+// A row is a line of columns with ` | ` between them: `run` or `asm`, the name of the program's file
+// or of the text's, what stands in it, the schedule of a run, what is written, the lines on standard
+// error, and the number of the status. `-` is nothing; `files` says what the columns of bytes mean.
+const RUNS: &str = "\
+# three stages of initialization and six instructions
+run | Main.class | @class sum | t 1 x 9~ | 5~ | - | 0
+run | Main.class | @class sum | t 1 x 8 | 5~ | jm: 1 threads not ended~ | 8
+# threads that are not there, and collections
+run | Main.class | @class sum | t 0~t 2~# a comment~~minor~full~t 18446744073709551615~t 1 x 9~ | 5~ | - | 0
+run | Main.class | @class sum | t 1 x 1000000~ | 5~ | - | 0
+run | Main.class | @class sum | - | - | jm: 1 threads not ended~ | 8
+run | Main.class | @class wrong tag | t 1 x 20~ | - | jm: 60 TagFault(WrongTag)~ | 5
+run | Main.class | @class by zero | t 1 x 7~ | - | jm: thread 1 ended by java/lang/ArithmeticException~ | 3
+run | Main.class | @class by zero | t 1 x 6~ | - | jm: 1 threads not ended~ | 8
+run | Main.class | @class later | t 1 x 7~ | - | jm: 16 Later(iaload)~ | 4
+run | Main.class | @class sum | t 1~t 1 x 0~ | - | jm: 70 BadSchedule(2)~ | 9
+# the class before the schedule
+run | Main.class | @class later | nothing~ | - | jm: 16 Later(iaload)~ | 4
+run | Main.class | @class jsr_w | - | - | jm: Main.class: 11 LeftOut(jsr_w)~ | 4
+# files that are not read
+run | Main.class | @class sum | @not read | - | jm: events: not read~ | 2
+run | Main.class | @not read | @not read | - | jm: events: not read~ | 2
+run | Main.class | @not read | ? | - | jm: Main.class: not read~ | 2
+run | Main.class | @class sum | @out of memory | - | jm: 61 OutOfMemory~ | 7
+# a class that is cut
+run | Main.class | @cut class | ? | - | jm: Main.class: 32 Cut~ | 4
+";
+
+const PROGRAM_FILES: &str = "\
+# texts by their names
+run | sum.j | @sum text | t 1 x 9~ | 5~ | - | 0
+run | .j | @sum text | t 1 x 9~ | 5~ | - | 0
+run | a.class/.j | @sum text | t 1 x 9~ | 5~ | - | 0
+run | Sum.class.j | @sum text | t 1 x 9~ | 5~ | - | 0
+run | ..j | @sum text | t 1 x 9~ | 5~ | - | 0
+run | sum.j | @wrong text | t 1 x 9~ | - | jm: sum.j: 41 Syntax(6)~ | 4
+# a class file's first byte begins no character of the second
+run | Main.j | @class sum | t 1 x 9~ | - | jm: Main.j: 40 BadToken(1)~ | 4
+# class files by their names
+run | Main.class | @class sum | t 1 x 9~ | 5~ | - | 0
+run | Main | @class sum | t 1 x 9~ | 5~ | - | 0
+run | j | @class sum | t 1 x 9~ | 5~ | - | 0
+run |  | @class sum | t 1 x 9~ | 5~ | - | 0
+run | .j/Main | @class sum | t 1 x 9~ | 5~ | - | 0
+run | Main.J | @class sum | t 1 x 9~ | 5~ | - | 0
+run | Main.j  | @class sum | t 1 x 9~ | 5~ | - | 0
+run | sum.jj | @sum text | t 1 x 9~ | - | jm: sum.jj: 30 Magic~ | 4
+run | sumj | @sum text | t 1 x 9~ | - | jm: sumj: 30 Magic~ | 4
+run | sum.j.txt | @sum text | t 1 x 9~ | - | jm: sum.j.txt: 30 Magic~ | 4
+run | Main.class | - | t 1 x 9~ | - | jm: Main.class: 32 Cut~ | 4
+# a text before its schedule
+run | sum.j | @wrong text | nothing~ | - | jm: sum.j: 41 Syntax(6)~ | 4
+run | sum.j | @sum text | nothing~ | - | jm: 70 BadSchedule(1)~ | 9
+";
+
+const ASSEMBLIES: &str = "\
+asm | sum.j | @sum text | - | @class sum | - | 0
+asm | sum.class | @sum text | - | @class sum | - | 0
+asm | sum | @sum text | - | @class sum | - | 0
+asm |  | @sum text | - | @class sum | - | 0
+# texts that denote no class
+asm | sum.j | @wrong text | - | - | jm: sum.j: 41 Syntax(6)~ | 4
+asm | sum.j | - | - | - | jm: sum.j: 41 Syntax(1)~ | 4
+asm | sum.j | .class A~.super java/lang/Object~.source \"a~ | - | - | jm: sum.j: 40 BadToken(3)~ | 4
+# bytes that begin no character (Unicode, table 3-7), whatever else is wrong in a line before
+asm | sum.j | %FF | - | - | jm: sum.j: 40 BadToken(1)~ | 4
+asm | sum.j | ; caf%E9~.class A~.super java/lang/Object~ | - | - | jm: sum.j: 40 BadToken(1)~ | 4
+asm | sum.j | nothing~.class A%0D~.super java/lang/Object~%C0%80~%FF~ | - | - | jm: sum.j: 40 BadToken(4)~ | 4
+# a character whose last byte is missing, behind one that is whole
+asm | sum.j | .class A~; %E2%82%AC~; %E2%82 | - | - | jm: sum.j: 40 BadToken(3)~ | 4
+# half of a surrogate pair
+asm | sum.j | ~~%ED%A0%80~ | - | - | jm: sum.j: 40 BadToken(3)~ | 4
+asm | sum.j | .class A~.super java/lang/Object~.method f()V~fadd~.end method~ | - | - | jm: sum.j: 46 LeftOut(fadd)~ | 4
+asm | sum.j | .class A~.super java/lang/Object~.method f()V~goto X~.end method~ | - | - | jm: sum.j: 43 NoLabel(4)~ | 4
+# texts that are not read
+asm | sum.j | @not read | - | - | jm: sum.j: not read~ | 2
+asm | sum.j | @out of memory | - | - | jm: 61 OutOfMemory~ | 7
+# classes that no class file holds
+asm | sum.j | @far text | - | - | jm: sum.j: 14 BranchTooFar~ | 4
+asm | sum.j | @long text | - | - | jm: sum.j: 36 TooMany~ | 4
+";
+
+// The run of a program's file by a schedule.
+fn run_job(alloc: Global, name: &str, program: &str, schedule: &str) -> Result<Job, Fail> {
+    Ok(Job::Run(RunJob {
+        heap: 65_536,
+        schedule: file_of(alloc, "events", schedule)?,
+        program: file_of(alloc, name, program)?,
+    }))
+}
+
+// The class file `Sum.class` from a text of this name.
+fn assembly_job(alloc: Global, name: &str, text: &str) -> Result<Job, Fail> {
+    Ok(Job::Assemble(AssembleJob {
+        text: file_of(alloc, name, text)?,
+        output: String::from_str(alloc, "Sum.class")?,
+    }))
+}
+
+/// The job of a row's first columns: `run` or `asm`, the name of the file, what stands in it, and the
+/// schedule of a run.
+pub fn job_of(
+    alloc: Global,
+    which: &str,
+    name: &str,
+    file: &str,
+    schedule: &str,
+) -> Result<Job, Fail> {
+    match which {
+        "run" => run_job(alloc, name, file, schedule),
+        "asm" => assembly_job(alloc, name, file),
+        _ => Err(Fail::from("no job of that name")),
+    }
+}
+
+/// Does a job, which reads nothing of its input, and answers the number of its status.
+pub fn status_of<O: Write, E: Write>(
+    alloc: Global,
+    job: &Job,
+    out: &mut Watched<O>,
+    err: &mut Watched<E>,
+) -> u8
+    requires out { out.old.failed ≡ false }
+    requires err { err.old.failed ≡ false }
+{
+    let mut input = Watched::new(b"unread".as_slice());
+    execute(alloc, job, &mut input, out, err).code()
+}
+
+// Does a job over two lists of bytes as its writers, and compares the status. Neither list fails.
+fn check_status(
+    rt: &impl Abort,
+    alloc: Global,
+    job: &Job,
+    written: &mut Vec<u8>,
+    told: &mut Vec<u8>,
+    status: u8,
+) {
+    let mut out = Watched::new(written);
+    let mut err = Watched::new(told);
+    assert!(rt; status_of(alloc, job, &mut out, &mut err) == status);
+    assert!(rt; !out.has_failed());
+    assert!(rt; !err.has_failed());
+}
+
+// Does the job of a row, and compares its output, its lines and its status.
+fn check_job(
+    rt: &impl Abort,
+    alloc: Global,
+    job: &Job,
+    output: &str,
+    lines: &str,
+    status: u8,
+) -> Result<(), Fail> {
+    let mut written = Vec::new(alloc);
+    let mut told = Vec::new(alloc);
+    check_status(rt, alloc, job, &mut written, &mut told, status);
+    assert!(rt; written == bytes_of(alloc, output)?);
+    assert!(rt; told == bytes_of(alloc, lines)?);
+    Ok(())
+}
+
+fn check_row(rt: &impl Abort, alloc: Global, row: &str) -> Result<(), Fail> {
+    let columns: Vec<&str> = row.split(" | ").collect(alloc)?;
+    let [which, name, file, schedule, output, lines, status] = columns.as_slice() else {
+        return Err(Fail::from("a row without its columns"));
+    };
+    let job = job_of(alloc, which, name, file, schedule)?;
+    check_job(rt, alloc, &job, output, lines, status.parse()?)
+}
+
+// Compares what comes of each row, and the number of the rows.
+fn check_rows(rt: &impl Abort, alloc: Global, table: &str, count: u32) -> Result<(), Fail> {
+    let mut rows = 0u32;
+    for row in table.lines() {
+        if !row.starts_with("# ") {
+            check_row(rt, alloc, row)?;
+            rows = rows.saturating_add(1);
+        }
+    }
+    assert!(rt; rows == count);
+    Ok(())
+}
+
+#[test]
+fn runs_end_as_their_rows_say(rt: HostRuntime) -> Result<(), Fail> {
+    check_rows(&rt, rt.alloc(), RUNS, 17)
+}
+
+#[test]
+fn program_files_are_known_by_their_names(rt: HostRuntime) -> Result<(), Fail> {
+    check_rows(&rt, rt.alloc(), PROGRAM_FILES, 20)
+}
+
+#[test]
+fn assemblies_end_as_their_rows_say(rt: HostRuntime) -> Result<(), Fail> {
+    check_rows(&rt, rt.alloc(), ASSEMBLIES, 18)
+}
+
+#[test]
+fn the_class_file_of_the_sum_has_245_bytes(rt: HostRuntime) -> Result<(), Fail> {
+    assert!(rt; bytes_of(rt.alloc(), "@class sum")?.len() == 245);
+    Ok(())
+}
