@@ -96,7 +96,8 @@ a_field_of_an_interface_initializes_it = refl
 -- an Error that leaves <clinit> stays itself
 abbrev error_out : List ClassParts
 error_out = main (getstatic (codes "A") (codes "x") int ∷ pop ∷ return ∷ [])
-    ∷ class (codes "A") (field 0x0008 (codes "x") int ∷ []) (method 0x0008 (codes "<clinit>") nothing_to_nothing (new (codes "java/lang/Error") ∷ dup ∷ invokespecial (codes "java/lang/Error") (codes "<init>") nothing_to_nothing ∷ athrow ∷ []) ∷ []) ∷ []
+    ∷ class (codes "A") (field 0x0008 (codes "x") int ∷ []) (method 0x0008 (codes "<clinit>") nothing_to_nothing (new (codes "java/lang/Error") ∷ dup
+    ∷ invokespecial (codes "java/lang/Error") (codes "<init>") nothing_to_nothing ∷ athrow ∷ []) ∷ []) ∷ []
 
 an_error_stays_itself : ends error_out ≡ Some (ended_by (codes "java/lang/Error"))
 unfolding computed
@@ -118,7 +119,8 @@ abbrev below_it : ClassParts
 below_it = class_below (codes "S") [] (codes "T") (field 0x0008 (codes "y") int ∷ []) (method 0x0008 (codes "<clinit>") nothing_to_nothing (out ∷ iconst small.One ∷ println int ∷ return ∷ []) ∷ [])
 
 abbrev superclass_fails : List ClassParts
-superclass_fails = class (codes "Main") [] (main_method (handler 0 1 3 (Some (codes "java/lang/ExceptionInInitializerError")) ∷ handler 4 5 7 (Some (codes "java/lang/NoClassDefFoundError")) ∷ handler 8 9 11 (Some (codes "java/lang/NoClassDefFoundError")) ∷ []) (
+superclass_fails = class (codes "Main") [] (main_method (handler 0 1 3 (Some (codes "java/lang/ExceptionInInitializerError"))
+    ∷ handler 4 5 7 (Some (codes "java/lang/NoClassDefFoundError")) ∷ handler 8 9 11 (Some (codes "java/lang/NoClassDefFoundError")) ∷ []) (
     getstatic (codes "T") (codes "y") int ∷ pop ∷ return
     ∷ pop ∷ getstatic (codes "T") (codes "y") int ∷ pop ∷ return
     ∷ pop ∷ getstatic (codes "S") (codes "x") int ∷ pop ∷ return

@@ -67,11 +67,14 @@ an_empty_schedule : schedule [] ≡ Ok []
 unfolding computed
 an_empty_schedule = refl
 
-each_kind_is_read : record_entries (codes "t 1 @0 done\nminor @1 blocked\nfull @2 ended\nt 2 @3 none\nt 3 @15 stopped\n") ≡ Ok (record { seat = 0; event = Step 1; kind = kind.Done } ∷ record { seat = 1; event = Minor; kind = kind.Blocked } ∷ record { seat = 2; event = Full; kind = kind.Ended } ∷ record { seat = 3; event = Step 2; kind = kind.None } ∷ record { seat = 15; event = Step 3; kind = kind.Stopped } ∷ [])
+each_kind_is_read : record_entries (codes "t 1 @0 done\nminor @1 blocked\nfull @2 ended\nt 2 @3 none\nt 3 @15 stopped\n") ≡
+    Ok (record { seat = 0; event = Step 1; kind = kind.Done } ∷ record { seat = 1; event = Minor; kind = kind.Blocked }
+    ∷ record { seat = 2; event = Full; kind = kind.Ended } ∷ record { seat = 3; event = Step 2; kind = kind.None }
+    ∷ record { seat = 15; event = Step 3; kind = kind.Stopped } ∷ [])
 unfolding computed
 each_kind_is_read = refl
 
--- the fifth instruction event stops the world, and with it the round robin
+-- the sixth event stops the world, and with it the round robin
 abbrev faulty : List ClassParts
 faulty = main (iconst small.Zero ∷ lconst small_long.Zero ∷ iadd ∷ return ∷ []) ∷ []
 

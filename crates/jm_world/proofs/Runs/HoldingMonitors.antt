@@ -91,7 +91,8 @@ and_it_stays_entered = refl
 abbrev entered_again : List ClassParts
 entered_again = class (codes "Main") [] (
     main_method [] (
-    new (codes "Main") ∷ astore short_index.One ∷ aload short_index.One ∷ monitorenter ∷ aload short_index.One ∷ invokevirtual (codes "Main") (codes "f") nothing_to_nothing ∷ aload short_index.One ∷ monitorexit
+    new (codes "Main") ∷ astore short_index.One ∷ aload short_index.One ∷ monitorenter ∷ aload short_index.One
+    ∷ invokevirtual (codes "Main") (codes "f") nothing_to_nothing ∷ aload short_index.One ∷ monitorexit
     ∷ out ∷ iconst small.Five ∷ println int ∷ return ∷ [])
     ∷ method 0x0020 (codes "f") nothing_to_nothing (return ∷ []) ∷ []) ∷ []
 

@@ -56,7 +56,11 @@ invokeinterface_of_a_static_method : refused (invokeinterface (codes "I") (codes
 unfolding computed
 invokeinterface_of_a_static_method = refl
 
-each_in_its_place : refused (getstatic (codes "A") (codes "s") int ∷ putstatic (codes "A") (codes "s") int ∷ getfield (codes "A") (codes "f") int ∷ putfield (codes "A") (codes "f") int ∷ invokestatic (codes "A") (codes "sm") nothing_to_nothing ∷ invokevirtual (codes "A") (codes "im") nothing_to_nothing ∷ invokespecial (codes "A") (codes "im") nothing_to_nothing ∷ invokeinterface (codes "I") (codes "m") nothing_to_nothing ∷ return ∷ []) ≡ None
+each_in_its_place : refused (getstatic (codes "A") (codes "s") int ∷ putstatic (codes "A") (codes "s") int ∷ getfield (codes "A") (codes "f") int
+    ∷ putfield (codes "A") (codes "f") int ∷ invokestatic (codes "A") (codes "sm") nothing_to_nothing
+    ∷ invokevirtual (codes "A") (codes "im") nothing_to_nothing ∷ invokespecial (codes "A") (codes "im") nothing_to_nothing
+    ∷ invokeinterface (codes "I") (codes "m") nothing_to_nothing ∷ return ∷ []) ≡
+    None
 unfolding computed
 each_in_its_place = refl
 
@@ -120,19 +124,23 @@ a_cast_to_an_array_of_no_class = refl
 abbrev of_array : FieldType → ClassRef
 of_array t = named.Array (array_of t)
 
-an_array_has_no_field : refused (instr.Field field_op.GetField (record { class = of_array int; name = codes "x"; descriptor = int }) ∷ return ∷ []) ≡ Some (no_field (codes "x"))
+an_array_has_no_field : refused (instr.Field field_op.GetField (record { class = of_array int; name = codes "x"; descriptor = int }) ∷ return ∷ []) ≡
+    Some (no_field (codes "x"))
 unfolding computed
 an_array_has_no_field = refl
 
-an_array_has_no_method : refused (instr.Invoke invoke_op.Virtual (record { class = of_array int; name = codes "m"; descriptor = nothing_to_nothing }) ∷ return ∷ []) ≡ Some (no_method (codes "m"))
+an_array_has_no_method : refused (instr.Invoke invoke_op.Virtual (record { class = of_array int; name = codes "m"; descriptor = nothing_to_nothing }) ∷ return ∷ []) ≡
+    Some (no_method (codes "m"))
 unfolding computed
 an_array_has_no_method = refl
 
-the_class_of_the_elements_of_a_field_comes_first : refused (instr.Field field_op.GetField (record { class = of_array (class_of_name (codes "E")); name = codes "x"; descriptor = int }) ∷ return ∷ []) ≡ Some (no_class (codes "E"))
+the_class_of_the_elements_of_a_field_comes_first : refused (instr.Field field_op.GetField (record { class = of_array (class_of_name (codes "E")); name = codes "x"; descriptor = int }) ∷ return ∷ []) ≡
+    Some (no_class (codes "E"))
 unfolding computed
 the_class_of_the_elements_of_a_field_comes_first = refl
 
-and_of_a_method : refused (instr.Invoke invoke_op.Virtual (record { class = of_array (class_of_name (codes "E")); name = codes "m"; descriptor = nothing_to_nothing }) ∷ return ∷ []) ≡ Some (no_class (codes "E"))
+and_of_a_method : refused (instr.Invoke invoke_op.Virtual (record { class = of_array (class_of_name (codes "E")); name = codes "m"; descriptor = nothing_to_nothing }) ∷ return ∷ []) ≡
+    Some (no_class (codes "E"))
 unfolding computed
 and_of_a_method = refl
 
@@ -140,11 +148,15 @@ and_of_a_method = refl
 abbrev beside_main : List ClassParts → Option Refusal
 beside_main classes = refusal (main (return ∷ []) ∷ classes)
 
-two_methods_of_a_name_and_type : beside_main (class (codes "A") [] (method 0x0000 (codes "m") nothing_to_nothing (return ∷ []) ∷ method 0x0008 (codes "m") nothing_to_nothing (return ∷ []) ∷ []) ∷ []) ≡ Some (duplicate_member (codes "m"))
+two_methods_of_a_name_and_type : beside_main (class (codes "A") [] (method 0x0000 (codes "m") nothing_to_nothing (return ∷ [])
+    ∷ method 0x0008 (codes "m") nothing_to_nothing (return ∷ []) ∷ []) ∷ []) ≡
+    Some (duplicate_member (codes "m"))
 unfolding computed
 two_methods_of_a_name_and_type = refl
 
-two_methods_of_a_name : beside_main (class (codes "A") [] (method 0x0000 (codes "m") nothing_to_nothing (return ∷ []) ∷ method 0x0008 (codes "m") (nothing_to int) (iconst small.One ∷ ireturn ∷ []) ∷ []) ∷ []) ≡ None
+two_methods_of_a_name : beside_main (class (codes "A") [] (method 0x0000 (codes "m") nothing_to_nothing (return ∷ [])
+    ∷ method 0x0008 (codes "m") (nothing_to int) (iconst small.One ∷ ireturn ∷ []) ∷ []) ∷ []) ≡
+    None
 unfolding computed
 two_methods_of_a_name = refl
 
@@ -168,15 +180,18 @@ the_superclass_comes_before_the_interfaces : beside_main (class_below (codes "B"
 unfolding computed
 the_superclass_comes_before_the_interfaces = refl
 
-an_instruction_comes_before_a_catch_type : refusal (class (codes "Main") [] (main_method (handler 0 1 0 (Some (codes "E")) ∷ []) (new (codes "G") ∷ return ∷ []) ∷ []) ∷ []) ≡ Some (no_class (codes "G"))
+an_instruction_comes_before_a_catch_type : refusal (class (codes "Main") [] (main_method (handler 0 1 0 (Some (codes "E")) ∷ []) (new (codes "G") ∷ return ∷ []) ∷ []) ∷ []) ≡
+    Some (no_class (codes "G"))
 unfolding computed
 an_instruction_comes_before_a_catch_type = refl
 
-members_come_before_superclasses : beside_main (class_below (codes "B") [] (codes "A") (field 0x0000 (codes "x") int ∷ field 0x0000 (codes "x") int ∷ []) [] ∷ []) ≡ Some (duplicate_member (codes "x"))
+members_come_before_superclasses : beside_main (class_below (codes "B") [] (codes "A") (field 0x0000 (codes "x") int ∷ field 0x0000 (codes "x") int ∷ []) [] ∷ []) ≡
+    Some (duplicate_member (codes "x"))
 unfolding computed
 members_come_before_superclasses = refl
 
-names_come_before_members : beside_main (class (codes "A") (field 0x0000 (codes "x") int ∷ field 0x0000 (codes "x") int ∷ []) [] ∷ class (codes "A") [] [] ∷ []) ≡ Some (duplicate_class (codes "A"))
+names_come_before_members : beside_main (class (codes "A") (field 0x0000 (codes "x") int ∷ field 0x0000 (codes "x") int ∷ []) [] ∷ class (codes "A") [] [] ∷ []) ≡
+    Some (duplicate_class (codes "A"))
 unfolding computed
 names_come_before_members = refl
 
@@ -184,10 +199,12 @@ main_is_static : refusal (class (codes "Main") [] (method 0x0001 (codes "main") 
 unfolding computed
 main_is_static = refl
 
-main_comes_before_instructions : refusal (class (codes "Main") [] (method 0x0008 (codes "f") nothing_to_nothing (new (codes "E") ∷ return ∷ []) ∷ []) ∷ []) ≡ Some no_main
+main_comes_before_instructions : refusal (class (codes "Main") [] (method 0x0008 (codes "f") nothing_to_nothing (new (codes "E") ∷ return ∷ []) ∷ []) ∷ []) ≡
+    Some no_main
 unfolding computed
 main_comes_before_instructions = refl
 
-an_interface_above_itself : beside_main (interface_with (codes "J" ∷ []) (codes "I") [] [] ∷ interface_with (codes "I" ∷ []) (codes "J") [] [] ∷ []) ≡ Some (cycle (codes "I"))
+an_interface_above_itself : beside_main (interface_with (codes "J" ∷ []) (codes "I") [] [] ∷ interface_with (codes "I" ∷ []) (codes "J") [] [] ∷ []) ≡
+    Some (cycle (codes "I"))
 unfolding computed
 an_interface_above_itself = refl

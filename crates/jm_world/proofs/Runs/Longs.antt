@@ -38,14 +38,16 @@ unfolding computed
 a_long_field_is_whole = refl
 
 abbrev new_long_field : List ClassParts
-new_long_field = class (codes "Main") (field 0x0000 (codes "f") long ∷ field 0x0008 (codes "s") long ∷ []) (main_method [] (out ∷ new (codes "Main") ∷ getfield (codes "Main") (codes "f") long ∷ getstatic (codes "Main") (codes "s") long ∷ ladd ∷ println long ∷ return ∷ []) ∷ []) ∷ []
+new_long_field = class (codes "Main") (field 0x0000 (codes "f") long ∷ field 0x0008 (codes "s") long ∷ []) (main_method [] (out ∷ new (codes "Main")
+    ∷ getfield (codes "Main") (codes "f") long ∷ getstatic (codes "Main") (codes "s") long ∷ ladd ∷ println long ∷ return ∷ []) ∷ []) ∷ []
 
 long_fields_begin_with_zero : printed new_long_field ≡ codes "0\n"
 unfolding computed
 long_fields_begin_with_zero = refl
 
 abbrev long_static : List ClassParts
-long_static = class (codes "Main") (field 0x0008 (codes "s") long ∷ []) (main_method [] (ldc_long (negsuc 12345678900) ∷ putstatic (codes "Main") (codes "s") long ∷ out ∷ getstatic (codes "Main") (codes "s") long ∷ println long ∷ return ∷ []) ∷ []) ∷ []
+long_static = class (codes "Main") (field 0x0008 (codes "s") long ∷ []) (main_method [] (ldc_long (negsuc 12345678900)
+    ∷ putstatic (codes "Main") (codes "s") long ∷ out ∷ getstatic (codes "Main") (codes "s") long ∷ println long ∷ return ∷ []) ∷ []) ∷ []
 
 a_static_long_is_whole : printed long_static ≡ codes "-12345678901\n"
 unfolding computed
@@ -66,7 +68,8 @@ unfolding computed
 lastore_takes_a_long = refl
 
 abbrev a_long_needs_two : List ClassParts
-a_long_needs_two = class (codes "Main") (field 0x0008 (codes "s") long ∷ []) (method_within 1 8 [] 0x0009 (codes "main") (taking (array_of string)) (getstatic (codes "Main") (codes "s") long ∷ return ∷ []) ∷ []) ∷ []
+a_long_needs_two = class (codes "Main") (field 0x0008 (codes "s") long
+    ∷ []) (method_within 1 8 [] 0x0009 (codes "main") (taking (array_of string)) (getstatic (codes "Main") (codes "s") long ∷ return ∷ []) ∷ []) ∷ []
 
 a_long_needs_room_for_two : stops_with a_long_needs_two ≡ Some (stop.TagFault fault.Overflow)
 unfolding computed

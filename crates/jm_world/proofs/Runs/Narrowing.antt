@@ -105,7 +105,8 @@ unfolding computed
 a_short_constant_narrows = refl
 
 abbrev long_constant : List ClassParts
-long_constant = class (codes "Main") (constant_field 0x0008 (codes "c") long (constant.Long (pos 12345678901)) ∷ []) (main_method [] (out ∷ getstatic (codes "Main") (codes "c") long ∷ println long ∷ return ∷ []) ∷ []) ∷ []
+long_constant = class (codes "Main") (constant_field 0x0008 (codes "c") long (constant.Long (pos 12345678901)) ∷ []) (main_method [] (out
+    ∷ getstatic (codes "Main") (codes "c") long ∷ println long ∷ return ∷ []) ∷ []) ∷ []
 
 a_long_constant_is_whole : printed long_constant ≡ codes "12345678901\n"
 unfolding computed

@@ -10,7 +10,8 @@ use Rattle.jm_world.proofs.Runs.Computed.{computed}
 use Rattle.jm_world.proofs.Runs.Words.{char, ends, ldc_long, print, printed, println_nothing, stops_with, string}
 
 abbrev print_alone : List ClassParts
-print_alone = main (out ∷ iconst small.MinusOne ∷ print int ∷ out ∷ ldc_long (pos 12345678901) ∷ print long ∷ out ∷ bipush (pos 65) ∷ print char ∷ out ∷ ldc_text (codes "bc") ∷ print string ∷ return ∷ []) ∷ []
+print_alone = main (out ∷ iconst small.MinusOne ∷ print int ∷ out ∷ ldc_long (pos 12345678901) ∷ print long ∷ out ∷ bipush (pos 65) ∷ print char ∷ out
+    ∷ ldc_text (codes "bc") ∷ print string ∷ return ∷ []) ∷ []
 
 print_ends_no_line : printed print_alone ≡ codes "-112345678901Abc"
 unfolding computed
@@ -38,14 +39,16 @@ unfolding computed
 print_of_a_null_string = refl
 
 abbrev char_before : List ClassParts
-char_before = main (ldc_text (codes "abc") ∷ iconst small.MinusOne ∷ invokevirtual (codes "java/lang/String") (codes "charAt") (record { parameters = int ∷ []; return_type = Some char }) ∷ pop ∷ return ∷ []) ∷ []
+char_before = main (ldc_text (codes "abc") ∷ iconst small.MinusOne
+    ∷ invokevirtual (codes "java/lang/String") (codes "charAt") (record { parameters = int ∷ []; return_type = Some char }) ∷ pop ∷ return ∷ []) ∷ []
 
 charAt_of_a_negative_index_throws : ends char_before ≡ Some (ended_by (codes "java/lang/StringIndexOutOfBoundsException"))
 unfolding computed
 charAt_of_a_negative_index_throws = refl
 
 abbrev char_first : List ClassParts
-char_first = main (out ∷ ldc_text (codes "abc") ∷ iconst small.Zero ∷ invokevirtual (codes "java/lang/String") (codes "charAt") (record { parameters = int ∷ []; return_type = Some char }) ∷ println char ∷ return ∷ []) ∷ []
+char_first = main (out ∷ ldc_text (codes "abc") ∷ iconst small.Zero
+    ∷ invokevirtual (codes "java/lang/String") (codes "charAt") (record { parameters = int ∷ []; return_type = Some char }) ∷ println char ∷ return ∷ []) ∷ []
 
 charAt_of_zero_is_the_first : printed char_first ≡ codes "a\n"
 unfolding computed

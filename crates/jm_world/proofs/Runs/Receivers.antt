@@ -12,28 +12,28 @@ use Rattle.jm_world.specs.declared.stop.Stop.TheVariants as stop
 use Rattle.jm_world.proofs.Runs.Computed.{computed}
 use Rattle.jm_world.proofs.Runs.Words.{abstract_class, constant_field, ends, iload, interface_with, istore, lconst, ldc_long, lreturn, method_within, printed, stops_with, string}
 
-abbrev a : ClassParts
-a = class_below (codes "java/lang/Object") (codes "I" ∷ []) (codes "A") [] (method 0x0001 (codes "m") (nothing_to int) (iconst small.One ∷ ireturn ∷ []) ∷ [])
+abbrev class_a : ClassParts
+class_a = class_below (codes "java/lang/Object") (codes "I" ∷ []) (codes "A") [] (method 0x0001 (codes "m") (nothing_to int) (iconst small.One ∷ ireturn ∷ []) ∷ [])
 
-abbrev i : ClassParts
-i = interface (codes "I") (abstract_method (codes "m") (nothing_to int) ∷ [])
+abbrev interface_i : ClassParts
+interface_i = interface (codes "I") (abstract_method (codes "m") (nothing_to int) ∷ [])
 
 abbrev invokevirtual_of_null : List ClassParts
-invokevirtual_of_null = main (aconst_null ∷ invokevirtual (codes "A") (codes "m") (nothing_to int) ∷ pop ∷ return ∷ []) ∷ a ∷ i ∷ []
+invokevirtual_of_null = main (aconst_null ∷ invokevirtual (codes "A") (codes "m") (nothing_to int) ∷ pop ∷ return ∷ []) ∷ class_a ∷ interface_i ∷ []
 
 invokevirtual_of_null_throws : ends invokevirtual_of_null ≡ Some (ended_by (codes "java/lang/NullPointerException"))
 unfolding computed
 invokevirtual_of_null_throws = refl
 
 abbrev invokespecial_of_null : List ClassParts
-invokespecial_of_null = main (aconst_null ∷ invokespecial (codes "A") (codes "m") (nothing_to int) ∷ pop ∷ return ∷ []) ∷ a ∷ i ∷ []
+invokespecial_of_null = main (aconst_null ∷ invokespecial (codes "A") (codes "m") (nothing_to int) ∷ pop ∷ return ∷ []) ∷ class_a ∷ interface_i ∷ []
 
 invokespecial_of_null_throws : ends invokespecial_of_null ≡ Some (ended_by (codes "java/lang/NullPointerException"))
 unfolding computed
 invokespecial_of_null_throws = refl
 
 abbrev invokeinterface_of_null : List ClassParts
-invokeinterface_of_null = main (aconst_null ∷ invokeinterface (codes "I") (codes "m") (nothing_to int) ∷ pop ∷ return ∷ []) ∷ a ∷ i ∷ []
+invokeinterface_of_null = main (aconst_null ∷ invokeinterface (codes "I") (codes "m") (nothing_to int) ∷ pop ∷ return ∷ []) ∷ class_a ∷ interface_i ∷ []
 
 invokeinterface_of_null_throws : ends invokeinterface_of_null ≡ Some (ended_by (codes "java/lang/NullPointerException"))
 unfolding computed
@@ -80,21 +80,21 @@ unfolding computed
 an_int_is_no_long_argument = refl
 
 abbrev no_receiver_given : List ClassParts
-no_receiver_given = main (invokevirtual (codes "A") (codes "m") (nothing_to int) ∷ pop ∷ return ∷ []) ∷ a ∷ i ∷ []
+no_receiver_given = main (invokevirtual (codes "A") (codes "m") (nothing_to int) ∷ pop ∷ return ∷ []) ∷ class_a ∷ interface_i ∷ []
 
 no_receiver : stops_with no_receiver_given ≡ Some (stop.TagFault fault.Underflow)
 unfolding computed
 no_receiver = refl
 
 abbrev int_receiver_given : List ClassParts
-int_receiver_given = main (iconst small.One ∷ invokevirtual (codes "A") (codes "m") (nothing_to int) ∷ pop ∷ return ∷ []) ∷ a ∷ i ∷ []
+int_receiver_given = main (iconst small.One ∷ invokevirtual (codes "A") (codes "m") (nothing_to int) ∷ pop ∷ return ∷ []) ∷ class_a ∷ interface_i ∷ []
 
 an_int_is_no_receiver : stops_with int_receiver_given ≡ Some (stop.TagFault fault.WrongTag)
 unfolding computed
 an_int_is_no_receiver = refl
 
 abbrev other_special_receiver : List ClassParts
-other_special_receiver = main (new (codes "Main") ∷ invokespecial (codes "A") (codes "m") (nothing_to int) ∷ pop ∷ return ∷ []) ∷ a ∷ i ∷ []
+other_special_receiver = main (new (codes "Main") ∷ invokespecial (codes "A") (codes "m") (nothing_to int) ∷ pop ∷ return ∷ []) ∷ class_a ∷ interface_i ∷ []
 
 invokespecial_tests_its_receiver : stops_with other_special_receiver ≡ Some (stop.TagFault fault.WrongKind)
 unfolding computed
@@ -102,9 +102,13 @@ invokespecial_tests_its_receiver = refl
 
 -- a constructor calls that of the superclass, and so on
 abbrev constructors : List ClassParts
-constructors = main (new (codes "B") ∷ dup ∷ invokespecial (codes "B") (codes "<init>") nothing_to_nothing ∷ getfield (codes "A") (codes "x") int ∷ istore short_index.One ∷ out ∷ iload short_index.One ∷ println int ∷ return ∷ [])
-    ∷ class (codes "A") (field 0x0000 (codes "x") int ∷ []) (method 0x0000 (codes "<init>") nothing_to_nothing (aload short_index.Zero ∷ invokespecial (codes "java/lang/Object") (codes "<init>") nothing_to_nothing ∷ aload short_index.Zero ∷ iconst small.Five ∷ putfield (codes "A") (codes "x") int ∷ out ∷ iconst small.One ∷ println int ∷ return ∷ []) ∷ [])
-    ∷ class_below (codes "A") [] (codes "B") [] (method 0x0000 (codes "<init>") nothing_to_nothing (aload short_index.Zero ∷ invokespecial (codes "A") (codes "<init>") nothing_to_nothing ∷ out ∷ iconst small.Two ∷ println int ∷ return ∷ []) ∷ []) ∷ []
+constructors = main (new (codes "B") ∷ dup ∷ invokespecial (codes "B") (codes "<init>") nothing_to_nothing ∷ getfield (codes "A") (codes "x") int
+    ∷ istore short_index.One ∷ out ∷ iload short_index.One ∷ println int ∷ return ∷ [])
+    ∷ class (codes "A") (field 0x0000 (codes "x") int ∷ []) (method 0x0000 (codes "<init>") nothing_to_nothing (aload short_index.Zero
+    ∷ invokespecial (codes "java/lang/Object") (codes "<init>") nothing_to_nothing ∷ aload short_index.Zero ∷ iconst small.Five
+    ∷ putfield (codes "A") (codes "x") int ∷ out ∷ iconst small.One ∷ println int ∷ return ∷ []) ∷ [])
+    ∷ class_below (codes "A") [] (codes "B") [] (method 0x0000 (codes "<init>") nothing_to_nothing (aload short_index.Zero
+    ∷ invokespecial (codes "A") (codes "<init>") nothing_to_nothing ∷ out ∷ iconst small.Two ∷ println int ∷ return ∷ []) ∷ []) ∷ []
 
 constructors_are_chained : printed constructors ≡ codes "1\n2\n5\n"
 unfolding computed
@@ -151,7 +155,9 @@ unfolding computed
 superinterfaces_come_before_the_superclass = refl
 
 abbrev two_types : List ClassParts
-two_types = class (codes "Main") (constant_field 0x0008 (codes "x") int (constant.Int (pos 1)) ∷ constant_field 0x0008 (codes "x") long (constant.Long (pos 2)) ∷ []) (main_method [] (out ∷ getstatic (codes "Main") (codes "x") long ∷ println long ∷ out ∷ getstatic (codes "Main") (codes "x") int ∷ println int ∷ return ∷ []) ∷ []) ∷ []
+two_types = class (codes "Main") (constant_field 0x0008 (codes "x") int (constant.Int (pos 1))
+    ∷ constant_field 0x0008 (codes "x") long (constant.Long (pos 2)) ∷ []) (main_method [] (out ∷ getstatic (codes "Main") (codes "x") long
+    ∷ println long ∷ out ∷ getstatic (codes "Main") (codes "x") int ∷ println int ∷ return ∷ []) ∷ []) ∷ []
 
 fields_are_told_by_their_types : printed two_types ≡ codes "2\n1\n"
 unfolding computed
@@ -159,7 +165,9 @@ fields_are_told_by_their_types = refl
 
 abbrev overloaded : List ClassParts
 overloaded = class (codes "Main") [] (
-    main_method [] (out ∷ lconst small_long.One ∷ invokestatic (codes "Main") (codes "f") (record { parameters = long ∷ []; return_type = Some int }) ∷ println int ∷ out ∷ iconst small.One ∷ invokestatic (codes "Main") (codes "f") (record { parameters = int ∷ []; return_type = Some int }) ∷ println int ∷ return ∷ [])
+    main_method [] (out ∷ lconst small_long.One ∷ invokestatic (codes "Main") (codes "f") (record { parameters = long ∷ []; return_type = Some int })
+    ∷ println int ∷ out ∷ iconst small.One ∷ invokestatic (codes "Main") (codes "f") (record { parameters = int ∷ []; return_type = Some int })
+    ∷ println int ∷ return ∷ [])
     ∷ method 0x0008 (codes "f") (record { parameters = int ∷ []; return_type = Some int }) (iconst small.One ∷ ireturn ∷ [])
     ∷ method 0x0008 (codes "f") (record { parameters = long ∷ []; return_type = Some int }) (iconst small.Two ∷ ireturn ∷ []) ∷ []) ∷ []
 
@@ -191,7 +199,7 @@ abbrev superinterface_method : List ClassParts
 superinterface_method = main (out ∷ new (codes "A") ∷ invokeinterface (codes "J") (codes "m") (nothing_to int) ∷ println int ∷ return ∷ [])
     ∷ class_below (codes "java/lang/Object") (codes "J" ∷ []) (codes "A") [] (method 0x0001 (codes "m") (nothing_to int) (iconst small.One ∷ ireturn ∷ []) ∷ [])
     ∷ interface_with (codes "I" ∷ []) (codes "J") [] []
-    ∷ i ∷ []
+    ∷ interface_i ∷ []
 
 a_method_of_a_superinterface_is_called : printed superinterface_method ≡ codes "1\n"
 unfolding computed
@@ -200,7 +208,7 @@ a_method_of_a_superinterface_is_called = refl
 abbrev object_through_interface : List ClassParts
 object_through_interface = main (new (codes "A") ∷ invokeinterface (codes "I") (codes "m") (nothing_to int) ∷ pop ∷ return ∷ [])
     ∷ class_below (codes "java/lang/Object") (codes "I" ∷ []) (codes "A") [] []
-    ∷ i ∷ []
+    ∷ interface_i ∷ []
 
 an_abstract_method_throws : ends object_through_interface ≡ Some (ended_by (codes "java/lang/AbstractMethodError"))
 unfolding computed

@@ -45,7 +45,8 @@ unfolding computed
 its_monitor_is_held_no_more = refl
 
 abbrev sets : List ClassParts
-sets = class (codes "Main") (field 0x0008 (codes "k") (class_of_name (codes "Main")) ∷ []) (main_method [] (new (codes "Main") ∷ putstatic (codes "Main") (codes "k") (class_of_name (codes "Main")) ∷ return ∷ []) ∷ []) ∷ []
+sets = class (codes "Main") (field 0x0008 (codes "k") (class_of_name (codes "Main")) ∷ []) (main_method [] (new (codes "Main")
+    ∷ putstatic (codes "Main") (codes "k") (class_of_name (codes "Main")) ∷ return ∷ []) ∷ []) ∷ []
 
 a_static_is_reached : reaches (computed sets (steps 6 1)) 2 ≡ true
 unfolding computed

@@ -123,7 +123,8 @@ a_synchronized_run_is_called = refl
 abbrev started_again : List ClassParts
 started_again = main (new (codes "java/lang/Thread") ∷ dup ∷ start ∷ start ∷ return ∷ []) ∷ []
 
-an_ended_thread_is_not_started_again : ending_of (computed started_again (steps 6 1 ++ steps 1 2 ++ steps 2 1)) 1 ≡ Some (ended_by (codes "java/lang/IllegalThreadStateException"))
+an_ended_thread_is_not_started_again : ending_of (computed started_again (steps 6 1 ++ steps 1 2 ++ steps 2 1)) 1 ≡
+    Some (ended_by (codes "java/lang/IllegalThreadStateException"))
 unfolding computed
 an_ended_thread_is_not_started_again = refl
 
@@ -142,7 +143,8 @@ run_is_a_method_like_others = refl
 
 abbrev super_run : List ClassParts
 super_run = main (new (codes "W") ∷ invokevirtual (codes "W") (codes "run") nothing_to_nothing ∷ out ∷ iconst small.Two ∷ println int ∷ return ∷ [])
-    ∷ class_below (codes "java/lang/Thread") [] (codes "W") [] (method 0x0001 (codes "run") nothing_to_nothing (aload short_index.Zero ∷ invokespecial (codes "java/lang/Thread") (codes "run") nothing_to_nothing ∷ return ∷ []) ∷ []) ∷ []
+    ∷ class_below (codes "java/lang/Thread") [] (codes "W") [] (method 0x0001 (codes "run") nothing_to_nothing (aload short_index.Zero
+    ∷ invokespecial (codes "java/lang/Thread") (codes "run") nothing_to_nothing ∷ return ∷ []) ∷ []) ∷ []
 
 the_run_of_thread_does_nothing : printed super_run ≡ codes "2\n"
 unfolding computed
