@@ -21,10 +21,10 @@ speaks = class (codes "B") (field 0x0008 (codes "x") int ∷ []) (
 abbrev stores : List ClassParts
 stores = main (
     out ∷ iconst small.Two ∷ println int ∷ iconst small.Five ∷ putstatic (codes "B") (codes "x") int
-    ∷ out ∷ getstatic (codes "B") (codes "x") int ∷ println int ∷ return ∷ [])
+    ∷ out ∷ iconst small.Three ∷ println int ∷ out ∷ getstatic (codes "B") (codes "x") int ∷ println int ∷ return ∷ [])
     ∷ speaks ∷ []
 
-putstatic_initializes : printed stores ≡ codes "2\n1\n5\n"
+putstatic_initializes : printed stores ≡ codes "2\n1\n3\n5\n"
 unfolding computed
 putstatic_initializes = refl
 

@@ -10,6 +10,9 @@
     iconst_5
     putstatic B/x I
     getstatic java/lang/System/out Ljava/io/PrintStream;
+    iconst_3
+    invokevirtual java/io/PrintStream/println(I)V
+    getstatic java/lang/System/out Ljava/io/PrintStream;
     getstatic B/x I
     invokevirtual java/io/PrintStream/println(I)V
     return
