@@ -8,8 +8,7 @@ use Rattle.jm_program.proofs.DescriptorLaws.{both_true, and_true}
 use Rattle.jm_jasmin_lex.specs.Token.{TokenParts}
 use Rattle.jm_jasmin_lex.specs.Lines.{first_line}
 use Rattle.jm_jasmin_ops.specs.declared.fault.AsmFault.{AsmFault}
-use Rattle.jm_jasmin_ops.specs.declared.fault.AsmFault.TheVariants as fault
-use Rattle.jm_jasmin.specs.Lines.{Reading, begins, line_number, by_line, required, optional, taken_on, one_more}
+use Rattle.jm_jasmin.specs.Lines.{Reading, begins, misplaced, by_line, required, optional, taken_on, one_more}
 
 -- ---- tests
 
@@ -33,7 +32,7 @@ pub required_is : {A : Type 0} (directive : List ℕ) (f : List TokenParts → R
 unfolding required
 required_is directive f ts p h =
     let Q : Type 0 = f (first_line ts).0 ≡ Ok p.0 in
-    either_way Q (begins directive ts) (by_line f ts) (Err (fault.Syntax (line_number ts))) p h (by_line_is f ts p) (refused Q (fault.Syntax (line_number ts)) p)
+    either_way Q (begins directive ts) (by_line f ts) (Err (misplaced ts)) p h (by_line_is f ts p) (refused Q (misplaced ts) p)
 
 some_line : {A : Type 0} (f : List TokenParts → Result A AsmFault) (ts : List TokenParts) (p : Option A × List TokenParts) → by_line (λ line. and_then (f line) (λ x. Ok (Some x))) ts ≡ Ok p → (x : A) × (f (first_line ts).0 ≡ Ok x) × (Some x ≡ p.0)
 some_line {A} f ts p h =

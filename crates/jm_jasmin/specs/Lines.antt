@@ -7,6 +7,7 @@ use Rattle.jm_jasmin_lex.specs.Token.{TokenParts}
 use Rattle.jm_jasmin_lex.specs.Lines.{first_line}
 use Rattle.jm_jasmin_lex.specs.declared.token.TokenKind.{TokenKind}
 use Rattle.jm_jasmin_lex.specs.declared.token.TokenKind.TheVariants as kind
+use Rattle.jm_jasmin_ops.specs.Profile.{unknown_word}
 use Rattle.jm_jasmin_ops.specs.declared.fault.AsmFault.{AsmFault}
 use Rattle.jm_jasmin_ops.specs.declared.fault.AsmFault.TheVariants as fault
 
@@ -54,9 +55,21 @@ line_number ts = line_at (slice_get ts 0)
 unfoldable pub by_line : {A : Type 0} → (List TokenParts → Result A AsmFault) → Reading A
 by_line f ts = f (first_line ts).0 >>= λ x. Ok (x, (first_line ts).1)
 
+-- the fault of a line that its place does not have: 46 where it begins with a directive that is left out, or else 41
+abbrev pub misplaced_by : TokenKind → TokenParts → AsmFault
+misplaced_by kind.Word t = unknown_word t.line t.text
+misplaced_by kind.Text t = fault.Syntax t.line
+
+abbrev pub misplaced_at : Option TokenParts → AsmFault
+misplaced_at None = fault.Syntax 0
+misplaced_at (Some t) = misplaced_by t.kind t
+
+unfoldable pub misplaced : List TokenParts → AsmFault
+misplaced ts = misplaced_at (slice_get ts 0)
+
 -- of a directive that is due
 unfoldable pub required : {A : Type 0} → List ℕ → (List TokenParts → Result A AsmFault) → Reading A
-required directive f ts = if begins directive ts then by_line f ts else Err (fault.Syntax (line_number ts))
+required directive f ts = if begins directive ts then by_line f ts else Err (misplaced ts)
 
 -- of a directive that can be left out
 unfoldable pub optional : {A : Type 0} → List ℕ → (List TokenParts → Result A AsmFault) → Reading (Option A)

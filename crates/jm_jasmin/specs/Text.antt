@@ -12,7 +12,7 @@ use Rattle.jm_jasmin_ops.specs.Faults.{line_of}
 use Rattle.jm_jasmin_ops.specs.declared.fault.AsmFault.{AsmFault}
 use Rattle.jm_jasmin_ops.specs.declared.fault.AsmFault.TheVariants as fault
 use Rattle.jm_jasmin.specs.declared.header.Header.{Header}
-use Rattle.jm_jasmin.specs.Lines.{◌>>=◌, line_number}
+use Rattle.jm_jasmin.specs.Lines.{◌>>=◌, line_number, misplaced}
 use Rattle.jm_jasmin.specs.Header.{header}
 use Rattle.jm_jasmin.specs.Fields.{fields}
 use Rattle.jm_jasmin.specs.Methods.{methods}
@@ -37,7 +37,7 @@ parts_of h fs ms = record {
 
 -- nothing follows the methods
 unfoldable pub text_ends : List TokenParts → Result (Unit {0}) AsmFault
-text_ends ts = if line_number ts == 0 then Ok tt else Err (fault.Syntax (line_number ts))
+text_ends ts = if line_number ts == 0 then Ok tt else Err (misplaced ts)
 
 -- the lines up to the end of the text
 unfoldable pub class_of : List TokenParts → Result ClassParts AsmFault

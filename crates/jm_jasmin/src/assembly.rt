@@ -39,11 +39,10 @@ fn parts_of(header: Header, fields: Vec<Field>, methods: Vec<Method>) -> ClassPa
 fn text_ends(lines: &Lines<'_, '_>) -> Result<(), AsmFault>
     ensures { TakesAll (λ x. x) result (text_ends lines.now) }
 {
-    let line = lines.line_number();
-    if line == 0 {
+    if lines.line_number() == 0 {
         Ok(())
     } else {
-        Err(AsmFault::Syntax(line))
+        Err(lines.misplaced())
     }
 }
 

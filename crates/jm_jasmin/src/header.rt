@@ -173,7 +173,7 @@ fn declared_at(alloc: Global, lines: &mut Lines<'_, '_>) -> Result<Declared, Asm
     } else if lines.begins(".class") {
         AccessFlags::SUPER
     } else {
-        return Err(AsmFault::Syntax(lines.line_number()));
+        return Err(lines.misplaced());
     };
     let line = lines.next_line();
     let declared = declared_line(alloc, bits, line)?;
@@ -195,7 +195,7 @@ fn superclass(alloc: Global, lines: &mut Lines<'_, '_>) -> Result<Name, AsmFault
     ensures { Reads (λ name. name) result lines.new (required (codes ".super") class_line lines.old) }
 {
     if !lines.begins(".super") {
-        return Err(AsmFault::Syntax(lines.line_number()));
+        return Err(lines.misplaced());
     }
     let line = lines.next_line();
     let name = class_line(alloc, line)?;

@@ -4,9 +4,10 @@ ghost use Rattle.std.specs.Prelude.{◌≡◌, length, drop, option_copied, slic
 ghost use Rattle.std.specs.Option.{option_map};
 ghost use Rattle.jm_program.specs.Names.{same_text};
 ghost use Rattle.jm_jasmin_lex.specs.Lines.{first_line};
-ghost use Rattle.jm_jasmin.specs.Lines.{is_word_kind, is_word, is_word_at, begins, line_at, line_number};
+ghost use Rattle.jm_jasmin.specs.Lines.{is_word_kind, is_word, is_word_at, begins, line_at, line_number, misplaced_by, misplaced};
 
 use jm_jasmin_lex::{Token, TokenKind, line_of};
+use jm_jasmin_ops::{AsmFault, unknown_word};
 use std::marker::Model;
 
 /// The tokens of the lines that are left. In a contract it is their list.
@@ -80,11 +81,32 @@ impl<'t, 'a> Lines<'t, 'a> {
         is_word_at(self.rest, 0, word)
     }
 
+    /// The fault of the next line, which its place does not have: 46 where it begins with a
+    /// directive that the profile leaves out, or else 41.
+    #[tactic(auto, unfolding(crate::specs::Lines::misplaced))]
+    pub fn misplaced(&self) -> AsmFault
+        ensures { result ≡ misplaced self.now }
+    {
+        match self.rest.first() {
+            None => AsmFault::Syntax(0),
+            Some(token) => misplaced_by(token),
+        }
+    }
+
     /// The number of the next line.
     pub fn line_number(&self) -> usize
         ensures { result ≡ line_number self.now }
     {
         line_number(self.rest)
+    }
+}
+
+fn misplaced_by(token: &Token<'_>) -> AsmFault
+    ensures { result ≡ misplaced_by token.now.kind token.now }
+{
+    match token.kind() {
+        TokenKind::Word => unknown_word(token.line(), token.text()),
+        TokenKind::Text => AsmFault::Syntax(token.line()),
     }
 }
 

@@ -35,7 +35,7 @@ fn end_at(lines: &mut Lines<'_, '_>) -> Result<usize, AsmFault>
     ensures { Reads (λ n. n) result lines.new (required (codes ".end") end_line lines.old) }
 {
     if !lines.begins(".end") {
-        return Err(AsmFault::Syntax(lines.line_number()));
+        return Err(lines.misplaced());
     }
     let line = lines.next_line();
     let end = end_line(line)?;
