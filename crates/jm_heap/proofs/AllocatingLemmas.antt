@@ -1,5 +1,5 @@
 -- What making an object after a collection leaves, beside what there was before it.
-use Rattle.std.proofs.Common.{◌≡◌, ℕ, ◌+◌, ◌<◌, ◌≤◌, ◌^◌, List, Some, sym, ap, ◌∙◌, subst}
+use Rattle.std.proofs.Common.{◌≡◌, ◌≢◌, ℕ, ◌+◌, ◌<◌, ◌≤◌, ◌^◌, List, Some, sym, ap, ◌∙◌, subst}
 use Rattle.std.specs.Prelude.{map}
 use Rattle.jm_values.specs.Shape.{Among}
 use Rattle.jm_world.specs.Objects.{ObjectOf, root, field, refs_of, cells_of, size_by, reached_cells}
@@ -8,8 +8,12 @@ use Rattle.jm_world.proofs.Reaching.{reach_within}
 use Rattle.jm_world.proofs.Agreeing.{cells_agree}
 use Rattle.jm_heap.specs.Allocation.{MadeHere}
 use Rattle.jm_heap.specs.Cells.{header_cells}
-use Rattle.jm_heap.specs.Collection.{Collected}
+use Rattle.jm_heap.specs.Collection.{Collected, IsAsBeforeMaking}
 use Rattle.jm_heap.specs.declared.class_id.ClassId.{ClassId}
+
+-- a heap that has not changed is as before
+pub before_same : (old new : Content ClassId) → new ≡ old → IsAsBeforeMaking old new
+before_same old new e k x n h = subst (λ c. object_at c k ≡ Some x) e h
 
 module _ (old mid : Content ClassId) (roots : List ℕ) (g : Collected old roots mid) where
   abbrev InBoth : ℕ → Type 0
@@ -49,3 +53,9 @@ module _ (old mid : Content ClassId) (roots : List ℕ) (g : Collected old roots
         fits = subst (λ n. n + size_by header_cells o ≤ old.limit) still_used (subst (λ n. used_by header_cells mid roots + size_by header_cells o ≤ n) g.kept.limit made.fits);
         lasts = subst (λ n. n < 2 ^ 63) g.next made.lasts;
       }
+
+  pub before_collected : (new : Content ClassId) → new ≡ mid → IsAsBeforeMaking old new
+  before_collected new e k x n h = g.as_before k x (subst (λ c. object_at c k ≡ Some x) e h)
+
+  pub before_made : (new : Content ClassId) (p : ℕ) (o : ObjectOf ClassId) → MadeHere mid new p o → IsAsBeforeMaking old new
+  before_made new p o m k x n h = g.as_before k x (m.as_before k x (subst (λ j. k ≢ j) (sym g.next) n) h)

@@ -1,6 +1,7 @@
 pub mod SlotLemmas
 pub mod MarkLemmas
 pub mod ContentLemmas
+pub mod SerialLemmas
 pub mod SoundLemmas
 pub mod ReadingLemmas
 pub mod WritingLemmas

@@ -98,6 +98,15 @@ module _ (limit next : ℕ) (slots after : List Slot) (s : AreSound next slots) 
           subst (λ m. object_at new m ≡ Some (named_object (name_of new) f.1)) f.3 (shows_after.objects f.0 f.1 (stays f.0 f.1 f.2))
           ∙ ap Some (same_named f.0 f.1 f.2 ∙ sym f.4)
 
+  only_new : (k : ℕ) (x : ObjectOf ClassId) → k ≢ next → object_at new k ≡ Some x → object_at old k ≡ Some x
+  only_new k x n e = let f = shows_after.only k x e in by f.0 f.1 f.3 f.4 (was f.0 f.1 f.2)
+    where
+      by : (q : ℕ) (y : Object) → y.serial ≡ k → x ≡ named_object (name_of new) y → ((q ≡ p) × (y ≡ a)) ⊎ (object_in slots q ≡ Some y) → object_at old k ≡ Some x
+      by q y is named (inl h) = absurd (n (sym is ∙ ap (λ z. z.serial) h.1 ∙ number))
+      by q y is named (inr h) =
+          subst (λ m. object_at old m ≡ Some (named_object (name_of old) y)) is (shows.objects q y h)
+          ∙ ap Some (sym (same_named q y h) ∙ sym named)
+
   module _ (o : ObjectOf ClassId) (type : a.class ≡ o.type) (values : a.values.items ≡ o.values) where
     same_size : object_cells a ≡ size_by header_cells o
     same_size = let heads = ap header_cells type in let many : length a.values.items ≡ length o.values = ap (λ (l : List Value). length l) values in omega (arith, heads, many)
@@ -134,7 +143,7 @@ module _ (limit next : ℕ) (slots after : List Slot) (s : AreSound next slots) 
 
       made_here : MadeHere old new p o
       unfolding content_of
-      made_here = record { made = made; places = places; objects = objects; cells = more_cells; within = omega (arith, more_cells, room) }
+      made_here = record { made = made; places = places; objects = objects; as_before = only_new; cells = more_cells; within = omega (arith, more_cells, room) }
 
 no_refs : (a : Object) (o : ObjectOf ClassId) → a.values.items ≡ o.values → stack_shape.refs o.values ≡ [] → stack_shape.refs a.values.items ≡ []
 no_refs a o values plain = ap (λ (l : List Value). stack_shape.refs l) values ∙ plain

@@ -1,6 +1,6 @@
 -- The serials of residents, in another order.
 use Rattle.std.proofs.Common.{◌≡◌, ◌⊎◌, ℕ, zero, suc, ◌≤◌, List, [], ◌∷◌, Some, true, false, refl, sym, ap, ◌∙◌, subst, inl, inr, arith}
-use Rattle.std.specs.Prelude.{nat_eq, slice_get, sum_by}
+use Rattle.std.specs.Prelude.{nat_eq, sum_by}
 use Rattle.std.specs.Ordering.{nat_cmp}
 use Rattle.std.specs.List.Sorted.{IsPermutation, IsSorted}
 use Rattle.std.proofs.lemmas.Bool.Decides.{eqb_tells}
@@ -14,9 +14,9 @@ use Rattle.jm_heap.specs.Slots.{AreSound, object_in, object_of, serial_of, seria
 use Rattle.jm_heap.specs.declared.class_id.ClassId.{ClassId}
 use Rattle.jm_heap.specs.declared.slot.Object.{Object}
 use Rattle.jm_heap.specs.declared.slot.Slot.{Slot}
-use Rattle.jm_heap.specs.declared.slot.Slot.TheVariants.{Free, Taken}
 use Rattle.jm_heap.proofs.CellLemmas.{Told}
-use Rattle.jm_heap.proofs.ContentLemmas.{Apart, apart_of, tail_apart, serial_of_place}
+use Rattle.jm_heap.proofs.ContentLemmas.{apart_of, serial_of_place}
+use Rattle.jm_heap.proofs.SerialLemmas.{serial_lies, serial_listed, serials_distinct}
 use Rattle.jm_heap.proofs.SlotLemmas.{slot_at}
 use Rattle.jm_heap.proofs.SoundLemmas.{behind}
 
@@ -77,37 +77,6 @@ distinct_times (x ∷ xs) h = (λ a. twice (times_among x xs a) (eqb_tells x x),
     twice : 1 ≤ times x xs → Told x x → ⊥
     twice m (inl t) = let one = one_here x x t.0 in let total = sum_by-cons (one_if x) x xs in let few = h x in absurd (omega (arith, one, total, few, m))
     twice m (inr t) = t.1 refl
-
--- a serial of what lies in slots
-record At (slots : List Slot) (k : ℕ) : Type 0 where
-  slot : ℕ
-  object : Object
-  taken : slice_get slots slot ≡ Some (Taken object)
-  serial : object.serial ≡ k
-
-tail_at : (s : Slot) (slots : List Slot) (k : ℕ) → At slots k → At (s ∷ slots) k
-tail_at s slots k a = record { slot = suc a.slot; object = a.object; taken = a.taken; serial = a.serial }
-
-serial_lies : (slots : List Slot) (k : ℕ) → Among k (serials_of slots) → At slots k
-serial_lies [] k a = absurd a
-serial_lies (Free n ∷ slots) k a = tail_at (Free n) slots k (serial_lies slots k a)
-serial_lies (Taken o ∷ slots) k (inl e) = record { slot = zero; object = o; taken = refl; serial = sym e }
-serial_lies (Taken o ∷ slots) k (inr a) = tail_at (Taken o) slots k (serial_lies slots k a)
-
-serial_listed : (slots : List Slot) (j : ℕ) (o : Object) → slice_get slots j ≡ Some (Taken o) → Among o.serial (serials_of slots)
-serial_listed [] j o e = cc
-serial_listed (Free n ∷ slots) zero o e = cc
-serial_listed (Free n ∷ slots) (suc j) o e = serial_listed slots j o e
-serial_listed (Taken a ∷ slots) zero o e = let same : a ≡ o = cc in inl (ap (λ x. x.serial) (sym same))
-serial_listed (Taken a ∷ slots) (suc j) o e = inr (serial_listed slots j o e)
-
-serials_distinct : (slots : List Slot) → Apart slots → AllDistinct (serials_of slots)
-serials_distinct [] h = tt
-serials_distinct (Free n ∷ slots) h = serials_distinct slots (tail_apart (Free n) slots h)
-serials_distinct (Taken o ∷ slots) h = (λ a. other (serial_lies slots o.serial a), serials_distinct slots (tail_apart (Taken o) slots h))
-  where
-    other : At slots o.serial → ⊥
-    other a = let same : zero ≡ suc a.slot = h zero (suc a.slot) o a.object refl a.taken (sym a.serial) in absurd (omega arith)
 
 module _ (limit next : ℕ) (slots : List Slot) (s : AreSound next slots) (found sorted : List ℕ) (is : found ≡ serials_of slots) (moved : IsPermutation found sorted) where
   same_times : (k : ℕ) → times k sorted ≡ times k (serials_of slots)

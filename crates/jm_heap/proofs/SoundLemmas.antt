@@ -1,19 +1,21 @@
 -- Sound slots show a sound content, whose reach is by serial what it is by place.
-use Rattle.std.proofs.Common.{◌≡◌, ℕ, ◌<◌, List, [], ◌∷◌, Option, Some, None, true, refl, sym, ap, ◌∙◌, subst, inl, inr}
+use Rattle.std.proofs.Common.{◌≡◌, ℕ, suc, ◌<◌, List, [], ◌∷◌, Option, Some, None, true, refl, sym, ap, ◌∙◌, subst, inl, inr}
 use Rattle.std.specs.Prelude.{map, is_some, unwrap_or}
 use Rattle.jm_values.specs.declared.value.Value.{Value}
 use Rattle.jm_values.specs.declared.value.Value.TheVariants.{Int, Long, Null, Ref}
 use Rattle.jm_values.specs.Rename.{rename, stack_shape}
 use Rattle.jm_values.specs.Shape.{Among}
-use Rattle.jm_world.specs.Objects.{ObjectOf, Reach, root, field, refs_of}
+use Rattle.jm_world.specs.Reaching.{AllDistinct}
+use Rattle.jm_world.specs.Objects.{Reach, root, field, refs_of}
 use Rattle.jm_world.specs.Content.{Content, IsSound, AllResident, Reached, serial_at, object_at, name_of}
 use Rattle.jm_world.proofs.Reaching.{reach_within}
 use Rattle.jm_heap.specs.Marks.{objects_of, plain_object}
-use Rattle.jm_heap.specs.Slots.{AreSound, object_in, serial_of, named_object, content_of}
+use Rattle.jm_heap.specs.Slots.{AreSound, object_in, object_of, serial_of, name_in, named_object, content_of}
 use Rattle.jm_heap.specs.declared.class_id.ClassId.{ClassId}
 use Rattle.jm_heap.specs.declared.slot.Object.{Object}
 use Rattle.jm_heap.specs.declared.slot.Slot.{Slot}
-use Rattle.jm_heap.proofs.ContentLemmas.{Shows, slots_show}
+use Rattle.jm_heap.proofs.ContentLemmas.{Shows, slots_show, apart_of}
+use Rattle.jm_heap.proofs.SerialLemmas.{At, serial_lies, serials_distinct, serials_are, places_distinct}
 
 -- the object at a place that has a serial
 pub behind : (o : Option Object) (k : ℕ) → serial_of o ≡ Some k → (a : Object) × (o ≡ Some a) × (a.serial ≡ k)
@@ -42,22 +44,13 @@ name_is f c s p a e = ap (λ o. unwrap_or o 0) (serial_is f c s p a e)
 pub sound_content : (limit next : ℕ) (slots : List Slot) → AreSound next slots → IsSound (content_of limit next slots)
 unfolding content_of
 sound_content limit next slots s = record {
-  one_to_one = λ p q k e g. one p q k (at_place (object_in slots) (content_of limit next slots) shows p k e) (at_place (object_in slots) (content_of limit next slots) shows q k g);
-  below = λ p k e. low p k (at_place (object_in slots) (content_of limit next slots) shows p k e);
-  whole = λ p k e. has p k (at_place (object_in slots) (content_of limit next slots) shows p k e);
+  places = places_distinct (name_in slots) 0 slots;
+  serials = subst AllDistinct (sym (serials_are (name_in slots) 0 slots)) (serials_distinct slots (apart_of next slots s));
+  below = λ k a. low k (serial_lies slots k (subst (Among k) (serials_are (name_in slots) 0 slots) a));
 }
   where
-    shows : Shows (object_in slots) (content_of limit next slots)
-    shows = slots_show limit next slots s
-
-    one : (p q k : ℕ) → (a : Object) × (object_in slots p ≡ Some a) × (a.serial ≡ k) → (b : Object) × (object_in slots q ≡ Some b) × (b.serial ≡ k) → p ≡ q
-    one p q k x y = s.apart p q x.0 y.0 x.1 y.1 (x.2 ∙ sym y.2)
-
-    low : (p k : ℕ) → (a : Object) × (object_in slots p ≡ Some a) × (a.serial ≡ k) → k < next
-    low p k x = subst (λ n. n < next) x.2 (s.below p x.0 x.1)
-
-    has : (p k : ℕ) → (a : Object) × (object_in slots p ≡ Some a) × (a.serial ≡ k) → (o : ObjectOf ClassId) × (object_at (content_of limit next slots) k ≡ Some o)
-    has p k x = (named_object (name_of (content_of limit next slots)) x.0, subst (λ n. object_at (content_of limit next slots) n ≡ Some (named_object (name_of (content_of limit next slots)) x.0)) x.2 (shows.objects p x.0 x.1))
+    low : (k : ℕ) → At slots k → k < next
+    low k x = subst (λ n. n < next) x.serial (s.below (suc x.slot) x.object (ap object_of x.taken))
 
 -- references under their serials
 pub refs_renamed : (f : ℕ → ℕ) (vs : List Value) → stack_shape.refs (map (rename f) vs) ≡ map f (stack_shape.refs vs)

@@ -3,6 +3,7 @@ use Rattle.std.specs.Prelude.{◌≡◌, ℕ, ◌+◌, ◌<◌, ◌≤◌, List,
 use Rattle.jm_world.specs.Objects.{ObjectOf, size_by}
 use Rattle.jm_world.specs.Content.{Content, AllResident, Made, IsFull, IsAtEnd, serial_at, object_at}
 use Rattle.jm_heap.specs.Cells.{header_cells, resident_cells}
+use Rattle.jm_heap.specs.Collection.{IsAsBeforeMaking}
 use Rattle.jm_heap.specs.declared.class_id.ClassId.{ClassId}
 use Rattle.jm_heap.specs.declared.fault.HeapFault.{HeapFault}
 use Rattle.jm_heap.specs.declared.fault.HeapFault.TheVariants.{OutOfMemory, HeapFull, SerialsEnd}
@@ -18,6 +19,7 @@ pub record MadeHere (old new : Content ClassId) (place : ℕ) (o : ObjectOf Clas
   pub made : (roots : List ℕ) → AllResident old roots → Made header_cells old roots new roots place o
   pub places : (p k : ℕ) → serial_at old p ≡ Some k → serial_at new p ≡ Some k
   pub objects : (k : ℕ) (x : ObjectOf ClassId) → object_at old k ≡ Some x → object_at new k ≡ Some x
+  pub as_before : IsAsBeforeMaking old new
   pub cells : resident_cells new ≡ resident_cells old + size_by header_cells o
   pub within : resident_cells new ≤ new.limit
 

@@ -1,5 +1,5 @@
 -- What a collection leaves, beside what is kept.
-use Rattle.std.specs.Prelude.{◌≡◌, ℕ, List, Some}
+use Rattle.std.specs.Prelude.{◌≡◌, ◌≢◌, ℕ, List, Some}
 use Rattle.jm_world.specs.Objects.{ObjectOf}
 use Rattle.jm_world.specs.Content.{Content, Kept, Reached, serial_at, object_at}
 use Rattle.jm_heap.specs.declared.heap.Kind.{Kind}
@@ -8,6 +8,10 @@ use Rattle.jm_heap.specs.declared.heap.Kind.TheVariants.{Minor, Full}
 -- what is left is as it was
 abbrev pub IsAsBefore : {T : Type 0} → Content T → Content T → Type 0
 IsAsBefore old new = (k : ℕ) (o : ObjectOf _) → object_at new k ≡ Some o → object_at old k ≡ Some o
+
+-- what is left, beside what has the next serial, is as it was
+abbrev pub IsAsBeforeMaking : {T : Type 0} → Content T → Content T → Type 0
+IsAsBeforeMaking old new = (k : ℕ) (o : ObjectOf _) → k ≢ old.next → object_at new k ≡ Some o → object_at old k ≡ Some o
 
 -- a full collection leaves only what is reached
 abbrev pub LeavesReached : {T : Type 0} → Kind → Content T → List ℕ → Content T → Type 0

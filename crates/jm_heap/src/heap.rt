@@ -9,7 +9,7 @@ ghost use Rattle.jm_heap.specs.Cells.{header_cells, resident_cells};
 ghost use Rattle.jm_heap.specs.NewObject.{new_object};
 ghost use Rattle.jm_heap.specs.Residents.{AreResident};
 ghost use Rattle.jm_heap.specs.Allocation.{IsRefused, IsRefusedHere, MadeHereOrNot};
-ghost use Rattle.jm_heap.specs.Collection.{IsAsBefore, LeavesReached};
+ghost use Rattle.jm_heap.specs.Collection.{IsAsBefore, IsAsBeforeMaking, LeavesReached};
 ghost use Rattle.jm_heap.specs.declared.class_id.ClassId.{ClassId};
 
 use crate::class_id::ClassId;
@@ -33,14 +33,15 @@ pub enum Kind {
 /// that name serials. An instance takes 2 cells and one for each field, an array 3 and one for
 /// each element (a long is one cell).
 ///
-/// Serials are sound where each place has one of its own, below the next one, and an object. A
-/// new heap's are, and each call leaves them so.
+/// A content is sound where no two residents have one place or one serial, and each serial is below
+/// the next one. A new heap's is, and each call leaves it so.
 pub trait Heap {
     ghost content: { Self → Content ClassId };
 
     /// Makes an object with default values (JVMS 2.3, 2.4), in a nursery, which has no part in
     /// what it is, and answers its place. It may collect first: the roots are then moved with
-    /// their objects, after a refusal too, and what they reach stays as it is.
+    /// their objects, after a refusal too, and what they reach stays as it is. Each other resident
+    /// was one before, as it is.
     ///
     /// HeapFull comes exactly where the cells of what the roots reach and those of the object
     /// pass the limit, SerialsEnd where they do not and there have been 2^63 objects, and
@@ -56,6 +57,7 @@ pub trait Heap {
         ensures ok { IfOk result (λ place. Made header_cells (content self.old) roots.old (content self.new) roots.new place (new_object shape.entry)) }
         ensures kept { OnErr result (Kept (content self.old) roots.old (content self.new) roots.new) }
         ensures next { OnErr result ((content self.new).next ≡ (content self.old).next) }
+        ensures as_before { IsAsBeforeMaking (content self.old) (content self.new) }
         ensures err { IfErr result (IsRefused (content self.old) roots.old (new_object shape.entry)) };
 
     /// Makes an object where that needs no collection, and so no roots; no other object moves or

@@ -7,7 +7,7 @@ ghost use Rattle.jm_heap.specs.Cells.{header_cells, resident_cells};
 ghost use Rattle.jm_heap.specs.NewObject.{new_object};
 ghost use Rattle.jm_heap.specs.Allocation.{HasRoom, NoneIsNoRoom, IsRefused, IsRefusedHere, MadeHereOrNot};
 ghost use Rattle.jm_heap.specs.Residents.{AreResident};
-ghost use Rattle.jm_heap.specs.Collection.{Collected, IsAsBefore, IsUnmoved, LeavesReached};
+ghost use Rattle.jm_heap.specs.Collection.{Collected, IsAsBefore, IsAsBeforeMaking, IsUnmoved, LeavesReached};
 ghost use Rattle.jm_world.specs.Objects.{ObjectOf};
 ghost use Rattle.jm_world.specs.Content.{Content, HasValue, IsSet, IsSound, Kept, Made, AllResident, used_by, serial_at, object_at, name_of};
 ghost use Rattle.jm_heap.specs.declared.class_id.ClassId.{ClassId};
@@ -152,6 +152,7 @@ impl PlainHeap {
         ensures ok { IfOk result (λ place. Made header_cells self.old roots.old self.new roots.new place (new_object shape.entry)) }
         ensures kept { OnErr result (Kept self.old roots.old self.new roots.new) }
         ensures next { OnErr result (self.new.next ≡ self.old.next) }
+        ensures as_before { IsAsBeforeMaking self.old self.new }
         ensures err { IfErr result (IsRefused self.old roots.old (new_object shape.entry)) }
         ensures unmoved { IsUnmoved self.old roots.old self.new }
         ensures roots { roots.new ≡ roots.old }
@@ -174,6 +175,7 @@ impl PlainHeap {
         ensures ok { IfOk result (λ place. Made header_cells self.old roots.now self.new roots.now place (new_object shape.entry)) }
         ensures kept { OnErr result (Kept self.old roots.now self.new roots.now) }
         ensures next { OnErr result (self.new.next ≡ self.old.next) }
+        ensures as_before { IsAsBeforeMaking self.old self.new }
         ensures err { IfErr result (IsRefused self.old roots.now (new_object shape.entry)) }
         ensures unmoved { IsUnmoved self.old roots.now self.new }
     {

@@ -49,6 +49,7 @@ use Rattle.jm_interp.specs.Printing.{printing_of, left_by, text_bytes, line_byte
 use Rattle.jm_interp.specs.Standing.{Stands, StandsHere, part_of}
 use Rattle.jm_interp.proofs.Lists.{among_split}
 use Rattle.jm_interp.proofs.Linked.{print_links}
+use Rattle.jm_world.proofs.SoundContents.{object_of_place}
 use Rattle.jm_interp.proofs.Standing.{place_stands, reach_shared}
 use Rattle.jm_interp.proofs.Threads.{part_refs, frames_refs, thread_place, world_thread, changed_all}
 use Rattle.jm_interp.proofs.Thrown.{name_is}
@@ -141,7 +142,7 @@ unfolding parts
 lies_at l c a w h place p =
     let q = place_stands (state_parts l c a) w h (Reach (slice_get w.heap) (roots w)) (reach_shared (state_parts l c a) w h) place p in
     let named : name_of c place ≡ q.0.0 = name_is c place q.0.0 q.0.1 in
-    let o = h.sound.whole place q.0.0 q.0.1 in
+    let o = object_of_place c place q.0.0 q.0.1 in
     record {
       serial = q.0.0;
       object = o.0;

@@ -30,6 +30,7 @@ use Rattle.jm_state.specs.declared.thread.StackFrame.{StackFrame}
 use Rattle.jm_state.specs.declared.thread.StackFrame.TheVariants.{Method}
 use Rattle.jm_state.specs.declared.thread.Thread as held
 use Rattle.jm_interp.specs.Standing.{Stands, StandsAt}
+use Rattle.jm_world.proofs.SoundContents.{place_of_serial}
 use Rattle.jm_interp.proofs.Lists.{among_split, each_at}
 use Rattle.jm_interp.proofs.Threads.{part_refs, pending_refs, frames_refs, thread_place, moved_thread, part_runs, set_runs}
 use Rattle.jm_interp.proofs.Thrown.{name_is}
@@ -41,7 +42,7 @@ one_to_one c ns s r p q a b e =
     let i = r p a in
     let j = r q b in
     let same : i.0 ≡ j.0 = sym (name_is c p i.0 i.1) ∙ e ∙ name_is c q j.0 j.1 in
-    s.one_to_one p q i.0 i.1 (subst (λ k. serial_at c q ≡ Some k) (sym same) j.1)
+    place_of_serial c s p q i.0 i.1 (subst (λ k. serial_at c q ≡ Some k) (sym same) j.1)
 
 -- the references of the top frame are the thread's
 top_refs : (l : LinkedView) (v : FrameView) (below : List StackFrame) (p : Option ℕ) (e : code.Ending) (q : ℕ) → Among q (refs_activation v.activation) → Among q (frames_shape.refs (map (frame_part l) (Method v ∷ below)))

@@ -36,6 +36,7 @@ use Rattle.jm_state.specs.declared.thread.StackFrame.{StackFrame}
 use Rattle.jm_state.specs.declared.thread.StackFrame.TheVariants.{Method, Initialization}
 use Rattle.jm_state.specs.declared.thread.Thread as held
 use Rattle.jm_interp.specs.Standing.{Stands, StandsAt, part_of}
+use Rattle.jm_world.proofs.SoundContents.{object_of_place}
 use Rattle.jm_interp.proofs.Standing.{place_stands, reach_shared}
 use Rattle.jm_interp.proofs.Threads.{part_refs, pending_refs, frames_refs, thread_place, world_thread, moved_thread, PartRuns, set_runs}
 use Rattle.jm_interp.proofs.Thrown.{get_there, name_is}
@@ -100,7 +101,7 @@ module _ {H : Type 0} (l : LinkedView) (is : IsLinked l) (c : Content ClassId) (
       let p : Among place (places (state_parts l c a)) = thread_place l c a.threads.items a.statics.items a.classes.items a.output.items a.stop w h i fs (Some place) Running s place (pending_refs l fs (Some place) Running place (inl refl)) in
       let q = place_stands (state_parts l c a) w h (Reach (slice_get w.heap) (roots w)) (reach_shared (state_parts l c a) w h) place p in
       let named : name_of c place ≡ q.0.0 = name_is c place q.0.0 q.0.1 in
-      let o = h.sound.whole place q.0.0 q.0.1 in
+      let o = object_of_place c place q.0.0 q.0.1 in
       record {
         serial = q.0.0;
         object = o.0;

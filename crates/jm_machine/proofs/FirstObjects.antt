@@ -3,7 +3,8 @@ use Rattle.std.proofs.Common.{◌≡◌, ℕ, ◌+◌, ◌≤◌, List, [], ◌�
 use Rattle.std.specs.Prelude.{map, slice_get, unwrap_or}
 use Rattle.jm_values.specs.Shape.{Among}
 use Rattle.jm_world.specs.Objects.{ObjectOf, Reach, root, reached, reached_cells}
-use Rattle.jm_world.specs.Content.{Content, IsSound, Made, AllResident, used_by, serial_at, serial_in, object_at, name_of}
+use Rattle.jm_world.specs.Reaching.{AllDistinct}
+use Rattle.jm_world.specs.Content.{Content, Resident, places_of, serials_of, IsSound, Made, AllResident, used_by, serial_at, serial_in, object_at, name_of}
 use Rattle.jm_heap.specs.Cells.{header_cells}
 use Rattle.jm_heap.specs.Allocation.{IsRefused}
 use Rattle.jm_heap.specs.declared.class_id.ClassId.{ClassId}
@@ -17,9 +18,9 @@ no_serial c e p = ap (λ rs. serial_in rs p) e.residents
 
 pub empty_sound : (c : Content ClassId) → IsEmpty c → IsSound c
 empty_sound c e = record {
-  one_to_one = λ p q k h i. let n = no_serial c e p in cc;
-  below = λ p k h. let n = no_serial c e p in cc;
-  whole = λ p k h. let n = no_serial c e p in cc;
+  places = subst (λ (rs : List (Resident ClassId)). AllDistinct (places_of rs)) (sym e.residents) tt;
+  serials = subst (λ (rs : List (Resident ClassId)). AllDistinct (serials_of rs)) (sym e.residents) tt;
+  below = λ k a. absurd (subst (λ (rs : List (Resident ClassId)). Among k (serials_of rs)) e.residents a);
 }
 
 -- nothing is reached from no roots, and from the print stream it alone

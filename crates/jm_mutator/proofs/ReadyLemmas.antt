@@ -5,6 +5,7 @@ use Rattle.jm_values.specs.declared.value.Value.{Value}
 use Rattle.jm_values.specs.Shape.{Among}
 use Rattle.jm_world.specs.Objects.{ObjectOf}
 use Rattle.jm_world.specs.Content.{Content, IsSound, AllResident, Kept, Made, IsSet, HasValue, serial_at, object_at}
+use Rattle.jm_world.proofs.SoundContents.{object_of_place}
 use Rattle.jm_heap.specs.Allocation.{MadeHere}
 use Rattle.jm_heap.specs.declared.class_id.ClassId.{ClassId}
 use Rattle.jm_mutator.specs.Ready.{IsReady}
@@ -21,7 +22,7 @@ among_read (q ∷ ps) (suc i) p e = inr (among_read ps i p e)
 pub object_held : {T : Type 0} (c : Content T) (ps : List ℕ) (p : ℕ) → IsReady c ps → Among p ps → (k : ℕ) × (o : ObjectOf T) × (serial_at c p ≡ Some k) × (object_at c k ≡ Some o)
 object_held c ps p r a =
     let t = r.resident p a in
-    let o = r.sound.whole p t.0 t.1 in
+    let o = object_of_place c p t.0 t.1 in
     (t.0, o.0, t.1, o.1)
 
 read_within : (vs : List Value) (i : ℕ) → i < length vs → (v : Value) × (slice_get vs i ≡ Some v)
@@ -102,5 +103,4 @@ made_here_ready old new ps p o r m =
 
 -- nothing lies in an empty heap
 pub empty_sound : {T : Type 0} (limit next : ℕ) → IsSound {T = T} (record { limit = limit; next = next; residents = [] })
-unfolding serial_at
-empty_sound limit next = record { one_to_one = λ p q k e f. cc; below = λ p k e. cc; whole = λ p k e. cc }
+empty_sound limit next = record { places = tt; serials = tt; below = λ k a. absurd a }

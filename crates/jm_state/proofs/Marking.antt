@@ -17,6 +17,7 @@ use Rattle.jm_values.specs.declared.value.Value.TheVariants.{Int, Long, Null, Re
 use Rattle.jm_values.proofs.Among.{among_left, among_right}
 use Rattle.jm_world.specs.Objects.{ObjectOf, root, field, refs_of}
 use Rattle.jm_world.specs.Content.{Content, IsSound, AllResident, HasValue, Reached, serial_at, object_at, name_of}
+use Rattle.jm_world.proofs.SoundContents.{serial_below, object_of_place}
 use Rattle.jm_world.specs.Reaching.{AllDistinct}
 use Rattle.jm_world.proofs.Reaching.{reach_within, few_below}
 use Rattle.jm_state.specs.Reached.{AreReached, IsNamed, MarkedAll}
@@ -168,7 +169,7 @@ module _ {T : Type 0} (c : Content T) where
   below_next : IsSound c → (places : List ℕ) → AllResident c places → (k : ℕ) → IsNamed c places k → k < c.next
   below_next whole places all k n =
       let there = all n.0 n.1 in
-      whole.below n.0 k (subst (λ j. serial_at c n.0 ≡ Some j) (sym (name_is c n.0 there.0 there.1) ∙ n.2) there.1)
+      serial_below c whole n.0 k (subst (λ j. serial_at c n.0 ≡ Some j) (sym (name_is c n.0 there.0 there.1) ∙ n.2) there.1)
 
   pub first_frontier : IsSound c → (roots now pending : List ℕ) → MarkedAll c (map (name_of c) roots) [] [] now pending → Frontier roots now pending
   first_frontier whole roots now pending f = record {
@@ -318,11 +319,11 @@ module _ {T : Type 0} (c : Content T) (p : ℕ) where
   Counts n = (k : ℕ) (o : ObjectOf T) → serial_at c p ≡ Some k → object_at c k ≡ Some o → n ≡ length o.values
 
   pub object_there : IsSound c → Lies → (k : ℕ) × (o : ObjectOf T) × (serial_at c p ≡ Some k) × (object_at c k ≡ Some o)
-  object_there whole there = let o = whole.whole p there.0 there.1 in (there.0, o.0, there.1, o.1)
+  object_there whole there = let o = object_of_place c p there.0 there.1 in (there.0, o.0, there.1, o.1)
 
   pub value_there : IsSound c → Lies → (n i : ℕ) → Counts n → i < n → (v : Value) × HasValue c p i v
   value_there whole there n i counts lt =
-      let o = whole.whole p there.0 there.1 in
+      let o = object_of_place c p there.0 there.1 in
       let long : n ≡ length o.0.values = counts there.0 o.0 there.1 o.1 in
       let v = get_within o.0.values i (omega arith) in
       (v.0, (there.0, o.0, there.1, o.1, v.1))
@@ -342,7 +343,7 @@ module _ {T : Type 0} (c : Content T) (p : ℕ) where
 
   pub all_looked : IsSound c → Lies → (n : ℕ) → Counts n → (a b s t : List ℕ) → MarkedAll c (stack_shape.refs (take n (values_in (object_at c (name_of c p))))) a s b t → MarkedAll c (refs_of (object_at c (name_of c p))) a s b t
   all_looked whole there n counts a b s t f =
-      let o = whole.whole p there.0 there.1 in
+      let o = object_of_place c p there.0 there.1 in
       let same : object_at c (name_of c p) ≡ Some o.0 = ap (object_at c) (name_is c p there.0 there.1) ∙ o.1 in
       let long : n ≡ length o.0.values = counts there.0 o.0 there.1 o.1 in
       let few : length (values_in (object_at c (name_of c p))) ≤ n = subst (λ x. length (values_in x) ≤ n) (sym same) (omega arith) in

@@ -1,3 +1,4 @@
+pub mod SoundContents
 pub mod WholeMachine
 pub mod Agreeing
 pub mod Matching

@@ -7,7 +7,8 @@ use Rattle.jm_values.proofs.Among.{among_left, among_right}
 use Rattle.jm_values.proofs.Shapes.{list_is_shape}
 use Rattle.jm_world.specs.Objects.{Object}
 use Rattle.jm_world.specs.World.{World, roots}
-use Rattle.jm_world.specs.Content.{serial_in, object_in, serial_at, object_at, name_of, AllResident, IsSound}
+use Rattle.jm_world.specs.Reaching.{AllDistinct}
+use Rattle.jm_world.specs.Content.{places_of, serials_of, serial_in, object_in, serial_at, object_at, name_of, AllResident, IsSound}
 use Rattle.jm_world.specs.Renaming.{thread_shape, static_shape, monitor_shape, literal_shape}
 use Rattle.jm_world.specs.Matches.{places, as_named, Matches}
 use Rattle.jm_world.specs.Matched.{residents_from, whole_content, place_of, whole_machine, WorldsAreMatched}
@@ -26,14 +27,24 @@ serial_there b (o ∷ os) k l h = by (nat_eq (k + 1) (b + 1)) refl (eqb_tells (k
     by false e (inl t) ih = cc
     by false e (inr t) ih = ih (omega (arith, l, t.1)) (omega (arith, h))
 
-serial_found : (b : ℕ) (os : List Object) (p k : ℕ) → serial_in (residents_from b os) p ≡ Some k → (p ≡ k + 1) × (b ≤ k) × (k < b + length os)
-serial_found b [] p k e = cc
-serial_found b (o ∷ os) p k e = by (nat_eq p (b + 1)) refl (eqb_tells p (b + 1)) (serial_found (b + 1) os p k) e
-  where
-    by : (c : Bool) → nat_eq p (b + 1) ≡ c → ((nat_eq p (b + 1) ≡ true) × (p ≡ b + 1)) ⊎ ((nat_eq p (b + 1) ≡ false) × (p ≢ b + 1)) → (serial_in (residents_from (b + 1) os) p ≡ Some k → (p ≡ k + 1) × (b + 1 ≤ k) × (k < b + 1 + length os)) → (elim c as (λ _. Option ℕ) [ true ↦ Some b | false ↦ serial_in (residents_from (b + 1) os) p ]) ≡ Some k → (p ≡ k + 1) × (b ≤ k) × (k < b + length (o ∷ os))
-    by true f (inl t) ih h = let same : b ≡ k = cc in (omega (arith, t.1, same), omega (arith, same), omega (arith, same))
-    by true f (inr t) ih h = cc
-    by false f t ih h = let g = ih h in (g.0, omega (arith, g.1), omega (arith, g.2))
+-- the places and serials of a part of the heap rise from its first object's
+place_above : (b : ℕ) (os : List Object) (p : ℕ) → Among p (places_of (residents_from b os)) → b < p
+place_above b [] p a = absurd a
+place_above b (o ∷ os) p (inl e) = omega (arith, e)
+place_above b (o ∷ os) p (inr a) = let above = place_above (b + 1) os p a in omega (arith, above)
+
+serial_within : (b : ℕ) (os : List Object) (k : ℕ) → Among k (serials_of (residents_from b os)) → (b ≤ k) × (k < b + length os)
+serial_within b [] k a = absurd a
+serial_within b (o ∷ os) k (inl e) = (omega (arith, e), omega (arith, e))
+serial_within b (o ∷ os) k (inr a) = let within = serial_within (b + 1) os k a in (omega (arith, within.0), omega (arith, within.1))
+
+places_distinct : (b : ℕ) (os : List Object) → AllDistinct (places_of (residents_from b os))
+places_distinct b [] = tt
+places_distinct b (o ∷ os) = (λ a. let above = place_above (b + 1) os (b + 1) a in omega (arith, above), places_distinct (b + 1) os)
+
+serials_distinct : (b : ℕ) (os : List Object) → AllDistinct (serials_of (residents_from b os))
+serials_distinct b [] = tt
+serials_distinct b (o ∷ os) = (λ a. let within = serial_within (b + 1) os b a in omega (arith, within.0), serials_distinct (b + 1) os)
 
 object_there : (b : ℕ) (os : List Object) (i : ℕ) → object_in (residents_from b os) (b + i) ≡ slice_get os i
 object_there b [] i = refl
@@ -65,20 +76,11 @@ module _ (w : World) (f : IsWellFormed w) where
       laws.composes (name_of (whole_content w)) place_of ∙ laws.agrees (λ p. name_of (whole_content w) (place_of p)) (λ p. p) (λ k a. named k (b k a)) ∙ laws.keeps
 
   sound : IsSound (whole_content w)
-  unfolding serial_at object_at
   sound = record {
-    one_to_one = λ p q k a b. (serial_found 0 w.heap p k a).0 ∙ sym (serial_found 0 w.heap q k b).0;
-    below = λ p k a. omega (arith, (serial_found 0 w.heap p k a).2);
-    whole = λ p k a. has k (omega (arith, (serial_found 0 w.heap p k a).2));
+    places = places_distinct 0 w.heap;
+    serials = serials_distinct 0 w.heap;
+    below = λ k a. omega (arith, (serial_within 0 w.heap k a).1);
   }
-    where
-      some_of : (os : List Object) (k : ℕ) → k < length os → (o : Object) × (slice_get os k ≡ Some o)
-      some_of [] k l = absurd (omega (arith, l))
-      some_of (o ∷ os) zero l = (o, refl)
-      some_of (o ∷ os) (suc k) l = some_of os k (omega (arith, l))
-
-      has : (k : ℕ) → k < length w.heap → (o : Object) × (object_in (residents_from 0 w.heap) k ≡ Some o)
-      has k l = let found = some_of w.heap k l in (found.0, subst (λ n. object_in (residents_from 0 w.heap) n ≡ slice_get w.heap k) (omega arith) (object_there 0 w.heap k) ∙ found.1)
 
   among_map : (g : ℕ → ℕ) (p : ℕ) (ks : List ℕ) → Among p (map g ks) → (k : ℕ) × Among k ks × (p ≡ g k)
   among_map g p [] a = absurd a

@@ -4,6 +4,7 @@ use Rattle.std.specs.Prelude.{◌≡◌, ◌≢◌, ℕ, ◌+◌, ◌<◌, ◌�
 use Rattle.jm_values.specs.Shape.{Among}
 use Rattle.jm_values.specs.Rename.{rename}
 use Rattle.jm_values.specs.declared.value.Value.{Value}
+use Rattle.jm_world.specs.Reaching.{AllDistinct}
 use Rattle.jm_world.specs.Objects.{ObjectOf, Reach, reached_cells, size_by}
 
 -- an object that has a place; its values name serials. T is how the heap tells classes and array
@@ -18,6 +19,14 @@ pub record Content (T : Type 0) : Type 0 where
   pub limit : ℕ
   pub next : ℕ
   pub residents : List (Resident T)
+
+abbrev pub places_of : {T : Type 0} → List (Resident T) → List ℕ
+places_of [] = []
+places_of (r ∷ rs) = r.place ∷ places_of rs
+
+abbrev pub serials_of : {T : Type 0} → List (Resident T) → List ℕ
+serials_of [] = []
+serials_of (r ∷ rs) = r.serial ∷ serials_of rs
 
 abbrev pub serial_in : {T : Type 0} → List (Resident T) → ℕ → Option ℕ
 serial_in [] p = None
@@ -43,11 +52,11 @@ name_of c p = unwrap_or (serial_at c p) 0
 abbrev pub AllResident : {T : Type 0} → Content T → List ℕ → Type 0
 AllResident c ps = (p : ℕ) → Among p ps → (k : ℕ) × (serial_at c p ≡ Some k)
 
--- no two places have one serial, serials are below the next one, and each has its object
+-- no two residents have one place or one serial, and each serial is below the next one
 pub record IsSound {T : Type 0} (c : Content T) : Type 0 where
-  pub one_to_one : (p q k : ℕ) → serial_at c p ≡ Some k → serial_at c q ≡ Some k → p ≡ q
-  pub below : (p k : ℕ) → serial_at c p ≡ Some k → k < c.next
-  pub whole : (p k : ℕ) → serial_at c p ≡ Some k → (o : ObjectOf T) × (object_at c k ≡ Some o)
+  pub places : AllDistinct (places_of c.residents)
+  pub serials : AllDistinct (serials_of c.residents)
+  pub below : (k : ℕ) → Among k (serials_of c.residents) → k < c.next
 
 -- what is reached from the places that a machine holds
 abbrev pub Reached : {T : Type 0} → Content T → List ℕ → ℕ → Type 0

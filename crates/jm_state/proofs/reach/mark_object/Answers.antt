@@ -1,6 +1,9 @@
 use Rattle.std.proofs.Common.{◌≡◌, ◌∙◌, arith}
-use Rattle.jm_state.proofs.Marking.{value_there, looked_more, all_looked}
+use Rattle.jm_state.proofs.Marking.{object_there, value_there, looked_more, all_looked}
 use Rattle.jm_state.proofs.reach.mark_object.Goals as goal
+
+pub length-index-end-requires : goal.length-index-end-requires
+length-index-end-requires g c = object_there (g.H.Heap.content c.args.heap.now) c.args.place c.requires.sound c.requires.there
 
 pub get-requires : goal.get-requires
 get-requires g c = value_there (g.H.Heap.content c.args.heap.now) c.args.place c.requires.sound c.requires.there c.length-index-end.result c.loop-index.index c.length-index-end.ensures (omega arith)

@@ -4,6 +4,9 @@ use Rattle.jm_state.specs.Parts.{named_type}
 use Rattle.jm_machine.proofs.Told.{object, seen_is}
 use Rattle.jm_machine.proofs.object.WorldObject.kind.Goals as goal
 
+pub class_of-requires : goal.class_of-requires
+class_of-requires g c = object c.self.inside.linked.now (g.H.Heap.content c.self.inside.heap.now) c.self.inside.place c.self.invariant.0 c.self.invariant.1
+
 pub returns : goal.returns
 returns g c =
     let l = c.self.inside.linked.now in

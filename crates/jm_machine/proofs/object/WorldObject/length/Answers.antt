@@ -3,6 +3,9 @@ use Rattle.jm_world.specs.Objects.{Object}
 use Rattle.jm_machine.proofs.Told.{object, seen_is}
 use Rattle.jm_machine.proofs.object.WorldObject.length.Goals as goal
 
+pub length-requires : goal.length-requires
+length-requires g c = object c.self.inside.linked.now (g.H.Heap.content c.self.inside.heap.now) c.self.inside.place c.self.invariant.0 c.self.invariant.1
+
 pub returns : goal.returns
 returns g c =
     let l = c.self.inside.linked.now in

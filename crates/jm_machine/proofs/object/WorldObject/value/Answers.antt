@@ -8,6 +8,9 @@ use Rattle.jm_state.proofs.Marking.{value_there}
 use Rattle.jm_machine.proofs.Told.{object, seen_is, value_seen}
 use Rattle.jm_machine.proofs.object.WorldObject.value.Goals as goal
 
+pub length-requires : goal.length-requires
+length-requires g c = object c.self.inside.linked.now (g.H.Heap.content c.self.inside.heap.now) c.self.inside.place c.self.invariant.0 c.self.invariant.1
+
 pub get-value-requires : goal.get-value-requires
 get-value-requires g c =
     value_there (g.H.Heap.content c.self.inside.heap.now) c.self.inside.place c.self.invariant.0 c.self.invariant.1 c.length.result c.args.index c.length.ensures c.if-index-length.true

@@ -1,0 +1,67 @@
+-- What a sound content has at each place.
+use Rattle.std.proofs.Common.{◌≡◌, ◌≢◌, ◌⊎◌, ℕ, ◌<◌, List, [], ◌∷◌, Option, Some, Bool, true, false, refl, sym, ◌∙◌, subst, inl, inr}
+use Rattle.std.specs.Prelude.{nat_eq}
+use Rattle.std.proofs.lemmas.Bool.Decides.{eqb_tells}
+use Rattle.jm_values.specs.Shape.{Among}
+use Rattle.jm_world.specs.Reaching.{AllDistinct}
+use Rattle.jm_world.specs.Objects.{ObjectOf}
+use Rattle.jm_world.specs.Content.{Content, Resident, IsSound, serials_of, serial_in, object_in, serial_at, object_at}
+
+equal_numbers : (a b : ℕ) → nat_eq a b ≡ true → a ≡ b
+equal_numbers a b e = by (eqb_tells a b)
+  where
+    by : ((nat_eq a b ≡ true) × (a ≡ b)) ⊎ ((nat_eq a b ≡ false) × (a ≢ b)) → a ≡ b
+    by (inl t) = t.1
+    by (inr t) = cc
+
+serial_listed : {T : Type 0} (rs : List (Resident T)) (p k : ℕ) → serial_in rs p ≡ Some k → Among k (serials_of rs)
+serial_listed [] p k e = cc
+serial_listed (r ∷ rs) p k e = by (nat_eq p r.place) (serial_listed rs p k) e
+  where
+    by : (b : Bool) → (serial_in rs p ≡ Some k → Among k (serials_of rs)) → (elim b as (λ _. Option ℕ) [ true ↦ Some r.serial | false ↦ serial_in rs p ]) ≡ Some k → (k ≡ r.serial) ⊎ Among k (serials_of rs)
+    by true later h = inl cc
+    by false later h = inr (later h)
+
+one_place : {T : Type 0} (rs : List (Resident T)) (p q k : ℕ) → AllDistinct (serials_of rs) → serial_in rs p ≡ Some k → serial_in rs q ≡ Some k → p ≡ q
+one_place [] p q k d e f = cc
+one_place (r ∷ rs) p q k d e f = by (one_place rs p q k d.1) (nat_eq p r.place) refl (nat_eq q r.place) refl e f
+  where
+    twice : (n : ℕ) → Some r.serial ≡ Some k → serial_in rs n ≡ Some k → ⊥
+    twice n g h = let same : k ≡ r.serial = cc in d.0 (subst (λ j. Among j (serials_of rs)) same (serial_listed rs n k h))
+
+    by : (serial_in rs p ≡ Some k → serial_in rs q ≡ Some k → p ≡ q) → (a : Bool) → nat_eq p r.place ≡ a → (b : Bool) → nat_eq q r.place ≡ b → (elim a as (λ _. Option ℕ) [ true ↦ Some r.serial | false ↦ serial_in rs p ]) ≡ Some k → (elim b as (λ _. Option ℕ) [ true ↦ Some r.serial | false ↦ serial_in rs q ]) ≡ Some k → p ≡ q
+    by later true at_p true at_q g h = equal_numbers p r.place at_p ∙ sym (equal_numbers q r.place at_q)
+    by later true at_p false at_q g h = absurd (twice q g h)
+    by later false at_p true at_q g h = absurd (twice p h g)
+    by later false at_p false at_q g h = later g h
+
+same_number : (a b : ℕ) → a ≡ b → nat_eq a b ≡ true
+same_number a b e = by (eqb_tells a b)
+  where
+    by : ((nat_eq a b ≡ true) × (a ≡ b)) ⊎ ((nat_eq a b ≡ false) × (a ≢ b)) → nat_eq a b ≡ true
+    by (inl t) = t.0
+    by (inr t) = absurd (t.1 e)
+
+some_object : {T : Type 0} (rs : List (Resident T)) (p k : ℕ) → serial_in rs p ≡ Some k → (o : ObjectOf T) × (object_in rs k ≡ Some o)
+some_object [] p k e = cc
+some_object {T = T} (r ∷ rs) p k e = by (some_object rs p k) (nat_eq p r.place) e (nat_eq k r.serial) refl
+  where
+    by : (serial_in rs p ≡ Some k → (o : ObjectOf T) × (object_in rs k ≡ Some o)) → (a : Bool) → (elim a as (λ _. Option ℕ) [ true ↦ Some r.serial | false ↦ serial_in rs p ]) ≡ Some k → (b : Bool) → nat_eq k r.serial ≡ b → (o : ObjectOf T) × ((elim b as (λ _. Option (ObjectOf T)) [ true ↦ Some r.object | false ↦ object_in rs k ]) ≡ Some o)
+    by later a h true n = (r.object, refl)
+    by later true h false n = let same : k ≡ r.serial = cc in let is = same_number k r.serial same in cc
+    by later false h false n = later h
+
+-- no two places have one serial
+pub place_of_serial : {T : Type 0} (c : Content T) → IsSound c → (p q k : ℕ) → serial_at c p ≡ Some k → serial_at c q ≡ Some k → p ≡ q
+unfolding serial_at
+place_of_serial c s p q k e f = one_place c.residents p q k s.serials e f
+
+-- the serial of a place is below the next one
+pub serial_below : {T : Type 0} (c : Content T) → IsSound c → (p k : ℕ) → serial_at c p ≡ Some k → k < c.next
+unfolding serial_at
+serial_below c s p k e = s.below k (serial_listed c.residents p k e)
+
+-- each place with a serial has an object
+pub object_of_place : {T : Type 0} (c : Content T) (p k : ℕ) → serial_at c p ≡ Some k → (o : ObjectOf T) × (object_at c k ≡ Some o)
+unfolding serial_at object_at
+object_of_place c p k e = some_object c.residents p k e
