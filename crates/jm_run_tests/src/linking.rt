@@ -21,6 +21,7 @@ linked 1 <= main getstatic java/lang/System/out Ljava/io/PrintStream; / iconst_2
 # parents of the wrong kind
 55 WrongKind(java/lang/String) <= .class public A / .super java/lang/String
 55 WrongKind(java/lang/Thread) <= .class public A / .super java/lang/Object / .implements java/lang/Thread
+55 WrongKind(Main) <= main & .interface public abstract I / .super Main
 # classes above themselves
 52 Cycle(A) <= .class public C / .super A & .class public A / .super B & .class public B / .super A
 52 Cycle(I) <= .interface public abstract I / .super java/lang/Object / .implements J & .interface public abstract J / .super java/lang/Object / .implements I
@@ -36,6 +37,9 @@ linked 1 <= main getstatic java/lang/System/out Ljava/io/PrintStream; / iconst_2
 54 NoMethod(f) <= main invokestatic Main/f()V
 55 WrongKind(java/lang/Cloneable) <= main invokevirtual java/lang/Cloneable/f()V
 16 Later(invokevirtual) <= main invokevirtual java/lang/Thread/run()V
+# constructors are invoked by invokespecial alone
+55 WrongKind(<init>) <= main invokevirtual Main/<init>()V
+54 NoMethod(<init>) <= main invokespecial Main/<init>()V
 # instructions that come later
 16 Later(new) <= main new java/lang/Object
 16 Later(athrow) <= main athrow
@@ -104,6 +108,6 @@ fn programs_link_as_their_rows_say(rt: HostRuntime) -> Result<(), Fail> {
             rows = rows.saturating_add(1);
         }
     }
-    assert!(rt; rows == 22);
+    assert!(rt; rows == 25);
     Ok(())
 }
