@@ -11,6 +11,8 @@ pub mod StepsKeepForm
 pub mod KeepingFrames
 pub mod RowsKeepFrames
 pub mod EventsKeepFrames
+pub mod KeepingNames
+pub mod NamesAreThere
 pub mod LoadsWellFormed
 pub mod Reaching
 pub mod Runs

@@ -28,6 +28,7 @@ pub mod RoundRobin
 pub mod Reaching
 pub mod WellFormed
 pub mod FramesOfRuns
+pub mod NamesOfRuns
 pub mod Content
 pub mod Renaming
 pub mod Matches

@@ -3,6 +3,7 @@
 ghost use Rattle.jm_values.specs.Shape.{IsShape};
 ghost use Rattle.jm_world.specs.Frames.{Frame, frame_shape};
 ghost use Rattle.jm_world.specs.FramesOfRuns.{EventsKeepFrames, RunsKeepFrames};
+ghost use Rattle.jm_world.specs.NamesOfRuns.{EventsKeepNames, RunsHaveWhatIsNamed};
 ghost use Rattle.jm_world.specs.Renaming.{thread_shape, static_shape, monitor_shape, literal_shape};
 ghost use Rattle.jm_world.specs.World.{World, Thread, Static, Monitor, Literal};
 ghost use Rattle.jm_world.specs.Matched.{WorldsAreMatched};
@@ -37,6 +38,18 @@ pub fn events_keep_frames()
 /// In every world that a load and a list of events make, frames are so.
 pub fn runs_keep_frames()
     ensures { RunsKeepFrames }
+{}
+
+/// An event keeps the program, the literals and the fields of statics of a world.
+pub fn events_keep_names()
+    ensures { EventsKeepNames }
+{}
+
+/// In every world that a load of a program and a list of events make, what the program names is
+/// there: the classes of its instructions and catch types, the fields, the statics of its getstatic
+/// and putstatic, the methods, static ones exactly at invokestatic, and the literals (JVMS 5.4.3).
+pub fn runs_have_what_is_named()
+    ensures { RunsHaveWhatIsNamed }
 {}
 
 /// Frames, threads, statics, monitors and literals have shapes: renaming, listing and refilling
