@@ -12,6 +12,7 @@ pub mod KeepingFrames
 pub mod RowsKeepFrames
 pub mod EventsKeepFrames
 pub mod KeepingNames
+pub mod CalledMethods
 pub mod NamesAreThere
 pub mod LoadsWellFormed
 pub mod Reaching

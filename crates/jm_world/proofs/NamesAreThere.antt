@@ -6,6 +6,7 @@ use Rattle.std.specs.Cmp.Lexicographic.{bytes_decides}
 use Rattle.std.proofs.lemmas.Bool.Decides.{eqb_tells}
 use Rattle.jm_program.specs.Names.{same_text, is_init}
 use Rattle.jm_program.specs.Flags.{is_static, is_interface, is_abstract}
+use Rattle.jm_program.specs.Fits.{Fits}
 use Rattle.jm_program.specs.Descriptors.{base_letter}
 use Rattle.jm_program.specs.declared.class.ClassParts.{ClassParts}
 use Rattle.jm_program.specs.declared.class.Field.{Field}
@@ -43,6 +44,7 @@ use Rattle.jm_world.specs.NamesOfRuns.{fields_of, SameNames, IsThere, ElementIsT
 use Rattle.jm_world.specs.declared.event.Event.{Event}
 use Rattle.jm_world.proofs.Fitting.{each_more}
 use Rattle.jm_world.proofs.KeepingNames.{run_keeps}
+use Rattle.jm_world.proofs.CalledMethods.{both_true, first_got, static_code, initializer_code}
 
 -- no reason
 both_none : (a b : Option Refusal) → or_else a b ≡ None → (a ≡ None) × (b ≡ None)
@@ -276,11 +278,6 @@ only_out b = list_all (is_out (as_class b)) (nameable (as_class b))
 out_alone : list_all only_out the_builtins ≡ true
 out_alone = refl
 
-pub both_true : (a b : Bool) → (a && b) ≡ true → (a ≡ true) × (b ≡ true)
-both_true true true e = (refl, refl)
-both_true true false e = cc
-both_true false b e = cc
-
 built_in_out : (bs : List BuiltIn) (name : List ℕ) (c : ClassParts) → list_all only_out bs ≡ true → built_in_named bs name ≡ Some c → list_all (is_out c) (nameable c) ≡ true
 built_in_out [] name c a e = cc
 built_in_out (b ∷ bs) name c a e = by (same_text b.name name) (both_true (only_out b) (list_all only_out bs) a) e (built_in_out bs name c)
@@ -305,14 +302,6 @@ out_of false b e s = cc
 -- where a field is found
 abbrev FoundIn : List ClassParts → List ℕ → FieldType → FoundField → Type 0
 FoundIn program name t found = (k : List ℕ) × (class_named program k ≡ Some found.class) × (field_in (nameable found.class) name t ≡ Some found.field)
-
-pub first_got : {A : Type 0} (find : List ℕ → Option A) (xs : List (List ℕ)) (a : A) → first_found find xs ≡ Some a → (x : List ℕ) × (find x ≡ Some a)
-first_got {A} find [] a e = cc
-first_got {A} find (x ∷ xs) a e = by (find x) refl e (first_got find xs a)
-  where
-    by : (o : Option A) → find x ≡ o → (elim o as (λ _. Option A) [ Some b ↦ Some b | None ↦ first_found find xs ]) ≡ Some a → (first_found find xs ≡ Some a → (y : List ℕ) × (find y ≡ Some a)) → (y : List ℕ) × (find y ≡ Some a)
-    by None q h ih = ih h
-    by (Some b) q h ih = (x, q ∙ h)
 
 field_got : (n : ℕ) (program : List ClassParts) (name : List ℕ) (t : FieldType) (class : List ℕ) (found : FoundField) → field_from n program name t class ≡ Some found → FoundIn program name t found
 field_got zero program name t class found e = cc
@@ -397,21 +386,23 @@ named_found : (op : InvokeOp) (class : List ℕ) (o : Option ClassParts) → nam
 named_found op class None e = cc
 named_found op class (Some c) e = tt
 
-use_found : (op : InvokeOp) (name : List ℕ) (o : Option FoundMethod) → found_method_refusal op name o ≡ None → IsOfUse op o
-use_found op name None e = cc
-use_found op name (Some found) e = same_so (is_static found.method.flags) (is_static_call op) (not_so (not (same_bool (is_static found.method.flags) (is_static_call op))) (wrong_kind name) e)
+use_found : (program : List ClassParts) → AllByRecursion Fits program → (op : InvokeOp) (class : List ℕ) (m : MethodRef) (o : Option FoundMethod) → resolve_method program class m.name m.descriptor ≡ o → found_method_refusal op m.name o ≡ None → IsOfUse op o
+use_found program fits op class m None q e = cc
+use_found program fits op class m (Some found) q e =
+    let same : is_static found.method.flags ≡ is_static_call op = same_so (is_static found.method.flags) (is_static_call op) (not_so (not (same_bool (is_static found.method.flags) (is_static_call op))) (wrong_kind m.name) e) in
+    (same, λ u. static_code program class m.name m.descriptor found fits q (same ∙ u))
 
-method_found : (w : World) (op : InvokeOp) (m : MethodRef) (c : ClassRef) → method_refusal w.program op m c ≡ None → MethodIsThere w op m c
-method_found w op m (named.Array t) e =
+method_found : (w : World) → AllByRecursion Fits w.program → (op : InvokeOp) (m : MethodRef) (c : ClassRef) → method_refusal w.program op m c ≡ None → MethodIsThere w op m c
+method_found w fits op m (named.Array t) e =
     let first : or_else (init_refusal op m.name) (Some (no_method m.name)) ≡ None = (both_none (element_refusal w.program t.element) (or_else (init_refusal op m.name) (Some (no_method m.name))) e).1 in
     let second : Some (no_method m.name) ≡ None = (both_none (init_refusal op m.name) (Some (no_method m.name)) first).1 in
     cc
-method_found w op m (named.Class class) e =
+method_found w fits op m (named.Class class) e =
     let first : (named_class_refusal op class (class_named w.program class) ≡ None) × (or_else (init_refusal op m.name) (found_method_refusal op m.name (resolve_method w.program class m.name m.descriptor)) ≡ None) =
     both_none (named_class_refusal op class (class_named w.program class)) (or_else (init_refusal op m.name) (found_method_refusal op m.name (resolve_method w.program class m.name m.descriptor))) e in
     let second : found_method_refusal op m.name (resolve_method w.program class m.name m.descriptor) ≡ None =
     (both_none (init_refusal op m.name) (found_method_refusal op m.name (resolve_method w.program class m.name m.descriptor)) first.1).1 in
-    (named_found op class (class_named w.program class) first.0, use_found op m.name (resolve_method w.program class m.name m.descriptor) second)
+    (named_found op class (class_named w.program class) first.0, use_found w.program fits op class m (resolve_method w.program class m.name m.descriptor) refl second)
 
 abbrev HasLiteral : World → List ℕ → Type 0
 HasLiteral w x = IsThere (literal_in w.literals x)
@@ -421,17 +412,17 @@ literal_found w (constant.Int n) a = tt
 literal_found w (constant.Long n) a = tt
 literal_found w (constant.String units) a = a.0
 
-instruction_found : (w : World) (s : HasStatics w) (i : Instr) → instruction_refusal w.program i ≡ None → AllByRecursion (HasLiteral w) (texts_of_instruction i) → Finds w i
-instruction_found w s (instr.Plain op) e a = tt
-instruction_found w s (instr.Array op) e a = tt
-instruction_found w s (instr.Return op) e a = tt
-instruction_found w s instr.Throw e a = tt
-instruction_found w s (instr.Monitor op) e a = tt
-instruction_found w s (instr.Constant c) e a = literal_found w c a
-instruction_found w s (instr.Field op f) e a = field_found w s op f f.class (both_none (ref_refusal w.program f.class) (found_field_refusal op f.name (resolved_field w.program f f.class)) e).1
-instruction_found w s (instr.Invoke op m) e a = method_found w op m m.class e
-instruction_found w s (instr.New class) e a = new_found class (class_named w.program class) e
-instruction_found w s (instr.Type op t) e a = ref_found w t e
+instruction_found : (w : World) (s : HasStatics w) → AllByRecursion Fits w.program → (i : Instr) → instruction_refusal w.program i ≡ None → AllByRecursion (HasLiteral w) (texts_of_instruction i) → Finds w i
+instruction_found w s fits (instr.Plain op) e a = tt
+instruction_found w s fits (instr.Array op) e a = tt
+instruction_found w s fits (instr.Return op) e a = tt
+instruction_found w s fits instr.Throw e a = tt
+instruction_found w s fits (instr.Monitor op) e a = tt
+instruction_found w s fits (instr.Constant c) e a = literal_found w c a
+instruction_found w s fits (instr.Field op f) e a = field_found w s op f f.class (both_none (ref_refusal w.program f.class) (found_field_refusal op f.name (resolved_field w.program f f.class)) e).1
+instruction_found w s fits (instr.Invoke op m) e a = method_found w fits op m m.class e
+instruction_found w s fits (instr.New class) e a = new_found class (class_named w.program class) e
+instruction_found w s fits (instr.Type op t) e a = ref_found w t e
 
 catch_found : (w : World) (h : Handler) → catch_refusal w.program h ≡ None → CatchIsThere w h.catch_type
 catch_found w h e = by h.catch_type e
@@ -440,8 +431,8 @@ catch_found w h e = by h.catch_type e
     by None q = tt
     by (Some name) q = class_found w name q
 
-method_finds : (w : World) (s : HasStatics w) (m : Method) → method_code_refusal w.program m ≡ None → AllByRecursion (HasLiteral w) (texts_of_method m) → CodeFinds w m.code
-method_finds w s m e a = by m.code e a
+method_finds : (w : World) (s : HasStatics w) → AllByRecursion Fits w.program → (m : Method) → method_code_refusal w.program m ≡ None → AllByRecursion (HasLiteral w) (texts_of_method m) → CodeFinds w m.code
+method_finds w s fits m e a = by m.code e a
   where
     by : (o : Option Code) → (elim o as (λ _. Option Refusal) [ None ↦ None | Some code ↦ or_else (first_of_all (instruction_refusal w.program) code.instructions) (first_of_all (catch_refusal w.program) code.handlers) ]) ≡ None
         → AllByRecursion (HasLiteral w) (elim o as (λ _. List (List ℕ)) [ None ↦ [] | Some code ↦ flat_map texts_of_instruction code.instructions ]) → CodeFinds w o
@@ -449,13 +440,16 @@ method_finds w s m e a = by m.code e a
     by (Some code) q b =
         let both : (first_of_all (instruction_refusal w.program) code.instructions ≡ None) × (first_of_all (catch_refusal w.program) code.handlers ≡ None) =
         both_none (first_of_all (instruction_refusal w.program) code.instructions) (first_of_all (catch_refusal w.program) code.handlers) q in (
-          each_two (instruction_found w s) code.instructions (all_none (instruction_refusal w.program) code.instructions both.0) (each_of (HasLiteral w) texts_of_instruction code.instructions b),
+          each_two (instruction_found w s fits) code.instructions (all_none (instruction_refusal w.program) code.instructions both.0) (each_of (HasLiteral w) texts_of_instruction code.instructions b),
           each_more (catch_found w) code.handlers (all_none (catch_refusal w.program) code.handlers both.1),
         )
 
-class_finds : (w : World) (s : HasStatics w) (c : ClassParts) → first_of_all (method_code_refusal w.program) c.methods ≡ None → AllByRecursion (HasLiteral w) (texts_of_class c) → ClassFinds w c
-class_finds w s c e a = each_two (method_finds w s) c.methods (all_none (method_code_refusal w.program) c.methods e)
-    (each_of (HasLiteral w) texts_of_method c.methods (each_both (HasLiteral w) (flat_map texts_of_field c.fields) (flat_map texts_of_method c.methods) a).1)
+class_finds : (w : World) (s : HasStatics w) → AllByRecursion Fits w.program → (c : ClassParts) → Fits c × (first_of_all (method_code_refusal w.program) c.methods ≡ None) → AllByRecursion (HasLiteral w) (texts_of_class c) → ClassFinds w c
+class_finds w s fits c e a = (
+  each_two (method_finds w s fits) c.methods (all_none (method_code_refusal w.program) c.methods e.1)
+      (each_of (HasLiteral w) texts_of_method c.methods (each_both (HasLiteral w) (flat_map texts_of_field c.fields) (flat_map texts_of_method c.methods) a).1),
+  initializer_code c e.0.methods,
+)
 
 codes_load : (program : List ClassParts) → refusal program ≡ None → first_of_all (λ c. first_of_all (method_code_refusal program) c.methods) program ≡ None
 unfolding refusal
@@ -469,16 +463,18 @@ codes_load program e =
     after : (a b : Option Refusal) → or_else a b ≡ None → b ≡ None
     after a b h = (both_none a b h).1
 
-all_found : (w : World) → Loads w.program → w.literals ≡ literals_from 2 (literal_texts w.program) → HasStatics w → AllByRecursion (ClassFinds w) w.program
-all_found w e l s = each_two (class_finds w s) w.program (all_none (λ c. first_of_all (method_code_refusal w.program) c.methods) w.program (codes_load w.program e))
+all_found : (w : World) → AllByRecursion Fits w.program → Loads w.program → w.literals ≡ literals_from 2 (literal_texts w.program) → HasStatics w → AllByRecursion (ClassFinds w) w.program
+all_found w fits e l s = each_two (class_finds w s fits) w.program
+    (each_two (λ c f q. (f, q)) w.program fits (all_none (λ c. first_of_all (method_code_refusal w.program) c.methods) w.program (codes_load w.program e)))
     (each_of (HasLiteral w) texts_of_class w.program (subst (λ ls. AllByRecursion (λ x. IsThere (literal_in ls x)) (flat_map texts_of_class w.program)) (sym l) (literals_there w.program)))
 
 pub runs_have_what_is_named : RunsHaveWhatIsNamed
 unfolding loaded_world
-runs_have_what_is_named program limit events e =
+runs_have_what_is_named program limit events fits e =
     let same : SameNames (loaded_world program limit) (run_from (loaded_world program limit) events) = run_keeps (loaded_world program limit) events in (
       same.0,
       subst (λ p. AllByRecursion (ClassFinds (run_from (loaded_world program limit) events)) p) same.0 (all_found (run_from (loaded_world program limit) events)
+          (subst (λ p. AllByRecursion Fits p) (sym same.0) fits)
           (subst Loads (sym same.0) e)
           (subst (λ p. (run_from (loaded_world program limit) events).literals ≡ literals_from 2 (literal_texts p)) (sym same.0) same.1)
           (subst (λ p. fields_of (run_from (loaded_world program limit) events).statics ≡ fields_of (first_statics p)) (sym same.0) same.2)),

@@ -1,8 +1,9 @@
 -- No name is missing at run time: in every world of a program that loads, what an instruction or a
 -- handler of the program names is there.
-use Rattle.std.specs.Prelude.{◌≡◌, ℕ, List, map, Option, Some, None}
+use Rattle.std.specs.Prelude.{◌≡◌, ℕ, List, map, Option, Some, None, true}
 use Rattle.std.specs.List.{AllByRecursion}
 use Rattle.jm_program.specs.Flags.{is_static}
+use Rattle.jm_program.specs.Fits.{Fits}
 use Rattle.jm_program.specs.declared.class.ClassParts.{ClassParts}
 use Rattle.jm_program.specs.declared.class.Method.{Method}
 use Rattle.jm_program.specs.declared.code.Code.{Code}
@@ -24,6 +25,7 @@ use Rattle.jm_world.specs.Resolution.{resolve_method}
 use Rattle.jm_world.specs.Objects.{FieldName}
 use Rattle.jm_world.specs.Fields.{resolved_field, name_of_field}
 use Rattle.jm_world.specs.World.{World, Static, static_in, literal_in}
+use Rattle.jm_world.specs.Initialization.{initializer_of}
 use Rattle.jm_world.specs.Loading.{loaded_world}
 use Rattle.jm_world.specs.Loads.{Loads, is_static_call}
 use Rattle.jm_world.specs.Run.{after, run_from}
@@ -66,11 +68,11 @@ abbrev pub FieldIsThere : World → FieldOp → Option FoundField → Type 0
 FieldIsThere w op None = ⊥
 FieldIsThere w op (Some found) = StaticIsThere w op found
 
--- the method is found, and is a static one exactly where invokestatic names it; an array type has
--- none
+-- the method is found, and is a static one exactly where invokestatic names it, and then has code;
+-- an array type has none
 abbrev pub IsOfUse : InvokeOp → Option FoundMethod → Type 0
 IsOfUse op None = ⊥
-IsOfUse op (Some found) = is_static found.method.flags ≡ is_static_call op
+IsOfUse op (Some found) = (is_static found.method.flags ≡ is_static_call op) × (is_static_call op ≡ true → IsThere found.method.code)
 
 abbrev pub MethodIsThere : World → InvokeOp → MethodRef → ClassRef → Type 0
 MethodIsThere w op m (named.Class class) = IsThere (class_named w.program class) × IsOfUse op (resolve_method w.program class m.name m.descriptor)
@@ -100,11 +102,17 @@ abbrev pub CodeFinds : World → Option Code → Type 0
 CodeFinds w None = Unit {0}
 CodeFinds w (Some code) = AllByRecursion (Finds w) code.instructions × AllByRecursion (λ h. CatchIsThere w h.catch_type) code.handlers
 
+-- a class's <clinit>()V has code
+abbrev pub InitializerHasCode : Option FoundMethod → Type 0
+InitializerHasCode None = Unit {0}
+InitializerHasCode (Some found) = IsThere found.method.code
+
 -- each instruction and each handler of each method of each class
 abbrev pub ClassFinds : World → ClassParts → Type 0
-ClassFinds w c = AllByRecursion (λ m. CodeFinds w m.code) c.methods
+ClassFinds w c = AllByRecursion (λ m. CodeFinds w m.code) c.methods × InitializerHasCode (initializer_of (Some c))
 
--- and so it is in every world of a program that loads
+-- and so it is in every world of a program that loads and whose classes keep the rules of a class,
+-- as each class that is read or assembled does
 abbrev pub RunsHaveWhatIsNamed : Type 0
-RunsHaveWhatIsNamed = (program : List ClassParts) (limit : ℕ) (events : List Event) → Loads program →
+RunsHaveWhatIsNamed = (program : List ClassParts) (limit : ℕ) (events : List Event) → AllByRecursion Fits program → Loads program →
     let w : World = run_from (loaded_world program limit) events in (w.program ≡ program) × AllByRecursion (ClassFinds w) program

@@ -45,9 +45,10 @@ pub fn events_keep_names()
     ensures { EventsKeepNames }
 {}
 
-/// In every world that a load of a program and a list of events make, what the program names is
-/// there: the classes of its instructions and catch types, the fields, the statics of its getstatic
-/// and putstatic, the methods, static ones exactly at invokestatic, and the literals (JVMS 5.4.3).
+/// In every world that a load of a program of classes and a list of events make, what the program
+/// names is there: the classes of its instructions and catch types, the fields, the statics of its
+/// getstatic and putstatic, the methods, static ones exactly at invokestatic, whose code, and that
+/// of each class's initializer, and the literals (JVMS 5.4.3).
 pub fn runs_have_what_is_named()
     ensures { RunsHaveWhatIsNamed }
 {}
