@@ -1,7 +1,7 @@
 -- The static method that an invokestatic names has code, where the program's classes keep the rules
 -- of a class.
-use Rattle.std.proofs.Common.{◌≡◌, ℕ, zero, suc, List, [], ◌∷◌, Option, Some, None, Bool, true, false, refl, sym, ap, ◌∙◌, subst, inl, inr, ◌⊎◌}
-use Rattle.std.specs.Prelude.{not, ◌&&◌, ◌||◌, nat_le, codes}
+use Rattle.std.proofs.Common.{◌≡◌, ℕ, zero, suc, List, [], ◌∷◌, Option, Some, None, Bool, true, false, refl, ap, ◌∙◌, subst, inl, inr, ◌⊎◌}
+use Rattle.std.specs.Prelude.{not, ◌&&◌, nat_le, codes}
 use Rattle.std.specs.List.{AllByRecursion, list_all}
 use Rattle.jm_program.specs.Names.{same_text, is_init, is_clinit, is_method_name}
 use Rattle.jm_program.specs.Flags.{is_static, is_abstract, is_interface, is_native, is_synchronized}

@@ -1,6 +1,6 @@
 -- An event keeps the program, the fields of statics and the literals of a world.
-use Rattle.std.proofs.Common.{◌≡◌, ℕ, ◌+◌, ◌-◌, ◌^◌, List, [], ◌∷◌, ◌++◌, Option, Some, None, Bool, true, false, refl, ap, ◌∙◌, length, ℤ, pos, negsuc}
-use Rattle.std.specs.Prelude.{map, slice_get, reverse, nat_eq, nat_lt, nat_le, codes}
+use Rattle.std.proofs.Common.{◌≡◌, ℕ, ◌+◌, ◌^◌, List, [], ◌∷◌, ◌++◌, Option, Some, None, Bool, true, false, refl, ap, ◌∙◌, length, ℤ, pos, negsuc}
+use Rattle.std.specs.Prelude.{slice_get, reverse, nat_eq, nat_lt, nat_le, codes}
 use Rattle.jm_program.specs.Names.{same_text}
 use Rattle.jm_program.specs.Flags.{is_static, is_abstract}
 use Rattle.jm_program.specs.declared.class.ClassParts.{ClassParts}
@@ -30,7 +30,7 @@ use Rattle.jm_program.specs.declared.instruction.operation.ReturnOp.{ReturnOp}
 use Rattle.jm_program.specs.declared.instruction.operation.ReturnOp.TheVariants as return
 use Rattle.jm_program.specs.declared.instruction.operation.TypeOp.{TypeOp}
 use Rattle.jm_program.specs.declared.instruction.operation.TypeOp.TheVariants.{NewArray, CheckCast, InstanceOf}
-use Rattle.jm_values.specs.Activation.{Activation, units}
+use Rattle.jm_values.specs.Activation.{units}
 use Rattle.jm_values.specs.Outcome.{Outcome}
 use Rattle.jm_values.specs.Outcome as outcome
 use Rattle.jm_values.specs.PlainRows.{row_plain}
@@ -45,18 +45,18 @@ use Rattle.jm_world.specs.Objects.{Object, size, FieldName, same_field, new_inst
 use Rattle.jm_world.specs.Frames.{Frame, method_frame, initialization_frame, entry_frame}
 use Rattle.jm_world.specs.World.{World, Thread, Static, Literal, Monitor, with_thread, thread_at, is_running, with_state, state_of, reach_cells, literal_in, static_in, set_static_in}
 use Rattle.jm_world.specs.Next.{Next, goes, stops, blocks, faults, make, exception, throw}
-use Rattle.jm_world.specs.Here.{Here, with_frames, topped, moved_on, go_on, go_on_in, throws, with_room, push, push_new, with_operand, with_int, with_reference, with_arguments, with_object, with_depth, push_frame, is_ready, all_frames, when_initialized}
-use Rattle.jm_world.specs.Monitors.{monitor_in, without_monitor, recounted, entered, enter, enter_if, left_in, leave, leave_if}
+use Rattle.jm_world.specs.Here.{Here, with_frames, go_on, go_on_in, throws, push, push_new, with_operand, with_int, with_reference, with_arguments, with_object, with_depth, push_frame, is_ready, all_frames, when_initialized}
+use Rattle.jm_world.specs.Monitors.{monitor_in, recounted, entered, enter, enter_if, left_in, leave, leave_if}
 use Rattle.jm_world.specs.Text.{number_text, char_text, utf8_text, units_of}
 use Rattle.jm_world.specs.Constants.{row_constant}
 use Rattle.jm_world.specs.Fields.{resolved_field, name_of_field, with_field, get_static, put_static, place_in, with_place, pushed, get_field, put_field, with_value_at, row_field}
 use Rattle.jm_world.specs.Arrays.{operand_of_kind, serves, when_serves, with_index, load_element, can_store, store_in, store_element, with_length, new_array_of, length_of, row_array}
-use Rattle.jm_world.specs.TypeChecks.{row_new, is_instance, check_cast, instance_test, row_type}
-use Rattle.jm_world.specs.BuiltInMethods.{chars_of_type, with_chars, write, is_char_type, with_printed, char_at, was_started, new_thread, with_new_thread, start_thread, row_built_in}
+use Rattle.jm_world.specs.TypeChecks.{is_instance, check_cast, instance_test, row_type}
+use Rattle.jm_world.specs.BuiltInMethods.{chars_of_type, with_chars, write, is_char_type, with_printed, char_at, was_started, start_thread, row_built_in}
 use Rattle.jm_world.specs.Invocation.{activation_of, monitor_of, calling, call_code, call_instance, call_found, class_of, is_of_class, with_receiver, invoke_virtual, invoke_interface, found_special, invoke_special, call_static, invoke_found, row_invoke_of, row_invoke}
-use Rattle.jm_world.specs.Returns.{ended, with_result, returned_to, return_from, same_operand, return_value, return_nothing, pop_and_return, row_return}
-use Rattle.jm_world.specs.Throwing.{is_kind_of, handler_in, handlers_of, class_name, unwound, unwound_anew, drop_method, handle, drop_initialization, unwind_frames, unwind, row_throw}
-use Rattle.jm_world.specs.Initialization.{with_constant, with_constants, constant_value, constants_of, begin, superclass_name, is_done, superclass_first, initializer_of, finish, call_initializer, run_initializer, initialize}
+use Rattle.jm_world.specs.Returns.{with_result, returned_to, return_from, same_operand, return_value, return_nothing, pop_and_return, row_return}
+use Rattle.jm_world.specs.Throwing.{is_kind_of, handler_in, handlers_of, unwound, unwound_anew, drop_method, unwind_frames, unwind, row_throw}
+use Rattle.jm_world.specs.Initialization.{with_constant, with_constants, constant_value, constants_of, begin, superclass_name, is_done, superclass_first, initializer_of, call_initializer, run_initializer, initialize}
 use Rattle.jm_world.specs.Stepping.{from_outcome, row_monitor, row, instruction_at, instruction_in, run_type, enter_code, enter_found, enter_thread, step_frame, step_thread}
 use Rattle.jm_world.specs.Run.{after, After, answered, after_step, after_thread, after_event, run_from}
 use Rattle.jm_world.specs.NamesOfRuns.{fields_of, SameNames, EventsKeepNames}

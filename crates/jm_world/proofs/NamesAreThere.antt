@@ -4,8 +4,8 @@ use Rattle.std.specs.Prelude.{map, nat_eq, not, is_some, ◌&&◌, ◌||◌, con
 use Rattle.std.specs.List.{AllByRecursion, filter, flat_map, list_all}
 use Rattle.std.specs.Cmp.Lexicographic.{bytes_decides}
 use Rattle.std.proofs.lemmas.Bool.Decides.{eqb_tells}
-use Rattle.jm_program.specs.Names.{same_text, is_init}
-use Rattle.jm_program.specs.Flags.{is_static, is_interface, is_abstract}
+use Rattle.jm_program.specs.Names.{same_text}
+use Rattle.jm_program.specs.Flags.{is_static}
 use Rattle.jm_program.specs.Fits.{Fits}
 use Rattle.jm_program.specs.Descriptors.{base_letter}
 use Rattle.jm_program.specs.declared.class.ClassParts.{ClassParts}
@@ -36,12 +36,11 @@ use Rattle.jm_world.specs.Classes.{FoundField, FoundMethod, as_class, built_in_n
 use Rattle.jm_world.specs.Resolution.{first_found, nameable, interfaces_first, field_from, resolve_field, resolve_method}
 use Rattle.jm_world.specs.Objects.{FieldName, field_names, same_field}
 use Rattle.jm_world.specs.Fields.{resolved_field, name_of_field}
-use Rattle.jm_world.specs.World.{World, Static, Literal, static_in, literal_in}
+use Rattle.jm_world.specs.World.{World, Static, static_in, literal_in}
 use Rattle.jm_world.specs.Loading.{text_of, texts_of_field, texts_of_instruction, texts_of_method, texts_of_class, has_text, distinct_after, literal_texts, literals_from, statics_of_class, out_field, first_statics, loaded_world, main_in}
-use Rattle.jm_world.specs.Loads.{Refusal, no_class, no_field, no_method, no_main, wrong_kind, or_else, when, first_of_all, duplicates, duplicate_members, parents_refusal, cycle_refusal, is_main, is_sealed, class_refusal, element_refusal, ref_refusal, is_static_use, is_stored, same_bool, found_field_refusal, field_refusal, is_static_call, is_special_use, init_refusal, found_method_refusal, named_class_refusal, is_interface_use, method_refusal, new_refusal, instruction_refusal, catch_refusal, method_code_refusal, refusal, Loads}
+use Rattle.jm_world.specs.Loads.{Refusal, no_class, no_method, no_main, wrong_kind, or_else, when, first_of_all, duplicates, duplicate_members, parents_refusal, cycle_refusal, is_main, class_refusal, element_refusal, ref_refusal, is_static_use, is_stored, same_bool, found_field_refusal, is_static_call, init_refusal, found_method_refusal, named_class_refusal, method_refusal, new_refusal, instruction_refusal, catch_refusal, method_code_refusal, refusal, Loads}
 use Rattle.jm_world.specs.Run.{run_from}
 use Rattle.jm_world.specs.NamesOfRuns.{fields_of, SameNames, IsThere, ElementIsThere, ClassIsThere, StaticIsThere, FieldIsThere, IsOfUse, MethodIsThere, LiteralIsThere, Finds, CatchIsThere, CodeFinds, ClassFinds, RunsHaveWhatIsNamed}
-use Rattle.jm_world.specs.declared.event.Event.{Event}
 use Rattle.jm_world.proofs.Fitting.{each_more}
 use Rattle.jm_world.proofs.KeepingNames.{run_keeps}
 use Rattle.jm_world.proofs.CalledMethods.{both_true, first_got, static_code, initializer_code}
