@@ -34,13 +34,13 @@ first_got {A} find (x ∷ xs) a e = by (find x) refl e (first_got find xs a)
     by (Some b) q h ih = (x, q ∙ h)
 
 -- where a method is found
-abbrev IsNamed : List ClassParts → ClassParts → Type 0
+abbrev pub IsNamed : List ClassParts → ClassParts → Type 0
 IsNamed program c = (k : List ℕ) × (class_named program k ≡ Some c)
 
-abbrev Declares : List ClassParts → List ℕ → MethodDescriptor → FoundMethod → Type 0
+abbrev pub Declares : List ClassParts → List ℕ → MethodDescriptor → FoundMethod → Type 0
 Declares program name t found = IsNamed program found.class × (method_in found.class.methods name t ≡ Some found.method)
 
-up_named : (n : ℕ) (program : List ClassParts) (name : List ℕ) → AllByRecursion (IsNamed program) (up_from n program name)
+pub up_named : (n : ℕ) (program : List ClassParts) (name : List ℕ) → AllByRecursion (IsNamed program) (up_from n program name)
 up_named zero program name = tt
 up_named (suc n) program name = by (up_named n program) (class_named program name) refl
   where
@@ -53,10 +53,10 @@ up_named (suc n) program name = by (up_named n program) (class_named program nam
     by ih (Some c) q = above ih c q c.superclass
 
 -- the method that a class declares, as it was found
-taken : (program : List ClassParts) (name : List ℕ) (t : MethodDescriptor) (c : ClassParts) (m : Method) (found : FoundMethod) → IsNamed program c → method_in c.methods name t ≡ Some m → c ≡ found.class → m ≡ found.method → Declares program name t found
+pub taken : (program : List ClassParts) (name : List ℕ) (t : MethodDescriptor) (c : ClassParts) (m : Method) (found : FoundMethod) → IsNamed program c → method_in c.methods name t ≡ Some m → c ≡ found.class → m ≡ found.method → Declares program name t found
 taken program name t c m found n r of it = (subst (IsNamed program) of n, subst (λ z. method_in z.methods name t ≡ Some m) of r ∙ ap Some it)
 
-along_got : (program : List ClassParts) (name : List ℕ) (t : MethodDescriptor) (found : FoundMethod) (cs : List ClassParts) → AllByRecursion (IsNamed program) cs → method_along cs name t ≡ Some found → Declares program name t found
+pub along_got : (program : List ClassParts) (name : List ℕ) (t : MethodDescriptor) (found : FoundMethod) (cs : List ClassParts) → AllByRecursion (IsNamed program) cs → method_along cs name t ≡ Some found → Declares program name t found
 along_got program name t found [] a e = cc
 along_got program name t found (c ∷ cs) a e = by (along_got program name t found cs a.1) (method_in c.methods name t) refl e
   where
@@ -94,7 +94,7 @@ among_got program depth class name t found (c ∷ cs) a e = by (is_init name) e
     by true h = along_got program name t found (c ∷ []) (a.0, tt) h
     by false h = along (method_along (c ∷ cs) name t) refl h
 
-resolved_got : (program : List ClassParts) (class name : List ℕ) (t : MethodDescriptor) (found : FoundMethod) → resolve_method program class name t ≡ Some found → Declares program name t found
+pub resolved_got : (program : List ClassParts) (class name : List ℕ) (t : MethodDescriptor) (found : FoundMethod) → resolve_method program class name t ≡ Some found → Declares program name t found
 unfolding resolve_method chain
 resolved_got program class name t found e = among_got program (height program) class name t found (up_from (height program) program class) (up_named (height program) program class) e
 
@@ -154,7 +154,7 @@ has_code b m f s = by m.code (body_of b m f)
     by (Some code) h = tt
     by None h = absurd (clash h s)
 
-found_name : (ms : List Method) (name : List ℕ) (t : MethodDescriptor) (m : Method) → method_in ms name t ≡ Some m → same_text m.name name ≡ true
+pub found_name : (ms : List Method) (name : List ℕ) (t : MethodDescriptor) (m : Method) → method_in ms name t ≡ Some m → same_text m.name name ≡ true
 found_name [] name t m e = cc
 found_name (x ∷ xs) name t m e = by (same_text x.name name && same_method_type x.descriptor t) refl e (found_name xs name t m)
   where

@@ -14,6 +14,8 @@ pub mod EventsKeepFrames
 pub mod KeepingNames
 pub mod CalledMethods
 pub mod NamesAreThere
+pub mod FoundAgain
+pub mod KeepingCode
 pub mod LoadsWellFormed
 pub mod Reaching
 pub mod Runs

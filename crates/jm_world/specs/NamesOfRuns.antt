@@ -1,10 +1,11 @@
 -- No name is missing at run time: in every world of a program that loads, what an instruction or a
 -- handler of the program names is there.
-use Rattle.std.specs.Prelude.{◌≡◌, ℕ, List, map, Option, Some, None, true}
+use Rattle.std.specs.Prelude.{◌≡◌, ℕ, List, [], ◌∷◌, map, Option, Some, None, true}
 use Rattle.std.specs.List.{AllByRecursion}
 use Rattle.jm_program.specs.Flags.{is_static}
 use Rattle.jm_program.specs.Fits.{Fits}
 use Rattle.jm_program.specs.declared.class.ClassParts.{ClassParts}
+use Rattle.jm_program.specs.declared.class.Method.{Method}
 use Rattle.jm_program.specs.declared.code.Code.{Code}
 use Rattle.jm_program.specs.declared.constant.Constant.{Constant}
 use Rattle.jm_program.specs.declared.constant.Constant.TheVariants as constant
@@ -18,10 +19,11 @@ use Rattle.jm_program.specs.declared.instruction.symbolic.Instr.TheVariants as i
 use Rattle.jm_program.specs.declared.instruction.operation.FieldOp.{FieldOp}
 use Rattle.jm_program.specs.declared.instruction.operation.FieldOp.TheVariants.{GetStatic, PutStatic, GetField, PutField}
 use Rattle.jm_program.specs.declared.instruction.operation.InvokeOp.{InvokeOp}
-use Rattle.jm_world.specs.Classes.{FoundField, FoundMethod, class_named}
+use Rattle.jm_world.specs.Classes.{FoundField, FoundMethod, class_named, method_named}
 use Rattle.jm_world.specs.Resolution.{resolve_method}
 use Rattle.jm_world.specs.Objects.{FieldName}
 use Rattle.jm_world.specs.Fields.{resolved_field, name_of_field}
+use Rattle.jm_world.specs.Frames.{Frame, method_frame, initialization_frame, entry_frame}
 use Rattle.jm_world.specs.World.{World, Static, static_in, literal_in}
 use Rattle.jm_world.specs.Initialization.{initializer_of}
 use Rattle.jm_world.specs.Loading.{loaded_world}
@@ -114,3 +116,25 @@ ClassFinds w c = AllByRecursion (λ m. CodeFinds w m.code) c.methods × Initiali
 abbrev pub RunsHaveWhatIsNamed : Type 0
 RunsHaveWhatIsNamed = (program : List ClassParts) (limit : ℕ) (events : List Event) → AllByRecursion Fits program → Loads program →
     let w : World = run_from (loaded_world program limit) events in (w.program ≡ program) × AllByRecursion (ClassFinds w) program
+
+-- the method of each method frame is one of the program's, and has code
+abbrev pub HasBody : Option Method → Type 0
+HasBody None = ⊥
+HasBody (Some m) = IsThere m.code
+
+abbrev pub FramesHaveCode : List ClassParts → List Frame → Type 0
+FramesHaveCode program [] = Unit {0}
+FramesHaveCode program (method_frame m a monitor ∷ below) = HasBody (method_named program m) × FramesHaveCode program below
+FramesHaveCode program (initialization_frame class stage ∷ below) = FramesHaveCode program below
+FramesHaveCode program (entry_frame ∷ below) = FramesHaveCode program below
+
+abbrev pub ThreadsHaveCode : World → Type 0
+ThreadsHaveCode w = AllByRecursion (λ t. FramesHaveCode w.program t.frames) w.threads
+
+-- an event keeps it so
+abbrev pub EventsKeepCode : Type 0
+EventsKeepCode = (w : World) (e : Event) → ThreadsHaveCode w → ThreadsHaveCode (after w e).world
+
+-- and so it is in every world that a load and events make
+abbrev pub RunsHaveCode : Type 0
+RunsHaveCode = (program : List ClassParts) (limit : ℕ) (events : List Event) → ThreadsHaveCode (run_from (loaded_world program limit) events)

@@ -3,7 +3,12 @@
 ghost use Rattle.jm_values.specs.Shape.{IsShape};
 ghost use Rattle.jm_world.specs.Frames.{Frame, frame_shape};
 ghost use Rattle.jm_world.specs.FramesOfRuns.{EventsKeepFrames, RunsKeepFrames};
-ghost use Rattle.jm_world.specs.NamesOfRuns.{EventsKeepNames, RunsHaveWhatIsNamed};
+ghost use Rattle.jm_world.specs.NamesOfRuns.{
+  EventsKeepCode,
+  EventsKeepNames,
+  RunsHaveCode,
+  RunsHaveWhatIsNamed,
+};
 ghost use Rattle.jm_world.specs.Renaming.{thread_shape, static_shape, monitor_shape, literal_shape};
 ghost use Rattle.jm_world.specs.World.{World, Thread, Static, Monitor, Literal};
 ghost use Rattle.jm_world.specs.Matched.{WorldsAreMatched};
@@ -51,6 +56,16 @@ pub fn events_keep_names()
 /// of each class's initializer, and the literals (JVMS 5.4.3).
 pub fn runs_have_what_is_named()
     ensures { RunsHaveWhatIsNamed }
+{}
+
+/// An event keeps it so that the method of each method frame is one of the program's and has code.
+pub fn events_keep_code()
+    ensures { EventsKeepCode }
+{}
+
+/// And so it is in every world that a load and a list of events make.
+pub fn runs_have_code()
+    ensures { RunsHaveCode }
 {}
 
 /// Frames, threads, statics, monitors and literals have shapes: renaming, listing and refilling
