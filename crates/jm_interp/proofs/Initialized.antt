@@ -1,44 +1,50 @@
 -- Stages of initialization beside the model's.
-use Rattle.std.proofs.Common.{◌≡◌, ◌≢◌, ℕ, ◌+◌, ◌-◌, ◌<◌, List, [], ◌∷◌, Some, None, true, false, refl, sym, ap, ◌∙◌, subst, inl, inr, length, drop, arith, length-set}
+use Rattle.std.proofs.Common.{◌≡◌, ◌≢◌, ℕ, ◌+◌, ◌-◌, ◌<◌, List, [], ◌∷◌, Some, None, true, false, refl, sym, ap, ◌∙◌, subst, inl, inr, ◌⊎◌, length, drop, arith, length-set}
 use Rattle.std.specs.Prelude.{map, slice_get, slice_set, nat_eq}
 use Rattle.std.specs.List.{AllByRecursion}
 use Rattle.jm_program.specs.declared.class.ClassParts.{ClassParts}
-use Rattle.jm_values.specs.declared.value.Value.{Value}
 use Rattle.std.proofs.lemmas.Bool.{eq-eqb}
 use Rattle.std.proofs.lemmas.Bool.Decides.{eqb_tells}
 use Rattle.jm_values.specs.Shape.{Among}
-use Rattle.jm_world.specs.Frames.{frames_shape, rename_frame, initialization_frame}
+use Rattle.jm_world.specs.Frames.{Frame, frames_shape, rename_frame, initialization_frame}
 use Rattle.jm_world.specs.Here.{with_frames, push_frame}
 use Rattle.jm_world.specs.Initialization.{initialize, begin, superclass_first, superclass_name, is_done, run_initializer, initializer_of, initializer_in, initializer_type, constants_of, with_constants, at_stage, finish}
+use Rattle.jm_world.specs.Next as next
 use Rattle.jm_world.specs.Next.{Next, goes}
-use Rattle.jm_world.specs.Objects.{Reach}
 use Rattle.jm_world.specs.Classes.{class_named, object_class}
-use Rattle.jm_world.specs.World.{World, Thread, roots, with_thread, with_state, state_of, state_in, set_state_in, refs_thread}
+use Rattle.jm_world.specs.World.{World, Thread, with_thread, with_state, state_of, state_in, set_state_in, refs_thread, live_among}
 use Rattle.jm_world.specs.Content.{Content, name_of}
 use Rattle.jm_world.specs.Matches.{Matches, places}
 use Rattle.jm_world.specs.Renaming.{rename_thread}
 use Rattle.jm_world.specs.Stepping.{step_thread}
 use Rattle.jm_world.specs.declared.class_state.ClassState.{ClassState}
-use Rattle.jm_world.specs.declared.class_state.ClassState.TheVariants.{InProgress, Done, Failed}
+use Rattle.jm_world.specs.declared.class_state.ClassState.TheVariants.{NotBegun, InProgress, Done, Failed}
 use Rattle.jm_world.specs.declared.stage.Stage.{Stage}
 use Rattle.jm_world.specs.declared.stage.Stage.TheVariants as stage
 use Rattle.jm_heap.specs.declared.class_id.ClassId.{ClassId}
 use Rattle.jm_linked.specs.Links.{LinkedView, IsLinked}
-use Rattle.jm_state.specs.Parts.{parts, state_parts, frame_part, named_states, program_class_name, name_in_program}
-use Rattle.jm_state.specs.Runnable.{IsRunnable, IsMethodFrame, StandOnTop}
+use Rattle.jm_state.specs.Parts.{parts, frame_part, thread_part, named_states, program_class_name, name_in_program}
+use Rattle.jm_state.specs.Runnable.{IsMethodFrame, StandOnTop, ThreadRuns}
+use Rattle.jm_state.specs.Ends.{Ended}
 use Rattle.jm_state.specs.declared.state.State.{State}
 use Rattle.jm_state.specs.declared.thread.Ending.TheVariants.{Running}
 use Rattle.jm_state.specs.declared.thread.StackFrame.{StackFrame}
 use Rattle.jm_state.specs.declared.thread.StackFrame.TheVariants.{Initialization}
 use Rattle.jm_state.specs.declared.thread.Thread as held
-use Rattle.jm_interp.specs.Standing.{Stands, StandsAt, part_of}
-use Rattle.jm_interp.proofs.Lists.{each_set}
-use Rattle.jm_interp.proofs.Standing.{place_stands, reach_shared}
-use Rattle.jm_interp.proofs.Threads.{part_refs, frames_refs, thread_place, world_thread, moved_thread, changed_all, PartRuns}
-use Rattle.jm_interp.proofs.Thrown.{get_there}
+use Rattle.jm_interp.proofs.Lists.{each_set, each_at}
 use Rattle.jm_interp.proofs.BuiltIns.{others}
 use Rattle.jm_interp.proofs.SystemOut.{not_listed}
 use Rattle.jm_interp.proofs.Classes.{IsPlain, plain_class, state_is, states_set, class_is}
+use Rattle.std.specs.Prelude.{slice_index_or, vec_len, Ok}
+use Rattle.jm_interp.specs.declared.at.At.{At}
+use Rattle.jm_interp.specs.At.{parts_at, OnThread, Does, Steps}
+use Rattle.jm_interp.specs.Standing.{Stands, part_of}
+use Rattle.jm_interp.proofs.OnThread.{model, does, does_as, blocks, held_frames, part_here, runs_with, changed_matches, with_thread_at}
+use Rattle.jm_interp.proofs.OnThread as thread
+use Rattle.jm_interp.proofs.Lists.{get_there, get_at}
+use Rattle.jm_interp.proofs.Threads.{part_refs, PartRuns}
+use Rattle.jm_state.specs.Runnable.{StateRuns}
+use Rattle.jm_state.specs.declared.halt.StepEnd.TheVariants as step_end
 
 -- the class of the number
 pub record HasClass (l : LinkedView) (class : ℕ) : Type 0 where
@@ -71,128 +77,160 @@ dropped_runs l class s below q = record { frames = q.frames.1; top = below_on_to
 pub staged_runs : (l : LinkedView) (class : ℕ) (s s' : Stage) (below : List StackFrame) → PartRuns l (Initialization class s ∷ below) None → PartRuns l (Initialization class s' ∷ below) None
 staged_runs l class s s' below q = record { frames = q.frames; top = q.top; few = q.few }
 
--- with another state of a class
-pub class_runs : (l : LinkedView) (ts : List held.Thread) (count : ℕ) (vs : List Value) (ss : List ClassState) (class : ℕ) (s : ClassState) → s ≢ Failed → IsRunnable l ts count vs ss → IsRunnable l ts count vs (slice_set ss class s)
-class_runs l ts count vs ss class s n r = record {
-  threads = r.threads;
-  live = r.live;
-  statics = r.statics;
-  classes = length-set ss class s ∙ r.classes;
-  begun = each_set (λ x. x ≢ Failed) ss class s r.begun n;
-}
-
-module _ {H : Type 0} (l : LinkedView) (c : Content ClassId) (a : State H) (w : World) (h : Matches (state_parts l c a) w) (i class : ℕ) (s : Stage) (below : List StackFrame) (stand : StandsAt a.threads.items i (Initialization class s ∷ below) None Running) (x : Thread) (at : slice_get w.threads i ≡ Some x) where
-  pub thread_is : x ≡ rename_thread (name_of c) (part_of l (Initialization class s ∷ below) None Running)
-  thread_is = world_thread l c a.threads.items a.statics.items a.classes.items a.output.items a.stop w h i (Initialization class s ∷ below) None Running x stand at
-
-  -- frames that hold the places of those below
-  inside : (fs : List StackFrame) → ((q : ℕ) → Among q (frames_shape.refs (map (frame_part l) fs)) → Among q (frames_shape.refs (map (frame_part l) below))) → (q : ℕ) → Among q (refs_thread (part_of l fs None Running)) → Among q (places (state_parts l c a))
-  inside fs e q m = thread_place l c a.threads.items a.statics.items a.classes.items a.output.items a.stop w h i (Initialization class s ∷ below) None Running stand q
-      (frames_refs l (Initialization class s ∷ below) None Running q (elim (part_refs l fs None Running q m) [ inl z ↦ absurd z | inr z ↦ e q z ]))
-
-  pub dropped : (t : held.Thread) → Stands t below None Running → Matches (parts l c (slice_set a.threads.items i t) a.statics.items a.classes.items a.output.items a.stop) (with_frames w (i + 1) x (drop 1 x.frames))
-  dropped t s' =
-      subst (λ y. Matches (parts l c (slice_set a.threads.items i t) a.statics.items a.classes.items a.output.items a.stop) (with_frames w (i + 1) y (drop 1 y.frames))) (sym thread_is)
-      (moved_thread l c a.threads.items a.statics.items a.classes.items a.output.items a.stop w h i t below None Running s' (inside below (λ q m. m)))
-
-  pub staged : (t : held.Thread) (s' : Stage) → Stands t (Initialization class s' ∷ below) None Running → Matches (parts l c (slice_set a.threads.items i t) a.statics.items a.classes.items a.output.items a.stop) (at_stage w (i + 1) x (program_class_name l.program class) s' (drop 1 x.frames))
-  staged t s' s'' =
-      subst (λ y. Matches (parts l c (slice_set a.threads.items i t) a.statics.items a.classes.items a.output.items a.stop) (at_stage w (i + 1) y (program_class_name l.program class) s' (drop 1 y.frames))) (sym thread_is)
-      (moved_thread l c a.threads.items a.statics.items a.classes.items a.output.items a.stop w h i t (Initialization class s' ∷ below) None Running s'' (inside (Initialization class s' ∷ below) (λ q m. m)))
-
-  classes_are : named_states l.program a.classes.items ≡ w.classes
-  unfolding parts
-  classes_are = h.classes
-
-  program_is : l.program ≡ w.program
-  unfolding parts
-  program_is = h.program
-
-  output_is : a.output.items ≡ w.output
-  unfolding parts
-  output_is = h.output
-
-  module _ (is : IsLinked l) (d : HasClass l class) where
-    -- the model's class
-    pub class_here : class_named w.program (program_class_name l.program class) ≡ Some d.class_of
-    class_here = ap (λ p. class_named p (program_class_name l.program class)) (sym program_is) ∙ ap (class_named l.program) d.named ∙ d.is_named
-
-    pub state_here : (st : ClassState) → slice_get a.classes.items class ≡ Some st → state_of w (program_class_name l.program class) ≡ st
-    state_here st there = ap (λ ps. state_in ps (program_class_name l.program class)) (sym classes_are) ∙ ap (state_in (named_states l.program a.classes.items)) d.named ∙ state_is l.program is.loads a.classes.items class d.class_of st d.at there
-
-    states_here : (st : ClassState) → named_states l.program (slice_set a.classes.items class st) ≡ set_state_in w.classes (program_class_name l.program class) st
-    states_here st = sym (ap (λ ps. set_state_in ps (program_class_name l.program class) st) (sym classes_are) ∙ ap (λ n. set_state_in (named_states l.program a.classes.items) n st) d.named ∙ states_set l.program is.loads a.classes.items class d.class_of st d.at)
-
-    -- a thread and the state of the class have changed
-    changed_class : (t : held.Thread) (fs : List StackFrame) (st : ClassState) → Stands t fs None Running → ((q : ℕ) → Among q (refs_thread (part_of l fs None Running)) → Among q (places (state_parts l c a))) → Matches (parts l c (slice_set a.threads.items i t) a.statics.items (slice_set a.classes.items class st) a.output.items a.stop) (with_thread (with_state w (program_class_name l.program class) st) (i + 1) (rename_thread (name_of c) (part_of l fs None Running)))
-    changed_class t fs st s' within =
-        let new = parts l c (slice_set a.threads.items i t) a.statics.items (slice_set a.classes.items class st) a.output.items a.stop in
-        let y = rename_thread (name_of c) (part_of l fs None Running) in
-        let n : i + 1 - 1 ≡ i = omega arith in
-        subst (λ k. Matches new (record w { threads = slice_set w.threads k y; classes = set_state_in w.classes (program_class_name l.program class) st })) (sym n)
-        (subst (λ k. Matches new (record w { threads = slice_set w.threads i y; classes = k })) (states_here st)
-        (subst (λ k. Matches new (record w { threads = slice_set w.threads i y; classes = named_states l.program (slice_set a.classes.items class st); output = k })) output_is
-        (changed_all l c a.threads.items a.statics.items a.classes.items a.output.items a.stop w h (Reach (slice_get w.heap) (roots w)) (reach_shared (state_parts l c a) w h) i t fs None Running (slice_set a.classes.items class st) a.output.items s'
-        (λ q m. place_stands (state_parts l c a) w h (Reach (slice_get w.heap) (roots w)) (reach_shared (state_parts l c a) w h) q (within q m)))))
-
-    pub finished : (t : held.Thread) → Stands t below None Running → Matches (parts l c (slice_set a.threads.items i t) a.statics.items (slice_set a.classes.items class Done) a.output.items a.stop) (with_frames (with_state w (program_class_name l.program class) Done) (i + 1) x (drop 1 x.frames))
-    finished t s' =
-        subst (λ y. Matches (parts l c (slice_set a.threads.items i t) a.statics.items (slice_set a.classes.items class Done) a.output.items a.stop) (with_frames (with_state w (program_class_name l.program class) Done) (i + 1) y (drop 1 y.frames))) (sym thread_is)
-        (changed_class t below Done s' (inside below (λ q m. m)))
-
-    pub begun : (t : held.Thread) (number : ℕ) → Stands t (Initialization class stage.Superclass ∷ below) None Running → Matches (parts l c (slice_set a.threads.items i t) a.statics.items (slice_set a.classes.items class (InProgress number)) a.output.items a.stop) (at_stage (record (with_state w (program_class_name l.program class) (InProgress number)) { statics = constants_of w (class_named w.program (program_class_name l.program class)) }) (i + 1) x (program_class_name l.program class) stage.Superclass (drop 1 x.frames))
-    begun t number s' =
-        let new = parts l c (slice_set a.threads.items i t) a.statics.items (slice_set a.classes.items class (InProgress number)) a.output.items a.stop in
-        let name = program_class_name l.program class in
-        let constants : constants_of w (class_named w.program name) ≡ w.statics = ap (constants_of w) class_here ∙ ap (λ fs. with_constants w.literals d.class_of fs w.statics) d.plain.fields in
-        subst (λ v. Matches new (at_stage (record (with_state w name (InProgress number)) { statics = v }) (i + 1) x name stage.Superclass (drop 1 x.frames))) (sym constants)
-        (subst (λ y. Matches new (at_stage (with_state w name (InProgress number)) (i + 1) y name stage.Superclass (drop 1 y.frames))) (sym thread_is)
-        (changed_class t (Initialization class stage.Superclass ∷ below) (InProgress number) s' (inside (Initialization class stage.Superclass ∷ below) (λ q m. m))))
-
-    -- what the model does
-    pub begin_is : (st : ClassState) → s ≡ stage.Begin → slice_get a.classes.items class ≡ Some st → step_thread w (i + 1) x ≡ begin w (i + 1) x (program_class_name l.program class) (drop 1 x.frames) st
-    begin_is st e there =
-        let name = program_class_name l.program class in
-        ap (step_thread w (i + 1)) thread_is
-        ∙ ap (λ z. initialize w (i + 1) (rename_thread (name_of c) (part_of l (Initialization class s ∷ below) None Running)) name z (map (rename_frame (name_of c)) (map (frame_part l) below))) e
-        ∙ ap (λ y. begin w (i + 1) y name (drop 1 y.frames) (state_of w name)) (sym thread_is)
-        ∙ ap (begin w (i + 1) x name (drop 1 x.frames)) (state_here st there)
-
-    pub superclass_is : s ≡ stage.Superclass → step_thread w (i + 1) x ≡ goes (at_stage w (i + 1) x (program_class_name l.program class) stage.Initializer (drop 1 x.frames))
-    superclass_is e =
-        let name = program_class_name l.program class in
-        let done : state_of w object_class ≡ Done = ap (λ ps. state_in ps object_class) (sym classes_are) ∙ not_listed object_class l.program a.classes.items (others l.program is.loads object_class refl) in
-        ap (step_thread w (i + 1)) thread_is
-        ∙ ap (λ z. initialize w (i + 1) (rename_thread (name_of c) (part_of l (Initialization class s ∷ below) None Running)) name z (map (rename_frame (name_of c)) (map (frame_part l) below))) e
-        ∙ ap (λ y. superclass_first w (i + 1) y name (drop 1 y.frames) (superclass_name (class_named w.program name))) (sym thread_is)
-        ∙ ap (λ o. superclass_first w (i + 1) x name (drop 1 x.frames) (superclass_name o)) class_here
-        ∙ ap (superclass_first w (i + 1) x name (drop 1 x.frames)) d.plain.superclass
-        ∙ ap (λ st. superclass_by st) done
-      where
-        superclass_by : ClassState → Next
-        superclass_by st = elim (is_done st) [
-          | true ↦ goes (at_stage w (i + 1) x (program_class_name l.program class) stage.Initializer (drop 1 x.frames))
-          | false ↦ push_frame w (i + 1) x (initialization_frame (program_class_name l.program class) stage.Initializer ∷ drop 1 x.frames) (initialization_frame object_class stage.Begin)
-        ]
-
-    pub initializer_is : s ≡ stage.Initializer → step_thread w (i + 1) x ≡ finish w (i + 1) x (program_class_name l.program class) (drop 1 x.frames)
-    initializer_is e =
-        let name = program_class_name l.program class in
-        ap (step_thread w (i + 1)) thread_is
-        ∙ ap (λ z. initialize w (i + 1) (rename_thread (name_of c) (part_of l (Initialization class s ∷ below) None Running)) name z (map (rename_frame (name_of c)) (map (frame_part l) below))) e
-        ∙ ap (λ y. run_initializer w (i + 1) y name (drop 1 y.frames) (initializer_of (class_named w.program name))) (sym thread_is)
-        ∙ ap (λ o. run_initializer w (i + 1) x name (drop 1 x.frames) (initializer_of o)) class_here
-        ∙ ap (λ m. run_initializer w (i + 1) x name (drop 1 x.frames) (initializer_in d.class_of m)) (d.plain.no_initializer initializer_type)
-
-    pub end_is : s ≡ stage.End → step_thread w (i + 1) x ≡ finish w (i + 1) x (program_class_name l.program class) (drop 1 x.frames)
-    end_is e =
-        let name = program_class_name l.program class in
-        ap (step_thread w (i + 1)) thread_is
-        ∙ ap (λ z. initialize w (i + 1) (rename_thread (name_of c) (part_of l (Initialization class s ∷ below) None Running)) name z (map (rename_frame (name_of c)) (map (frame_part l) below))) e
-        ∙ ap (λ y. finish w (i + 1) y name (drop 1 y.frames)) (sym thread_is)
-
-pub differ : (a b : ℕ) → (a ≡ b → ⊥) → nat_eq a b ≡ false
+differ : (a b : ℕ) → (a ≡ b → ⊥) → nat_eq a b ≡ false
 differ a b n = elim (eqb_tells a b) [ inl t ↦ absurd (n t.1) | inr t ↦ t.0 ]
 
-pub alike : (a b : ℕ) → a ≡ b → nat_eq a b ≡ true
+alike : (a b : ℕ) → a ≡ b → nat_eq a b ≡ true
 alike a b e = eq-eqb a b e
+
+module _ {H : Type 0} {content : H → Content ClassId} {at : At} {old : State H} {class : ℕ} {s : Stage} {below : List StackFrame} (h : OnThread content at old (Initialization class s ∷ below) None) where
+  abbrev name : List ℕ
+  name = program_class_name at.linked.now.program class
+
+  -- the frames below, in the model
+  abbrev lower : List Frame
+  lower = map (rename_frame (name_of (content old.heap))) (map (frame_part at.linked.now) below)
+
+  abbrev other : List StackFrame → Thread
+  other fs = rename_thread (name_of (content old.heap)) (part_of at.linked.now fs None Running)
+
+  pub class_of : HasClass at.linked.now class
+  class_of = has_class at.linked.now h.beside.linked class (part_here h).frames.0
+
+  pub class_within : class < vec_len old.classes
+  class_within =
+      let n = old.classes.ok.0 in
+      let r = h.beside.runs.classes in
+      let f = (part_here h).frames.0 in
+      omega arith
+
+  -- frames that hold the places of those below
+  inside : (fs : List StackFrame) → ((q : ℕ) → Among q (frames_shape.refs (map (frame_part at.linked.now) fs)) → Among q (frames_shape.refs (map (frame_part at.linked.now) below))) → (q : ℕ) → Among q (refs_thread (part_of at.linked.now fs None Running)) → Among q (places (parts_at content at old))
+  inside fs e q a = held_frames h q (elim (part_refs at.linked.now fs None Running q a) [ inl z ↦ absurd z | inr z ↦ e q z ])
+
+  -- the frame is dropped, or goes to another stage
+  pub dropped : {t : held.Thread} {rule : World → ℕ → Thread → Next} → Stands t below None Running → ((w : World) → Matches (parts_at content at old) w → rule w (at.index + 1) (model h) ≡ goes (with_frames w (at.index + 1) (model h) lower)) → Does content at old (Ok step_end.Done) (with_thread_at old at.index t) rule
+  dropped s' is = thread.goes h s' (dropped_runs at.linked.now class s below (part_here h)) (inside below (λ q a. a)) is
+
+  pub staged : {t : held.Thread} {s' : Stage} {rule : World → ℕ → Thread → Next} → Stands t (Initialization class s' ∷ below) None Running → ((w : World) → Matches (parts_at content at old) w → rule w (at.index + 1) (model h) ≡ goes (at_stage w (at.index + 1) (model h) name s' lower)) → Does content at old (Ok step_end.Done) (with_thread_at old at.index t) rule
+  staged {t} {s'} is_so is = thread.goes h is_so (staged_runs at.linked.now class s s' below (part_here h)) (inside (Initialization class s' ∷ below) (λ q a. a)) is
+
+  -- the model's class, and its state
+  class_here : (w : World) → Matches (parts_at content at old) w → class_named w.program name ≡ Some class_of.class_of
+  unfolding parts
+  class_here w m = ap (λ p. class_named p name) (sym m.program) ∙ ap (class_named at.linked.now.program) class_of.named ∙ class_of.is_named
+
+  state_here : {st : ClassState} → slice_get old.classes.items class ≡ Some st → (w : World) → Matches (parts_at content at old) w → state_of w name ≡ st
+  unfolding parts
+  state_here {st} there w m =
+      let l = at.linked.now in
+      let d = class_of in
+      ap (λ ps. state_in ps name) (sym m.classes) ∙ ap (state_in (named_states l.program old.classes.items)) d.named ∙ state_is l.program h.beside.linked.loads old.classes.items class d.class_of st d.at there
+
+  states_here : (st : ClassState) (w : World) → Matches (parts_at content at old) w → named_states at.linked.now.program (slice_set old.classes.items class st) ≡ set_state_in w.classes name st
+  unfolding parts
+  states_here st w m =
+      let l = at.linked.now in
+      let d = class_of in
+      sym (ap (λ ps. set_state_in ps name st) (sym m.classes) ∙ ap (λ n. set_state_in (named_states l.program old.classes.items) n st) d.named ∙ states_set l.program h.beside.linked.loads old.classes.items class d.class_of st d.at)
+
+  -- a thread and the state of the class have changed
+  changes : {new : State H} {t : held.Thread} {fs : List StackFrame} {st : ClassState} {rule : World → ℕ → Thread → Next} → new.threads.items ≡ slice_set old.threads.items at.index t → new.classes.items ≡ slice_set old.classes.items class st → new.statics.items ≡ old.statics.items → new.heap ≡ old.heap → new.stop ≡ old.stop → new.output.items ≡ old.output.items → StateRuns at.linked.now new → Stands t fs None Running → ((q : ℕ) → Among q (refs_thread (part_of at.linked.now fs None Running)) → Among q (places (parts_at content at old))) → ((w : World) → Matches (parts_at content at old) w → rule w (at.index + 1) (model h) ≡ goes (with_thread (with_state w name st) (at.index + 1) (other fs))) → Does content at old (Ok step_end.Done) new rule
+  unfolding parts
+  changes {new} {t} {fs} {st} threads classes statics heap stop output runs s' within is = does h runs (λ w m.
+      let n : at.index + 1 - 1 ≡ at.index = omega arith in
+      let states : named_states at.linked.now.program new.classes.items ≡ set_state_in w.classes name st = ap (named_states at.linked.now.program) classes ∙ states_here st w m in
+      subst (Ended (Ok step_end.Done) (parts_at content at new) w) (sym (is w m))
+      (subst (λ k. Matches (parts_at content at new) (record w { threads = slice_set w.threads k (other fs); classes = set_state_in w.classes name st })) (sym n)
+      (subst (λ k. Matches (parts_at content at new) (record w { threads = slice_set w.threads at.index (other fs); classes = k })) states
+      (subst (λ k. Matches (parts_at content at new) (record w { threads = slice_set w.threads at.index (other fs); classes = named_states at.linked.now.program new.classes.items; output = k })) (output ∙ m.output)
+      (changed_matches h new threads statics heap stop s' within w m)))))
+
+  -- the state with another thread and state of the class runs on
+  class_runs : (new : State H) {t : held.Thread} {fs : List StackFrame} {st : ClassState} → st ≢ Failed → new.threads.items ≡ slice_set old.threads.items at.index t → new.classes.items ≡ slice_set old.classes.items class st → new.live ≡ old.live → new.statics.items ≡ old.statics.items → Stands t fs None Running → PartRuns at.linked.now fs None → StateRuns at.linked.now new
+  class_runs new {t} {fs} {st} sound threads classes live statics s' q =
+      let r = runs_with h s' q in
+      record {
+        threads = subst (AllByRecursion (ThreadRuns at.linked.now)) (sym threads) r.threads;
+        live = live ∙ r.live ∙ ap (λ ts. live_among (map (thread_part at.linked.now) ts)) (sym threads);
+        statics = ap length statics ∙ r.statics;
+        classes = ap length classes ∙ length-set old.classes.items class st ∙ r.classes;
+        begun = subst (AllByRecursion (λ x. x ≢ Failed)) (sym classes) (each_set (λ x. x ≢ Failed) old.classes.items class st r.begun sound);
+      }
+
+  pub finished : {new : State H} {t : held.Thread} → new.threads.items ≡ slice_set old.threads.items at.index t → new.classes.items ≡ slice_set old.classes.items class Done → new.live ≡ old.live → new.statics.items ≡ old.statics.items → new.heap ≡ old.heap → new.stop ≡ old.stop → new.output.items ≡ old.output.items → Stands t below None Running → Does content at old (Ok step_end.Done) new (λ w number x. finish w number x name (drop 1 x.frames))
+  finished {new} threads classes live statics heap stop output s' =
+      changes threads classes statics heap stop output (class_runs new (λ (f : Done ≡ Failed). cc) threads classes live statics s' (dropped_runs at.linked.now class s below (part_here h))) s' (inside below (λ q a. a)) (λ w m. refl)
+
+  -- what the model does at the stages
+  pub begin_is : {st : ClassState} → s ≡ stage.Begin → slice_get old.classes.items class ≡ Some st → (w : World) → Matches (parts_at content at old) w → step_thread w (at.index + 1) (model h) ≡ begin w (at.index + 1) (model h) name lower st
+  begin_is {st} e there w m =
+      ap (λ z. initialize w (at.index + 1) (model h) name z lower) e
+      ∙ ap (begin w (at.index + 1) (model h) name lower) (state_here there w m)
+
+  superclass_is : s ≡ stage.Superclass → (w : World) → Matches (parts_at content at old) w → step_thread w (at.index + 1) (model h) ≡ goes (at_stage w (at.index + 1) (model h) name stage.Initializer lower)
+  unfolding parts
+  superclass_is e w m =
+      let l = at.linked.now in
+      let done : state_of w object_class ≡ Done = ap (λ ps. state_in ps object_class) (sym m.classes) ∙ not_listed object_class l.program old.classes.items (others l.program h.beside.linked.loads object_class refl) in
+      ap (λ z. initialize w (at.index + 1) (model h) name z lower) e
+      ∙ ap (λ o. superclass_first w (at.index + 1) (model h) name lower (superclass_name o)) (class_here w m)
+      ∙ ap (superclass_first w (at.index + 1) (model h) name lower) class_of.plain.superclass
+      ∙ ap (λ st. superclass_by st) done
+    where
+      superclass_by : ClassState → Next
+      superclass_by st = elim (is_done st) [
+        | true ↦ goes (at_stage w (at.index + 1) (model h) name stage.Initializer lower)
+        | false ↦ push_frame w (at.index + 1) (model h) (initialization_frame name stage.Initializer ∷ lower) (initialization_frame object_class stage.Begin)
+      ]
+
+  pub superclass_done : {t : held.Thread} → s ≡ stage.Superclass → Stands t (Initialization class stage.Initializer ∷ below) None Running → Steps content at old (Ok step_end.Done) (with_thread_at old at.index t)
+  superclass_done e s' = staged s' (superclass_is e)
+
+  pub initializer_done : {new : State H} → s ≡ stage.Initializer → Does content at old (Ok step_end.Done) new (λ w number x. finish w number x name (drop 1 x.frames)) → Steps content at old (Ok step_end.Done) new
+  initializer_done e done = does_as h (λ w m. m) (λ w m.
+      ap (λ z. initialize w (at.index + 1) (model h) name z lower) e
+      ∙ ap (λ o. run_initializer w (at.index + 1) (model h) name lower (initializer_of o)) (class_here w m)
+      ∙ ap (λ o. run_initializer w (at.index + 1) (model h) name lower (initializer_in class_of.class_of o)) (class_of.plain.no_initializer initializer_type)) done
+
+  pub end_done : {new : State H} → s ≡ stage.End → Does content at old (Ok step_end.Done) new (λ w number x. finish w number x name (drop 1 x.frames)) → Steps content at old (Ok step_end.Done) new
+  end_done e done = does_as h (λ w m. m) (λ w m. ap (λ z. initialize w (at.index + 1) (model h) name z lower) e) done
+
+-- a class that is about to begin
+pub about_to_begin : {H : Type 0} {content : H → Content ClassId} {at : At} {old : State H} {class : ℕ} {s : Stage} {below : List StackFrame} → s ≡ stage.Begin → OnThread content at old (Initialization class s ∷ below) None → OnThread content at old (Initialization class stage.Begin ∷ below) None
+about_to_begin {content = content} {at = at} {old = old} {class = class} {below = below} e h = subst (λ z. OnThread content at old (Initialization class z ∷ below) None) e h
+
+module _ {H : Type 0} {content : H → Content ClassId} {at : At} {old : State H} {class : ℕ} {below : List StackFrame} (h : OnThread content at old (Initialization class stage.Begin ∷ below) None) {st : ClassState} (there : st ≡ slice_index_or old.classes.items class st) where
+  state_there : slice_get old.classes.items class ≡ Some st
+  state_there = let n = old.classes.ok.0 in let a = class_within h in get_at old.classes.items class st (omega arith) there
+
+  -- it is done, or this thread's
+  pub skips : (owner : ℕ) {new : State H} → (st ≡ Done) ⊎ ((st ≡ InProgress owner) × (owner ≡ at.index + 1)) → Does content at old (Ok step_end.Done) new (λ w number x. goes (with_frames w number x (drop 1 x.frames))) → Steps content at old (Ok step_end.Done) new
+  skips owner (inl e) done = does_as h (λ w m. m) (λ w m. begin_is h refl state_there w m ∙ ap (begin w (at.index + 1) (model h) (name h) (lower h)) e) done
+  skips owner (inr e) done = does_as h (λ w m. m) (λ w m.
+      begin_is h refl state_there w m
+      ∙ ap (begin w (at.index + 1) (model h) (name h) (lower h)) e.0
+      ∙ ap (λ b. elim b as (λ _. Next) [ true ↦ goes (with_frames w (at.index + 1) (model h) (lower h)) | false ↦ next.blocks ]) (alike owner (at.index + 1) e.1)) done
+
+  -- it is another thread's
+  pub waits : {owner : ℕ} → st ≡ InProgress owner → (owner ≡ at.index + 1 → ⊥) → Steps content at old (Ok step_end.Blocked) old
+  waits {owner} e n = blocks h (λ w m.
+      begin_is h refl state_there w m
+      ∙ ap (begin w (at.index + 1) (model h) (name h) (lower h)) e
+      ∙ ap (λ b. elim b as (λ _. Next) [ true ↦ goes (with_frames w (at.index + 1) (model h) (lower h)) | false ↦ next.blocks ]) (differ owner (at.index + 1) n))
+
+  -- it begins
+  pub begins : st ≡ NotBegun → {new : State H} {t : held.Thread} → new.threads.items ≡ slice_set old.threads.items at.index t → new.classes.items ≡ slice_set old.classes.items class (InProgress (at.index + 1)) → new.live ≡ old.live → new.statics.items ≡ old.statics.items → new.heap ≡ old.heap → new.stop ≡ old.stop → new.output.items ≡ old.output.items → Stands t (Initialization class stage.Superclass ∷ below) None Running → Steps content at old (Ok step_end.Done) new
+  begins e {new} threads classes live statics heap stop output s' =
+      let q = staged_runs at.linked.now class stage.Begin stage.Superclass below (part_here h) in
+      changes h threads classes statics heap stop output (class_runs h new (λ (f : InProgress (at.index + 1) ≡ Failed). cc) threads classes live statics s' q) s' (inside h (Initialization class stage.Superclass ∷ below) (λ r a. a)) (λ w m.
+      let n = name h in
+      let d = class_of h in
+      let constants : constants_of w (class_named w.program n) ≡ w.statics = ap (constants_of w) (class_here h w m) ∙ ap (λ fs. with_constants w.literals d.class_of fs w.statics) d.plain.fields in
+      begin_is h refl state_there w m
+      ∙ ap (begin w (at.index + 1) (model h) n (lower h)) e
+      ∙ ap (λ v. goes (at_stage (record (with_state w n (InProgress (at.index + 1))) { statics = v }) (at.index + 1) (model h) n stage.Superclass (lower h))) constants)
+
+  -- none has failed
+  pub not_failed : st ≢ Failed
+  not_failed = each_at (λ x. x ≢ Failed) old.classes.items class st h.beside.runs.begun state_there

@@ -151,3 +151,14 @@ top_taken xs x below n e l =
     let is = by_top xs x below e in
     let at : n - 1 ≡ length (reverse below) = before_end (reverse below) x n (l ∙ ap length is) in
     ap (λ k. reverse (take k xs)) at ∙ ap (λ zs. reverse (take (length (reverse below)) zs)) is ∙ ap reverse (take_end (reverse below) x) ∙ reverse-reverse below
+
+-- what lies at an index
+pub get_there : {A : Type 0} (xs : List A) (i : ℕ) → i < length xs → (x : A) × (slice_get xs i ≡ Some x)
+get_there [] i h = absurd (omega arith)
+get_there (x ∷ xs) zero h = (x, refl)
+get_there (x ∷ xs) (suc i) h = get_there xs i (omega arith)
+
+pub got_within : {A : Type 0} (xs : List A) (i : ℕ) (x : A) → slice_get xs i ≡ Some x → i < length xs
+got_within [] i x e = cc
+got_within (y ∷ xs) zero x e = omega arith
+got_within (y ∷ xs) (suc i) x e = let h = got_within xs i x e in omega arith

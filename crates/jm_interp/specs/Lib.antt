@@ -1,3 +1,5 @@
+pub mod At
+pub mod Ending
 pub mod Standing
 pub mod Stepped
 pub mod Pushing

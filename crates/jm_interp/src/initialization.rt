@@ -1,122 +1,89 @@
 // The initialization of a class.
 
-ghost use Rattle.std.specs.Prelude.{◌≡◌, ◌+◌, ◌<◌, ◌^◌, ◌∷◌, ℕ, List, Some, None, slice_get, drop};
+ghost use Rattle.std.specs.Prelude.{◌+◌, ◌∷◌, ℕ, List, None, Ok, drop};
 ghost use Rattle.jm_world.specs.Here.{with_frames};
-ghost use Rattle.jm_world.specs.World.{World, Thread, with_state};
-ghost use Rattle.jm_world.specs.declared.class_state.ClassState.TheVariants.{Done};
+ghost use Rattle.jm_world.specs.Initialization.{finish};
+ghost use Rattle.jm_world.specs.Next.{goes};
 ghost use Rattle.jm_world.specs.declared.stage.Stage.{Stage};
-ghost use Rattle.jm_world.specs.Matches.{Matches};
-ghost use Rattle.jm_world.specs.Stepping.{step_thread};
-ghost use Rattle.jm_linked.specs.Links.{IsLinked};
-ghost use Rattle.jm_state.specs.Parts.{state_parts, program_class_name};
-ghost use Rattle.jm_state.specs.Runnable.{StateRuns};
-ghost use Rattle.jm_state.specs.declared.thread.Ending.TheVariants.{Running};
+ghost use Rattle.jm_world.specs.declared.stage.Stage.TheVariants.{Begin};
+ghost use Rattle.jm_state.specs.Parts.{program_class_name};
+ghost use Rattle.jm_state.specs.declared.halt.StepEnd.TheVariants.{Done};
 ghost use Rattle.jm_state.specs.declared.thread.StackFrame.{StackFrame};
 ghost use Rattle.jm_state.specs.declared.thread.StackFrame.TheVariants.{Initialization};
-ghost use Rattle.jm_world.specs.declared.stage.Stage.TheVariants.{Begin};
-ghost use Rattle.jm_interp.specs.Standing.{StandsAt};
-ghost use Rattle.jm_interp.specs.Stepped.{StepsAs};
+ghost use Rattle.jm_interp.specs.At.{OnThread, Does, Steps};
 
+use crate::at::At;
 use crate::frames::{drop_top, go_to_stage};
 use jm_heap::Heap;
-use jm_linked::Linked;
 use jm_state::{Halt, State, StepEnd};
 use jm_world::{ClassState, Stage};
 
 /// Makes one stage of the initialization whose frame is on top (JVMS 5.5). Every class has Object
 /// as its superclass, which is initialized, and none has a `<clinit>` or a field with a constant.
 pub(crate) fn initialize_top<H: Heap>(
-    linked: &Linked,
+    at: At<'_>,
     state: &mut State<H>,
-    index: usize,
     class: u32,
     stage: Stage,
 ) -> Result<StepEnd, Halt>
-    requires linked { IsLinked linked.now }
-    requires numbered { index + 1 < 2 ^ 64 }
-    requires runs { StateRuns linked.now state.old }
-    requires matched { (w : World) × Matches (state_parts linked.now (H.content state.old.heap) state.old) w }
-    requires here { (below : List StackFrame) × StandsAt state.old.threads.items index (Initialization class stage ∷ below) None Running }
-    ensures next { StepsAs linked.now index (λ w t. step_thread w (index + 1) t) (H.content state.old.heap) state.old result (H.content state.new.heap) state.new }
-    ensures runs { StateRuns linked.now state.new }
+    requires { (below : List StackFrame) × OnThread H.content at state.old (Initialization class stage ∷ below) None }
+    ensures { Steps H.content at.entry state.old result state.new }
 {
-    let _main = linked.main();
     match stage {
-        Stage::Begin => begin(linked, state, index, class),
+        Stage::Begin => begin(at, state, class),
         Stage::Superclass => {
-            go_to_stage(&mut state.threads[index], class, Stage::Initializer);
+            go_to_stage(&mut state.threads[at.index], class, Stage::Initializer);
             Ok(StepEnd::Done)
         }
         Stage::Initializer => {
-            finish(linked, state, index, class);
+            finish(at, state, class);
             Ok(StepEnd::Done)
         }
         Stage::End => {
-            finish(linked, state, index, class);
+            finish(at, state, class);
             Ok(StepEnd::Done)
         }
     }
 }
 
 // Marks the class as done, and drops the frame.
-fn finish<H: Heap>(linked: &Linked, state: &mut State<H>, index: usize, class: u32)
-    requires linked { IsLinked linked.now }
-    requires runs { StateRuns linked.now state.old }
-    requires matched { (w : World) × Matches (state_parts linked.now (H.content state.old.heap) state.old) w }
-    requires here { (stage : Stage) × (below : List StackFrame) × StandsAt state.old.threads.items index (Initialization class stage ∷ below) None Running }
-    ensures next { (w : World) (t : Thread) → Matches (state_parts linked.now (H.content state.old.heap) state.old) w → slice_get w.threads index ≡ Some t → Matches (state_parts linked.now (H.content state.new.heap) state.new) (with_frames (with_state w (program_class_name linked.now.program class) Done) (index + 1) t (drop 1 t.frames)) }
-    ensures runs { StateRuns linked.now state.new }
+fn finish<H: Heap>(at: At<'_>, state: &mut State<H>, class: u32)
+    requires { (stage : Stage) × (below : List StackFrame) × OnThread H.content at state.old (Initialization class stage ∷ below) None }
+    ensures { Does H.content at.entry state.old (Ok Done) state.new (λ w number t. finish w number t (program_class_name at.entry.linked.now.program class) (drop 1 t.frames)) }
 {
-    let _main = linked.main();
     state.classes[class as usize] = ClassState::Done;
-    drop_top(&mut state.threads[index]);
+    drop_top(&mut state.threads[at.index]);
 }
 
 // Drops the frame of a class that needs no initialization.
-fn skip<H: Heap>(linked: &Linked, state: &mut State<H>, index: usize, class: u32)
-    requires linked { IsLinked linked.now }
-    requires runs { StateRuns linked.now state.old }
-    requires here { (stage : Stage) × (below : List StackFrame) × StandsAt state.old.threads.items index (Initialization class stage ∷ below) None Running }
-    ensures next { (w : World) (t : Thread) → Matches (state_parts linked.now (H.content state.old.heap) state.old) w → slice_get w.threads index ≡ Some t → Matches (state_parts linked.now (H.content state.new.heap) state.new) (with_frames w (index + 1) t (drop 1 t.frames)) }
-    ensures runs { StateRuns linked.now state.new }
+fn skip<H: Heap>(at: At<'_>, state: &mut State<H>)
+    requires { (class : ℕ) × (stage : Stage) × (below : List StackFrame) × OnThread H.content at state.old (Initialization class stage ∷ below) None }
+    ensures { Does H.content at.entry state.old (Ok Done) state.new (λ w number t. goes (with_frames w number t (drop 1 t.frames))) }
 {
-    let _main = linked.main();
-    let _class = class;
-    drop_top(&mut state.threads[index]);
+    drop_top(&mut state.threads[at.index]);
 }
 
 // Begins it: a class that is done, or in progress by this thread, needs none, and another thread's
 // progress is waited for.
-fn begin<H: Heap>(
-    linked: &Linked,
-    state: &mut State<H>,
-    index: usize,
-    class: u32,
-) -> Result<StepEnd, Halt>
-    requires linked { IsLinked linked.now }
-    requires numbered { index + 1 < 2 ^ 64 }
-    requires runs { StateRuns linked.now state.old }
-    requires matched { (w : World) × Matches (state_parts linked.now (H.content state.old.heap) state.old) w }
-    requires here { (below : List StackFrame) × StandsAt state.old.threads.items index (Initialization class Begin ∷ below) None Running }
-    ensures next { StepsAs linked.now index (λ w t. step_thread w (index + 1) t) (H.content state.old.heap) state.old result (H.content state.new.heap) state.new }
-    ensures runs { StateRuns linked.now state.new }
+fn begin<H: Heap>(at: At<'_>, state: &mut State<H>, class: u32) -> Result<StepEnd, Halt>
+    requires { (below : List StackFrame) × OnThread H.content at state.old (Initialization class Begin ∷ below) None }
+    ensures { Steps H.content at.entry state.old result state.new }
 {
-    let _main = linked.main();
     match state.classes[class as usize] {
         ClassState::Done => {
-            skip(linked, state, index, class);
+            skip(at, state);
             Ok(StepEnd::Done)
         }
         ClassState::InProgress(owner) => {
-            if owner != index as u64 + 1 {
+            if owner != at.index as u64 + 1 {
                 return Ok(StepEnd::Blocked);
             }
-            skip(linked, state, index, class);
+            skip(at, state);
             Ok(StepEnd::Done)
         }
         ClassState::NotBegun => {
-            state.classes[class as usize] = ClassState::InProgress(index as u64 + 1);
-            go_to_stage(&mut state.threads[index], class, Stage::Superclass);
+            state.classes[class as usize] = ClassState::InProgress(at.index as u64 + 1);
+            go_to_stage(&mut state.threads[at.index], class, Stage::Superclass);
             Ok(StepEnd::Done)
         }
         ClassState::Failed => unreachable!(),

@@ -7,13 +7,15 @@
 //! model blocks, or has not changed where a growth was refused. [`unwind_stage`] and [`init_stage`]
 //! make the first and the last of these by themselves.
 //!
-//! `step` chooses what is to be done; `plain`, `pushing`, `returning` and `printing` are the
+//! `at` says where a step is made, and `specs/At` what it does: the words of all contracts. `step`
+//! chooses what is to be done; `plain`, `pushing`, `returning` and `printing` are the
 //! instructions, `throwing`, `unwinding` and `ending` what exceptions and ends do, `initialization`
 //! the stages of a class, over the calls on one thread in `top_frame`, `frames` and `operands`. A
 //! plain instruction looks up its thread, its top frame and its code, and takes no memory. The crate
 //! stands on `jm_state`, `jm_linked`, `jm_ops` and `jm_heap`'s trait.
 #![tactic(auto)]
 
+mod at;
 mod class_number;
 mod ending;
 mod frames;

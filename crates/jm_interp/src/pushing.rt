@@ -1,43 +1,44 @@
 // Instructions that push one value.
 
-ghost use Rattle.std.specs.Prelude.{◌+◌};
-ghost use Rattle.jm_world.specs.World.{World};
-ghost use Rattle.jm_world.specs.Matches.{Matches};
-ghost use Rattle.jm_world.specs.Stepping.{step_thread};
-ghost use Rattle.jm_linked.specs.Links.{IsLinked};
+ghost use Rattle.std.specs.Prelude.{◌+◌, ◌<◌, ◌^◌};
+ghost use Rattle.jm_values.specs.Rename.{rename};
+ghost use Rattle.jm_world.specs.Content.{name_of};
+ghost use Rattle.jm_world.specs.Here.{push as here_push};
+ghost use Rattle.jm_linked.specs.Links.{Links};
 ghost use Rattle.jm_linked.specs.declared.instruction.LinkedInstr.{LinkedInstr};
-ghost use Rattle.jm_state.specs.Parts.{state_parts};
-ghost use Rattle.jm_state.specs.Runnable.{StateRuns};
+ghost use Rattle.jm_interp.specs.At.{InMethod, Holds, StandsOn, Does, Steps, in_method};
 ghost use Rattle.jm_interp.specs.Pushing.{Pushes};
-ghost use Rattle.jm_interp.specs.Standing.{StandsHere};
-ghost use Rattle.jm_interp.specs.Stepped.{StepsAs};
 
+use crate::at::At;
 use crate::top_frame::push_top;
 use jm_heap::Heap;
-use jm_linked::Linked;
 use jm_state::{Halt, State, StepEnd};
 use jm_values::Value;
 use jm_world::Stop;
+
+/// Pushes a value in the top frame, and goes on.
+#[inline]
+pub(crate) fn push<H: Heap>(at: At<'_>, state: &mut State<H>, value: Value) -> Result<StepEnd, Halt>
+    requires here { (h : InMethod H.content at state.old) × (h.frame.activation.at + 1 < 2 ^ 64) }
+    requires held { Holds H.content at state.old value }
+    ensures { Does H.content at.entry state.old result state.new (in_method (λ here. here_push here (rename (name_of (H.content state.old.heap)) value) here.frame.stack)) }
+{
+    match push_top(&mut state.threads[at.index], value) {
+        Ok(()) => Ok(StepEnd::Done),
+        Err(fault) => Err(Halt::Stopped(Stop::TagFault(fault))),
+    }
+}
 
 /// Pushes the value of an instruction that pushes one: `ldc` of an int, `ldc2_w` of a long, or
 /// `getstatic` of System.out (JVMS 6.5).
 #[inline]
 pub(crate) fn push_value<H: Heap>(
-    linked: &Linked,
+    at: At<'_>,
     state: &mut State<H>,
-    index: usize,
     value: Value,
 ) -> Result<StepEnd, Halt>
-    requires linked { IsLinked linked.now }
-    requires runs { StateRuns linked.now state.old }
-    requires matched { (w : World) × Matches (state_parts linked.now (H.content state.old.heap) state.old) w }
-    requires here { (instruction : LinkedInstr) × StandsHere linked.now state.old.threads.items index instruction × Pushes instruction state.old.statics.items value }
-    ensures next { StepsAs linked.now index (λ w t. step_thread w (index + 1) t) (H.content state.old.heap) state.old result (H.content state.new.heap) state.new }
-    ensures runs { StateRuns linked.now state.new }
+    requires { (li : LinkedInstr) × StandsOn H.content at state.old (Links li) × Pushes li state.old.statics.items value }
+    ensures { Steps H.content at.entry state.old result state.new }
 {
-    let _main = linked.main();
-    match push_top(&mut state.threads[index], value) {
-        Ok(()) => Ok(StepEnd::Done),
-        Err(fault) => Err(Halt::Stopped(Stop::TagFault(fault))),
-    }
+    push(at, state, value)
 }

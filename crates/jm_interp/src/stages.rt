@@ -1,36 +1,37 @@
 // The stages of unwinding and of the initialization of a class, each by itself.
 
-ghost use Rattle.std.specs.Prelude.{◌≡◌, ◌-◌, ◌≤◌, ◌∷◌, ℕ, List, Some, None, slice_get};
+ghost use Rattle.std.specs.Prelude.{◌≡◌, ◌-◌, ◌≤◌, ◌∷◌, ℕ, List, Some, None};
 ghost use Rattle.jm_world.specs.Frames.{Frame, initialization_frame};
-ghost use Rattle.jm_world.specs.World.{World, Thread as ModelThread, thread_at};
+ghost use Rattle.jm_world.specs.Initialization.{initialize};
 ghost use Rattle.jm_world.specs.Matches.{Matches};
 ghost use Rattle.jm_world.specs.Throwing.{unwind};
-ghost use Rattle.jm_world.specs.Initialization.{initialize};
+ghost use Rattle.jm_world.specs.World.{World, Thread as ModelThread, thread_at};
 ghost use Rattle.jm_world.specs.declared.stage.Stage.{Stage};
-ghost use Rattle.jm_state.specs.Parts.{state_parts};
 ghost use Rattle.jm_state.specs.Ends.{Ended};
+ghost use Rattle.jm_state.specs.Parts.{state_parts};
 ghost use Rattle.jm_state.specs.Runnable.{StateRuns};
 ghost use Rattle.jm_state.specs.declared.thread.Ending.TheVariants.{Running};
 ghost use Rattle.jm_state.specs.declared.thread.StackFrame.{StackFrame};
 ghost use Rattle.jm_state.specs.declared.thread.StackFrame.TheVariants.{Initialization};
-ghost use Rattle.jm_state.specs.declared.thread.Thread as held;
 ghost use Rattle.jm_interp.specs.Standing.{StandsAt};
 
-use crate::initialization::initialize_top;
-use crate::step::{Top, top_of};
-use crate::unwinding::unwind_top;
+use crate::at::At;
+use crate::step::step_at;
 use jm_heap::Heap;
 use jm_linked::Linked;
 use jm_state::{Halt, State, StepEnd};
+use std::alloc::Global;
 
 /// Makes one stage of unwinding of a thread that runs and whose exception is pending, by the
 /// thread's number from 1 (JVMS 2.10, 3.12, 6.5 athrow): the top frame is dropped, and with the
 /// last one the thread ends by the exception. OutOfMemory: the state is beside the same world as
 /// before.
 pub fn unwind_stage<H: Heap>(
+    alloc: Global,
     linked: &Linked,
     state: &mut State<H>,
     number: u64,
+    nursery: usize,
 ) -> Result<StepEnd, Halt>
     requires runs { StateRuns linked.now state.old }
     requires matched { (w : World) × Matches (state_parts linked.now (H.content state.old.heap) state.old) w }
@@ -39,13 +40,15 @@ pub fn unwind_stage<H: Heap>(
     ensures next { (w : World) (t : ModelThread) (k : ℕ) → Matches (state_parts linked.now (H.content state.old.heap) state.old) w → thread_at w number ≡ Some t → t.pending ≡ Some k → Ended result (state_parts linked.now (H.content state.new.heap) state.new) w (unwind w number t k) }
     ensures runs { StateRuns linked.now state.new }
 {
+    // the program is linked
     let _methods = linked.methods();
-    let index = (number - 1) as usize;
-    match state.threads[index].pending {
-        Some(place) => unwind_top(linked, state, index, place),
-        // never: an exception is pending
-        None => Ok(StepEnd::Done),
-    }
+    let at = At {
+        alloc,
+        linked,
+        index: (number - 1) as usize,
+        nursery,
+    };
+    step_at(at, state)
 }
 
 /// Makes one stage of the initialization of a class (JVMS 5.5) of a thread that runs, whose top
@@ -53,9 +56,11 @@ pub fn unwind_stage<H: Heap>(
 /// Blocked: another thread initializes the class, and nothing changed. OutOfMemory: the state is
 /// beside the same world as before.
 pub fn init_stage<H: Heap>(
+    alloc: Global,
     linked: &Linked,
     state: &mut State<H>,
     number: u64,
+    nursery: usize,
 ) -> Result<StepEnd, Halt>
     requires runs { StateRuns linked.now state.old }
     requires matched { (w : World) × Matches (state_parts linked.now (H.content state.old.heap) state.old) w }
@@ -64,11 +69,13 @@ pub fn init_stage<H: Heap>(
     ensures next { (w : World) (t : ModelThread) (class : List ℕ) (stage : Stage) (below : List Frame) → Matches (state_parts linked.now (H.content state.old.heap) state.old) w → thread_at w number ≡ Some t → t.pending ≡ None → t.frames ≡ initialization_frame class stage ∷ below → Ended result (state_parts linked.now (H.content state.new.heap) state.new) w (initialize w number t class stage below) }
     ensures runs { StateRuns linked.now state.new }
 {
+    // the program is linked
     let _methods = linked.methods();
-    let index = (number - 1) as usize;
-    match top_of(&state.threads[index]) {
-        Top::Initialization(class, stage) => initialize_top(linked, state, index, class, stage),
-        // never: an initialization is on top
-        _ => Ok(StepEnd::Done),
-    }
+    let at = At {
+        alloc,
+        linked,
+        index: (number - 1) as usize,
+        nursery,
+    };
+    step_at(at, state)
 }

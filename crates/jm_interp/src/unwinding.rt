@@ -1,18 +1,13 @@
 // Unwinding.
 
-ghost use Rattle.std.specs.Prelude.{◌≡◌, ◌+◌, ◌∷◌, ℕ, List, Some, IfSome};
-ghost use Rattle.jm_world.specs.World.{World, ended_by};
-ghost use Rattle.jm_world.specs.Matches.{Matches};
-ghost use Rattle.jm_world.specs.Stepping.{step_thread};
+ghost use Rattle.std.specs.Prelude.{◌≡◌, List, Some, IfSome};
+ghost use Rattle.jm_world.specs.World.{ended_by};
 ghost use Rattle.jm_world.specs.Throwing.{class_name};
-ghost use Rattle.jm_linked.specs.Links.{IsLinked};
-ghost use Rattle.jm_state.specs.Parts.{state_parts, ending_part, named_type};
-ghost use Rattle.jm_state.specs.Runnable.{StateRuns};
-ghost use Rattle.jm_state.specs.declared.thread.Ending.TheVariants.{Running};
+ghost use Rattle.jm_state.specs.Parts.{ending_part, named_type};
 ghost use Rattle.jm_state.specs.declared.thread.StackFrame.{StackFrame};
-ghost use Rattle.jm_interp.specs.Standing.{StandsAt};
-ghost use Rattle.jm_interp.specs.Stepped.{StepsAs};
+ghost use Rattle.jm_interp.specs.At.{OnThread, Steps};
 
+use crate::at::At;
 use crate::ending::end_thread;
 use crate::frames::drop_top;
 use jm_heap::{ClassId, Heap};
@@ -41,25 +36,20 @@ fn ending_by(linked: &Linked, thrown: ClassId) -> Option<Ending>
 /// Makes one stage of unwinding (JVMS 2.10): no method that can run has an exception table, so the
 /// top frame is dropped, and with the last one the thread ends by the exception's class.
 pub(crate) fn unwind_top<H: Heap>(
-    linked: &Linked,
+    at: At<'_>,
     state: &mut State<H>,
-    index: usize,
     place: Place,
 ) -> Result<StepEnd, Halt>
-    requires linked { IsLinked linked.now }
-    requires runs { StateRuns linked.now state.old }
-    requires matched { (w : World) × Matches (state_parts linked.now (H.content state.old.heap) state.old) w }
-    requires here { (fs : List StackFrame) × StandsAt state.old.threads.items index fs (Some place) Running }
-    ensures next { StepsAs linked.now index (λ w t. step_thread w (index + 1) t) (H.content state.old.heap) state.old result (H.content state.new.heap) state.new }
-    ensures runs { StateRuns linked.now state.new }
+    requires { (fs : List StackFrame) × OnThread H.content at state.old fs (Some place) }
+    ensures { Steps H.content at.entry state.old result state.new }
 {
-    if state.threads[index].frames.len() > 1 {
-        drop_top(&mut state.threads[index]);
+    if state.threads[at.index].frames.len() > 1 {
+        drop_top(&mut state.threads[at.index]);
         return Ok(StepEnd::Done);
     }
-    match ending_by(linked, state.heap.class_of(place)) {
+    match ending_by(at.linked, state.heap.class_of(place)) {
         Some(ending) => {
-            end_thread(linked, state, index, ending);
+            end_thread(at, state, ending);
             Ok(StepEnd::Done)
         }
         None => Err(Halt::OutOfMemory),
