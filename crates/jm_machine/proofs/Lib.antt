@@ -9,3 +9,4 @@ pub mod ClassNumbers
 pub mod Parted
 pub mod Told
 pub mod Reading
+pub mod Collected

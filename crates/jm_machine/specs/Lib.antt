@@ -1,4 +1,5 @@
 pub mod View
+pub mod Collected
 pub mod Threads
 pub mod Answered
 pub mod Start

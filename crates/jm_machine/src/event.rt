@@ -1,15 +1,17 @@
 // One event.
 
-ghost use Rattle.std.specs.Prelude.{◌≡◌, ◌+◌, ◌<◌, ◌^◌, ℕ, MatchResult, Some, None, length};
+ghost use Rattle.std.specs.Prelude.{◌≡◌, ◌+◌, ◌<◌, ◌^◌, ℕ, MatchResult, OnOk, Some, None, length};
 ghost use Rattle.jm_world.specs.World.{World, Thread as ModelThread, thread_at};
 ghost use Rattle.jm_world.specs.Matches.{Matches};
 ghost use Rattle.jm_world.specs.Run.{after, after_event, after_step};
 ghost use Rattle.jm_world.specs.Stepping.{step_thread};
 ghost use Rattle.jm_world.specs.declared.event.Event.TheVariants.{Step};
 ghost use Rattle.jm_state.specs.Parts.{state_parts};
+ghost use Rattle.jm_state.specs.Reached.{LeavesReachable};
 ghost use Rattle.jm_state.specs.Runnable.{StateRuns};
 ghost use Rattle.jm_state.specs.declared.thread.Ending.TheVariants.{Running};
 ghost use Rattle.jm_machine.specs.Answered.{IsAnswered};
+ghost use Rattle.jm_machine.specs.Collected.{LeavesAfter};
 ghost use Rattle.jm_machine.specs.Threads.{ending_numbered};
 
 use crate::fault::OutOfMemory;
@@ -100,6 +102,7 @@ fn collect_kind<H: Heap>(
     ensures kept { (w : World) → Matches (state_parts linked.now (H.content state.old.heap) state.old) w → Matches (state_parts linked.now (H.content state.new.heap) state.new) w }
     ensures runs { StateRuns linked.now state.new }
     ensures kind { MatchResult result (λ kind. kind ≡ ReplyKind.Done) (λ _. Unit {0}) }
+    ensures leaves { (w : World) → Matches (state_parts linked.now (H.content state.old.heap) state.old) w → OnOk result (LeavesReachable kind (H.content state.new.heap) w) }
 {
     match collect(alloc, linked, state, kind) {
         Ok(()) => Ok(ReplyKind::Done),
@@ -118,6 +121,7 @@ pub(crate) fn make_event<H: Heap>(
     requires runs { StateRuns linked.now state.old }
     requires matched { (w : World) × Matches (state_parts linked.now (H.content state.old.heap) state.old) w }
     ensures event { (w : World) → Matches (state_parts linked.now (H.content state.old.heap) state.old) w → MatchResult result (λ kind. IsAnswered (state_parts linked.now (H.content state.new.heap) state.new) kind (after w event)) (λ _. Matches (state_parts linked.now (H.content state.new.heap) state.new) w) }
+    ensures leaves { (w : World) → Matches (state_parts linked.now (H.content state.old.heap) state.old) w → OnOk result (LeavesAfter event (H.content state.new.heap) w) }
     ensures runs { StateRuns linked.now state.new }
 {
     if state.stop.is_some() {

@@ -1,10 +1,11 @@
 // The machine.
 
-ghost use Rattle.std.specs.Prelude.{◌≡◌, ℕ, List, MatchResult, MatchOption, Some, None, take, length, option_map, IfSome, IfOk, IfErr, ◌≤◌};
+ghost use Rattle.std.specs.Prelude.{◌≡◌, ℕ, List, MatchResult, OnOk, MatchOption, Some, None, take, length, option_map, IfSome, IfOk, IfErr, ◌≤◌};
 ghost use Rattle.jm_world.specs.Monitors.{monitor_in};
 ghost use Rattle.jm_world.specs.World.{World, live_among, thread_at};
 ghost use Rattle.jm_world.specs.Run.{after, run_from, replies_from};
 ghost use Rattle.jm_state.specs.Reached.{AreReachable};
+ghost use Rattle.jm_machine.specs.Collected.{LeavesAfter};
 ghost use Rattle.jm_machine.specs.Readers.{model_frame, model_monitor, frame_at, pending_of, IsOfProgram, TellsObject};
 ghost use Rattle.jm_machine.specs.Threads.{class_ended_by};
 ghost use Rattle.jm_machine.specs.View.{MatchesWorld};
@@ -72,9 +73,11 @@ impl<H: Heap + Drop> Machine<H> {
 
 impl<H: Heap> Machine<H> {
     /// Makes one event; an object that it makes is made in the nursery of that number, which has no
-    /// part in what it is. `OutOfMemory`: the machine is that of the world before.
+    /// part in what it is. After `Full`, of a world that has not stopped, exactly the objects that
+    /// the world reaches are resident. `OutOfMemory`: the machine is that of the world before.
     pub fn step_at(&mut self, nursery: usize, event: Event) -> Result<Reply, OutOfMemory>
-        ensures { (w : World) → MatchesWorld self.old w → MatchResult result (λ reply. MatchesWorld self.new (after w event).world × (reply ≡ (after w event).reply)) (λ _. MatchesWorld self.new w) }
+        ensures next { (w : World) → MatchesWorld self.old w → MatchResult result (λ reply. MatchesWorld self.new (after w event).world × (reply ≡ (after w event).reply)) (λ _. MatchesWorld self.new w) }
+        ensures leaves { (w : World) → MatchesWorld self.old w → OnOk result (LeavesAfter event self.new.content w) }
     {
         let alloc = self.alloc;
         let kind = make_event(alloc, &self.linked, &mut self.state, nursery, event)?;
@@ -83,7 +86,8 @@ impl<H: Heap> Machine<H> {
 
     /// Makes one event, in the first nursery.
     pub fn step(&mut self, event: Event) -> Result<Reply, OutOfMemory>
-        ensures { (w : World) → MatchesWorld self.old w → MatchResult result (λ reply. MatchesWorld self.new (after w event).world × (reply ≡ (after w event).reply)) (λ _. MatchesWorld self.new w) }
+        ensures next { (w : World) → MatchesWorld self.old w → MatchResult result (λ reply. MatchesWorld self.new (after w event).world × (reply ≡ (after w event).reply)) (λ _. MatchesWorld self.new w) }
+        ensures leaves { (w : World) → MatchesWorld self.old w → OnOk result (LeavesAfter event self.new.content w) }
     {
         self.step_at(0, event)
     }

@@ -1,3 +1,5 @@
+use Rattle.jm_machine.specs.Collected.{LeavesAfter}
+use Rattle.jm_machine.proofs.Collected.{holds_reachable, stopped_leaves, told_ok}
 use Rattle.std.proofs.Common.{sym, subst, ap, ◌∙◌, MatchResult}
 use Rattle.jm_world.specs.Run.{After, after, after_event}
 use Rattle.jm_world.specs.Matches.{Matches}
@@ -28,3 +30,13 @@ returns-in-Full-clause-event g c = λ w m.
     let n = none_is c.args.state.now.stop (sym c.is_some.ensures ∙ c.if-is_some.false) in
     let call = c.collect_kind-in-Full in
     collected call.result _ w (after w c.args.event) (after_going _ _ _ _ _ _ _ w m n c.args.event ∙ ap (after_event w) c.in-Full.is) call.ensures.kind (call.ensures.kept w m)
+
+pub returns-then-is_some-clause-leaves : goal.returns-then-is_some-clause-leaves
+returns-then-is_some-clause-leaves g c w m =
+    let x = some_is c.args.state.now.stop (sym c.is_some.ensures ∙ c.if-is_some.true) in
+    stopped_leaves _ _ _ _ _ _ _ w m x.1 c.args.event _
+
+pub returns-in-Full-clause-leaves : goal.returns-in-Full-clause-leaves
+returns-in-Full-clause-leaves g c w m =
+    let call = c.collect_kind-in-Full in
+    told_ok call.result (λ left. subst (λ e. LeavesAfter e (g.H.Heap.content call.new.state.heap) w) (sym c.in-Full.is) (λ none. holds_reachable _ _ _ _ _ _ _ w (call.ensures.kept w m) left)) (call.ensures.leaves w m)

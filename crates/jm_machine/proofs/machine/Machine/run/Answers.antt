@@ -13,7 +13,7 @@ loop-made-preserved g c =
     record {
       run = λ w m.
           let before = i.run w m in
-          let now = c.in-Ok-step.ensures (run_from w (take made events)) before.0 in (
+          let now = c.in-Ok-step.ensures.next (run_from w (take made events)) before.0 in (
             subst (MatchesWorld c.step.new.self) (run_more w events made (Step 0) c.loop-made-test.true) now.0,
             replied w events made (Step 0) c.loop-made.replies.items c.push_reserved.new.self.items c.in-Ok-step.reply c.loop-made-test.true c.push_reserved.ensures.items before.1 now.1,
           );
