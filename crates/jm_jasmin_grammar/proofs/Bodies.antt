@@ -35,7 +35,9 @@ use Rattle.jm_jasmin_grammar.specs.Methods.BodyLine.{stack, locals, source_line,
 use Rattle.jm_jasmin_grammar.specs.Methods.BodyLines.{ends, and_line}
 use Rattle.jm_jasmin_grammar.proofs.Words.{Says, opens, begins_says, stops, goes_on_with}
 use Rattle.jm_jasmin_grammar.proofs.Instructions.{in_line}
-use Rattle.jm_jasmin_grammar.proofs.Methods.{in_that_line, item_read, no_directive}
+use Rattle.jm_jasmin_grammar.proofs.Methods.{in_that_line, item_read}
+use Rattle.jm_jasmin_grammar.proofs.Mnemonics.{label_text, mnemonic_text}
+use Rattle.jm_class_format.specs.declared.opcode.Opcode.TheVariants as opcode
 
 -- ---- items without their lines
 
@@ -60,7 +62,7 @@ line_unplaced before number l i (catch text start end target name h k) = refl
 line_unplaced before number l i (catch_all start end target) = refl
 line_unplaced before number l i (throws text) = refl
 line_unplaced before number l i (var words) = refl
-line_unplaced before number l i (label text h point) = refl
+line_unplaced before number l i (label text h) = refl
 line_unplaced before number l x (instruction l2 i h) = ap item.Instruction (instruction_unplaced number l i h)
 
 count_here : (j : Item) → instruction_here (in_that_line 0 j) ≡ instruction_here j
@@ -167,9 +169,9 @@ unfolding next_item with_item
 next_by m js j us rest h k = rw (h, k) refl
 
 instruction_goes_on : (l : Line) (i : LabelledInstr) (lines : List Line) → InstructionLine l i → opens (codes ".end") (l ∷ lines) ≡ false
-instruction_goes_on l i lines (named text op words x names h) = no_directive text (codes "end") names.no_directive
-instruction_goes_on l i lines (branch text target op names h) = no_directive text (codes "end") names.no_directive
-instruction_goes_on l i lines (branch_wide text target op names h) = no_directive text (codes "end") names.no_directive
+instruction_goes_on l i lines (named text op words x names h) = (mnemonic_text text op names).end
+instruction_goes_on l i lines (branch text target op names h) = (mnemonic_text text (opcode.Branch op) names).end
+instruction_goes_on l i lines (branch_wide text target op names h) = (mnemonic_text text (opcode.BranchWide op) names).end
 
 line_goes_on : (before : ℕ) (l : Line) (i : Item) (lines : List Line) → BodyLine before l i → opens (codes ".end") (l ∷ lines) ≡ false
 line_goes_on before l i lines (stack text n h) = refl
@@ -179,7 +181,7 @@ line_goes_on before l i lines (catch text start end target name h k) = refl
 line_goes_on before l i lines (catch_all start end target) = refl
 line_goes_on before l i lines (throws text) = refl
 line_goes_on before l i lines (var words) = refl
-line_goes_on before l i lines (label text h point) = no_directive text (codes "end") point
+line_goes_on before l i lines (label text h) = (label_text text h).end
 line_goes_on before l x lines (instruction l2 i h) = instruction_goes_on l i lines h
 
 module _ (m : Method) (behind : List Line) (on : opens (codes ".end") behind ≡ true) where

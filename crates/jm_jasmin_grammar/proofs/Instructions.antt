@@ -124,6 +124,6 @@ pub instruction_reads : (t : Word) (ws : Words) (i : LabelledInstr) → Instruct
     → instruction_in (standing number at (t ∷ ws)) below ≡ Ok
     (record { instruction = in_line number i; used = length (standing number (λ k. at (suc k)) ws) + 1 })
 unfolding instruction_in word operands label
-instruction_reads t ws i (named text op words x names h) number at below = rw (names.named) (operands_read op words x h number (λ k. at (suc k)) below)
-instruction_reads t ws i (branch text target op names h) number at below = rw (names.named, h.no_offset, h.no_colon) refl
-instruction_reads t ws i (branch_wide text target op names h) number at below = rw (names.named, h.no_offset, h.no_colon) refl
+instruction_reads t ws i (named text op words x names h) number at below = rw names (operands_read op words x h number (λ k. at (suc k)) below)
+instruction_reads t ws i (branch text target op names h) number at below = rw (names, h.no_offset, h.no_colon) refl
+instruction_reads t ws i (branch_wide text target op names h) number at below = rw (names, h.no_offset, h.no_colon) refl

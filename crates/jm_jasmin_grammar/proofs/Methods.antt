@@ -10,11 +10,11 @@ use Rattle.jm_program.specs.Names.{same_text}
 use Rattle.jm_program.specs.declared.class.Method.{Method}
 use Rattle.jm_program.specs.declared.descriptor.MethodDescriptor.{MethodDescriptor}
 use Rattle.jm_program.proofs.DescriptorLaws.{both_true}
+use Rattle.jm_class_format.specs.declared.opcode.Opcode.TheVariants as opcode
 use Rattle.jm_class_format.specs.Members.{own_receiver}
 use Rattle.jm_class_format.specs.Symbols.{class_name_of, method_name_of, method_type_of}
 use Rattle.jm_jasmin_lex.specs.Token.{TokenParts}
 use Rattle.jm_jasmin_lex.specs.Lines.{first_line}
-use Rattle.jm_jasmin_ops.specs.Profile.{begins_with}
 use Rattle.jm_jasmin_ops.specs.declared.labelled.LabelledInstr.{LabelledInstr}
 use Rattle.jm_jasmin_ops.specs.Instruction.{instruction_at, instruction_in}
 use Rattle.jm_jasmin_ops.specs.declared.fault.AsmFault.{AsmFault}
@@ -29,13 +29,14 @@ use Rattle.jm_jasmin.specs.declared.item.Item.TheVariants as item
 use Rattle.jm_jasmin_grammar.specs.Words.{Line, bare}
 use Rattle.jm_jasmin_grammar.specs.Instructions.{IsUpTo, InstructionLine}
 use Rattle.jm_jasmin_grammar.specs.Instructions.InstructionLine.{named, branch, branch_wide}
-use Rattle.jm_jasmin_grammar.specs.Methods.{without_code, no_parenthesis, catch_row, MethodLine, BodyLine}
+use Rattle.jm_jasmin_grammar.specs.Methods.{without_code, no_parenthesis, catch_row, catch_words, MethodLine, BodyLine}
 use Rattle.jm_jasmin_grammar.specs.Methods.MethodLine.{method}
 use Rattle.jm_jasmin_grammar.specs.Methods.BodyLine.{stack, locals, source_line, catch, catch_all, throws, var, label, instruction}
 use Rattle.jm_jasmin_grammar.proofs.Words.{token_in, standing, Says, Goes, begins_says, first_says, by_front}
 use Rattle.jm_jasmin_grammar.proofs.Words.Says.{line}
 use Rattle.jm_jasmin_grammar.proofs.Header.{units_are, parted, flags_are, flags_read, at_least, behind_is}
 use Rattle.jm_jasmin_grammar.proofs.Instructions.{in_line, instruction_reads}
+use Rattle.jm_jasmin_grammar.proofs.Mnemonics.{NoDirective, label_text, mnemonic_text, mnemonic_no_colon}
 
 -- ---- .method
 
@@ -120,11 +121,6 @@ line_read_at f x l lines us (line number at w ws {rest = rest} apart says) reads
       ),
     )
 
--- a word that begins with no point is no directive
-pub no_directive : (text directive : List ℕ) → begins_with 46 text ≡ false → same_text text (46 ∷ directive) ≡ false
-no_directive [] directive h = refl
-no_directive (b ∷ text) directive h = rw h refl
-
 instruction_by : (us front below rest : List TokenParts) (i : LabelledInstr) (used : ℕ) → first_line us ≡ (front, below)
     → instruction_in front below ≡ Ok (record { instruction = i; used = used }) → drop used us ≡ rest
     → instruction_lines us ≡ Ok (item.Instruction i, rest)
@@ -176,16 +172,15 @@ by_instruction : (before : ℕ) (us : List TokenParts) → is_label_line (first_
 unfolding label_or_instruction
 by_instruction before us h = rw h refl
 
-no_directives : (before : ℕ) (text : List ℕ) (ws : Line) (lines : List Line) (us : List TokenParts) → begins_with 46 text ≡ false
+no_directives : (before : ℕ) (text : List ℕ) (ws : Line) (lines : List Line) (us : List TokenParts) → NoDirective text
     → Says ((bare text ∷ ws) ∷ lines) us → item_at before us ≡ label_or_instruction before us
 unfolding item_at
 no_directives before text ws lines us h says =
-    let limit : begins (codes ".limit") us ≡ false = begins_says (codes ".limit") ((bare text ∷ ws) ∷ lines) us says ∙ no_directive text (codes "limit") h in
-    let source : begins (codes ".line") us ≡ false = begins_says (codes ".line") ((bare text ∷ ws) ∷ lines) us says ∙ no_directive text (codes "line") h in
-    let variable : begins (codes ".var") us ≡ false = begins_says (codes ".var") ((bare text ∷ ws) ∷ lines) us says ∙ no_directive text (codes "var") h in
-    let thrown : begins (codes ".throws") us ≡ false = begins_says (codes ".throws") ((bare text ∷ ws) ∷ lines) us says ∙ no_directive text (codes "throws")
-    h in
-    let caught : begins (codes ".catch") us ≡ false = begins_says (codes ".catch") ((bare text ∷ ws) ∷ lines) us says ∙ no_directive text (codes "catch") h in
+    let limit : begins (codes ".limit") us ≡ false = begins_says (codes ".limit") ((bare text ∷ ws) ∷ lines) us says ∙ h.limit in
+    let source : begins (codes ".line") us ≡ false = begins_says (codes ".line") ((bare text ∷ ws) ∷ lines) us says ∙ h.line in
+    let variable : begins (codes ".var") us ≡ false = begins_says (codes ".var") ((bare text ∷ ws) ∷ lines) us says ∙ h.var in
+    let thrown : begins (codes ".throws") us ≡ false = begins_says (codes ".throws") ((bare text ∷ ws) ∷ lines) us says ∙ h.throws in
+    let caught : begins (codes ".catch") us ≡ false = begins_says (codes ".catch") ((bare text ∷ ws) ∷ lines) us says ∙ h.catch in
     rw (limit, source, variable, thrown, caught) refl
 
 stack_reads : (text : List ℕ) (n : ℕ) → IsUpTo 65535 text n → (number : ℕ) (at : ℕ → ℕ)
@@ -210,18 +205,12 @@ unfolding throws_line only_operand with_length operand
 throws_reads text number at = refl
 
 catch_reads : (text start end target name : List ℕ) → same_text text (codes "all") ≡ false → class_name_of (utf16_of text) ≡ Ok name → (number : ℕ) (at : ℕ → ℕ)
-    → catch_line
-    (standing number at (bare (codes ".catch") ∷ bare text ∷ bare (codes "from") ∷ bare start ∷ bare (codes "to") ∷ bare end ∷ bare (codes "using") ∷ bare
-    target ∷ []))
-    ≡ Ok (in_that_line number (item.Catch (catch_row (Some name) start end target)))
+    → catch_line (standing number at (catch_words text start end target)) ≡ Ok (in_that_line number (item.Catch (catch_row (Some name) start end target)))
 unfolding catch_line with_length with_catch_words has_catch_words catch_type_at class_name_at class_name units_at operand line_number
 catch_reads text start end target name h k number at = rw (h, k) refl
 
 catch_all_reads : (start end target : List ℕ) (number : ℕ) (at : ℕ → ℕ)
-    → catch_line
-    (standing number at (bare (codes ".catch") ∷ bare (codes "all") ∷ bare (codes "from") ∷ bare start ∷ bare (codes "to") ∷ bare end ∷ bare
-    (codes "using") ∷ bare target ∷ []))
-    ≡ Ok (in_that_line number (item.Catch (catch_row None start end target)))
+    → catch_line (standing number at (catch_words (codes "all") start end target)) ≡ Ok (in_that_line number (item.Catch (catch_row None start end target)))
 unfolding catch_line with_length with_catch_words has_catch_words catch_type_at units_at operand line_number
 catch_all_reads start end target number at = refl
 
@@ -255,7 +244,7 @@ unfolding item_at
 catch_here before us a b c d h = rw (a, b, c, d, h) refl
 
 module _ (before : ℕ) (lines : List Line) (us : List TokenParts) where
-  words_read : (text : List ℕ) (ws : Line) (i : LabelledInstr) → begins_with 46 text ≡ false → ends_with_colon text ≡ false
+  words_read : (text : List ℕ) (ws : Line) (i : LabelledInstr) → NoDirective text → ends_with_colon text ≡ false
       → InstructionLine (bare text ∷ ws) i → Says ((bare text ∷ ws) ∷ lines) us
       → GoesAt (item_at before us) (λ n. in_that_line n (item.Instruction i)) lines us
   words_read text ws i point colon h says =
@@ -266,10 +255,14 @@ module _ (before : ℕ) (lines : List Line) (us : List TokenParts) where
 
   instruction_item : (l : Line) (i : LabelledInstr) → InstructionLine l i → Says (l ∷ lines) us
       → GoesAt (item_at before us) (λ n. in_that_line n (item.Instruction i)) lines us
-  instruction_item l i (named text op words x names h) says = words_read text words i names.no_directive names.no_label (named text op words x names h) says
-  instruction_item l i (branch text target op names h) says = words_read text (bare target ∷ []) i names.no_directive names.no_label
+  instruction_item l i (named text op words x names h) says =
+      words_read text words i (mnemonic_text text op names) (mnemonic_no_colon text op names)
+      (named text op words x names h) says
+  instruction_item l i (branch text target op names h) says =
+      words_read text (bare target ∷ []) i (mnemonic_text text (opcode.Branch op) names) (mnemonic_no_colon text (opcode.Branch op) names)
       (branch text target op names h) says
-  instruction_item l i (branch_wide text target op names h) says = words_read text (bare target ∷ []) i names.no_directive names.no_label
+  instruction_item l i (branch_wide text target op names h) says =
+      words_read text (bare target ∷ []) i (mnemonic_text text (opcode.BranchWide op) names) (mnemonic_no_colon text (opcode.BranchWide op) names)
       (branch_wide text target op names h) says
 
   pub item_read : (l : Line) (i : Item) → BodyLine before l i → Says (l ∷ lines) us → GoesAt (item_at before us) (λ n. in_that_line n i) lines us
@@ -307,10 +300,10 @@ module _ (before : ℕ) (lines : List Line) (us : List TokenParts) where
       (var_here before us (begins_says (codes ".limit") (l ∷ lines) us says) (begins_says (codes ".line") (l ∷ lines) us says)
       (begins_says (codes ".var") (l ∷ lines) us says))
       (line_read_at (λ _. Ok item.Dropped) (λ n. in_that_line n i) l lines us says (λ number at. refl))
-  item_read l i (label text h point) says =
+  item_read l i (label text h) says =
       let f = front_says l lines us says in
       let here : is_label_line (first_line us).0 ≡ true = ap is_label_line f.2 ∙ a_label f.0 f.1 text h in
       goes_as (by_line (label_line before) us) (item_at before us) (λ n. in_that_line n i) lines us
-      (no_directives before text [] lines us point says ∙ by_label before us here)
+      (no_directives before text [] lines us (label_text text h) says ∙ by_label before us here)
       (line_read_at (label_line before) (λ n. in_that_line n i) l lines us says (λ number at. label_reads before number at text))
   item_read l x (instruction l2 i h) says = instruction_item l i h says

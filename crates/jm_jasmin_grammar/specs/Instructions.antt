@@ -21,10 +21,9 @@ use Rattle.jm_jasmin_lex.specs.Integers.{integer_of}
 use Rattle.jm_jasmin_lex.specs.Literals.{units_of_literal}
 use Rattle.jm_jasmin_ops.specs.Mnemonics.{opcode_named}
 use Rattle.jm_jasmin_ops.specs.Operands.{element_if, member, field_of, method_at, is_parenthesis}
-use Rattle.jm_jasmin_ops.specs.Profile.{is_real, is_named, is_offset, has_colon, begins_with}
+use Rattle.jm_jasmin_ops.specs.Profile.{is_real, is_named, is_offset, has_colon}
 use Rattle.jm_jasmin_ops.specs.declared.labelled.LabelledInstr.{LabelledInstr}
 use Rattle.jm_jasmin_ops.specs.declared.labelled.LabelledInstr.TheVariants as labelled
-use Rattle.jm_jasmin.specs.Items.{ends_with_colon}
 use Rattle.jm_jasmin_grammar.specs.Words.{bare, quoted, Line}
 
 -- a number between two others
@@ -89,21 +88,15 @@ pub data Operands : Opcode → Line → Instr → Type 0 where
   type : (op : _) (text : List ℕ) (named class : ClassRef) → class_ref_of (utf16_of text) ≡ Ok named → element_if op named ≡ Ok class
       → Operands (opcode.Type op) (bare text ∷ []) (instr.Type op class)
 
--- a mnemonic neither begins with a point, as directives do, nor ends with a colon, as labels do
-pub record Names (text : List ℕ) (op : Opcode) : Type 0 where
-  pub named : opcode_named text ≡ Some op
-  pub no_directive : begins_with 46 text ≡ false
-  pub no_label : ends_with_colon text ≡ false
-
 -- the target of a branch is a label, by its name
 pub record IsLabelName (text : List ℕ) : Type 0 where
   pub no_offset : is_offset text ≡ false
   pub no_colon : has_colon text ≡ false
 
 pub data InstructionLine : Line → LabelledInstr → Type 0 where
-  named : (text : List ℕ) (op : Opcode) (words : Line) (i : Instr) → Names text op → Operands op words i
+  named : (text : List ℕ) (op : Opcode) (words : Line) (i : Instr) → opcode_named text ≡ Some op → Operands op words i
       → InstructionLine (bare text ∷ words) (labelled.Named i)
-  branch : (text target : List ℕ) (op : _) → Names text (opcode.Branch op) → IsLabelName target
+  branch : (text target : List ℕ) (op : _) → opcode_named text ≡ Some (opcode.Branch op) → IsLabelName target
       → InstructionLine (bare text ∷ bare target ∷ []) (labelled.Branch op (record { name = target; line = 0 }))
-  branch_wide : (text target : List ℕ) (op : _) → Names text (opcode.BranchWide op) → IsLabelName target
+  branch_wide : (text target : List ℕ) (op : _) → opcode_named text ≡ Some (opcode.BranchWide op) → IsLabelName target
       → InstructionLine (bare text ∷ bare target ∷ []) (labelled.Branch op (record { name = target; line = 0 }))

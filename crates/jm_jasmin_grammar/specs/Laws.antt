@@ -19,4 +19,5 @@ SpacingChangesNothing =
 
 -- the lines of a text are those of one class at most
 abbrev pub LinesOfOneClass : Type 0
-LinesOfOneClass = (text : List ℕ) (ts : List TokenParts) (c d : ClassParts) → tokens_of text ≡ Ok ts → ClassLines (lines_said ts) c → ClassLines (lines_said ts) d → c ≡ d
+LinesOfOneClass =
+    (text : List ℕ) (ts : List TokenParts) (c d : ClassParts) → tokens_of text ≡ Ok ts → ClassLines (lines_said ts) c → ClassLines (lines_said ts) d → c ≡ d

@@ -8,7 +8,6 @@ use Rattle.jm_program.specs.Texts.{utf16_of}
 use Rattle.jm_program.specs.declared.class.Method.{Method}
 use Rattle.jm_program.specs.declared.code.Code.{Code}
 use Rattle.jm_program.specs.declared.descriptor.MethodDescriptor.{MethodDescriptor}
-use Rattle.jm_jasmin_ops.specs.Profile.{begins_with}
 use Rattle.jm_jasmin_ops.specs.declared.labelled.LabelledInstr.{LabelledInstr}
 use Rattle.jm_jasmin.specs.MethodHeader.{is_misplaced_abstract, left_out_method}
 use Rattle.jm_jasmin.specs.Items.{instruction_count, ends_with_colon, without_last, accepted}
@@ -38,6 +37,11 @@ pub data MethodLine (in_interface : Bool) : Line → Method → Type 0 where
 abbrev pub catch_row : Option (List ℕ) → List ℕ → List ℕ → List ℕ → CatchRow
 catch_row caught start end target = record { catch_type = caught; start = utf16_of start; end = utf16_of end; target = utf16_of target; line = 0 }
 
+-- .catch CLASS from L1 to L2 using L3, or all for the class
+abbrev pub catch_words : List ℕ → List ℕ → List ℕ → List ℕ → Line
+catch_words class start end target =
+    bare (codes ".catch") ∷ bare class ∷ bare (codes "from") ∷ bare start ∷ bare (codes "to") ∷ bare end ∷ bare (codes "using") ∷ bare target ∷ []
+
 -- a line behind so many instructions, and what it says
 pub data BodyLine (before : ℕ) : Line → Item → Type 0 where
   stack : (text : List ℕ) (n : ℕ) → IsUpTo 65535 text n → BodyLine before (bare (codes ".limit") ∷ bare (codes "stack") ∷ bare text ∷ []) (item.StackLimit n)
@@ -45,16 +49,12 @@ pub data BodyLine (before : ℕ) : Line → Item → Type 0 where
   source_line : (text : List ℕ) (n : ℕ) → IsUpTo 65535 text n
       → BodyLine before (bare (codes ".line") ∷ bare text ∷ []) (item.Line (record { start = before; line = n }))
   catch : (text start end target name : List ℕ) → same_text text (codes "all") ≡ false → class_name_of (utf16_of text) ≡ Ok name
-      → BodyLine before (bare (codes ".catch") ∷ bare text ∷ bare (codes "from") ∷ bare start ∷ bare (codes "to") ∷ bare end ∷ bare (codes "using") ∷ bare
-      target ∷ []) (item.Catch (catch_row (Some name) start end target))
-  catch_all : (start end target : List ℕ)
-      → BodyLine before (bare (codes ".catch") ∷ bare (codes "all") ∷ bare (codes "from") ∷ bare start ∷ bare (codes "to") ∷ bare end ∷ bare
-      (codes "using") ∷ bare target ∷ []) (item.Catch (catch_row None start end target))
+      → BodyLine before (catch_words text start end target) (item.Catch (catch_row (Some name) start end target))
+  catch_all : (start end target : List ℕ) → BodyLine before (catch_words (codes "all") start end target) (item.Catch (catch_row None start end target))
   throws : (text : List ℕ) → BodyLine before (bare (codes ".throws") ∷ bare text ∷ []) item.Dropped
   var : (words : Line) → BodyLine before (bare (codes ".var") ∷ words) item.Dropped
-  -- NAME:, where the name begins with no point
-  label : (text : List ℕ) → ends_with_colon text ≡ true → begins_with 46 text ≡ false
-      → BodyLine before (bare text ∷ []) (item.Label (without_last (utf16_of text)) before)
+  -- NAME:
+  label : (text : List ℕ) → ends_with_colon text ≡ true → BodyLine before (bare text ∷ []) (item.Label (without_last (utf16_of text)) before)
   instruction : (l : Line) (i : LabelledInstr) → InstructionLine l i → BodyLine before l (item.Instruction i)
 
 -- lines behind others, whose items are accepted: no limit twice, no label twice, no instruction in an abstract method
