@@ -184,6 +184,15 @@ line_goes_on before l i lines (var words) = refl
 line_goes_on before l i lines (label text h) = (label_text text h).end
 line_goes_on before l x lines (instruction l2 i h) = instruction_goes_on l i lines h
 
+-- one item more, in whatever line it stands
+step_read : (m : Method) (items js : List Item) (i j : Item) (us rest : List TokenParts)
+    → unplaced js ≡ items → in_that_line 0 j ≡ i → accepted m 0 items i ≡ Ok tt
+    → item_at (instruction_count items) us ≡ Ok (j, rest) → (next_item m js us ≡ Ok (js ++ j ∷ [], rest)) × (unplaced (js ++ j ∷ []) ≡ items ++ i ∷ [])
+step_read m items js i j us rest e same a read =
+    let count : instruction_count js ≡ instruction_count items = sym (count_unplaced js) ∙ ap instruction_count e in
+    let fine : accepted m 0 (unplaced js) (in_that_line 0 j) ≡ Ok tt = rw (e, same) a in
+    (next_by m js j us rest (ap (λ (k : ℕ). item_at k us) count ∙ read) (accepted_any m (line_number us) js j fine), unplaced_more js j ∙ rw (e, same) refl)
+
 module _ (m : Method) (behind : List Line) (on : opens (codes ".end") behind ≡ true) where
   pub body_read : (items : List Item) (lines : List Line) (all : List Item) → BodyLines m items lines all
       → (n : ℕ) (us : List TokenParts) (js : List Item) → unplaced js ≡ items → length us ≤ n → Says (lines ++ behind) us
@@ -199,16 +208,11 @@ module _ (m : Method) (behind : List Line) (on : opens (codes ".end") behind ≡
       let g = item_read (instruction_count items) (others ++ behind) us l i p says in
       let j : Item = in_that_line g.0 i in
       let rest : List TokenParts = g.1.0 in
-      let here : in_body us ≡ true = ap not (begins_says (codes ".end") (l ∷ (others ++ behind)) us says ∙ line_goes_on (instruction_count items) l i
-      (others ++ behind) p) in
-      let same : in_that_line 0 j ≡ i = line_unplaced (instruction_count items) g.0 l i p in
-      let count : instruction_count js ≡ instruction_count items = sym (count_unplaced js) ∙ ap instruction_count e in
-      let read : item_at (instruction_count js) us ≡ Ok (j, rest) = ap (λ (k : ℕ). item_at k us) count ∙ g.1.1 in
-      let fine : accepted m 0 (unplaced js) (in_that_line 0 j) ≡ Ok tt = rw (e, same) a in
-      let step : next_item m js us ≡ Ok (js ++ j ∷ [], rest) = next_by m js j us rest read (accepted_any m (line_number us) js j fine) in
-      let more : unplaced (js ++ j ∷ []) ≡ items ++ i ∷ [] = unplaced_more js j ∙ rw (e, same) refl in
-      let r = body_read (items ++ i ∷ []) others all q n rest (js ++ j ∷ []) more (omega (arith, g.1.3)) g.1.2 in
-      (r.0, r.1, goes_on_with in_body (next_item m) js (js ++ j ∷ []) n us rest here step ∙ r.2, r.3, r.4, omega (arith, g.1.3, r.5))
+      let first = line_goes_on (instruction_count items) l i (others ++ behind) p in
+      let here : in_body us ≡ true = ap not (begins_says (codes ".end") (l ∷ (others ++ behind)) us says ∙ first) in
+      let step = step_read m items js i j us rest e (line_unplaced (instruction_count items) g.0 l i p) a g.1.1 in
+      let r = body_read (items ++ i ∷ []) others all q n rest (js ++ j ∷ []) step.1 (omega (arith, g.1.3)) g.1.2 in
+      (r.0, r.1, goes_on_with in_body (next_item m) js (js ++ j ∷ []) n us rest here step.0 ∙ r.2, r.3, r.4, omega (arith, g.1.3, r.5))
 
 -- ---- the code
 
@@ -309,9 +313,6 @@ locals_checked m number n h = only_if (is_abstract m.flags || nat_le (method_slo
 count_checked : (m : Method) (number n : ℕ) → checked_count m 0 n ≡ Ok tt → checked_count m number n ≡ Ok tt
 unfolding checked_count
 count_checked m number n h = only_if (is_abstract m.flags || nat_lt 0 n) (fault.BadCount 0) (fault.BadCount number) h
-
-unit_is : (r : Result (Unit {0}) AsmFault) (x : Unit {0}) → r ≡ Ok x → r ≡ Ok tt
-unit_is r x h = h
 
 pub code_any : (m : Method) (number last : ℕ) (js : List Item) (code : Option Code) → code_of m 0 0 (unplaced js) ≡ Ok code → code_of m number last js ≡ Ok code
 unfolding code_of
