@@ -3,7 +3,7 @@
 //!
 //! `specs/` says, for each line of a class, which words and strings it has and what it says; the
 //! laws say that a text of such lines denotes the class of which they are, whatever its blanks,
-//! comments and empty lines. There is no code here. The crate stands on `jm_jasmin` alone.
+//! comments and empty lines. There is no code here. The crate stands on the definitions of `jm_jasmin`.
 #![tactic(auto)]
 
 mod laws;
