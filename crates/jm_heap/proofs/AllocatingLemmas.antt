@@ -2,12 +2,13 @@
 use Rattle.std.proofs.Common.{◌≡◌, ◌≢◌, ℕ, ◌+◌, ◌<◌, ◌≤◌, ◌^◌, List, Some, sym, ap, ◌∙◌, subst}
 use Rattle.std.specs.Prelude.{map}
 use Rattle.jm_values.specs.Shape.{Among}
-use Rattle.jm_world.specs.Objects.{ObjectOf, root, field, refs_of, cells_of, size_by, reached_cells}
-use Rattle.jm_world.specs.Content.{Content, Made, Reached, used_by, object_at, name_of, serial_at}
-use Rattle.jm_world.proofs.Reaching.{reach_within}
-use Rattle.jm_world.proofs.Agreeing.{cells_agree}
+use Rattle.jm_values.specs.Objects.{ObjectOf, refs_of, cells_of, size_by}
+use Rattle.jm_values.specs.Reach.{root, field, reached_cells}
+use Rattle.jm_values.specs.Content.{Content, Made, Reached, used_by, object_at, name_of, serial_at}
+use Rattle.jm_values.proofs.Reaching.{reach_within}
+use Rattle.jm_values.proofs.Agreeing.{cells_agree}
 use Rattle.jm_heap.specs.Allocation.{MadeHere}
-use Rattle.jm_heap.specs.Cells.{header_cells}
+use Rattle.jm_heap.specs.Cells.{class_size}
 use Rattle.jm_heap.specs.Collection.{Collected, IsAsBeforeMaking}
 use Rattle.jm_heap.specs.declared.class_id.ClassId.{ClassId}
 
@@ -30,13 +31,13 @@ module _ (old mid : Content ClassId) (roots : List ℕ) (g : Collected old roots
       over i j b a = (field i j b.0 a, field i j b.1 (subst (λ o. Among j (refs_of o)) (sym (g.kept.reached i b.0)) a))
 
   -- and takes as many cells
-  still_used : used_by header_cells mid roots ≡ used_by header_cells old roots
+  still_used : used_by class_size mid roots ≡ used_by class_size old roots
   still_used =
-      ap (λ n. reached_cells header_cells n (object_at mid) (map (name_of mid) roots)) g.next
-      ∙ ap (λ l. reached_cells header_cells old.next (object_at mid) l) g.kept.names
-      ∙ sym (cells_agree header_cells header_cells (object_at old) (object_at mid) old.next (map (name_of old) roots) (λ k r. ap refs_of (sym (g.kept.reached k r))) (λ k r. ap (λ o. cells_of header_cells o) (sym (g.kept.reached k r))))
+      ap (λ n. reached_cells class_size n (object_at mid) (map (name_of mid) roots)) g.next
+      ∙ ap (λ l. reached_cells class_size old.next (object_at mid) l) g.kept.names
+      ∙ sym (cells_agree class_size class_size (object_at old) (object_at mid) old.next (map (name_of old) roots) (λ k r. ap refs_of (sym (g.kept.reached k r))) (λ k r. ap (λ o. cells_of class_size o) (sym (g.kept.reached k r))))
 
-  pub made_after : (new : Content ClassId) (p : ℕ) (o : ObjectOf ClassId) → MadeHere mid new p o → Made header_cells old roots new roots p o
+  pub made_after : (new : Content ClassId) (p : ℕ) (o : ObjectOf ClassId) → MadeHere mid new p o → Made class_size old roots new roots p o
   made_after new p o m =
       let made = m.made roots g.kept.resident in
       record {
@@ -50,7 +51,7 @@ module _ (old mid : Content ClassId) (roots : List ℕ) (g : Collected old roots
         next = made.next ∙ ap (λ n. n + 1) g.next;
         placed = subst (λ n. serial_at new p ≡ Some n) g.next made.placed;
         filled = subst (λ n. object_at new n ≡ Some o) g.next made.filled;
-        fits = subst (λ n. n + size_by header_cells o ≤ old.limit) still_used (subst (λ n. used_by header_cells mid roots + size_by header_cells o ≤ n) g.kept.limit made.fits);
+        fits = subst (λ n. n + size_by class_size o ≤ old.limit) still_used (subst (λ n. used_by class_size mid roots + size_by class_size o ≤ n) g.kept.limit made.fits);
         lasts = subst (λ n. n < 2 ^ 63) g.next made.lasts;
       }
 

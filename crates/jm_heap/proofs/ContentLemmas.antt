@@ -8,10 +8,10 @@ use Rattle.jm_values.specs.declared.value.Value.TheVariants.{Int, Long, Null, Re
 use Rattle.jm_values.specs.Rename.{rename, refs, stack_shape}
 use Rattle.jm_values.specs.Shape.{Among}
 use Rattle.jm_values.proofs.Among.{among_left, among_right}
-use Rattle.jm_world.specs.Objects.{ObjectOf}
-use Rattle.jm_world.specs.Content.{Content, Resident, IsSound, serial_in, serial_at, object_at, name_of}
-use Rattle.jm_world.specs.Content as content
-use Rattle.jm_heap.specs.Cells.{cells_of_all, resident_cells}
+use Rattle.jm_values.specs.Objects.{ObjectOf}
+use Rattle.jm_values.specs.Content.{Content, Resident, IsSound, serial_in, serial_at, object_at, name_of}
+use Rattle.jm_values.specs.Content as content
+use Rattle.jm_heap.specs.Cells.{class_size, cells_of_all, resident_cells}
 use Rattle.jm_heap.specs.Slots.{AreSound, object_in, object_of, serial_of, name_in, named_object, residents_from, content_of, slots_cells, slot_cells}
 use Rattle.jm_heap.specs.declared.class_id.ClassId.{ClassId}
 use Rattle.jm_heap.specs.declared.slot.Object.{Object}
@@ -123,7 +123,7 @@ cells_from name i (Free n ∷ slots) = cells_from name (suc i) slots ∙ sym (su
 cells_from name i (Taken o ∷ slots) =
     let total = sum_by-cons slot_cells (Taken o) slots in
     let rest = cells_from name (suc i) slots in
-    let many = length_renamed name o.values.items in
+    let many = ap (class_size o.class) (length_renamed name o.values.items) in
     omega (arith, total, rest, many)
 
 pub cells_of_content : (limit next : ℕ) (slots : List Slot) → resident_cells (content_of limit next slots) ≡ slots_cells slots

@@ -1,3 +1,4 @@
+pub mod SizeLaws
 pub mod SlotLemmas
 pub mod MarkLemmas
 pub mod ContentLemmas

@@ -6,10 +6,10 @@ use Rattle.jm_values.specs.declared.value.Value.{Value}
 use Rattle.jm_values.specs.declared.value.Value.TheVariants.{Int, Long, Null, Ref}
 use Rattle.jm_values.specs.Rename.{rename, stack_shape}
 use Rattle.jm_values.specs.Shape.{Among}
-use Rattle.jm_world.specs.Objects.{ObjectOf, size_by}
-use Rattle.jm_world.specs.Content.{Content, Kept, Made, IsAtEnd, AllResident, serial_at, object_at, name_of}
+use Rattle.jm_values.specs.Objects.{ObjectOf, size_by}
+use Rattle.jm_values.specs.Content.{Content, Kept, Made, IsAtEnd, AllResident, serial_at, object_at, name_of}
 use Rattle.jm_heap.specs.Allocation.{MadeHere}
-use Rattle.jm_heap.specs.Cells.{header_cells, resident_cells}
+use Rattle.jm_heap.specs.Cells.{class_size, resident_cells}
 use Rattle.jm_heap.specs.Slots.{AreSound, object_in, object_cells, serial_of, named_object, content_of, slots_cells}
 use Rattle.jm_heap.specs.Stored.{Stored, IsNew}
 use Rattle.jm_heap.specs.declared.class_id.ClassId.{ClassId}
@@ -28,8 +28,12 @@ plain_values f (Long n ∷ vs) e = ap (λ l. Long n ∷ l) (plain_values f vs e)
 plain_values f (Null ∷ vs) e = ap (λ l. Null ∷ l) (plain_values f vs e)
 plain_values f (Ref p ∷ vs) e = cc
 
+-- one size, by type and length
+same_size : (a : Object) (o : ObjectOf ClassId) → a.class ≡ o.type → a.values.items ≡ o.values → object_cells a ≡ size_by class_size o
+same_size a o type values = ap (λ (t : ClassId). class_size t (length a.values.items)) type ∙ ap (λ (l : List Value). class_size o.type (length l)) values
+
 -- sound slots, and an object without references that has come to a free place with the next serial
-module _ (limit next : ℕ) (slots after : List Slot) (s : AreSound next slots) (p : ℕ) (a : Object) (w : Stored slots after p a) (number : a.serial ≡ next) (plain : stack_shape.refs a.values.items ≡ []) where
+module _ (limit next : ℕ) (slots after : List Slot) (s : AreSound next slots) (p : ℕ) (a : Object) (w : Stored slots after p a) (number : a.serial ≡ next) (plain : stack_shape.refs a.values.items ≡ []) (few : length a.values.items < 2 ^ 32) where
   abbrev old : Content ClassId
   old = content_of limit next slots
 
@@ -52,7 +56,12 @@ module _ (limit next : ℕ) (slots after : List Slot) (s : AreSound next slots) 
       by (inr t) = inr (sym (w.others q t.1) ∙ e)
 
   sound_after : AreSound (next + 1) after
-  sound_after = record { apart = λ q r x y e f g. one q r x y (was q x e) (was r y f) g; below = λ q x e. low q x (was q x e); closed = λ q x e k m. there k (from q x (was q x e) k m) }
+  sound_after = record {
+    apart = λ q r x y e f g. one q r x y (was q x e) (was r y f) g;
+    below = λ q x e. low q x (was q x e);
+    closed = λ q x e k m. there k (from q x (was q x e) k m);
+    short = λ q x e. brief q x (was q x e);
+  }
     where
       one : (q r : ℕ) (x y : Object) → ((q ≡ p) × (x ≡ a)) ⊎ (object_in slots q ≡ Some x) → ((r ≡ p) × (y ≡ a)) ⊎ (object_in slots r ≡ Some y) → x.serial ≡ y.serial → q ≡ r
       one q r x y (inl h) (inl k) g = h.0 ∙ sym k.0
@@ -67,6 +76,10 @@ module _ (limit next : ℕ) (slots after : List Slot) (s : AreSound next slots) 
       from : (q : ℕ) (x : Object) → ((q ≡ p) × (x ≡ a)) ⊎ (object_in slots q ≡ Some x) → (k : ℕ) → Among k (stack_shape.refs x.values.items) → is_some (object_in slots k) ≡ true
       from q x (inl h) k m = absurd (subst (λ l. Among k l) (ap (λ z. stack_shape.refs z.values.items) h.1 ∙ plain) m)
       from q x (inr h) k m = s.closed q x h k m
+
+      brief : (q : ℕ) (x : Object) → ((q ≡ p) × (x ≡ a)) ⊎ (object_in slots q ≡ Some x) → length x.values.items < 2 ^ 32
+      brief q x (inl h) = subst (λ (y : Object). length y.values.items < 2 ^ 32) (sym h.1) few
+      brief q x (inr h) = s.short q x h
 
       there : (k : ℕ) → is_some (object_in slots k) ≡ true → is_some (object_in after k) ≡ true
       there k h = let x = some_object (object_in slots k) h in some_is (object_in after k) x.0 (stays k x.0 x.1)
@@ -108,9 +121,6 @@ module _ (limit next : ℕ) (slots after : List Slot) (s : AreSound next slots) 
           ∙ ap Some (sym (same_named q y h) ∙ sym named)
 
   module _ (o : ObjectOf ClassId) (type : a.class ≡ o.type) (values : a.values.items ≡ o.values) where
-    same_size : object_cells a ≡ size_by header_cells o
-    same_size = let heads = ap header_cells type in let many : length a.values.items ≡ length o.values = ap (λ (l : List Value). length l) values in omega (arith, heads, many)
-
     filled : object_at new next ≡ Some o
     filled =
         subst (λ n. object_at new n ≡ Some (named_object (name_of new) a)) number (shows_after.objects p a w.stored)
@@ -119,14 +129,15 @@ module _ (limit next : ℕ) (slots after : List Slot) (s : AreSound next slots) 
     placed : serial_at new p ≡ Some next
     placed = serial_of_place limit (next + 1) after p ∙ ap serial_of w.stored ∙ ap Some number
 
-    more_cells : resident_cells new ≡ resident_cells old + size_by header_cells o
+    more_cells : resident_cells new ≡ resident_cells old + size_by class_size o
     more_cells =
         let now = cells_of_content limit (next + 1) after in
         let then = cells_of_content limit next slots in
-        omega (arith, now, then, w.cells, same_size)
+        let same = same_size a o type values in
+        omega (arith, now, then, w.cells, same)
 
     -- roots that are resident, with room for the object and for its serial
-    module _ (room : resident_cells old + size_by header_cells o ≤ limit) (lasts : next < 2 ^ 63) where
+    module _ (room : resident_cells old + size_by class_size o ≤ limit) (lasts : next < 2 ^ 63) where
       kept : (roots : List ℕ) → AllResident old roots → Kept old roots new roots
       unfolding content_of
       kept roots r = record {
@@ -137,7 +148,7 @@ module _ (limit next : ℕ) (slots after : List Slot) (s : AreSound next slots) 
         reached = λ k h. let x = reached_at limit next slots roots s r k h in let there : object_at old k ≡ Some (named_object (name_of old) x.object) = subst (λ n. object_at old n ≡ Some (named_object (name_of old) x.object)) x.serial (shows.objects x.place x.object x.lies) in objects k (named_object (name_of old) x.object) there ∙ sym there;
       }
 
-      made : (roots : List ℕ) → AllResident old roots → Made header_cells old roots new roots p o
+      made : (roots : List ℕ) → AllResident old roots → Made class_size old roots new roots p o
       unfolding content_of
       made roots r = record { kept = kept roots r; next = refl; placed = placed; filled = filled; fits = let least = used_at_most limit next slots roots s r in omega (arith, least, room); lasts = lasts }
 
@@ -148,13 +159,16 @@ module _ (limit next : ℕ) (slots after : List Slot) (s : AreSound next slots) 
 no_refs : (a : Object) (o : ObjectOf ClassId) → a.values.items ≡ o.values → stack_shape.refs o.values ≡ [] → stack_shape.refs a.values.items ≡ []
 no_refs a o values plain = ap (λ (l : List Value). stack_shape.refs l) values ∙ plain
 
-pub sound_made : (next : ℕ) (slots after : List Slot) → AreSound next slots → (p : ℕ) (a : Object) (o : ObjectOf ClassId) → Stored slots after p a → a.serial ≡ next → a.values.items ≡ o.values → stack_shape.refs o.values ≡ [] → AreSound (next + 1) after
-sound_made next slots after s p a o w number values plain = sound_after 0 next slots after s p a w number (no_refs a o values plain)
+as_few : (a : Object) (o : ObjectOf ClassId) → a.values.items ≡ o.values → length o.values < 2 ^ 32 → length a.values.items < 2 ^ 32
+as_few a o values few = subst (λ (l : List Value). length l < 2 ^ 32) (sym values) few
 
-pub made_at : (limit next : ℕ) (slots after : List Slot) (d : Content ClassId) → content_of limit next slots ≡ d → AreSound next slots → (p : ℕ) (a : Object) (o : ObjectOf ClassId) → Stored slots after p a → a.serial ≡ next → a.class ≡ o.type → a.values.items ≡ o.values → stack_shape.refs o.values ≡ [] → slots_cells slots + size_by header_cells o ≤ limit → next < 2 ^ 63 → MadeHere d (content_of limit (next + 1) after) p o
-made_at limit next slots after d e s p a o w number type values plain room lasts =
+pub sound_made : (next : ℕ) (slots after : List Slot) → AreSound next slots → (p : ℕ) (a : Object) (o : ObjectOf ClassId) → Stored slots after p a → a.serial ≡ next → a.values.items ≡ o.values → stack_shape.refs o.values ≡ [] → length o.values < 2 ^ 32 → AreSound (next + 1) after
+sound_made next slots after s p a o w number values plain few = sound_after 0 next slots after s p a w number (no_refs a o values plain) (as_few a o values few)
+
+pub made_at : (limit next : ℕ) (slots after : List Slot) (d : Content ClassId) → content_of limit next slots ≡ d → AreSound next slots → (p : ℕ) (a : Object) (o : ObjectOf ClassId) → Stored slots after p a → a.serial ≡ next → a.class ≡ o.type → a.values.items ≡ o.values → stack_shape.refs o.values ≡ [] → length o.values < 2 ^ 32 → slots_cells slots + size_by class_size o ≤ limit → next < 2 ^ 63 → MadeHere d (content_of limit (next + 1) after) p o
+made_at limit next slots after d e s p a o w number type values plain few room lasts =
     let cells = cells_of_content limit next slots in
-    subst (λ x. MadeHere x (content_of limit (next + 1) after) p o) e (made_here limit next slots after s p a w number (no_refs a o values plain) o type values (omega (arith, cells, room)) lasts)
+    subst (λ x. MadeHere x (content_of limit (next + 1) after) p o) e (made_here limit next slots after s p a w number (no_refs a o values plain) (as_few a o values few) o type values (omega (arith, cells, room)) lasts)
 
 -- the cells and the limit, from the fields
 pub cells_are : (limit next : ℕ) (slots : List Slot) (d : Content ClassId) → content_of limit next slots ≡ d → resident_cells d ≡ slots_cells slots
@@ -164,21 +178,18 @@ pub limit_is : (limit next : ℕ) (slots : List Slot) (d : Content ClassId) → 
 unfolding content_of
 limit_is limit next slots d e = ap (λ x. x.limit) (sym e)
 
-end_here : (limit next : ℕ) (slots : List Slot) → AreSound next slots → (o : ObjectOf ClassId) → slots_cells slots + size_by header_cells o ≤ limit → 2 ^ 63 ≤ next → (roots : List ℕ) → AllResident (content_of limit next slots) roots → IsAtEnd header_cells (content_of limit next slots) roots o
+end_here : (limit next : ℕ) (slots : List Slot) → AreSound next slots → (o : ObjectOf ClassId) → slots_cells slots + size_by class_size o ≤ limit → 2 ^ 63 ≤ next → (roots : List ℕ) → AllResident (content_of limit next slots) roots → IsAtEnd class_size (content_of limit next slots) roots o
 unfolding content_of
 end_here limit next slots s o room last roots r =
     let cells = cells_of_content limit next slots in
     let least = used_at_most limit next slots roots s r in
     (omega (arith, cells, least, room), last)
 
-pub at_end : (limit next : ℕ) (slots : List Slot) (d : Content ClassId) → content_of limit next slots ≡ d → AreSound next slots → (o : ObjectOf ClassId) → slots_cells slots + size_by header_cells o ≤ limit → 2 ^ 63 ≤ next → (roots : List ℕ) → AllResident d roots → IsAtEnd header_cells d roots o
-at_end limit next slots d e s o room last = subst (λ x. (roots : List ℕ) → AllResident x roots → IsAtEnd header_cells x roots o) e (end_here limit next slots s o room last)
+pub at_end : (limit next : ℕ) (slots : List Slot) (d : Content ClassId) → content_of limit next slots ≡ d → AreSound next slots → (o : ObjectOf ClassId) → slots_cells slots + size_by class_size o ≤ limit → 2 ^ 63 ≤ next → (roots : List ℕ) → AllResident d roots → IsAtEnd class_size d roots o
+at_end limit next slots d e s o room last = subst (λ x. (roots : List ℕ) → AllResident x roots → IsAtEnd class_size x roots o) e (end_here limit next slots s o room last)
 
-pub new_size : (serial : ℕ) (a : Object) (o : ObjectOf ClassId) → IsNew a serial o → object_cells a ≡ size_by header_cells o
-new_size serial a o w =
-    let heads = ap header_cells w.class in
-    let many : length a.values.items ≡ length o.values = ap (λ (l : List Value). length l) w.values in
-    omega (arith, heads, many)
+pub new_size : (serial : ℕ) (a : Object) (o : ObjectOf ClassId) → IsNew a serial o → object_cells a ≡ size_by class_size o
+new_size serial a o w = same_size a o w.class w.values
 
 pub on_err : {T E P : Type 0} (r : Result T E) → P → OnErr r P
 on_err (Ok x) h = tt

@@ -9,8 +9,9 @@ use Rattle.jm_values.specs.declared.value.Value.{Value}
 use Rattle.jm_values.specs.Rename.{stack_shape, refs}
 use Rattle.jm_values.specs.Shape.{Among}
 use Rattle.jm_values.proofs.Among.{among_left, among_right}
-use Rattle.jm_world.specs.Objects.{Reach, root, field, refs_of}
-use Rattle.jm_world.proofs.Reaching.{reach_within}
+use Rattle.jm_values.specs.Objects.{refs_of}
+use Rattle.jm_values.specs.Reach.{Reach, root, field}
+use Rattle.jm_values.proofs.Reaching.{reach_within}
 use Rattle.jm_heap.specs.Marks.{MarkedAll, AreReached, IsClosed, plain_object, objects_of, unmarked}
 use Rattle.jm_heap.specs.Slots.{object_in, object_of, is_marked}
 use Rattle.jm_heap.specs.declared.slot.Object.{Object}

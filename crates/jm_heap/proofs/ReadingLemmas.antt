@@ -1,17 +1,15 @@
 -- What is read at a place of sound slots.
-use Rattle.std.proofs.Common.{◌≡◌, ℕ, zero, suc, ◌<◌, ◌≤◌, List, [], ◌∷◌, Some, None, refl, sym, ap, ◌∙◌, subst, length, arith}
+use Rattle.std.proofs.Common.{◌≡◌, ℕ, suc, ◌<◌, List, [], ◌∷◌, Some, None, refl, sym, ap, ◌∙◌, subst, length, arith}
 use Rattle.std.specs.Prelude.{map, slice_get, slice_index_or, option_map}
 use Rattle.std.proofs.lemmas.Option.{slice_get-map, slice_get_within, slice_get-get_or}
 use Rattle.jm_values.specs.declared.value.Value.{Value}
 use Rattle.jm_values.specs.Rename.{rename, refs}
-use Rattle.jm_world.specs.Objects.{ObjectOf}
-use Rattle.jm_world.specs.Content.{Content, HasValue, AllResident, serial_at, object_at, name_of}
-use Rattle.jm_heap.specs.Slots.{AreSound, object_in, serial_of, named_object, content_of, slots_cells, object_cells}
+use Rattle.jm_values.specs.Objects.{ObjectOf}
+use Rattle.jm_values.specs.Content.{Content, HasValue, AllResident, serial_at, object_at, name_of}
+use Rattle.jm_heap.specs.Slots.{AreSound, object_in, serial_of, named_object, content_of}
 use Rattle.jm_heap.specs.declared.class_id.ClassId.{ClassId}
 use Rattle.jm_heap.specs.declared.slot.Object.{Object}
 use Rattle.jm_heap.specs.declared.slot.Slot.{Slot}
-use Rattle.jm_heap.specs.declared.slot.Slot.TheVariants.{Free, Taken}
-use Rattle.jm_heap.proofs.SlotLemmas.{slot_at, cells_set}
 use Rattle.jm_heap.proofs.ContentLemmas.{slots_show, serial_of_place}
 use Rattle.jm_heap.proofs.SoundLemmas.{serial_is, some_object}
 use Rattle.jm_heap.proofs.MarkLemmas.{refs_at}
@@ -71,8 +69,3 @@ resident_here limit next slots s p i a w e h r q m =
 
 pub resident_read : (limit next : ℕ) (slots : List Slot) (d : Content ClassId) → content_of limit next slots ≡ d → AreSound next slots → (p i : ℕ) (a : Object) (w : Value) → Some a ≡ object_in slots p → i < length a.values.items → w ≡ slice_index_or a.values.items i w → AllResident d (refs w)
 resident_read limit next slots d v s p i a w e h r = subst (λ x. AllResident x (refs w)) v (resident_here limit next slots s p i a w e h r)
-
--- an object's cells are among those of all slots
-pub cells_within : (slots : List Slot) (p : ℕ) (a : Object) → Some a ≡ object_in slots p → object_cells a ≤ slots_cells slots
-cells_within slots zero a e = cc
-cells_within slots (suc i) a e = let total = cells_set slots i (Taken a) (Free 0) (slot_at slots i a (sym e)) in omega (arith, total)

@@ -7,8 +7,8 @@ use Rattle.std.proofs.lemmas.Bool.Decides.{eqb_tells}
 use Rattle.std.proofs.lemmas.List.Sums.{sum_by-cons}
 use Rattle.std.proofs.lemmas.List.Sorted.{sum_by-IsPermutation}
 use Rattle.jm_values.specs.Shape.{Among}
-use Rattle.jm_world.specs.Reaching.{AllDistinct}
-use Rattle.jm_world.specs.Content.{Content, serial_at}
+use Rattle.jm_values.specs.Reach.{AllDistinct}
+use Rattle.jm_values.specs.Content.{Content, serial_at}
 use Rattle.jm_heap.specs.Residents.{AreResident}
 use Rattle.jm_heap.specs.Slots.{AreSound, object_in, object_of, serial_of, serials_of, content_of}
 use Rattle.jm_heap.specs.declared.class_id.ClassId.{ClassId}

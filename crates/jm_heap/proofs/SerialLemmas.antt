@@ -2,8 +2,8 @@
 use Rattle.std.proofs.Common.{◌≡◌, ℕ, zero, suc, ◌<◌, List, [], ◌∷◌, Some, refl, sym, ap, inl, inr, arith}
 use Rattle.std.specs.Prelude.{slice_get}
 use Rattle.jm_values.specs.Shape.{Among}
-use Rattle.jm_world.specs.Reaching.{AllDistinct}
-use Rattle.jm_world.specs.Content as content
+use Rattle.jm_values.specs.Reach.{AllDistinct}
+use Rattle.jm_values.specs.Content as content
 use Rattle.jm_heap.specs.Slots.{residents_from, serials_of}
 use Rattle.jm_heap.specs.declared.slot.Object.{Object}
 use Rattle.jm_heap.specs.declared.slot.Slot.{Slot}

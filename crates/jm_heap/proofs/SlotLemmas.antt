@@ -6,6 +6,7 @@ use Rattle.std.proofs.lemmas.List.{length-set}
 use Rattle.std.proofs.lemmas.Option.{get_or_from_slice_get, slice_get_within, slice_get-get_or}
 use Rattle.std.specs.Vec.{with_item}
 use Rattle.jm_values.specs.declared.value.Value.{Value}
+use Rattle.jm_heap.specs.Cells.{class_size}
 use Rattle.jm_heap.specs.Slots.{object_in, object_of, object_cells, slot_cells, slots_cells}
 use Rattle.jm_heap.specs.Stored.{Written, Stored}
 use Rattle.jm_heap.specs.declared.slot.Object.{Object}
@@ -68,7 +69,7 @@ written_at slots m i v o e = record {
   others = λ q h. others_set slots m (Taken new) q h;
   written = λ a h k. let same : o ≡ a = one a h in (new, ap object_of (get_set_same slots m (Taken new) (slice_get_within slots m (Taken o) e)), record { serial = ap (λ x. x.serial) same; class = ap (λ x. x.class) same; values = ap (λ x. slice_set x.values.items i v) same });
   cells = let total : slots_cells (slice_set slots m (Taken new)) + object_cells o ≡ slots_cells slots + object_cells new = cells_set slots m (Taken o) (Taken new) e in
-      let many : length (slice_set o.values.items i v) ≡ length o.values.items = length-set o.values.items i v in
+      let many : class_size o.class (length (slice_set o.values.items i v)) ≡ class_size o.class (length o.values.items) = ap (class_size o.class) (length-set o.values.items i v) in
       omega (arith, total, many);
   many = length-set slots m (Taken new);
 }

@@ -5,10 +5,10 @@ use Rattle.jm_values.specs.declared.value.Value.{Value}
 use Rattle.jm_values.specs.declared.value.Value.TheVariants.{Int, Long, Null, Ref}
 use Rattle.jm_values.specs.Rename.{rename, stack_shape}
 use Rattle.jm_values.specs.Shape.{Among}
-use Rattle.jm_world.specs.Reaching.{AllDistinct}
-use Rattle.jm_world.specs.Objects.{Reach, root, field, refs_of}
-use Rattle.jm_world.specs.Content.{Content, IsSound, AllResident, Reached, serial_at, object_at, name_of}
-use Rattle.jm_world.proofs.Reaching.{reach_within}
+use Rattle.jm_values.specs.Reach.{AllDistinct, Reach, root, field}
+use Rattle.jm_values.specs.Objects.{refs_of}
+use Rattle.jm_values.specs.Content.{Content, IsSound, AllResident, Reached, serial_at, object_at, name_of}
+use Rattle.jm_values.proofs.Reaching.{reach_within}
 use Rattle.jm_heap.specs.Marks.{objects_of, plain_object}
 use Rattle.jm_heap.specs.Slots.{AreSound, object_in, object_of, serial_of, name_in, named_object, content_of}
 use Rattle.jm_heap.specs.declared.class_id.ClassId.{ClassId}

@@ -3,8 +3,9 @@ use Rattle.std.proofs.Common.{◌≡◌, ℕ, List, [], ◌∷◌, Some, None, B
 use Rattle.std.specs.Prelude.{map, is_some, unwrap_or, Result, Ok, Err, OnOk, OnErr}
 use Rattle.jm_values.specs.Rename.{stack_shape}
 use Rattle.jm_values.specs.Shape.{Among}
-use Rattle.jm_world.specs.Objects.{ObjectOf, Reach, root, field, refs_of}
-use Rattle.jm_world.specs.Content.{Content, IsSound, Kept, AllResident, Reached, serial_at, object_at, name_of}
+use Rattle.jm_values.specs.Objects.{ObjectOf, refs_of}
+use Rattle.jm_values.specs.Reach.{Reach, root, field}
+use Rattle.jm_values.specs.Content.{Content, IsSound, Kept, AllResident, Reached, serial_at, object_at, name_of}
 use Rattle.jm_heap.specs.Collection.{Collected}
 use Rattle.jm_heap.specs.Marks.{AreReached, objects_of, plain_object}
 use Rattle.jm_heap.specs.Slots.{AreSound, object_in, serial_of, named_object, content_of, is_marked}
@@ -47,6 +48,7 @@ module _ (limit next : ℕ) (slots after : List Slot) (roots : List ℕ) (marks 
     apart = λ p q x y e f g. s.apart p q x y (was p x e).lay (was q y f).lay g;
     below = λ p x e. s.below p x (was p x e).lay;
     closed = λ p x e q a. let m = was p x e in ap is_some (w.kept q (refs_marked p x m.lay m.marked q a)) ∙ s.closed p x m.lay q a;
+    short = λ p x e. s.short p x (was p x e).lay;
   }
 
   shows : Shows (object_in slots) old

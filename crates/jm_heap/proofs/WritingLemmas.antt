@@ -1,13 +1,14 @@
 -- What is left when one value of an object is another.
-use Rattle.std.proofs.Common.{◌≡◌, ◌≢◌, ◌⊎◌, ℕ, zero, suc, ◌<◌, List, [], ◌∷◌, Option, Some, None, true, false, refl, sym, ap, ◌∙◌, subst, inl, inr, length}
+use Rattle.std.proofs.Common.{◌≡◌, ◌≢◌, ◌⊎◌, ℕ, zero, suc, ◌<◌, ◌^◌, List, [], ◌∷◌, Option, Some, None, true, false, refl, sym, ap, ◌∙◌, subst, inl, inr, length}
 use Rattle.std.specs.Prelude.{map, slice_set, is_some, nat_eq, unwrap_or}
 use Rattle.std.proofs.lemmas.Bool.Decides.{eqb_tells}
+use Rattle.std.proofs.lemmas.List.{length-set}
 use Rattle.jm_values.specs.declared.value.Value.{Value}
 use Rattle.jm_values.specs.Rename.{rename, refs, stack_shape}
 use Rattle.jm_values.specs.Shape.{Among}
 use Rattle.jm_values.proofs.Among.{among_left, among_right}
-use Rattle.jm_world.specs.Objects.{ObjectOf}
-use Rattle.jm_world.specs.Content.{Content, IsSet, HasValue, AllResident, serial_at, object_at, name_of}
+use Rattle.jm_values.specs.Objects.{ObjectOf}
+use Rattle.jm_values.specs.Content.{Content, IsSet, HasValue, AllResident, serial_at, object_at, name_of}
 use Rattle.jm_heap.specs.Slots.{AreSound, object_in, serial_of, named_object, content_of}
 use Rattle.jm_heap.specs.Stored.{Written, IsWritten}
 use Rattle.jm_heap.specs.declared.class_id.ClassId.{ClassId}
@@ -50,6 +51,7 @@ module _ (limit next : ℕ) (slots after : List Slot) (s : AreSound next slots) 
     object : Object
     lay : object_in slots q ≡ Some object
     serial : x.serial ≡ object.serial
+    many : length x.values.items ≡ length object.values.items
     refs_from : (k : ℕ) → Among k (stack_shape.refs x.values.items) → is_some (object_in slots k) ≡ true
 
   from_both : (k : ℕ) → Among k (stack_shape.refs a.values.items) ⊎ Among k (refs v) → is_some (object_in slots k) ≡ true
@@ -67,11 +69,12 @@ module _ (limit next : ℕ) (slots after : List Slot) (s : AreSound next slots) 
             object = a;
             lay = subst (λ n. object_in slots n ≡ Some a) (sym t.1) lies;
             serial = ap (λ y. y.serial) (sym same) ∙ w.serial;
+            many = ap (λ y. length y.values.items) (sym same) ∙ ap (λ (l : List Value). length l) w.values ∙ length-set a.values.items i v;
             refs_from = λ k m. from_both k (among_set a.values.items i v k (subst (λ l. Among k (stack_shape.refs l)) (ap (λ y. y.values.items) (sym same) ∙ w.values) m));
           }
       by (inr t) =
           let same : object_in slots q ≡ Some x = sym (others q t.1) ∙ e in
-          record { object = x; lay = same; serial = refl; refs_from = λ k m. s.closed q x same k m }
+          record { object = x; lay = same; serial = refl; many = refl; refs_from = λ k m. s.closed q x same k m }
 
   still : (q : ℕ) → is_some (object_in slots q) ≡ true → is_some (object_in after q) ≡ true
   still q h = by (eqb_tells q p)
@@ -85,6 +88,7 @@ module _ (limit next : ℕ) (slots after : List Slot) (s : AreSound next slots) 
     apart = λ q r x y e f g. let m = before q x e in let n = before r y f in s.apart q r m.object n.object m.lay n.lay (sym m.serial ∙ g ∙ n.serial);
     below = λ q x e. let m = before q x e in subst (λ k. k < next) (sym m.serial) (s.below q m.object m.lay);
     closed = λ q x e k m. still k ((before q x e).refs_from k m);
+    short = λ q x e. let m = before q x e in subst (λ k. k < 2 ^ 32) (sym m.many) (s.short q m.object m.lay);
   }
 
   serials_same : (q : ℕ) → serial_of (object_in after q) ≡ serial_of (object_in slots q)

@@ -1,8 +1,8 @@
 -- What comes of making an object.
 use Rattle.std.specs.Prelude.{◌≡◌, ℕ, ◌+◌, ◌<◌, ◌≤◌, List, Option, Some, None}
-use Rattle.jm_world.specs.Objects.{ObjectOf, size_by}
-use Rattle.jm_world.specs.Content.{Content, AllResident, Made, IsFull, IsAtEnd, serial_at, object_at}
-use Rattle.jm_heap.specs.Cells.{header_cells, resident_cells}
+use Rattle.jm_values.specs.Objects.{ObjectOf, size_by}
+use Rattle.jm_values.specs.Content.{Content, AllResident, Made, IsFull, IsAtEnd, serial_at, object_at}
+use Rattle.jm_heap.specs.Cells.{class_size, resident_cells}
 use Rattle.jm_heap.specs.Collection.{IsAsBeforeMaking}
 use Rattle.jm_heap.specs.declared.class_id.ClassId.{ClassId}
 use Rattle.jm_heap.specs.declared.fault.HeapFault.{HeapFault}
@@ -11,16 +11,16 @@ use Rattle.jm_heap.specs.declared.fault.HeapFault.TheVariants.{OutOfMemory, Heap
 -- why no object was made: full goes before the end of serials
 abbrev pub IsRefused : Content ClassId → List ℕ → ObjectOf ClassId → HeapFault → Type 0
 IsRefused c roots o OutOfMemory = Unit {0}
-IsRefused c roots o HeapFull = IsFull header_cells c roots o
-IsRefused c roots o SerialsEnd = IsAtEnd header_cells c roots o
+IsRefused c roots o HeapFull = IsFull class_size c roots o
+IsRefused c roots o SerialsEnd = IsAtEnd class_size c roots o
 
 -- made as it would be with any roots, and nothing moved or given up
 pub record MadeHere (old new : Content ClassId) (place : ℕ) (o : ObjectOf ClassId) : Type 0 where
-  pub made : (roots : List ℕ) → AllResident old roots → Made header_cells old roots new roots place o
+  pub made : (roots : List ℕ) → AllResident old roots → Made class_size old roots new roots place o
   pub places : (p k : ℕ) → serial_at old p ≡ Some k → serial_at new p ≡ Some k
   pub objects : (k : ℕ) (x : ObjectOf ClassId) → object_at old k ≡ Some x → object_at new k ≡ Some x
   pub as_before : IsAsBeforeMaking old new
-  pub cells : resident_cells new ≡ resident_cells old + size_by header_cells o
+  pub cells : resident_cells new ≡ resident_cells old + size_by class_size o
   pub within : resident_cells new ≤ new.limit
 
 -- made here, or nothing changed
@@ -32,13 +32,13 @@ MadeHereOrNot old new (Some place) o = MadeHere old new place o
 abbrev pub IsRefusedHere : Content ClassId → ObjectOf ClassId → HeapFault → Type 0
 IsRefusedHere c o OutOfMemory = Unit {0}
 IsRefusedHere c o HeapFull = ⊥
-IsRefusedHere c o SerialsEnd = (roots : List ℕ) → AllResident c roots → IsAtEnd header_cells c roots o
+IsRefusedHere c o SerialsEnd = (roots : List ℕ) → AllResident c roots → IsAtEnd class_size c roots o
 
 -- the object fits beside all residents
 abbrev pub HasRoom : Content ClassId → ObjectOf ClassId → Type 0
-HasRoom c o = resident_cells c + size_by header_cells o ≤ c.limit
+HasRoom c o = resident_cells c + size_by class_size o ≤ c.limit
 
 -- none is made here exactly where it does not fit
 abbrev pub NoneIsNoRoom : Content ClassId → Option ℕ → ObjectOf ClassId → Type 0
-NoneIsNoRoom c None o = c.limit < resident_cells c + size_by header_cells o
+NoneIsNoRoom c None o = c.limit < resident_cells c + size_by class_size o
 NoneIsNoRoom c (Some place) o = HasRoom c o

@@ -1,7 +1,7 @@
 -- What a collection leaves, beside what is kept.
 use Rattle.std.specs.Prelude.{◌≡◌, ◌≢◌, ℕ, List, Some}
-use Rattle.jm_world.specs.Objects.{ObjectOf}
-use Rattle.jm_world.specs.Content.{Content, Kept, Reached, serial_at, object_at}
+use Rattle.jm_values.specs.Objects.{ObjectOf}
+use Rattle.jm_values.specs.Content.{Content, Kept, Reached, serial_at, object_at}
 use Rattle.jm_heap.specs.declared.heap.Kind.{Kind}
 use Rattle.jm_heap.specs.declared.heap.Kind.TheVariants.{Minor, Full}
 

@@ -2,7 +2,8 @@
 use Rattle.std.specs.Prelude.{◌≡◌, ◌⊎◌, ℕ, ◌+◌, List, Option, Some, None, Bool, true, false, length, is_some, sum_by}
 use Rattle.jm_values.specs.Shape.{Among}
 use Rattle.jm_values.specs.Rename.{stack_shape}
-use Rattle.jm_world.specs.Objects.{ObjectOf, Reach}
+use Rattle.jm_values.specs.Objects.{ObjectOf}
+use Rattle.jm_values.specs.Reach.{Reach}
 use Rattle.jm_heap.specs.Slots.{object_in, is_marked}
 use Rattle.jm_heap.specs.declared.class_id.ClassId.{ClassId}
 use Rattle.jm_heap.specs.declared.slot.Object.{Object}

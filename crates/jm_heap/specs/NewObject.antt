@@ -3,8 +3,7 @@ use Rattle.std.specs.Prelude.{ℕ, zero, suc, map}
 use Rattle.jm_program.specs.declared.descriptor.BaseType.TheVariants as base
 use Rattle.jm_program.specs.declared.instruction.operation.OperandType.{OperandType}
 use Rattle.jm_program.specs.declared.instruction.operation.OperandType.TheVariants as operand
-use Rattle.jm_world.specs.Objects.{ObjectOf, copies}
-use Rattle.jm_world.specs.Types.{default_of}
+use Rattle.jm_values.specs.Objects.{ObjectOf, copies, default_of}
 use Rattle.jm_heap.specs.declared.class_id.ClassId.{ClassId}
 use Rattle.jm_heap.specs.declared.class_id.ClassId.TheVariants as kind
 use Rattle.jm_heap.specs.declared.class_id.Component.{Component}

@@ -3,8 +3,8 @@ use Rattle.std.specs.Prelude.{◌≡◌, ◌↔◌, ℕ, List, Some}
 use Rattle.std.specs.List.Sorted.{IsSorted}
 use Rattle.std.specs.Ordering.{nat_cmp}
 use Rattle.jm_values.specs.Shape.{Among}
-use Rattle.jm_world.specs.Reaching.{AllDistinct}
-use Rattle.jm_world.specs.Content.{Content, serial_at}
+use Rattle.jm_values.specs.Reach.{AllDistinct}
+use Rattle.jm_values.specs.Content.{Content, serial_at}
 
 -- the serials of what lies at some place, rising, each once
 pub record AreResident {T : Type 0} (c : Content T) (serials : List ℕ) : Type 0 where

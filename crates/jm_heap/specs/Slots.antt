@@ -1,10 +1,10 @@
 -- The slots of a plain heap: an object that lies in slot n has the place n + 1.
-use Rattle.std.specs.Prelude.{◌≡◌, ℕ, zero, suc, ◌+◌, ◌<◌, List, [], ◌∷◌, map, length, Option, Some, None, Bool, true, false, is_some, unwrap_or, slice_get, sum_by, filter_map}
+use Rattle.std.specs.Prelude.{◌≡◌, ℕ, zero, suc, ◌<◌, ◌^◌, List, [], ◌∷◌, map, length, Option, Some, None, Bool, true, false, is_some, unwrap_or, slice_get, sum_by, filter_map}
 use Rattle.jm_values.specs.Shape.{Among}
 use Rattle.jm_values.specs.Rename.{rename, stack_shape}
-use Rattle.jm_world.specs.Objects.{ObjectOf}
-use Rattle.jm_world.specs.Content.{Content, Resident}
-use Rattle.jm_heap.specs.Cells.{header_cells}
+use Rattle.jm_values.specs.Objects.{ObjectOf}
+use Rattle.jm_values.specs.Content.{Content, Resident}
+use Rattle.jm_heap.specs.Cells.{class_size}
 use Rattle.jm_heap.specs.declared.class_id.ClassId.{ClassId}
 use Rattle.jm_heap.specs.declared.slot.Object.{Object}
 use Rattle.jm_heap.specs.declared.slot.Slot.{Slot}
@@ -42,7 +42,7 @@ unfoldable pub content_of : ℕ → ℕ → List Slot → Content ClassId
 content_of limit next slots = record { limit = limit; next = next; residents = residents_from (name_in slots) 0 slots }
 
 abbrev pub object_cells : Object → ℕ
-object_cells o = header_cells o.class + length o.values.items
+object_cells o = class_size o.class (length o.values.items)
 
 abbrev pub slot_cells : Slot → ℕ
 slot_cells (Free next) = 0
@@ -59,11 +59,13 @@ slot_serial (Taken o) = Some o.serial
 abbrev pub serials_of : List Slot → List ℕ
 serials_of slots = filter_map slot_serial slots
 
--- serials tell objects apart and are below the next one, and references are places of objects
+-- serials tell objects apart and are below the next one, references are places of objects, and an
+-- object has fewer than 2^32 values
 pub record AreSound (next : ℕ) (slots : List Slot) : Type 0 where
   pub apart : (p q : ℕ) (a b : Object) → object_in slots p ≡ Some a → object_in slots q ≡ Some b → a.serial ≡ b.serial → p ≡ q
   pub below : (p : ℕ) (a : Object) → object_in slots p ≡ Some a → a.serial < next
   pub closed : (p : ℕ) (a : Object) → object_in slots p ≡ Some a → (q : ℕ) → Among q (stack_shape.refs a.values.items) → is_some (object_in slots q) ≡ true
+  pub short : (p : ℕ) (a : Object) → object_in slots p ≡ Some a → length a.values.items < 2 ^ 32
 
 -- whether a place is marked
 abbrev pub is_marked : List Bool → ℕ → Bool

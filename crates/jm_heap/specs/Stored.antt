@@ -1,7 +1,7 @@
 -- What the calls on slots leave.
 use Rattle.std.specs.Prelude.{◌≡◌, ◌≢◌, ℕ, ◌+◌, ◌<◌, ◌≤◌, ◌^◌, List, length, Some, None, Bool, true, false, slice_set}
 use Rattle.jm_values.specs.declared.value.Value.{Value}
-use Rattle.jm_world.specs.Objects.{ObjectOf}
+use Rattle.jm_values.specs.Objects.{ObjectOf}
 use Rattle.jm_heap.specs.Slots.{object_in, object_cells, slots_cells, is_marked}
 use Rattle.jm_heap.specs.declared.class_id.ClassId.{ClassId}
 use Rattle.jm_heap.specs.declared.slot.Object.{Object}

@@ -1,4 +1,7 @@
-// How a heap tells the types of its objects.
+// How a heap tells the types of its objects, and their sizes.
+
+ghost use Rattle.std.specs.Prelude.{◌≡◌, ◌<◌, ◌^◌};
+ghost use Rattle.jm_heap.specs.Cells.{class_size};
 
 use jm_program::BaseType;
 
@@ -24,4 +27,19 @@ pub struct Component {
 pub enum ClassId {
     Instance(u32),
     Array(Component),
+}
+
+impl ClassId {
+    /// The cells that an object of the type takes, by how many values it has: an instance 2 and one
+    /// for each field, an array 3 and one for each element (a long is one cell).
+    #[tactic(auto, unfolding(crate::specs::Cells::class_size))]
+    pub fn size(self, length: u64) -> u64
+        requires { length < 2 ^ 63 }
+        ensures { result ≡ class_size self length }
+    {
+        match self {
+            ClassId::Instance(_) => 2 + length,
+            ClassId::Array(_) => 3 + length,
+        }
+    }
 }

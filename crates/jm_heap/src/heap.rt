@@ -3,9 +3,9 @@
 ghost use Rattle.std.specs.Prelude.{◌≡◌, ℕ, ◌<◌, ◌≤◌, IfOk, OnOk, OnErr, IfErr, Some, length};
 ghost use Rattle.jm_values.specs.Rename.{rename, refs};
 ghost use Rattle.jm_values.specs.declared.value.Value.{Value};
-ghost use Rattle.jm_world.specs.Objects.{ObjectOf};
-ghost use Rattle.jm_world.specs.Content.{Content, IsSound, AllResident, Kept, Made, HasValue, IsSet, serial_at, object_at, name_of};
-ghost use Rattle.jm_heap.specs.Cells.{header_cells, resident_cells};
+ghost use Rattle.jm_values.specs.Objects.{ObjectOf};
+ghost use Rattle.jm_values.specs.Content.{Content, IsSound, AllResident, Kept, Made, HasValue, IsSet, serial_at, object_at, name_of};
+ghost use Rattle.jm_heap.specs.Cells.{class_size, resident_cells};
 ghost use Rattle.jm_heap.specs.NewObject.{new_object};
 ghost use Rattle.jm_heap.specs.Residents.{AreResident};
 ghost use Rattle.jm_heap.specs.Allocation.{IsRefused, IsRefusedHere, MadeHereOrNot};
@@ -54,7 +54,7 @@ pub trait Heap {
     ) -> Result<Place, HeapFault>
         requires sound { IsSound (content self.old) }
         requires resident { AllResident (content self.old) roots.old }
-        ensures ok { IfOk result (λ place. Made header_cells (content self.old) roots.old (content self.new) roots.new place (new_object shape.entry)) }
+        ensures ok { IfOk result (λ place. Made class_size (content self.old) roots.old (content self.new) roots.new place (new_object shape.entry)) }
         ensures kept { OnErr result (Kept (content self.old) roots.old (content self.new) roots.new) }
         ensures next { OnErr result ((content self.new).next ≡ (content self.old).next) }
         ensures as_before { IsAsBeforeMaking (content self.old) (content self.new) }

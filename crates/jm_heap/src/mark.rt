@@ -3,7 +3,7 @@
 ghost use Rattle.std.specs.Prelude.{◌≡◌, ℕ, ◌≤◌, OnOk, IfOk, [], ◌∷◌, length, is_some, true, false, replicate};
 ghost use Rattle.jm_values.specs.Rename.{stack_shape, refs};
 ghost use Rattle.jm_values.specs.Shape.{Among};
-ghost use Rattle.jm_world.specs.Objects.{refs_of};
+ghost use Rattle.jm_values.specs.Objects.{refs_of};
 ghost use Rattle.jm_heap.specs.Marks.{MarkedAll, AreReached, IsClosed, plain_object};
 ghost use Rattle.jm_heap.specs.Slots.{object_in};
 

@@ -1,11 +1,11 @@
 // The object that is made of a shape.
 
-ghost use Rattle.std.specs.Prelude.{◌≡◌, IfOk, map, replicate};
-ghost use Rattle.jm_world.specs.Objects.{size_by};
-ghost use Rattle.jm_world.specs.Types.{default_of};
-ghost use Rattle.jm_heap.specs.Cells.{header_cells};
+ghost use Rattle.std.specs.Prelude.{◌≡◌, ◌<◌, ◌^◌, IfOk, length, map, replicate};
+ghost use Rattle.jm_values.specs.Objects.{size_by, default_of};
+ghost use Rattle.jm_heap.specs.Cells.{class_size};
 ghost use Rattle.jm_heap.specs.NewObject.{new_object, operand_of_component};
 ghost use Rattle.jm_heap.specs.Stored.{IsNew};
+ghost use Rattle.jm_heap.specs.declared.class_id.ClassId.TheVariants.{Array};
 
 use crate::class_id::{ClassId, Component, Element};
 use crate::shape::Shape;
@@ -25,14 +25,23 @@ fn class_of(shape: Shape<'_>) -> ClassId
     }
 }
 
-/// The cells that the object takes.
+// The cells of an array of so many elements.
+fn array_cells(component: Component, count: u32) -> u64
+    ensures value { result ≡ class_size (Array component) count }
+    ensures few { count < 2 ^ 32 }
+{
+    ClassId::Array(component).size(count as u64)
+}
+
+/// The cells that the object takes. Where they are fewer than 2^32, its values are too.
 #[tactic(auto, unfolding(crate::specs::NewObject::new_object))]
 pub fn cells_of(shape: Shape<'_>) -> u64
-    ensures { result ≡ size_by header_cells (new_object shape.entry) }
+    ensures value { result ≡ size_by class_size (new_object shape.entry) }
+    ensures short { result < 2 ^ 32 → length (new_object shape.entry).values < 2 ^ 32 }
 {
     match shape {
-        Shape::Instance { fields, .. } => 2 + fields.len() as u64,
-        Shape::Array { length, .. } => 3 + length as u64,
+        Shape::Instance { class, fields } => ClassId::Instance(class).size(fields.len() as u64),
+        Shape::Array { component, length } => array_cells(component, length),
     }
 }
 

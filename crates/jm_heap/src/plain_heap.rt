@@ -3,13 +3,13 @@
 ghost use Rattle.std.specs.Prelude.{[], OnOk, OnErr, IfOk, IfErr, ◌≡◌, ◌≤◌, ◌<◌, ℕ, List, Some, None, length};
 ghost use Rattle.jm_values.specs.declared.value.Value.{Value};
 ghost use Rattle.jm_values.specs.Rename.{rename, refs};
-ghost use Rattle.jm_heap.specs.Cells.{header_cells, resident_cells};
+ghost use Rattle.jm_heap.specs.Cells.{class_size, resident_cells};
 ghost use Rattle.jm_heap.specs.NewObject.{new_object};
 ghost use Rattle.jm_heap.specs.Allocation.{HasRoom, NoneIsNoRoom, IsRefused, IsRefusedHere, MadeHereOrNot};
 ghost use Rattle.jm_heap.specs.Residents.{AreResident};
 ghost use Rattle.jm_heap.specs.Collection.{Collected, IsAsBefore, IsAsBeforeMaking, IsUnmoved, LeavesReached};
-ghost use Rattle.jm_world.specs.Objects.{ObjectOf};
-ghost use Rattle.jm_world.specs.Content.{Content, HasValue, IsSet, IsSound, Kept, Made, AllResident, used_by, serial_at, object_at, name_of};
+ghost use Rattle.jm_values.specs.Objects.{ObjectOf};
+ghost use Rattle.jm_values.specs.Content.{Content, HasValue, IsSet, IsSound, Kept, Made, AllResident, used_by, serial_at, object_at, name_of};
 ghost use Rattle.jm_heap.specs.declared.class_id.ClassId.{ClassId};
 
 use crate::class_id::ClassId;
@@ -42,7 +42,7 @@ pub struct PlainHeap {
 }
 
 impl Model for PlainHeap {
-    ghost use Rattle.jm_world.specs.Content.{Content};
+    ghost use Rattle.jm_values.specs.Content.{Content};
     ghost use Rattle.jm_heap.specs.declared.class_id.ClassId.{ClassId};
     ghost use Rattle.jm_heap.specs.Slots.{content_of};
     ghost use Rattle.jm_heap.specs.PlainHeap.{IsPlainHeap};
@@ -96,7 +96,7 @@ impl PlainHeap {
     fn collect_all(&mut self, roots: &[Place]) -> Result<(), AllocError>
         requires { AllResident self.old roots.now }
         ensures ok { OnOk result (Collected self.old roots.now self.new) }
-        ensures left { OnOk result (resident_cells self.new ≡ used_by header_cells self.old roots.now) }
+        ensures left { OnOk result (resident_cells self.new ≡ used_by class_size self.old roots.now) }
         ensures err { OnErr result (self.new ≡ self.old) }
     {
         let marks = mark(self.alloc, &self.slots, roots)?;
@@ -149,7 +149,7 @@ impl PlainHeap {
     ) -> Result<Place, HeapFault>
         requires sound { IsSound self.old }
         requires resident { AllResident self.old roots.old }
-        ensures ok { IfOk result (λ place. Made header_cells self.old roots.old self.new roots.new place (new_object shape.entry)) }
+        ensures ok { IfOk result (λ place. Made class_size self.old roots.old self.new roots.new place (new_object shape.entry)) }
         ensures kept { OnErr result (Kept self.old roots.old self.new roots.new) }
         ensures next { OnErr result (self.new.next ≡ self.old.next) }
         ensures as_before { IsAsBeforeMaking self.old self.new }
@@ -172,7 +172,7 @@ impl PlainHeap {
     ) -> Result<Place, HeapFault>
         requires sound { IsSound self.old }
         requires resident { AllResident self.old roots.now }
-        ensures ok { IfOk result (λ place. Made header_cells self.old roots.now self.new roots.now place (new_object shape.entry)) }
+        ensures ok { IfOk result (λ place. Made class_size self.old roots.now self.new roots.now place (new_object shape.entry)) }
         ensures kept { OnErr result (Kept self.old roots.now self.new roots.now) }
         ensures next { OnErr result (self.new.next ≡ self.old.next) }
         ensures as_before { IsAsBeforeMaking self.old self.new }

@@ -1,11 +1,10 @@
 // Giving slots free.
 
-ghost use Rattle.std.specs.Prelude.{◌≡◌, ◌<◌, ◌≤◌, ◌^◌, length, slice_set};
+ghost use Rattle.std.specs.Prelude.{◌≡◌, ◌<◌, ◌≤◌, length, slice_set};
 ghost use Rattle.jm_heap.specs.Slots.{slot_cells, slots_cells};
 ghost use Rattle.jm_heap.specs.Stored.{Swept};
 ghost use Rattle.jm_heap.specs.declared.slot.Slot.TheVariants.{Free};
 
-use crate::class_id::ClassId;
 use crate::slot::Slot;
 
 // No slot has this number.
@@ -13,18 +12,11 @@ const NO_SLOT: usize = usize::MAX;
 
 /// The cells of what lies in a slot.
 fn cells(slot: &Slot) -> u64
-    requires { slot_cells slot.now < 2 ^ 64 }
     ensures { result ≡ slot_cells slot.now }
 {
     match slot {
         Slot::Free(_) => 0,
-        Slot::Taken(object) => {
-            let header = match object.class {
-                ClassId::Instance(_) => 2,
-                ClassId::Array(_) => 3,
-            };
-            header + object.values.len() as u64
-        }
+        Slot::Taken(object) => object.class.size(object.values.len() as u64),
     }
 }
 

@@ -3,7 +3,7 @@ use Rattle.std.proofs.Common.{◌≡◌, ℕ, ◌+◌, ◌<◌, arith, List, [],
 use Rattle.std.specs.Prelude.{slice_set, map, Ok}
 use Rattle.std.specs.Vec.{with_item}
 use Rattle.jm_program.specs.declared.class.ClassParts.{ClassParts}
-use Rattle.jm_world.specs.Content.{Content, name_of}
+use Rattle.jm_values.specs.Content.{Content, name_of}
 use Rattle.jm_world.specs.Matches.{Matches}
 use Rattle.jm_world.specs.Next.{goes}
 use Rattle.jm_world.specs.Renaming.{rename_thread, rename_object}

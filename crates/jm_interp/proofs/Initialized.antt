@@ -13,7 +13,7 @@ use Rattle.jm_world.specs.Next as next
 use Rattle.jm_world.specs.Next.{Next, goes}
 use Rattle.jm_world.specs.Classes.{class_named, object_class}
 use Rattle.jm_world.specs.World.{World, Thread, with_thread, with_state, state_of, state_in, set_state_in, refs_thread, live_among}
-use Rattle.jm_world.specs.Content.{Content, name_of}
+use Rattle.jm_values.specs.Content.{Content, name_of}
 use Rattle.jm_world.specs.Matches.{Matches, places}
 use Rattle.jm_world.specs.Renaming.{rename_thread}
 use Rattle.jm_world.specs.Stepping.{step_thread}

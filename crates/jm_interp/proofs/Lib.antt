@@ -6,7 +6,6 @@ pub mod OnThread
 pub mod Objects
 pub mod TopFrames
 pub mod Fetching
-pub mod Linked
 pub mod Here
 pub mod BuiltIns
 pub mod SystemOut

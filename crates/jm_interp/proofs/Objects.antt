@@ -2,9 +2,10 @@
 use Rattle.std.proofs.Common.{◌≡◌, ℕ, List, Option, Some, sym, ap, ◌∙◌}
 use Rattle.std.specs.Prelude.{slice_get, option_map, unwrap_or}
 use Rattle.jm_values.specs.Shape.{Among}
-use Rattle.jm_world.specs.Content.{Content, name_of, serial_at, object_at}
+use Rattle.jm_values.specs.Content.{Content, name_of, serial_at, object_at}
 use Rattle.jm_world.specs.Matches.{Matches, places, as_named}
-use Rattle.jm_world.specs.Objects.{ObjectOf, Reach}
+use Rattle.jm_values.specs.Objects.{ObjectOf}
+use Rattle.jm_values.specs.Reach.{Reach}
 use Rattle.jm_world.specs.World.{World, roots}
 use Rattle.jm_heap.specs.declared.class_id.ClassId.{ClassId}
 use Rattle.jm_state.specs.Parts.{parts, named_type}
@@ -12,7 +13,7 @@ use Rattle.jm_state.specs.declared.state.State.{State}
 use Rattle.jm_state.specs.declared.thread.StackFrame.{StackFrame}
 use Rattle.jm_interp.specs.declared.at.At.{At}
 use Rattle.jm_interp.specs.At.{parts_at, OnThread}
-use Rattle.jm_world.proofs.SoundContents.{object_of_place}
+use Rattle.jm_values.proofs.SoundContents.{object_of_place}
 use Rattle.jm_interp.proofs.Standing.{reach_shared, place_stands}
 
 -- its serial

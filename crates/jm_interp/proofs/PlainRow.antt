@@ -11,7 +11,7 @@ use Rattle.jm_values.specs.Shape.{Among}
 use Rattle.jm_values.specs.declared.fault.TagFault.{TagFault}
 use Rattle.jm_values.proofs.NaturalRows.{plain_natural}
 use Rattle.jm_values.proofs.NoNewReferences.{brings_none}
-use Rattle.jm_world.specs.Content.{Content, name_of}
+use Rattle.jm_values.specs.Content.{Content, name_of}
 use Rattle.jm_world.specs.Here.{throws}
 use Rattle.jm_world.specs.Matches.{Matches, places}
 use Rattle.jm_world.specs.Next.{throw}
@@ -40,17 +40,16 @@ use Rattle.jm_interp.specs.At.{parts_at, InMethod, StandsOn, Does, Steps}
 use Rattle.jm_interp.specs.Standing.{Stands}
 use Rattle.jm_interp.specs.Stepped.{Stays}
 use Rattle.jm_interp.proofs.Here.{place, row_is, Leaves, done, left, top_held, one_to_one, goes_on, faults_there}
-use Rattle.jm_interp.proofs.Linked.{plain_links}
 use Rattle.jm_interp.proofs.OnThread.{model, with_thread_at, still, same_matches, does_as}
 
-module _ {H : Type 0} {content : H → Content ClassId} {at : At} {old : State H} {op : Plain} (h : StandsOn content at old (Links (linked.Plain op))) where
+module _ {H : Type 0} {content : H → Content ClassId} {at : At} {old : State H} {op : Plain} (h : StandsOn content at old (Links at.linked.now (linked.Plain op))) where
   pub plain_ordered : IsOrdered op
-  plain_ordered = fitting_is_ordered _ op (ap (instr_fits _) (sym (plain_links op h.instruction h.is)) ∙ h.fits)
+  plain_ordered = fitting_is_ordered _ op (ap (instr_fits _) (sym h.is) ∙ h.fits)
 
   plain_is : (w : World) → Matches (parts_at content at old) w → step_thread w (at.index + 1) (model h.method.on) ≡ from_outcome (place h.method w) (rename_outcome (name_of (content old.heap)) (row_plain op h.method.frame.activation))
   plain_is w m =
       row_is h w m
-      ∙ ap (row (place h.method w)) (plain_links op h.instruction h.is)
+      ∙ ap (row (place h.method w)) h.is
       ∙ ap (from_outcome (place h.method w)) (plain_natural op (name_of (content old.heap)) h.method.frame.activation (one_to_one h.method))
 
   plain_held : (b : Activation) → row_plain op h.method.frame.activation ≡ outcome.goes b → (q : ℕ) → Among q (refs_activation b) → Among q (places (parts_at content at old))

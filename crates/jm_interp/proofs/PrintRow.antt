@@ -19,12 +19,13 @@ use Rattle.jm_world.specs.Hierarchy.{is_assignable, is_subclass, dimensions_assi
 use Rattle.jm_world.specs.Invocation.{call_found, class_of, is_of_class}
 use Rattle.jm_world.specs.Text.{number_text, char_text}
 use Rattle.jm_world.specs.Next.{Next, faults, throw}
-use Rattle.jm_world.specs.Objects.{Object, ObjectOf}
+use Rattle.jm_world.specs.Objects.{Object}
+use Rattle.jm_values.specs.Objects.{ObjectOf}
 use Rattle.jm_world.specs.Resolution.{select}
 use Rattle.jm_world.specs.Classes.{print_stream_class}
 use Rattle.jm_world.specs.Types.{ObjectType, class_type, type_of_object}
 use Rattle.jm_world.specs.World.{World}
-use Rattle.jm_world.specs.Content.{Content, name_of, serial_at, object_at}
+use Rattle.jm_values.specs.Content.{Content, name_of, serial_at, object_at}
 use Rattle.jm_world.specs.Loads.{Loads}
 use Rattle.jm_world.specs.Matches.{Matches}
 use Rattle.jm_world.specs.Renaming.{rename_thread}
@@ -47,7 +48,6 @@ use Rattle.jm_interp.specs.declared.operands.Text.{Text}
 use Rattle.jm_interp.specs.declared.operands.Text.TheVariants as text
 use Rattle.jm_interp.specs.Printing.{printing_of, left_by, text_bytes, line_bytes, is_print_stream}
 use Rattle.jm_interp.proofs.Lists.{among_split}
-use Rattle.jm_interp.proofs.Linked.{print_links}
 use Rattle.jm_interp.proofs.Arguments.{arguments_of, Fits, AllFit, received, receives, ReceiverIn, receiver_in}
 use Rattle.jm_interp.proofs.PrintStreams.{ref_is, stream_selects, stream_below_itself, no_stream, other_name}
 use Rattle.std.specs.Prelude.{slice_index_or, Result}
@@ -143,7 +143,7 @@ left_refs EndLine s q a = drop_refs s q a
 abbrev pub FindsOperands : PrintMethod → held.Thread → Result Printing TagFault → Type 0
 FindsOperands p d r = (f : FrameView) (below : List StackFrame) (k : Option ℕ) (e : code.Ending) → Stands d (Method f ∷ below) k e → r ≡ printing_of p f.activation.stack
 
-module _ {H : Type 0} {content : H → Content ClassId} {at : At} {old : State H} (p : PrintMethod) (h : StandsOn content at old (Links (linked.Print p))) where
+module _ {H : Type 0} {content : H → Content ClassId} {at : At} {old : State H} (p : PrintMethod) (h : StandsOn content at old (Links at.linked.now (linked.Print p))) where
   -- the operands that are left, in the model
   abbrev rest : List Value
   rest = map (rename (name_of (content old.heap))) (left_by p h.method.frame.activation.stack)
@@ -166,9 +166,8 @@ module _ {H : Type 0} {content : H → Content ClassId} {at : At} {old : State H
 
   print_is : (w : World) → Matches (parts_at content at old) w → step_thread w (at.index + 1) (model h.method.on) ≡ received (name_of (content old.heap)) (printing_of p h.method.frame.activation.stack) (left_by p h.method.frame.activation.stack) (on_receiver w)
   print_is w m =
-      let l = print_links p h.instruction h.is in
       row_is h w m
-      ∙ ap (row (place h.method w)) (l.1 ∙ ap (instr.Invoke Virtual) (ref_is l.0 p l.2))
+      ∙ ap (row (place h.method w)) (h.is.1 ∙ ap (instr.Invoke Virtual) (ref_is h.is.0 p h.is.2))
       ∙ (receives (name_of (content old.heap)) p h.method.frame.activation.stack (on_receiver w)).0
 
   module _ {d : held.Thread} (got : d ≡ slice_index_or old.threads.items at.index d) where

@@ -19,7 +19,7 @@ use Rattle.jm_world.specs.Here.{Here, push}
 use Rattle.jm_world.specs.Next as next
 use Rattle.jm_world.specs.Next.{Next}
 use Rattle.jm_world.specs.World.{World, Thread, Static, static_in, state_in, state_of}
-use Rattle.jm_world.specs.Content.{Content, name_of}
+use Rattle.jm_values.specs.Content.{Content, name_of}
 use Rattle.jm_world.specs.Classes.{system_class}
 use Rattle.jm_world.specs.Loads.{Loads}
 use Rattle.jm_world.specs.Loading.{first_statics, out_field}
@@ -39,7 +39,6 @@ use Rattle.jm_state.specs.declared.state.State.{State}
 use Rattle.jm_state.specs.declared.thread.Thread as held
 use Rattle.jm_interp.specs.Pushing.{Pushes}
 use Rattle.jm_interp.proofs.Lists.{among_split}
-use Rattle.jm_interp.proofs.Linked.{int_links, long_links, system_out_links}
 use Rattle.jm_interp.proofs.BuiltIns.{others}
 use Rattle.jm_interp.proofs.SystemOut.{system_out_row, not_listed}
 use Rattle.std.specs.Prelude.{slice_index_or}
@@ -114,7 +113,7 @@ module _ {H : Type 0} {content : H → Content ClassId} {at : At} {old : State H
     push_faults stepped = faults_there h got stepped (push_row v) refl
 
 -- the value of an instruction
-module _ {H : Type 0} {content : H → Content ClassId} {at : At} {old : State H} (v : Value) (li : LinkedInstr) (h : StandsOn content at old (Links li)) where
+module _ {H : Type 0} {content : H → Content ClassId} {at : At} {old : State H} (v : Value) (li : LinkedInstr) (h : StandsOn content at old (Links at.linked.now li)) where
   pub value_held : Pushes li old.statics.items v → Holds content at old v
   value_held p q m = held_in li p
     where
@@ -136,17 +135,16 @@ module _ {H : Type 0} {content : H → Content ClassId} {at : At} {old : State H
       o : Here
       o = place h.method w
 
-      by : (i : LinkedInstr) → Links i h.instruction → Pushes i old.statics.items v → row o h.instruction ≡ push o (rename f v) o.frame.stack
-      by (linked.Int n) k e = ap (row o) (int_links n h.instruction k) ∙ ap (λ x. push o (rename f x) o.frame.stack) (sym e)
-      by (linked.Long n) k e = ap (row o) (long_links n h.instruction k) ∙ ap (λ x. push o (rename f x) o.frame.stack) (sym e)
+      by : (i : LinkedInstr) → Links at.linked.now i h.instruction → Pushes i old.statics.items v → row o h.instruction ≡ push o (rename f v) o.frame.stack
+      by (linked.Int n) k e = ap (row o) k ∙ ap (λ x. push o (rename f x) o.frame.stack) (sym e)
+      by (linked.Long n) k e = ap (row o) k ∙ ap (λ x. push o (rename f x) o.frame.stack) (sym e)
       by linked.SystemOut k e =
           let l = at.linked.now in
           let is = h.method.on.beside.linked in
-          let g = system_out_links h.instruction k in
           let loads : Loads o.world.program = subst Loads m.program is.loads in
           let done : state_of o.world system_class ≡ Done = ap (λ x. state_in x system_class) (sym m.classes) ∙ not_listed system_class l.program old.classes.items (others l.program is.loads system_class refl) in
           let value : static_in o.world.statics out_field ≡ Some (rename f v) = out_value l.program f old.statics.items v w.statics m.statics e in
-          ap (row o) g.1 ∙ system_out_row o g.0 (rename f v) loads g.2 done value
+          ap (row o) k.1 ∙ system_out_row o k.0 (rename f v) loads k.2 done value
       by (linked.Plain op) k e = absurd e
       by (linked.Return op) k e = absurd e
       by (linked.Print op) k e = absurd e

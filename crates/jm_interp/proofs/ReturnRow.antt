@@ -22,7 +22,7 @@ use Rattle.jm_world.specs.Monitors.{leave_if}
 use Rattle.jm_world.specs.Next.{Next, goes, faults}
 use Rattle.jm_world.specs.Returns.{returned_to, return_nothing, row_return, return_value}
 use Rattle.jm_world.specs.World.{World, Thread, returned}
-use Rattle.jm_world.specs.Content.{Content, name_of}
+use Rattle.jm_values.specs.Content.{Content, name_of}
 use Rattle.jm_world.specs.Matches.{Matches}
 use Rattle.jm_world.specs.Renaming.{rename_thread}
 use Rattle.jm_world.specs.Stepping.{row, step_thread}
@@ -42,7 +42,6 @@ use Rattle.jm_state.specs.declared.thread.StackFrame.{StackFrame}
 use Rattle.jm_state.specs.declared.thread.StackFrame.TheVariants.{Method, Initialization}
 use Rattle.jm_state.specs.declared.thread.Thread as held
 use Rattle.jm_interp.specs.Returned.{Left, pop_fault}
-use Rattle.jm_interp.proofs.Linked.{return_links}
 use Rattle.std.specs.Prelude.{slice_index_or}
 use Rattle.jm_linked.specs.Links.{Links}
 use Rattle.jm_interp.specs.declared.at.At.{At}
@@ -99,14 +98,14 @@ value_row o return.Void f s k r n = absurd (n refl)
 abbrev pub Leaving : Result (Unit {0}) Halt → held.Thread → held.Thread → Type 0
 Leaving result d t = (f : FrameView) (b : StackFrame) (below : List StackFrame) (p : Option ℕ) (e : code.Ending) → Stands d (Method f ∷ b ∷ below) p e → Left result t f b below p e
 
-module _ {H : Type 0} {content : H → Content ClassId} {at : At} {old : State H} {op : ReturnOp} (h : StandsOn content at old (Links (linked.Return op))) where
+module _ {H : Type 0} {content : H → Content ClassId} {at : At} {old : State H} {op : ReturnOp} (h : StandsOn content at old (Links at.linked.now (linked.Return op))) where
   result_none : (name_of_number at.linked.now h.method.frame.method).descriptor.return_type ≡ None
   result_none =
       let m = get_there at.linked.now.methods h.method.frame.method (part_here h.method.on).frames.0.0 in
       no_result at.linked.now h.method.on.beside.linked h.method.frame.method m.0 m.1
 
   return_is : (w : World) → Matches (parts_at content at old) w → step_thread w (at.index + 1) (model h.method.on) ≡ row_return (place h.method w) op
-  return_is w m = row_is h w m ∙ ap (row (place h.method w)) (return_links op h.instruction h.is)
+  return_is w m = row_is h w m ∙ ap (row (place h.method w)) h.is
 
   pub value_faults : {d : held.Thread} {fault : TagFault} → (op ≡ return.Void → ⊥) → d ≡ slice_index_or old.threads.items at.index d → ((f : FrameView) (below : List StackFrame) (p : Option ℕ) (e : code.Ending) → Stands d (Method f ∷ below) p e → fault ≡ pop_fault f.activation.stack) → Steps content at old (Err (Stopped (why.TagFault fault))) old
   value_faults n got e = stops h.method.on (λ w m.
@@ -114,7 +113,11 @@ module _ {H : Type 0} {content : H → Content ClassId} {at : At} {old : State H
       ∙ value_row (place h.method w) op (name_of (content old.heap)) h.method.frame.activation.stack refl result_none n
       ∙ ap faults (sym (e h.method.frame h.method.below None Running (read h.method.on got))))
 
-module _ {H : Type 0} {content : H → Content ClassId} {at : At} {old : State H} (h : StandsOn content at old (Links (linked.Return return.Void))) where
+-- a return without a value
+pub as_void : {H : Type 0} {content : H → Content ClassId} {at : At} {old : State H} {op : ReturnOp} → op ≡ return.Void → StandsOn content at old (Links at.linked.now (linked.Return op)) → StandsOn content at old (Links at.linked.now (linked.Return return.Void))
+as_void {content = content} {at = at} {old = old} is h = subst (λ o. StandsOn content at old (Links at.linked.now (linked.Return o))) is h
+
+module _ {H : Type 0} {content : H → Content ClassId} {at : At} {old : State H} (h : StandsOn content at old (Links at.linked.now (linked.Return return.Void))) where
   -- the model returns to the frames below
   void_is : (w : World) → Matches (parts_at content at old) w → step_thread w (at.index + 1) (model h.method.on) ≡ returned_to w (at.index + 1) (model h.method.on) None (map (rename_frame (name_of (content old.heap))) (map (frame_part at.linked.now) h.method.below))
   void_is w m =

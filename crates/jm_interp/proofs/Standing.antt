@@ -3,12 +3,13 @@ use Rattle.std.proofs.Common.{◌≡◌, ℕ, ◌<◌, List, ◌++◌, Some, ref
 use Rattle.std.specs.Prelude.{map, slice_get, option_map}
 use Rattle.jm_values.specs.Shape.{Among, list_shape}
 use Rattle.jm_values.proofs.Among.{among_left, among_right}
-use Rattle.jm_world.specs.Objects.{Reach, root, field, refs_of}
+use Rattle.jm_values.specs.Objects.{refs_of}
+use Rattle.jm_values.specs.Reach.{Reach, root, field}
 use Rattle.jm_world.specs.World.{World, Thread, Progress, roots}
-use Rattle.jm_world.specs.Content.{name_of, object_at, serial_at}
+use Rattle.jm_values.specs.Content.{name_of, object_at, serial_at}
 use Rattle.jm_world.specs.Renaming.{thread_shape, static_shape, monitor_shape, literal_shape}
 use Rattle.jm_world.specs.Matches.{Parts, Matches, places, as_named}
-use Rattle.jm_world.proofs.Reaching.{reach_within}
+use Rattle.jm_values.proofs.Reaching.{reach_within}
 use Rattle.jm_world.proofs.Matching.{join, listed, roots_are}
 use Rattle.jm_world.proofs.ShapesOfParts.{thread_is_shape, static_is_shape, monitor_is_shape, literal_is_shape}
 use Rattle.jm_interp.proofs.Lists.{among_split, among_map, among_mapped}

@@ -5,11 +5,13 @@ use Rattle.std.specs.List.{AllByRecursion}
 use Rattle.std.proofs.lemmas.List.{length-map}
 use Rattle.jm_values.specs.Rename.{stack_shape}
 use Rattle.jm_values.specs.Shape.{Among}
-use Rattle.jm_world.specs.Content.{Content, name_of, serial_at, object_at}
+use Rattle.jm_values.specs.Content.{Content, name_of, serial_at, object_at}
 use Rattle.jm_world.specs.Frames.{rename_frame}
 use Rattle.jm_world.specs.Matches.{Matches, as_named}
 use Rattle.jm_world.specs.Next.{Next, goes, throw, exception}
-use Rattle.jm_world.specs.Objects.{Object, Reach, field, refs_of}
+use Rattle.jm_world.specs.Objects.{Object}
+use Rattle.jm_values.specs.Reach.{Reach, field}
+use Rattle.jm_values.specs.Objects.{refs_of}
 use Rattle.jm_world.specs.Renaming.{rename_thread}
 use Rattle.jm_world.specs.World.{World, Thread, running, roots, with_thread, refs_thread}
 use Rattle.jm_heap.specs.declared.class_id.ClassId.{ClassId}

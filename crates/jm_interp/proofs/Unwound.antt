@@ -9,13 +9,13 @@ use Rattle.jm_builtins.specs.List.{the_builtins}
 use Rattle.jm_values.specs.Rename.{rename_activation}
 use Rattle.jm_values.proofs.Among.{among_right}
 use Rattle.jm_world.specs.Types.{ObjectType}
-use Rattle.jm_world.specs.Objects.{ObjectOf}
+use Rattle.jm_values.specs.Objects.{ObjectOf}
 use Rattle.jm_world.specs.Classes.{method_named}
 use Rattle.jm_world.specs.Frames.{frames_shape, refs_frame, rename_frame}
 use Rattle.jm_world.specs.Next.{Next, faults, goes}
 use Rattle.jm_world.specs.Throwing.{unwind_frames, unwound, drop_method, handle, handler_in, handlers_of, class_name}
 use Rattle.jm_world.specs.World.{World, Thread, Ending, ended_by}
-use Rattle.jm_world.specs.Content.{Content, name_of, serial_at, object_at}
+use Rattle.jm_values.specs.Content.{Content, name_of, serial_at, object_at}
 use Rattle.jm_world.specs.Matches.{Matches}
 use Rattle.jm_world.specs.Renaming.{rename_thread}
 use Rattle.jm_world.specs.Stepping.{step_thread}
@@ -86,7 +86,7 @@ no_handlers l is k lt =
     let links = is.methods k m.0 m.1 in
     ap handlers_of (fetching.method_is l is k m.0 m.1)
     ∙ ap (λ o. elim o as (λ _. List Handler) [ None ↦ [] | Some code ↦ code.handlers ]) links.code_is
-    ∙ links.handlers
+    ∙ (fetching.whole l is k m.0 m.1).handlers
 
 module _ {H : Type 0} {content : H → Content ClassId} {at : At} {old : State H} {fs : List StackFrame} {place : ℕ} (h : OnThread content at old fs (Some place)) where
   -- the pending exception lies in the heap

@@ -34,7 +34,7 @@ pub(crate) fn print<H: Heap>(
     state: &mut State<H>,
     method: PrintMethod,
 ) -> Result<StepEnd, Halt>
-    requires { StandsOn H.content at state.old (Links (linked_instr.Print method)) }
+    requires { StandsOn H.content at state.old (Links at.linked.now (linked_instr.Print method)) }
     ensures { Steps H.content at.entry state.old result state.new }
 {
     let printing = match operands_of(&state.threads[at.index], method) {

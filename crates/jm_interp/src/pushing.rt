@@ -2,7 +2,7 @@
 
 ghost use Rattle.std.specs.Prelude.{◌+◌, ◌<◌, ◌^◌};
 ghost use Rattle.jm_values.specs.Rename.{rename};
-ghost use Rattle.jm_world.specs.Content.{name_of};
+ghost use Rattle.jm_values.specs.Content.{name_of};
 ghost use Rattle.jm_world.specs.Here.{push as here_push};
 ghost use Rattle.jm_linked.specs.Links.{Links};
 ghost use Rattle.jm_linked.specs.declared.instruction.LinkedInstr.{LinkedInstr};
@@ -37,7 +37,7 @@ pub(crate) fn push_value<H: Heap>(
     state: &mut State<H>,
     value: Value,
 ) -> Result<StepEnd, Halt>
-    requires { (li : LinkedInstr) × StandsOn H.content at state.old (Links li) × Pushes li state.old.statics.items value }
+    requires { (li : LinkedInstr) × StandsOn H.content at state.old (Links at.linked.now li) × Pushes li state.old.statics.items value }
     ensures { Steps H.content at.entry state.old result state.new }
 {
     push(at, state, value)

@@ -1,3 +1,4 @@
 pub mod Later
+pub mod Kinds
 pub mod Links
 pub mod LaterTexts

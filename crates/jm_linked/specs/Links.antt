@@ -1,22 +1,27 @@
 -- A linked program beside its classes.
-use Rattle.std.specs.Prelude.{◌≡◌, ℕ, List, [], ◌∷◌, ◌++◌, map, length, Option, Some, None, true, unwrap_or, slice_get}
+use Rattle.std.specs.Prelude.{◌≡◌, ℕ, List, [], ◌∷◌, ◌++◌, map, length, Option, Some, None, true, unwrap_or, slice_get, option_map}
 use Rattle.std.specs.List.{list_all}
 use Rattle.jm_program.specs.Instructions.{instr_fits}
 use Rattle.jm_program.specs.declared.class.ClassParts.{ClassParts}
 use Rattle.jm_program.specs.declared.class.Method.{Method}
 use Rattle.jm_program.specs.declared.code.Code.{Code}
+use Rattle.jm_program.specs.declared.code.Handler.{Handler}
 use Rattle.jm_program.specs.declared.constant.Constant.TheVariants as constant
 use Rattle.jm_program.specs.declared.instruction.operation.FieldOp.TheVariants.{GetStatic}
 use Rattle.jm_program.specs.declared.instruction.operation.InvokeOp.TheVariants.{Virtual}
 use Rattle.jm_program.specs.declared.instruction.symbolic.Instr.{Instr}
 use Rattle.jm_program.specs.declared.instruction.symbolic.Instr.TheVariants as instr
+use Rattle.jm_program.specs.declared.reference.FieldRef.{FieldRef}
+use Rattle.jm_program.specs.declared.reference.MethodRef.{MethodRef}
 use Rattle.jm_builtins.specs.List.{the_builtins}
 use Rattle.jm_world.specs.Classes.{FoundMethod, MethodName, name_of_method, method_named}
 use Rattle.jm_world.specs.Loading.{main_in}
 use Rattle.jm_world.specs.Loads.{Loads}
+use Rattle.jm_linked.specs.Kinds.{kind_of}
 use Rattle.jm_linked.specs.Later.{is_system_out, is_print, later_part}
 use Rattle.jm_linked.specs.declared.instruction.LinkedInstr.{LinkedInstr}
 use Rattle.jm_linked.specs.declared.instruction.LinkedInstr.TheVariants as linked
+use Rattle.jm_linked.specs.declared.method.LinkedHandler.{LinkedHandler}
 use Rattle.jm_linked.specs.declared.method.LinkedMethod.{LinkedMethod}
 
 -- the classes, the methods that can run, by number, and the number of main
@@ -32,21 +37,25 @@ class_names program = map (λ b. b.name) the_builtins ++ map (λ c. c.name) prog
 unfoldable pub class_name_of : List ClassParts → ℕ → List ℕ
 class_name_of program n = unwrap_or (slice_get (class_names program) n) []
 
--- the linked instruction is the symbolic one with its names resolved
-abbrev pub Links : LinkedInstr → Instr → Type 0
-Links (linked.Plain op) (instr.Plain symbolic) = symbolic ≡ op
-Links (linked.Int n) (instr.Constant c) = c ≡ constant.Int n
-Links (linked.Long n) (instr.Constant c) = c ≡ constant.Long n
-Links (linked.Return op) (instr.Return symbolic) = symbolic ≡ op
-Links linked.SystemOut (instr.Field op f) = (op ≡ GetStatic) × (is_system_out f ≡ true)
-Links (linked.Print p) (instr.Invoke op m) = (op ≡ Virtual) × (is_print m p ≡ true)
-Links _ _ = ⊥
+-- the symbolic instruction is the linked one with names in the place of what the linked program
+-- numbers (JVMS 5.4.3)
+abbrev pub Links : LinkedView → LinkedInstr → Instr → Type 0
+Links l (linked.Plain op) i = i ≡ instr.Plain op
+Links l (linked.Int n) i = i ≡ instr.Constant (constant.Int n)
+Links l (linked.Long n) i = i ≡ instr.Constant (constant.Long n)
+Links l (linked.Return op) i = i ≡ instr.Return op
+Links l linked.SystemOut i = (f : FieldRef) × (i ≡ instr.Field GetStatic f) × (is_system_out f ≡ true)
+Links l (linked.Print p) i = (m : MethodRef) × (i ≡ instr.Invoke Virtual m) × (is_print m p ≡ true)
 
-abbrev pub AllLink : List LinkedInstr → List Instr → Type 0
-AllLink [] [] = Unit {0}
-AllLink (l ∷ ls) (i ∷ is) = Links l i × AllLink ls is
-AllLink [] (i ∷ is) = ⊥
-AllLink (l ∷ ls) [] = ⊥
+abbrev pub AllLink : LinkedView → List LinkedInstr → List Instr → Type 0
+AllLink l [] [] = Unit {0}
+AllLink l (x ∷ xs) (i ∷ is) = Links l x i × AllLink l xs is
+AllLink l [] (i ∷ is) = ⊥
+AllLink l (x ∷ xs) [] = ⊥
+
+-- the row of the exception table that a linked one stands for
+abbrev pub handler_of : LinkedView → LinkedHandler → Handler
+handler_of l h = record { start = h.start; end = h.end; target = h.target; catch_type = option_map (class_name_of l.program) h.catch_type }
 
 -- the name by which the model keeps a method: that of the member of that number of a class
 abbrev pub no_name : MethodName
@@ -71,27 +80,26 @@ name_among program (Some m) = linked_name program m
 unfoldable pub name_of_number : LinkedView → ℕ → MethodName
 name_of_number l n = name_among l.program (slice_get l.methods n)
 
--- the linked method is the method that the program has under its name: it has code without an
--- exception table, and no result
-pub record MethodLinks (program : List ClassParts) (m : LinkedMethod) : Type 0 where
+-- the linked method is the method that the program has under its name, with its code
+pub record MethodLinks (l : LinkedView) (m : LinkedMethod) : Type 0 where
   pub class : ClassParts
   pub method : Method
   pub code : Code
-  pub class_is : slice_get program m.class ≡ Some class
+  pub class_is : slice_get l.program m.class ≡ Some class
   pub method_is : slice_get class.methods m.member ≡ Some method
   pub code_is : method.code ≡ Some code
-  pub named : method_named program (name_of_method (record { class = class; method = method })) ≡ Some method
-  pub returns : method.descriptor.return_type ≡ None
+  pub named : method_named l.program (name_of_method (record { class = class; method = method })) ≡ Some method
+  pub result : m.result ≡ option_map kind_of method.descriptor.return_type
   pub max_stack : m.max_stack ≡ code.max_stack
   pub max_locals : m.max_locals ≡ code.max_locals
-  pub handlers : code.handlers ≡ []
-  pub instructions : AllLink m.code code.instructions
+  pub instructions : AllLink l m.code code.instructions
   pub fits : list_all (instr_fits (length code.instructions)) code.instructions ≡ true
+  pub handlers : map (handler_of l) m.handlers ≡ code.handlers
 
 pub record IsLinked (l : LinkedView) : Type 0 where
   pub loads : Loads l.program
   pub whole : later_part l.program ≡ None
-  pub methods : (n : ℕ) (m : LinkedMethod) → slice_get l.methods n ≡ Some m → MethodLinks l.program m
+  pub methods : (n : ℕ) (m : LinkedMethod) → slice_get l.methods n ≡ Some m → MethodLinks l m
   -- main is the first class's
   pub main : LinkedMethod
   pub main_is : slice_get l.methods l.main ≡ Some main

@@ -10,11 +10,13 @@
 #![tactic(auto)]
 
 mod instruction;
+mod kind;
 mod later;
 mod linked;
 mod method;
 
 pub use instruction::{LinkedInstr, PrintMethod, Printed};
+pub use kind::ValueKind;
 pub use later::LaterPart;
 pub use linked::Linked;
-pub use method::LinkedMethod;
+pub use method::{LinkedHandler, LinkedMethod};

@@ -1,6 +1,7 @@
 // Methods whose names are resolved.
 
 use crate::instruction::LinkedInstr;
+use crate::kind::ValueKind;
 use jm_program::Sequence;
 
 /// A method that can run.
@@ -10,7 +11,23 @@ pub struct LinkedMethod {
     pub class: u32,
     /// Its number among the methods of its class.
     pub member: u32,
+    /// What it returns, or none for `V`.
+    pub result: Option<ValueKind>,
     pub max_stack: u16,
     pub max_locals: u16,
     pub code: Sequence<LinkedInstr>,
+    /// The exception table, in its order.
+    pub handlers: Sequence<LinkedHandler>,
+}
+
+/// A row of the exception table (JVMS 4.7.3). The range goes from `start`, included, to `end`,
+/// excluded.
+#[derive(Clone, Copy)]
+pub struct LinkedHandler {
+    pub start: u32,
+    pub end: u32,
+    /// The number of the handler's first instruction.
+    pub target: u32,
+    /// The number of the class that is caught, or none for every one.
+    pub catch_type: Option<u32>,
 }

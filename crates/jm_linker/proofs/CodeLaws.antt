@@ -1,30 +1,32 @@
 -- Instructions that can be run.
-use Rattle.std.proofs.Common.{◌≡◌, ℕ, ◌+◌, ◌<◌, zero, suc, Bool, true, false, List, [], ◌∷◌, ◌++◌, Option, Some, None, length, get_or, take, refl, sym, ap, subst, ◌∙◌, arith}
+use Rattle.std.proofs.Common.{◌≡◌, ℕ, ◌+◌, ◌<◌, Bool, true, false, List, [], ◌∷◌, ◌++◌, Option, Some, None, length, get_or, take, refl, sym, ap, subst, ◌∙◌}
 use Rattle.std.proofs.lemmas.List.{take_more}
 use Rattle.jm_program.specs.declared.instruction.operation.FieldOp.{FieldOp}
 use Rattle.jm_program.specs.declared.instruction.operation.FieldOp.TheVariants.{GetStatic, PutStatic, GetField, PutField}
 use Rattle.jm_program.specs.declared.instruction.operation.InvokeOp.{InvokeOp}
 use Rattle.jm_program.specs.declared.instruction.operation.InvokeOp.TheVariants.{Virtual, Special, Static, Interface}
 use Rattle.jm_program.specs.declared.instruction.symbolic.Instr.{Instr}
+use Rattle.jm_program.specs.declared.instruction.symbolic.Instr.TheVariants as instr
 use Rattle.jm_program.specs.declared.reference.FieldRef.{FieldRef}
 use Rattle.jm_program.specs.declared.reference.MethodRef.{MethodRef}
 use Rattle.jm_linked.specs.declared.instruction.LinkedInstr.{LinkedInstr}
+use Rattle.jm_linked.specs.declared.instruction.LinkedInstr.TheVariants as linked
 use Rattle.jm_linked.specs.declared.instruction.PrintMethod.{PrintMethod}
 use Rattle.jm_linked.specs.declared.later.LaterPart.{LaterPart}
 use Rattle.jm_linked.specs.declared.later.LaterPart.TheVariants as later
-use Rattle.jm_linked.specs.Later.{is_system_out, is_print, print_among, print_methods, later_field, later_invoke, or_later, first_later}
-use Rattle.jm_linked.specs.Links.{Links, AllLink}
+use Rattle.jm_linked.specs.Later.{is_system_out, is_print, print_among, print_methods, later_field, later_invoke}
+use Rattle.jm_linked.specs.Links.{LinkedView, Links, AllLink}
 
 -- a field that is no later part is System.out
-pub system_out : (op : FieldOp) (f : FieldRef) → later_field op f ≡ None → (op ≡ GetStatic) × (is_system_out f ≡ true)
-system_out GetStatic f e = (refl, by (is_system_out f) e)
+pub system_out : (op : FieldOp) (f : FieldRef) → later_field op f ≡ None → (l : LinkedView) → Links l linked.SystemOut (instr.Field op f)
+system_out GetStatic f e l = (f, refl, by (is_system_out f) e)
   where
     by : (t : Bool) → (elim t as (λ _. Option LaterPart) [ true ↦ None | false ↦ Some (later.Field GetStatic) ]) ≡ None → t ≡ true
     by true g = refl
     by false g = cc
-system_out PutStatic f e = cc
-system_out GetField f e = cc
-system_out PutField f e = cc
+system_out PutStatic f e l = cc
+system_out GetField f e l = cc
+system_out PutField f e l = cc
 
 -- a method that is found among those that print is the one
 print_is : (ps : List PrintMethod) (m : MethodRef) (p : PrintMethod) → print_among ps m ≡ Some p → is_print m p ≡ true
@@ -38,11 +40,12 @@ print_is (q ∷ qs) m p e = by (print_is qs m p) (is_print m q) refl e
     by more true is g = ap (is_print m) (same g) ∙ is
     by more false is g = more g
 
-pub print_found : (op : InvokeOp) (m : MethodRef) (p : PrintMethod) → later_invoke op m ≡ None → print_among print_methods m ≡ Some p → (op ≡ Virtual) × (is_print m p ≡ true)
-print_found Virtual m p e found = (refl, print_is print_methods m p found)
-print_found Special m p e found = cc
-print_found Static m p e found = cc
-print_found Interface m p e found = cc
+pub print_found : (op : InvokeOp) (m : MethodRef) (p : PrintMethod) → later_invoke op m ≡ None → print_among print_methods m ≡ Some p → (l : LinkedView)
+    → Links l (linked.Print p) (instr.Invoke op m)
+print_found Virtual m p e found l = (m, refl, print_is print_methods m p found)
+print_found Special m p e found l = cc
+print_found Static m p e found l = cc
+print_found Interface m p e found l = cc
 
 by_virtual : (o : Option PrintMethod) → (elim o as (λ _. Option LaterPart) [ Some p ↦ None | None ↦ Some (later.Invoke Virtual) ]) ≡ None → o ≡ None → ⊥
 by_virtual None e f = cc
@@ -54,24 +57,16 @@ print_missed Special m e found = cc
 print_missed Static m e found = cc
 print_missed Interface m e found = cc
 
--- no part comes later: neither of two, and none along a list
-pub neither : (a b : Option LaterPart) → or_later a b ≡ None → (a ≡ None) × (b ≡ None)
-neither None b e = (refl, e)
-neither (Some p) b e = cc
-
-pub none_at : {A : Type 0} (look : A → Option LaterPart) (xs : List A) (i : ℕ) (x : A) → first_later look xs ≡ None → i < length xs → x ≡ get_or xs i x → look x ≡ None
-none_at look [] i x e l is = absurd (omega arith)
-none_at look (y ∷ ys) zero x e l is = ap look is ∙ (neither (look y) (first_later look ys) e).0
-none_at look (y ∷ ys) (suc i) x e l is = none_at look ys i x (neither (look y) (first_later look ys) e).1 (omega arith) is
-
 -- one more instruction that is linked
-all_more : (ls : List LinkedInstr) (is : List Instr) (l : LinkedInstr) (i : Instr) → AllLink ls is → Links l i → AllLink (ls ++ l ∷ []) (is ++ i ∷ [])
-all_more [] [] l i a h = (h, tt)
-all_more [] (j ∷ js) l i a h = absurd a
-all_more (k ∷ ks) [] l i a h = absurd a
-all_more (k ∷ ks) (j ∷ js) l i a h = (a.0, all_more ks js l i a.1 h)
+all_more : (l : LinkedView) (xs : List LinkedInstr) (is : List Instr) (x : LinkedInstr) (i : Instr) → AllLink l xs is → Links l x i
+    → AllLink l (xs ++ x ∷ []) (is ++ i ∷ [])
+all_more l [] [] x i a h = (h, tt)
+all_more l [] (j ∷ js) x i a h = absurd a
+all_more l (y ∷ ys) [] x i a h = absurd a
+all_more l (y ∷ ys) (j ∷ js) x i a h = (a.0, all_more l ys js x i a.1 h)
 
-pub linked_more : (ls ks : List LinkedInstr) (is : List Instr) (n : ℕ) (l : LinkedInstr) (i : Instr) → n < length is → i ≡ get_or is n i → ks ≡ ls ++ l ∷ [] → AllLink ls (take n is) → Links l i → AllLink ks (take (n + 1) is)
-linked_more ls ks is n l i within at e a h =
+pub linked_more : (l : LinkedView) (xs ys : List LinkedInstr) (is : List Instr) (n : ℕ) (x : LinkedInstr) (i : Instr) → n < length is → i ≡ get_or is n i
+    → ys ≡ xs ++ x ∷ [] → AllLink l xs (take n is) → Links l x i → AllLink l ys (take (n + 1) is)
+linked_more l xs ys is n x i within at e a h =
     let more : take (n + 1) is ≡ take n is ++ i ∷ [] = rw (take_more is n i within, ← at) refl in
-    subst (λ xs. AllLink ks xs) (sym more) (subst (λ xs. AllLink xs (take n is ++ i ∷ [])) (sym e) (all_more ls (take n is) l i a h))
+    subst (λ zs. AllLink l zs (take (n + 1) is)) (sym e) (subst (λ js. AllLink l (xs ++ x ∷ []) js) (sym more) (all_more l xs (take n is) x i a h))

@@ -1,12 +1,12 @@
 -- The first class's main.
 use Rattle.std.proofs.Common.{◌≡◌, ◌≢◌, ◌⊎◌, inl, inr, ℕ, ◌+◌, ◌<◌, zero, suc, Bool, true, false, ◌&&◌, List, [], ◌∷◌, Option, Some, None, length, get_or, drop, refl, sym, ap, ◌∙◌, codes}
-use Rattle.std.specs.Prelude.{slice_get, nat_eq}
+use Rattle.std.specs.Prelude.{slice_get, nat_eq, map, option_map}
 use Rattle.std.specs.List.{list_all}
 use Rattle.std.specs.Cmp.Lexicographic as std_text
 use Rattle.std.proofs.lemmas.Bool.Decides.{eqb_tells}
 use Rattle.std.proofs.lemmas.Cmp.{nat_list_eq_equiv}
 use Rattle.std.proofs.lemmas.List.{drop_more}
-use Rattle.std.proofs.lemmas.Option.{slice_get_read, slice_get_within, get_or_from_slice_get}
+use Rattle.std.proofs.lemmas.Option.{slice_get_read}
 use Rattle.jm_program.specs.Names.{same_text}
 use Rattle.jm_program.specs.Flags.{is_interface}
 use Rattle.jm_program.specs.Fits.{Fits, method_fits, body_fits, method_slots}
@@ -22,13 +22,12 @@ use Rattle.jm_program.specs.declared.descriptor.MethodDescriptor.{MethodDescript
 use Rattle.jm_world.specs.Types.{same_element, same_type, same_types, same_result, same_method_type}
 use Rattle.jm_world.specs.Classes.{FoundMethod, string_class, class_named, class_among, method_in, method_of_class, method_named, name_of_method}
 use Rattle.jm_world.specs.Loading.{strings_type, main_type, main_in}
-use Rattle.jm_linked.specs.declared.later.LaterPart.{LaterPart}
-use Rattle.jm_linked.specs.declared.later.LaterPart.TheVariants as later
 use Rattle.jm_linked.specs.declared.method.LinkedMethod.{LinkedMethod}
-use Rattle.jm_linked.specs.Later.{is_main_method, later_instruction, first_later, unless_empty, later_code, later_superclass, other_method, later_class, later_part}
-use Rattle.jm_linked.specs.Links.{AllLink, member_name, name_in_class}
+use Rattle.jm_linked.specs.Kinds.{kind_of}
+use Rattle.jm_linked.specs.Later.{is_main_method, later_part}
+use Rattle.jm_linked.specs.Links.{LinkedView, AllLink, handler_of, member_name, name_in_class}
+use Rattle.jm_linked.proofs.Whole.{whole_method}
 use Rattle.jm_linker.specs.MainLinks.{LinksMain}
-use Rattle.jm_linker.proofs.CodeLaws.{neither, none_at}
 
 -- the method at a place, after others that are not main
 pub main_here : (ms : List Method) (i : ℕ) (m : Method) → i < length ms → m ≡ get_or ms i m → is_main_method m ≡ true → method_in ms (codes "main") main_type ≡ method_in (drop i ms) (codes "main") main_type → method_in ms (codes "main") main_type ≡ slice_get ms i
@@ -108,30 +107,6 @@ named_main c cs m e =
     ap (λ b. method_of_class (elim b as (λ _. Option ClassParts) [ true ↦ Some c | false ↦ class_among cs c.name ]) (name_of_method (record { class = c; method = m }))) (nat_list_eq_equiv.refl c.name)
     ∙ ap (λ n. method_in c.methods n m.descriptor) is.name ∙ ap (λ t. method_in c.methods (codes "main") t) is.type ∙ e
 
--- no part of main comes later
-code_whole : (c : ClassParts) (cs : List ClassParts) (i : ℕ) (m : Method) → later_part (c ∷ cs) ≡ None → slice_get c.methods i ≡ Some m → later_code m.code ≡ None
-unfolding later_part
-code_whole c cs i m e at =
-    let class : later_class true c ≡ None = (neither (later_class true c) (first_later (later_class false) cs) e).0 in
-    let past_super = (neither (later_superclass c.superclass) _ class).1 in
-    let past_interfaces = (neither (unless_empty later.Interfaces c.interfaces) _ past_super).1 in
-    let past_fields = (neither (unless_empty later.Fields c.fields) _ past_interfaces).1 in
-    let codes_whole : first_later (λ m. later_code m.code) c.methods ≡ None = (neither (first_later (other_method true) c.methods) _ past_fields).1 in
-    none_at (λ (m : Method). later_code m.code) c.methods i m codes_whole (slice_get_within c.methods i m at) (sym (get_or_from_slice_get c.methods i m m at))
-
-empty_if : {A : Type 0} (part : LaterPart) (xs : List A) → unless_empty part xs ≡ None → xs ≡ []
-empty_if part [] e = refl
-empty_if part (x ∷ xs) e = cc
-
-record IsWhole (code : Code) : Type 0 where
-  instructions : first_later later_instruction code.instructions ≡ None
-  handlers : code.handlers ≡ []
-
-whole_code : (o : Option Code) (code : Code) → o ≡ Some code → later_code o ≡ None → IsWhole code
-whole_code o code is e =
-    let parts : (first_later later_instruction code.instructions ≡ None) × (unless_empty later.Handlers code.handlers ≡ None) = neither _ _ (sym (ap later_code is) ∙ e) in
-    record { instructions = parts.0; handlers = empty_if later.Handlers code.handlers parts.1 }
-
 -- the instructions of a method of a class fit
 all_get : {A : Type 0} (p : A → Bool) (xs : List A) (i : ℕ) (x : A) → list_all p xs ≡ true → slice_get xs i ≡ Some x → p x ≡ true
 all_get p [] i x e at = cc
@@ -149,40 +124,34 @@ instructions_fit c i m code fits at is =
     let good : code_fits (method_slots m) code ≡ true = (both _ _ of_code).1 in
     (both _ _ (both _ _ (both _ _ good).0).0).1
 
--- the code of main, before it is linked
-pub main_whole : (program : List ClassParts) (c : ClassParts) (i : ℕ) (m : Method) (code : Code) → slice_get program 0 ≡ Some c → later_part program ≡ None → slice_get c.methods i ≡ Some m → m.code ≡ Some code → first_later later_instruction code.instructions ≡ None
-main_whole [] c i m code first whole at is = cc
-main_whole (k ∷ ks) c i m code first whole at is =
-    (whole_code m.code code is (code_whole c ks i m (ap (λ d. later_part (d ∷ ks)) (same first) ∙ whole) at)).instructions
-  where
-    same : Some k ≡ Some c → c ≡ k
-    same g = cc
-
 -- the linked main
-pub main_links : (program : List ClassParts) (c : ClassParts) (i : ℕ) (m : Method) (code : Code) (l : LinkedMethod) → slice_get program 0 ≡ Some c → Fits c → later_part program ≡ None → method_in c.methods (codes "main") main_type ≡ slice_get c.methods i → slice_get c.methods i ≡ Some m → m.code ≡ Some code → AllLink l.code code.instructions → l.class ≡ 0 → l.member ≡ i → l.max_stack ≡ code.max_stack → l.max_locals ≡ code.max_locals → LinksMain program l
-main_links [] c i m code l first fits whole main at is links class member stack locals = cc
-main_links (k ∷ ks) c i m code l first fits whole main at is links class member stack locals =
+pub main_links : (program : List ClassParts) (c : ClassParts) (i : ℕ) (m : Method) (code : Code) (l : LinkedMethod) → slice_get program 0 ≡ Some c → Fits c
+    → later_part program ≡ None → method_in c.methods (codes "main") main_type ≡ slice_get c.methods i → slice_get c.methods i ≡ Some m → m.code ≡ Some code
+    → ((v : LinkedView) → AllLink v l.code code.instructions) → l.class ≡ 0 → l.member ≡ i → l.result ≡ option_map kind_of m.descriptor.return_type
+    → l.max_stack ≡ code.max_stack → l.max_locals ≡ code.max_locals → l.handlers ≡ [] → LinksMain program l
+main_links [] c i m code l first fits whole main at is links class member result stack locals handlers = cc
+main_links (k ∷ ks) c i m code l first fits whole main at is links class member result stack locals handlers =
     let at_class : slice_get (k ∷ ks) l.class ≡ Some c = ap (slice_get (k ∷ ks)) class ∙ first in
     let at_member : slice_get c.methods l.member ≡ Some m = ap (slice_get c.methods) member ∙ at in
     let found : method_in c.methods (codes "main") main_type ≡ Some m = main ∙ at in
     let this : c ≡ k = same first in
-    let all : IsWhole code = whole_code m.code code is (code_whole c ks i m (ap (λ d. later_part (d ∷ ks)) this ∙ whole) at) in
-    let main_is : IsMain m = is_main_of c.methods m found in
+    let name = name_of_method (record { class = c; method = m }) in
+    let none : code.handlers ≡ [] = (whole_method (k ∷ ks) 0 i c m code whole first at is).handlers in
     record {
-      links = record {
+      links = λ v e. record {
         class = c;
         method = m;
         code = code;
-        class_is = at_class;
+        class_is = ap (λ p. slice_get p l.class) e ∙ at_class;
         method_is = at_member;
         code_is = is;
-        named = ap (λ d. method_named (d ∷ ks) (name_of_method (record { class = c; method = m }))) (sym this) ∙ named_main c ks m found;
-        returns = ap (λ (d : MethodDescriptor). d.return_type) main_is.type;
+        named = ap (λ p. method_named p name) e ∙ ap (λ d. method_named (d ∷ ks) name) (sym this) ∙ named_main c ks m found;
+        result = result;
         max_stack = stack;
         max_locals = locals;
-        handlers = all.handlers;
-        instructions = links;
+        instructions = links v;
         fits = instructions_fit c i m code fits at is;
+        handlers = ap (map (handler_of v)) handlers ∙ sym none;
       };
       found = record { class = c; method = m };
       found_is = ap (λ d. main_in (d ∷ ks)) (sym this) ∙ ap (λ o. elim o as (λ _. Option FoundMethod) [ None ↦ None | Some d ↦ Some (record { class = c; method = d }) ]) found;

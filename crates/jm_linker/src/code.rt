@@ -3,7 +3,7 @@
 ghost use Rattle.std.specs.Prelude.{◌≡◌, IfOk, None};
 ghost use Rattle.jm_program.specs.declared.instruction.symbolic.Instr.TheVariants as instr;
 ghost use Rattle.jm_linked.specs.Later.{later_constant, later_instruction, first_later};
-ghost use Rattle.jm_linked.specs.Links.{Links, AllLink};
+ghost use Rattle.jm_linked.specs.Links.{LinkedView, Links, AllLink};
 
 use crate::later::print_method;
 use jm_linked::LinkedInstr;
@@ -12,7 +12,7 @@ use std::alloc::{AllocError, Global};
 
 fn link_constant(constant: &Constant) -> LinkedInstr
     requires { later_constant constant.now ≡ None }
-    ensures { Links result (instr.Constant constant.now) }
+    ensures { (l : LinkedView) → Links l result (instr.Constant constant.now) }
 {
     match constant {
         Constant::Int(number) => LinkedInstr::Int(*number),
@@ -24,7 +24,7 @@ fn link_constant(constant: &Constant) -> LinkedInstr
 #[tactic(auto, using(crate::proofs::CodeLaws::system_out, crate::proofs::CodeLaws::print_found))]
 fn link_instruction(instruction: &Instr) -> Result<LinkedInstr, AllocError>
     requires { later_instruction instruction.now ≡ None }
-    ensures { IfOk result (λ l. Links l instruction.now) }
+    ensures { IfOk result (λ linked. (l : LinkedView) → Links l linked instruction.now) }
 {
     match instruction {
         Instr::Plain(plain) => Ok(LinkedInstr::Plain(plain.share()?)),
@@ -39,10 +39,10 @@ fn link_instruction(instruction: &Instr) -> Result<LinkedInstr, AllocError>
     }
 }
 
-/// The instructions with their names resolved.
+/// The instructions with their names resolved, in whichever linked program they stand.
 pub fn link_code(alloc: Global, instructions: &[Instr]) -> Result<Sequence<LinkedInstr>, AllocError>
     requires { first_later later_instruction instructions.now ≡ None }
-    ensures { IfOk result (λ linked. AllLink linked instructions.now) }
+    ensures { IfOk result (λ linked. (l : LinkedView) → AllLink l linked instructions.now) }
 {
     let mut linked = Vec::new(alloc);
     for instruction in instructions {

@@ -1,9 +1,10 @@
 // The method with which a run begins.
 
-ghost use Rattle.std.specs.Prelude.{◌≡◌, ◌<◌, None, true, MatchOption, MatchResult, length, slice_get, codes, not};
+ghost use Rattle.std.specs.Prelude.{◌≡◌, ◌<◌, None, true, MatchOption, MatchResult, length, slice_get, codes, not, option_map};
 ghost use Rattle.jm_world.specs.Classes.{method_in};
 ghost use Rattle.jm_world.specs.Loading.{main_type, main_in};
 ghost use Rattle.jm_world.specs.Loads.{is_main, when, no_main};
+ghost use Rattle.jm_linked.specs.Kinds.{kind_of};
 ghost use Rattle.jm_linked.specs.Later.{later_part};
 ghost use Rattle.jm_linker.specs.Answers.{Answers, IsOutOfMemory};
 ghost use Rattle.jm_linker.specs.MainLinks.{LinksMain};
@@ -11,8 +12,8 @@ ghost use Rattle.jm_linker.specs.MainLinks.{LinksMain};
 use crate::code::link_code;
 use crate::fault::LinkFault;
 use crate::later::is_main_method;
-use jm_linked::LinkedMethod;
-use jm_program::{AccessFlags, Class, Method};
+use jm_linked::{LinkedMethod, ValueKind};
+use jm_program::{AccessFlags, Class, Method, MethodDescriptor, Sequence};
 use std::alloc::Global;
 
 /// The number of `main([Ljava/lang/String;)V` among the methods of a class.
@@ -54,6 +55,15 @@ pub fn check_main(program: &[Class]) -> Result<(), LinkFault>
     }
 }
 
+fn result_kind(descriptor: &MethodDescriptor) -> Option<ValueKind>
+    ensures { result ≡ option_map kind_of descriptor.now.return_type }
+{
+    match &descriptor.return_type {
+        Some(field_type) => Some(ValueKind::of(field_type)),
+        None => None,
+    }
+}
+
 /// The first class's main with its names resolved. The one error is that memory was refused, or
 /// that more than 2^32 methods stand before it.
 pub fn link_main(alloc: Global, program: &[Class]) -> Result<LinkedMethod, LinkFault>
@@ -69,7 +79,8 @@ pub fn link_main(alloc: Global, program: &[Class]) -> Result<LinkedMethod, LinkF
     let Some(number) = main_number(methods) else {
         unreachable!()
     };
-    let Some(code) = &methods[number].code else {
+    let method = &methods[number];
+    let Some(code) = &method.code else {
         unreachable!()
     };
     let Ok(member) = u32::try_from(number) else {
@@ -79,8 +90,10 @@ pub fn link_main(alloc: Global, program: &[Class]) -> Result<LinkedMethod, LinkF
     Ok(LinkedMethod {
         class: 0,
         member,
+        result: result_kind(&method.descriptor),
         max_stack: code.max_stack,
         max_locals: code.max_locals,
         code: linked,
+        handlers: Sequence::new(Vec::new(alloc)),
     })
 }

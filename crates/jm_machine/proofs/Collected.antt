@@ -2,9 +2,10 @@
 use Rattle.std.proofs.Common.{◌≡◌, ℕ, ◌<◌, List, [], ◌∷◌, Option, Some, None, refl, sym, ◌∙◌, length, arith, zero, suc}
 use Rattle.std.specs.Prelude.{slice_get, option_map, Result, Ok, Err, OnOk}
 use Rattle.jm_values.specs.declared.value.Value.{Value}
-use Rattle.jm_world.specs.Content.{Content, object_at}
+use Rattle.jm_values.specs.Content.{Content, object_at}
 use Rattle.jm_world.specs.Matches.{Matches, as_named}
-use Rattle.jm_world.specs.Objects.{Object, ObjectOf}
+use Rattle.jm_world.specs.Objects.{Object}
+use Rattle.jm_values.specs.Objects.{ObjectOf}
 use Rattle.jm_world.specs.Types.{ObjectType}
 use Rattle.jm_world.specs.World.{World}
 use Rattle.jm_world.specs.declared.class_state.ClassState.{ClassState}

@@ -6,7 +6,7 @@ use Rattle.std.proofs.lemmas.List.{length-map}
 use Rattle.jm_values.specs.declared.value.Value.{Value}
 use Rattle.jm_world.specs.World.{World, Thread, thread_at, is_running, live_among}
 use Rattle.jm_world.specs.Renaming.{rename_thread}
-use Rattle.jm_world.specs.Content.{Content, name_of}
+use Rattle.jm_values.specs.Content.{Content, name_of}
 use Rattle.jm_world.specs.Next.{Next, goes, stops, blocks}
 use Rattle.jm_world.specs.Matches.{Parts, Matches}
 use Rattle.jm_world.specs.Run.{After, after, after_event, after_thread, after_step, answered, reply}

@@ -7,7 +7,7 @@ use Rattle.jm_values.specs.Rename.{refs, value_shape, locals_shape, stack_shape,
 use Rattle.jm_values.specs.declared.value.Value.{Value}
 use Rattle.jm_values.proofs.Among.{among_left, among_right}
 use Rattle.jm_frames.specs.FrameView.{FrameView}
-use Rattle.jm_world.specs.Content.{Content, AllResident, serial_at}
+use Rattle.jm_values.specs.Content.{Content, AllResident, serial_at}
 use Rattle.jm_world.specs.Frames.{optional_number_shape}
 use Rattle.jm_state.specs.Places.{method_shape}
 

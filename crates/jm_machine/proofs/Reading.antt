@@ -7,8 +7,8 @@ use Rattle.jm_values.specs.Shape.{Among, list_shape}
 use Rattle.jm_values.specs.Rename.{stack_shape}
 use Rattle.jm_values.specs.declared.value.Value.{Value}
 use Rattle.jm_values.proofs.Among.{among_left, among_right}
-use Rattle.jm_world.specs.Content.{Content, IsSound, AllResident, serial_at, name_of}
-use Rattle.jm_world.specs.Content as content
+use Rattle.jm_values.specs.Content.{Content, IsSound, AllResident, serial_at, name_of}
+use Rattle.jm_values.specs.Content as content
 use Rattle.jm_world.specs.Frames.{rename_frame, optional_number_shape}
 use Rattle.jm_world.specs.Loading.{first_statics}
 use Rattle.jm_world.specs.Matches.{Matches, as_named}

@@ -12,13 +12,13 @@ use Rattle.jm_values.specs.Rename.{locals_shape, rename_activation}
 use Rattle.jm_values.specs.declared.value.Value.{Value}
 use Rattle.jm_values.specs.declared.value.Value.TheVariants.{Ref}
 use Rattle.jm_world.specs.Classes.{name_of_method, MethodName, method_named, print_stream_class, string_class}
-use Rattle.jm_world.specs.Objects.{Object, new_array}
+use Rattle.jm_world.specs.Objects.{Object, cells_of_all, new_array, size_of}
 use Rattle.jm_world.specs.Frames.{Frame, method_frame, initialization_frame, rename_frame}
 use Rattle.jm_world.specs.World.{Static, running, is_running, refs_thread}
-use Rattle.jm_world.specs.Content.{Content, AllResident, name_of, serial_at, object_at}
+use Rattle.jm_values.specs.Content.{Content, AllResident, name_of, serial_at, object_at}
 use Rattle.jm_world.specs.Renaming.{static_shape, rename_thread}
 use Rattle.jm_world.specs.Invocation.{padded, unset, locals_of, activation_of}
-use Rattle.jm_world.specs.Loading.{loaded_world, first_objects, objects_from, literals_from, literal_texts, first_statics, first_thread, first_frames as model_frames, main_in, out_field, statics_of_class, is_too_small, cells_of_all}
+use Rattle.jm_world.specs.Loading.{loaded_world, first_objects, objects_from, literals_from, literal_texts, first_statics, first_thread, first_frames as model_frames, main_in, out_field, statics_of_class, is_too_small}
 use Rattle.jm_world.specs.Matches.{Matches, places, as_named}
 use Rattle.jm_world.specs.declared.class_state.ClassState.{ClassState}
 use Rattle.jm_world.specs.declared.class_state.ClassState.TheVariants.{NotBegun, Failed}
@@ -65,7 +65,7 @@ unfolding named_type class_name_of
 arguments_named program = refl
 
 module _ (l : LinkedView) (linked : IsLinked l) where
-  links : MethodLinks l.program linked.main
+  links : MethodLinks l linked.main
   links = linked.methods l.main linked.main linked.main_is
 
   names_agree : name_of_method (record { class = links.class; method = links.method }) ≡ name_of_method linked.found
@@ -217,6 +217,7 @@ starts_lists l out array t ts ss states i f p e ts_are ss_are s =
 
 -- where they are too small for a heap
 pub too_small : (l : LinkedView) (limit : ℕ) → IsLinked l → is_too_small l.program limit ≡ nat_lt limit 5
+unfolding size_of
 too_small l limit i = ap (λ ts. nat_lt limit (2 + (3 + cells_of_all (objects_from 2 ts)))) (no_literals l.program i.whole)
 
 pub has_room : (l : LinkedView) (limit : ℕ) → IsLinked l → is_too_small l.program limit ≡ false → 5 ≤ limit

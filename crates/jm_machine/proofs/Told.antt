@@ -13,10 +13,10 @@ use Rattle.jm_values.specs.Rename.{rename, refs, value_shape, stack_shape}
 use Rattle.jm_values.specs.declared.value.Value.{Value}
 use Rattle.jm_values.specs.declared.value.Value.TheVariants.{Ref}
 use Rattle.jm_world.specs.Classes.{name_of_method, method_named}
-use Rattle.jm_world.specs.Content.{Content, IsSound, AllResident, HasValue, serial_at, object_at, name_of}
+use Rattle.jm_values.specs.Content.{Content, IsSound, AllResident, HasValue, serial_at, object_at, name_of}
 use Rattle.jm_world.specs.Loading.{first_statics, out_field}
 use Rattle.jm_world.specs.Matches.{as_named}
-use Rattle.jm_world.specs.Objects.{ObjectOf}
+use Rattle.jm_values.specs.Objects.{ObjectOf}
 use Rattle.jm_world.specs.Renaming.{static_shape}
 use Rattle.jm_world.specs.World.{Static}
 use Rattle.jm_heap.specs.declared.class_id.ClassId.{ClassId}
@@ -30,7 +30,7 @@ use Rattle.jm_machine.proofs.Parted.{among_element}
 
 -- the method of a number
 module _ (l : LinkedView) (linked : IsLinked l) (n : ℕ) (m : LinkedMethod) (at : slice_get l.methods n ≡ Some m) where
-  links : MethodLinks l.program m
+  links : MethodLinks l m
   links = linked.methods n m at
 
   pub class_within : m.class < length l.program

@@ -1,8 +1,8 @@
 -- What a collection leaves.
 use Rattle.std.specs.Prelude.{◌≡◌, ◌↔◌, ℕ, Some, None}
 use Rattle.jm_values.specs.Shape.{Among}
-use Rattle.jm_world.specs.Content.{Content, object_at}
-use Rattle.jm_world.specs.Objects.{ObjectOf}
+use Rattle.jm_values.specs.Content.{Content, object_at}
+use Rattle.jm_values.specs.Objects.{ObjectOf}
 use Rattle.jm_world.specs.World.{World, reach}
 use Rattle.jm_world.specs.declared.event.Event.{Event}
 use Rattle.jm_world.specs.declared.event.Event.TheVariants.{Step, Minor, Full}

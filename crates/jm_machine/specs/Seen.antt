@@ -2,10 +2,11 @@
 use Rattle.std.specs.Prelude.{ℕ, List, [], Option, Some, None}
 use Rattle.jm_values.specs.Shape.{list_shape}
 use Rattle.jm_values.specs.declared.value.Value.{Value}
-use Rattle.jm_world.specs.Content.{Content, object_at, name_of}
+use Rattle.jm_values.specs.Content.{Content, object_at, name_of}
 use Rattle.jm_world.specs.Loading.{first_statics}
 use Rattle.jm_world.specs.Matches.{as_named}
-use Rattle.jm_world.specs.Objects.{Object, ObjectOf}
+use Rattle.jm_values.specs.Objects.{ObjectOf}
+use Rattle.jm_world.specs.Objects.{Object}
 use Rattle.jm_world.specs.Renaming.{static_shape}
 use Rattle.jm_world.specs.Types.{ObjectType, instance_of}
 use Rattle.jm_world.specs.World.{Static}

@@ -2,8 +2,8 @@
 use Rattle.std.specs.Prelude.{◌≡◌, ℕ, List, [], ◌∷◌, Some, None, Result, Ok, Err, true, false}
 use Rattle.jm_program.specs.declared.class.ClassParts.{ClassParts}
 use Rattle.jm_values.specs.declared.value.Value.TheVariants.{Ref}
-use Rattle.jm_world.specs.Objects.{ObjectOf}
-use Rattle.jm_world.specs.Content.{Content, IsSound, serial_at, object_at}
+use Rattle.jm_values.specs.Objects.{ObjectOf}
+use Rattle.jm_values.specs.Content.{Content, IsSound, serial_at, object_at}
 use Rattle.jm_world.specs.Invocation.{padded, locals_of}
 use Rattle.jm_world.specs.Loading.{loaded_world, is_too_small}
 use Rattle.jm_world.specs.declared.stage.Stage.TheVariants.{Begin}

@@ -2,7 +2,7 @@
 use Rattle.std.specs.Prelude.{ℕ, List, Option}
 use Rattle.jm_values.specs.declared.value.Value.{Value}
 use Rattle.jm_world.specs.World.{World}
-use Rattle.jm_world.specs.Content.{Content}
+use Rattle.jm_values.specs.Content.{Content}
 use Rattle.jm_world.specs.Matches.{Parts, Matches}
 use Rattle.jm_world.specs.declared.class_state.ClassState.{ClassState}
 use Rattle.jm_world.specs.declared.stop.Stop.{Stop}

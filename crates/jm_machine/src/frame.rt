@@ -1,7 +1,7 @@
 // Frames as readers tell them.
 
 ghost use Rattle.std.specs.Prelude.{◌≡◌, ◌<◌, length, option_map, slice_get, Some};
-ghost use Rattle.jm_world.specs.Content.{AllResident, name_of};
+ghost use Rattle.jm_values.specs.Content.{AllResident, name_of};
 ghost use Rattle.jm_world.specs.Classes.{method_named};
 ghost use Rattle.jm_values.specs.Rename.{activation_shape};
 ghost use Rattle.jm_world.specs.Frames.{rename_frame, optional_number_shape};
@@ -32,7 +32,7 @@ pub struct MethodFrame<'a, H: Heap> {
 
 impl<'a, H: Heap> Model for MethodFrame<'a, H> {
     ghost use Rattle.jm_values.specs.Rename.{activation_shape};
-    ghost use Rattle.jm_world.specs.Content.{AllResident, name_of};
+    ghost use Rattle.jm_values.specs.Content.{AllResident, name_of};
     ghost use Rattle.jm_world.specs.Frames.{optional_number_shape};
     ghost use Rattle.jm_state.specs.Places.{method_shape};
     ghost use Rattle.jm_machine.specs.MethodFrames.{MethodFrameView};

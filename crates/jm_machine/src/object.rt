@@ -1,7 +1,7 @@
 // Objects as readers tell them.
 
 ghost use Rattle.std.specs.Prelude.{◌≡◌, ℕ, length, option_map, slice_get, Some};
-ghost use Rattle.jm_world.specs.Content.{IsSound, serial_at};
+ghost use Rattle.jm_values.specs.Content.{IsSound, serial_at};
 ghost use Rattle.jm_linked.specs.Links.{class_name_of};
 ghost use Rattle.jm_state.specs.Parts.{named_type, element_named};
 ghost use Rattle.jm_machine.specs.Readers.{model_value, model_element, model_type};
@@ -47,7 +47,7 @@ pub struct WorldObject<'a, H: Heap> {
 
 impl<'a, H: Heap> Model for WorldObject<'a, H> {
     ghost use Rattle.std.specs.Prelude.{◌≡◌, ℕ, Some};
-    ghost use Rattle.jm_world.specs.Content.{IsSound, serial_at};
+    ghost use Rattle.jm_values.specs.Content.{IsSound, serial_at};
     ghost use Rattle.jm_world.specs.Objects.{Object};
     ghost use Rattle.jm_machine.specs.Seen.{object_seen};
 

@@ -2,7 +2,7 @@
 
 ghost use Rattle.std.specs.Prelude.{◌≡◌, length, option_map, slice_get};
 ghost use Rattle.jm_values.specs.Rename.{stack_shape};
-ghost use Rattle.jm_world.specs.Content.{AllResident};
+ghost use Rattle.jm_values.specs.Content.{AllResident};
 ghost use Rattle.jm_world.specs.Loading.{first_statics};
 ghost use Rattle.jm_machine.specs.Readers.{model_static};
 ghost use Rattle.jm_machine.specs.Seen.{statics_seen};
@@ -39,7 +39,7 @@ pub struct WorldStatics<'a, H: Heap> {
 impl<'a, H: Heap> Model for WorldStatics<'a, H> {
     ghost use Rattle.std.specs.Prelude.{◌≡◌, List, length};
     ghost use Rattle.jm_values.specs.Rename.{stack_shape};
-    ghost use Rattle.jm_world.specs.Content.{AllResident};
+    ghost use Rattle.jm_values.specs.Content.{AllResident};
     ghost use Rattle.jm_world.specs.Loading.{first_statics};
     ghost use Rattle.jm_world.specs.World.{Static};
     ghost use Rattle.jm_machine.specs.Seen.{statics_seen};

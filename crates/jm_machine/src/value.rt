@@ -3,7 +3,7 @@
 ghost use Rattle.std.specs.Prelude.{◌≡◌, option_map};
 ghost use Rattle.jm_values.specs.Rename.{rename, refs, value_shape};
 ghost use Rattle.jm_values.specs.Shape.{option_shape};
-ghost use Rattle.jm_world.specs.Content.{AllResident, name_of};
+ghost use Rattle.jm_values.specs.Content.{AllResident, name_of};
 ghost use Rattle.jm_machine.specs.Readers.{model_value};
 
 use jm_heap::Heap;

@@ -3,9 +3,9 @@ use Rattle.std.proofs.Common.{◌≡◌, ◌⊎◌, ℕ, zero, suc, ◌<◌, Lis
 use Rattle.std.specs.Prelude.{slice_get, slice_set}
 use Rattle.jm_values.specs.declared.value.Value.{Value}
 use Rattle.jm_values.specs.Shape.{Among}
-use Rattle.jm_world.specs.Objects.{ObjectOf}
-use Rattle.jm_world.specs.Content.{Content, IsSound, AllResident, Kept, Made, IsSet, HasValue, serial_at, object_at}
-use Rattle.jm_world.proofs.SoundContents.{object_of_place}
+use Rattle.jm_values.specs.Objects.{ObjectOf}
+use Rattle.jm_values.specs.Content.{Content, IsSound, AllResident, Kept, Made, IsSet, HasValue, serial_at, object_at}
+use Rattle.jm_values.proofs.SoundContents.{object_of_place}
 use Rattle.jm_heap.specs.Allocation.{MadeHere}
 use Rattle.jm_heap.specs.declared.class_id.ClassId.{ClassId}
 use Rattle.jm_mutator.specs.Ready.{IsReady}
@@ -90,11 +90,11 @@ placed_resident : {T : Type 0} (c : Content T) (p k : ℕ) → serial_at c p ≡
 placed_resident c p k e q (inl i) = (k, subst (λ n. serial_at c n ≡ Some k) (sym i) e)
 placed_resident c p k e q (inr b) = absurd b
 
-pub made_ready : {T : Type 0} (headers : T → ℕ) (old : Content T) (roots : List ℕ) (new : Content T) (moved pushed : List ℕ) (p : ℕ) (o : ObjectOf T) → Made headers old roots new moved p o → pushed ≡ moved ++ p ∷ [] → IsReady new pushed
-made_ready headers old roots new moved pushed p o m e = rw e (held_with new moved p (kept_ready old new roots moved m.kept) (old.next, m.placed))
+pub made_ready : {T : Type 0} (sizes : T → ℕ → ℕ) (old : Content T) (roots : List ℕ) (new : Content T) (moved pushed : List ℕ) (p : ℕ) (o : ObjectOf T) → Made sizes old roots new moved p o → pushed ≡ moved ++ p ∷ [] → IsReady new pushed
+made_ready sizes old roots new moved pushed p o m e = rw e (held_with new moved p (kept_ready old new roots moved m.kept) (old.next, m.placed))
 
-pub made_place : {T : Type 0} (headers : T → ℕ) (old : Content T) (roots : List ℕ) (new : Content T) (moved : List ℕ) (p : ℕ) (o : ObjectOf T) → Made headers old roots new moved p o → IsReady new moved × AllResident new (p ∷ [])
-made_place headers old roots new moved p o m = (kept_ready old new roots moved m.kept, placed_resident new p old.next m.placed)
+pub made_place : {T : Type 0} (sizes : T → ℕ → ℕ) (old : Content T) (roots : List ℕ) (new : Content T) (moved : List ℕ) (p : ℕ) (o : ObjectOf T) → Made sizes old roots new moved p o → IsReady new moved × AllResident new (p ∷ [])
+made_place sizes old roots new moved p o m = (kept_ready old new roots moved m.kept, placed_resident new p old.next m.placed)
 
 pub made_here_ready : (old new : Content ClassId) (ps : List ℕ) (p : ℕ) (o : ObjectOf ClassId) → IsReady old ps → MadeHere old new p o → IsReady new ps × AllResident new (p ∷ [])
 made_here_ready old new ps p o r m =

@@ -4,7 +4,7 @@
 //! what was wanted.
 //!
 //! Its contract: each call asks for a sound heap that has an object for each register, and leaves one
-//! (`specs/Ready`). The crate stands on `jm_heap`, `jm_values`, `jm_program` and `jm_world`;
+//! (`specs/Ready`). The crate stands on `jm_heap`, `jm_values` and `jm_program`;
 //! `jm_run_tests` runs the functions for each kind of heap, and `jm_bench` works a heap by a mutator.
 #![tactic(auto)]
 

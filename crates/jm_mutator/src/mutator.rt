@@ -4,8 +4,8 @@ ghost use Rattle.std.specs.Prelude.{◌≡◌, ◌<◌, ◌++◌, ◌∷◌, [],
 ghost use Rattle.jm_values.specs.declared.value.Value.{Value};
 ghost use Rattle.jm_values.specs.Shape.{Among};
 ghost use Rattle.jm_values.specs.Rename.{refs};
-ghost use Rattle.jm_world.specs.Objects.{ObjectOf};
-ghost use Rattle.jm_world.specs.Content.{IsSound, AllResident, HasValue, serial_at, object_at};
+ghost use Rattle.jm_values.specs.Objects.{ObjectOf};
+ghost use Rattle.jm_values.specs.Content.{IsSound, AllResident, HasValue, serial_at, object_at};
 ghost use Rattle.jm_heap.specs.declared.class_id.ClassId.{ClassId};
 ghost use Rattle.jm_mutator.specs.Ready.{IsReady};
 

@@ -8,9 +8,10 @@ use Rattle.std.proofs.lemmas.Bool.{le-ltb}
 use Rattle.jm_program.specs.declared.class.ClassParts.{ClassParts}
 use Rattle.jm_values.specs.Shape.{Among}
 use Rattle.jm_values.specs.declared.value.Value.{Value}
-use Rattle.jm_world.specs.Objects.{ObjectOf, Object, header, size, size_by}
+use Rattle.jm_values.specs.Objects.{ObjectOf, size_by}
+use Rattle.jm_world.specs.Objects.{Object, size_of, size}
 use Rattle.jm_world.specs.World.{World, reach, reach_cells}
-use Rattle.jm_world.specs.Content.{Content, IsSound, Kept, Made, AllResident, Reached, used_by}
+use Rattle.jm_values.specs.Content.{Content, IsSound, Kept, Made, AllResident, Reached, used_by}
 use Rattle.jm_world.specs.Loading.{first_statics}
 use Rattle.jm_world.specs.Matches.{Matches, places, as_named}
 use Rattle.jm_world.specs.Next.{Next, make, stops, exception}
@@ -20,7 +21,7 @@ use Rattle.jm_world.specs.declared.stop.Stop.TheVariants.{HeapFull, SerialsEnd}
 use Rattle.jm_world.proofs.Matching.{reaches_alike}
 use Rattle.jm_world.proofs.Reaching.{reach_is_least}
 use Rattle.jm_heap.specs.Allocation.{IsRefused, IsRefusedHere, MadeHere}
-use Rattle.jm_heap.specs.Cells.{header_cells}
+use Rattle.jm_heap.specs.Cells.{class_size}
 use Rattle.jm_heap.specs.Collection.{LeavesReached}
 use Rattle.jm_heap.specs.declared.heap.Kind.{Kind}
 use Rattle.jm_heap.specs.declared.heap.Kind.TheVariants.{Minor, Full}
@@ -37,14 +38,11 @@ use Rattle.jm_state.specs.declared.thread.Thread.{Thread}
 use Rattle.jm_state.proofs.Moved.{NamesAlike, same_alike, kept_matches, made_matches, made_lies}
 use Rattle.jm_state.proofs.PlacesOfParts.{places_are}
 
--- a heap counts an object's header as the world does
-headers_alike : (program : List ClassParts) (t : ClassId) → header (named_type program t) ≡ header_cells t
-unfolding named_type
-headers_alike program (Instance n) = refl
-headers_alike program (Array component) = refl
-
-sizes_alike : (program : List ClassParts) (o : ObjectOf ClassId) → size_by header_cells o ≡ size (as_named (named_type program) o)
-sizes_alike program o = ap (λ n. n + length o.values) (sym (headers_alike program o.type))
+-- a heap counts an object's cells as the world does
+sizes_alike : (program : List ClassParts) (t : ClassId) (n : ℕ) → size_of (named_type program t) n ≡ class_size t n
+unfolding named_type size_of class_size
+sizes_alike program (Instance class) n = refl
+sizes_alike program (Array component) n = refl
 
 -- the gathered places have objects
 pub all_resident : (l : LinkedView) (c : Content ClassId) (ts : List Thread) (vs : List Value) (cs : List ClassState) (out : List ℕ) (stop : Option Stop) (w : World) → length vs ≡ length (first_statics l.program) → Matches (parts l c ts vs cs out stop) w → AllResident c (places_of ts vs)
@@ -83,14 +81,14 @@ make_ends w o fits ends go =
 
 module _ (l : LinkedView) (c : Content ClassId) (ts : List Thread) (vs : List Value) (cs : List ClassState) (out : List ℕ) (stop : Option Stop) (w : World) (e : length vs ≡ length (first_statics l.program)) (h : Matches (parts l c ts vs cs out stop) w) (o : ObjectOf ClassId) where
   -- the cells of what the heap would hold are those of what the world would
-  cells_alike : used_by header_cells c (places_of ts vs) + size_by header_cells o ≡ reach_cells w + size (as_named (named_type l.program) o)
+  cells_alike : used_by class_size c (places_of ts vs) + size_by class_size o ≡ reach_cells w + size (as_named (named_type l.program) o)
   unfolding parts
   cells_alike =
-      ap (λ n. n + size_by header_cells o)
-      (ap (used_by header_cells c) (sym (places_are l c ts vs cs out stop e))
-      ∙ ap (λ (headers : ClassId → ℕ). used_by headers c (places (parts l c ts vs cs out stop))) (sym (fun_ext (headers_alike l.program)))
+      ap (λ n. n + size_by class_size o)
+      (ap (used_by class_size c) (sym (places_are l c ts vs cs out stop e))
+      ∙ ap (λ (sizes : ClassId → ℕ → ℕ). used_by sizes c (places (parts l c ts vs cs out stop))) (sym (fun_ext (λ t. fun_ext (sizes_alike l.program t))))
       ∙ (reaches_alike (parts l c ts vs cs out stop) w h).cells)
-      ∙ ap (λ n. reach_cells w + n) (sizes_alike l.program o)
+      ∙ ap (λ n. reach_cells w + n) (sym (sizes_alike l.program o.type (length o.values)))
 
   limits_alike : c.limit ≡ w.limit
   unfolding parts
@@ -101,7 +99,7 @@ module _ (l : LinkedView) (c : Content ClassId) (ts : List Thread) (vs : List Va
   ends_alike = h.next
 
   module _ (c' : Content ClassId) (ts' : List Thread) (vs' : List Value) (moved : List ℕ) (a : NamesAlike l c c' ts ts' vs vs' moved) where
-    pub made_ends : (place : ℕ) → Made header_cells c (places_of ts vs) c' moved place o → MadeOrNot (Ok place) (parts l c' ts' vs' cs out stop) w (as_named (named_type l.program) o)
+    pub made_ends : (place : ℕ) → Made class_size c (places_of ts vs) c' moved place o → MadeOrNot (Ok place) (parts l c' ts' vs' cs out stop) w (as_named (named_type l.program) o)
     unfolding parts
     made_ends place made =
         let cells = cells_alike in let limit = limits_alike in let next = ends_alike in

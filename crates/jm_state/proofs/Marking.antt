@@ -15,11 +15,11 @@ use Rattle.jm_values.specs.Rename.{rename, refs, stack_shape}
 use Rattle.jm_values.specs.declared.value.Value.{Value}
 use Rattle.jm_values.specs.declared.value.Value.TheVariants.{Int, Long, Null, Ref}
 use Rattle.jm_values.proofs.Among.{among_left, among_right}
-use Rattle.jm_world.specs.Objects.{ObjectOf, root, field, refs_of}
-use Rattle.jm_world.specs.Content.{Content, IsSound, AllResident, HasValue, Reached, serial_at, object_at, name_of}
-use Rattle.jm_world.proofs.SoundContents.{serial_below, object_of_place}
-use Rattle.jm_world.specs.Reaching.{AllDistinct}
-use Rattle.jm_world.proofs.Reaching.{reach_within, few_below}
+use Rattle.jm_values.specs.Objects.{ObjectOf, refs_of}
+use Rattle.jm_values.specs.Reach.{root, field, AllDistinct}
+use Rattle.jm_values.specs.Content.{Content, IsSound, AllResident, HasValue, Reached, serial_at, object_at, name_of}
+use Rattle.jm_values.proofs.SoundContents.{serial_below, object_of_place}
+use Rattle.jm_values.proofs.Reaching.{reach_within, few_below}
 use Rattle.jm_state.specs.Reached.{AreReached, IsNamed, MarkedAll}
 
 pub among_both : (n : ℕ) (a b : List ℕ) → Among n (a ++ b) → Among n a ⊎ Among n b

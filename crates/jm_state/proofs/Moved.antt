@@ -8,20 +8,22 @@ use Rattle.jm_values.specs.Rename.{value_shape, stack_shape}
 use Rattle.jm_values.proofs.Among.{same_names}
 use Rattle.jm_values.proofs.Shapes.{list_is_shape, pair_is_shape}
 use Rattle.jm_values.specs.declared.value.Value.{Value}
-use Rattle.jm_world.specs.Objects.{ObjectOf, Object, Reach, root, field, refs_of}
+use Rattle.jm_values.specs.Objects.{ObjectOf, refs_of}
+use Rattle.jm_values.specs.Reach.{Reach, root, field}
+use Rattle.jm_world.specs.Objects.{Object}
 use Rattle.jm_world.specs.World as world
 use Rattle.jm_world.specs.World.{World, roots, reach_cells}
-use Rattle.jm_world.specs.Content.{Content, AllResident, Kept, Made, Reached, name_of, object_at, serial_at}
+use Rattle.jm_values.specs.Content.{Content, AllResident, Kept, Made, Reached, name_of, object_at, serial_at}
 use Rattle.jm_world.specs.Loading.{first_statics}
 use Rattle.jm_world.specs.Matches.{Matches, places, as_named}
 use Rattle.jm_world.specs.Renaming.{thread_shape, static_shape}
 use Rattle.jm_world.specs.declared.class_state.ClassState.{ClassState}
 use Rattle.jm_world.specs.declared.stop.Stop.{Stop}
 use Rattle.jm_world.proofs.Matching.{reaches_alike}
-use Rattle.jm_world.proofs.Reaching.{reach_within}
+use Rattle.jm_values.proofs.Reaching.{reach_within}
 use Rattle.jm_world.proofs.ShapesOfParts.{thread_is_shape, static_is_shape}
 use Rattle.jm_frames.proofs.Refilled.{length_refill}
-use Rattle.jm_heap.specs.Cells.{header_cells}
+use Rattle.jm_heap.specs.Cells.{class_size}
 use Rattle.jm_heap.specs.declared.class_id.ClassId.{ClassId}
 use Rattle.jm_linked.specs.Links.{LinkedView}
 use Rattle.jm_state.specs.Ends.{with_object}
@@ -158,7 +160,7 @@ module _ (l : LinkedView) (c c' : Content ClassId) (ts ts' : List Thread) (vs vs
   }
 
   -- one that made an object matches the world with that object
-  pub made_matches : (place : ℕ) (o : ObjectOf ClassId) → Made header_cells c (places_of ts vs) c' moved place o → Matches (parts l c' ts' vs' cs out stop) (with_object w (as_named (named_type l.program) o))
+  pub made_matches : (place : ℕ) (o : ObjectOf ClassId) → Made class_size c (places_of ts vs) c' moved place o → Matches (parts l c' ts' vs' cs out stop) (with_object w (as_named (named_type l.program) o))
   unfolding parts
   made_matches place o made = record {
     sound = made.kept.sound;
@@ -184,6 +186,6 @@ module _ (l : LinkedView) (c c' : Content ClassId) (ts ts' : List Thread) (vs vs
       before k r = still_reached w.heap new (roots w) h.bound k r
 
   -- the object lies where the world has it
-  pub made_lies : (place : ℕ) (o : ObjectOf ClassId) → Made header_cells c (places_of ts vs) c' moved place o → (serial_at c' place ≡ Some (length w.heap)) × (option_map (as_named (named_type l.program)) (object_at c' (length w.heap)) ≡ Some (as_named (named_type l.program) o))
+  pub made_lies : (place : ℕ) (o : ObjectOf ClassId) → Made class_size c (places_of ts vs) c' moved place o → (serial_at c' place ≡ Some (length w.heap)) × (option_map (as_named (named_type l.program)) (object_at c' (length w.heap)) ≡ Some (as_named (named_type l.program) o))
   unfolding parts
   made_lies place o made = (subst (λ n. serial_at c' place ≡ Some n) h.next made.placed, ap (option_map (as_named (named_type l.program))) (subst (λ n. object_at c' n ≡ Some o) h.next made.filled))

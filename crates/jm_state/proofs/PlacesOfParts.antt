@@ -9,7 +9,7 @@ use Rattle.jm_values.specs.declared.value.Value.{Value}
 use Rattle.jm_world.specs.Frames.{frame_shape, optional_number_shape}
 use Rattle.jm_world.specs.World as world
 use Rattle.jm_world.specs.Frames as world_frames
-use Rattle.jm_world.specs.Content.{Content}
+use Rattle.jm_values.specs.Content.{Content}
 use Rattle.jm_world.specs.Loading.{first_statics}
 use Rattle.jm_world.specs.Matches.{places}
 use Rattle.jm_world.specs.Renaming.{thread_shape, static_shape}

@@ -3,7 +3,7 @@ use Rattle.std.specs.Prelude.{◌≡◌, ℕ, Result, Ok, Err, [], ◌∷◌, �
 use Rattle.jm_world.specs.Objects.{Object}
 use Rattle.jm_world.specs.World.{World}
 use Rattle.jm_world.specs.Next.{Next, goes, stops, blocks, make}
-use Rattle.jm_world.specs.Content.{serial_at, object_at}
+use Rattle.jm_values.specs.Content.{serial_at, object_at}
 use Rattle.jm_world.specs.Matches.{Parts, Matches, as_named}
 use Rattle.jm_world.specs.declared.stop.Stop.TheVariants as stop
 use Rattle.jm_heap.specs.declared.class_id.ClassId.{ClassId}

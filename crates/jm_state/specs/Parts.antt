@@ -7,7 +7,7 @@ use Rattle.jm_values.specs.declared.value.Value.{Value}
 use Rattle.jm_world.specs.Types.{ObjectType, instance_of, array_of}
 use Rattle.jm_world.specs.Frames.{Frame, method_frame, initialization_frame}
 use Rattle.jm_world.specs.World.{Thread, Static, Progress, Ending, running, returned, ended_by}
-use Rattle.jm_world.specs.Content.{Content}
+use Rattle.jm_values.specs.Content.{Content}
 use Rattle.jm_world.specs.Loading.{first_statics}
 use Rattle.jm_world.specs.Matches.{Parts}
 use Rattle.jm_world.specs.declared.class_state.ClassState.{ClassState}

@@ -3,9 +3,9 @@
 ghost use Rattle.std.specs.Prelude.{◌≡◌, ℕ, ◌∷◌, [], OnOk, IfOk, Some, map};
 ghost use Rattle.std.specs.List.Sorted.{IsStrictlyIncreasing};
 ghost use Rattle.jm_values.specs.Rename.{refs};
-ghost use Rattle.jm_world.specs.Content.{IsSound, AllResident, serial_at, object_at, name_of};
+ghost use Rattle.jm_values.specs.Content.{IsSound, AllResident, serial_at, object_at, name_of};
 ghost use Rattle.jm_world.specs.Matches.{Matches};
-ghost use Rattle.jm_world.specs.Objects.{refs_of};
+ghost use Rattle.jm_values.specs.Objects.{refs_of};
 ghost use Rattle.jm_world.specs.World.{World};
 ghost use Rattle.jm_state.specs.Parts.{state_parts};
 ghost use Rattle.jm_state.specs.Reached.{AreReachable, AreReached, FindsReached, FindsReachable, MarkedAll};

@@ -1,9 +1,13 @@
 pub mod Among
 pub mod Shapes
 pub mod Renaming
+pub mod Reaching
+pub mod Agreeing
+pub mod SoundContents
 pub mod NaturalSteps
 pub mod NaturalRows
 pub mod NoNewReferences
+pub mod WorkedReach
 pub mod WorkedStart
 pub mod WorkedLocals
 pub mod WorkedStack

@@ -13,5 +13,8 @@ pub mod Switches
 pub mod PlainRows
 pub mod Shape
 pub mod Rename
+pub mod Objects
+pub mod Reach
+pub mod Content
 pub mod WellFormed
 pub mod Laws

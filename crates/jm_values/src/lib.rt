@@ -5,7 +5,9 @@
 //! `specs/`: `Activation` is the part of a frame that they touch, `Outcome` what comes of one,
 //! `Steps` the words that carry the checks in their order, and then one module for each group of
 //! instructions as JVMS 2.11 groups them, up to `PlainRows`. `Shape` and `Rename` say what it is
-//! to see data under other names of their references.
+//! to see data under other names of their references. `Objects`, `Reach` and `Content` are what
+//! heaps and the model have in common: what an object is, what is reached from roots, and what a
+//! heap contains.
 //!
 //! The module [`laws`] has what holds of all rows: they commute with renaming, bring no new
 //! reference, and keep an activation well formed. The crate stands on `jm_program`.

@@ -19,8 +19,9 @@ use Rattle.jm_program.specs.declared.instruction.operation.TypeOp.{TypeOp}
 use Rattle.jm_program.specs.declared.instruction.operation.TypeOp.TheVariants.{NewArray, CheckCast, InstanceOf}
 use Rattle.jm_values.specs.declared.value.Value.{Value}
 use Rattle.jm_values.specs.declared.value.Value.TheVariants.{Int, Long, Null, Ref}
-use Rattle.jm_world.specs.Types.{ObjectType, instance_of, array_of, operand_of, default_of, default_value, narrow, type_of_ref, primitive_type}
-use Rattle.jm_world.specs.Objects.{Object, FieldName, instance_fields, new_instance, new_array, copies, same_field}
+use Rattle.jm_values.specs.Objects.{default_of, copies}
+use Rattle.jm_world.specs.Types.{ObjectType, instance_of, array_of, operand_of, default_value, narrow, type_of_ref, primitive_type}
+use Rattle.jm_world.specs.Objects.{Object, FieldName, instance_fields, new_instance, new_array, same_field}
 use Rattle.jm_world.specs.World.{World, Literal, Static, literal_in, static_in, set_static_in}
 use Rattle.jm_world.specs.Next.{Next}
 use Rattle.jm_world.specs.Here.{Here, go_on, go_on_in, push, push_new, throws, with_reference, with_object, with_int, when_initialized}

@@ -18,7 +18,7 @@ use Rattle.jm_world.specs.World.{World, Thread, Monitor, with_thread, is_running
 use Rattle.jm_world.specs.Next.{Next, goes, stops, blocks, make, exception, throw}
 use Rattle.jm_world.specs.Here.{Here, with_frames, moved_on, go_on_in, go_on, throws, with_room, push, push_new, with_operand, with_int, with_reference, with_arguments, with_object, with_depth, push_frame, is_ready, all_frames, when_initialized}
 use Rattle.jm_world.specs.Monitors.{monitor_in, without_monitor, recounted, entered, enter, enter_if, left_in, leave, leave_if}
-use Rattle.jm_world.specs.Reaching.{AllDistinct}
+use Rattle.jm_values.specs.Reach.{AllDistinct}
 use Rattle.jm_world.specs.WellFormed.{ValueBelow, ValuesBelow, LocalsBelow, NumberBelow, FrameBelow, FramesBelow, ThreadFits, MonitorFits, IsWellFormed}
 use Rattle.jm_world.specs.declared.stage.Stage.TheVariants.{Begin}
 use Rattle.jm_world.proofs.Fitting.{each_append, each_got, values_more, locals_more, number_more, frames_more, thread_more, with_thread_fits, grown, grown_longer, grown_fits}

@@ -1,6 +1,4 @@
-pub mod SoundContents
 pub mod WholeMachine
-pub mod Agreeing
 pub mod Matching
 pub mod ShapesOfParts
 pub mod Fitting
@@ -18,4 +16,5 @@ pub mod FoundAgain
 pub mod KeepingCode
 pub mod LoadsWellFormed
 pub mod Reaching
+pub mod Making
 pub mod Runs

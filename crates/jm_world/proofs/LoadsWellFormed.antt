@@ -10,9 +10,10 @@ use Rattle.jm_program.specs.declared.instruction.operation.OperandType.TheVarian
 use Rattle.jm_values.specs.Shape.{Among}
 use Rattle.jm_values.specs.Rename.{refs_activation}
 use Rattle.jm_values.specs.declared.value.Value.TheVariants.{Int, Ref}
-use Rattle.jm_world.specs.Types.{operand_of, default_of, default_value}
+use Rattle.jm_values.specs.Objects.{default_of, refs_of}
+use Rattle.jm_world.specs.Types.{operand_of, default_value}
 use Rattle.jm_world.specs.Classes.{FoundMethod}
-use Rattle.jm_world.specs.Objects.{Object, FieldName, field_names, refs_of}
+use Rattle.jm_world.specs.Objects.{Object, FieldName, field_names}
 use Rattle.jm_world.specs.Frames.{Frame, method_frame, initialization_frame, entry_frame, frames_shape, optional_number_shape, refs_frame}
 use Rattle.jm_world.specs.World.{World, Thread, Static, Monitor, Literal, Ending, running, returned, ended_by, roots, refs_thread, refs_static, refs_monitor, refs_literal, object_refs, held_shape}
 use Rattle.jm_world.specs.Loading.{literal_texts, objects_from, literals_from, first_objects, statics_of_class, first_frames, first_thread, main_in, loaded_world}
@@ -21,7 +22,7 @@ use Rattle.jm_world.specs.Reaching.{IsBounded}
 use Rattle.jm_world.specs.WellFormed.{ValueBelow, ValuesBelow, NumberBelow, FrameBelow, FramesBelow, ThreadFits, MonitorFits, IsWellFormed, RunsAreWellFormed}
 use Rattle.jm_world.specs.declared.event.Event.{Event}
 use Rattle.jm_world.proofs.Fitting.{each_append, each_got, among_value, among_values, among_activation, among_append}
-use Rattle.jm_world.proofs.Reaching.{reach_within}
+use Rattle.jm_values.proofs.Reaching.{reach_within}
 use Rattle.jm_world.proofs.InvocationKeepsForm.{locals_below}
 use Rattle.jm_world.proofs.StepsKeepForm.{events_keep_form}
 

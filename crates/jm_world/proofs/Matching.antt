@@ -3,12 +3,14 @@ use Rattle.std.proofs.Common.{◌≡◌, ℕ, List, [], ◌∷◌, ◌++◌, Opt
 use Rattle.std.specs.Prelude.{map, slice_get, option_map}
 use Rattle.jm_values.specs.Shape.{Shape, IsShape, list_shape}
 use Rattle.jm_values.proofs.Shapes.{list_is_shape}
-use Rattle.jm_world.specs.Objects.{ObjectOf, Object, Reach, header, refs_of, cells_of, reached_cells}
+use Rattle.jm_values.specs.Objects.{ObjectOf, refs_of, cells_of}
+use Rattle.jm_values.specs.Reach.{Reach, reached_cells}
+use Rattle.jm_world.specs.Objects.{Object, size_of}
 use Rattle.jm_world.specs.World.{World, roots, reach_cells}
-use Rattle.jm_world.specs.Content.{name_of, object_at, used_by, Reached}
+use Rattle.jm_values.specs.Content.{name_of, object_at, used_by, Reached}
 use Rattle.jm_world.specs.Renaming.{thread_shape, static_shape, monitor_shape, literal_shape}
 use Rattle.jm_world.specs.Matches.{Parts, places, as_named, Matches, ReachesAlike}
-use Rattle.jm_world.proofs.Agreeing.{cells_agree, reach_agree}
+use Rattle.jm_values.proofs.Agreeing.{cells_agree, reach_agree}
 use Rattle.jm_world.proofs.ShapesOfParts.{thread_is_shape, static_is_shape, monitor_is_shape, literal_is_shape}
 
 map_append : (f : ℕ → ℕ) (xs ys : List ℕ) → map f (xs ++ ys) ≡ map f xs ++ map f ys
@@ -42,19 +44,19 @@ module _ {T : Type 0} (m : Parts T) (w : World) (h : Matches m w) where
   refs_alike None p e = ap refs_of (sym e)
   refs_alike (Some o) p e = ap refs_of (sym e)
 
-  cells_alike : (o : Option (ObjectOf T)) (p : Option Object) → option_map (as_named m.named) o ≡ p → cells_of header p ≡ cells_of (λ t. header (m.named t)) o
-  cells_alike None p e = ap (cells_of header) (sym e)
-  cells_alike (Some o) p e = ap (cells_of header) (sym e)
+  cells_alike : (o : Option (ObjectOf T)) (p : Option Object) → option_map (as_named m.named) o ≡ p → cells_of size_of p ≡ cells_of (λ t. size_of (m.named t)) o
+  cells_alike None p e = ap (cells_of size_of) (sym e)
+  cells_alike (Some o) p e = ap (cells_of size_of) (sym e)
 
   refs_where_reached : (k : ℕ) → Reach (slice_get w.heap) (roots w) k → refs_of (slice_get w.heap k) ≡ refs_of (object_at m.content k)
   refs_where_reached k r = refs_alike (object_at m.content k) (slice_get w.heap k) (h.objects k r)
 
-  cells_are : used_by (λ t. header (m.named t)) m.content (places m) ≡ reach_cells w
+  cells_are : used_by (λ t. size_of (m.named t)) m.content (places m) ≡ reach_cells w
   unfolding reach_cells
   cells_are =
-      ap (λ n. reached_cells (λ t. header (m.named t)) n (object_at m.content) (map (name_of m.content) (places m))) h.next
-      ∙ ap (λ l. reached_cells (λ t. header (m.named t)) (length w.heap) (object_at m.content) l) roots_are
-      ∙ sym (cells_agree header (λ t. header (m.named t)) (slice_get w.heap) (object_at m.content) (length w.heap) (roots w) refs_where_reached
+      ap (λ n. reached_cells (λ t. size_of (m.named t)) n (object_at m.content) (map (name_of m.content) (places m))) h.next
+      ∙ ap (λ l. reached_cells (λ t. size_of (m.named t)) (length w.heap) (object_at m.content) l) roots_are
+      ∙ sym (cells_agree size_of (λ t. size_of (m.named t)) (slice_get w.heap) (object_at m.content) (length w.heap) (roots w) refs_where_reached
       (λ k r. cells_alike (object_at m.content k) (slice_get w.heap k) (h.objects k r)))
 
   reached_in_world : (k : ℕ) → Reached m.content (places m) k → Reach (slice_get w.heap) (roots w) k

@@ -6,6 +6,7 @@ pub mod Exceptions
 pub mod Threads
 pub mod Initialization
 pub mod Heap
+pub mod MakingMany
 pub mod Text
 pub mod Methods
 pub mod OperandStack

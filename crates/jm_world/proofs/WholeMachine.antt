@@ -7,8 +7,8 @@ use Rattle.jm_values.proofs.Among.{among_left, among_right}
 use Rattle.jm_values.proofs.Shapes.{list_is_shape}
 use Rattle.jm_world.specs.Objects.{Object}
 use Rattle.jm_world.specs.World.{World, roots}
-use Rattle.jm_world.specs.Reaching.{AllDistinct}
-use Rattle.jm_world.specs.Content.{places_of, serials_of, serial_in, object_in, serial_at, object_at, name_of, AllResident, IsSound}
+use Rattle.jm_values.specs.Reach.{AllDistinct}
+use Rattle.jm_values.specs.Content.{places_of, serials_of, serial_in, object_in, serial_at, object_at, name_of, AllResident, IsSound}
 use Rattle.jm_world.specs.Renaming.{thread_shape, static_shape, monitor_shape, literal_shape}
 use Rattle.jm_world.specs.Matches.{places, as_named, Matches}
 use Rattle.jm_world.specs.Matched.{residents_from, whole_content, place_of, whole_machine, WorldsAreMatched}

@@ -26,10 +26,10 @@ pub mod Loads
 pub mod Schedules
 pub mod RoundRobin
 pub mod Reaching
+pub mod Making
 pub mod WellFormed
 pub mod FramesOfRuns
 pub mod NamesOfRuns
-pub mod Content
 pub mod Renaming
 pub mod Matches
 pub mod Matched

@@ -17,7 +17,7 @@ use Rattle.jm_program.specs.declared.instruction.symbolic.Instr.TheVariants as i
 use Rattle.jm_values.specs.declared.value.Value.TheVariants.{Int, Ref}
 use Rattle.jm_world.specs.Types.{instance_of, array_of, class_type, default_value}
 use Rattle.jm_world.specs.Classes.{FoundMethod, method_in, name_of_method, string_class, print_stream_class, system_class}
-use Rattle.jm_world.specs.Objects.{Object, FieldName, field_names, new_array, size}
+use Rattle.jm_world.specs.Objects.{Object, FieldName, field_names, new_array, cells_of_all}
 use Rattle.jm_world.specs.Frames.{Frame, method_frame, initialization_frame}
 use Rattle.jm_world.specs.World.{World, Thread, Static, Literal, running}
 use Rattle.jm_world.specs.Invocation.{activation_of}
@@ -132,10 +132,6 @@ loaded_world program limit = record {
   output = [];
   stop = None;
 }
-
-abbrev pub cells_of_all : List Object → ℕ
-cells_of_all [] = 0
-cells_of_all (o ∷ os) = size o + cells_of_all os
 
 -- the heap is too small for the first objects
 abbrev pub is_too_small : List ClassParts → ℕ → Bool

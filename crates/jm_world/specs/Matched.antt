@@ -4,7 +4,7 @@ use Rattle.jm_values.specs.Shape.{list_shape}
 use Rattle.jm_world.specs.Types.{ObjectType}
 use Rattle.jm_world.specs.Objects.{Object}
 use Rattle.jm_world.specs.World.{World}
-use Rattle.jm_world.specs.Content.{Content, Resident}
+use Rattle.jm_values.specs.Content.{Content, Resident}
 use Rattle.jm_world.specs.Renaming.{thread_shape, static_shape, monitor_shape, literal_shape}
 use Rattle.jm_world.specs.Matches.{Parts, Matches}
 use Rattle.jm_world.specs.WellFormed.{IsWellFormed}

@@ -3,9 +3,11 @@ use Rattle.std.specs.Prelude.{◌≡◌, ◌<◌, ◌↔◌, ◌++◌, ℕ, List
 use Rattle.jm_program.specs.declared.class.ClassParts.{ClassParts}
 use Rattle.jm_values.specs.Shape.{list_shape}
 use Rattle.jm_world.specs.Types.{ObjectType}
-use Rattle.jm_world.specs.Objects.{ObjectOf, Object, Reach, header}
+use Rattle.jm_values.specs.Objects.{ObjectOf}
+use Rattle.jm_values.specs.Reach.{Reach}
+use Rattle.jm_world.specs.Objects.{Object, size_of}
 use Rattle.jm_world.specs.World.{World, Thread, Static, Progress, Monitor, Literal, roots, reach_cells}
-use Rattle.jm_world.specs.Content.{Content, IsSound, AllResident, Reached, used_by, name_of, object_at}
+use Rattle.jm_values.specs.Content.{Content, IsSound, AllResident, Reached, used_by, name_of, object_at}
 use Rattle.jm_world.specs.Renaming.{thread_shape, static_shape, monitor_shape, literal_shape}
 use Rattle.jm_world.specs.declared.stop.Stop.{Stop}
 
@@ -57,4 +59,4 @@ pub record Matches {T : Type 0} (m : Parts T) (w : World) : Type 0 where
 -- what a machine reaches from its places is what the world reaches, in as many cells
 pub record ReachesAlike {T : Type 0} (m : Parts T) (w : World) : Type 0 where
   pub same : (k : ℕ) → Reached m.content (places m) k ↔ Reach (slice_get w.heap) (roots w) k
-  pub cells : used_by (λ t. header (m.named t)) m.content (places m) ≡ reach_cells w
+  pub cells : used_by (λ t. size_of (m.named t)) m.content (places m) ≡ reach_cells w

@@ -1,13 +1,8 @@
--- The list of what is reached beside the least set.
-use Rattle.std.specs.Prelude.{◌<◌, ◌↔◌, ℕ, List, [], ◌∷◌, length, slice_get}
+-- The list of what a world reaches beside the least set.
+use Rattle.std.specs.Prelude.{◌<◌, ◌↔◌, ℕ, length, slice_get}
 use Rattle.jm_values.specs.Shape.{Among}
-use Rattle.jm_world.specs.Objects.{Reach}
+use Rattle.jm_values.specs.Reach.{AllDistinct, Reach}
 use Rattle.jm_world.specs.World.{World, roots, reach}
-
--- no number stands twice
-abbrev pub AllDistinct : List ℕ → Type 0
-AllDistinct [] = Unit {0}
-AllDistinct (x ∷ xs) = (Among x xs → ⊥) × AllDistinct xs
 
 -- each number that is reached has an object
 abbrev pub IsBounded : World → Type 0

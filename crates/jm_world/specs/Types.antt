@@ -16,8 +16,9 @@ use Rattle.jm_program.specs.declared.instruction.operation.OperandType.{OperandT
 use Rattle.jm_program.specs.declared.instruction.operation.OperandType.TheVariants as operand
 use Rattle.jm_program.specs.declared.instruction.operation.Conversion.TheVariants.{IntToByte, IntToChar, IntToShort}
 use Rattle.jm_values.specs.Conversions.{conversion_of}
+use Rattle.jm_values.specs.Objects.{default_of}
 use Rattle.jm_values.specs.declared.value.Value.{Value}
-use Rattle.jm_values.specs.declared.value.Value.TheVariants.{Int, Long, Null}
+use Rattle.jm_values.specs.declared.value.Value.TheVariants.{Int}
 
 -- whether two types are one type, by their texts
 abbrev pub same_element : ElementType → ElementType → Bool
@@ -85,11 +86,6 @@ abbrev pub operand_of : FieldType → OperandType
 operand_of t = operand_in t.dimensions t.element
 
 -- what a variable of the type begins with (JVMS 2.3, 2.4)
-abbrev pub default_of : OperandType → Value
-default_of operand.Int = Int (pos 0)
-default_of operand.Long = Long (pos 0)
-default_of operand.Reference = Null
-
 abbrev pub default_value : FieldType → Value
 default_value t = default_of (operand_of t)
 

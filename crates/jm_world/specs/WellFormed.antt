@@ -6,7 +6,8 @@ use Rattle.jm_values.specs.declared.value.Value.TheVariants.{Int, Long, Null, Re
 use Rattle.jm_program.specs.declared.class.ClassParts.{ClassParts}
 use Rattle.jm_world.specs.Frames.{Frame, method_frame, initialization_frame, entry_frame}
 use Rattle.jm_world.specs.World.{World, Thread, Monitor, is_running}
-use Rattle.jm_world.specs.Reaching.{AllDistinct, IsBounded}
+use Rattle.jm_values.specs.Reach.{AllDistinct}
+use Rattle.jm_world.specs.Reaching.{IsBounded}
 use Rattle.jm_world.specs.Loading.{loaded_world}
 use Rattle.jm_world.specs.Run.{after, run_from}
 use Rattle.jm_world.specs.declared.event.Event.{Event}

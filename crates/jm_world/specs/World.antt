@@ -6,7 +6,8 @@ use Rattle.jm_program.specs.declared.class.ClassParts.{ClassParts}
 use Rattle.jm_values.specs.Shape.{Shape, pair_shape}
 use Rattle.jm_values.specs.Rename.{value_shape}
 use Rattle.jm_values.specs.declared.value.Value.{Value}
-use Rattle.jm_world.specs.Objects.{Object, header, FieldName, same_field, reached, reached_cells}
+use Rattle.jm_values.specs.Reach.{reached, reached_cells}
+use Rattle.jm_world.specs.Objects.{Object, size_of, FieldName, same_field}
 use Rattle.jm_world.specs.Frames.{Frame, frames_shape, optional_number_shape}
 use Rattle.jm_world.specs.declared.class_state.ClassState.{ClassState}
 use Rattle.jm_world.specs.declared.class_state.ClassState.TheVariants.{Done}
@@ -104,7 +105,7 @@ reach w = reached (length w.heap) (slice_get w.heap) (roots w)
 
 -- their cells
 unfoldable pub reach_cells : World → ℕ
-reach_cells w = reached_cells header (length w.heap) (slice_get w.heap) (roots w)
+reach_cells w = reached_cells size_of (length w.heap) (slice_get w.heap) (roots w)
 
 -- thread n, counted from 1
 abbrev pub thread_at : World → ℕ → Option Thread

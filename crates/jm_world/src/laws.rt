@@ -11,6 +11,7 @@ ghost use Rattle.jm_world.specs.NamesOfRuns.{
 };
 ghost use Rattle.jm_world.specs.Renaming.{thread_shape, static_shape, monitor_shape, literal_shape};
 ghost use Rattle.jm_world.specs.World.{World, Thread, Static, Monitor, Literal};
+ghost use Rattle.jm_world.specs.Making.{OneIsAList, ObjectsAreNumbered};
 ghost use Rattle.jm_world.specs.Matched.{WorldsAreMatched};
 ghost use Rattle.jm_world.specs.Matches.{Parts, Matches, ReachesAlike};
 ghost use Rattle.jm_world.specs.Reaching.{ReachIsLeast};
@@ -20,6 +21,13 @@ ghost use Rattle.jm_world.specs.WellFormed.{EventsKeepForm, RunsAreWellFormed};
 /// fields and elements, each number once (JVMS 2.5.3).
 pub fn reach_is_the_least_set()
     ensures { ReachIsLeast }
+{}
+
+/// Objects that are made at once have the numbers that follow, in their order, and each one before
+/// keeps its number. Making one object is making a list of one.
+pub fn objects_are_made_together()
+    ensures one { OneIsAList }
+    ensures numbers { ObjectsAreNumbered }
 {}
 
 /// An event leaves a well-formed world well formed: references are numbers of objects, ended

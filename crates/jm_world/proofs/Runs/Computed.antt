@@ -7,7 +7,8 @@ use Rattle.jm_values.specs.declared.value.Value.{Value}
 use Rattle.jm_world.specs.Classes.{class_named}
 use Rattle.jm_world.specs.Hierarchy.{chain, is_subclass}
 use Rattle.jm_world.specs.Resolution.{resolve_field, resolve_method, select, select_special}
-use Rattle.jm_world.specs.Objects.{instance_fields, reached, reached_cells}
+use Rattle.jm_values.specs.Reach.{reached, reached_cells}
+use Rattle.jm_world.specs.Objects.{instance_fields, size_of}
 use Rattle.jm_world.specs.Frames.{Frame, method_frame, initialization_frame, entry_frame}
 use Rattle.jm_world.specs.World.{World, Thread, Ending, thread_at, reach, reach_cells}
 use Rattle.jm_world.specs.Loading.{loaded_world}
@@ -22,7 +23,7 @@ use Rattle.jm_world.specs.declared.stage.Stage.{Stage}
 -- the world of a program after events, with the default limit; its name opens every word that a
 -- run computes with
 unfoldable pub computed : List ClassParts → List Event → World
-unfolding digits encode_utf8 class_named chain is_subclass resolve_field resolve_method select select_special instance_fields reached reached_cells reach reach_cells refusal schedule record_entries robin after loaded_world
+unfolding digits encode_utf8 class_named chain is_subclass resolve_field resolve_method select select_special instance_fields size_of reached reached_cells reach reach_cells refusal schedule record_entries robin after loaded_world
 computed program events = run_from (loaded_world program 65536) events
 
 -- a thread's events

@@ -5,6 +5,7 @@ use Rattle.jm_program.specs.declared.instruction.operation.SmallInt.TheVariants 
 use Rattle.jm_program.specs.declared.instruction.operation.ShortIndex.TheVariants as short
 use Rattle.jm_values.specs.declared.value.Value.TheVariants.{Int, Ref}
 use Rattle.jm_values.specs.declared.fault.TagFault.TheVariants as fault
+use Rattle.jm_world.specs.Objects.{size_of}
 use Rattle.jm_world.specs.World.{World, reach, reach_cells}
 use Rattle.jm_world.specs.Loading.{loaded_world, is_too_small}
 use Rattle.jm_world.specs.Run.{run_from}
@@ -112,9 +113,11 @@ abbrev letters : List ClassParts
 letters = main (ldc_text (codes "abcdefgh") ∷ pop ∷ return ∷ []) ∷ []
 
 nineteen_cells_load_it : is_too_small letters 19 ≡ false
+unfolding size_of
 nineteen_cells_load_it = refl
 
 eighteen_do_not : is_too_small letters 18 ≡ true
+unfolding size_of
 eighteen_do_not = refl
 
 -- a literal is reachable though nothing holds it

@@ -25,7 +25,7 @@ use Rattle.jm_program.specs.declared.instruction.operation.Equality.{Equality}
 use Rattle.jm_program.specs.declared.instruction.operation.Branch.TheVariants as branch
 use Rattle.jm_program.specs.declared.instruction.operation.ReturnOp.TheVariants as return_op
 use Rattle.jm_program.specs.declared.instruction.operation.TypeOp.TheVariants as type_op
-use Rattle.jm_world.specs.Objects.{is_among}
+use Rattle.jm_values.specs.Reach.{is_among}
 use Rattle.jm_world.specs.World.{World, Ending, reach}
 use Rattle.jm_world.specs.Loading.{loaded_world}
 use Rattle.jm_world.specs.RoundRobin.{robin}

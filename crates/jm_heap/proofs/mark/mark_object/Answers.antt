@@ -1,7 +1,7 @@
 use Rattle.std.proofs.Common.{subst}
 use Rattle.jm_values.specs.Rename.{stack_shape}
 use Rattle.jm_values.specs.Shape.{Among}
-use Rattle.jm_world.specs.Objects.{refs_of}
+use Rattle.jm_values.specs.Objects.{refs_of}
 use Rattle.jm_heap.specs.Marks.{plain_object}
 use Rattle.jm_heap.proofs.mark.mark_object.Goals as goal
 

@@ -1,7 +1,6 @@
 use Rattle.std.proofs.Common.{◌≡◌, ◌∙◌, ap}
 use Rattle.std.specs.Prelude.{replicate}
-use Rattle.jm_world.specs.Types.{default_of}
-use Rattle.jm_world.specs.Objects.{copies}
+use Rattle.jm_values.specs.Objects.{default_of, copies}
 use Rattle.jm_heap.specs.NewObject.{new_object, operand_of_component}
 use Rattle.jm_heap.proofs.NewLemmas.{copies_are}
 use Rattle.jm_heap.proofs.new_object.values_of.Goals as goal

@@ -1,5 +1,5 @@
 use Rattle.std.proofs.Common.{sym, ap, ◌∙◌, subst}
-use Rattle.jm_world.specs.Content.{name_of}
+use Rattle.jm_values.specs.Content.{name_of}
 use Rattle.jm_world.specs.Frames.{initialization_frame, rename_frame}
 use Rattle.jm_state.specs.Parts.{frame_part}
 use Rattle.jm_state.specs.Runnable.{FrameRuns}

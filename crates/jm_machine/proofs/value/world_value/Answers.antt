@@ -1,7 +1,7 @@
 use Rattle.std.proofs.Common.{sym, ap, ◌∙◌}
 use Rattle.jm_values.specs.Rename.{rename}
 use Rattle.jm_values.specs.declared.value.Value.TheVariants.{Ref}
-use Rattle.jm_world.specs.Content.{name_of}
+use Rattle.jm_values.specs.Content.{name_of}
 use Rattle.jm_state.proofs.Marking.{name_is}
 use Rattle.jm_machine.proofs.value.world_value.Goals as goal
 

@@ -1,5 +1,5 @@
 use Rattle.std.proofs.Common.{sym, subst, ap}
-use Rattle.jm_world.specs.Content.{AllResident, Kept}
+use Rattle.jm_values.specs.Content.{AllResident, Kept}
 use Rattle.jm_world.specs.Matches.{Matches}
 use Rattle.jm_state.specs.Places.{places_of}
 use Rattle.jm_state.specs.Reached.{LeavesReachable}

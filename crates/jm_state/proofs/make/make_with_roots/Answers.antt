@@ -1,8 +1,8 @@
 use Rattle.std.proofs.Common.{Ok, Err, sym, subst, ap}
-use Rattle.jm_world.specs.Content.{AllResident, Kept, Made}
+use Rattle.jm_values.specs.Content.{AllResident, Kept, Made}
 use Rattle.jm_world.specs.Next.{exception}
 use Rattle.jm_heap.specs.Allocation.{IsRefused}
-use Rattle.jm_heap.specs.Cells.{header_cells}
+use Rattle.jm_heap.specs.Cells.{class_size}
 use Rattle.jm_heap.specs.NewObject.{new_object}
 use Rattle.jm_linked.specs.Links.{class_name_of}
 use Rattle.jm_state.specs.Ends.{MadeOrNot, halt_from}
@@ -31,7 +31,7 @@ returns-in-Ok-clause-made g c w h =
     let old = g.H.Heap.content s.heap in
     let new = g.H.Heap.content c.allocate-made.new.self in
     let moved = c.allocate-made.new.roots in
-    let made = subst (λ r. Made header_cells old r new moved c.in-Ok.place (plain_object c.args.class)) c.in_ok-roots.ensures c.in-Ok.ensures.ok in
+    let made = subst (λ r. Made class_size old r new moved c.in-Ok.place (plain_object c.args.class)) c.in_ok-roots.ensures c.in-Ok.ensures.ok in
     let alike = put_back_alike l old new s.threads.items t.threads.items s.statics.items t.statics.items moved c.requires.runs.statics c.put_back.ensures.places made.kept.names in
     let same = same_parts l new (g.H.Heap.content t.heap) t.threads.items t.statics.items s.classes.items t.classes.items s.output.items t.output.items s.stop t.stop (ap g.H.Heap.content c.put_back.ensures.heap) (cc) (cc) c.put_back.ensures.stop in
     let end = made_ends l old s.threads.items s.statics.items s.classes.items s.output.items s.stop w c.requires.runs.statics h (plain_object c.args.class) new t.threads.items t.statics.items moved alike c.in-Ok.place made in

@@ -1,5 +1,5 @@
 use Rattle.std.proofs.Common.{◌∙◌, sym, subst}
-use Rattle.jm_world.specs.Content.{AllResident}
+use Rattle.jm_values.specs.Content.{AllResident}
 use Rattle.jm_state.proofs.Made.{sound, all_resident, finds}
 use Rattle.jm_state.proofs.Marking.{if_ok}
 use Rattle.jm_state.proofs.reach.find_reachable.Goals as goal

@@ -1,8 +1,8 @@
 use Rattle.std.proofs.Common.{◌≡◌, ◌∷◌, [], inl, refl, arith, length, subst}
 use Rattle.jm_values.proofs.Among.{among_right}
 use Rattle.std.specs.Prelude.{map}
-use Rattle.jm_world.specs.Content.{name_of, object_at}
-use Rattle.jm_world.specs.Objects.{refs_of}
+use Rattle.jm_values.specs.Content.{name_of, object_at}
+use Rattle.jm_values.specs.Objects.{refs_of}
 use Rattle.jm_state.specs.Reached.{MarkedAll}
 use Rattle.jm_state.proofs.Marking.{Frontier, first_frontier, next_frontier, frontier_is_reach, less_is_left, nothing_left}
 use Rattle.jm_state.proofs.reach.mark.Goals as goal

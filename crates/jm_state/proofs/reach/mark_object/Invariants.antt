@@ -1,6 +1,6 @@
 use Rattle.std.proofs.Common.{take}
 use Rattle.jm_values.specs.Rename.{stack_shape}
-use Rattle.jm_world.specs.Content.{name_of, object_at}
+use Rattle.jm_values.specs.Content.{name_of, object_at}
 use Rattle.jm_state.specs.Reached.{MarkedAll}
 use Rattle.jm_state.proofs.Marking.{values_in}
 use Rattle.jm_state.proofs.reach.mark_object.Given as goal

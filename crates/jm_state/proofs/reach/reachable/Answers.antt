@@ -1,5 +1,5 @@
 use Rattle.std.proofs.Common.{◌∙◌, sym, subst}
-use Rattle.jm_world.specs.Content.{AllResident}
+use Rattle.jm_values.specs.Content.{AllResident}
 use Rattle.jm_state.specs.Reached.{AreReachable}
 use Rattle.jm_state.proofs.Made.{sound, all_resident, reaches}
 use Rattle.jm_state.proofs.Marking.{if_ok}

@@ -1,8 +1,8 @@
 use Rattle.std.proofs.Common.{◌≡◌, ◌≢◌, ◌∙◌, ◌∷◌, [], Some, inl, refl, sym, arith, length, subst}
 use Rattle.std.specs.Prelude.{map}
 use Rattle.jm_values.proofs.Among.{among_right}
-use Rattle.jm_world.specs.Content.{Reached, name_of, object_at, serial_at}
-use Rattle.jm_world.specs.Objects.{refs_of}
+use Rattle.jm_values.specs.Content.{Reached, name_of, object_at, serial_at}
+use Rattle.jm_values.specs.Objects.{refs_of}
 use Rattle.jm_state.specs.Reached.{MarkedAll}
 use Rattle.jm_state.proofs.Marking.{Frontier, IsAhead, first_frontier, next_frontier, first_ahead, next_ahead, not_reached, name_is, less_is_left, nothing_left}
 use Rattle.jm_state.proofs.reach.search.Goals as goal

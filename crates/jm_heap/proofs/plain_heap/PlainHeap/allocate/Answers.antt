@@ -1,5 +1,5 @@
 use Rattle.std.proofs.Common.{◌≡◌, sym, subst}
-use Rattle.jm_world.specs.Content.{Kept}
+use Rattle.jm_values.specs.Content.{Kept}
 use Rattle.jm_heap.specs.NewObject.{new_object}
 use Rattle.jm_heap.specs.Allocation.{MadeHere, MadeHereOrNot}
 use Rattle.jm_heap.specs.Collection.{IsAsBeforeMaking}

@@ -1,6 +1,6 @@
 use Rattle.std.proofs.Common.{◌≤◌, ◌+◌, arith}
-use Rattle.jm_world.specs.Objects.{size_by}
-use Rattle.jm_heap.specs.Cells.{header_cells, resident_cells}
+use Rattle.jm_values.specs.Objects.{size_by}
+use Rattle.jm_heap.specs.Cells.{class_size, resident_cells}
 use Rattle.jm_heap.specs.NewObject.{new_object}
 use Rattle.jm_heap.proofs.NewLemmas.{new_refs}
 use Rattle.jm_heap.proofs.MakingLemmas.{sound_made, made_at, at_end, cells_are, limit_is, new_size, on_err}
@@ -26,19 +26,19 @@ pub returns-in_err-object-clause-room : goal.returns-in_err-object-clause-room
 returns-in_err-object-clause-room c =
     let cells = cells_are c.self.inside.limit c.self.inside.next c.self.inside.slots.items c.args.self.now c.self.view_is in
     let limit = limit_is c.self.inside.limit c.self.inside.next c.self.inside.slots.items c.args.self.now c.self.view_is in
-    let room : resident_cells c.args.self.now + size_by header_cells (new_object c.args.shape) ≤ c.args.self.now.limit = omega (arith, cells, limit, c.self.invariant.cells, c.self.invariant.within, c.if-cells-self.false, c.cells_of-cells.ensures) in
+    let room : resident_cells c.args.self.now + size_by class_size (new_object c.args.shape) ≤ c.args.self.now.limit = omega (arith, cells, limit, c.self.invariant.cells, c.self.invariant.within, c.if-cells-self.false, c.cells_of-cells.ensures) in
     on_err c.from_residual.result room
 
 pub returns-in_err-place-clause-room : goal.returns-in_err-place-clause-room
 returns-in_err-place-clause-room c =
     let cells = cells_are c.self.inside.limit c.self.inside.next c.self.inside.slots.items c.args.self.now c.self.view_is in
     let limit = limit_is c.self.inside.limit c.self.inside.next c.self.inside.slots.items c.args.self.now c.self.view_is in
-    let room : resident_cells c.args.self.now + size_by header_cells (new_object c.args.shape) ≤ c.args.self.now.limit = omega (arith, cells, limit, c.self.invariant.cells, c.self.invariant.within, c.if-cells-self.false, c.cells_of-cells.ensures) in
+    let room : resident_cells c.args.self.now + size_by class_size (new_object c.args.shape) ≤ c.args.self.now.limit = omega (arith, cells, limit, c.self.invariant.cells, c.self.invariant.within, c.if-cells-self.false, c.cells_of-cells.ensures) in
     on_err c.from_residual-in_err-place.result room
 
 pub invariant_of-self-2 : goal.invariant_of-self-2
 invariant_of-self-2 c = record {
-  sound = sound_made c.self.inside.next c.self.inside.slots.items c.store.new.slots.items c.self.invariant.sound c.in_ok-place.place c.in_ok-object.object (new_object c.args.shape) c.in_ok-place.ensures.ok c.in_ok-object.ensures.serial_is c.in_ok-object.ensures.values (new_refs c.args.shape);
+  sound = sound_made c.self.inside.next c.self.inside.slots.items c.store.new.slots.items c.self.invariant.sound c.in_ok-place.place c.in_ok-object.object (new_object c.args.shape) c.in_ok-place.ensures.ok c.in_ok-object.ensures.serial_is c.in_ok-object.ensures.values (new_refs c.args.shape) (c.cells_of-cells.ensures.short (omega (arith, c.self.invariant.within, c.self.invariant.small, c.if-cells-self.false)));
   cells = let more = c.in_ok-place.ensures.ok.cells in let size = new_size c.self.inside.next c.in_ok-object.object (new_object c.args.shape) c.in_ok-object.ensures in omega (arith, more, size, c.self.invariant.cells, c.cells_of-cells.ensures);
   within = omega (arith, c.self.invariant.within, c.if-cells-self.false);
   small = c.self.invariant.small;
@@ -47,7 +47,7 @@ invariant_of-self-2 c = record {
 
 pub returns-clause-ok : goal.returns-clause-ok
 returns-clause-ok c =
-    made_at c.self.inside.limit c.self.inside.next c.self.inside.slots.items c.store.new.slots.items c.args.self.now c.self.view_is c.self.invariant.sound c.in_ok-place.place c.in_ok-object.object (new_object c.args.shape) c.in_ok-place.ensures.ok c.in_ok-object.ensures.serial_is c.in_ok-object.ensures.class c.in_ok-object.ensures.values (new_refs c.args.shape) (omega (arith, c.self.invariant.cells, c.self.invariant.within, c.if-cells-self.false, c.cells_of-cells.ensures)) (omega (arith, c.if-self-ge-MAX_SERIALS.false))
+    made_at c.self.inside.limit c.self.inside.next c.self.inside.slots.items c.store.new.slots.items c.args.self.now c.self.view_is c.self.invariant.sound c.in_ok-place.place c.in_ok-object.object (new_object c.args.shape) c.in_ok-place.ensures.ok c.in_ok-object.ensures.serial_is c.in_ok-object.ensures.class c.in_ok-object.ensures.values (new_refs c.args.shape) (c.cells_of-cells.ensures.short (omega (arith, c.self.invariant.within, c.self.invariant.small, c.if-cells-self.false))) (omega (arith, c.self.invariant.cells, c.self.invariant.within, c.if-cells-self.false, c.cells_of-cells.ensures)) (omega (arith, c.if-self-ge-MAX_SERIALS.false))
 
 pub returns-clause-full : goal.returns-clause-full
 returns-clause-full c =

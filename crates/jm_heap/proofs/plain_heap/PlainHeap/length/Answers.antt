@@ -1,13 +1,11 @@
-use Rattle.std.proofs.Common.{◌≤◌, arith}
-use Rattle.jm_heap.specs.Slots.{object_cells, slots_cells}
-use Rattle.jm_heap.proofs.ReadingLemmas.{length_read, nothing_at, cells_within}
+use Rattle.std.proofs.Common.{sym, arith}
+use Rattle.jm_heap.proofs.ReadingLemmas.{length_read, nothing_at}
 use Rattle.jm_heap.proofs.plain_heap.PlainHeap.length.Goals as goal
 
 pub overflow_cast-result : goal.overflow_cast-result
 overflow_cast-result c =
-    let few : object_cells c.in-Some.object.now ≤ slots_cells c.self.inside.slots.items = cells_within c.self.inside.slots.items c.args.place c.in-Some.object.now c.in-Some.ensures in
-    let i = c.self.invariant in
-    omega (arith, few, i.cells, i.within, i.small, c.len.ensures, c.in-Some.object.now.values.ok.0)
+    let few = c.self.invariant.sound.short c.args.place c.in-Some.object.now (sym c.in-Some.ensures) in
+    omega (arith, few, c.len.ensures, c.in-Some.object.now.values.ok.0)
 
 pub returns-in-Some : goal.returns-in-Some
 returns-in-Some c k o h g =

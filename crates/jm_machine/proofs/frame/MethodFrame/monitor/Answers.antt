@@ -1,5 +1,5 @@
 use Rattle.std.proofs.Common.{sym, ap, ◌∙◌, Some}
-use Rattle.jm_world.specs.Content.{name_of}
+use Rattle.jm_values.specs.Content.{name_of}
 use Rattle.jm_world.specs.Frames.{optional_number_shape}
 use Rattle.jm_state.proofs.Marking.{name_is}
 use Rattle.jm_machine.specs.MethodFrames.{MethodFrameView}

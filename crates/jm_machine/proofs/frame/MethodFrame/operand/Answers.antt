@@ -2,7 +2,7 @@ use Rattle.std.proofs.Common.{sym, ap, ◌∙◌, Some}
 use Rattle.std.specs.Prelude.{slice_get, option_map}
 use Rattle.std.proofs.lemmas.Option.{slice_get-map}
 use Rattle.jm_values.specs.Rename.{value_shape}
-use Rattle.jm_world.specs.Content.{name_of}
+use Rattle.jm_values.specs.Content.{name_of}
 use Rattle.jm_machine.specs.MethodFrames.{MethodFrameView}
 use Rattle.jm_machine.proofs.Parted.{operand_resident}
 use Rattle.jm_machine.proofs.frame.MethodFrame.operand.Goals as goal

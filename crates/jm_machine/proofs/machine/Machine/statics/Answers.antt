@@ -1,6 +1,6 @@
 use Rattle.std.proofs.Common.{sym, subst, ap, ◌∙◌}
 use Rattle.jm_values.specs.Rename.{stack_shape}
-use Rattle.jm_world.specs.Content.{AllResident}
+use Rattle.jm_values.specs.Content.{AllResident}
 use Rattle.jm_machine.specs.Seen.{statics_seen}
 use Rattle.jm_machine.specs.View.{MatchesWorld}
 use Rattle.jm_machine.proofs.Reading.{statics_read, statics_resident}

@@ -2,7 +2,7 @@ use Rattle.std.proofs.Common.{◌≡◌, sym, ap, ◌∙◌, Some, length, arith
 use Rattle.std.specs.Prelude.{slice_get}
 use Rattle.std.proofs.lemmas.Option.{slice_get_past}
 use Rattle.jm_values.specs.Rename.{rename}
-use Rattle.jm_world.specs.Content.{name_of}
+use Rattle.jm_values.specs.Content.{name_of}
 use Rattle.jm_world.specs.Objects.{Object}
 use Rattle.jm_state.proofs.Marking.{value_there}
 use Rattle.jm_machine.proofs.Told.{object, seen_is, value_seen}

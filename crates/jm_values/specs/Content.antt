@@ -4,8 +4,8 @@ use Rattle.std.specs.Prelude.{◌≡◌, ◌≢◌, ℕ, ◌+◌, ◌<◌, ◌�
 use Rattle.jm_values.specs.Shape.{Among}
 use Rattle.jm_values.specs.Rename.{rename}
 use Rattle.jm_values.specs.declared.value.Value.{Value}
-use Rattle.jm_world.specs.Reaching.{AllDistinct}
-use Rattle.jm_world.specs.Objects.{ObjectOf, Reach, reached_cells, size_by}
+use Rattle.jm_values.specs.Objects.{ObjectOf, size_by}
+use Rattle.jm_values.specs.Reach.{AllDistinct, Reach, reached_cells}
 
 -- an object that has a place; its values name serials. T is how the heap tells classes and array
 -- types
@@ -63,8 +63,8 @@ abbrev pub Reached : {T : Type 0} → Content T → List ℕ → ℕ → Type 0
 Reached c roots k = Reach (object_at c) (map (name_of c) roots) k
 
 -- the cells of what is reached from them
-abbrev pub used_by : {T : Type 0} → (T → ℕ) → Content T → List ℕ → ℕ
-used_by headers c roots = reached_cells headers c.next (object_at c) (map (name_of c) roots)
+abbrev pub used_by : {T : Type 0} → (T → ℕ → ℕ) → Content T → List ℕ → ℕ
+used_by sizes c roots = reached_cells sizes c.next (object_at c) (map (name_of c) roots)
 
 -- objects may have moved, and what is not reached may be gone
 pub record Kept {T : Type 0} (old : Content T) (roots : List ℕ) (new : Content T) (moved : List ℕ) : Type 0 where
@@ -75,20 +75,20 @@ pub record Kept {T : Type 0} (old : Content T) (roots : List ℕ) (new : Content
   pub reached : (k : ℕ) → Reached old roots k → object_at new k ≡ object_at old k
 
 -- the object has been made at the place, with the next serial
-pub record Made {T : Type 0} (headers : T → ℕ) (old : Content T) (roots : List ℕ) (new : Content T) (moved : List ℕ) (place : ℕ) (o : ObjectOf T) : Type 0 where
+pub record Made {T : Type 0} (sizes : T → ℕ → ℕ) (old : Content T) (roots : List ℕ) (new : Content T) (moved : List ℕ) (place : ℕ) (o : ObjectOf T) : Type 0 where
   pub kept : Kept old roots new moved
   pub next : new.next ≡ old.next + 1
   pub placed : serial_at new place ≡ Some old.next
   pub filled : object_at new old.next ≡ Some o
-  pub fits : used_by headers old roots + size_by headers o ≤ old.limit
+  pub fits : used_by sizes old roots + size_by sizes o ≤ old.limit
   pub lasts : old.next < 2 ^ 63
 
 -- why no object was made: its cells and those reached pass the limit, or serials are at their end
-abbrev pub IsFull : {T : Type 0} → (T → ℕ) → Content T → List ℕ → ObjectOf T → Type 0
-IsFull headers c roots o = c.limit < used_by headers c roots + size_by headers o
+abbrev pub IsFull : {T : Type 0} → (T → ℕ → ℕ) → Content T → List ℕ → ObjectOf T → Type 0
+IsFull sizes c roots o = c.limit < used_by sizes c roots + size_by sizes o
 
-abbrev pub IsAtEnd : {T : Type 0} → (T → ℕ) → Content T → List ℕ → ObjectOf T → Type 0
-IsAtEnd headers c roots o = (used_by headers c roots + size_by headers o ≤ c.limit) × (2 ^ 63 ≤ c.next)
+abbrev pub IsAtEnd : {T : Type 0} → (T → ℕ → ℕ) → Content T → List ℕ → ObjectOf T → Type 0
+IsAtEnd sizes c roots o = (used_by sizes c roots + size_by sizes o ≤ c.limit) × (2 ^ 63 ≤ c.next)
 
 -- the place has an object, with a value of this number
 abbrev pub HasValue : {T : Type 0} → Content T → ℕ → ℕ → Value → Type 0

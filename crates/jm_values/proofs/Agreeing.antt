@@ -1,8 +1,9 @@
 -- What is reached, and its cells, depend on the references of what is reached alone.
 use Rattle.std.proofs.Common.{◌≡◌, ℕ, zero, suc, ◌+◌, List, [], ◌∷◌, Option, Bool, true, false, refl, sym, ap, ◌∙◌, subst, inl, inr}
 use Rattle.jm_values.specs.Shape.{Among}
-use Rattle.jm_world.specs.Objects.{ObjectOf, Reach, root, field, refs_of, cells_of, is_among, visit_all, visit, reached, cells, reached_cells}
-use Rattle.jm_world.proofs.Reaching.{reach_within}
+use Rattle.jm_values.specs.Objects.{ObjectOf, refs_of, cells_of}
+use Rattle.jm_values.specs.Reach.{Reach, root, field, is_among, visit_all, visit, reached, cells, reached_cells}
+use Rattle.jm_values.proofs.Reaching.{reach_within}
 
 -- two sets of objects, perhaps with other types, that refer alike where a property holds, which
 -- goes over references
@@ -34,20 +35,20 @@ module _ {S T : Type 0} (objects : ℕ → Option (ObjectOf S)) (others : ℕ �
       pick true h a = s j a
       pick false h a = visit_within (visit n objects) h (refs_of (objects k)) (k ∷ seen) (λ i b. over k i p b) below j a
 
-  cells_same : (headers : S → ℕ) (heads : T → ℕ) → ((k : ℕ) → P k → cells_of headers (objects k) ≡ cells_of heads (others k)) → (ks : List ℕ) → ((j : ℕ) → Among j ks → P j) → cells headers objects ks ≡ cells heads others ks
-  cells_same headers heads c [] w = refl
-  cells_same headers heads c (k ∷ ks) w = ap (λ n. n + cells headers objects ks) (c k (w k (inl refl))) ∙ ap (λ n. cells_of heads (others k) + n) (cells_same headers heads c ks (λ j a. w j (inr a)))
+  cells_same : (sizes : S → ℕ → ℕ) (measures : T → ℕ → ℕ) → ((k : ℕ) → P k → cells_of sizes (objects k) ≡ cells_of measures (others k)) → (ks : List ℕ) → ((j : ℕ) → Among j ks → P j) → cells sizes objects ks ≡ cells measures others ks
+  cells_same sizes measures c [] w = refl
+  cells_same sizes measures c (k ∷ ks) w = ap (λ n. n + cells sizes objects ks) (c k (w k (inl refl))) ∙ ap (λ n. cells_of measures (others k) + n) (cells_same sizes measures c ks (λ j a. w j (inr a)))
 
-  reached_cells_same : (headers : S → ℕ) (heads : T → ℕ) → ((k : ℕ) → P k → cells_of headers (objects k) ≡ cells_of heads (others k)) → (n : ℕ) (roots : List ℕ) → ((k : ℕ) → Among k roots → P k) → reached_cells headers n objects roots ≡ reached_cells heads n others roots
+  reached_cells_same : (sizes : S → ℕ → ℕ) (measures : T → ℕ → ℕ) → ((k : ℕ) → P k → cells_of sizes (objects k) ≡ cells_of measures (others k)) → (n : ℕ) (roots : List ℕ) → ((k : ℕ) → Among k roots → P k) → reached_cells sizes n objects roots ≡ reached_cells measures n others roots
   unfolding reached_cells reached
-  reached_cells_same headers heads c n roots w =
-      cells_same headers heads c (reached n objects roots) (λ j a. visit_within (visit n objects) (λ i t q r. depth_within n i t q r) roots [] w (λ i b. absurd b) j a)
-      ∙ ap (cells heads others) (visit_same (visit n objects) (visit n others) (λ j s q. depth_same n j s q) roots [] w)
+  reached_cells_same sizes measures c n roots w =
+      cells_same sizes measures c (reached n objects roots) (λ j a. visit_within (visit n objects) (λ i t q r. depth_within n i t q r) roots [] w (λ i b. absurd b) j a)
+      ∙ ap (cells measures others) (visit_same (visit n objects) (visit n others) (λ j s q. depth_same n j s q) roots [] w)
 
 -- the cells of what is reached are the same, where what is reached refers alike and has like cells
-pub cells_agree : {S T : Type 0} (headers : S → ℕ) (heads : T → ℕ) (objects : ℕ → Option (ObjectOf S)) (others : ℕ → Option (ObjectOf T)) (n : ℕ) (roots : List ℕ) → ((k : ℕ) → Reach objects roots k → refs_of (objects k) ≡ refs_of (others k)) → ((k : ℕ) → Reach objects roots k → cells_of headers (objects k) ≡ cells_of heads (others k)) → reached_cells headers n objects roots ≡ reached_cells heads n others roots
-cells_agree headers heads objects others n roots same cells =
-    reached_cells_same objects others (Reach objects roots) same (λ j k r a. field j k r a) headers heads cells n roots (λ k a. root k a)
+pub cells_agree : {S T : Type 0} (sizes : S → ℕ → ℕ) (measures : T → ℕ → ℕ) (objects : ℕ → Option (ObjectOf S)) (others : ℕ → Option (ObjectOf T)) (n : ℕ) (roots : List ℕ) → ((k : ℕ) → Reach objects roots k → refs_of (objects k) ≡ refs_of (others k)) → ((k : ℕ) → Reach objects roots k → cells_of sizes (objects k) ≡ cells_of measures (others k)) → reached_cells sizes n objects roots ≡ reached_cells measures n others roots
+cells_agree sizes measures objects others n roots same cells =
+    reached_cells_same objects others (Reach objects roots) same (λ j k r a. field j k r a) sizes measures cells n roots (λ k a. root k a)
 
 -- so is what is reached
 pub reach_agree : {S T : Type 0} (objects : ℕ → Option (ObjectOf S)) (others : ℕ → Option (ObjectOf T)) (roots : List ℕ) → ((k : ℕ) → Reach objects roots k → refs_of (objects k) ≡ refs_of (others k)) → (k : ℕ) → Reach others roots k → Reach objects roots k

@@ -1,0 +1,101 @@
+-- What holds of a program in which nothing comes later.
+use Rattle.std.proofs.Common.{◌≡◌, ℕ, zero, suc, List, [], ◌∷◌, Option, Some, None, Bool, true, false, refl, sym, ap, ◌∙◌}
+use Rattle.std.specs.Prelude.{slice_get, ◌&&◌, codes}
+use Rattle.jm_program.specs.Names.{same_text}
+use Rattle.jm_program.specs.declared.class.ClassParts.{ClassParts}
+use Rattle.jm_program.specs.declared.class.Method.{Method}
+use Rattle.jm_program.specs.declared.code.Code.{Code}
+use Rattle.jm_program.specs.declared.descriptor.FieldType.{FieldType}
+use Rattle.jm_world.specs.Types.{same_types, same_result, same_method_type}
+use Rattle.jm_world.specs.Loading.{main_type}
+use Rattle.jm_linked.specs.declared.later.LaterPart.{LaterPart}
+use Rattle.jm_linked.specs.declared.later.LaterPart.TheVariants as later
+use Rattle.jm_linked.specs.Later.{or_later, first_later, unless_empty, later_instruction, later_code}
+use Rattle.jm_linked.specs.Later.{is_main_method, later_superclass, other_method, later_class, later_part}
+
+-- neither of two comes later
+pub neither_later : (a b : Option LaterPart) → or_later a b ≡ None → (a ≡ None) × (b ≡ None)
+neither_later None b e = (refl, e)
+neither_later (Some p) b e = cc
+
+-- none of a list
+pub none_later : {A : Type 0} (look : A → Option LaterPart) (xs : List A) (n : ℕ) (x : A) → first_later look xs ≡ None → slice_get xs n ≡ Some x → look x ≡ None
+none_later look [] n x e at = cc
+none_later look (y ∷ ys) zero x e at = let same : x ≡ y = cc in ap look same ∙ (neither_later (look y) (first_later look ys) e).0
+none_later look (y ∷ ys) (suc n) x e at = none_later look ys n x (neither_later (look y) (first_later look ys) e).1 at
+
+pub nothing_later : {A : Type 0} (part : LaterPart) (xs : List A) → unless_empty part xs ≡ None → xs ≡ []
+nothing_later part [] e = refl
+nothing_later part (x ∷ xs) e = cc
+
+-- a class in which nothing comes later
+pub record IsWholeClass (main : Bool) (c : ClassParts) : Type 0 where
+  pub interfaces : c.interfaces ≡ []
+  pub fields : c.fields ≡ []
+  pub methods : first_later (other_method main) c.methods ≡ None
+  pub codes : first_later (λ m. later_code m.code) c.methods ≡ None
+
+pub whole_class : (main : Bool) (c : ClassParts) → later_class main c ≡ None → IsWholeClass main c
+whole_class main c e =
+    let past_superclass = (neither_later (later_superclass c.superclass) _ e).1 in
+    let past_interfaces = neither_later (unless_empty later.Interfaces c.interfaces) _ past_superclass in
+    let past_fields = neither_later (unless_empty later.Fields c.fields) _ past_interfaces.1 in
+    let past_methods = neither_later (first_later (other_method main) c.methods) _ past_fields.1 in
+    record {
+      interfaces = nothing_later later.Interfaces c.interfaces past_interfaces.0;
+      fields = nothing_later later.Fields c.fields past_fields.0;
+      methods = past_methods.0;
+      codes = past_methods.1;
+    }
+
+pub whole_class_at : (program : List ClassParts) (n : ℕ) (c : ClassParts) → later_part program ≡ None → slice_get program n ≡ Some c
+    → (main : Bool) × IsWholeClass main c
+unfolding later_part
+whole_class_at [] n c e at = cc
+whole_class_at (d ∷ ds) zero c e at =
+    let same : c ≡ d = cc in
+    (true, whole_class true c (ap (later_class true) same ∙ (neither_later (later_class true d) (first_later (later_class false) ds) e).0))
+whole_class_at (d ∷ ds) (suc n) c e at =
+    (false, whole_class false c (none_later (later_class false) ds n c (neither_later (later_class true d) (first_later (later_class false) ds) e).1 at))
+
+-- a method that does not come later is main
+both_hold : (a b : Bool) → (a && b) ≡ true → (a ≡ true) × (b ≡ true)
+both_hold true b e = (refl, e)
+both_hold false b e = cc
+
+main_alone : (main : Bool) (m : Method) → other_method main m ≡ None → is_main_method m ≡ true
+main_alone main m e = by (main && is_main_method m) refl e
+  where
+    by : (t : Bool) → (main && is_main_method m) ≡ t → (elim t as (λ _. Option LaterPart) [ true ↦ None | false ↦ Some later.Methods ]) ≡ None
+        → is_main_method m ≡ true
+    by true is g = (both_hold main (is_main_method m) is).1
+    by false is g = cc
+
+nothing_returned : (r : Option FieldType) → same_result r None ≡ true → r ≡ None
+nothing_returned None e = refl
+nothing_returned (Some t) e = cc
+
+main_returns_nothing : (m : Method) → is_main_method m ≡ true → m.descriptor.return_type ≡ None
+main_returns_nothing m e =
+    let type : same_method_type m.descriptor main_type ≡ true = (both_hold (same_text m.name (codes "main")) (same_method_type m.descriptor main_type) e).1 in
+    nothing_returned m.descriptor.return_type
+    (both_hold (same_types m.descriptor.parameters main_type.parameters) (same_result m.descriptor.return_type None) type).1
+
+-- a method in which nothing comes later returns nothing and catches nothing
+pub record IsWhole (m : Method) (code : Code) : Type 0 where
+  pub result : m.descriptor.return_type ≡ None
+  pub instructions : first_later later_instruction code.instructions ≡ None
+  pub handlers : code.handlers ≡ []
+
+pub whole_method : (program : List ClassParts) (n k : ℕ) (c : ClassParts) (m : Method) (code : Code) → later_part program ≡ None
+    → slice_get program n ≡ Some c → slice_get c.methods k ≡ Some m → m.code ≡ Some code → IsWhole m code
+whole_method program n k c m code e class method is =
+    let whole = whole_class_at program n c e class in
+    let own : later_code m.code ≡ None = none_later (λ (x : Method). later_code x.code) c.methods k m whole.1.codes method in
+    let whole_code : later_code (Some code) ≡ None = sym (ap later_code is) ∙ own in
+    let parts = neither_later (first_later later_instruction code.instructions) (unless_empty later.Handlers code.handlers) whole_code in
+    record {
+      result = main_returns_nothing m (main_alone whole.0 m (none_later (other_method whole.0) c.methods k m whole.1.methods method));
+      instructions = parts.0;
+      handlers = nothing_later later.Handlers code.handlers parts.1;
+    }

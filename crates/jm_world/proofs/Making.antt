@@ -1,0 +1,65 @@
+-- Making many objects at once, beside making one, and their numbers.
+use Rattle.std.proofs.Common.{◌≡◌, ℕ, zero, suc, ◌+◌, ◌<◌, ◌^◌, List, [], ◌∷◌, ◌++◌, Some, Bool, true, false, refl, ap, ◌∙◌, subst, length, arith}
+use Rattle.std.specs.Prelude.{map, slice_get, nat_lt, nat_le}
+use Rattle.std.proofs.lemmas.Bool.Decides.{nat_tests}
+use Rattle.jm_world.specs.Objects.{Object, size}
+use Rattle.jm_world.specs.World.{reach_cells}
+use Rattle.jm_world.specs.Next.{Next, stops, numbers_from, with_objects}
+use Rattle.jm_world.specs.Making.{OneIsAList, ObjectsAreNumbered}
+use Rattle.jm_world.specs.declared.stop.Stop.TheVariants.{HeapFull, SerialsEnd}
+
+-- the last number is below a bound where the first is not past it
+next_below : (a b : ℕ) → nat_lt a (b + 1) ≡ nat_le a b
+next_below a b = by (nat_lt a (b + 1)) refl (nat_le a b) refl
+  where
+    by : (s : Bool) → nat_lt a (b + 1) ≡ s → (t : Bool) → nat_le a b ≡ t → s ≡ t
+    by true e true f = refl
+    by false e false f = refl
+    by true e false f = absurd (grind (arith, nat_tests, e, f))
+    by false e true f = absurd (grind (arith, nat_tests, e, f))
+
+pub one_is_a_list : OneIsAList
+one_is_a_list w o go =
+    ap (λ n. choose (nat_lt w.limit n) (nat_lt (2 ^ 63) (length w.heap + 1))) same_cells
+    ∙ ap (choose (nat_lt w.limit (reach_cells w + size o))) (next_below (2 ^ 63) (length w.heap))
+  where
+    choose : Bool → Bool → Next
+    choose full ended = elim full as (λ _. Next) [
+      | true ↦ stops HeapFull
+      | false ↦ elim ended as (λ _. Next) [ true ↦ stops SerialsEnd | false ↦ go (with_objects w (o ∷ [])) (length w.heap ∷ []) ]
+    ]
+
+    same_cells : reach_cells w + (size o + 0) ≡ reach_cells w + size o
+    same_cells = omega arith
+
+get_at_end : (xs : List Object) (y : Object) (ys : List Object) → slice_get (xs ++ y ∷ ys) (length xs) ≡ Some y
+get_at_end [] y ys = refl
+get_at_end (x ∷ xs) y ys = get_at_end xs y ys
+
+get_before : (xs ys : List Object) (k : ℕ) → k < length xs → slice_get (xs ++ ys) k ≡ slice_get xs k
+get_before [] ys k h = absurd (omega (arith, h))
+get_before (x ∷ xs) ys zero h = refl
+get_before (x ∷ xs) ys (suc k) h = get_before xs ys k (omega (arith, h))
+
+one_more : (xs : List Object) (y : Object) → length (xs ++ y ∷ []) ≡ length xs + 1
+one_more [] y = refl
+one_more (x ∷ xs) y = let more = one_more xs y in omega (arith, more)
+
+one_by_one : (xs : List Object) (y : Object) (ys : List Object) → (xs ++ y ∷ []) ++ ys ≡ xs ++ y ∷ ys
+one_by_one [] y ys = refl
+one_by_one (x ∷ xs) y ys = ap (λ l. x ∷ l) (one_by_one xs y ys)
+
+get_all : (xs ys : List Object) → map (slice_get (xs ++ ys)) (numbers_from (length xs) ys) ≡ map Some ys
+get_all xs [] = refl
+get_all xs (y ∷ ys) =
+    ap (λ o. o ∷ map (slice_get (xs ++ y ∷ ys)) (numbers_from (length xs + 1) ys)) (get_at_end xs y ys)
+    ∙ ap (λ l. Some y ∷ l) (rest (get_all (xs ++ y ∷ []) ys))
+  where
+    after : List Object → ℕ → Type 0
+    after l n = map (slice_get l) (numbers_from n ys) ≡ map Some ys
+
+    rest : after ((xs ++ y ∷ []) ++ ys) (length (xs ++ y ∷ [])) → after (xs ++ y ∷ ys) (length xs + 1)
+    rest h = subst (λ l. after l (length xs + 1)) (one_by_one xs y ys) (subst (after ((xs ++ y ∷ []) ++ ys)) (one_more xs y) h)
+
+pub objects_are_numbered : ObjectsAreNumbered
+objects_are_numbered w os = record { new = get_all w.heap os; old = get_before w.heap os }
