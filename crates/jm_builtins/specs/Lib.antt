@@ -1,2 +1,3 @@
 pub mod Members
 pub mod List
+pub mod Numbers

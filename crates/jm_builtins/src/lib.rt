@@ -9,6 +9,7 @@
 #![tactic(auto)]
 
 mod built_in;
+mod built_in_class;
 mod class;
 mod list;
 mod member;
@@ -17,6 +18,7 @@ mod table;
 mod text;
 
 pub use built_in::BuiltIn;
+pub use built_in_class::BuiltInClass;
 pub use list::builtins;
 
 #[cfg(test)]

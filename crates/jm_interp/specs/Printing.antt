@@ -1,5 +1,7 @@
 -- What is printed.
 use Rattle.std.specs.Prelude.{ℕ, List, [], ◌∷◌, Option, Some, None, Result, Ok, Err, Bool, false, nat_eq, slice_get, drop}
+use Rattle.jm_builtins.specs.Numbers.{number_of}
+use Rattle.jm_builtins.specs.declared.built_in_class.BuiltInClass.TheVariants.{PrintStream}
 use Rattle.jm_values.specs.declared.value.Value.{Value}
 use Rattle.jm_values.specs.declared.value.Value.TheVariants as value
 use Rattle.jm_values.specs.declared.fault.TagFault.{TagFault}
@@ -65,5 +67,5 @@ line_bytes EndLine = 10 ∷ []
 
 -- the mark of java/io/PrintStream
 abbrev pub is_print_stream : ClassId → Bool
-is_print_stream (Instance n) = nat_eq n 5
+is_print_stream (Instance n) = nat_eq n (number_of PrintStream)
 is_print_stream (Array component) = false

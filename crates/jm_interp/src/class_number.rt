@@ -3,13 +3,10 @@
 ghost use Rattle.std.specs.Prelude.{◌≡◌, codes};
 ghost use Rattle.jm_linked.specs.Links.{class_name_of};
 
+use jm_builtins::BuiltInClass;
 use jm_linked::Linked;
 
-pub(crate) const PRINT_STREAM: u32 = 5;
-
-const ARITHMETIC_EXCEPTION: u32 = 11;
-
-const NULL_POINTER_EXCEPTION: u32 = 16;
+pub(crate) const PRINT_STREAM: u32 = BuiltInClass::PrintStream as u32;
 
 /// The number of java/lang/ArithmeticException.
 #[inline]
@@ -17,7 +14,7 @@ pub(crate) fn arithmetic_exception(linked: &Linked) -> u32
     ensures { class_name_of linked.now.program result ≡ codes "java/lang/ArithmeticException" }
 {
     let _main = linked.main();
-    ARITHMETIC_EXCEPTION
+    BuiltInClass::ArithmeticException.number()
 }
 
 /// The number of java/lang/NullPointerException.
@@ -26,5 +23,5 @@ pub(crate) fn null_pointer_exception(linked: &Linked) -> u32
     ensures { class_name_of linked.now.program result ≡ codes "java/lang/NullPointerException" }
 {
     let _main = linked.main();
-    NULL_POINTER_EXCEPTION
+    BuiltInClass::NullPointerException.number()
 }

@@ -1,1 +1,2 @@
 pub mod Whole
+pub mod BuiltInNumbers

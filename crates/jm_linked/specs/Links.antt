@@ -13,7 +13,7 @@ use Rattle.jm_program.specs.declared.instruction.symbolic.Instr.{Instr}
 use Rattle.jm_program.specs.declared.instruction.symbolic.Instr.TheVariants as instr
 use Rattle.jm_program.specs.declared.reference.FieldRef.{FieldRef}
 use Rattle.jm_program.specs.declared.reference.MethodRef.{MethodRef}
-use Rattle.jm_builtins.specs.List.{the_builtins}
+use Rattle.jm_builtins.specs.Numbers.{built_in_names}
 use Rattle.jm_world.specs.Classes.{FoundMethod, MethodName, name_of_method, method_named}
 use Rattle.jm_world.specs.Loading.{main_in}
 use Rattle.jm_world.specs.Loads.{Loads}
@@ -32,7 +32,7 @@ pub record LinkedView : Type 0 where
 
 -- the names of classes by number: the built-in ones first
 abbrev pub class_names : List ClassParts → List (List ℕ)
-class_names program = map (λ b. b.name) the_builtins ++ map (λ c. c.name) program
+class_names program = built_in_names ++ map (λ c. c.name) program
 
 unfoldable pub class_name_of : List ClassParts → ℕ → List ℕ
 class_name_of program n = unwrap_or (slice_get (class_names program) n) []

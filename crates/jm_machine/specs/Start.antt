@@ -1,6 +1,8 @@
 -- The state from which a run begins.
 use Rattle.std.specs.Prelude.{◌≡◌, ℕ, List, [], ◌∷◌, Some, None, Result, Ok, Err, true, false}
 use Rattle.jm_program.specs.declared.class.ClassParts.{ClassParts}
+use Rattle.jm_builtins.specs.Numbers.{number_of}
+use Rattle.jm_builtins.specs.declared.built_in_class.BuiltInClass.TheVariants.{String, PrintStream}
 use Rattle.jm_values.specs.declared.value.Value.TheVariants.{Ref}
 use Rattle.jm_values.specs.Objects.{ObjectOf}
 use Rattle.jm_values.specs.Content.{Content, IsSound, serial_at, object_at}
@@ -20,10 +22,10 @@ use Rattle.jm_machine.specs.declared.fault.LoadFault.TheVariants.{OutOfMemory, H
 -- the print stream of System.out and main's empty array of strings, by the numbers of the built-in
 -- classes
 abbrev pub stream : ObjectOf ClassId
-stream = record { type = Instance 5; values = [] }
+stream = record { type = Instance (number_of PrintStream); values = [] }
 
 abbrev pub arguments : ObjectOf ClassId
-arguments = record { type = Array (record { dimensions = 0; element = Class 1 }); values = [] }
+arguments = record { type = Array (record { dimensions = 0; element = Class (number_of String) }); values = [] }
 
 -- an empty heap that has given no serial
 pub record IsEmpty (c : Content ClassId) : Type 0 where

@@ -10,6 +10,7 @@ ghost use Rattle.jm_world.specs.declared.class_state.ClassState.TheVariants.{Not
 ghost use Rattle.jm_world.specs.Matches.{Matches};
 
 use crate::fault::OutOfMemory;
+use jm_builtins::BuiltInClass;
 use jm_frames::Frame;
 use jm_heap::{Component, Element, Heap, HeapFault, Roots, Shape};
 use jm_linked::Linked;
@@ -21,10 +22,9 @@ use std::alloc::{AllocError, Global};
 // The cells of the first objects: 2 of the print stream, and 3 of main's empty array.
 const FIRST_CELLS: u64 = 5;
 
-// The numbers of two built-in classes.
-const STRING: u32 = 1;
+const STRING: u32 = BuiltInClass::String as u32;
 
-const PRINT_STREAM: u32 = 5;
+const PRINT_STREAM: u32 = BuiltInClass::PrintStream as u32;
 
 /// Where the first objects lie.
 #[derive(Clone, Copy)]

@@ -8,14 +8,14 @@ ghost use Rattle.jm_machine.specs.Readers.{model_static};
 ghost use Rattle.jm_machine.specs.Seen.{statics_seen};
 
 use crate::value::{WorldValue, world_value};
+use jm_builtins::BuiltInClass;
 use jm_heap::Heap;
 use jm_linked::Linked;
 use jm_program::{FieldType, Name};
 use jm_values::Value;
 use std::marker::Model;
 
-// The number of java/lang/System among the built-in classes.
-const SYSTEM: usize = 4;
+const SYSTEM: usize = BuiltInClass::System as usize;
 
 /// A static field and its value.
 #[derive(Clone, Copy)]

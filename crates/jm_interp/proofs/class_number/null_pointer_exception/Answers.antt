@@ -1,7 +1,5 @@
-use Rattle.std.proofs.Common.{refl}
-use Rattle.jm_linked.specs.Links.{class_name_of}
+use Rattle.jm_linked.proofs.BuiltInNumbers.{names_built_in}
 use Rattle.jm_interp.proofs.class_number.null_pointer_exception.Goals as goal
 
 pub returns : goal.returns
-unfolding class_name_of
-returns c = refl
+returns c = names_built_in c.args.linked.now.program c.number.result _ c.number.ensures.named
