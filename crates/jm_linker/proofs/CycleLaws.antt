@@ -57,9 +57,10 @@ named_there (k ∷ ks) (suc i) c l is = by (same_text k.name c.name) (named_ther
     by true e = refl
     by false e = e
 
-pub there : (program : List ClassParts) (i : ℕ) (c d : ClassParts) → i < length program → c ≡ get_or program i c → d ≡ c → is_some (class_named program d.name) ≡ true
+pub found_by_its_name : (program : List ClassParts) (i : ℕ) (c d : ClassParts) → i < length program → c ≡ get_or program i c → d ≡ c
+    → is_some (class_named program d.name) ≡ true
 unfolding class_named
-there program i c d l is same = ap (λ (k : ClassParts). is_some (class_among program k.name)) same ∙ named_there program i c l is
+found_by_its_name program i c d l is same = ap (λ (k : ClassParts). is_some (class_among program k.name)) same ∙ named_there program i c l is
 
 -- tests along lists
 or_same : (a b : Bool) → (a || b) ≡ (b || a)

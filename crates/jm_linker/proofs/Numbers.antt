@@ -98,6 +98,7 @@ before_from k (c ∷ cs) (suc i) name = by (same_text c.name name) (before_from 
     by true e = sym below
     by false e = e ∙ ap (λ j. elim (number_from (k + 1) cs name) as (λ _. Bool) [ None ↦ false | Some n ↦ nat_lt n j ]) next
 
-pub before : (program : List ClassParts) (i : ℕ) (name : List ℕ) (o : Option ℕ) → number_from 0 program name ≡ o → list_any (λ c. same_text c.name name) (take i program) ≡ (elim o as (λ _. Bool) [ None ↦ false | Some n ↦ nat_lt n i ])
-before program i name o e = let all : 0 + i ≡ i = omega arith in
+pub stands_before_number : (program : List ClassParts) (i : ℕ) (name : List ℕ) (o : Option ℕ) → number_from 0 program name ≡ o
+    → list_any (λ c. same_text c.name name) (take i program) ≡ (elim o as (λ _. Bool) [ None ↦ false | Some n ↦ nat_lt n i ])
+stands_before_number program i name o e = let all : 0 + i ≡ i = omega arith in
     before_from 0 program i name ∙ ap (λ j. elim (number_from 0 program name) as (λ _. Bool) [ None ↦ false | Some n ↦ nat_lt n j ]) all ∙ ap (λ p. elim p as (λ _. Bool) [ None ↦ false | Some n ↦ nat_lt n i ]) e

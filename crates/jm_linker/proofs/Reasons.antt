@@ -48,19 +48,19 @@ first_past check xs i l e =
 pub memory_says : (f : LinkFault) (r : Option Refusal) → IsOutOfMemory f → SaysWhy f r
 memory_says f r e = subst (λ g. SaysWhy g r) (sym e) tt
 
-neither : (a b : Option Refusal) → or_else a b ≡ None → (a ≡ None) × (b ≡ None)
-neither None b e = (refl, e)
-neither (Some r) b e = cc
+neither_refuses : (a b : Option Refusal) → or_else a b ≡ None → (a ≡ None) × (b ≡ None)
+neither_refuses None b e = (refl, e)
+neither_refuses (Some r) b e = cc
 
 -- a program that loads has a main
 pub has_main : (program : List ClassParts) → refusal program ≡ None → is_main (main_in program) ≡ true
 unfolding refusal
 has_main program e =
-    let members = (neither (duplicates [] program) _ e).1 in
-    let parents = (neither (first_of_all duplicate_members program) _ members).1 in
-    let cycles = (neither (first_of_all (parents_refusal program) program) _ parents).1 in
-    let main = (neither (first_of_all (cycle_refusal program) program) _ cycles).1 in
-    by (is_main (main_in program)) (neither (when (not (is_main (main_in program))) no_main) _ main).0
+    let members = (neither_refuses (duplicates [] program) _ e).1 in
+    let parents = (neither_refuses (first_of_all duplicate_members program) _ members).1 in
+    let cycles = (neither_refuses (first_of_all (parents_refusal program) program) _ parents).1 in
+    let main = (neither_refuses (first_of_all (cycle_refusal program) program) _ cycles).1 in
+    by (is_main (main_in program)) (neither_refuses (when (not (is_main (main_in program))) no_main) _ main).0
   where
     by : (t : Bool) → when (not t) no_main ≡ None → t ≡ true
     by true g = refl

@@ -76,8 +76,10 @@ no_more test program ps qs p e z =
     ∙ ap (λ o. or_found o (found_pending test program ps)) (any_nil test p.depth program)
 
 -- the first name, and then the others
-pub taken : (test : ClassParts → Bool) (program : List ClassParts) (ps qs rs : List Pending) (p q : Pending) (x : List ℕ) (xs : List (List ℕ)) → qs ≡ ps ++ p ∷ [] → p.names.now ≡ x ∷ xs → q.names.now ≡ xs → q.depth ≡ p.depth → rs ≡ ps ++ q ∷ [] → found_pending test program qs ≡ or_found (above_from test p.depth program x) (found_pending test program rs)
-taken test program ps qs rs p q x xs e names others same f =
+pub found_by_first_name : (test : ClassParts → Bool) (program : List ClassParts) (ps qs rs : List Pending) (p q : Pending) (x : List ℕ) (xs : List (List ℕ))
+    → qs ≡ ps ++ p ∷ [] → p.names.now ≡ x ∷ xs → q.names.now ≡ xs → q.depth ≡ p.depth → rs ≡ ps ++ q ∷ []
+    → found_pending test program qs ≡ or_found (above_from test p.depth program x) (found_pending test program rs)
+found_by_first_name test program ps qs rs p q x xs e names others same f =
     ap (found_pending test program) e ∙ pushed test program ps p ∙ ap (λ ys. or_found (above_any test p.depth program ys) (found_pending test program ps)) names
     ∙ ap (λ o. or_found o (found_pending test program ps)) (any_cons test p.depth program x xs)
     ∙ or_assoc (above_from test p.depth program x) (above_any test p.depth program xs) (found_pending test program ps)

@@ -2,7 +2,8 @@
 use Rattle.std.proofs.Common.{◌≡◌, suc, [], ◌++◌, ◌-◌, take, refl, sym, ap, subst, ◌∙◌, arith}
 use Rattle.std.proofs.lemmas.List.{nil_from_length}
 use Rattle.jm_linker.specs.Walks.{sought_in, above_from, found_pending, AllSay}
-use Rattle.jm_linker.proofs.WalkLaws.{only_pending, none_pending, too_deep, no_more, taken, no_such, is_here, here_first, nothing_first, say_dropped, say_skipped, say_above, was_vain, begin_says, none_kept, deep_none, empty_none}
+use Rattle.jm_linker.proofs.WalkLaws.{only_pending, none_pending, too_deep, no_more, found_by_first_name, no_such, is_here, here_first}
+use Rattle.jm_linker.proofs.WalkLaws.{nothing_first, say_dropped, say_skipped, say_above, was_vain, begin_says, none_kept, deep_none, empty_none}
 use Rattle.jm_linker.proofs.walk.find_above.Goals as goal
 use Rattle.jm_linker.proofs.walk.find_above.Goals.{in-Some-find+else-is_in+in_ok-push-3+in_ok-push-4, in_default-find}
 
@@ -51,7 +52,8 @@ loop-preserved-then-is_tried c =
     let one : suc (c.in-Some.next.depth - 1) ≡ c.in-Some.next.depth = omega (arith, c.if-next-eq0.false) in
     let vain = c.is_tried.ensures test program inv.2 c.if-is_tried.true in
     let none = ap (λ n. above_from test n program c.in-Some-split_first.name.now) (sym one) ∙ vain in
-    let first = taken test program _ _ _ _ _ c.in-Some-split_first.name.now _ c.in-Some.ensures.items c.in-Some-split_first.ensures.cases.0 refl refl c.in_ok-push-2.ensures.items in (
+    let first = found_by_first_name test program _ _ _ _ _ c.in-Some-split_first.name.now _
+    c.in-Some.ensures.items c.in-Some-split_first.ensures.cases.0 refl refl c.in_ok-push-2.ensures.items in (
       nothing_first _ _ _ _ first none inv.0,
       say_skipped test program _ _ _ _ _ c.in-Some-split_first.name.now _ c.in-Some.ensures.items c.in-Some-split_first.ensures.cases.0 refl refl refl c.in_ok-push-2.ensures.items none inv.1,
       inv.2,
@@ -61,7 +63,8 @@ pub returns-then-is_in : goal.returns-then-is_in
 returns-then-is_in c =
     let test = sought_in c.args.sought.now in
     let program = c.args.classes.now.program.now in
-    let first = taken test program _ _ _ _ _ c.in-Some-split_first.name.now _ c.in-Some.ensures.items c.in-Some-split_first.ensures.cases.0 refl refl c.in_ok-push-2.ensures.items in
+    let first = found_by_first_name test program _ _ _ _ _ c.in-Some-split_first.name.now _
+    c.in-Some.ensures.items c.in-Some-split_first.ensures.cases.0 refl refl c.in_ok-push-2.ensures.items in
     let here = is_here test program c.in-Some.next.depth c.in-Some-split_first.name.now c.in-Some-find.class.now c.if-next-eq0.false (sym c.in-Some-find.ensures) (sym c.is_in.ensures ∙ c.if-is_in.true) in
     here_first _ _ _ _ c.in-Some-find.class.now first here c.loop.invariant.0
 
@@ -70,7 +73,8 @@ loop-preserved c =
     let test = sought_in c.args.sought.now in
     let program = c.args.classes.now.program.now in
     let inv = c.loop.invariant in
-    let first = taken test program _ _ _ _ _ c.in-Some-split_first.name.now _ c.in-Some.ensures.items c.in-Some-split_first.ensures.cases.0 refl refl c.in_ok-push-2.ensures.items in
+    let first = found_by_first_name test program _ _ _ _ _ c.in-Some-split_first.name.now _
+    c.in-Some.ensures.items c.in-Some-split_first.ensures.cases.0 refl refl c.in_ok-push-2.ensures.items in
     elim c.match-find.branch [
       | in-Some-find+else-is_in+in_ok-push-3+in_ok-push-4 w ↦
           let turn = say_above test program _ _ _ _ _ c.in-Some.next _ _ _ c.in-Some-split_first.name _ w.in-Some-find.class.now c.in-Some.ensures.items c.in-Some-split_first.ensures.cases.0 refl refl refl c.in_ok-push-2.ensures.items w.superclass_of.ensures refl refl w.in_ok-push-3.ensures.items w.as_slice.ensures refl refl w.in_ok-push-4.ensures.items c.if-next-eq0.false (sym w.in-Some-find.ensures) (sym w.is_in.ensures ∙ w.if-is_in.false) inv.1 in

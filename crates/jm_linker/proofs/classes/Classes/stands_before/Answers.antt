@@ -1,10 +1,14 @@
 -- By the number of the first class of the name.
 use Rattle.std.proofs.Common.{Some, None, sym, ◌∙◌}
-use Rattle.jm_linker.proofs.Numbers.{before}
+use Rattle.jm_linker.proofs.Numbers.{stands_before_number}
 use Rattle.jm_linker.proofs.classes.Classes.stands_before.Goals as goal
 
 pub returns-in-Some : goal.returns-in-Some
-returns-in-Some c = sym (before c.args.self.now.program.now c.args.number c.args.name.now (Some c.in-Some.first.now) (sym (c.args.self.now.numbered c.args.name.now) ∙ sym c.in-Some.ensures.value))
+returns-in-Some c =
+    sym (stands_before_number c.args.self.now.program.now c.args.number c.args.name.now (Some c.in-Some.first.now)
+    (sym (c.args.self.now.numbered c.args.name.now) ∙ sym c.in-Some.ensures.value))
 
 pub returns-in-None : goal.returns-in-None
-returns-in-None c = sym (before c.args.self.now.program.now c.args.number c.args.name.now None (sym (c.args.self.now.numbered c.args.name.now) ∙ sym c.in-None.ensures.value))
+returns-in-None c =
+    sym (stands_before_number c.args.self.now.program.now c.args.number c.args.name.now None
+    (sym (c.args.self.now.numbered c.args.name.now) ∙ sym c.in-None.ensures.value))
