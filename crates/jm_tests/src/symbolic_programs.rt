@@ -107,23 +107,27 @@ fn answer(alloc: Global, text: &str) -> Result<String, AllocError> {
     }
 }
 
+// Whether a text comes to this: `itself` stands for the text.
+fn comes_to(alloc: Global, text: &str, want: &str) -> Result<bool, AllocError> {
+    let want = if want == "itself" { text } else { want };
+    Ok(answer(alloc, text)?.as_str() == want)
+}
+
+// Texts, how many they are, and what each comes to.
+const TEXTS: [(&str, usize, &str); 3] = [
+    (DESCRIPTORS, 32, "itself"),
+    (BAD_DESCRIPTORS, 35, "1 BadDescriptor"),
+    (BAD_NAMES, 12, "2 BadName"),
+];
+
 #[test]
 fn descriptors_are_what_their_texts_spell(rt: HostRuntime) -> Result<(), Fail> {
-    for text in DESCRIPTORS.lines() {
-        assert!(rt; answer(rt.alloc(), text)?.as_str() == text, "{text}");
+    for (texts, count, want) in TEXTS {
+        assert!(rt; texts.lines().count() == count, "{want}");
+        for text in texts.lines() {
+            assert!(rt; comes_to(rt.alloc(), text, want)?, "{text}");
+        }
     }
-    for text in BAD_DESCRIPTORS.lines() {
-        assert!(rt;
-            answer(rt.alloc(), text)?.as_str() == "1 BadDescriptor",
-            "{text}"
-        );
-    }
-    for text in BAD_NAMES.lines() {
-        assert!(rt; answer(rt.alloc(), text)?.as_str() == "2 BadName", "{text}");
-    }
-    assert!(rt; DESCRIPTORS.lines().count() == 32);
-    assert!(rt; BAD_DESCRIPTORS.lines().count() == 35);
-    assert!(rt; BAD_NAMES.lines().count() == 12);
     Ok(())
 }
 
@@ -159,16 +163,7 @@ fn long_descriptors_have_limits(rt: HostRuntime) -> Result<(), Fail> {
     for line in LONG_TEXTS.lines() {
         let (row, want) = row_of(line)?;
         let text = repeated(rt.alloc(), row)?;
-        let said = answer(rt.alloc(), text.as_str())?;
-        let is_itself = said.as_str() == text.as_str();
-        assert!(rt;
-            if want == "itself" {
-                is_itself
-            } else {
-                said.as_str() == want
-            },
-            "{line}"
-        );
+        assert!(rt; comes_to(rt.alloc(), text.as_str(), want)?, "{line}");
     }
     Ok(())
 }
@@ -176,9 +171,7 @@ fn long_descriptors_have_limits(rt: HostRuntime) -> Result<(), Fail> {
 #[test]
 fn names_print_what_jasmin_can_write(rt: HostRuntime) -> Result<(), Fail> {
     let mut units = code_units(rt.alloc(), "a b;c\\\u{1f600}")?;
-    units.push(0xD83D)?;
-    units.push(0x64)?;
-    units.push(0xDE00)?;
+    units.extend_from_slice(&[0xD83D, 0x64, 0xDE00])?;
     let name = Name::new(units);
     let printed = name.to_string(rt.alloc())?;
     assert!(rt; printed.as_str() == "a\\u0020b\\u003bc\\u005c\u{1f600}\\ud83dd\\ude00");
@@ -190,108 +183,152 @@ fn name(alloc: Global, text: &str) -> Result<Name, AllocError> {
     Ok(Name::new(code_units(alloc, text)?))
 }
 
-fn method_ref(alloc: Global, class: &str, method: &str) -> Result<MethodRef, AllocError> {
-    let mut parameters = Vec::new(alloc);
-    parameters.push(FieldType {
+// `(J)V`.
+fn takes_long(alloc: Global) -> Result<MethodDescriptor, AllocError> {
+    let long = FieldType {
         dimensions: 0,
         element: ElementType::Base(BaseType::Long),
-    })?;
-    Ok(MethodRef {
-        class: ClassRef::Class(name(alloc, class)?),
-        name: name(alloc, method)?,
-        descriptor: MethodDescriptor {
-            parameters: Boxed::new(alloc, Sequence::new(parameters))?,
-            return_type: None,
-        },
+    };
+    let parameters = Vec::from_array(alloc, [long])?;
+    Ok(MethodDescriptor {
+        parameters: Boxed::new(alloc, Sequence::new(parameters))?,
+        return_type: None,
     })
 }
 
-fn pairs(alloc: Global) -> Result<Sequence<SwitchPair>, AllocError> {
-    let mut pairs = Vec::new(alloc);
-    pairs.push(SwitchPair { key: -5, target: 1 })?;
-    pairs.push(SwitchPair { key: 7, target: 0 })?;
-    Ok(Sequence::new(pairs))
+fn simple(op: Simple) -> Instr {
+    Instr::Plain(Plain::Simple(op))
 }
 
-// One of each kind, with its line (Jasmin User Guide, "Instructions").
-fn lines(alloc: Global) -> Result<Vec<(Instr, &'static str)>, AllocError> {
-    let mut lines = Vec::new(alloc);
-    let simple = |op: Simple| Instr::Plain(Plain::Simple(op));
-    lines.push((simple(Simple::IntConstant(SmallInt::MinusOne)), "iconst_m1"))?;
-    lines.push((
-        simple(Simple::Load(OperandType::Reference, ShortIndex::Three)),
-        "aload_3",
-    ))?;
-    lines.push((simple(Simple::Stack(StackOp::Dup2X1)), "dup2_x1"))?;
-    lines.push((
-        simple(Simple::Shift(Shift::UnsignedRight, Integral::Long)),
-        "lushr",
-    ))?;
-    lines.push((Instr::Plain(Plain::Increment(300, -3)), "iinc 300 -3"))?;
-    lines.push((
-        Instr::Plain(Plain::Branch(Branch::IfInts(Comparison::Less), 12)),
-        "if_icmplt L12",
-    ))?;
-    lines.push((
-        Instr::Array(ArrayOp::New(PrimitiveType::Boolean)),
-        "newarray boolean",
-    ))?;
-    lines.push((Instr::Constant(Constant::Long(-9)), "ldc2_w -9"))?;
-    let text = Boxed::new(alloc, Sequence::new(code_units(alloc, "a\"b")?))?;
-    lines.push((Instr::Constant(Constant::String(text)), "ldc \"a\\u0022b\""))?;
+fn push_numbers(instructions: &mut Vec<Instr>) -> Result<(), AllocError> {
+    instructions.push(simple(Simple::IntConstant(SmallInt::MinusOne)))?;
+    instructions.push(simple(Simple::Load(OperandType::Reference, ShortIndex::Three)))?;
+    instructions.push(simple(Simple::Stack(StackOp::Dup2X1)))?;
+    instructions.push(simple(Simple::Shift(Shift::UnsignedRight, Integral::Long)))?;
+    instructions.push(Instr::Plain(Plain::Increment(300, -3)))?;
+    let less = Branch::IfInts(Comparison::Less);
+    instructions.push(Instr::Plain(Plain::Branch(less, 12)))?;
+    instructions.push(Instr::Array(ArrayOp::New(PrimitiveType::Boolean)))?;
+    instructions.push(Instr::Constant(Constant::Long(-9)))?;
+    Ok(())
+}
+
+fn text(alloc: Global) -> Result<Instr, AllocError> {
+    let units = code_units(alloc, "a\"b")?;
+    let units = Boxed::new(alloc, Sequence::new(units))?;
+    Ok(Instr::Constant(Constant::String(units)))
+}
+
+const PAIRS: [SwitchPair; 2] = [
+    SwitchPair { key: -5, target: 1 },
+    SwitchPair { key: 7, target: 0 },
+];
+
+fn switch(alloc: Global) -> Result<Instr, AllocError> {
+    let pairs = Vec::from_slice(alloc, &PAIRS)?;
     let lookup = LookupSwitch {
-        pairs: pairs(alloc)?,
+        pairs: Sequence::new(pairs),
         default: 2,
     };
-    let switch = Instr::Plain(Plain::LookupSwitch(Boxed::new(alloc, lookup)?));
-    lines.push((switch, "lookupswitch\n  -5 : L1\n  7 : L0\n  default : L2"))?;
-    let method = Boxed::new(alloc, method_ref(alloc, "a/B", "m")?)?;
-    let invoke = Instr::Invoke(InvokeOp::Interface, method);
-    lines.push((invoke, "invokeinterface a/B/m(J)V 3"))?;
-    Ok(lines)
+    let lookup = Boxed::new(alloc, lookup)?;
+    Ok(Instr::Plain(Plain::LookupSwitch(lookup)))
+}
+
+// `a/B/m(J)V`.
+fn method_ref(alloc: Global) -> Result<MethodRef, AllocError> {
+    let class = name(alloc, "a/B")?;
+    let name = name(alloc, "m")?;
+    Ok(MethodRef {
+        class: ClassRef::Class(class),
+        name,
+        descriptor: takes_long(alloc)?,
+    })
+}
+
+fn invoke(alloc: Global) -> Result<Instr, AllocError> {
+    let method = method_ref(alloc)?;
+    let method = Boxed::new(alloc, method)?;
+    Ok(Instr::Invoke(InvokeOp::Interface, method))
+}
+
+// One of each kind.
+fn instructions(alloc: Global) -> Result<Vec<Instr>, AllocError> {
+    let mut instructions = Vec::new(alloc);
+    push_numbers(&mut instructions)?;
+    instructions.push(text(alloc)?)?;
+    instructions.push(switch(alloc)?)?;
+    instructions.push(invoke(alloc)?)?;
+    Ok(instructions)
+}
+
+// The lines of the instructions, whose own line ends are written `|` (Jasmin User Guide,
+// "Instructions").
+const LINES: &str = "\
+iconst_m1
+aload_3
+dup2_x1
+lushr
+iinc 300 -3
+if_icmplt L12
+newarray boolean
+ldc2_w -9
+ldc \"a\\u0022b\"
+lookupswitch|  -5 : L1|  7 : L0|  default : L2
+invokeinterface a/B/m(J)V 3";
+
+// Whether an instruction prints as this line.
+fn prints(alloc: Global, instruction: &Instr, line: &str) -> Result<bool, AllocError> {
+    let want = line.replace(alloc, "|", "\n")?;
+    Ok(instruction.to_string(alloc)?.as_str() == want.as_str())
 }
 
 #[test]
 fn instructions_print_as_jasmin_writes_them(rt: HostRuntime) -> Result<(), Fail> {
-    let lines = lines(rt.alloc())?;
-    for (instruction, line) in &lines {
-        assert!(rt; instruction.to_string(rt.alloc())?.as_str() == *line);
-        assert!(rt; instruction.fits(13));
+    let instructions = instructions(rt.alloc())?;
+    assert!(rt; LINES.lines().count() == instructions.len());
+    for (instruction, line) in instructions.iter().zip(LINES.lines()) {
+        assert!(rt; prints(rt.alloc(), instruction, line)?, "{line}");
+        assert!(rt; instruction.fits(13), "{line}");
     }
     Ok(())
 }
 
-fn main_method(alloc: Global) -> Result<Method, AllocError> {
-    let mut instructions = Vec::new(alloc);
-    instructions.push(Instr::Return(ReturnOp::Void))?;
-    let code = Code {
+fn main_code(alloc: Global) -> Result<Code, AllocError> {
+    let instructions = Vec::from_array(alloc, [Instr::Return(ReturnOp::Void)])?;
+    Ok(Code {
         max_stack: 0,
         max_locals: 2,
         instructions: Sequence::new(instructions),
         handlers: Sequence::new(Vec::new(alloc)),
         lines: Sequence::new(Vec::new(alloc)),
-    };
-    let method = method_ref(alloc, "Main", "main")?;
+    })
+}
+
+fn main_method(alloc: Global) -> Result<Method, AllocError> {
+    let code = main_code(alloc)?;
+    let name = name(alloc, "main")?;
     Ok(Method {
         flags: AccessFlags {
             bits: AccessFlags::PUBLIC | AccessFlags::STATIC,
         },
-        name: method.name,
-        descriptor: method.descriptor,
+        name,
+        descriptor: takes_long(alloc)?,
         code: Some(code),
     })
 }
 
 fn parts(alloc: Global, major: u16) -> Result<ClassParts, AllocError> {
-    let mut methods = Vec::new(alloc);
-    methods.push(main_method(alloc)?)?;
+    let main = name(alloc, "Main")?;
+    let object = name(alloc, "java/lang/Object")?;
+    let method = main_method(alloc)?;
+    let methods = Vec::from_array(alloc, [method])?;
     Ok(ClassParts {
         version: Version { major, minor: 0 },
         flags: AccessFlags {
             bits: AccessFlags::PUBLIC | AccessFlags::SUPER,
         },
-        name: name(alloc, "Main")?,
-        superclass: Some(name(alloc, "java/lang/Object")?),
+        name: main,
+        superclass: Some(object),
         interfaces: Sequence::new(Vec::new(alloc)),
         fields: Sequence::new(Vec::new(alloc)),
         methods: Sequence::new(methods),

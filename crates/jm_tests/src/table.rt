@@ -10,9 +10,5 @@ pub fn row_of(line: &str) -> Result<(&str, &str), Fail> {
 
 /// A text whose line ends are written `/`.
 pub fn with_line_ends(alloc: Global, row: &str) -> Result<String, AllocError> {
-    let mut text = String::new(alloc);
-    for sign in row.chars() {
-        text.push(if sign == '/' { '\n' } else { sign })?;
-    }
-    Ok(text)
+    row.replace(alloc, "/", "\n")
 }

@@ -8,105 +8,134 @@ use jm_program::{
 };
 use std::alloc::{AllocError, Global};
 
-// Those of one byte.
-const SIMPLE: [Simple; 74] = [
+// Those of one byte that belong to no family.
+const SINGLE: [Simple; 5] = [
     Simple::Nop,
     Simple::Null,
-    Simple::IntConstant(SmallInt::MinusOne),
-    Simple::IntConstant(SmallInt::Zero),
-    Simple::IntConstant(SmallInt::One),
-    Simple::IntConstant(SmallInt::Two),
-    Simple::IntConstant(SmallInt::Three),
-    Simple::IntConstant(SmallInt::Four),
-    Simple::IntConstant(SmallInt::Five),
     Simple::LongConstant(SmallLong::Zero),
     Simple::LongConstant(SmallLong::One),
-    Simple::Load(OperandType::Int, ShortIndex::Zero),
-    Simple::Load(OperandType::Int, ShortIndex::One),
-    Simple::Load(OperandType::Int, ShortIndex::Two),
-    Simple::Load(OperandType::Int, ShortIndex::Three),
-    Simple::Load(OperandType::Long, ShortIndex::Zero),
-    Simple::Load(OperandType::Long, ShortIndex::One),
-    Simple::Load(OperandType::Long, ShortIndex::Two),
-    Simple::Load(OperandType::Long, ShortIndex::Three),
-    Simple::Load(OperandType::Reference, ShortIndex::Zero),
-    Simple::Load(OperandType::Reference, ShortIndex::One),
-    Simple::Load(OperandType::Reference, ShortIndex::Two),
-    Simple::Load(OperandType::Reference, ShortIndex::Three),
-    Simple::Store(OperandType::Int, ShortIndex::Zero),
-    Simple::Store(OperandType::Int, ShortIndex::One),
-    Simple::Store(OperandType::Int, ShortIndex::Two),
-    Simple::Store(OperandType::Int, ShortIndex::Three),
-    Simple::Store(OperandType::Long, ShortIndex::Zero),
-    Simple::Store(OperandType::Long, ShortIndex::One),
-    Simple::Store(OperandType::Long, ShortIndex::Two),
-    Simple::Store(OperandType::Long, ShortIndex::Three),
-    Simple::Store(OperandType::Reference, ShortIndex::Zero),
-    Simple::Store(OperandType::Reference, ShortIndex::One),
-    Simple::Store(OperandType::Reference, ShortIndex::Two),
-    Simple::Store(OperandType::Reference, ShortIndex::Three),
-    Simple::Stack(StackOp::Pop),
-    Simple::Stack(StackOp::Pop2),
-    Simple::Stack(StackOp::Dup),
-    Simple::Stack(StackOp::DupX1),
-    Simple::Stack(StackOp::DupX2),
-    Simple::Stack(StackOp::Dup2),
-    Simple::Stack(StackOp::Dup2X1),
-    Simple::Stack(StackOp::Dup2X2),
-    Simple::Stack(StackOp::Swap),
-    Simple::Arithmetic(Arithmetic::Add, Integral::Int),
-    Simple::Arithmetic(Arithmetic::Sub, Integral::Int),
-    Simple::Arithmetic(Arithmetic::Mul, Integral::Int),
-    Simple::Arithmetic(Arithmetic::Div, Integral::Int),
-    Simple::Arithmetic(Arithmetic::Rem, Integral::Int),
-    Simple::Negate(Integral::Int),
-    Simple::Shift(Shift::Left, Integral::Int),
-    Simple::Shift(Shift::Right, Integral::Int),
-    Simple::Shift(Shift::UnsignedRight, Integral::Int),
-    Simple::Bitwise(Bitwise::And, Integral::Int),
-    Simple::Bitwise(Bitwise::Or, Integral::Int),
-    Simple::Bitwise(Bitwise::Xor, Integral::Int),
-    Simple::Arithmetic(Arithmetic::Add, Integral::Long),
-    Simple::Arithmetic(Arithmetic::Sub, Integral::Long),
-    Simple::Arithmetic(Arithmetic::Mul, Integral::Long),
-    Simple::Arithmetic(Arithmetic::Div, Integral::Long),
-    Simple::Arithmetic(Arithmetic::Rem, Integral::Long),
-    Simple::Negate(Integral::Long),
-    Simple::Shift(Shift::Left, Integral::Long),
-    Simple::Shift(Shift::Right, Integral::Long),
-    Simple::Shift(Shift::UnsignedRight, Integral::Long),
-    Simple::Bitwise(Bitwise::And, Integral::Long),
-    Simple::Bitwise(Bitwise::Or, Integral::Long),
-    Simple::Bitwise(Bitwise::Xor, Integral::Long),
-    Simple::Convert(Conversion::IntToLong),
-    Simple::Convert(Conversion::LongToInt),
-    Simple::Convert(Conversion::IntToByte),
-    Simple::Convert(Conversion::IntToChar),
-    Simple::Convert(Conversion::IntToShort),
     Simple::CompareLongs,
 ];
 
-// Those with a target, which is 9.
-const BRANCHES: [Branch; 18] = [
-    Branch::If(Comparison::Equal),
-    Branch::If(Comparison::NotEqual),
-    Branch::If(Comparison::Less),
-    Branch::If(Comparison::GreaterOrEqual),
-    Branch::If(Comparison::Greater),
-    Branch::If(Comparison::LessOrEqual),
-    Branch::IfInts(Comparison::Equal),
-    Branch::IfInts(Comparison::NotEqual),
-    Branch::IfInts(Comparison::Less),
-    Branch::IfInts(Comparison::GreaterOrEqual),
-    Branch::IfInts(Comparison::Greater),
-    Branch::IfInts(Comparison::LessOrEqual),
-    Branch::IfReferences(Equality::Equal),
-    Branch::IfReferences(Equality::NotEqual),
-    Branch::IfNull(Equality::Equal),
-    Branch::IfNull(Equality::NotEqual),
-    Branch::Goto,
-    Branch::GotoW,
+const SMALL_INTS: [SmallInt; 7] = [
+    SmallInt::MinusOne,
+    SmallInt::Zero,
+    SmallInt::One,
+    SmallInt::Two,
+    SmallInt::Three,
+    SmallInt::Four,
+    SmallInt::Five,
 ];
+
+const STACK_OPS: [StackOp; 9] = [
+    StackOp::Pop,
+    StackOp::Pop2,
+    StackOp::Dup,
+    StackOp::DupX1,
+    StackOp::DupX2,
+    StackOp::Dup2,
+    StackOp::Dup2X1,
+    StackOp::Dup2X2,
+    StackOp::Swap,
+];
+
+const CONVERSIONS: [Conversion; 5] = [
+    Conversion::IntToLong,
+    Conversion::LongToInt,
+    Conversion::IntToByte,
+    Conversion::IntToChar,
+    Conversion::IntToShort,
+];
+
+fn push_simple(ops: &mut Vec<Plain>) -> Result<(), AllocError> {
+    for op in SINGLE {
+        ops.push(Plain::Simple(op))?;
+    }
+    for number in SMALL_INTS {
+        ops.push(Plain::Simple(Simple::IntConstant(number)))?;
+    }
+    for op in STACK_OPS {
+        ops.push(Plain::Simple(Simple::Stack(op)))?;
+    }
+    for conversion in CONVERSIONS {
+        ops.push(Plain::Simple(Simple::Convert(conversion)))?;
+    }
+    Ok(())
+}
+
+const ARITHMETIC: [Arithmetic; 5] = [
+    Arithmetic::Add,
+    Arithmetic::Sub,
+    Arithmetic::Mul,
+    Arithmetic::Div,
+    Arithmetic::Rem,
+];
+
+const SHIFTS: [Shift; 3] = [Shift::Left, Shift::Right, Shift::UnsignedRight];
+
+const BITWISE: [Bitwise; 3] = [Bitwise::And, Bitwise::Or, Bitwise::Xor];
+
+// What is computed of ints, or of longs.
+fn push_computed(ops: &mut Vec<Plain>, integral: Integral) -> Result<(), AllocError> {
+    ops.push(Plain::Simple(Simple::Negate(integral)))?;
+    for op in ARITHMETIC {
+        ops.push(Plain::Simple(Simple::Arithmetic(op, integral)))?;
+    }
+    for shift in SHIFTS {
+        ops.push(Plain::Simple(Simple::Shift(shift, integral)))?;
+    }
+    for op in BITWISE {
+        ops.push(Plain::Simple(Simple::Bitwise(op, integral)))?;
+    }
+    Ok(())
+}
+
+const SHORT_INDEXES: [ShortIndex; 4] = [
+    ShortIndex::Zero,
+    ShortIndex::One,
+    ShortIndex::Two,
+    ShortIndex::Three,
+];
+
+// Loads and stores, by an index of the opcode's own, and by a number of two bytes at most.
+fn push_locals(ops: &mut Vec<Plain>, operand_type: OperandType) -> Result<(), AllocError> {
+    for index in SHORT_INDEXES {
+        ops.push(Plain::Simple(Simple::Load(operand_type, index)))?;
+        ops.push(Plain::Simple(Simple::Store(operand_type, index)))?;
+    }
+    for number in [1, 300] {
+        ops.push(Plain::Load(operand_type, number))?;
+        ops.push(Plain::Store(operand_type, number))?;
+    }
+    Ok(())
+}
+
+// The target of each branch.
+const TARGET: u32 = 9;
+
+const COMPARISONS: [Comparison; 6] = [
+    Comparison::Equal,
+    Comparison::NotEqual,
+    Comparison::Less,
+    Comparison::GreaterOrEqual,
+    Comparison::Greater,
+    Comparison::LessOrEqual,
+];
+
+fn push_branches(ops: &mut Vec<Plain>) -> Result<(), AllocError> {
+    for comparison in COMPARISONS {
+        ops.push(Plain::Branch(Branch::If(comparison), TARGET))?;
+        ops.push(Plain::Branch(Branch::IfInts(comparison), TARGET))?;
+    }
+    for equality in [Equality::Equal, Equality::NotEqual] {
+        ops.push(Plain::Branch(Branch::IfReferences(equality), TARGET))?;
+        ops.push(Plain::Branch(Branch::IfNull(equality), TARGET))?;
+    }
+    for branch in [Branch::Goto, Branch::GotoW] {
+        ops.push(Plain::Branch(branch, TARGET))?;
+    }
+    Ok(())
+}
 
 // `iinc` of a local variable by a constant.
 const INCREMENTS: [(u16, i16); 7] = [
@@ -119,13 +148,15 @@ const INCREMENTS: [(u16, i16); 7] = [
     (0, -32768),
 ];
 
-// Loads and stores with a number of two bytes at most.
-fn push_locals(ops: &mut Vec<Plain>) -> Result<(), AllocError> {
-    for operand_type in [OperandType::Int, OperandType::Long, OperandType::Reference] {
-        for number in [1, 300] {
-            ops.push(Plain::Load(operand_type, number))?;
-            ops.push(Plain::Store(operand_type, number))?;
-        }
+fn push_numbers(ops: &mut Vec<Plain>) -> Result<(), AllocError> {
+    for (number, constant) in INCREMENTS {
+        ops.push(Plain::Increment(number, constant))?;
+    }
+    for number in [-128, 127] {
+        ops.push(Plain::PushByte(number))?;
+    }
+    for number in [-32768, 32767] {
+        ops.push(Plain::PushShort(number))?;
     }
     Ok(())
 }
@@ -136,7 +167,7 @@ fn table_switch(alloc: Global) -> Result<Plain, AllocError> {
     let table = TableSwitch {
         low: -1,
         targets,
-        default: 9,
+        default: TARGET,
     };
     Ok(Plain::TableSwitch(Boxed::new(alloc, table)?))
 }
@@ -155,7 +186,7 @@ fn lookup_switch(alloc: Global) -> Result<Plain, AllocError> {
     }
     let lookup = LookupSwitch {
         pairs: Sequence::new(pairs),
-        default: 9,
+        default: TARGET,
     };
     Ok(Plain::LookupSwitch(Boxed::new(alloc, lookup)?))
 }
@@ -163,20 +194,15 @@ fn lookup_switch(alloc: Global) -> Result<Plain, AllocError> {
 /// All of them.
 pub fn all_instructions(alloc: Global) -> Result<Vec<Plain>, AllocError> {
     let mut ops = Vec::new(alloc);
-    for op in SIMPLE {
-        ops.push(Plain::Simple(op))?;
+    push_simple(&mut ops)?;
+    for integral in [Integral::Int, Integral::Long] {
+        push_computed(&mut ops, integral)?;
     }
-    for op in BRANCHES {
-        ops.push(Plain::Branch(op, 9))?;
+    for operand_type in [OperandType::Int, OperandType::Long, OperandType::Reference] {
+        push_locals(&mut ops, operand_type)?;
     }
-    for (number, constant) in INCREMENTS {
-        ops.push(Plain::Increment(number, constant))?;
-    }
-    push_locals(&mut ops)?;
-    ops.push(Plain::PushByte(-128))?;
-    ops.push(Plain::PushByte(127))?;
-    ops.push(Plain::PushShort(-32768))?;
-    ops.push(Plain::PushShort(32767))?;
+    push_branches(&mut ops)?;
+    push_numbers(&mut ops)?;
     ops.push(table_switch(alloc)?)?;
     ops.push(lookup_switch(alloc)?)?;
     Ok(ops)

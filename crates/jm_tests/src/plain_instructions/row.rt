@@ -10,20 +10,28 @@ use std::alloc::{AllocError, Global};
 use std::process::Abort;
 use std::test::Fail;
 
+// A reference to a place up to 1000.
+fn reference_of(digits: &str) -> Option<Value> {
+    match digits.parse::<u64>() {
+        Ok(number) if 0 < number && number <= 1000 => Some(Value::Ref(Place::new(number))),
+        _ => None,
+    }
+}
+
+fn number_of(word: &str) -> Option<Value> {
+    match word.strip_suffix("L") {
+        Some(digits) => Some(Value::Long(digits.parse::<i64>().ok()?)),
+        None => Some(Value::Int(word.parse::<i32>().ok()?)),
+    }
+}
+
 fn value_of(word: &str) -> Option<Value> {
     if word == "null" {
         return Some(Value::Null);
     }
-    if let Some(digits) = word.strip_prefix("#") {
-        let number = digits.parse::<u64>().ok()?;
-        if number == 0 || number > 1000 {
-            return None;
-        }
-        return Some(Value::Ref(Place::new(number)));
-    }
-    match word.strip_suffix("L") {
-        Some(digits) => Some(Value::Long(digits.parse::<i64>().ok()?)),
-        None => Some(Value::Int(word.parse::<i32>().ok()?)),
+    match word.strip_prefix("#") {
+        Some(digits) => reference_of(digits),
+        None => number_of(word),
     }
 }
 

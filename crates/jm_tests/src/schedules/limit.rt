@@ -7,10 +7,7 @@ use std::test::Fail;
 
 // Ten lines of a million events each, and then a text whose line ends are written `/`.
 fn ten_millions(alloc: Global, then: &str) -> Result<String, AllocError> {
-    let mut text = String::new(alloc);
-    for _ in 0..10u8 {
-        text.push_str("t 1 x 1000000\n")?;
-    }
+    let mut text = "t 1 x 1000000\n".repeat(alloc, 10)?;
     let then = with_line_ends(alloc, then)?;
     text.push_str(&then)?;
     Ok(text)
