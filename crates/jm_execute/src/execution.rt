@@ -21,13 +21,13 @@ use crate::watched::Watched;
 use jm_heap::{Heap, PlainHeap};
 use jm_machine::Machine;
 use jm_schedule::Schedule;
-use jm_shared::{Journal, Room};
+use jm_shared::{Journal, Origin};
 use std::alloc::Global;
 use std::io::{Read, Write};
 use std::marker::Brand;
 
 // Tells of a run whose events were all made.
-fn tell_run<H: Heap, R: Room, O: Write, E: Write>(
+fn tell_run<H: Heap, R: Origin, O: Write, E: Write>(
     journal: &Journal<H, R>,
     out: &mut Watched<O>,
     err: &mut Watched<E>,
@@ -50,7 +50,7 @@ fn tell_run<H: Heap, R: Room, O: Write, E: Write>(
 }
 
 // Tells of a run at one of whose events a growth was refused.
-fn tell_interrupted<H: Heap, R: Room, O: Write, E: Write>(
+fn tell_interrupted<H: Heap, R: Origin, O: Write, E: Write>(
     journal: &Journal<H, R>,
     out: &mut Watched<O>,
     err: &mut Watched<E>,
@@ -72,8 +72,8 @@ fn tell_interrupted<H: Heap, R: Room, O: Write, E: Write>(
     }
 }
 
-// Makes the events of a schedule from the room's first world on, and tells of the run.
-fn run_events<R: Room, O: Write, E: Write>(
+// Makes the events of a schedule from the origin on, and tells of the run.
+fn run_events<R: Origin, O: Write, E: Write>(
     alloc: Global,
     machine: Machine<PlainHeap>,
     schedule: &Schedule,

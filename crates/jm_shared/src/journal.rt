@@ -7,7 +7,7 @@ ghost use Rattle.jm_machine.specs.View.{MatchesWorld};
 ghost use Rattle.jm_shared.specs.Legal.{IsLegal, world_after, entry_of, receipt_of};
 
 use crate::entry::{Entry, Receipt};
-use crate::room::Room;
+use crate::origin::Origin;
 use crate::stretch::{Stretch, add, entry_at};
 use jm_heap::Heap;
 use jm_machine::{Machine, OutOfMemory};
@@ -15,21 +15,21 @@ use jm_world::Event;
 use std::alloc::Global;
 use std::marker::{Model, PhantomData};
 
-/// A machine and the journal of its events. The journal is legal from its room's first world, and
-/// the machine matches the world to which it leads.
+/// A machine and the journal of its events. The journal is legal from its origin, and the machine
+/// matches the world to which it leads.
 ///
 /// Equal entries in a row are kept once: a schedule that makes one thread's steps takes next to no
 /// memory, and no journal takes more than 40 bytes an entry.
 #[derive(Drop)]
-pub struct Journal<H: Heap, R: Room> {
+pub struct Journal<H: Heap, R: Origin> {
     machine: Machine<H>,
     // those before the last
     stretches: Vec<Stretch>,
     last: Stretch,
-    room: PhantomData<R>,
+    origin: PhantomData<R>,
 }
 
-impl<H: Heap, R: Room> Model for Journal<H, R> {
+impl<H: Heap, R: Origin> Model for Journal<H, R> {
     ghost use Rattle.jm_machine.specs.View.{MatchesWorld};
     ghost use Rattle.jm_shared.specs.Book.{Book};
 
@@ -43,7 +43,7 @@ impl<H: Heap, R: Room> Model for Journal<H, R> {
     ghost invariant = { λ j. Rises j.stretches.items j.last × IsLegal R.first (entries_of j.stretches.items j.last) × MatchesWorld j.machine (world_after R.first (entries_of j.stretches.items j.last)) };
 }
 
-impl<H: Heap, R: Room> Journal<H, R> {
+impl<H: Heap, R: Origin> Journal<H, R> {
     /// The journal of a machine, without entries.
     pub fn new(alloc: Global, machine: Machine<H>) -> Journal<H, R>
         requires { MatchesWorld machine R.first }
@@ -53,7 +53,7 @@ impl<H: Heap, R: Room> Journal<H, R> {
             machine,
             stretches: Vec::new(alloc),
             last: Stretch::empty(),
-            room: PhantomData,
+            origin: PhantomData,
         }
     }
 
@@ -113,7 +113,7 @@ impl<H: Heap, R: Room> Journal<H, R> {
             machine,
             stretches: _,
             last: _,
-            room: _,
+            origin: _,
         } = self;
         machine
     }

@@ -11,7 +11,7 @@
 
 mod entry;
 mod journal;
-mod room;
+mod origin;
 mod stretch;
 
 pub use entry::{Entry, Receipt};
@@ -20,4 +20,4 @@ pub use jm_machine::{
     Interrupted, LoadFault, Machine, OutOfMemory, Schedule, ScheduleFault, read_schedule,
 };
 pub use journal::Journal;
-pub use room::Room;
+pub use origin::Origin;

@@ -8,7 +8,7 @@ use crate::machine::runs::{STEP, linked_main};
 use jm_heap::PlainHeap;
 use jm_linked::Linked;
 use jm_machine::Machine;
-use jm_shared::{Journal, Room};
+use jm_shared::{Journal, Origin};
 use jm_world::ReplyKind;
 use std::alloc::Global;
 use std::marker::Brand;
@@ -16,7 +16,7 @@ use std::process::Abort;
 use std::test::Fail;
 
 // Makes a turn of a seat, which has this number, and compares its receipt and its entry.
-fn check_turn<R: Room>(
+fn check_turn<R: Origin>(
     rt: &impl Abort,
     journal: &mut Journal<PlainHeap, R>,
     number: u8,
@@ -36,7 +36,10 @@ fn check_turn<R: Room>(
 }
 
 // Makes nine turns of seats 0 to 2.
-fn check_turns<R: Room>(rt: &impl Abort, journal: &mut Journal<PlainHeap, R>) -> Result<(), Fail> {
+fn check_turns<R: Origin>(
+    rt: &impl Abort,
+    journal: &mut Journal<PlainHeap, R>,
+) -> Result<(), Fail> {
     for number in 0..9u8 {
         check_turn(rt, journal, number)?;
     }
@@ -45,7 +48,7 @@ fn check_turns<R: Room>(rt: &impl Abort, journal: &mut Journal<PlainHeap, R>) ->
     Ok(())
 }
 
-fn nine_turns<R: Room>(rt: &impl Abort, alloc: Global, linked: Linked) -> Result<(), Fail>
+fn nine_turns<R: Origin>(rt: &impl Abort, alloc: Global, linked: Linked) -> Result<(), Fail>
     requires { R.first ≡ loaded_world linked.program 65536 }
 {
     let machine = Machine::load(alloc, linked, PlainHeap::new(alloc, 65536))?;

@@ -12,9 +12,9 @@ invariant_of-self-2 g c =
     let last = c.self.inside.last in
     let entries = entries_of c.self.inside.stretches.items last in
     let entry = entry_of c.args.seat c.args.event c.in_ok-reply.reply in
-    let made = c.in_ok-reply.ensures.next (world_after g.R.Room.first entries) matches in
+    let made = c.in_ok-reply.ensures.next (world_after g.R.Origin.first entries) matches in
     let kept = ap (λ ss. entries_of ss last) c.in_ok-reserve.ensures.items in
-    let whole = turned g.R.Room.first entries _ _ entry c.step_at.new.self legal made.0 made.1 (rw c.of.ensures.0 at c.add.ensures.entries) kept in
+    let whole = turned g.R.Origin.first entries _ _ entry c.step_at.new.self legal made.0 made.1 (rw c.of.ensures.0 at c.add.ensures.entries) kept in
     (c.add.ensures.rises, whole.0, whole.1)
 
 pub returns-clause-receipt : goal.returns-clause-receipt
