@@ -1,3 +1,5 @@
+// One method descriptor (JVMS 4.3.3), parsed again and again.
+
 use jm_program::{Descriptor, DescriptorFault};
 use std::alloc::Global;
 

@@ -1,3 +1,5 @@
+// A class file (JVMS 4.1), made with as many methods as are wanted, and read.
+
 use jm_class_reader::{ReadFault, read_class};
 use std::alloc::{AllocError, Global};
 

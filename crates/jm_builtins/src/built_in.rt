@@ -1,3 +1,5 @@
+// What a built-in class declares.
+
 use jm_program::{AccessFlags, Field, Method, Name, Sequence};
 
 /// A class or an interface that every program finds there.

@@ -1,3 +1,5 @@
+// A built-in class from its row of the table.
+
 ghost use Rattle.std.specs.Prelude.{◌≡◌, IfOk, map, option_copied, option_to_list};
 ghost use Rattle.jm_builtins.specs.Members.{the_class};
 

@@ -1,3 +1,5 @@
+// The built-in classes, all of them.
+
 ghost use Rattle.std.specs.Prelude.{◌≡◌, IfOk};
 ghost use Rattle.jm_builtins.specs.List.{the_builtins};
 

@@ -1,3 +1,5 @@
+// The fields and methods of a built-in class, from their rows of the table.
+
 ghost use Rattle.std.specs.Prelude.{◌≡◌, IfOk, map};
 ghost use Rattle.jm_builtins.specs.Members.{the_type, the_parameters, the_result, the_method, the_field};
 

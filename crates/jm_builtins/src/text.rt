@@ -1,3 +1,5 @@
+// Names from ASCII texts.
+
 ghost use Rattle.std.specs.Prelude.{◌≡◌, IfOk};
 
 use jm_program::Name;

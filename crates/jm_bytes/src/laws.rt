@@ -1,3 +1,5 @@
+// Numbers as bytes are read back as those numbers.
+
 ghost use Rattle.std.specs.Prelude.{◌≡◌, ◌<◌, ◌^◌, ◌++◌, ◌∷◌, [], ℕ, ℤ, List, length, FitsSigned, Some, Err};
 ghost use Rattle.std.specs.Int.{Width, w8, w16, w32, w64, to_be_bytes};
 ghost use Rattle.jm_bytes.specs.Spelling.{IsNumber, IsSigned};

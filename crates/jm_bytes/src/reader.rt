@@ -1,3 +1,5 @@
+// Numbers and runs of bytes, read from the front of some bytes.
+
 ghost use Rattle.std.specs.Prelude.{◌≡◌, ◌==◌, ℕ, List, length, take, ◌+◌, OnOk, OnErr};
 ghost use Rattle.std.specs.Int.{w8, w16, w32, w64};
 ghost use Rattle.jm_bytes.specs.Reading.{Finds, FindsAs, number_at, signed_at, bytes_at};

@@ -1,3 +1,5 @@
+// Numbers, written as bytes, high byte first.
+
 ghost use Rattle.std.specs.Prelude.{◌≡◌, ◌++◌, OnOk, OnErr};
 ghost use Rattle.std.specs.Int.{w8, w16, w32, w64, to_be_bytes};
 ghost use Rattle.jm_bytes.specs.Writing.{signed_bytes};

@@ -1,3 +1,5 @@
+// The entries of a constant pool (JVMS 4.4), and the bytes of modified UTF-8 (JVMS 4.4.7).
+
 ghost use Rattle.std.specs.Prelude.{◌≡◌};
 
 use jm_program::Sequence;

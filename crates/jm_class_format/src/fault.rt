@@ -1,3 +1,5 @@
+// Why bytes are no constant pool.
+
 ghost use Rattle.std.specs.Prelude.{◌≡◌};
 
 use crate::opcode::{LaterOp, LeftOutOp};

@@ -1,3 +1,5 @@
+// Instructions of a class file (JVMS 6.5): what one names is an index of the constant pool.
+
 use jm_program::{ArrayOp, FieldOp, InvokeOp, MonitorOp, Plain, ReturnOp, TypeOp};
 
 /// An instruction as its bytes spell it: what it names is an index of the constant pool.

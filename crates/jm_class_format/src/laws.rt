@@ -1,3 +1,5 @@
+// What holds of the class that bytes spell.
+
 ghost use Rattle.std.specs.Prelude.{◌≡◌, ◌↔◌, ◌++◌, IsTrue, true, List, ℕ, Ok};
 ghost use Rattle.jm_bytes.specs.Format.{Format, Whole};
 ghost use Rattle.jm_program.specs.Flags.{is_interface};

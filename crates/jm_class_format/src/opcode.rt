@@ -1,3 +1,5 @@
+// Opcodes (JVMS 6.5, 7).
+
 ghost use Rattle.std.specs.Prelude.{◌≡◌, Some};
 ghost use Rattle.jm_class_format.specs.Mnemonics.{left_out_mnemonic};
 

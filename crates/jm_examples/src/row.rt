@@ -1,3 +1,5 @@
+// What is said of a class in one line.
+
 ghost use Rattle.std.specs.Prelude.{◌≡◌};
 ghost use Rattle.jm_examples.specs.Row.{row, members, with_method};
 

@@ -1,3 +1,5 @@
+// Why words give no options, and the status that says so.
+
 ghost use Rattle.std.specs.Prelude.{◌≡◌};
 ghost use Rattle.jm_options.specs.Asked.{status_of};
 

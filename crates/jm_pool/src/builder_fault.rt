@@ -1,3 +1,5 @@
+// Why a constant has no index in a pool that is built.
+
 ghost use Rattle.std.specs.Prelude.{◌≡◌};
 
 use std::alloc::{AllocError, AllocFailed};

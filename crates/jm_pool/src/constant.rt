@@ -1,3 +1,5 @@
+// Constants (JVMS 4.4), each as one entry of the pool has it.
+
 ghost use Rattle.std.specs.Prelude.{◌≡◌, ◌++◌, ◌∷◌, true, length, OnOk};
 ghost use Rattle.std.specs.Int.{w16, to_be_bytes};
 ghost use Rattle.jm_pool.specs.Building.{entry_for, places, fits_length, entry_bytes};

@@ -1,3 +1,5 @@
+// Texts and pools that are written are read back (JVMS 4.4).
+
 ghost use Rattle.std.specs.Prelude.{◌≡◌, ◌^◌, ◌<◌, ◌≤◌, ℕ, List, Some, Ok};
 ghost use Rattle.jm_bytes.specs.Format.{Format, Whole};
 ghost use Rattle.jm_class_format.specs.declared.constant_pool.Entry.{Entry};

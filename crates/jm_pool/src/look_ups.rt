@@ -1,3 +1,5 @@
+// What an index of a constant pool names (JVMS 4.4).
+
 ghost use Rattle.std.specs.Prelude.{◌≡◌, ℤ, ℕ, List, IfSome};
 ghost use Rattle.std.specs.Option.{option_copied, option_map};
 ghost use Rattle.jm_class_format.specs.PoolLookups.{when_some, class_of, string_of, field_of, method_of, interface_method_of, name_and_type_of, entry_at, text_at, integer_at, long_at, class_at, string_at, name_and_type_at, member_at, field_at, method_at, interface_method_at};

@@ -1,3 +1,5 @@
+// A constant pool that is read (JVMS 4.4).
+
 ghost use Rattle.std.specs.Prelude.{◌≡◌, ◌++◌, ℤ, ℕ, List, take, Ok, IfOk};
 ghost use Rattle.jm_bytes.specs.Format.{Format};
 ghost use Rattle.jm_bytes.specs.Reading.{Gives};

@@ -1,3 +1,5 @@
+// A constant pool that is built (JVMS 4.4).
+
 ghost use Rattle.std.specs.Prelude.{◌≡◌, ◌↔◌, ◌+◌, ◌≤◌, ◌∷◌, ◌++◌, true, List, [], length, None, IsTrue, IfOk, IfErr, OnOk, OnErr};
 ghost use Rattle.indexmap.specs.IndexMap.{get};
 ghost use Rattle.jm_class_format.specs.declared.constant_pool.Entry.{Entry};

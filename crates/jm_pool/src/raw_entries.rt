@@ -1,3 +1,6 @@
+// The entries of a constant pool as their bytes give them, before their indexes are looked at
+// (JVMS 4.4).
+
 ghost use Rattle.std.specs.Prelude.{◌≡◌, List, []};
 ghost use Rattle.jm_bytes.specs.Reading.{Gives, Takes};
 ghost use Rattle.jm_bytes.specs.Format.{Format, repeated};

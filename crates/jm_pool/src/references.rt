@@ -1,3 +1,6 @@
+// The indexes in the entries of a constant pool, each of an entry of the kind that its place needs
+// (JVMS 4.4).
+
 ghost use Rattle.std.specs.Prelude.{◌≡◌, List};
 ghost use Rattle.std.specs.Option.{option_copied};
 ghost use Rattle.jm_bytes.specs.Reading.{GivesAll, TakesAll, each};

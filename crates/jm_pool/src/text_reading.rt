@@ -1,3 +1,5 @@
+// Modified UTF-8 to UTF-16 code units (JVMS 4.4.7).
+
 ghost use Rattle.std.specs.Prelude.{◌≡◌, ◌<◌, ◌≤◌, List, length, OnOk, IfOk, IfSome};
 ghost use Rattle.jm_bytes.specs.Reading.{GivesAll, Takes};
 ghost use Rattle.jm_bytes.specs.Format.{Format, Whole};

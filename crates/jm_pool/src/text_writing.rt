@@ -1,3 +1,5 @@
+// UTF-16 code units to modified UTF-8 (JVMS 4.4.7).
+
 ghost use Rattle.std.specs.Prelude.{◌≡◌, ◌++◌, OnOk, IfOk, length};
 ghost use Rattle.jm_class_format.specs.ModifiedUtf8.{unit_bytes, text_bytes};
 ghost use Rattle.jm_pool.specs.Building.{u2_of};

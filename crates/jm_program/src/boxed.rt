@@ -1,3 +1,5 @@
+// A value behind a pointer, which its owners share.
+
 ghost use Rattle.std.specs.Prelude.{◌≡◌, IfOk};
 
 use crate::sequence::Sequence;

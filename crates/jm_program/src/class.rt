@@ -1,3 +1,5 @@
+// Classes with their fields and methods, and the rules that a class keeps (JVMS 4.1, 4.5, 4.6).
+
 ghost use Rattle.std.specs.Prelude.{◌≡◌, ◌↔◌, ◌≤◌, ◌+◌, Bool, IsTrue, true, List, ℕ, Option, if◌then◌else◌};
 ghost use Rattle.std.specs.List.{list_all};
 ghost use Rattle.std.specs.Option.{SomeIff};

@@ -1,3 +1,5 @@
+// The code of a method, and the rules that it keeps (JVMS 4.7.3, 4.9.1).
+
 ghost use Rattle.std.specs.Prelude.{◌≡◌, List, ℕ, Option};
 ghost use Rattle.std.specs.List.{list_all};
 ghost use Rattle.jm_program.specs.Instructions.{instr_fits};

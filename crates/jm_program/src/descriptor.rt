@@ -1,3 +1,5 @@
+// Descriptors (JVMS 4.3).
+
 ghost use Rattle.std.specs.Prelude.{◌≡◌, ◌≤◌, ◌<◌, ◌^◌, ◌+◌, length, IfOk};
 ghost use Rattle.std.specs.List.{list_all};
 ghost use Rattle.jm_program.specs.Descriptors.{is_field_type, is_return_type, is_kept_field_type, is_kept_return_type};

@@ -1,3 +1,5 @@
+// Why a text is no descriptor.
+
 ghost use Rattle.std.specs.Prelude.{◌≡◌};
 
 use std::alloc::{AllocError, AllocFailed};

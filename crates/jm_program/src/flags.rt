@@ -1,3 +1,5 @@
+// Access flags.
+
 ghost use Rattle.std.specs.Prelude.{◌≡◌};
 
 /// The access flags of a class, a field or a method (JVMS 4.1, 4.5, 4.6). Flags that nothing

@@ -1,3 +1,5 @@
+// No text has two descriptors.
+
 ghost use Rattle.std.specs.Prelude.{◌≡◌, ℕ, List};
 ghost use Rattle.jm_program.specs.Descriptors.{HasShape, Spells};
 ghost use Rattle.jm_program.specs.declared.descriptor.Descriptor.{Descriptor};

@@ -1,3 +1,5 @@
+// Names (JVMS 4.2).
+
 ghost use Rattle.std.specs.Prelude.{◌≡◌, IfOk, codes};
 ghost use Rattle.std.specs.List.{list_all};
 ghost use Rattle.jm_program.specs.Names.{same_text, is_unqualified, is_method_name, is_invoked_name, is_class_name, is_init, is_clinit, is_name_unit, is_method_unit, is_ordinary_method_name};

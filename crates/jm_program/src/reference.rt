@@ -1,3 +1,5 @@
+// What code names: classes, fields and methods (JVMS 4.4.1, 4.4.2).
+
 ghost use Rattle.std.specs.Prelude.{◌≡◌};
 
 use crate::descriptor::{FieldType, MethodDescriptor};

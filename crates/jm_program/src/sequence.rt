@@ -1,3 +1,5 @@
+// A list of parts that is made once.
+
 ghost use Rattle.std.specs.Prelude.{◌≡◌, length};
 
 use std::marker::Model;

@@ -1,3 +1,5 @@
+// Texts and their UTF-16 code units.
+
 ghost use Rattle.std.specs.Prelude.{◌≡◌, ◌++◌, OnOk, IfOk};
 ghost use Rattle.std.specs.Char.Escape.{encode_utf16};
 ghost use Rattle.jm_program.specs.Names.{same_text};

@@ -1,3 +1,5 @@
+// The events of a schedule, as runs of equal ones.
+
 ghost use Rattle.std.specs.Prelude.{◌≡◌, ◌+◌, ◌↔◌, IsTrue, ◌<◌, ◌^◌, ◌++◌, [], length, replicate, OnOk, OnErr};
 ghost use Rattle.jm_schedule.specs.Runs.{events_of};
 

@@ -1,3 +1,5 @@
+// Numbers, written as bytes and read again.
+
 use jm_bytes::{Cut, Reader, put_s1, put_s2, put_s4, put_s8, put_u1, put_u2, put_u4, put_u8};
 use std::alloc::AllocError;
 use std::test::Fail;

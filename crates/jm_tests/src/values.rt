@@ -1,3 +1,5 @@
+// Faults, printed.
+
 use jm_values::{Place, TagFault, Value};
 use std::alloc::AllocError;
 

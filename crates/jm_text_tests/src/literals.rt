@@ -1,3 +1,5 @@
+// Strings and numbers as they are written.
+
 use crate::table::row_of;
 use jm_jasmin_lex::{LexFault, integer, literal};
 use std::alloc::{AllocError, Global};

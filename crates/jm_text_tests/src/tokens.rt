@@ -1,3 +1,5 @@
+// Texts, and the tokens of each.
+
 use crate::table::with_line_ends;
 use jm_jasmin_lex::{Token, TokenKind, lexed, line_of, tokens};
 use std::alloc::{AllocError, Global};

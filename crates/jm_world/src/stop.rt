@@ -1,3 +1,5 @@
+// What stops the whole machine.
+
 use jm_values::TagFault;
 
 /// Why the whole machine stopped.

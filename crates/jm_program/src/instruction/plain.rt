@@ -1,3 +1,5 @@
+// Instructions that touch one frame alone and name nothing.
+
 ghost use Rattle.std.specs.Prelude.{◌≡◌, IfOk};
 
 use crate::boxed::Boxed;

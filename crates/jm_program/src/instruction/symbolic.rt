@@ -1,3 +1,5 @@
+// Instructions, with what they name.
+
 ghost use Rattle.std.specs.Prelude.{◌≡◌, IfOk};
 
 use crate::boxed::Boxed;

@@ -1,3 +1,5 @@
+// Command lines, and what they ask for.
+
 use super::words::words_of;
 use crate::table::row_of;
 use jm_options::{Options, options};

@@ -1,3 +1,5 @@
+// Command lines that are refused.
+
 use super::words::words_of;
 use crate::table::{row_of, with_line_ends};
 use jm_options::{UsageFault, options};

@@ -1,3 +1,5 @@
+// The words of a command line, as a row of a table has them.
+
 use std::alloc::{AllocError, Global};
 
 /// The words of a text, parted by a sign: none where the text is empty.

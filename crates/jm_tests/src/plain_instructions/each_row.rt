@@ -1,3 +1,5 @@
+// Each plain instruction, made by the rows of the tables that are its own.
+
 use super::all::all_instructions;
 use super::row::{check_row, is_of};
 use super::rows;

@@ -1,3 +1,5 @@
+// Texts of schedules, and the events or the first bad line of each.
+
 use crate::table::with_line_ends;
 use jm_schedule::{Schedule, read_schedule};
 use jm_world::Event;

@@ -1,3 +1,5 @@
+// A schedule of as many events as there may be, and of one more.
+
 use crate::table::{row_of, with_line_ends};
 use jm_schedule::{MAX_EVENTS, Schedule, ScheduleFault, read_schedule};
 use jm_world::Event;
