@@ -1,14 +1,15 @@
 -- Classes found by name.
-use Rattle.std.proofs.Common.{◌≡◌, ℕ, suc, ◌≤◌, Bool, true, false, List, [], ◌∷◌, Option, Some, None, length, drop, refl, sym, ap, ◌∙◌, arith}
+use Rattle.std.proofs.Common.{◌≡◌, ℕ, zero, suc, ◌<◌, ◌≤◌, get_or, Bool, true, false, List, [], ◌∷◌, Option, Some, None, length, drop, refl, sym, ap, ◌∙◌, arith}
 use Rattle.std.proofs.lemmas.List.{nil_from_length, length-drop}
-use Rattle.std.specs.Prelude.{map}
-use denote.Bor.{Bor}
-use Rattle.std.specs.Prelude.{is_some, option_copied}
+use Rattle.std.specs.Borrow.{Bor}
+use Rattle.std.specs.Prelude.{map, is_some, option_copied, slice_get}
 use Rattle.jm_program.specs.Names.{same_text}
 use Rattle.jm_program.specs.declared.class.ClassParts.{ClassParts}
 use Rattle.jm_builtins.specs.declared.built_in.BuiltIn.{BuiltIn}
 use Rattle.jm_builtins.specs.List.{the_builtins}
 use Rattle.jm_world.specs.Classes.{as_class, built_in_named, class_among, class_named}
+use Rattle.jm_world.specs.Loads.{duplicate_members, first_of_all}
+use Rattle.jm_linker.specs.declared.members.Members.{Members}
 use Rattle.jm_linker.specs.BuiltInClasses.{built_in_classes, class_in, is_built_in_name}
 
 class_in-map : (bs : List BuiltIn) (name : List ℕ) → class_in (map as_class bs) name ≡ built_in_named bs name
@@ -42,10 +43,25 @@ copied_some (Some x) = refl
 pub built_in_told : (o : Option (Bor ClassParts)) (cs : List ClassParts) (name : List ℕ) → cs ≡ built_in_classes → option_copied o ≡ class_in cs name → is_some o ≡ is_built_in_name name
 built_in_told o cs name all found = copied_some o ∙ ap is_some (found ∙ ap (λ ds. class_in ds name) all) ∙ built_in_name name
 
-length-map : (bs : List BuiltIn) → length (map as_class bs) ≡ length bs
-length-map [] = refl
-length-map (b ∷ bs) = ap (λ n. suc n) (length-map bs)
+length_map : {A B : Type 0} (f : A → B) (xs : List A) → length (map f xs) ≡ length xs
+length_map f [] = refl
+length_map f (x ∷ xs) = ap (λ n. suc n) (length_map f xs)
 
-pub many_built_ins : (cs : List ClassParts) → cs ≡ built_in_classes → length cs ≡ length the_builtins
+-- as many tables of members as classes
+pub as_many : (ms : List Members) (cs : List ClassParts) → map (λ (m : Members). m.class.now) ms ≡ cs → length ms ≡ length cs
+as_many ms cs e = sym (length_map (λ (m : Members). m.class.now) ms) ∙ ap length e
+
+pub many_built_ins : (ms : List Members) → map (λ (m : Members). m.class.now) ms ≡ built_in_classes → length ms ≡ length the_builtins
 unfolding built_in_classes
-many_built_ins cs e = ap length e ∙ length-map the_builtins
+many_built_ins ms e = as_many ms built_in_classes e ∙ length_map as_class the_builtins
+
+-- the class whose members stand at a place
+pub members_at : (ms : List Members) (i : ℕ) (m : Members) → i < length ms → m ≡ get_or ms i m → slice_get (map (λ (m : Members). m.class.now) ms) i ≡ Some m.class.now
+members_at [] i m l is = absurd (omega arith)
+members_at (x ∷ xs) zero m l is = ap (λ (y : Members). Some y.class.now) (sym is)
+members_at (x ∷ xs) (suc i) m l is = members_at xs i m (omega arith) is
+
+-- no member stands twice in a built-in class
+pub built_ins_once : first_of_all duplicate_members built_in_classes ≡ None
+unfolding built_in_classes
+built_ins_once = refl

@@ -1,7 +1,6 @@
 -- Members are found where the first class is that declares them.
 use Rattle.std.proofs.Common.{◌≡◌, ℕ, zero, suc, Bool, true, false, List, [], ◌∷◌, Option, Some, None, refl, sym, ap, ◌∙◌, ◌+◌, length, arith}
-use denote.Bor.{Bor}
-use Rattle.std.specs.Prelude.{is_some, option_copied, Result, Ok, Err, MatchResult}
+use Rattle.std.specs.Prelude.{is_some, Result, Ok, Err, MatchResult}
 use Rattle.jm_program.specs.Names.{is_init}
 use Rattle.jm_program.specs.declared.class.ClassParts.{ClassParts}
 use Rattle.jm_program.specs.declared.class.Field.{Field}
@@ -188,13 +187,13 @@ above_resolved name t program xs x c o e init none one is =
     ∙ method_above name t (height program) program x ∙ ap (found_method name t) (sym (is ∙ any_of_one (λ c. is_some (method_in c.methods name t)) (height program) program xs x one))
 
 -- the answers of a walk
-pub field_answer : (name : List ℕ) (t : FieldType) (program : List ClassParts) (xs : List (List ℕ)) (x : List ℕ) (r : Result (Option (Bor ClassParts)) LinkFault) → xs ≡ x ∷ [] → MatchResult r (λ o. option_copied o ≡ above_any (λ c. is_some (field_in (nameable c) name t)) (height program) program xs) (λ f. IsOutOfMemory f) → MatchResult r (λ o. resolve_field program x name t ≡ found_field name t (option_copied o)) (λ f. IsOutOfMemory f)
-field_answer name t program xs x (Ok o) e is = field_resolved name t program xs x (option_copied o) e is
-field_answer name t program xs x (Err f) e is = is
+pub field_answer : (name : List ℕ) (t : FieldType) (program : List ClassParts) (xs : List (List ℕ)) (x : List ℕ) {A : Type 0} (class : A → Option ClassParts) (r : Result A LinkFault) → xs ≡ x ∷ [] → MatchResult r (λ o. class o ≡ above_any (λ c. is_some (field_in (nameable c) name t)) (height program) program xs) (λ f. IsOutOfMemory f) → MatchResult r (λ o. resolve_field program x name t ≡ found_field name t (class o)) (λ f. IsOutOfMemory f)
+field_answer name t program xs x class (Ok o) e is = field_resolved name t program xs x (class o) e is
+field_answer name t program xs x class (Err f) e is = is
 
-pub method_answer : (name : List ℕ) (t : MethodDescriptor) (program : List ClassParts) (xs : List (List ℕ)) (x : List ℕ) (c : ClassParts) (r : Result (Option (Bor ClassParts)) LinkFault) → class_named program x ≡ Some c → is_init name ≡ false → first_along (λ c. is_some (method_in c.methods name t)) (chain program x) ≡ None → xs ≡ x ∷ [] → MatchResult r (λ o. option_copied o ≡ above_any (λ c. is_some (method_in c.methods name t)) (height program) program xs) (λ f. IsOutOfMemory f) → MatchResult r (λ o. resolve_method program x name t ≡ found_method name t (option_copied o)) (λ f. IsOutOfMemory f)
-method_answer name t program xs x c (Ok o) e init none one is = above_resolved name t program xs x c (option_copied o) e init none one is
-method_answer name t program xs x c (Err f) e init none one is = is
+pub method_answer : (name : List ℕ) (t : MethodDescriptor) (program : List ClassParts) (xs : List (List ℕ)) (x : List ℕ) (c : ClassParts) {A : Type 0} (class : A → Option ClassParts) (r : Result A LinkFault) → class_named program x ≡ Some c → is_init name ≡ false → first_along (λ c. is_some (method_in c.methods name t)) (chain program x) ≡ None → xs ≡ x ∷ [] → MatchResult r (λ o. class o ≡ above_any (λ c. is_some (method_in c.methods name t)) (height program) program xs) (λ f. IsOutOfMemory f) → MatchResult r (λ o. resolve_method program x name t ≡ found_method name t (class o)) (λ f. IsOutOfMemory f)
+method_answer name t program xs x c class (Ok o) e init none one is = above_resolved name t program xs x c (class o) e init none one is
+method_answer name t program xs x c class (Err f) e init none one is = is
 
 -- <init> of the class itself, which declares it or not
 pub init_here : (name : List ℕ) (t : MethodDescriptor) (program : List ClassParts) (x : List ℕ) (c : ClassParts) → class_named program x ≡ Some c → is_init name ≡ true → is_some (method_in c.methods name t) ≡ true → resolve_method program x name t ≡ method_of c (method_in c.methods name t)

@@ -10,11 +10,10 @@ use Rattle.std.specs.declared.cmp.Ordering.TheVariants.{Less, Equal, Greater}
 use Rattle.std.specs.Cmp.Lexicographic.{slice_cmp, texts_ties}
 use Rattle.jm_program.specs.Names.{same_text}
 use Rattle.jm_program.specs.Descriptors.{base_letter}
-use Rattle.jm_program.specs.declared.class.Field.{Field}
-use Rattle.jm_program.specs.declared.class.Method.{Method}
 use Rattle.jm_program.specs.declared.descriptor.ElementType.{ElementType}
 use Rattle.jm_program.specs.declared.descriptor.ElementType.TheVariants as element
 use Rattle.jm_program.specs.declared.descriptor.FieldType.{FieldType}
+use Rattle.jm_program.specs.declared.descriptor.MethodDescriptor.{MethodDescriptor}
 use Rattle.jm_world.specs.Types.{same_element, same_type, same_types, same_result, same_method_type}
 use Rattle.jm_linker.specs.declared.key.ElementKey.{ElementKey}
 use Rattle.jm_linker.specs.declared.key.ElementKey.TheVariants.{Base, Class}
@@ -71,10 +70,10 @@ types_tied k l t u h g =
     tied_then (nat_cmp k.dimensions l.dimensions) ((element_ord.ghosts).cmp k.element l.element)
     ∙ both _ _ _ _ (numbers_tied _ _ _ _ h.0 g.0) (elements_tied k.element l.element t.element u.element h.1 g.1)
 
-pub fields_tied : (k l : FieldKey) (f g : Field) → IsFieldKey k f → IsFieldKey l g → is_eq ((field_ord.ghosts).cmp k l) ≡ (same_text f.name g.name && same_type f.descriptor g.descriptor)
-fields_tied k l f g h i =
+pub fields_tied : (k l : FieldKey) (m n : List ℕ) (t u : FieldType) → IsFieldKey k m t → IsFieldKey l n u → is_eq ((field_ord.ghosts).cmp k l) ≡ (same_text m n && same_type t u)
+fields_tied k l m n t u h i =
     tied_then (slice_cmp nat_cmp k.name.now l.name.now) ((type_ord.ghosts).cmp k.descriptor l.descriptor)
-    ∙ both _ _ _ _ (texts_tied _ _ _ _ h.0 i.0) (types_tied k.descriptor l.descriptor f.descriptor g.descriptor h.1 i.1)
+    ∙ both _ _ _ _ (texts_tied _ _ _ _ h.0 i.0) (types_tied k.descriptor l.descriptor t u h.1 i.1)
 
 lists_tied : (ks ls : List TypeKey) (ts us : List FieldType) → AreTypeKeys ks ts → AreTypeKeys ls us → is_eq (slice_cmp (type_ord.ghosts).cmp ks ls) ≡ same_types ts us
 lists_tied [] [] [] [] h g = refl
@@ -101,9 +100,9 @@ results_tied None (Some l) None None h g = absurd g
 results_tied (Some k) None (Some t) (Some u) h g = absurd g
 results_tied (Some k) (Some l) (Some t) None h g = absurd g
 
-pub methods_tied : (k l : MethodKey) (m n : Method) → IsMethodKey k m → IsMethodKey l n → is_eq ((method_ord.ghosts).cmp k l) ≡ (same_text m.name n.name && same_method_type m.descriptor n.descriptor)
-methods_tied k l m n h i =
+pub methods_tied : (k l : MethodKey) (m n : List ℕ) (t u : MethodDescriptor) → IsMethodKey k m t → IsMethodKey l n u → is_eq ((method_ord.ghosts).cmp k l) ≡ (same_text m n && same_method_type t u)
+methods_tied k l m n t u h i =
     tied_then (slice_cmp nat_cmp k.name.now l.name.now) (ordering_then (slice_cmp (type_ord.ghosts).cmp k.parameters.items l.parameters.items) (option_cmp (type_ord.ghosts).cmp k.result l.result))
     ∙ both _ _ _ _ (texts_tied _ _ _ _ h.0 i.0)
     (tied_then (slice_cmp (type_ord.ghosts).cmp k.parameters.items l.parameters.items) (option_cmp (type_ord.ghosts).cmp k.result l.result)
-    ∙ both _ _ _ _ (lists_tied _ _ _ _ h.1 i.1) (results_tied _ _ _ _ h.2 i.2))
+    ∙ both _ _ _ _ (lists_tied _ _ _ _ h.1.0 i.1.0) (results_tied _ _ _ _ h.1.1 i.1.1))

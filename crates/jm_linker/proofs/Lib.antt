@@ -2,6 +2,7 @@ pub mod TypeLaws
 pub mod Reasons
 pub mod Seen
 pub mod KeyLaws
+pub mod TableLaws
 pub mod ClassLaws
 pub mod LaterLaws
 pub mod WalkLaws

@@ -3,11 +3,16 @@ use Rattle.std.proofs.Common.{◌≡◌, ℕ, ◌+◌, ◌-◌, ◌<◌, ◌≤�
 use Rattle.std.specs.Prelude.{slice_get, take, nat_lt}
 use Rattle.std.specs.List.{list_any}
 use Rattle.std.proofs.lemmas.List.{drop_more}
+use Rattle.std.specs.Borrow.{Bor}
+use Rattle.std.specs.BTreeMap.{BTreeMap, get}
+use Rattle.std.specs.Cmp.Lexicographic.{texts_ties}
+use Rattle.std.specs.Ordering.{is_eq}
 use Rattle.jm_program.specs.Names.{same_text}
 use Rattle.jm_program.specs.declared.class.ClassParts.{ClassParts}
 use Rattle.jm_builtins.specs.List.{the_builtins}
 use Rattle.jm_world.specs.Classes.{built_in_named, class_among, class_named}
 use Rattle.jm_linker.specs.BuiltInClasses.{built_in_classes, class_in, number_from}
+use Rattle.jm_linker.specs.Tables.{by_units}
 use Rattle.jm_linker.proofs.ClassLaws.{built_in_found}
 
 -- the class of a number, counted from a number
@@ -73,6 +78,12 @@ one_more program n c name l is =
     by : (b : Bool) → (elim b as (λ _. Option ℕ) [ true ↦ Some n | false ↦ number_from (n + 1) (drop (n + 1) program) name ]) ≡ cond b (Some n) (number_from (n + 1) (drop (n + 1) program) name)
     by true = refl
     by false = refl
+
+pub numbered_more : (program : List ClassParts) (n m : ℕ) (c : ClassParts) (key : Bor (List ℕ)) (old now : BTreeMap (Bor (List ℕ)) ℕ) → n < length program → c ≡ get_or program n c → key.now ≡ c.name → m ≡ n + 1
+    → ((q : Bor (List ℕ)) → get by_units now q ≡ cond (is_eq (by_units key q)) (Some n) (get by_units old q)) → ((q : Bor (List ℕ)) → get by_units old q ≡ number_from m (drop m program) q.now) → (q : Bor (List ℕ)) → get by_units now q ≡ number_from n (drop n program) q.now
+numbered_more program n m c key old now l is same next updates numbered q =
+    updates q ∙ ap (λ b. cond b (Some n) (get by_units old q)) (sym (texts_ties key.now q.now) ∙ ap (λ (x : List ℕ). same_text x q.now) same)
+    ∙ ap (cond (same_text c.name q.now) (Some n)) (numbered q ∙ ap (λ k. number_from k (drop k program) q.now) next) ∙ sym (one_more program n c q.now l is)
 
 -- a class of the name before a number
 not_below : (k : ℕ) (cs : List ClassParts) (name : List ℕ) → elim (number_from k cs name) as (λ _. Bool) [ None ↦ false | Some n ↦ nat_lt n k ] ≡ false

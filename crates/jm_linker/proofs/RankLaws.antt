@@ -1,14 +1,15 @@
 -- Where each class has a higher rank than those right above it, no class is above itself.
 use Rattle.std.proofs.Common.{◌≡◌, ℕ, ◌+◌, ◌<◌, ◌≤◌, zero, suc, Bool, true, false, ◌&&◌, List, [], ◌∷◌, ◌++◌, Option, Some, None, refl, sym, ap, subst, ◌∙◌, arith}
-use Rattle.std.specs.Prelude.{option_to_list, slice_index_or}
+use Rattle.std.specs.Prelude.{map, option_to_list, slice_index_or}
 use Rattle.std.specs.List.{list_all}
 use Rattle.jm_program.specs.Names.{same_text}
 use Rattle.jm_program.specs.declared.class.ClassParts.{ClassParts}
 use Rattle.jm_world.specs.Classes.{class_among, class_named, height}
 use Rattle.jm_world.specs.Hierarchy.{parents, holds_of_any, is_below}
-use Rattle.jm_world.specs.Loads.{Refusal, or_else, first_of_all, when, cycle, cycle_refusal}
+use Rattle.jm_world.specs.Loads.{when, cycle, cycle_refusal}
 use Rattle.jm_linker.specs.BuiltInClasses.{built_in_classes, class_in, number_from}
-use Rattle.jm_linker.specs.Ranks.{rank_at, rank_of, is_under, is_superclass_under, are_parents_under, is_over_parents}
+use Rattle.jm_linker.specs.Ranks.{rank_at, rank_of, is_under, is_superclass_under, are_parents_under, is_over_parents, has_none_over}
+use Rattle.jm_linker.specs.declared.members.Members.{Members}
 use Rattle.jm_linker.proofs.ClassLaws.{built_in_found}
 use Rattle.jm_linker.proofs.CycleLaws.{has_name, text_is}
 
@@ -78,13 +79,13 @@ abbrev NotOver : List ClassParts → List ℕ → ClassParts → Type 0
 NotOver program ranks c = list_all (is_under program ranks (rank_of program ranks c.name + 1)) (parents (Some c)) ≡ true
 
 -- no name right above another has a higher rank
-none_over : (program : List ClassParts) (ranks : List ℕ) → list_all (is_over_parents program ranks) program ≡ true → list_all (are_parents_under program ranks 1) built_in_classes ≡ true → (x : List ℕ) (c : ClassParts) → class_named program x ≡ Some c → list_all (is_under program ranks (rank_of program ranks x + 1)) (parents (Some c)) ≡ true
+none_over : (program : List ClassParts) (ranks : List ℕ) → list_all (has_none_over program ranks) program ≡ true → list_all (are_parents_under program ranks 1) built_in_classes ≡ true → (x : List ℕ) (c : ClassParts) → class_named program x ≡ Some c → list_all (is_under program ranks (rank_of program ranks x + 1)) (parents (Some c)) ≡ true
 unfolding class_named
 none_over program ranks all built_in x c e =
     let name : c.name ≡ x = text_is c.name x (has_name program x c e) in
     subst (λ y. list_all (is_under program ranks (rank_of program ranks y + 1)) (parents (Some c)) ≡ true) name
-    (found_among (is_over_parents program ranks) (are_parents_under program ranks 1) (NotOver program ranks)
-    (λ k h. under_more program ranks (rank_of program ranks k.name) (rank_of program ranks k.name + 1) (omega arith) (parents (Some k)) (parents_under program ranks (rank_of program ranks k.name) k h))
+    (found_among (has_none_over program ranks) (are_parents_under program ranks 1) (NotOver program ranks)
+    (λ k h. parents_under program ranks (rank_of program ranks k.name + 1) k h)
     (λ k h. under_more program ranks 1 (rank_of program ranks k.name + 1) (omega arith) (parents (Some k)) (parents_under program ranks 1 k h))
     program x c all built_in e)
 
@@ -101,22 +102,17 @@ not_below program ranks over (suc n) x above l = by (λ y u. not_below program r
     by more true e = let same : rank_of program ranks x ≡ rank_of program ranks above = ap (rank_of program ranks) (text_is x above e) in absurd (omega (arith, same, l))
     by more false e = up more (class_named program x) refl
 
-no_cycle : (program : List ClassParts) (ranks : List ℕ) → list_all (is_over_parents program ranks) program ≡ true → list_all (are_parents_under program ranks 1) built_in_classes ≡ true → (c : ClassParts) → is_over_parents program ranks c ≡ true → cycle_refusal program c ≡ None
+no_cycle : (program : List ClassParts) (ranks : List ℕ) → list_all (has_none_over program ranks) program ≡ true → list_all (are_parents_under program ranks 1) built_in_classes ≡ true → (c : ClassParts) → is_over_parents program ranks c ≡ true → cycle_refusal program c ≡ None
 no_cycle program ranks all built_in c e =
     ap (λ b. when b (cycle c.name))
     (none_of program ranks (rank_of program ranks c.name) (λ parent. is_below (height program) program parent c.name)
     (λ y l. not_below program ranks (none_over program ranks all built_in) (height program) y c.name l) (parents (Some c)) (parents_under program ranks (rank_of program ranks c.name) c e))
 
-none_along : (check : ClassParts → Option Refusal) (f : ClassParts → Bool) → ((c : ClassParts) → f c ≡ true → check c ≡ None) → (cs : List ClassParts) → list_all f cs ≡ true → first_of_all check cs ≡ None
-none_along check f h [] e = refl
-none_along check f h (c ∷ cs) e = ap (λ o. or_else o (first_of_all check cs)) (h c (all_of f c cs e).0) ∙ none_along check f h cs (all_of f c cs e).1
-
--- no class of a program whose classes have such ranks is above itself
-pub no_cycles : (program built_ins : List ClassParts) (ranks : List ℕ) (t : Bool) → built_ins ≡ built_in_classes → t ≡ (list_all (is_over_parents program ranks) program && list_all (are_parents_under program ranks 1) built_ins) → t ≡ true → first_of_all (cycle_refusal program) program ≡ None
-no_cycles program built_ins ranks t complete e is =
-    let all = both (list_all (is_over_parents program ranks) program) (list_all (are_parents_under program ranks 1) built_ins) (sym e ∙ is) in
-    let built_in = rw complete at all.1 in
-    none_along (cycle_refusal program) (is_over_parents program ranks) (no_cycle program ranks all.0 built_in) program all.0
+-- a class with a higher rank than those right above it is not above itself
+pub over_all : (program : List ClassParts) (ranks : List ℕ) (c : ClassParts) (t u : Bool) → t ≡ (list_all (has_none_over program ranks) program && list_all (are_parents_under program ranks 1) built_in_classes) → t ≡ true → u ≡ is_over_parents program ranks c → u ≡ true → cycle_refusal program c ≡ None
+over_all program ranks c t u e is f over =
+    let all = both (list_all (has_none_over program ranks) program) (list_all (are_parents_under program ranks 1) built_in_classes) (sym e ∙ is) in
+    no_cycle program ranks all.0 all.1 c (sym f ∙ over)
 
 -- the rank of a name
 pub ranked : (program : List ClassParts) (ranks name : List ℕ) (n r : ℕ) → number_from 0 program name ≡ Some n → r ≡ slice_index_or ranks n 0 → r ≡ rank_of program ranks name
@@ -126,3 +122,11 @@ ranked program ranks name n r e f = f ∙ sym (ap (rank_at ranks) e)
 pub not_numbered : (program : List ClassParts) (ranks name : List ℕ) → number_from 0 program name ≡ None → 0 ≡ rank_of program ranks name
 unfolding rank_of
 not_numbered program ranks name e = sym (ap (rank_at ranks) e)
+
+-- a test of the classes among tables of members
+all_map : (f : ClassParts → Bool) (ms : List Members) → list_all (λ (m : Members). f m.class.now) ms ≡ list_all f (map (λ (m : Members). m.class.now) ms)
+all_map f [] = refl
+all_map f (m ∷ ms) = ap (λ b. f m.class.now && b) (all_map f ms)
+
+pub all_of_classes : (f : ClassParts → Bool) (ms : List Members) → map (λ (m : Members). m.class.now) ms ≡ built_in_classes → list_all (λ (m : Members). f m.class.now) ms ≡ list_all f built_in_classes
+all_of_classes f ms e = all_map f ms ∙ ap (list_all f) e

@@ -1,8 +1,7 @@
 -- The members and classes that were seen, in another order.
-use Rattle.std.proofs.Common.{◌≡◌, ℕ, ◌+◌, ◌<◌, Bool, true, false, not, cond, ◌||◌, List, [], ◌∷◌, ◌++◌, Option, Some, length, get_or, take, drop, refl, sym, ap, ◌∙◌, ◌&&◌}
+use Rattle.std.proofs.Common.{◌≡◌, ℕ, ◌+◌, ◌<◌, Bool, true, false, ◌||◌, List, [], ◌∷◌, ◌++◌, Option, Some, length, get_or, take, drop, refl, sym, ap, ◌∙◌, ◌&&◌}
 use Rattle.std.specs.Prelude.{is_some}
 use Rattle.std.specs.List.{list_any}
-use Rattle.std.specs.Ordering.{is_eq}
 use Rattle.std.proofs.lemmas.List.{drop_more, take_more}
 use Rattle.jm_program.specs.Names.{same_text}
 use Rattle.jm_program.specs.declared.class.ClassParts.{ClassParts}
@@ -13,12 +12,6 @@ use Rattle.jm_program.specs.declared.descriptor.MethodDescriptor.{MethodDescript
 use Rattle.jm_world.specs.Types.{same_type, same_method_type}
 use Rattle.jm_world.specs.Classes.{field_in, method_in}
 use Rattle.jm_linker.specs.BuiltInClasses.{is_built_in_name}
-use Rattle.jm_linker.specs.Keys.{IsFieldKey, IsMethodKey}
-use Rattle.jm_linker.specs.declared.key.FieldKey.{FieldKey}
-use Rattle.jm_linker.specs.declared.key.MethodKey.{MethodKey}
-use Rattle.jm_linker.specs.contracts.key.FieldKeyOrd.TheImpl as field_ord
-use Rattle.jm_linker.specs.contracts.key.MethodKeyOrd.TheImpl as method_ord
-use Rattle.jm_linker.proofs.KeyLaws.{fields_tied, methods_tied}
 use Rattle.jm_world.specs.Loads.{or_else, when, duplicate_class, duplicate_member, is_named_among, duplicates, duplicate_fields, duplicate_methods}
 
 -- one more at the other end is found all the same
@@ -56,6 +49,12 @@ fields_go_on xs i x l is none h =
     ∙ duplicate_fields_alike (drop (i + 1) xs) (x ∷ take i xs) (take i xs ++ x ∷ []) (field_in_end (take i xs) x)
     ∙ ap (λ ys. duplicate_fields ys (drop (i + 1) xs)) (sym more)
 
+-- a field that stands twice
+pub field_twice : (xs : List Field) (i : ℕ) (x : Field) → i < length xs → x ≡ get_or xs i x → is_some (field_in (take i xs) x.name x.descriptor) ≡ true → duplicate_fields [] xs ≡ duplicate_fields (take i xs) (drop i xs) → duplicate_fields [] xs ≡ Some (duplicate_member x.name)
+field_twice xs i x l is twice h =
+    let here : drop i xs ≡ x ∷ drop (i + 1) xs = rw (drop_more xs i x l, ← is) refl in
+    h ∙ ap (λ ys. duplicate_fields (take i xs) ys) here ∙ ap (λ b. or_else (when b (duplicate_member x.name)) (duplicate_fields (x ∷ take i xs) (drop (i + 1) xs))) twice
+
 -- one more at the other end is found all the same
 method_in_end : (seen : List Method) (x : Method) (name : List ℕ) (t : MethodDescriptor) → is_some (method_in (x ∷ seen) name t) ≡ is_some (method_in (seen ++ x ∷ []) name t)
 method_in_end [] x name t = refl
@@ -90,6 +89,12 @@ methods_go_on xs i x l is none h =
     h ∙ ap (λ ys. duplicate_methods (take i xs) ys) here ∙ once
     ∙ duplicate_methods_alike (drop (i + 1) xs) (x ∷ take i xs) (take i xs ++ x ∷ []) (method_in_end (take i xs) x)
     ∙ ap (λ ys. duplicate_methods ys (drop (i + 1) xs)) (sym more)
+
+-- a method that stands twice
+pub method_twice : (xs : List Method) (i : ℕ) (x : Method) → i < length xs → x ≡ get_or xs i x → is_some (method_in (take i xs) x.name x.descriptor) ≡ true → duplicate_methods [] xs ≡ duplicate_methods (take i xs) (drop i xs) → duplicate_methods [] xs ≡ Some (duplicate_member x.name)
+method_twice xs i x l is twice h =
+    let here : drop i xs ≡ x ∷ drop (i + 1) xs = rw (drop_more xs i x l, ← is) refl in
+    h ∙ ap (λ ys. duplicate_methods (take i xs) ys) here ∙ ap (λ b. or_else (when b (duplicate_member x.name)) (duplicate_methods (x ∷ take i xs) (drop (i + 1) xs))) twice
 
 -- the classes that were seen, in another order
 named_end : (seen : List ClassParts) (x : ClassParts) (name : List ℕ) → is_named_among (x ∷ seen) name ≡ is_named_among (seen ++ x ∷ []) name
@@ -146,36 +151,3 @@ seen_before xs i x l is any h = named_twice xs i x l is (named_among (take i xs)
 
 pub is_built_in : (xs : List ClassParts) (i : ℕ) (x : ClassParts) → i < length xs → x ≡ get_or xs i x → is_built_in_name x.name ≡ true → duplicates [] xs ≡ duplicates (take i xs) (drop i xs) → duplicates [] xs ≡ Some (duplicate_class x.name)
 is_built_in xs i x l is built_in h = named_twice xs i x l is (named_among (take i xs) x.name ∙ or_right _ _ built_in) h
-
--- one more key among those that were seen
-field_added : (seen : List Field) (x : Field) (name : List ℕ) (t : FieldType) → is_some (field_in (seen ++ x ∷ []) name t) ≡ cond (same_text x.name name && same_type x.descriptor t) true (is_some (field_in seen name t))
-field_added seen x name t = sym (field_in_end seen x name t) ∙ by (same_text x.name name && same_type x.descriptor t)
-  where
-    by : (b : Bool) → is_some (elim b as (λ _. Option Field) [ true ↦ Some x | false ↦ field_in seen name t ]) ≡ cond b true (is_some (field_in seen name t))
-    by true = refl
-    by false = refl
-
-pub field_keys_more : (xs : List Field) (i : ℕ) (x : Field) (k q : FieldKey) (g : Field) (now was : Bool) → i < length xs → x ≡ get_or xs i x → IsFieldKey k x → IsFieldKey q g → now ≡ cond (is_eq ((field_ord.ghosts).cmp k q)) true was → was ≡ is_some (field_in (take i xs) g.name g.descriptor) → now ≡ is_some (field_in (take (i + 1) xs) g.name g.descriptor)
-field_keys_more xs i x k q g now was l is h h' e f =
-    let more : take (i + 1) xs ≡ take i xs ++ x ∷ [] = rw (take_more xs i x l, ← is) refl in
-    e ∙ ap (λ b. cond b true was) (fields_tied k q x g h h') ∙ ap (cond (same_text x.name g.name && same_type x.descriptor g.descriptor) true) f
-    ∙ sym (ap (λ ys. is_some (field_in ys g.name g.descriptor)) more ∙ field_added (take i xs) x g.name g.descriptor)
-
-method_added : (seen : List Method) (x : Method) (name : List ℕ) (t : MethodDescriptor) → is_some (method_in (seen ++ x ∷ []) name t) ≡ cond (same_text x.name name && same_method_type x.descriptor t) true (is_some (method_in seen name t))
-method_added seen x name t = sym (method_in_end seen x name t) ∙ by (same_text x.name name && same_method_type x.descriptor t)
-  where
-    by : (b : Bool) → is_some (elim b as (λ _. Option Method) [ true ↦ Some x | false ↦ method_in seen name t ]) ≡ cond b true (is_some (method_in seen name t))
-    by true = refl
-    by false = refl
-
-pub method_keys_more : (xs : List Method) (i : ℕ) (x : Method) (k q : MethodKey) (g : Method) (now was : Bool) → i < length xs → x ≡ get_or xs i x → IsMethodKey k x → IsMethodKey q g → now ≡ cond (is_eq ((method_ord.ghosts).cmp k q)) true was → was ≡ is_some (method_in (take i xs) g.name g.descriptor) → now ≡ is_some (method_in (take (i + 1) xs) g.name g.descriptor)
-method_keys_more xs i x k q g now was l is h h' e f =
-    let more : take (i + 1) xs ≡ take i xs ++ x ∷ [] = rw (take_more xs i x l, ← is) refl in
-    e ∙ ap (λ b. cond b true was) (methods_tied k q x g h h') ∙ ap (cond (same_text x.name g.name && same_method_type x.descriptor g.descriptor) true) f
-    ∙ sym (ap (λ ys. is_some (method_in ys g.name g.descriptor)) more ∙ method_added (take i xs) x g.name g.descriptor)
-
--- a member that is added was not there
-pub was_new : (added was there : Bool) → added ≡ not was → added ≡ true → was ≡ there → there ≡ false
-was_new true false there e h f = sym f
-was_new true true there e h f = cc
-was_new false was there e h f = cc

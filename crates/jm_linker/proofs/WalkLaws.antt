@@ -1,14 +1,17 @@
 -- One more turn of a walk up.
 use Rattle.std.proofs.Common.{◌≡◌, ◌≢◌, ℕ, zero, suc, ◌+◌, ◌-◌, ◌<◌, Bool, true, false, List, [], ◌∷◌, ◌++◌, Option, Some, None, refl, sym, ap, subst, ◌∙◌, ◌≤◌, cond, Bor, append_assoc, arith}
 use Rattle.std.specs.Prelude.{option_to_list}
+use Rattle.std.specs.BTreeMap.{BTreeMap, get}
+use Rattle.std.specs.Cmp.Lexicographic.{texts_ties}
 use Rattle.std.specs.Map.{lookup}
-use Rattle.jm_program.specs.Names.{same_text}
+use Rattle.std.specs.Ordering.{is_eq}
 use Rattle.jm_program.specs.declared.class.ClassParts.{ClassParts}
 use Rattle.jm_world.specs.Classes.{class_named, height}
 use Rattle.jm_world.specs.Hierarchy.{up_from, chain}
 use Rattle.jm_world.specs.Resolution.{first_found, interfaces_first}
 use Rattle.jm_linker.specs.declared.walk.Pending.{Pending}
 use Rattle.jm_linker.proofs.CycleLaws.{text_is}
+use Rattle.jm_linker.specs.Tables.{by_units}
 use Rattle.jm_linker.specs.Walks.{AllVain, Says, AllSay, above_from, above_any, or_found, found_pending, first_along}
 
 or_none : (a : Option ClassParts) → or_found a None ≡ a
@@ -231,8 +234,8 @@ pub is_vain : (test : ClassParts → Bool) (program : List ClassParts) (depth mo
 is_vain test program depth most name l e = less_vain test program (suc depth) (suc most) name (omega (arith, l)) e
 
 -- one more walk that is kept
-pub kept_more : (test : ClassParts → Bool) (program : List ClassParts) (old now : List ℕ → Option ℕ) (p : Pending) (name : Bor (List ℕ)) (key : List ℕ) → p.below ≡ Some name → key ≡ name.now → ((q : List ℕ) → now q ≡ cond (same_text key q) (Some p.depth) (old q)) → AllVain test program old → Says test program p None → AllVain test program now
-kept_more test program old now p name key below is updates vain says = λ q depth kept. by q depth (same_text key q) refl (sym (updates q) ∙ kept)
+pub kept_more : (test : ClassParts → Bool) (program : List ClassParts) (old now : BTreeMap (Bor (List ℕ)) ℕ) (p : Pending) (name key : Bor (List ℕ)) → p.below ≡ Some name → key.now ≡ name.now → ((q : Bor (List ℕ)) → get by_units now q ≡ cond (is_eq (by_units key q)) (Some p.depth) (get by_units old q)) → AllVain test program old → Says test program p None → AllVain test program now
+kept_more test program old now p name key below is updates vain says = λ q depth kept. by q depth (is_eq (by_units key q)) refl (sym (updates q) ∙ kept)
   where
     said : above_from test (suc p.depth) program name.now ≡ None
     said = subst (λ o. elim o as (λ _. Type 0) [ None ↦ Unit {0} | Some n ↦ above_from test (suc p.depth) program n.now ≡ None ]) below says
@@ -240,8 +243,8 @@ kept_more test program old now p name key below is updates vain says = λ q dept
     same : (depth : ℕ) → Some p.depth ≡ Some depth → p.depth ≡ depth
     same depth e = cc
 
-    by : (q : List ℕ) (depth : ℕ) (t : Bool) → same_text key q ≡ t → cond t (Some p.depth) (old q) ≡ Some depth → above_from test (suc depth) program q ≡ None
-    by q depth true e f = subst (λ n. above_from test (suc n) program q ≡ None) (same depth f) (subst (λ n. above_from test (suc p.depth) program n ≡ None) (sym is ∙ text_is key q e) said)
+    by : (q : Bor (List ℕ)) (depth : ℕ) (t : Bool) → is_eq (by_units key q) ≡ t → cond t (Some p.depth) (get by_units old q) ≡ Some depth → above_from test (suc depth) program q.now ≡ None
+    by q depth true e f = subst (λ n. above_from test (suc n) program q.now ≡ None) (same depth f) (subst (λ n. above_from test (suc p.depth) program n ≡ None) (sym is ∙ text_is key.now q.now (texts_ties key.now q.now ∙ e)) said)
     by q depth false e f = vain q depth f
 
 -- of names above the same class the same is said
@@ -299,9 +302,9 @@ say_above test program ps qs os ts rs p q s i x xs c e names others depth below 
     three ps = append_assoc (ps ++ q ∷ []) (s ∷ []) (i ∷ []) ∙ append_assoc ps (q ∷ []) (s ∷ i ∷ [])
 
 -- no walk is kept yet
-pub none_kept : (test : ClassParts → Bool) (program : List ClassParts) (kept : List (List ℕ × ℕ)) → kept ≡ [] → AllVain test program (λ name. lookup (same_text name) kept)
-none_kept test program kept e = λ name depth is. by name depth (lookup (same_text name) kept) (ap (lookup (same_text name)) e) is
+pub none_kept : (test : ClassParts → Bool) (program : List ClassParts) (kept : BTreeMap (Bor (List ℕ)) ℕ) → kept.entries ≡ [] → AllVain test program kept
+none_kept test program kept e = λ name depth is. by name depth (get by_units kept name) (ap (lookup (λ k. is_eq (by_units name k))) e) is
   where
-    by : (name : List ℕ) (depth : ℕ) (o : Option ℕ) → o ≡ None → o ≡ Some depth → above_from test (suc depth) program name ≡ None
+    by : (name : Bor (List ℕ)) (depth : ℕ) (o : Option ℕ) → o ≡ None → o ≡ Some depth → above_from test (suc depth) program name.now ≡ None
     by name depth None e f = cc
     by name depth (Some d) e f = cc

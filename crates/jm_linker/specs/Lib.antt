@@ -8,4 +8,5 @@ pub mod Cycles
 pub mod MainLinks
 pub mod Linking
 pub mod Keys
+pub mod Tables
 pub mod Ranks

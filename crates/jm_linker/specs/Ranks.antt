@@ -1,5 +1,5 @@
 -- Ranks of classes by name: of the program's classes by their numbers, and 0 of all others.
-use Rattle.std.specs.Prelude.{ℕ, List, Option, Some, None, Bool, nat_lt, ◌&&◌, true, slice_index_or}
+use Rattle.std.specs.Prelude.{ℕ, ◌+◌, List, Option, Some, None, Bool, nat_lt, ◌&&◌, true, slice_index_or}
 use Rattle.std.specs.List.{list_all}
 use Rattle.jm_program.specs.declared.class.ClassParts.{ClassParts}
 use Rattle.jm_linker.specs.BuiltInClasses.{number_from}
@@ -23,3 +23,7 @@ are_parents_under program ranks rank c = is_superclass_under program ranks rank 
 
 abbrev pub is_over_parents : List ClassParts → List ℕ → ClassParts → Bool
 is_over_parents program ranks c = are_parents_under program ranks (rank_of program ranks c.name) c
+
+-- no class right above it has a higher rank
+abbrev pub has_none_over : List ClassParts → List ℕ → ClassParts → Bool
+has_none_over program ranks c = are_parents_under program ranks (rank_of program ranks c.name + 1) c

@@ -1,18 +1,21 @@
 -- The first class from a name up in which something is found: the class itself, its superinterfaces,
 -- its superclass, each with all above it.
 use Rattle.std.specs.Prelude.{◌≡◌, ℕ, zero, suc, List, [], ◌∷◌, Option, Some, None, Bool, true, false, is_some}
+use Rattle.std.specs.Borrow.{Bor}
+use Rattle.std.specs.BTreeMap.{BTreeMap, get}
 use Rattle.jm_program.specs.Names.{same_text}
 use Rattle.jm_program.specs.declared.class.ClassParts.{ClassParts}
 use Rattle.jm_world.specs.Classes.{class_named, field_in, method_in}
 use Rattle.jm_world.specs.Resolution.{first_found, interfaces_first, nameable}
-use Rattle.jm_linker.specs.declared.walk.Sought.{Sought}
-use Rattle.jm_linker.specs.declared.walk.Sought.TheVariants as sought
+use Rattle.jm_linker.specs.declared.sought.Sought.{Sought}
+use Rattle.jm_linker.specs.declared.sought.Sought.TheVariants as sought
+use Rattle.jm_linker.specs.Tables.{by_units}
 use Rattle.jm_linker.specs.declared.walk.Pending.{Pending}
 
 abbrev pub sought_in : Sought → ClassParts → Bool
 sought_in (sought.Class name) c = same_text c.name name.now
-sought_in (sought.Field f) c = is_some (field_in (nameable c) f.now.name f.now.descriptor)
-sought_in (sought.Method m) c = is_some (method_in c.methods m.now.name m.now.descriptor)
+sought_in (sought.Field f) c = is_some (field_in (nameable c) f.now.field.now.name f.now.field.now.descriptor)
+sought_in (sought.Method m) c = is_some (method_in c.methods m.now.method.now.name m.now.method.now.descriptor)
 
 unfoldable pub above_from : (ClassParts → Bool) → ℕ → List ClassParts → List ℕ → Option ClassParts
 above_from test zero program name = None
@@ -43,8 +46,8 @@ AllSay test program [] = Unit {0}
 AllSay test program (p ∷ ps) = Says test program p (found_pending test program (p ∷ ps)) × AllSay test program ps
 
 -- the walks that are kept, by name and by how many classes above the name, were in vain
-abbrev pub AllVain : (ClassParts → Bool) → List ClassParts → (List ℕ → Option ℕ) → Type 0
-AllVain test program kept = (name : List ℕ) (depth : ℕ) → kept name ≡ Some depth → above_from test (suc depth) program name ≡ None
+abbrev pub AllVain : (ClassParts → Bool) → List ClassParts → BTreeMap (Bor (List ℕ)) ℕ → Type 0
+AllVain test program kept = (name : Bor (List ℕ)) (depth : ℕ) → get by_units kept name ≡ Some depth → above_from test (suc depth) program name.now ≡ None
 
 -- the first of a list of classes
 abbrev pub first_along : (ClassParts → Bool) → List ClassParts → Option ClassParts

@@ -1,41 +1,68 @@
 // The classes of a program and the built-in ones, found by name.
 
-ghost use Rattle.std.specs.Prelude.{◌≡◌, ◌<◌, IfOk, List, Some, ℕ, length, option_copied, slice_get, take};
+ghost use Rattle.std.specs.Prelude.{◌≡◌, ◌<◌, IfOk, MatchResult, List, Some, length, map, option_copied, option_map, slice_get, take};
 ghost use Rattle.std.specs.List.{list_any};
-ghost use Rattle.std.specs.HashMap.{get};
 ghost use Rattle.jm_program.specs.Names.{same_text};
 ghost use Rattle.jm_program.specs.declared.class.ClassParts.{ClassParts};
 ghost use Rattle.jm_world.specs.Classes.{as_class, class_named, height};
-ghost use Rattle.jm_linker.specs.BuiltInClasses.{built_in_classes, class_in, number_from};
+ghost use Rattle.jm_world.specs.Loads.{duplicate_members, first_of_all};
+ghost use Rattle.jm_linker.specs.Answers.{Answers, IsOutOfMemory};
+ghost use Rattle.jm_linker.specs.BuiltInClasses.{built_in_classes, class_in, is_built_in_name, number_from};
+ghost use Rattle.jm_linker.specs.Tables.{HasNumbers};
 
+use crate::fault::LinkFault;
+use crate::members::{Members, members_of_classes, members_of_program};
 use crate::name::is_same;
 use jm_builtins::{BuiltIn, builtins};
 use jm_program::{Class, ClassParts, Name, Version};
 use std::alloc::{AllocError, Global};
-use std::collections::HashMap;
+use std::collections::BTreeMap;
 
-/// The classes of a program, and beside them the built-in ones.
+/// The names of a program's classes, and beside them the built-in classes.
+#[derive(Drop)]
+pub struct Names<'a> {
+    pub program: &'a [Class],
+    built_ins: &'a [ClassParts],
+    numbers: BTreeMap<&'a [u16], usize>,
+    ghost complete: { built_ins.now ≡ built_in_classes },
+    ghost numbered: { HasNumbers numbers program.now },
+}
+
+/// The classes of a program, and beside them the built-in ones, each with its members.
 #[derive(Drop)]
 pub struct Classes<'a> {
     pub program: &'a [Class],
-    pub built_ins: &'a [ClassParts],
-    pub numbers: &'a HashMap<Name, usize>,
-    ghost complete: { built_ins.now ≡ built_in_classes },
-    ghost numbered: { (name : List ℕ) → get same_text numbers.now name ≡ number_from 0 program.now name },
+    members: Vec<Members<'a>>,
+    pub built_ins: Vec<Members<'a>>,
+    numbers: BTreeMap<&'a [u16], usize>,
+    ghost tabled: { map (λ m. m.class.now) members.items ≡ program.now },
+    ghost complete: { map (λ m. m.class.now) built_ins.items ≡ built_in_classes },
+    ghost numbered: { HasNumbers numbers program.now },
 }
 
-/// The numbers of a program's classes by name: of classes of one name the first one's.
-pub fn numbers_of(alloc: Global, program: &[Class]) -> Result<HashMap<Name, usize>, AllocError>
-    ensures { IfOk result (λ numbers. (name : List ℕ) → get same_text numbers name ≡ number_from 0 program.now name) }
+// The numbers of a program's classes by name: of classes of one name the first one's.
+fn numbers_of<'a>(
+    alloc: Global,
+    program: &'a [Class],
+) -> Result<BTreeMap<&'a [u16], usize>, AllocError>
+    ensures { IfOk result (λ numbers. HasNumbers numbers program.now) }
 {
-    let mut numbers = HashMap::new(alloc);
+    let mut numbers = BTreeMap::new(alloc);
     let mut number = program.len();
     while number > 0 {
         number -= 1;
-        let name = program[number].parts().name.copy(alloc)?;
-        numbers.insert(name, number)?;
+        numbers.insert(program[number].parts().name.units(), number)?;
     }
     Ok(numbers)
+}
+
+fn number_in<'a>(numbers: &BTreeMap<&'a [u16], usize>, name: &'a Name) -> Option<usize>
+    ensures { (program : List ClassParts) → HasNumbers numbers.now program → result ≡ number_from 0 program name.now }
+{
+    match numbers.get(&name.units()) {
+        Some(number) => Some(*number),
+        None => None,
+    }
 }
 
 fn class_of(built_in: BuiltIn) -> ClassParts
@@ -76,7 +103,7 @@ pub fn classes_of_built_ins(alloc: Global) -> Result<Vec<ClassParts>, AllocError
     Ok(classes)
 }
 
-pub fn find_in<'a>(classes: &'a [ClassParts], name: &Name) -> Option<&'a ClassParts>
+fn find_in<'a>(classes: &'a [ClassParts], name: &Name) -> Option<&'a ClassParts>
     ensures { option_copied result ≡ class_in classes.now name.now }
 {
     for class in classes {
@@ -87,40 +114,126 @@ pub fn find_in<'a>(classes: &'a [ClassParts], name: &Name) -> Option<&'a ClassPa
     None
 }
 
-fn class_at(program: &[Class], number: usize) -> &ClassParts
-    requires { number < length program.now }
-    ensures { slice_get program.now number ≡ Some result.now }
+fn find_among<'c, 'a>(classes: &'c [Members<'a>], name: &Name) -> Option<&'c Members<'a>>
+    ensures { option_map (λ m. m.now.class.now) result ≡ class_in (map (λ m. m.class.now) classes.now) name.now }
 {
-    program[number].parts()
+    for members in classes {
+        if is_same(&members.class.name, name) {
+            return Some(members);
+        }
+    }
+    None
+}
+
+#[tactic(auto, using(crate::proofs::ClassLaws::members_at))]
+fn members_at<'c, 'a>(classes: &'c [Members<'a>], number: usize) -> &'c Members<'a>
+    requires { number < length classes.now }
+    ensures { slice_get (map (λ m. m.class.now) classes.now) number ≡ Some result.now.class.now }
+{
+    &classes[number]
+}
+
+// The members of each of the built-in classes, in none of which one stands twice.
+fn members_of_built_ins<'a>(
+    alloc: Global,
+    built_ins: &'a [ClassParts],
+) -> Result<Vec<Members<'a>>, LinkFault>
+    requires { built_ins.now ≡ built_in_classes }
+    ensures { MatchResult result (λ all. map (λ m. m.class.now) all.items ≡ built_ins.now) (λ fault. IsOutOfMemory fault) }
+{
+    members_of_classes(alloc, built_ins)
+}
+
+impl<'a> Names<'a> {
+    /// The names of the program's classes, beside all built-in classes.
+    pub fn of(
+        alloc: Global,
+        program: &'a [Class],
+        built_ins: &'a [ClassParts],
+    ) -> Result<Names<'a>, AllocError>
+        requires { built_ins.now ≡ built_in_classes }
+        ensures { IfOk result (λ names. names.program.now ≡ program.now) }
+    {
+        Ok(Names {
+            program,
+            built_ins,
+            numbers: numbers_of(alloc, program)?,
+        })
+    }
+
+    /// Whether a class of the name stands before the number in the program.
+    pub fn stands_before(&self, name: &'a Name, number: usize) -> bool
+        ensures { result ≡ list_any (λ (c : ClassParts). same_text c.name name.now) (take number self.now.program.now) }
+    {
+        match number_in(&self.numbers, name) {
+            Some(first) => first < number,
+            None => false,
+        }
+    }
+
+    /// Whether a built-in class has the name.
+    pub fn is_built_in(&self, name: &Name) -> bool
+        ensures { result ≡ is_built_in_name name.now }
+    {
+        find_in(self.built_ins, name).is_some()
+    }
 }
 
 impl<'a> Classes<'a> {
+    /// The classes of these names with their members, or the fault of the first member that stands
+    /// twice in a class of the program.
+    #[tactic(auto, using(crate::proofs::Reasons::memory_says))]
+    pub fn of(alloc: Global, names: Names<'a>) -> Result<Classes<'a>, LinkFault>
+        ensures refusal { Answers result (first_of_all duplicate_members names.entry.program.now) }
+        ensures program { IfOk result (λ classes. classes.program.now ≡ names.entry.program.now) }
+    {
+        let Names {
+            program,
+            built_ins,
+            numbers,
+        } = names;
+        let members = members_of_program(alloc, program)?;
+        let built_ins = members_of_built_ins(alloc, built_ins)?;
+        Ok(Classes {
+            program,
+            members,
+            built_ins,
+            numbers,
+        })
+    }
+
     /// How many classes there are: no walk up is longer.
     #[tactic(auto, using(crate::proofs::ClassLaws::many_built_ins))]
     pub fn height(&self) -> usize
         ensures { result ≡ height self.now.program.now }
     {
-        self.program.len() + self.built_ins.len()
+        self.program.len() + self.built_ins.as_slice().len()
     }
 
-    /// Whether a class of the name stands before the number in the program.
-    pub fn stands_before(&self, name: &Name, number: usize) -> bool
-        ensures { result ≡ list_any (λ (c : ClassParts). same_text c.name name.now) (take number self.now.program.now) }
+    /// The number of the program's first class of the name.
+    pub fn number(&self, name: &'a Name) -> Option<usize>
+        ensures { result ≡ number_from 0 self.now.program.now name.now }
     {
-        match self.numbers.get(name) {
-            Some(first) => *first < number,
-            None => false,
+        number_in(&self.numbers, name)
+    }
+
+    /// The class of the name with its members: the program's, or else a built-in one.
+    pub fn members(&self, name: &'a Name) -> Option<&Members<'a>>
+        ensures { option_map (λ m. m.now.class.now) result ≡ class_named self.now.program.now name.now }
+    {
+        match self.number(name) {
+            Some(number) => Some(members_at(&self.members, number)),
+            None => find_among(&self.built_ins, name),
         }
     }
 
     /// The class of the name: the program's, or else a built-in one.
-    #[tactic(auto, unfolding(jm_world::specs::Classes::class_named))]
-    pub fn find(&self, name: &Name) -> Option<&'a ClassParts>
+    pub fn find(&self, name: &'a Name) -> Option<&'a ClassParts>
         ensures { option_copied result ≡ class_named self.now.program.now name.now }
     {
-        match self.numbers.get(name) {
-            Some(number) => Some(class_at(self.program, *number)),
-            None => find_in(self.built_ins, name),
+        match self.members(name) {
+            Some(members) => Some(members.class),
+            None => None,
         }
     }
 }

@@ -9,8 +9,9 @@ ghost use Rattle.jm_linker.specs.Cycles.{is_above_itself};
 
 use crate::classes::Classes;
 use crate::fault::{LinkFault, cycle};
-use crate::ranks::{are_ranks, ranks_of};
-use crate::walk::{Sought, find_above};
+use crate::ranks::{are_ranks, is_over_parents, ranks_of};
+use crate::sought::Sought;
+use crate::walk::find_above;
 use jm_program::ClassParts;
 use std::alloc::Global;
 use std::slice;
@@ -50,15 +51,20 @@ fn check_cycle<'a>(
     Ok(())
 }
 
-/// That no class is above itself.
-pub fn check_cycles(alloc: Global, classes: &Classes) -> Result<(), LinkFault>
+/// That no class is above itself. Ranks say so of most classes at once; where they do not, a walk up
+/// decides.
+pub fn check_cycles<'a>(alloc: Global, classes: &Classes<'a>) -> Result<(), LinkFault>
     ensures { Answers result (first_of_all (cycle_refusal classes.now.program.now) classes.now.program.now) }
 {
-    if are_ranks(classes, &ranks_of(alloc, classes)?) {
-        return Ok(());
-    }
+    let ranks = ranks_of(alloc, classes)?;
+    let ranks = ranks.as_slice();
+    let are_ranks = are_ranks(classes, ranks);
     for class in classes.program {
-        check_cycle(alloc, classes, class.parts())?;
+        let class = class.parts();
+        if are_ranks && is_over_parents(classes, ranks, class) {
+            continue;
+        }
+        check_cycle(alloc, classes, class)?;
     }
     Ok(())
 }

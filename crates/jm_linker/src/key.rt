@@ -4,7 +4,7 @@ ghost use Rattle.std.specs.Prelude.{◌≡◌, IfOk};
 ghost use Rattle.jm_linker.specs.Keys.{IsElementKey, IsTypeKey, AreTypeKeys, IsResultKey, IsFieldKey, IsMethodKey};
 
 use crate::types::letter;
-use jm_program::{ElementType, Field, FieldType, Method};
+use jm_program::{ElementType, FieldType, MethodDescriptor, Name};
 use std::alloc::{AllocError, Global};
 
 /// A type that is no array: the letter of a primitive type, or the name of a class.
@@ -73,23 +73,27 @@ fn result_key<'a>(returned: &'a Option<FieldType>) -> Option<TypeKey<'a>>
     }
 }
 
-/// The key of a field.
-pub fn field_key<'a>(field: &'a Field) -> FieldKey<'a>
-    ensures { IsFieldKey result field.now }
+/// The key of a field of the name and type.
+pub fn field_key<'a>(name: &'a Name, field_type: &'a FieldType) -> FieldKey<'a>
+    ensures { IsFieldKey result name.now field_type.now }
 {
     FieldKey {
-        name: field.name.units(),
-        descriptor: type_key(&field.descriptor),
+        name: name.units(),
+        descriptor: type_key(field_type),
     }
 }
 
-/// The key of a method.
-pub fn method_key<'a>(alloc: Global, method: &'a Method) -> Result<MethodKey<'a>, AllocError>
-    ensures { IfOk result (λ key. IsMethodKey key method.now) }
+/// The key of a method of the name and type.
+pub fn method_key<'a>(
+    alloc: Global,
+    name: &'a Name,
+    descriptor: &'a MethodDescriptor,
+) -> Result<MethodKey<'a>, AllocError>
+    ensures { IfOk result (λ key. IsMethodKey key name.now descriptor.now) }
 {
     Ok(MethodKey {
-        name: method.name.units(),
-        parameters: type_keys(alloc, method.descriptor.parameters.as_slice())?,
-        result: result_key(&method.descriptor.return_type),
+        name: name.units(),
+        parameters: type_keys(alloc, descriptor.parameters.as_slice())?,
+        result: result_key(&descriptor.return_type),
     })
 }

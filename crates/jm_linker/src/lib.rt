@@ -21,6 +21,7 @@ mod parents;
 mod ranks;
 mod references;
 mod resolution;
+mod sought;
 mod types;
 mod walk;
 

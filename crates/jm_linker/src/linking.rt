@@ -2,15 +2,15 @@
 
 ghost use Rattle.std.specs.Prelude.{◌≡◌, None, IfOk, MatchResult};
 ghost use Rattle.jm_program.specs.declared.class.ClassParts.{ClassParts};
-ghost use Rattle.jm_world.specs.Loads.{refusal, duplicate_members, parents_refusal, method_code_refusal, first_of_all};
+ghost use Rattle.jm_world.specs.Loads.{refusal, parents_refusal, method_code_refusal, first_of_all};
 ghost use Rattle.jm_linked.specs.Later.{later_part};
 ghost use Rattle.jm_linker.specs.Answers.{Answers};
 ghost use Rattle.jm_linker.specs.Linking.{Faults};
 ghost use Rattle.jm_linker.specs.MainLinks.{LinksMain};
 
-use crate::classes::{Classes, classes_of_built_ins, numbers_of};
+use crate::classes::{Classes, Names, classes_of_built_ins};
 use crate::cycles::check_cycles;
-use crate::duplicates::{no_duplicate_classes, no_duplicate_members};
+use crate::duplicates::no_duplicate_classes;
 use crate::fault::LinkFault;
 use crate::later::later_part;
 use crate::main_method::{check_main, link_main};
@@ -21,16 +21,7 @@ use jm_linked::{Linked, LinkedMethod};
 use jm_program::{Class, Sequence};
 use std::alloc::{AllocError, Global};
 
-fn check_members(alloc: Global, program: &[Class]) -> Result<(), LinkFault>
-    ensures { Answers result (first_of_all duplicate_members program.now) }
-{
-    for class in program {
-        no_duplicate_members(alloc, class.parts())?;
-    }
-    Ok(())
-}
-
-fn check_all_parents(alloc: Global, classes: &Classes) -> Result<(), LinkFault>
+fn check_all_parents<'a>(alloc: Global, classes: &Classes<'a>) -> Result<(), LinkFault>
     ensures { Answers result (first_of_all (parents_refusal classes.now.program.now) classes.now.program.now) }
 {
     for class in classes.program {
@@ -39,7 +30,7 @@ fn check_all_parents(alloc: Global, classes: &Classes) -> Result<(), LinkFault>
     Ok(())
 }
 
-fn check_references(alloc: Global, classes: &Classes) -> Result<(), LinkFault>
+fn check_references<'a>(alloc: Global, classes: &Classes<'a>) -> Result<(), LinkFault>
     ensures { Answers result (first_of_all (λ (c : ClassParts). first_of_all (method_code_refusal classes.now.program.now) c.methods) classes.now.program.now) }
 {
     for class in classes.program {
@@ -50,15 +41,15 @@ fn check_references(alloc: Global, classes: &Classes) -> Result<(), LinkFault>
 
 // That the program loads, in the order in which the reasons are looked for.
 #[tactic(auto, using(crate::proofs::Reasons::first_says), unfolding(jm_world::specs::Loads::refusal))]
-fn check_loads(alloc: Global, classes: &Classes) -> Result<(), LinkFault>
-    ensures { Answers result (refusal classes.now.program.now) }
+fn check_loads(alloc: Global, names: Names) -> Result<(), LinkFault>
+    ensures { Answers result (refusal names.entry.program.now) }
 {
-    no_duplicate_classes(alloc, classes)?;
-    check_members(alloc, classes.program)?;
-    check_all_parents(alloc, classes)?;
-    check_cycles(alloc, classes)?;
+    no_duplicate_classes(alloc, &names)?;
+    let classes = Classes::of(alloc, names)?;
+    check_all_parents(alloc, &classes)?;
+    check_cycles(alloc, &classes)?;
     check_main(classes.program)?;
-    check_references(alloc, classes)
+    check_references(alloc, &classes)
 }
 
 // The linked program of classes that load and their main.
@@ -85,15 +76,7 @@ pub fn link(alloc: Global, classes: Vec<Class>) -> Result<Linked, LinkFault>
     ensures { MatchResult result (λ l. (refusal classes.items ≡ None) × (later_part classes.items ≡ None) × (l.program ≡ classes.items)) (Faults classes.items) }
 {
     let built_ins = classes_of_built_ins(alloc)?;
-    let numbers = numbers_of(alloc, &classes)?;
-    check_loads(
-        alloc,
-        &Classes {
-            program: &classes,
-            built_ins: &built_ins,
-            numbers: &numbers,
-        },
-    )?;
+    check_loads(alloc, Names::of(alloc, &classes, &built_ins)?)?;
     if let Some(part) = later_part(&classes) {
         return Err(LinkFault::Later(part));
     }

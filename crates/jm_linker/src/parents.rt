@@ -19,7 +19,11 @@ fn is_strange_interface(class: &ClassParts, superclass: &Name) -> bool
     class.flags.has(AccessFlags::INTERFACE) && !superclass.is_object()
 }
 
-fn check_superclass(alloc: Global, classes: &Classes, class: &ClassParts) -> Result<(), LinkFault>
+fn check_superclass<'a>(
+    alloc: Global,
+    classes: &Classes<'a>,
+    class: &'a ClassParts,
+) -> Result<(), LinkFault>
     ensures { Answers result (superclass_refusal classes.now.program.now class.now class.now.superclass) }
 {
     let Some(name) = &class.superclass else {
@@ -39,7 +43,11 @@ fn check_superclass(alloc: Global, classes: &Classes, class: &ClassParts) -> Res
     }
 }
 
-fn check_interface(alloc: Global, classes: &Classes, name: &Name) -> Result<(), LinkFault>
+fn check_interface<'a>(
+    alloc: Global,
+    classes: &Classes<'a>,
+    name: &'a Name,
+) -> Result<(), LinkFault>
     ensures { Answers result (interface_of_kind name.now (class_named classes.now.program.now name.now)) }
 {
     match classes.find(name) {
@@ -53,7 +61,11 @@ fn check_interface(alloc: Global, classes: &Classes, name: &Name) -> Result<(), 
     }
 }
 
-fn check_interfaces(alloc: Global, classes: &Classes, names: &[Name]) -> Result<(), LinkFault>
+fn check_interfaces<'a>(
+    alloc: Global,
+    classes: &Classes<'a>,
+    names: &'a [Name],
+) -> Result<(), LinkFault>
     ensures { Answers result (first_of_all (λ name. interface_of_kind name (class_named classes.now.program.now name)) names.now) }
 {
     for name in names {
@@ -64,7 +76,11 @@ fn check_interfaces(alloc: Global, classes: &Classes, names: &[Name]) -> Result<
 
 /// That the superclass is there and can be extended, by an interface only java/lang/Object, and the
 /// superinterfaces are there and are interfaces.
-pub fn check_parents(alloc: Global, classes: &Classes, class: &ClassParts) -> Result<(), LinkFault>
+pub fn check_parents<'a>(
+    alloc: Global,
+    classes: &Classes<'a>,
+    class: &'a ClassParts,
+) -> Result<(), LinkFault>
     ensures { Answers result (parents_refusal classes.now.program.now class.now) }
 {
     check_superclass(alloc, classes, class)?;

@@ -1,11 +1,13 @@
-// Ranks of classes: in a program without cycles each class stands over those that it extends and
-// implements (JVMS 5.3.5).
+// Ranks of classes: none right above another has a higher one, and each class that is not above
+// itself has a higher one than those that it extends and implements (JVMS 5.3.5).
 
-ghost use Rattle.std.specs.Prelude.{◌≡◌, ◌&&◌};
+ghost use Rattle.std.specs.Prelude.{◌≡◌, ◌&&◌, ◌<◌, ◌^◌};
 ghost use Rattle.std.specs.List.{list_all};
-ghost use Rattle.jm_linker.specs.Ranks.{rank_of, is_under, is_superclass_under, are_parents_under, is_over_parents};
+ghost use Rattle.jm_linker.specs.Ranks.{rank_of, is_under, is_superclass_under, are_parents_under, is_over_parents, has_none_over};
+ghost use Rattle.jm_linker.specs.BuiltInClasses.{built_in_classes};
 
 use crate::classes::Classes;
+use crate::members::Members;
 use jm_program::{Class, ClassParts, Name};
 use std::alloc::{AllocError, Global};
 use std::slice;
@@ -41,14 +43,35 @@ impl<'a> Pending<'a> {
     }
 }
 
-// A walk from each class up, that gives a class its rank when all above it have theirs. What it
-// gives is checked by `are_ranks`, so nothing need be known of it.
+// A walk from each class up, that finds the classes that are above one another (Tarjan's strongly
+// connected components) and ranks them when all above them have their ranks. What it gives is
+// checked by `are_ranks` and `is_over_parents`, so nothing need be known of it.
 #[derive(Drop)]
 struct Ranking<'a> {
-    /// The ranks by the numbers of classes: 0 for a class that the walk has not come to.
-    ranks: Vec<usize>,
+    /// The ranks by the numbers of classes: 0 for a class that has none yet.
+    ranks: Vec<u32>,
+    /// When the walk came to a class: 0 for one that it has not come to.
+    places: Vec<u32>,
+    /// The lowest place above a class, among those of classes without a rank.
+    lowest: Vec<u32>,
+    /// The classes that the walk has come to and that have no rank, as it came to them.
+    open: Vec<usize>,
     pending: Vec<Pending<'a>>,
-    last: usize,
+    last_place: u32,
+    last_rank: u32,
+}
+
+fn read(numbers: &[u32], number: usize) -> u32 {
+    match numbers.get(number) {
+        Some(found) => *found,
+        None => 0,
+    }
+}
+
+fn write(numbers: &mut [u32], number: usize, new: u32) {
+    if let Some(found) = numbers.get_mut(number) {
+        *found = new;
+    }
 }
 
 impl<'a> Ranking<'a> {
@@ -56,20 +79,60 @@ impl<'a> Ranking<'a> {
         let Some(class) = classes.program.get(number) else {
             return Ok(());
         };
-        let Some(rank) = self.ranks.get_mut(number) else {
-            return Ok(());
-        };
-        if *rank == 0 {
-            *rank = usize::MAX;
-            self.pending.push(Pending::of(number, class.parts()))?;
+        self.last_place = self.last_place.saturating_add(1);
+        write(&mut self.places, number, self.last_place);
+        write(&mut self.lowest, number, self.last_place);
+        self.open.push(number)?;
+        self.pending.push(Pending::of(number, class.parts()))?;
+        Ok(())
+    }
+
+    // That a class is at least as low as the place.
+    fn lower(&mut self, number: usize, place: u32) {
+        if place < read(&self.lowest, number) {
+            write(&mut self.lowest, number, place);
+        }
+    }
+
+    // Goes to a class right above one, unless the walk has come to it.
+    fn reach(
+        &mut self,
+        classes: &Classes<'a>,
+        from: usize,
+        number: usize,
+    ) -> Result<(), AllocError> {
+        let place = read(&self.places, number);
+        if place == 0 {
+            return self.begin(classes, number);
+        }
+        if read(&self.ranks, number) == 0 {
+            self.lower(from, place);
         }
         Ok(())
     }
 
+    // Gives one rank to the class and to all that the walk came to after it.
+    fn rank(&mut self, number: usize) {
+        self.last_rank = self.last_rank.saturating_add(1);
+        for _ in 0..self.open.len() {
+            let Some(open) = self.open.pop() else {
+                return;
+            };
+            write(&mut self.ranks, open, self.last_rank);
+            if open == number {
+                return;
+            }
+        }
+    }
+
     fn end(&mut self, number: usize) {
-        self.last = self.last.saturating_add(1);
-        if let Some(rank) = self.ranks.get_mut(number) {
-            *rank = self.last;
+        let lowest = read(&self.lowest, number);
+        if lowest == read(&self.places, number) {
+            self.rank(number);
+        }
+        if let Some(below) = self.pending.last() {
+            let below = below.number;
+            self.lower(below, lowest);
         }
     }
 
@@ -79,22 +142,30 @@ impl<'a> Ranking<'a> {
             return Ok(());
         };
         self.pending.push(others)?;
-        match classes.numbers.get(name) {
-            Some(number) => self.begin(classes, *number),
+        match classes.number(name) {
+            Some(number) => self.reach(classes, next.number, number),
             None => Ok(()),
         }
     }
 }
 
-/// The ranks of the program's classes by their numbers.
-pub fn ranks_of(alloc: Global, classes: &Classes) -> Result<Vec<usize>, AllocError> {
+/// The ranks of the program's classes by their numbers: the same rank for classes that are above
+/// one another.
+pub fn ranks_of<'a>(alloc: Global, classes: &Classes<'a>) -> Result<Vec<u32>, AllocError> {
+    let count = classes.program.len();
     let mut ranking = Ranking {
-        ranks: vec![in alloc; 0; classes.program.len()]?,
+        ranks: vec![in alloc; 0; count]?,
+        places: vec![in alloc; 0; count]?,
+        lowest: vec![in alloc; 0; count]?,
+        open: Vec::new(alloc),
         pending: Vec::new(alloc),
-        last: 0,
+        last_place: 0,
+        last_rank: 0,
     };
-    for number in 0..classes.program.len() {
-        ranking.begin(classes, number)?;
+    for number in 0..count {
+        if read(&ranking.places, number) == 0 {
+            ranking.begin(classes, number)?;
+        }
         for _ in 0..u64::MAX {
             let Some(next) = ranking.pending.pop() else {
                 break;
@@ -105,37 +176,41 @@ pub fn ranks_of(alloc: Global, classes: &Classes) -> Result<Vec<usize>, AllocErr
     Ok(ranking.ranks)
 }
 
-fn rank_of(classes: &Classes, ranks: &[usize], name: &Name) -> usize
-    ensures { result ≡ rank_of classes.now.program.now ranks.now name.now }
+fn rank_of<'a>(classes: &Classes<'a>, ranks: &[u32], name: &'a Name) -> u64
+    ensures value { result ≡ rank_of classes.now.program.now ranks.now name.now }
+    ensures small { result < 2 ^ 32 }
 {
-    match classes.numbers.get(name) {
-        Some(number) => match ranks.get(*number) {
-            Some(rank) => *rank,
+    match classes.number(name) {
+        Some(number) => match ranks.get(number) {
+            Some(rank) => u64::from(*rank),
             None => 0,
         },
         None => 0,
     }
 }
 
-fn is_under(classes: &Classes, ranks: &[usize], rank: usize, name: &Name) -> bool
+fn is_under<'a>(classes: &Classes<'a>, ranks: &[u32], rank: u64, name: &'a Name) -> bool
     ensures { result ≡ is_under classes.now.program.now ranks.now rank name.now }
 {
     rank_of(classes, ranks, name) < rank
 }
 
-fn are_under(classes: &Classes, ranks: &[usize], rank: usize, names: &[Name]) -> bool
+fn are_under<'a>(classes: &Classes<'a>, ranks: &[u32], rank: u64, names: &'a [Name]) -> bool
     ensures { result ≡ list_all (is_under classes.now.program.now ranks.now rank) names.now }
 {
-    names
-        .iter()
-        .all(|name| is_under(classes, ranks, rank, name))
+    for name in names {
+        if !is_under(classes, ranks, rank, name) {
+            return false;
+        }
+    }
+    true
 }
 
-fn is_superclass_under(
-    classes: &Classes,
-    ranks: &[usize],
-    rank: usize,
-    superclass: &Option<Name>,
+fn is_superclass_under<'a>(
+    classes: &Classes<'a>,
+    ranks: &[u32],
+    rank: u64,
+    superclass: &'a Option<Name>,
 ) -> bool
     ensures { result ≡ is_superclass_under classes.now.program.now ranks.now rank superclass.now }
 {
@@ -145,45 +220,59 @@ fn is_superclass_under(
     }
 }
 
-fn are_parents_under(classes: &Classes, ranks: &[usize], rank: usize, class: &ClassParts) -> bool
+fn are_parents_under<'a>(
+    classes: &Classes<'a>,
+    ranks: &[u32],
+    rank: u64,
+    class: &'a ClassParts,
+) -> bool
     ensures { result ≡ are_parents_under classes.now.program.now ranks.now rank class.now }
 {
     is_superclass_under(classes, ranks, rank, &class.superclass)
         && are_under(classes, ranks, rank, class.interfaces.as_slice())
 }
 
-fn is_over_parents(classes: &Classes, ranks: &[usize], class: &ClassParts) -> bool
+/// Whether the class has a higher rank than those right above it.
+pub fn is_over_parents<'a>(classes: &Classes<'a>, ranks: &[u32], class: &'a ClassParts) -> bool
     ensures { result ≡ is_over_parents classes.now.program.now ranks.now class.now }
 {
     let rank = rank_of(classes, ranks, &class.name);
     are_parents_under(classes, ranks, rank, class)
 }
 
-fn are_over_parents(classes: &Classes, ranks: &[usize], program: &[Class]) -> bool
-    ensures { result ≡ list_all (is_over_parents classes.now.program.now ranks.now) program.now }
+fn has_none_over<'a>(classes: &Classes<'a>, ranks: &[u32], class: &'a ClassParts) -> bool
+    ensures { result ≡ has_none_over classes.now.program.now ranks.now class.now }
 {
-    program
-        .iter()
-        .all(|class| is_over_parents(classes, ranks, class.parts()))
+    let rank = rank_of(classes, ranks, &class.name);
+    are_parents_under(classes, ranks, rank + 1, class)
 }
 
-fn are_all_parents_under(
-    classes: &Classes,
-    ranks: &[usize],
-    rank: usize,
-    built_ins: &[ClassParts],
-) -> bool
-    ensures { result ≡ list_all (are_parents_under classes.now.program.now ranks.now rank) built_ins.now }
+fn have_none_over<'a>(classes: &Classes<'a>, ranks: &[u32], program: &'a [Class]) -> bool
+    ensures { result ≡ list_all (has_none_over classes.now.program.now ranks.now) program.now }
 {
-    built_ins
-        .iter()
-        .all(|class| are_parents_under(classes, ranks, rank, class))
+    for class in program {
+        if !has_none_over(classes, ranks, class.parts()) {
+            return false;
+        }
+    }
+    true
 }
 
-/// Whether each class of the program has a higher rank than those right above it.
-pub fn are_ranks(classes: &Classes, ranks: &[usize]) -> bool
-    ensures { result ≡ (list_all (is_over_parents classes.now.program.now ranks.now) classes.now.program.now && list_all (are_parents_under classes.now.program.now ranks.now 1) classes.now.built_ins.now) }
+fn are_built_ins_lowest<'a>(classes: &Classes<'a>, ranks: &[u32], built_ins: &[Members<'a>]) -> bool
+    ensures { result ≡ list_all (λ m. are_parents_under classes.now.program.now ranks.now 1 m.class.now) built_ins.now }
 {
-    are_over_parents(classes, ranks, classes.program)
-        && are_all_parents_under(classes, ranks, 1, classes.built_ins)
+    for members in built_ins {
+        if !are_parents_under(classes, ranks, 1, members.class) {
+            return false;
+        }
+    }
+    true
+}
+
+/// Whether no class right above another has a higher rank.
+pub fn are_ranks<'a>(classes: &Classes<'a>, ranks: &[u32]) -> bool
+    ensures { result ≡ (list_all (has_none_over classes.now.program.now ranks.now) classes.now.program.now && list_all (are_parents_under classes.now.program.now ranks.now 1) built_in_classes) }
+{
+    have_none_over(classes, ranks, classes.program)
+        && are_built_ins_lowest(classes, ranks, &classes.built_ins)
 }

@@ -1,6 +1,6 @@
 // What the instructions and the exception tables name (JVMS 5.4.3, 6.5).
 
-ghost use Rattle.std.specs.Prelude.{◌≡◌, option_copied};
+ghost use Rattle.std.specs.Prelude.{◌≡◌, option_map};
 ghost use Rattle.jm_program.specs.declared.class.ClassParts.{ClassParts};
 ghost use Rattle.jm_program.specs.declared.class.Method.{Method};
 ghost use Rattle.jm_world.specs.Classes.{class_named};
@@ -10,16 +10,17 @@ ghost use Rattle.jm_linker.specs.Found.{found_field, found_method};
 
 use crate::classes::Classes;
 use crate::fault::{LinkFault, no_class, no_field, no_method, wrong_kind};
-use crate::members::{find_method, find_nameable};
+use crate::members::Members;
 use crate::name::{is_sealed, is_system};
 use crate::resolution::{find_field_class, find_method_class};
+use crate::sought::{SoughtField, SoughtMethod};
 use jm_program::{
     AccessFlags, ClassParts, ClassRef, Code, ElementType, FieldOp, FieldRef, Handler, Instr,
     InvokeOp, Method, MethodRef, Name,
 };
 use std::alloc::Global;
 
-fn check_class(alloc: Global, classes: &Classes, name: &Name) -> Result<(), LinkFault>
+fn check_class<'a>(alloc: Global, classes: &Classes<'a>, name: &'a Name) -> Result<(), LinkFault>
     ensures { Answers result (class_refusal classes.now.program.now name.now) }
 {
     match classes.find(name) {
@@ -28,7 +29,11 @@ fn check_class(alloc: Global, classes: &Classes, name: &Name) -> Result<(), Link
     }
 }
 
-fn check_element(alloc: Global, classes: &Classes, element: &ElementType) -> Result<(), LinkFault>
+fn check_element<'a>(
+    alloc: Global,
+    classes: &Classes<'a>,
+    element: &'a ElementType,
+) -> Result<(), LinkFault>
     ensures { Answers result (element_refusal classes.now.program.now element.now) }
 {
     match element {
@@ -37,7 +42,7 @@ fn check_element(alloc: Global, classes: &Classes, element: &ElementType) -> Res
     }
 }
 
-fn check_ref(alloc: Global, classes: &Classes, class: &ClassRef) -> Result<(), LinkFault>
+fn check_ref<'a>(alloc: Global, classes: &Classes<'a>, class: &'a ClassRef) -> Result<(), LinkFault>
     ensures { Answers result (ref_refusal classes.now.program.now class.now) }
 {
     match class {
@@ -70,43 +75,45 @@ fn is_stored(op: FieldOp) -> bool
     }
 }
 
-fn check_found_field(
+fn check_found_field<'a>(
     alloc: Global,
     op: FieldOp,
-    field: &FieldRef,
-    class: Option<&ClassParts>,
+    sought: &SoughtField<'a>,
+    class: Option<&Members<'a>>,
 ) -> Result<(), LinkFault>
-    ensures { Answers result (found_field_refusal op field.now.name (found_field field.now.name field.now.descriptor (option_copied class.entry))) }
+    ensures { Answers result (found_field_refusal op sought.now.field.now.name (found_field sought.now.field.now.name sought.now.field.now.descriptor (option_map (λ m. m.now.class.now) class.entry))) }
 {
-    let Some(class) = class else {
-        return Err(no_field(alloc, &field.name));
+    let name = &sought.field.name;
+    let Some(members) = class else {
+        return Err(no_field(alloc, name));
     };
-    let Some(found) = find_nameable(class, &field.name, &field.descriptor) else {
-        return Err(no_field(alloc, &field.name));
+    let Some(found) = members.field(&sought.key) else {
+        return Err(no_field(alloc, name));
     };
     if !are_same(found.flags.has(AccessFlags::STATIC), is_static_use(op)) {
-        return Err(wrong_kind(alloc, &field.name));
+        return Err(wrong_kind(alloc, name));
     }
-    if is_stored(op) && is_system(&class.name) {
-        return Err(wrong_kind(alloc, &field.name));
+    if is_stored(op) && is_system(&members.class.name) {
+        return Err(wrong_kind(alloc, name));
     }
     Ok(())
 }
 
 #[tactic(auto, using(crate::proofs::Reasons::first_says, crate::proofs::Reasons::memory_says))]
-fn check_field(
+fn check_field<'a>(
     alloc: Global,
-    classes: &Classes,
+    classes: &Classes<'a>,
     op: FieldOp,
-    field: &FieldRef,
+    field: &'a FieldRef,
 ) -> Result<(), LinkFault>
     ensures { Answers result (field_refusal classes.now.program.now op field.now) }
 {
     check_ref(alloc, classes, &field.class)?;
     match &field.class {
         ClassRef::Class(name) => {
-            let class = find_field_class(alloc, classes, field, name)?;
-            check_found_field(alloc, op, field, class)
+            let sought = SoughtField::of(field);
+            let class = find_field_class(alloc, classes, &sought, name)?;
+            check_found_field(alloc, op, &sought, class)
         }
         ClassRef::Array(_) => Err(no_field(alloc, &field.name)),
     }
@@ -149,31 +156,32 @@ fn check_init(alloc: Global, op: InvokeOp, name: &Name) -> Result<(), LinkFault>
     Ok(())
 }
 
-fn check_found_method(
+fn check_found_method<'a>(
     alloc: Global,
     op: InvokeOp,
-    method: &MethodRef,
-    class: Option<&ClassParts>,
+    sought: &SoughtMethod<'a>,
+    class: Option<&Members<'a>>,
 ) -> Result<(), LinkFault>
-    ensures { Answers result (found_method_refusal op method.now.name (found_method method.now.name method.now.descriptor (option_copied class.entry))) }
+    ensures { Answers result (found_method_refusal op sought.now.method.now.name (found_method sought.now.method.now.name sought.now.method.now.descriptor (option_map (λ m. m.now.class.now) class.entry))) }
 {
-    let Some(class) = class else {
-        return Err(no_method(alloc, &method.name));
+    let name = &sought.method.name;
+    let Some(members) = class else {
+        return Err(no_method(alloc, name));
     };
-    let Some(found) = find_method(class.methods.as_slice(), &method.name, &method.descriptor) else {
-        return Err(no_method(alloc, &method.name));
+    let Some(found) = members.method(&sought.key) else {
+        return Err(no_method(alloc, name));
     };
     if !are_same(found.flags.has(AccessFlags::STATIC), is_static_call(op)) {
-        return Err(wrong_kind(alloc, &method.name));
+        return Err(wrong_kind(alloc, name));
     }
     Ok(())
 }
 
-fn check_receiver(
+fn check_receiver<'a>(
     alloc: Global,
-    classes: &Classes,
+    classes: &Classes<'a>,
     op: InvokeOp,
-    name: &Name,
+    name: &'a Name,
 ) -> Result<(), LinkFault>
     ensures { Answers result (named_class_refusal op name.now (class_named classes.now.program.now name.now)) }
 {
@@ -192,11 +200,11 @@ fn check_receiver(
 }
 
 #[tactic(auto, using(crate::proofs::Reasons::first_says, crate::proofs::Reasons::memory_says))]
-fn check_method(
+fn check_method<'a>(
     alloc: Global,
-    classes: &Classes,
+    classes: &Classes<'a>,
     op: InvokeOp,
-    method: &MethodRef,
+    method: &'a MethodRef,
 ) -> Result<(), LinkFault>
     ensures { Answers result (method_refusal classes.now.program.now op method.now method.now.class) }
 {
@@ -204,8 +212,9 @@ fn check_method(
         ClassRef::Class(name) => {
             check_receiver(alloc, classes, op, name)?;
             check_init(alloc, op, &method.name)?;
-            let class = find_method_class(alloc, classes, method, name)?;
-            check_found_method(alloc, op, method, class)
+            let sought = SoughtMethod::of(alloc, method)?;
+            let class = find_method_class(alloc, classes, &sought, name)?;
+            check_found_method(alloc, op, &sought, class)
         }
         ClassRef::Array(array) => {
             check_element(alloc, classes, &array.element)?;
@@ -215,7 +224,7 @@ fn check_method(
     }
 }
 
-fn check_new(alloc: Global, classes: &Classes, name: &Name) -> Result<(), LinkFault>
+fn check_new<'a>(alloc: Global, classes: &Classes<'a>, name: &'a Name) -> Result<(), LinkFault>
     ensures { Answers result (new_refusal name.now (class_named classes.now.program.now name.now)) }
 {
     match classes.find(name) {
@@ -232,7 +241,11 @@ fn check_new(alloc: Global, classes: &Classes, name: &Name) -> Result<(), LinkFa
     }
 }
 
-fn check_instruction(alloc: Global, classes: &Classes, instruction: &Instr) -> Result<(), LinkFault>
+fn check_instruction<'a>(
+    alloc: Global,
+    classes: &Classes<'a>,
+    instruction: &'a Instr,
+) -> Result<(), LinkFault>
     ensures { Answers result (instruction_refusal classes.now.program.now instruction.now) }
 {
     match instruction {
@@ -244,10 +257,10 @@ fn check_instruction(alloc: Global, classes: &Classes, instruction: &Instr) -> R
     }
 }
 
-fn check_instructions(
+fn check_instructions<'a>(
     alloc: Global,
-    classes: &Classes,
-    instructions: &[Instr],
+    classes: &Classes<'a>,
+    instructions: &'a [Instr],
 ) -> Result<(), LinkFault>
     ensures { Answers result (first_of_all (instruction_refusal classes.now.program.now) instructions.now) }
 {
@@ -257,7 +270,11 @@ fn check_instructions(
     Ok(())
 }
 
-fn check_catch(alloc: Global, classes: &Classes, handler: &Handler) -> Result<(), LinkFault>
+fn check_catch<'a>(
+    alloc: Global,
+    classes: &Classes<'a>,
+    handler: &'a Handler,
+) -> Result<(), LinkFault>
     ensures { Answers result (catch_refusal classes.now.program.now handler.now) }
 {
     match &handler.catch_type {
@@ -266,7 +283,11 @@ fn check_catch(alloc: Global, classes: &Classes, handler: &Handler) -> Result<()
     }
 }
 
-fn check_handlers(alloc: Global, classes: &Classes, handlers: &[Handler]) -> Result<(), LinkFault>
+fn check_handlers<'a>(
+    alloc: Global,
+    classes: &Classes<'a>,
+    handlers: &'a [Handler],
+) -> Result<(), LinkFault>
     ensures { Answers result (first_of_all (catch_refusal classes.now.program.now) handlers.now) }
 {
     for handler in handlers {
@@ -276,7 +297,7 @@ fn check_handlers(alloc: Global, classes: &Classes, handlers: &[Handler]) -> Res
 }
 
 #[tactic(auto, using(crate::proofs::Reasons::first_says))]
-fn check_code(alloc: Global, classes: &Classes, method: &Method) -> Result<(), LinkFault>
+fn check_code<'a>(alloc: Global, classes: &Classes<'a>, method: &'a Method) -> Result<(), LinkFault>
     ensures { Answers result (method_code_refusal classes.now.program.now method.now) }
 {
     match &method.code {
@@ -290,7 +311,11 @@ fn check_code(alloc: Global, classes: &Classes, method: &Method) -> Result<(), L
 
 /// That what the instructions and the exception tables of the methods name is there, and is of the
 /// kind that it is used as.
-pub fn check_methods(alloc: Global, classes: &Classes, methods: &[Method]) -> Result<(), LinkFault>
+pub fn check_methods<'a>(
+    alloc: Global,
+    classes: &Classes<'a>,
+    methods: &'a [Method],
+) -> Result<(), LinkFault>
     ensures { Answers result (first_of_all (method_code_refusal classes.now.program.now) methods.now) }
 {
     for method in methods {

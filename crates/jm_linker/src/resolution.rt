@@ -1,49 +1,52 @@
 // What a symbolic reference to a field or a method means (JVMS 5.4.3).
 
-ghost use Rattle.std.specs.Prelude.{◌≡◌, MatchResult, option_copied};
+ghost use Rattle.std.specs.Prelude.{◌≡◌, MatchResult, option_map};
 ghost use Rattle.jm_world.specs.Resolution.{resolve_field, resolve_method};
 ghost use Rattle.jm_linker.specs.Answers.{IsOutOfMemory};
 ghost use Rattle.jm_linker.specs.Found.{found_field, found_method};
 
 use crate::classes::Classes;
 use crate::fault::LinkFault;
-use crate::walk::{Sought, find_above, find_along};
-use jm_program::{ClassParts, FieldRef, MethodRef, Name};
+use crate::members::Members;
+use crate::sought::{Sought, SoughtField, SoughtMethod};
+use crate::walk::{find_above, find_along};
+use jm_program::Name;
 use std::alloc::Global;
 use std::slice;
 
 /// The class that declares the field, from the class of the name up.
-pub fn find_field_class<'a>(
+pub fn find_field_class<'c, 'a>(
     alloc: Global,
-    classes: &Classes<'a>,
-    field: &FieldRef,
+    classes: &'c Classes<'a>,
+    sought: &SoughtField<'a>,
     class: &'a Name,
-) -> Result<Option<&'a ClassParts>, LinkFault>
-    ensures { MatchResult result (λ c. resolve_field classes.now.program.now class.now field.now.name field.now.descriptor ≡ found_field field.now.name field.now.descriptor (option_copied c)) (λ fault. IsOutOfMemory fault) }
+) -> Result<Option<&'c Members<'a>>, LinkFault>
+    ensures { MatchResult result (λ c. resolve_field classes.now.program.now class.now sought.now.field.now.name sought.now.field.now.descriptor ≡ found_field sought.now.field.now.name sought.now.field.now.descriptor (option_map (λ m. m.now.class.now) c)) (λ fault. IsOutOfMemory fault) }
 {
     find_above(
         alloc,
         classes,
-        &Sought::Field(field),
+        &Sought::Field(sought),
         slice::from_ref(class),
     )
 }
 
 /// The class that declares the method: for <init> the class of the name itself; else the first
 /// from that class up along its superclasses, and then over its superinterfaces.
-pub fn find_method_class<'a>(
+pub fn find_method_class<'c, 'a>(
     alloc: Global,
-    classes: &Classes<'a>,
-    method: &MethodRef,
+    classes: &'c Classes<'a>,
+    sought: &SoughtMethod<'a>,
     class: &'a Name,
-) -> Result<Option<&'a ClassParts>, LinkFault>
-    ensures { MatchResult result (λ c. resolve_method classes.now.program.now class.now method.now.name method.now.descriptor ≡ found_method method.now.name method.now.descriptor (option_copied c)) (λ fault. IsOutOfMemory fault) }
+) -> Result<Option<&'c Members<'a>>, LinkFault>
+    ensures { MatchResult result (λ c. resolve_method classes.now.program.now class.now sought.now.method.now.name sought.now.method.now.descriptor ≡ found_method sought.now.method.now.name sought.now.method.now.descriptor (option_map (λ m. m.now.class.now) c)) (λ fault. IsOutOfMemory fault) }
 {
-    let sought = Sought::Method(method);
-    let Some(named) = classes.find(class) else {
+    let Some(named) = classes.members(class) else {
         return Ok(None);
     };
-    if method.name.is_init() {
+    let name = &sought.method.name;
+    let sought = Sought::Method(sought);
+    if name.is_init() {
         if sought.is_in(named) {
             return Ok(Some(named));
         }

@@ -1,8 +1,6 @@
 // Walks from a name up, over superinterfaces and superclasses (JVMS 5.4.3).
 
-ghost use Rattle.std.specs.Prelude.{◌≡◌, MatchResult, OnOk, Bool, List, None, suc, true, option_copied, option_to_list};
-ghost use Rattle.std.specs.HashMap.{get};
-ghost use Rattle.jm_program.specs.Names.{same_text};
+ghost use Rattle.std.specs.Prelude.{◌≡◌, MatchResult, OnOk, Bool, List, None, suc, true, option_map, option_to_list};
 ghost use Rattle.jm_program.specs.declared.class.ClassParts.{ClassParts};
 ghost use Rattle.jm_world.specs.Classes.{height};
 ghost use Rattle.jm_world.specs.Hierarchy.{chain};
@@ -11,23 +9,13 @@ ghost use Rattle.jm_linker.specs.Walks.{AllVain, Says, sought_in, above_from, ab
 
 use crate::classes::Classes;
 use crate::fault::LinkFault;
-use crate::members::{find_method, find_nameable};
+use crate::members::Members;
 use crate::name::is_same;
-use jm_program::{ClassParts, FieldRef, MethodRef, Name};
+use crate::sought::Sought;
+use jm_program::{ClassParts, Name};
 use std::alloc::{AllocError, Global};
-use std::collections::HashMap;
+use std::collections::BTreeMap;
 use std::slice;
-
-/// What is looked for in each class of a walk.
-#[derive(Clone, Copy)]
-pub enum Sought<'a> {
-    /// The class of the name.
-    Class(&'a Name),
-    /// A class that declares the field.
-    Field(&'a FieldRef),
-    /// A class that declares the method.
-    Method(&'a MethodRef),
-}
 
 // Names that a walk has still to look at, and how many classes up it may go from them. Where they
 // are the last ones above a class, its name stands with them.
@@ -38,16 +26,15 @@ pub struct Pending<'a> {
     below: Option<&'a Name>,
 }
 
-impl Sought<'_> {
-    pub fn is_in(&self, class: &ClassParts) -> bool
-        ensures { result ≡ sought_in self.now class.now }
+impl<'a> Sought<'_, 'a> {
+    /// Whether it is found in the class.
+    pub fn is_in(&self, members: &Members<'a>) -> bool
+        ensures { result ≡ sought_in self.now members.now.class.now }
     {
-        match self {
-            Sought::Class(name) => is_same(&class.name, name),
-            Sought::Field(field) => find_nameable(class, &field.name, &field.descriptor).is_some(),
-            Sought::Method(method) => {
-                find_method(class.methods.as_slice(), &method.name, &method.descriptor).is_some()
-            }
+        match *self {
+            Sought::Class(name) => is_same(&members.class.name, name),
+            Sought::Field(sought) => members.field(&sought.key).is_some(),
+            Sought::Method(sought) => members.method(&sought.key).is_some(),
         }
     }
 }
@@ -62,40 +49,39 @@ fn superclass_of(class: &ClassParts) -> &[Name]
 }
 
 // Whether a walk up from the name, over as many classes above it, was in vain.
-fn is_tried(tried: &HashMap<Name, usize>, name: &Name, depth: usize) -> bool
-    ensures { (test : ClassParts → Bool) (program : List ClassParts) → AllVain test program (get same_text tried.now) → result ≡ true → above_from test (suc depth) program name.now ≡ None }
+fn is_tried<'a>(tried: &BTreeMap<&'a [u16], usize>, name: &'a Name, depth: usize) -> bool
+    ensures { (test : ClassParts → Bool) (program : List ClassParts) → AllVain test program tried.now → result ≡ true → above_from test (suc depth) program name.now ≡ None }
 {
-    match tried.get(name) {
+    match tried.get(&name.units()) {
         Some(most) => depth <= *most,
         None => false,
     }
 }
 
 // Keeps that a walk was in vain, whose last names these were.
-fn keep_tried(
-    alloc: Global,
-    tried: &mut HashMap<Name, usize>,
-    last: Pending,
+fn keep_tried<'a>(
+    tried: &mut BTreeMap<&'a [u16], usize>,
+    last: Pending<'a>,
 ) -> Result<(), AllocError>
-    ensures { OnOk result ((test : ClassParts → Bool) (program : List ClassParts) → AllVain test program (get same_text tried.old) → Says test program last.entry None → AllVain test program (get same_text tried.new)) }
+    ensures { OnOk result ((test : ClassParts → Bool) (program : List ClassParts) → AllVain test program tried.old → Says test program last.entry None → AllVain test program tried.new) }
 {
     if let Some(name) = last.below {
-        tried.insert(name.copy(alloc)?, last.depth)?;
+        tried.insert(name.units(), last.depth)?;
     }
     Ok(())
 }
 
 /// The first class in which it is found, from one of the names up: the class itself, its
 /// superinterfaces, its superclass, each with all above it.
-pub fn find_above<'a>(
+pub fn find_above<'c, 'a>(
     alloc: Global,
-    classes: &Classes<'a>,
-    sought: &Sought,
+    classes: &'c Classes<'a>,
+    sought: &Sought<'_, 'a>,
     names: &'a [Name],
-) -> Result<Option<&'a ClassParts>, LinkFault>
-    ensures { MatchResult result (λ c. option_copied c ≡ above_any (sought_in sought.now) (height classes.now.program.now) classes.now.program.now names.now) (λ fault. IsOutOfMemory fault) }
+) -> Result<Option<&'c Members<'a>>, LinkFault>
+    ensures { MatchResult result (λ c. option_map (λ m. m.now.class.now) c ≡ above_any (sought_in sought.now) (height classes.now.program.now) classes.now.program.now names.now) (λ fault. IsOutOfMemory fault) }
 {
-    let mut tried = HashMap::new(alloc);
+    let mut tried = BTreeMap::new(alloc);
     let mut pending = Vec::new(alloc);
     pending.push(Pending {
         names,
@@ -111,17 +97,18 @@ pub fn find_above<'a>(
         }
         let depth = next.depth - 1;
         let Some((name, names)) = next.names.split_first() else {
-            keep_tried(alloc, &mut tried, next)?;
+            keep_tried(&mut tried, next)?;
             continue;
         };
         pending.push(Pending { names, ..next })?;
         if is_tried(&tried, name, depth) {
             continue;
         }
-        if let Some(class) = classes.find(name) {
-            if sought.is_in(class) {
-                return Ok(Some(class));
+        if let Some(members) = classes.members(name) {
+            if sought.is_in(members) {
+                return Ok(Some(members));
             }
+            let class = members.class;
             pending.push(Pending {
                 names: superclass_of(class),
                 depth,
@@ -138,20 +125,20 @@ pub fn find_above<'a>(
 }
 
 /// The first class of a name and its superclasses in which it is found.
-pub fn find_along<'a>(
-    classes: &Classes<'a>,
-    sought: &Sought,
+pub fn find_along<'c, 'a>(
+    classes: &'c Classes<'a>,
+    sought: &Sought<'_, 'a>,
     name: &'a Name,
-) -> Option<&'a ClassParts>
-    ensures { option_copied result ≡ first_along (sought_in sought.now) (chain classes.now.program.now name.now) }
+) -> Option<&'c Members<'a>>
+    ensures { option_map (λ m. m.now.class.now) result ≡ first_along (sought_in sought.now) (chain classes.now.program.now name.now) }
 {
     let mut name = name;
     for _depth in 0..classes.height() {
-        let class = classes.find(name)?;
-        if sought.is_in(class) {
-            return Some(class);
+        let members = classes.members(name)?;
+        if sought.is_in(members) {
+            return Some(members);
         }
-        name = class.superclass.as_ref()?;
+        name = members.class.superclass.as_ref()?;
     }
     None
 }

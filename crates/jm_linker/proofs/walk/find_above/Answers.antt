@@ -5,7 +5,7 @@ use Rattle.jm_linker.specs.Walks.{sought_in, above_from, found_pending, AllSay}
 use Rattle.jm_linker.proofs.WalkLaws.{only_pending, none_pending, too_deep, no_more, found_by_first_name, no_such, is_here, here_first}
 use Rattle.jm_linker.proofs.WalkLaws.{nothing_first, say_dropped, say_skipped, say_above, was_vain, begin_says, none_kept, deep_none, empty_none}
 use Rattle.jm_linker.proofs.walk.find_above.Goals as goal
-use Rattle.jm_linker.proofs.walk.find_above.Goals.{in-Some-find+else-is_in+in_ok-push-3+in_ok-push-4, in_default-find}
+use Rattle.jm_linker.proofs.walk.find_above.Goals.{in-Some-members+else-is_in+in_ok-push-3+in_ok-push-4, in_default-members}
 
 pub loop-init : goal.loop-init
 loop-init c =
@@ -13,7 +13,7 @@ loop-init c =
     let program = c.args.classes.now.program.now in (
       only_pending test program _ _ _ _ c.new-pending.ensures.items c.in_ok-push.ensures.items c.height.ensures,
       begin_says test program _ _ _ c.new-pending.ensures.items c.in_ok-push.ensures.items refl,
-      none_kept test program c.new-tried.result.entries c.new-tried.ensures.empty,
+      none_kept test program c.new-tried.result c.new-tried.ensures.empty,
     )
 
 pub returns-in_default : goal.returns-in_default
@@ -65,8 +65,8 @@ returns-then-is_in c =
     let program = c.args.classes.now.program.now in
     let first = found_by_first_name test program _ _ _ _ _ c.in-Some-split_first.name.now _
     c.in-Some.ensures.items c.in-Some-split_first.ensures.cases.0 refl refl c.in_ok-push-2.ensures.items in
-    let here = is_here test program c.in-Some.next.depth c.in-Some-split_first.name.now c.in-Some-find.class.now c.if-next-eq0.false (sym c.in-Some-find.ensures) (sym c.is_in.ensures ∙ c.if-is_in.true) in
-    here_first _ _ _ _ c.in-Some-find.class.now first here c.loop.invariant.0
+    let here = is_here test program c.in-Some.next.depth c.in-Some-split_first.name.now c.in-Some-members.members.now.class.now c.if-next-eq0.false (sym c.in-Some-members.ensures) (sym c.is_in.ensures ∙ c.if-is_in.true) in
+    here_first _ _ _ _ c.in-Some-members.members.now.class.now first here c.loop.invariant.0
 
 pub loop-preserved : goal.loop-preserved
 loop-preserved c =
@@ -75,12 +75,12 @@ loop-preserved c =
     let inv = c.loop.invariant in
     let first = found_by_first_name test program _ _ _ _ _ c.in-Some-split_first.name.now _
     c.in-Some.ensures.items c.in-Some-split_first.ensures.cases.0 refl refl c.in_ok-push-2.ensures.items in
-    elim c.match-find.branch [
-      | in-Some-find+else-is_in+in_ok-push-3+in_ok-push-4 w ↦
-          let turn = say_above test program _ _ _ _ _ c.in-Some.next _ _ _ c.in-Some-split_first.name _ w.in-Some-find.class.now c.in-Some.ensures.items c.in-Some-split_first.ensures.cases.0 refl refl refl c.in_ok-push-2.ensures.items w.superclass_of.ensures refl refl w.in_ok-push-3.ensures.items w.as_slice.ensures refl refl w.in_ok-push-4.ensures.items c.if-next-eq0.false (sym w.in-Some-find.ensures) (sym w.is_in.ensures ∙ w.if-is_in.false) inv.1 in
+    elim c.match-members.branch [
+      | in-Some-members+else-is_in+in_ok-push-3+in_ok-push-4 w ↦
+          let turn = say_above test program _ _ _ _ _ c.in-Some.next _ _ _ c.in-Some-split_first.name _ w.in-Some-members.members.now.class.now c.in-Some.ensures.items c.in-Some-split_first.ensures.cases.0 refl refl refl c.in_ok-push-2.ensures.items w.superclass_of.ensures refl refl w.in_ok-push-3.ensures.items w.as_slice.ensures refl refl w.in_ok-push-4.ensures.items c.if-next-eq0.false (sym w.in-Some-members.ensures) (sym w.is_in.ensures ∙ w.if-is_in.false) inv.1 in
           (ap (λ v. found_pending test program v.items) w.pending-is ∙ sym turn.0 ∙ inv.0, subst (λ v. AllSay test program v.items) (sym w.pending-is) turn.1, inv.2)
-      | in_default-find w ↦
-          let none = no_such test program c.in-Some.next.depth c.in-Some-split_first.name.now (sym w.in_default-find.ensures) in (
+      | in_default-members w ↦
+          let none = no_such test program c.in-Some.next.depth c.in-Some-split_first.name.now (sym w.in_default-members.ensures) in (
             ap (λ v. found_pending test program v.items) w.pending-is ∙ nothing_first _ _ _ _ first none inv.0,
             subst (λ v. AllSay test program v.items) (sym w.pending-is) (say_skipped test program _ _ _ _ _ c.in-Some-split_first.name.now _ c.in-Some.ensures.items c.in-Some-split_first.ensures.cases.0 refl refl refl c.in_ok-push-2.ensures.items none inv.1),
             inv.2,
