@@ -127,4 +127,5 @@ def main():
     (folder / "Large.java").write_text(java())
 
 
-main()
+if __name__ == "__main__":
+    main()
