@@ -81,7 +81,8 @@ impl<'a> Members<'a> {
     /// The field of the name and type that a program can name: String's one field has no name for
     /// it.
     pub fn field(&self, key: &FieldKey<'a>) -> Option<&'a Field>
-        ensures { (name : List ℕ) (t : FieldType) → IsFieldKey key.now name t → option_copied result ≡ field_in (nameable self.now.class.now) name t }
+        ensures { (name : List ℕ) (t : FieldType) → IsFieldKey key.now name t
+            → option_copied result ≡ field_in (nameable self.now.class.now) name t }
     {
         if self.class.name.is_string() {
             return None;
@@ -94,7 +95,8 @@ impl<'a> Members<'a> {
 
     /// The method of the name and type.
     pub fn method(&self, key: &MethodKey<'a>) -> Option<&'a Method>
-        ensures { (name : List ℕ) (t : MethodDescriptor) → IsMethodKey key.now name t → option_copied result ≡ method_in self.now.class.now.methods name t }
+        ensures { (name : List ℕ) (t : MethodDescriptor) → IsMethodKey key.now name t
+            → option_copied result ≡ method_in self.now.class.now.methods name t }
     {
         match self.methods.get(key) {
             Some(method) => Some(*method),

@@ -271,7 +271,8 @@ fn are_built_ins_lowest<'a>(classes: &Classes<'a>, ranks: &[u32], built_ins: &[M
 
 /// Whether no class right above another has a higher rank.
 pub fn are_ranks<'a>(classes: &Classes<'a>, ranks: &[u32]) -> bool
-    ensures { result ≡ (list_all (has_none_over classes.now.program.now ranks.now) classes.now.program.now && list_all (are_parents_under classes.now.program.now ranks.now 1) built_in_classes) }
+    ensures { result ≡ (list_all (has_none_over classes.now.program.now ranks.now) classes.now.program.now
+        && list_all (are_parents_under classes.now.program.now ranks.now 1) built_in_classes) }
 {
     have_none_over(classes, ranks, classes.program)
         && are_built_ins_lowest(classes, ranks, &classes.built_ins)

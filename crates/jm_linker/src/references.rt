@@ -81,7 +81,8 @@ fn check_found_field<'a>(
     sought: &SoughtField<'a>,
     class: Option<&Members<'a>>,
 ) -> Result<(), LinkFault>
-    ensures { Answers result (found_field_refusal op sought.now.field.now.name (found_field sought.now.field.now.name sought.now.field.now.descriptor (option_map (λ m. m.now.class.now) class.entry))) }
+    ensures { Answers result (found_field_refusal op sought.now.field.now.name
+        (found_field sought.now.field.now.name sought.now.field.now.descriptor (option_map (λ m. m.now.class.now) class.entry))) }
 {
     let name = &sought.field.name;
     let Some(members) = class else {
@@ -162,7 +163,8 @@ fn check_found_method<'a>(
     sought: &SoughtMethod<'a>,
     class: Option<&Members<'a>>,
 ) -> Result<(), LinkFault>
-    ensures { Answers result (found_method_refusal op sought.now.method.now.name (found_method sought.now.method.now.name sought.now.method.now.descriptor (option_map (λ m. m.now.class.now) class.entry))) }
+    ensures { Answers result (found_method_refusal op sought.now.method.now.name
+        (found_method sought.now.method.now.name sought.now.method.now.descriptor (option_map (λ m. m.now.class.now) class.entry))) }
 {
     let name = &sought.method.name;
     let Some(members) = class else {

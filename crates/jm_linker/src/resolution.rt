@@ -21,7 +21,10 @@ pub fn find_field_class<'c, 'a>(
     sought: &SoughtField<'a>,
     class: &'a Name,
 ) -> Result<Option<&'c Members<'a>>, LinkFault>
-    ensures { MatchResult result (λ c. resolve_field classes.now.program.now class.now sought.now.field.now.name sought.now.field.now.descriptor ≡ found_field sought.now.field.now.name sought.now.field.now.descriptor (option_map (λ m. m.now.class.now) c)) (λ fault. IsOutOfMemory fault) }
+    ensures { MatchResult result
+        (λ c. resolve_field classes.now.program.now class.now sought.now.field.now.name sought.now.field.now.descriptor
+        ≡ found_field sought.now.field.now.name sought.now.field.now.descriptor (option_map (λ m. m.now.class.now) c))
+        (λ fault. IsOutOfMemory fault) }
 {
     find_above(
         alloc,
@@ -39,7 +42,10 @@ pub fn find_method_class<'c, 'a>(
     sought: &SoughtMethod<'a>,
     class: &'a Name,
 ) -> Result<Option<&'c Members<'a>>, LinkFault>
-    ensures { MatchResult result (λ c. resolve_method classes.now.program.now class.now sought.now.method.now.name sought.now.method.now.descriptor ≡ found_method sought.now.method.now.name sought.now.method.now.descriptor (option_map (λ m. m.now.class.now) c)) (λ fault. IsOutOfMemory fault) }
+    ensures { MatchResult result
+        (λ c. resolve_method classes.now.program.now class.now sought.now.method.now.name sought.now.method.now.descriptor
+        ≡ found_method sought.now.method.now.name sought.now.method.now.descriptor (option_map (λ m. m.now.class.now) c))
+        (λ fault. IsOutOfMemory fault) }
 {
     let Some(named) = classes.members(class) else {
         return Ok(None);
