@@ -1,36 +1,8 @@
 -- Types that are one.
-use Rattle.std.proofs.Common.{◌≡◌, ◌≢◌, ℕ, suc, ◌+◌, ◌<◌, ◌≤◌, Bool, true, false, ◌&&◌, List, [], ◌∷◌, length, get_or, drop, refl, sym, ap, ◌∙◌, arith, eqb}
+use Rattle.std.proofs.Common.{◌≡◌, ◌≢◌, Bool, true, false, ◌&&◌, List, [], ◌∷◌, length, get_or, refl, sym, ◌∙◌, arith, eqb}
 use Rattle.std.proofs.lemmas.Bool.Decides.{nat_tests}
-use Rattle.std.proofs.lemmas.List.{drop_more, nil_from_length, length-drop}
 use Rattle.jm_program.specs.declared.descriptor.FieldType.{FieldType}
 use Rattle.jm_world.specs.Types.{same_type, same_types}
-
--- lists of another length are not the same
-pub unlike_lengths : (as' bs : List FieldType) → length as' ≢ length bs → false ≡ same_types as' bs
-unlike_lengths [] [] ne = absurd (ne refl)
-unlike_lengths [] (b ∷ bs) ne = refl
-unlike_lengths (a ∷ as') [] ne = refl
-unlike_lengths (a ∷ as') (b ∷ bs) ne = by (same_type a b) (unlike_lengths as' bs (λ e. ne (ap (λ n. suc n) e)))
-  where
-    by : (t : Bool) → false ≡ same_types as' bs → false ≡ (t && same_types as' bs)
-    by true e = e
-    by false e = refl
-
-opened : (as' bs : List FieldType) (i : ℕ) (d e : FieldType) → i < length as' → i < length bs → same_types (drop i as') (drop i bs) ≡ (same_type (get_or as' i d) (get_or bs i e) && same_types (drop (i + 1) as') (drop (i + 1) bs))
-opened as' bs i d e l m = rw (drop_more as' i d l, drop_more bs i e m) refl
-
--- one more pair of types of two lists
-pub types_go_on : (as' bs : List FieldType) (i : ℕ) (d e : FieldType) (t : Bool) → i < length as' → i < length bs → t ≡ same_type (get_or as' i d) (get_or bs i e) → t ≡ true → same_types as' bs ≡ same_types (drop i as') (drop i bs) → same_types as' bs ≡ same_types (drop (i + 1) as') (drop (i + 1) bs)
-types_go_on as' bs i d e t l m is same h = h ∙ opened as' bs i d e l m ∙ ap (λ b. b && same_types (drop (i + 1) as') (drop (i + 1) bs)) (sym is ∙ same)
-
-pub types_differ : (as' bs : List FieldType) (i : ℕ) (d e : FieldType) (t : Bool) → i < length as' → i < length bs → t ≡ same_type (get_or as' i d) (get_or bs i e) → t ≡ false → same_types as' bs ≡ same_types (drop i as') (drop i bs) → false ≡ same_types as' bs
-types_differ as' bs i d e t l m is other h = sym (h ∙ opened as' bs i d e l m ∙ ap (λ b. b && same_types (drop (i + 1) as') (drop (i + 1) bs)) (sym is ∙ other))
-
-pub types_end : (as' bs : List FieldType) (i : ℕ) → length as' ≡ length bs → length as' ≤ i → same_types as' bs ≡ same_types (drop i as') (drop i bs) → true ≡ same_types as' bs
-types_end as' bs i e l h =
-    let a : drop i as' ≡ [] = nil_from_length (drop i as') (omega (arith, length-drop i as')) in
-    let b : drop i bs ≡ [] = nil_from_length (drop i bs) (omega (arith, length-drop i bs)) in
-    sym (h ∙ rw (a, b) refl)
 
 and_true : (b : Bool) → (b && true) ≡ b
 and_true true = refl
