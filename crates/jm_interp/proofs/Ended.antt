@@ -1,16 +1,18 @@
 -- A thread that has ended.
 use Rattle.std.proofs.Common.{◌≡◌, ℕ, ◌+◌, ◌<◌, arith, List, [], Option, None, false, inl, inr, refl, sym, ap, ◌∙◌, subst}
-use Rattle.std.specs.Prelude.{slice_set, map, Ok}
+use Rattle.std.specs.Prelude.{slice_set, map, option_map, Ok}
+use Rattle.jm_values.specs.Shape.{Among}
+use Rattle.jm_world.specs.Frames.{optional_number_shape}
 use Rattle.std.specs.Vec.{with_item}
 use Rattle.jm_program.specs.declared.class.ClassParts.{ClassParts}
 use Rattle.jm_values.specs.Content.{Content, name_of}
 use Rattle.jm_world.specs.Matches.{Matches}
 use Rattle.jm_world.specs.Next.{goes}
 use Rattle.jm_world.specs.Renaming.{rename_thread, rename_object}
-use Rattle.jm_world.specs.World.{Thread, is_running, live_among, with_thread, returned}
+use Rattle.jm_world.specs.World.{Thread, is_running, live_among, with_thread, returned, object_refs}
 use Rattle.jm_heap.specs.declared.class_id.ClassId.{ClassId}
 use Rattle.jm_state.specs.Parts.{thread_part, ending_part}
-use Rattle.jm_state.specs.Runnable.{ThreadRuns, StateRuns}
+use Rattle.jm_state.specs.Runnable.{ThreadRuns, ThreadNotYet, StateRuns}
 use Rattle.jm_state.specs.declared.halt.StepEnd.TheVariants.{Done}
 use Rattle.jm_state.specs.declared.state.State.{State}
 use Rattle.jm_state.specs.declared.thread.Ending as code
@@ -20,28 +22,36 @@ use Rattle.jm_state.specs.declared.thread.Thread as held
 use Rattle.jm_interp.specs.declared.at.At.{At}
 use Rattle.jm_interp.specs.At.{parts_at, OnThread, Does}
 use Rattle.jm_interp.specs.Ending.{ended_as}
-use Rattle.jm_interp.specs.Standing.{Stands, part_of}
-use Rattle.jm_interp.proofs.Lists.{get_map, map_set, each_set}
-use Rattle.jm_interp.proofs.OnThread.{does, changed_matches, same_rest}
-use Rattle.jm_interp.proofs.Threads.{part_refs, thread_runs, live_less}
+use Rattle.jm_interp.specs.Standing.{ThreadRest, Stands, part_of}
+use Rattle.jm_interp.proofs.Lists.{get_map, map_set}
+use Rattle.jm_interp.proofs.OnThread.{does, part_here, changed_matches, same_rest}
+use Rattle.jm_interp.proofs.Threads.{held_is, all_set, live_less}
 
-none_left : (program : List ClassParts) (f : ℕ → ℕ) (e : code.Ending) → rename_object f (ending_part program e) None ≡ None
-none_left program f Running = refl
-none_left program f Returned = refl
-none_left program f (EndedBy n) = refl
+none_left : (program : List ClassParts) (f g : ℕ → ℕ) (e : code.Ending) (o : Option ℕ) → o ≡ None → rename_object f (ending_part program e) o ≡ option_map g o
+none_left program f g Running o n = ap (option_map f) n ∙ sym (ap (option_map g) n)
+none_left program f g Returned o n = n ∙ sym (ap (option_map g) n)
+none_left program f g (EndedBy c) o n = n ∙ sym (ap (option_map g) n)
+
+no_object : (program : List ClassParts) (e : code.Ending) (o : Option ℕ) (q : ℕ) → o ≡ None → Among q (object_refs (ending_part program e) o) → ⊥
+no_object program Running o q n a = subst (λ x. Among q (optional_number_shape.refs x)) n a
+no_object program Returned o q n a = a
+no_object program (EndedBy c) o q n a = a
 
 module _ {H : Type 0} {content : H → Content ClassId} {at : At} {old : State H} {fs : List StackFrame} {p : Option ℕ} (h : OnThread content at old fs p) where
   -- with the thread as another that has ended, one less is live
   live_without : (y : Thread) → is_running y.ending ≡ false → live_among (slice_set (map (thread_part at.linked.now) old.threads.items) at.index y) + 1 ≡ old.live
   live_without y ended =
       let part = thread_part at.linked.now in
-      live_less (map part old.threads.items) at.index (part h.stands.thread) y (get_map part old.threads.items at.index h.stands.thread h.stands.at) (ap (λ x. is_running (ending_part at.linked.now.program x)) h.stands.stands.ending_is) ended
+      live_less (map part old.threads.items) at.index (part h.stands.thread) y (get_map part old.threads.items at.index h.stands.thread h.stands.at) (ap (λ (x : ThreadRest). is_running (ending_part at.linked.now.program x.ending)) h.stands.stands.rest_is) ended
       ∙ sym h.beside.runs.live
 
   pub one_lives : 0 < old.live
   one_lives = let a = live_without (record { object = None; frames = []; pending = None; ending = returned }) refl in omega arith
 
-  module _ (left : ℕ) {t : held.Thread} {e : code.Ending} (s : Stands t [] None e) (ended : is_running (ending_part at.linked.now.program e) ≡ false) (fewer : old.live ≡ left + 1) where
+  module _ (left : ℕ) {t : held.Thread} {e : code.Ending} (s : Stands t [] (record { object = h.object; pending = None; ending = e })) (ended : is_running (ending_part at.linked.now.program e) ≡ false) (fewer : old.live ≡ left + 1) where
+    none : h.object ≡ None
+    none = (part_here h).not_yet.object
+
     abbrev ended_state : State H
     ended_state = record old { threads = with_item old.threads at.index t; live = left }
 
@@ -49,22 +59,27 @@ module _ {H : Type 0} {content : H → Content ClassId} {at : At} {old : State H
     ended_runs =
         let part = thread_part at.linked.now in
         let r = h.beside.runs in
-        let ends : is_running (part t).ending ≡ false = ap (λ x. is_running (ending_part at.linked.now.program x)) s.ending_is ∙ ended in
+        let ends : is_running (part t).ending ≡ false = ap (λ (x : ThreadRest). is_running (ending_part at.linked.now.program x.ending)) s.rest_is ∙ ended in
         let a = live_without (part t) ends in
         let b : live_among (map part (slice_set old.threads.items at.index t)) ≡ live_among (slice_set (map part old.threads.items) at.index (part t)) = ap live_among (map_set part old.threads.items at.index t) in
         record {
-          threads = each_set (ThreadRuns at.linked.now) old.threads.items at.index t r.threads (thread_runs at.linked.now t [] None e s (record { frames = tt; top = tt; few = omega arith }));
+          threads = all_set (ThreadRuns at.linked.now) old.threads.items at.index t r.threads (subst (ThreadRuns at.linked.now) (sym (held_is s)) (record { frames = tt; few = omega arith }));
           live = omega arith;
           statics = r.statics;
+          literals = r.literals;
           classes = r.classes;
-          begun = r.begun;
+          not_yet = record {
+            threads = all_set ThreadNotYet old.threads.items at.index t r.not_yet.threads (subst ThreadNotYet (sym (held_is s)) (record { object = none; monitors = tt; initializers = tt }));
+            monitors = r.not_yet.monitors;
+            failures = r.not_yet.failures;
+          };
         }
 
     pub ends : Does content at old (Ok Done) ended_state (λ w number x. goes (ended_as w number x (ending_part at.linked.now.program e)))
     ends = does h ended_runs (λ w m.
         let f = name_of (content old.heap) in
-        let x = rename_thread f (part_of at.linked.now [] None e) in
+        let x = rename_thread f (part_of at.linked.now [] (record { object = h.object; pending = None; ending = e })) in
         let y : Option ℕ → Thread = λ object. record { object = object; frames = []; pending = None; ending = ending_part at.linked.now.program e } in
-        subst (λ z. Matches (parts_at content at ended_state) (with_thread w (at.index + 1) z)) (ap y (none_left at.linked.now.program f e))
+        subst (λ z. Matches (parts_at content at ended_state) (with_thread w (at.index + 1) z)) (ap y (none_left at.linked.now.program f f e h.object none))
         (subst (Matches (parts_at content at ended_state)) (same_rest h w m x)
-        (changed_matches h ended_state refl refl refl refl s (λ q a. elim (part_refs at.linked.now [] None e q a) [ inl b ↦ absurd b | inr b ↦ absurd b ]) w m)))
+        (changed_matches h ended_state (record { threads = refl; statics = refl; literals = refl; monitors = refl; heap = refl; stop = refl }) s (λ q a. absurd (no_object at.linked.now.program e h.object q none a)) (λ q a. absurd a) w m)))

@@ -1,5 +1,5 @@
 -- Stages of initialization beside the model's.
-use Rattle.std.proofs.Common.{◌≡◌, ◌≢◌, ℕ, ◌+◌, ◌-◌, ◌<◌, List, [], ◌∷◌, Some, None, true, false, refl, sym, ap, ◌∙◌, subst, inl, inr, ◌⊎◌, length, drop, arith, length-set}
+use Rattle.std.proofs.Common.{◌≡◌, ◌≢◌, ℕ, ◌+◌, ◌-◌, ◌<◌, List, [], ◌∷◌, Option, Some, None, true, false, refl, sym, ap, ◌∙◌, subst, inl, inr, ◌⊎◌, length, drop, arith, length-set}
 use Rattle.std.specs.Prelude.{map, slice_get, slice_set, nat_eq}
 use Rattle.std.specs.List.{AllByRecursion}
 use Rattle.jm_program.specs.declared.class.ClassParts.{ClassParts}
@@ -12,7 +12,7 @@ use Rattle.jm_world.specs.Initialization.{initialize, begin, superclass_first, s
 use Rattle.jm_world.specs.Next as next
 use Rattle.jm_world.specs.Next.{Next, goes}
 use Rattle.jm_world.specs.Classes.{class_named, object_class}
-use Rattle.jm_world.specs.World.{World, Thread, with_thread, with_state, state_of, state_in, set_state_in, refs_thread, live_among}
+use Rattle.jm_world.specs.World.{World, Thread, with_thread, with_state, state_of, state_in, set_state_in, held_shape, live_among}
 use Rattle.jm_values.specs.Content.{Content, name_of}
 use Rattle.jm_world.specs.Matches.{Matches, places}
 use Rattle.jm_world.specs.Renaming.{rename_thread}
@@ -24,10 +24,10 @@ use Rattle.jm_world.specs.declared.stage.Stage.TheVariants as stage
 use Rattle.jm_heap.specs.declared.class_id.ClassId.{ClassId}
 use Rattle.jm_linked.specs.Links.{LinkedView, IsLinked}
 use Rattle.jm_state.specs.Parts.{parts, frame_part, thread_part, named_states, program_class_name, name_in_program}
-use Rattle.jm_state.specs.Runnable.{IsMethodFrame, StandOnTop, ThreadRuns}
+use Rattle.jm_state.specs.Runnable.{IsMethodFrame, StandOnTop, ThreadRuns, ThreadNotYet}
+use Rattle.jm_state.specs.Places.{held_thread}
 use Rattle.jm_state.specs.Ends.{Ended}
 use Rattle.jm_state.specs.declared.state.State.{State}
-use Rattle.jm_state.specs.declared.thread.Ending.TheVariants.{Running}
 use Rattle.jm_state.specs.declared.thread.StackFrame.{StackFrame}
 use Rattle.jm_state.specs.declared.thread.StackFrame.TheVariants.{Initialization}
 use Rattle.jm_state.specs.declared.thread.Thread as held
@@ -38,11 +38,11 @@ use Rattle.jm_interp.proofs.Classes.{IsPlain, plain_class, state_is, states_set,
 use Rattle.std.specs.Prelude.{slice_index_or, vec_len, Ok}
 use Rattle.jm_interp.specs.declared.at.At.{At}
 use Rattle.jm_interp.specs.At.{parts_at, OnThread, Does, Steps}
-use Rattle.jm_interp.specs.Standing.{Stands, part_of}
-use Rattle.jm_interp.proofs.OnThread.{model, does, does_as, blocks, held_frames, part_here, runs_with, changed_matches, with_thread_at}
+use Rattle.jm_interp.specs.Standing.{Stands, running, part_of}
+use Rattle.jm_interp.proofs.OnThread.{model, does, does_as, blocks, held_frames, part_here, runs_with, ChangedTo, changed_matches, with_thread_at}
 use Rattle.jm_interp.proofs.OnThread as thread
 use Rattle.jm_interp.proofs.Lists.{get_there, get_at}
-use Rattle.jm_interp.proofs.Threads.{part_refs, PartRuns}
+use Rattle.jm_interp.proofs.Threads.{part_refs, PartRuns, without_top, with_top}
 use Rattle.jm_state.specs.Runnable.{StateRuns}
 use Rattle.jm_state.specs.declared.halt.StepEnd.TheVariants as step_end
 
@@ -71,11 +71,11 @@ pub below_on_top : (fs : List StackFrame) → AllByRecursion IsMethodFrame fs �
 below_on_top [] h = tt
 below_on_top (f ∷ fs) h = h.1
 
-pub dropped_runs : (l : LinkedView) (class : ℕ) (s : Stage) (below : List StackFrame) → PartRuns l (Initialization class s ∷ below) None → PartRuns l below None
-dropped_runs l class s below q = record { frames = q.frames.1; top = below_on_top below q.top; few = let k = q.few in omega arith }
+pub dropped_runs : {l : LinkedView} {class : ℕ} {s : Stage} {below : List StackFrame} {o : Option ℕ} → PartRuns l (Initialization class s ∷ below) (running o None) → PartRuns l below (running o None)
+dropped_runs {below = below} q = without_top q (below_on_top below q.not_yet.initializers)
 
-pub staged_runs : (l : LinkedView) (class : ℕ) (s s' : Stage) (below : List StackFrame) → PartRuns l (Initialization class s ∷ below) None → PartRuns l (Initialization class s' ∷ below) None
-staged_runs l class s s' below q = record { frames = q.frames; top = q.top; few = q.few }
+pub staged_runs : {l : LinkedView} {class : ℕ} {s s' : Stage} {below : List StackFrame} {o : Option ℕ} → PartRuns l (Initialization class s ∷ below) (running o None) → PartRuns l (Initialization class s' ∷ below) (running o None)
+staged_runs {class = class} {s = s} q = with_top {f = Initialization class s} q.runs.frames.0 tt q q.not_yet.initializers
 
 differ : (a b : ℕ) → (a ≡ b → ⊥) → nat_eq a b ≡ false
 differ a b n = elim (eqb_tells a b) [ inl t ↦ absurd (n t.1) | inr t ↦ t.0 ]
@@ -92,28 +92,28 @@ module _ {H : Type 0} {content : H → Content ClassId} {at : At} {old : State H
   lower = map (rename_frame (name_of (content old.heap))) (map (frame_part at.linked.now) below)
 
   abbrev other : List StackFrame → Thread
-  other fs = rename_thread (name_of (content old.heap)) (part_of at.linked.now fs None Running)
+  other fs = rename_thread (name_of (content old.heap)) (part_of at.linked.now fs (running h.object None))
 
   pub class_of : HasClass at.linked.now class
-  class_of = has_class at.linked.now h.beside.linked class (part_here h).frames.0
+  class_of = has_class at.linked.now h.beside.linked class (part_here h).runs.frames.0
 
   pub class_within : class < vec_len old.classes
   class_within =
       let n = old.classes.ok.0 in
       let r = h.beside.runs.classes in
-      let f = (part_here h).frames.0 in
+      let f = (part_here h).runs.frames.0 in
       omega arith
 
   -- frames that hold the places of those below
-  inside : (fs : List StackFrame) → ((q : ℕ) → Among q (frames_shape.refs (map (frame_part at.linked.now) fs)) → Among q (frames_shape.refs (map (frame_part at.linked.now) below))) → (q : ℕ) → Among q (refs_thread (part_of at.linked.now fs None Running)) → Among q (places (parts_at content at old))
-  inside fs e q a = held_frames h q (elim (part_refs at.linked.now fs None Running q a) [ inl z ↦ absurd z | inr z ↦ e q z ])
+  inside : (fs : List StackFrame) → ((q : ℕ) → Among q (frames_shape.refs (map (frame_part at.linked.now) fs)) → Among q (frames_shape.refs (map (frame_part at.linked.now) below))) → (q : ℕ) → Among q (held_shape.refs (None, map (frame_part at.linked.now) fs)) → Among q (places (parts_at content at old))
+  inside fs e q a = held_frames h q (elim (part_refs at.linked.now fs None q a) [ inl z ↦ absurd z | inr z ↦ e q z ])
 
   -- the frame is dropped, or goes to another stage
-  pub dropped : {t : held.Thread} {rule : World → ℕ → Thread → Next} → Stands t below None Running → ((w : World) → Matches (parts_at content at old) w → rule w (at.index + 1) (model h) ≡ goes (with_frames w (at.index + 1) (model h) lower)) → Does content at old (Ok step_end.Done) (with_thread_at old at.index t) rule
-  dropped s' is = thread.goes h s' (dropped_runs at.linked.now class s below (part_here h)) (inside below (λ q a. a)) is
+  pub dropped : {t : held.Thread} {rule : World → ℕ → Thread → Next} → Stands t below (running h.object None) → ((w : World) → Matches (parts_at content at old) w → rule w (at.index + 1) (model h) ≡ goes (with_frames w (at.index + 1) (model h) lower)) → Does content at old (Ok step_end.Done) (with_thread_at old at.index t) rule
+  dropped s' is = thread.goes h s' (dropped_runs (part_here h)) (inside below (λ q a. a)) is
 
-  pub staged : {t : held.Thread} {s' : Stage} {rule : World → ℕ → Thread → Next} → Stands t (Initialization class s' ∷ below) None Running → ((w : World) → Matches (parts_at content at old) w → rule w (at.index + 1) (model h) ≡ goes (at_stage w (at.index + 1) (model h) name s' lower)) → Does content at old (Ok step_end.Done) (with_thread_at old at.index t) rule
-  staged {t} {s'} is_so is = thread.goes h is_so (staged_runs at.linked.now class s s' below (part_here h)) (inside (Initialization class s' ∷ below) (λ q a. a)) is
+  pub staged : {t : held.Thread} {s' : Stage} {rule : World → ℕ → Thread → Next} → Stands t (Initialization class s' ∷ below) (running h.object None) → ((w : World) → Matches (parts_at content at old) w → rule w (at.index + 1) (model h) ≡ goes (at_stage w (at.index + 1) (model h) name s' lower)) → Does content at old (Ok step_end.Done) (with_thread_at old at.index t) rule
+  staged {t} {s'} is_so is = thread.goes h is_so (staged_runs (part_here h)) (inside (Initialization class s' ∷ below) (λ q a. a)) is
 
   -- the model's class, and its state
   class_here : (w : World) → Matches (parts_at content at old) w → class_named w.program name ≡ Some class_of.class_of
@@ -135,32 +135,37 @@ module _ {H : Type 0} {content : H → Content ClassId} {at : At} {old : State H
       sym (ap (λ ps. set_state_in ps name st) (sym m.classes) ∙ ap (λ n. set_state_in (named_states l.program old.classes.items) n st) d.named ∙ states_set l.program h.beside.linked.loads old.classes.items class d.class_of st d.at)
 
   -- a thread and the state of the class have changed
-  changes : {new : State H} {t : held.Thread} {fs : List StackFrame} {st : ClassState} {rule : World → ℕ → Thread → Next} → new.threads.items ≡ slice_set old.threads.items at.index t → new.classes.items ≡ slice_set old.classes.items class st → new.statics.items ≡ old.statics.items → new.heap ≡ old.heap → new.stop ≡ old.stop → new.output.items ≡ old.output.items → StateRuns at.linked.now new → Stands t fs None Running → ((q : ℕ) → Among q (refs_thread (part_of at.linked.now fs None Running)) → Among q (places (parts_at content at old))) → ((w : World) → Matches (parts_at content at old) w → rule w (at.index + 1) (model h) ≡ goes (with_thread (with_state w name st) (at.index + 1) (other fs))) → Does content at old (Ok step_end.Done) new rule
+  changes : {new : State H} {t : held.Thread} {fs : List StackFrame} {st : ClassState} {rule : World → ℕ → Thread → Next} → ChangedTo h new t → new.classes.items ≡ slice_set old.classes.items class st → new.output.items ≡ old.output.items → StateRuns at.linked.now new → Stands t fs (running h.object None) → ((q : ℕ) → Among q (held_shape.refs (None, map (frame_part at.linked.now) fs)) → Among q (places (parts_at content at old))) → ((w : World) → Matches (parts_at content at old) w → rule w (at.index + 1) (model h) ≡ goes (with_thread (with_state w name st) (at.index + 1) (other fs))) → Does content at old (Ok step_end.Done) new rule
   unfolding parts
-  changes {new} {t} {fs} {st} threads classes statics heap stop output runs s' within is = does h runs (λ w m.
+  changes {new} {t} {fs} {st} same classes output runs s' within is = does h runs (λ w m.
       let n : at.index + 1 - 1 ≡ at.index = omega arith in
       let states : named_states at.linked.now.program new.classes.items ≡ set_state_in w.classes name st = ap (named_states at.linked.now.program) classes ∙ states_here st w m in
       subst (Ended (Ok step_end.Done) (parts_at content at new) w) (sym (is w m))
       (subst (λ k. Matches (parts_at content at new) (record w { threads = slice_set w.threads k (other fs); classes = set_state_in w.classes name st })) (sym n)
       (subst (λ k. Matches (parts_at content at new) (record w { threads = slice_set w.threads at.index (other fs); classes = k })) states
       (subst (λ k. Matches (parts_at content at new) (record w { threads = slice_set w.threads at.index (other fs); classes = named_states at.linked.now.program new.classes.items; output = k })) (output ∙ m.output)
-      (changed_matches h new threads statics heap stop s' within w m)))))
+      (changed_matches h new same s' (λ q a. a) within w m)))))
 
   -- the state with another thread and state of the class runs on
-  class_runs : (new : State H) {t : held.Thread} {fs : List StackFrame} {st : ClassState} → st ≢ Failed → new.threads.items ≡ slice_set old.threads.items at.index t → new.classes.items ≡ slice_set old.classes.items class st → new.live ≡ old.live → new.statics.items ≡ old.statics.items → Stands t fs None Running → PartRuns at.linked.now fs None → StateRuns at.linked.now new
-  class_runs new {t} {fs} {st} sound threads classes live statics s' q =
+  class_runs : (new : State H) {t : held.Thread} {fs : List StackFrame} {st : ClassState} → st ≢ Failed → ChangedTo h new t → new.classes.items ≡ slice_set old.classes.items class st → new.live ≡ old.live → Stands t fs (running h.object None) → PartRuns at.linked.now fs (running h.object None) → StateRuns at.linked.now new
+  class_runs new {t} {fs} {st} sound same classes live s' q =
       let r = runs_with h s' q in
       record {
-        threads = subst (AllByRecursion (ThreadRuns at.linked.now)) (sym threads) r.threads;
-        live = live ∙ r.live ∙ ap (λ ts. live_among (map (thread_part at.linked.now) ts)) (sym threads);
-        statics = ap length statics ∙ r.statics;
+        threads = subst (λ ts. AllByRecursion (ThreadRuns at.linked.now) (map held_thread ts)) (sym same.threads) r.threads;
+        live = live ∙ r.live ∙ ap (λ ts. live_among (map (thread_part at.linked.now) ts)) (sym same.threads);
+        statics = ap length same.statics ∙ r.statics;
+        literals = ap length same.literals ∙ r.literals;
         classes = ap length classes ∙ length-set old.classes.items class st ∙ r.classes;
-        begun = subst (AllByRecursion (λ x. x ≢ Failed)) (sym classes) (each_set (λ x. x ≢ Failed) old.classes.items class st r.begun sound);
+        not_yet = record {
+          threads = subst (λ ts. AllByRecursion ThreadNotYet (map held_thread ts)) (sym same.threads) r.not_yet.threads;
+          monitors = same.monitors ∙ r.not_yet.monitors;
+          failures = subst (AllByRecursion (λ x. x ≢ Failed)) (sym classes) (each_set (λ x. x ≢ Failed) old.classes.items class st r.not_yet.failures sound);
+        };
       }
 
-  pub finished : {new : State H} {t : held.Thread} → new.threads.items ≡ slice_set old.threads.items at.index t → new.classes.items ≡ slice_set old.classes.items class Done → new.live ≡ old.live → new.statics.items ≡ old.statics.items → new.heap ≡ old.heap → new.stop ≡ old.stop → new.output.items ≡ old.output.items → Stands t below None Running → Does content at old (Ok step_end.Done) new (λ w number x. finish w number x name (drop 1 x.frames))
-  finished {new} threads classes live statics heap stop output s' =
-      changes threads classes statics heap stop output (class_runs new (λ (f : Done ≡ Failed). cc) threads classes live statics s' (dropped_runs at.linked.now class s below (part_here h))) s' (inside below (λ q a. a)) (λ w m. refl)
+  pub finished : {new : State H} {t : held.Thread} → ChangedTo h new t → new.classes.items ≡ slice_set old.classes.items class Done → new.live ≡ old.live → new.output.items ≡ old.output.items → Stands t below (running h.object None) → Does content at old (Ok step_end.Done) new (λ w number x. finish w number x name (drop 1 x.frames))
+  finished {new} same classes live output s' =
+      changes same classes output (class_runs new (λ (f : Done ≡ Failed). cc) same classes live s' (dropped_runs (part_here h))) s' (inside below (λ q a. a)) (λ w m. refl)
 
   -- what the model does at the stages
   pub begin_is : {st : ClassState} → s ≡ stage.Begin → slice_get old.classes.items class ≡ Some st → (w : World) → Matches (parts_at content at old) w → step_thread w (at.index + 1) (model h) ≡ begin w (at.index + 1) (model h) name lower st
@@ -184,7 +189,7 @@ module _ {H : Type 0} {content : H → Content ClassId} {at : At} {old : State H
         | false ↦ push_frame w (at.index + 1) (model h) (initialization_frame name stage.Initializer ∷ lower) (initialization_frame object_class stage.Begin)
       ]
 
-  pub superclass_done : {t : held.Thread} → s ≡ stage.Superclass → Stands t (Initialization class stage.Initializer ∷ below) None Running → Steps content at old (Ok step_end.Done) (with_thread_at old at.index t)
+  pub superclass_done : {t : held.Thread} → s ≡ stage.Superclass → Stands t (Initialization class stage.Initializer ∷ below) (running h.object None) → Steps content at old (Ok step_end.Done) (with_thread_at old at.index t)
   superclass_done e s' = staged s' (superclass_is e)
 
   pub initializer_done : {new : State H} → s ≡ stage.Initializer → Does content at old (Ok step_end.Done) new (λ w number x. finish w number x name (drop 1 x.frames)) → Steps content at old (Ok step_end.Done) new
@@ -220,10 +225,10 @@ module _ {H : Type 0} {content : H → Content ClassId} {at : At} {old : State H
       ∙ ap (λ b. elim b as (λ _. Next) [ true ↦ goes (with_frames w (at.index + 1) (model h) (lower h)) | false ↦ next.blocks ]) (differ owner (at.index + 1) n))
 
   -- it begins
-  pub begins : st ≡ NotBegun → {new : State H} {t : held.Thread} → new.threads.items ≡ slice_set old.threads.items at.index t → new.classes.items ≡ slice_set old.classes.items class (InProgress (at.index + 1)) → new.live ≡ old.live → new.statics.items ≡ old.statics.items → new.heap ≡ old.heap → new.stop ≡ old.stop → new.output.items ≡ old.output.items → Stands t (Initialization class stage.Superclass ∷ below) None Running → Steps content at old (Ok step_end.Done) new
-  begins e {new} threads classes live statics heap stop output s' =
-      let q = staged_runs at.linked.now class stage.Begin stage.Superclass below (part_here h) in
-      changes h threads classes statics heap stop output (class_runs h new (λ (f : InProgress (at.index + 1) ≡ Failed). cc) threads classes live statics s' q) s' (inside h (Initialization class stage.Superclass ∷ below) (λ r a. a)) (λ w m.
+  pub begins : st ≡ NotBegun → {new : State H} {t : held.Thread} → ChangedTo h new t → new.classes.items ≡ slice_set old.classes.items class (InProgress (at.index + 1)) → new.live ≡ old.live → new.output.items ≡ old.output.items → Stands t (Initialization class stage.Superclass ∷ below) (running h.object None) → Steps content at old (Ok step_end.Done) new
+  begins e {new} same classes live output s' =
+      let q = staged_runs (part_here h) in
+      changes h same classes output (class_runs h new (λ (f : InProgress (at.index + 1) ≡ Failed). cc) same classes live s' q) s' (inside h (Initialization class stage.Superclass ∷ below) (λ r a. a)) (λ w m.
       let n = name h in
       let d = class_of h in
       let constants : constants_of w (class_named w.program n) ≡ w.statics = ap (constants_of w) (class_here h w m) ∙ ap (λ fs. with_constants w.literals d.class_of fs w.statics) d.plain.fields in
@@ -233,4 +238,4 @@ module _ {H : Type 0} {content : H → Content ClassId} {at : At} {old : State H
 
   -- none has failed
   pub not_failed : st ≢ Failed
-  not_failed = each_at (λ x. x ≢ Failed) old.classes.items class st h.beside.runs.begun state_there
+  not_failed = each_at (λ x. x ≢ Failed) old.classes.items class st h.beside.runs.not_yet.failures state_there

@@ -37,7 +37,7 @@ use Rattle.jm_state.specs.declared.thread.StackFrame.TheVariants.{Method}
 use Rattle.jm_state.specs.declared.thread.Thread as held
 use Rattle.jm_interp.specs.declared.at.At.{At}
 use Rattle.jm_interp.specs.At.{parts_at, InMethod, StandsOn, Does, Steps}
-use Rattle.jm_interp.specs.Standing.{Stands}
+use Rattle.jm_interp.specs.Standing.{Stands, running}
 use Rattle.jm_interp.specs.Stepped.{Stays}
 use Rattle.jm_interp.proofs.Here.{place, row_is, Leaves, done, left, top_held, one_to_one, goes_on, faults_there}
 use Rattle.jm_interp.proofs.OnThread.{model, with_thread_at, still, same_matches, does_as}
@@ -73,7 +73,7 @@ module _ {H : Type 0} {content : H → Content ClassId} {at : At} {old : State H
 
     -- it throws: the thread was left as it was
     module _ {flow : Flow} {thrown : Thrown} (stepped : Leaves (row_plain op) (flow_outcome (Ok flow)) d t) (is : flow ≡ Throw thrown) where
-      as_before : Stands t (Method h.method.frame ∷ h.method.below) None Running
+      as_before : Stands t (Method h.method.frame ∷ h.method.below) (running h.method.on.object None)
       as_before =
           let end = done h.method got stepped in
           left h.method got stepped (subst (λ x. Stays (flow_outcome (Ok x) end.frame.activation) h.method.frame end.frame) is end.stays)

@@ -64,10 +64,10 @@ use Rattle.jm_state.specs.declared.thread.Ending as code
 use Rattle.jm_state.specs.declared.thread.StackFrame.{StackFrame}
 use Rattle.jm_interp.specs.declared.at.At.{At}
 use Rattle.jm_interp.specs.At.{parts_at, StandsOn, Does, Steps}
-use Rattle.jm_interp.specs.Standing.{Stands, part_of}
+use Rattle.jm_interp.specs.Standing.{Stands, part_of, ThreadRest, running}
 use Rattle.jm_interp.proofs.Here.{place, row_is, top_held, inside_with, part_with}
 use Rattle.jm_interp.proofs.Objects.{IsObject, object_of, told}
-use Rattle.jm_interp.proofs.OnThread.{model, read, does, does_as, stops, runs_with, changed_matches, with_thread_at}
+use Rattle.jm_interp.proofs.OnThread.{model, read, does, does_as, stops, runs_with, changed_matches, with_thread_at, ChangedTo}
 
 app_nil : (xs : List ℕ) → xs ++ [] ≡ xs
 app_nil [] = refl
@@ -141,7 +141,7 @@ left_refs EndLine s q a = drop_refs s q a
 
 -- what the code found of the operands of the thread that was read
 abbrev pub FindsOperands : PrintMethod → held.Thread → Result Printing TagFault → Type 0
-FindsOperands p d r = (f : FrameView) (below : List StackFrame) (k : Option ℕ) (e : code.Ending) → Stands d (Method f ∷ below) k e → r ≡ printing_of p f.activation.stack
+FindsOperands p d result = (f : FrameView) (below : List StackFrame) (r : ThreadRest) → Stands d (Method f ∷ below) r → result ≡ printing_of p f.activation.stack
 
 module _ {H : Type 0} {content : H → Content ClassId} {at : At} {old : State H} (p : PrintMethod) (h : StandsOn content at old (Links at.linked.now (linked.Print p))) where
   -- the operands that are left, in the model
@@ -172,7 +172,7 @@ module _ {H : Type 0} {content : H → Content ClassId} {at : At} {old : State H
 
   module _ {d : held.Thread} (got : d ≡ slice_index_or old.threads.items at.index d) where
     found : {r : Result Printing TagFault} → FindsOperands p d r → printing_of p h.method.frame.activation.stack ≡ r
-    found is = sym (is h.method.frame h.method.below None Running (read h.method.on got))
+    found is = sym (is h.method.frame h.method.below _ (read h.method.on got))
 
     received_is : {r : Result Printing TagFault} → FindsOperands p d r → (w : World) → Matches (parts_at content at old) w → step_thread w (at.index + 1) (model h.method.on) ≡ received (name_of (content old.heap)) r (left_by p h.method.frame.activation.stack) (on_receiver w)
     received_is is w m = print_is w m ∙ ap (λ x. received (name_of (content old.heap)) x (left_by p h.method.frame.activation.stack) (on_receiver w)) (found is)
@@ -226,12 +226,12 @@ module _ {H : Type 0} {content : H → Content ClassId} {at : At} {old : State H
               ∙ ap (λ n. call_found (place h.method w) (select w.program n (print_name p) (print_type p)) k (arguments_of pr.text) rest) (stream_name l.program id (sym tested ∙ y))
               ∙ stream_writes (place h.method w) p pr.text k rest fits (subst Loads m.program h.method.on.beside.linked.loads)
 
-          pub prints : test ≡ true → {new : State H} {t : held.Thread} → new.threads.items ≡ slice_set old.threads.items at.index t → new.statics.items ≡ old.statics.items → new.heap ≡ old.heap → new.stop ≡ old.stop → new.classes.items ≡ old.classes.items → StateRuns at.linked.now new → Stands t (Method (gone_to (with_stack h.method.frame (left_by p h.method.frame.activation.stack)) (h.method.frame.activation.at + 1)) ∷ h.method.below) None Running → new.output.items ≡ old.output.items ++ (text_bytes pr.text ++ line_bytes p) → Steps content at old (Ok Done) new
+          pub prints : test ≡ true → {new : State H} {t : held.Thread} → ChangedTo h.method.on new t → new.classes.items ≡ old.classes.items → StateRuns at.linked.now new → Stands t (Method (gone_to (with_stack h.method.frame (left_by p h.method.frame.activation.stack)) (h.method.frame.activation.at + 1)) ∷ h.method.below) (running h.method.on.object None) → new.output.items ≡ old.output.items ++ (text_bytes pr.text ++ line_bytes p) → Steps content at old (Ok Done) new
           unfolding parts
-          prints y {new} {t} threads statics heap stop classes runs s written = does h.method.on runs (λ w m.
+          prints y {new} {t} same classes runs s written = does h.method.on runs (λ w m.
               let v = h.method.frame in
               let g = gone_to (with_stack v (left_by p v.activation.stack)) (v.activation.at + 1) in
-              let x = rename_thread (name_of (content old.heap)) (part_of at.linked.now (Method g ∷ h.method.below) None Running) in
+              let x = rename_thread (name_of (content old.heap)) (part_of at.linked.now (Method g ∷ h.method.below) (running h.method.on.object None)) in
               let bytes = text_bytes pr.text ++ line_bytes p in
               let n : at.index + 1 - 1 ≡ at.index = omega arith in
               let class_states : named_states at.linked.now.program new.classes.items ≡ w.classes = ap (named_states at.linked.now.program) classes ∙ m.classes in
@@ -241,12 +241,12 @@ module _ {H : Type 0} {content : H → Content ClassId} {at : At} {old : State H
               (subst (λ k. Matches (parts_at content at new) (record w { threads = slice_set w.threads k x; output = w.output ++ bytes })) (sym n)
               (subst (λ k. Matches (parts_at content at new) (record w { threads = slice_set w.threads at.index x; output = k })) output
               (subst (λ k. Matches (parts_at content at new) (record w { threads = slice_set w.threads at.index x; classes = k; output = new.output.items })) class_states
-              (changed_matches h.method.on new threads statics heap stop s (inside_with h.method g.activation (λ q a.
+              (changed_matches h.method.on new same s (λ q a. a) (inside_with h.method g.activation (λ q a.
               top_held h.method q (elim (among_split q (locals_shape.refs v.activation.locals) (stack_shape.refs (left_by p v.activation.stack)) a) [
                 | inl z ↦ among_left q (locals_shape.refs v.activation.locals) (stack_shape.refs v.activation.stack) z
                 | inr z ↦ among_right q (locals_shape.refs v.activation.locals) (stack_shape.refs v.activation.stack) (left_refs p v.activation.stack q z)
               ]))) w m)))))
 
   -- the thread goes on without the operands
-  pub runs_on : {t : held.Thread} → Stands t (Method (gone_to (with_stack h.method.frame (left_by p h.method.frame.activation.stack)) (h.method.frame.activation.at + 1)) ∷ h.method.below) None Running → StateRuns at.linked.now (with_thread_at old at.index t)
+  pub runs_on : {t : held.Thread} → Stands t (Method (gone_to (with_stack h.method.frame (left_by p h.method.frame.activation.stack)) (h.method.frame.activation.at + 1)) ∷ h.method.below) (running h.method.on.object None) → StateRuns at.linked.now (with_thread_at old at.index t)
   runs_on s = runs_with h.method.on s (part_with h.method _)

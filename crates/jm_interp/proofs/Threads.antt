@@ -1,64 +1,75 @@
 -- A thread of a state, and the part of a machine that it is.
-use Rattle.std.proofs.Common.{◌≡◌, ℕ, zero, suc, ◌+◌, ◌≤◌, List, [], ◌∷◌, ◌++◌, Option, Some, None, Bool, true, false, refl, sym, ap, ◌∙◌, subst, ◌⊎◌, length, reverse, arith}
+use Rattle.std.proofs.Common.{◌≡◌, ℕ, zero, suc, ◌+◌, ◌≤◌, List, [], ◌∷◌, Option, Some, Bool, true, false, refl, sym, ap, ◌∙◌, subst, ◌⊎◌, arith}
 use Rattle.std.specs.Prelude.{map, slice_get, slice_set}
 use Rattle.std.specs.List.{AllByRecursion}
-use Rattle.std.proofs.lemmas.List.{length-reverse}
 use Rattle.jm_values.specs.Shape.{Among}
 use Rattle.jm_values.proofs.Among.{among_left, among_right}
 use Rattle.jm_world.specs.Frames.{frames_shape, optional_number_shape}
-use Rattle.jm_world.specs.World.{Thread, Ending, running, returned, ended_by, is_running, live_among, refs_thread, object_refs, held_shape}
+use Rattle.jm_world.specs.World.{Thread, is_running, live_among, refs_thread, object_refs, held_shape}
 use Rattle.jm_linked.specs.Links.{LinkedView}
-use Rattle.jm_state.specs.Parts.{thread_part, frame_part, ending_part}
-use Rattle.jm_state.specs.Runnable.{FrameRuns, StandOnTop, ThreadRuns}
-use Rattle.jm_state.specs.declared.thread.Ending as code
+use Rattle.jm_state.specs.Parts.{part_of_held, thread_part, frame_part, ending_part}
+use Rattle.jm_state.specs.Places.{HeldThread, held_thread}
+use Rattle.jm_state.specs.Runnable.{FrameRuns, HoldsNoMonitor, StandOnTop, ThreadRuns, ThreadNotYet}
 use Rattle.jm_state.specs.declared.thread.StackFrame.{StackFrame}
 use Rattle.jm_state.specs.declared.thread.Thread as held
-use Rattle.jm_interp.specs.Standing.{Stands, part_of}
-use Rattle.jm_interp.proofs.Lists.{among_split}
+use Rattle.jm_interp.specs.Standing.{ThreadRest, rest_of, running, Stands, held_as, part_of}
+use Rattle.jm_interp.proofs.Lists.{among_split, map_set, get_map, each_set, each_at}
 
--- the part that a thread is
-pub part_is : (l : LinkedView) (t : held.Thread) (fs : List StackFrame) (p : Option ℕ) (e : code.Ending) → Stands t fs p e → thread_part l t ≡ part_of l fs p e
-part_is l t fs p e s =
-    ap (λ x. part_of l x t.pending t.ending) s.frames_are
-    ∙ ap (λ x. part_of l fs x t.ending) s.pending_is
-    ∙ ap (λ x. part_of l fs p x) s.ending_is
+-- the thread seen from the top of its frames, and the part that it is
+pub held_is : {t : held.Thread} {fs : List StackFrame} {r : ThreadRest} → Stands t fs r → held_thread t ≡ held_as fs r
+held_is {t} {fs} s = ap (λ x. held_as x (rest_of t)) s.frames_are ∙ ap (held_as fs) s.rest_is
 
-object_none : (e : Ending) → object_refs e None ≡ []
-object_none running = refl
-object_none returned = refl
-object_none (ended_by class) = refl
+pub part_is : (l : LinkedView) (t : held.Thread) (fs : List StackFrame) (r : ThreadRest) → Stands t fs r → thread_part l t ≡ part_of l fs r
+part_is l t fs r s = ap (part_of_held l) (held_is s)
 
--- its references
-pub part_refs : (l : LinkedView) (fs : List StackFrame) (p : Option ℕ) (e : code.Ending) (q : ℕ) → Among q (refs_thread (part_of l fs p e)) → Among q (optional_number_shape.refs p) ⊎ Among q (frames_shape.refs (map (frame_part l) fs))
-part_refs l fs p e q a =
-    let b : Among q (held_shape.refs (p, map (frame_part l) fs)) = subst (λ ns. Among q (ns ++ held_shape.refs (p, map (frame_part l) fs))) (object_none (ending_part l.program e)) a in
-    among_split q (optional_number_shape.refs p) (frames_shape.refs (map (frame_part l) fs)) b
+-- its references: its object, its pending exception and its frames
+pub object_or_held : (l : LinkedView) (fs : List StackFrame) (r : ThreadRest) (q : ℕ) → Among q (refs_thread (part_of l fs r))
+    → Among q (object_refs (ending_part l.program r.ending) r.object) ⊎ Among q (held_shape.refs (r.pending, map (frame_part l) fs))
+object_or_held l fs r q a = among_split q (object_refs (ending_part l.program r.ending) r.object) (held_shape.refs (r.pending, map (frame_part l) fs)) a
 
-pub pending_refs : (l : LinkedView) (fs : List StackFrame) (p : Option ℕ) (e : code.Ending) (q : ℕ) → Among q (optional_number_shape.refs p) → Among q (refs_thread (part_of l fs p e))
-pending_refs l fs p e q a = among_right q (object_refs (ending_part l.program e) None) (held_shape.refs (p, map (frame_part l) fs)) (among_left q (optional_number_shape.refs p) (frames_shape.refs (map (frame_part l) fs)) a)
+pub part_refs : (l : LinkedView) (fs : List StackFrame) (p : Option ℕ) (q : ℕ) → Among q (held_shape.refs (p, map (frame_part l) fs))
+    → Among q (optional_number_shape.refs p) ⊎ Among q (frames_shape.refs (map (frame_part l) fs))
+part_refs l fs p q a = among_split q (optional_number_shape.refs p) (frames_shape.refs (map (frame_part l) fs)) a
 
-pub frames_refs : (l : LinkedView) (fs : List StackFrame) (p : Option ℕ) (e : code.Ending) (q : ℕ) → Among q (frames_shape.refs (map (frame_part l) fs)) → Among q (refs_thread (part_of l fs p e))
-frames_refs l fs p e q a = among_right q (object_refs (ending_part l.program e) None) (held_shape.refs (p, map (frame_part l) fs)) (among_right q (optional_number_shape.refs p) (frames_shape.refs (map (frame_part l) fs)) a)
+pub object_in : (l : LinkedView) (fs : List StackFrame) (r : ThreadRest) (q : ℕ) → Among q (object_refs (ending_part l.program r.ending) r.object) → Among q (refs_thread (part_of l fs r))
+object_in l fs r q a = among_left q (object_refs (ending_part l.program r.ending) r.object) (held_shape.refs (r.pending, map (frame_part l) fs)) a
 
--- what a thread that runs keeps to
-pub record PartRuns (l : LinkedView) (fs : List StackFrame) (p : Option ℕ) : Type 0 where
-  pub frames : AllByRecursion (FrameRuns l) fs
-  pub top : StandOnTop p fs
-  pub few : length fs ≤ 512
+held_in : (l : LinkedView) (fs : List StackFrame) (r : ThreadRest) (q : ℕ) → Among q (held_shape.refs (r.pending, map (frame_part l) fs)) → Among q (refs_thread (part_of l fs r))
+held_in l fs r q a = among_right q (object_refs (ending_part l.program r.ending) r.object) (held_shape.refs (r.pending, map (frame_part l) fs)) a
 
-pub part_runs : (l : LinkedView) (t : held.Thread) (fs : List StackFrame) (p : Option ℕ) (e : code.Ending) → Stands t fs p e → ThreadRuns l t → PartRuns l fs p
-part_runs l t fs p e s r = record {
-  frames = subst (AllByRecursion (FrameRuns l)) s.frames_are r.frames;
-  top = subst (λ x. StandOnTop x fs) s.pending_is (subst (StandOnTop t.pending) s.frames_are r.top);
-  few = let a : length fs ≡ length t.frames.items = ap length (sym s.frames_are) ∙ length-reverse t.frames.items in let b = r.few in omega arith;
+pub pending_refs : (l : LinkedView) (fs : List StackFrame) (r : ThreadRest) (q : ℕ) → Among q (optional_number_shape.refs r.pending) → Among q (refs_thread (part_of l fs r))
+pending_refs l fs r q a = held_in l fs r q (among_left q (optional_number_shape.refs r.pending) (frames_shape.refs (map (frame_part l) fs)) a)
+
+pub frames_refs : (l : LinkedView) (fs : List StackFrame) (r : ThreadRest) (q : ℕ) → Among q (frames_shape.refs (map (frame_part l) fs)) → Among q (refs_thread (part_of l fs r))
+frames_refs l fs r q a = held_in l fs r q (among_right q (optional_number_shape.refs r.pending) (frames_shape.refs (map (frame_part l) fs)) a)
+
+-- what a thread keeps to, and what it does not come to yet
+pub record PartRuns (l : LinkedView) (fs : List StackFrame) (r : ThreadRest) : Type 0 where
+  pub runs : ThreadRuns l (held_as fs r)
+  pub not_yet : ThreadNotYet (held_as fs r)
+
+pub part_runs : {l : LinkedView} {t : held.Thread} {fs : List StackFrame} {r : ThreadRest} → Stands t fs r → ThreadRuns l (held_thread t) → ThreadNotYet (held_thread t) → PartRuns l fs r
+part_runs {l} s runs yet = record { runs = subst (ThreadRuns l) (held_is s) runs; not_yet = subst ThreadNotYet (held_is s) yet }
+
+-- without its top frame, or with another on top
+pub without_top : {l : LinkedView} {f : StackFrame} {fs : List StackFrame} {o p q : Option ℕ} → PartRuns l (f ∷ fs) (running o p) → StandOnTop q fs → PartRuns l fs (running o q)
+without_top r top = record {
+  runs = record { frames = r.runs.frames.1; few = let k = r.runs.few in omega arith };
+  not_yet = record { object = r.not_yet.object; monitors = r.not_yet.monitors.1; initializers = top };
 }
 
-pub thread_runs : (l : LinkedView) (t : held.Thread) (fs : List StackFrame) (p : Option ℕ) (e : code.Ending) → Stands t fs p e → PartRuns l fs p → ThreadRuns l t
-thread_runs l t fs p e s r = record {
-  frames = subst (AllByRecursion (FrameRuns l)) (sym s.frames_are) r.frames;
-  top = subst (λ x. StandOnTop x (reverse t.frames.items)) (sym s.pending_is) (subst (StandOnTop p) (sym s.frames_are) r.top);
-  few = let a : length fs ≡ length t.frames.items = ap length (sym s.frames_are) ∙ length-reverse t.frames.items in let b = r.few in omega arith;
+pub with_top : {l : LinkedView} {f g : StackFrame} {fs : List StackFrame} {o p q : Option ℕ} → FrameRuns l g → HoldsNoMonitor g → PartRuns l (f ∷ fs) (running o p) → StandOnTop q (g ∷ fs) → PartRuns l (g ∷ fs) (running o q)
+with_top frame free r top = record {
+  runs = record { frames = (frame, r.runs.frames.1); few = let k = r.runs.few in omega arith };
+  not_yet = record { object = r.not_yet.object; monitors = (free, r.not_yet.monitors.1); initializers = top };
 }
+
+-- of each of a list of threads with another in it, and of one of them
+pub all_set : (P : HeldThread → Type 0) (ts : List held.Thread) (i : ℕ) (t : held.Thread) → AllByRecursion P (map held_thread ts) → P (held_thread t) → AllByRecursion P (map held_thread (slice_set ts i t))
+all_set P ts i t all it = subst (AllByRecursion P) (sym (map_set held_thread ts i t)) (each_set P (map held_thread ts) i (held_thread t) all it)
+
+pub all_at : (P : HeldThread → Type 0) (ts : List held.Thread) (i : ℕ) (t : held.Thread) → AllByRecursion P (map held_thread ts) → slice_get ts i ≡ Some t → P (held_thread t)
+all_at P ts i t all e = each_at P (map held_thread ts) i (held_thread t) all (get_map held_thread ts i t e)
 
 live_one : (x : Thread) (xs : List Thread) → is_running x.ending ≡ true → live_among (x ∷ xs) ≡ live_among xs + 1
 live_one x xs e = ap (λ b. elim b as (λ _. ℕ) [ true ↦ live_among xs + 1 | false ↦ live_among xs ]) e

@@ -13,7 +13,8 @@ use Rattle.jm_world.specs.Objects.{Object}
 use Rattle.jm_values.specs.Reach.{Reach, field}
 use Rattle.jm_values.specs.Objects.{refs_of}
 use Rattle.jm_world.specs.Renaming.{rename_thread}
-use Rattle.jm_world.specs.World.{World, Thread, running, roots, with_thread, refs_thread}
+use Rattle.jm_world.specs.World as world
+use Rattle.jm_world.specs.World.{World, Thread, roots, with_thread, refs_thread}
 use Rattle.jm_heap.specs.declared.class_id.ClassId.{ClassId}
 use Rattle.jm_linked.specs.Links.{LinkedView, class_name_of}
 use Rattle.jm_state.specs.Ends.{Ended, MadeOrNot, with_object}
@@ -30,19 +31,19 @@ use Rattle.jm_state.specs.declared.thread.StackFrame.TheVariants.{Method, Initia
 use Rattle.jm_state.specs.declared.thread.Thread as held
 use Rattle.jm_interp.specs.declared.at.At.{At}
 use Rattle.jm_interp.specs.At.{parts_at, HasMethods, InMethod, Does}
-use Rattle.jm_interp.specs.Standing.{Stands, part_of}
+use Rattle.jm_interp.specs.Standing.{ThreadRest, running, Stands, part_of}
 use Rattle.jm_interp.proofs.Lists.{get_map, get_there, got_within}
 use Rattle.jm_interp.proofs.Objects.{name_is}
-use Rattle.jm_interp.proofs.OnThread.{model, thread_there, does, within, read, part_here, runs_with, held_frames, changed_among, same_rest, with_thread_at}
+use Rattle.jm_interp.proofs.OnThread.{model, thread_there, does, within, read, part_here, runs_with, held_object, held_frames, changed_among, with_thread_changed, same_rest, with_thread_at}
 use Rattle.jm_interp.proofs.Standing as beside
 use Rattle.jm_interp.proofs.Standing.{IsShared, place_stands}
-use Rattle.jm_interp.proofs.Threads.{part_refs}
+use Rattle.jm_interp.proofs.Threads.{object_or_held, part_refs}
 
 none_named : (f : ℕ → ℕ) (p : Option ℕ) → option_map f p ≡ None → p ≡ None
 none_named f None e = refl
 none_named f (Some k) e = cc
 
-runs_named : (l : LinkedView) (e : code.Ending) → ending_part l.program e ≡ running → e ≡ Running
+runs_named : (l : LinkedView) (e : code.Ending) → ending_part l.program e ≡ world.running → e ≡ Running
 runs_named l Running h = refl
 runs_named l Returned h = cc
 runs_named l (EndedBy n) h = cc
@@ -84,13 +85,13 @@ module _ {H : Type 0} {content : H → Content ClassId} {at : At} {old : State H
         on = record {
           world = w;
           beside = record { linked = h.on.beside.linked; runs = runs; matches = m };
+          object = t.0.object;
           stands = record {
             thread = t.0;
             at = t.1;
             stands = record {
               frames_are = refl;
-              pending_is = none_named f t.0.pending (ap (λ (y : Thread). y.pending) seen);
-              ending_is = runs_named l t.0.ending (ap (λ (y : Thread). y.ending) seen);
+              rest_is = λ j. record { object = t.0.object; pending = none_named f t.0.pending (ap (λ (y : Thread). y.pending) seen) j; ending = runs_named l t.0.ending (ap (λ (y : Thread). y.ending) seen) j };
             };
           };
         };
@@ -128,27 +129,30 @@ module _ {H : Type 0} {content : H → Content ClassId} {at : At} {mid : State H
   abbrev pub pending_at : held.Thread
   pending_at = record d { pending = Some place }
 
-  stands_pending : Stands pending_at g.frames (Some place) Running
-  stands_pending = let s = read g.on got in record { frames_are = s.frames_are; pending_is = refl; ending_is = s.ending_is }
+  stands_pending : Stands pending_at g.frames (running g.on.object (Some place))
+  stands_pending = let s = read g.on got in record { frames_are = s.frames_are; rest_is = ap (λ (r : ThreadRest). record { object = r.object; pending = Some place; ending = r.ending }) s.rest_is }
 
   pub pending_runs : StateRuns at.linked.now (with_thread_at mid at.index pending_at)
-  pending_runs = let q = part_here g.on in runs_with g.on stands_pending (record { frames = q.frames; top = all_on_top place g.frames g.methods; few = q.few })
+  pending_runs = let q = part_here g.on in runs_with g.on stands_pending (record { runs = record { frames = q.runs.frames; few = q.runs.few }; not_yet = record { object = q.not_yet.object; monitors = q.not_yet.monitors; initializers = all_on_top place g.frames g.methods } })
 
   pub pending_matches : (w : World) (class : List ℕ) (m : Matches (parts_at content at mid) (with_object w (exception class))) → serial_at (content mid.heap) place ≡ Some (length w.heap) → option_map (as_named (parts_at content at mid).named) (object_at (content mid.heap) (length w.heap)) ≡ Some (exception class) → Matches (parts_at content at (with_thread_at mid at.index pending_at)) (with_thread (with_object w (exception class)) (at.index + 1) (record (model g.on) { pending = Some (length w.heap) }))
   pending_matches w class m lies filled =
       let c = content mid.heap in
       let after = with_object w (exception class) in
       let shared = known content at mid w (exception class) m (λ j a. absurd a) filled in
-      let x = rename_thread (name_of c) (part_of at.linked.now g.frames (Some place) Running) in
+      let x = rename_thread (name_of c) (part_of at.linked.now g.frames (running g.on.object (Some place))) in
       let named : name_of c place ≡ length w.heap = name_is c place (length w.heap) lies in
-      let stand : (q : ℕ) → Among q (refs_thread (part_of at.linked.now g.frames (Some place) Running)) → beside.Stands (parts_at content at mid) (IsKnown w (exception class)) q = λ q a.
-      elim (part_refs at.linked.now g.frames (Some place) Running q a) [
-        | inl b ↦ elim b [ inl e ↦ new_stands content at mid w (exception class) m q (ap (serial_at c) e ∙ lies) | inr z ↦ absurd z ]
-        | inr b ↦ place_stands (parts_at content at mid) after m (IsKnown w (exception class)) shared q (held_frames g.on q b)
+      let stand : (q : ℕ) → Among q (refs_thread (part_of at.linked.now g.frames (running g.on.object (Some place)))) → beside.Stands (parts_at content at mid) (IsKnown w (exception class)) q = λ q a.
+      elim (object_or_held at.linked.now g.frames (running g.on.object (Some place)) q a) [
+        | inl b ↦ place_stands (parts_at content at mid) after m (IsKnown w (exception class)) shared q (held_object g.on q b)
+        | inr b ↦ elim (part_refs at.linked.now g.frames (Some place) q b) [
+          | inl d ↦ elim d [ inl e ↦ new_stands content at mid w (exception class) m q (ap (serial_at c) e ∙ lies) | inr z ↦ absurd z ]
+          | inr d ↦ place_stands (parts_at content at mid) after m (IsKnown w (exception class)) shared q (held_frames g.on q d)
+        ]
       ] in
       subst (λ k. Matches (parts_at content at (with_thread_at mid at.index pending_at)) (with_thread after (at.index + 1) (record (model g.on) { pending = Some k }))) named
       (subst (Matches (parts_at content at (with_thread_at mid at.index pending_at))) (same_rest g.on after m x)
-      (changed_among g.on after m (IsKnown w (exception class)) shared (with_thread_at mid at.index pending_at) refl refl refl refl stands_pending stand))
+      (changed_among g.on after m (IsKnown w (exception class)) shared (with_thread_at mid at.index pending_at) (with_thread_changed g.on pending_at) stands_pending stand))
 
 -- an exception of the class has been made, or none
 module _ {H : Type 0} {content : H → Content ClassId} {at : At} {old : State H} (mid : State H) (class : ℕ) (h : HasMethods content at old) (runs : StateRuns at.linked.now mid) where
@@ -156,7 +160,7 @@ module _ {H : Type 0} {content : H → Content ClassId} {at : At} {old : State H
     -- the thread of the state in which it was made
     has_made : (w : World) → Matches (parts_at content at old) w → HasMethods content at mid
     has_made w m =
-        let there : HasMethods content at old = record { frames = h.frames; on = record { world = w; beside = record { linked = h.on.beside.linked; runs = h.on.beside.runs; matches = m }; stands = h.on.stands }; methods = h.methods } in
+        let there : HasMethods content at old = record { frames = h.frames; on = record { world = w; beside = record { linked = h.on.beside.linked; runs = h.on.beside.runs; matches = m }; object = h.on.object; stands = h.on.stands }; methods = h.methods } in
         still_has there runs (made w m).1 refl
 
     pub made_within : at.index < vec_len mid.threads
@@ -183,4 +187,4 @@ module _ {H : Type 0} {content : H → Content ClassId} {at : At} {old : State H
 
 -- a thread that is in a method
 pub in_methods : {H : Type 0} {content : H → Content ClassId} {at : At} {s : State H} → InMethod content at s → HasMethods content at s
-in_methods h = record { frames = _; on = h.on; methods = (tt, (part_here h.on).top) }
+in_methods h = record { frames = _; on = h.on; methods = (tt, (part_here h.on).not_yet.initializers) }

@@ -37,12 +37,12 @@ use Rattle.std.specs.Prelude.{slice_index_or, vec_len}
 use Rattle.jm_interp.specs.declared.at.At.{At}
 use Rattle.jm_interp.specs.At.{parts_at, OnThread, Does, Steps}
 use Rattle.jm_interp.specs.Ending.{ended_as}
-use Rattle.jm_interp.specs.Standing.{Stands, part_of}
+use Rattle.jm_interp.specs.Standing.{Stands, part_of, ThreadRest, running}
 use Rattle.jm_interp.proofs.Objects.{IsObject, object_of, told}
-use Rattle.jm_interp.proofs.OnThread.{model, read, does_as, held_pending, held_frames, part_here, with_thread_at}
+use Rattle.jm_interp.proofs.OnThread.{model, read, does_as, held_pending, held_frames, part_here, with_thread_at, as_frames}
 use Rattle.jm_interp.proofs.OnThread as thread
 use Rattle.jm_interp.proofs.Lists.{get_there}
-use Rattle.jm_interp.proofs.Threads.{part_refs, PartRuns}
+use Rattle.jm_interp.proofs.Threads.{part_refs, PartRuns, without_top}
 
 -- the names of what ends a thread
 pub instance_name : (program : List ClassParts) (id : ClassId) (n : ℕ) → id ≡ Instance n → class_name_of program n ≡ class_name (named_type program id)
@@ -66,18 +66,18 @@ pub record HasTwo (fs : List StackFrame) : Type 0 where
   pub rest : List StackFrame
   pub is : fs ≡ top ∷ next ∷ rest
 
-count_is : (t : held.Thread) (fs : List StackFrame) (p : Option ℕ) (e : code.Ending) → Stands t fs p e → vec_len t.frames ≡ length fs
-count_is t fs p e s = t.frames.ok.0 ∙ sym (length-reverse t.frames.items) ∙ ap length s.frames_are
+count_is : (t : held.Thread) (fs : List StackFrame) (r : ThreadRest) → Stands t fs r → vec_len t.frames ≡ length fs
+count_is t fs r s = t.frames.ok.0 ∙ sym (length-reverse t.frames.items) ∙ ap length s.frames_are
 
-pub two_frames : (t : held.Thread) (fs : List StackFrame) (p : Option ℕ) (e : code.Ending) (n : ℕ) → Stands t fs p e → n ≡ vec_len t.frames → 1 < n → HasTwo fs
-two_frames t [] p e n s k h = let a = count_is t [] p e s in absurd (omega arith)
-two_frames t (f ∷ []) p e n s k h = let a = count_is t (f ∷ []) p e s in absurd (omega arith)
-two_frames t (f ∷ g ∷ fs) p e n s k h = record { top = f; next = g; rest = fs; is = refl }
+pub two_frames : (t : held.Thread) (fs : List StackFrame) (r : ThreadRest) (n : ℕ) → Stands t fs r → n ≡ vec_len t.frames → 1 < n → HasTwo fs
+two_frames t [] r n s k h = let a = count_is t [] r s in absurd (omega arith)
+two_frames t (f ∷ []) r n s k h = let a = count_is t (f ∷ []) r s in absurd (omega arith)
+two_frames t (f ∷ g ∷ fs) r n s k h = record { top = f; next = g; rest = fs; is = refl }
 
-pub few_frames : (t : held.Thread) (fs : List StackFrame) (p : Option ℕ) (e : code.Ending) (n : ℕ) → Stands t fs p e → n ≡ vec_len t.frames → n ≤ 1 → tail_of fs ≡ []
-few_frames t [] p e n s k h = refl
-few_frames t (f ∷ []) p e n s k h = refl
-few_frames t (f ∷ g ∷ fs) p e n s k h = let a = count_is t (f ∷ g ∷ fs) p e s in absurd (omega arith)
+pub few_frames : (t : held.Thread) (fs : List StackFrame) (r : ThreadRest) (n : ℕ) → Stands t fs r → n ≡ vec_len t.frames → n ≤ 1 → tail_of fs ≡ []
+few_frames t [] r n s k h = refl
+few_frames t (f ∷ []) r n s k h = refl
+few_frames t (f ∷ g ∷ fs) r n s k h = let a = count_is t (f ∷ g ∷ fs) r s in absurd (omega arith)
 
 -- no method that can run catches
 no_handlers : (l : LinkedView) → IsLinked l → (k : ℕ) → k < length l.methods → handlers_of (method_named l.program (name_of_number l k)) ≡ []
@@ -94,20 +94,20 @@ module _ {H : Type 0} {content : H → Content ClassId} {at : At} {old : State H
   thrown = object_of h place (held_pending h place (inl refl))
 
   -- no frame catches
-  frames_unwind : (gs : List StackFrame) → PartRuns at.linked.now gs (Some place) → (w : World) → Matches (parts_at content at old) w → (x : Thread) (k : ℕ) (type : ObjectType) → unwind_frames w (at.index + 1) x (map (rename_frame (name_of (content old.heap))) (map (frame_part at.linked.now) gs)) k type ≡ unwound w (at.index + 1) x (map (rename_frame (name_of (content old.heap))) (map (frame_part at.linked.now) (tail_of gs))) k type
+  frames_unwind : (gs : List StackFrame) → PartRuns at.linked.now gs (running h.object (Some place)) → (w : World) → Matches (parts_at content at old) w → (x : Thread) (k : ℕ) (type : ObjectType) → unwind_frames w (at.index + 1) x (map (rename_frame (name_of (content old.heap))) (map (frame_part at.linked.now) gs)) k type ≡ unwound w (at.index + 1) x (map (rename_frame (name_of (content old.heap))) (map (frame_part at.linked.now) (tail_of gs))) k type
   unfolding parts
   frames_unwind [] q w m x k type = refl
-  frames_unwind (Initialization class stage ∷ gs) q w m x k type = absurd q.top.0
+  frames_unwind (Initialization class stage ∷ gs) q w m x k type = absurd q.not_yet.initializers.0
   frames_unwind (Method v ∷ gs) q w m x k type =
       let l = at.linked.now in
       let f = name_of (content old.heap) in
       let below = map (rename_frame f) (map (frame_part l) gs) in
-      let handlers : handlers_of (method_named w.program (name_of_number l v.method)) ≡ [] = ap (λ p. handlers_of (method_named p (name_of_number l v.method))) (sym m.program) ∙ no_handlers l h.beside.linked v.method q.frames.0.0 in
+      let handlers : handlers_of (method_named w.program (name_of_number l v.method)) ≡ [] = ap (λ p. handlers_of (method_named p (name_of_number l v.method))) (sym m.program) ∙ no_handlers l h.beside.linked v.method q.runs.frames.0 in
       ap (λ hs. elim (handler_in w v.activation.at type hs) as (λ _. Next) [
         | Some r ↦ handle w (at.index + 1) x (name_of_number l v.method) (rename_activation f v.activation) (option_map f v.monitor) below k r
         | None ↦ drop_method w (at.index + 1) x (option_map f v.monitor) below k type
       ]) handlers
-      ∙ ap (λ o. drop_method w (at.index + 1) x (option_map f o) below k type) q.frames.0.1
+      ∙ ap (λ o. drop_method w (at.index + 1) x (option_map f o) below k type) q.not_yet.monitors.0
 
   unwinds : (w : World) → Matches (parts_at content at old) w → step_thread w (at.index + 1) (model h) ≡ unwound w (at.index + 1) (model h) (map (rename_frame (name_of (content old.heap))) (map (frame_part at.linked.now) (tail_of fs))) (name_of (content old.heap) place) (named_type at.linked.now.program thrown.object.type)
   unwinds w m =
@@ -119,26 +119,26 @@ module _ {H : Type 0} {content : H → Content ClassId} {at : At} {old : State H
     -- a frame is left
     module _ (many : 1 < n) where
       pub two : HasTwo fs
-      two = two_frames d fs (Some place) Running n (read h got) count many
+      two = two_frames d fs _ n (read h got) count many
 
-      pub on_two : OnThread content at old (two.top ∷ two.next ∷ two.rest) (Some place)
-      on_two = subst (λ x. OnThread content at old x (Some place)) two.is h
+      abbrev pub on_two : OnThread content at old (two.top ∷ two.next ∷ two.rest) (Some place)
+      on_two = as_frames h two.is
 
-      pub drops : {e t : held.Thread} → e ≡ slice_index_or old.threads.items at.index e → ((f : StackFrame) (below : List StackFrame) (p : Option ℕ) (k : code.Ending) → Stands e (f ∷ below) p k → Stands t below p k) → Steps content at old (Ok Done) (with_thread_at old at.index t)
+      pub drops : {e t : held.Thread} → e ≡ slice_index_or old.threads.items at.index e → ((f : StackFrame) (below : List StackFrame) (r : ThreadRest) → Stands e (f ∷ below) r → Stands t below r) → Steps content at old (Ok Done) (with_thread_at old at.index t)
       drops {e} {t} again dropped =
           let l = at.linked.now in
           let f = name_of (content old.heap) in
           let q = part_here on_two in
-          let same : model h ≡ model on_two = ap (λ x. rename_thread f (part_of l x (Some place) Running)) two.is in
-          let s = dropped two.top (two.next ∷ two.rest) (Some place) Running (read on_two again) in
-          thread.goes on_two s (record { frames = q.frames.1; top = q.top.1; few = let a = q.few in omega arith }) (λ r a.
-          elim (part_refs l (two.next ∷ two.rest) (Some place) Running r a) [
+          let same : model h ≡ model on_two = ap (λ x. rename_thread f (part_of l x (running h.object (Some place)))) two.is in
+          let s = dropped two.top (two.next ∷ two.rest) _ (read on_two again) in
+          thread.goes on_two s (without_top q q.not_yet.initializers.1) (λ r a.
+          elim (part_refs l (two.next ∷ two.rest) (Some place) r a) [
             | inl z ↦ held_pending on_two r z
             | inr z ↦ held_frames on_two r (among_right r (refs_frame (frame_part l two.top)) (frames_shape.refs (map (frame_part l) (two.next ∷ two.rest))) z)
           ]) (λ w m.
           ap (step_thread w (at.index + 1)) (sym same)
           ∙ unwinds w m
-          ∙ ap (λ x. unwound w (at.index + 1) (rename_thread f (part_of l x (Some place) Running)) (map (rename_frame f) (map (frame_part l) (tail_of x))) (f place) (named_type l.program thrown.object.type)) two.is)
+          ∙ ap (λ x. unwound w (at.index + 1) (rename_thread f (part_of l x (running h.object (Some place)))) (map (rename_frame f) (map (frame_part l) (tail_of x))) (f place) (named_type l.program thrown.object.type)) two.is)
 
     -- none is: the thread ends by the exception's class
     pub ends_thread : n ≤ 1 → {id : ClassId} {e : Ending} {new : State H} → ((k : ℕ) (o : ObjectOf ClassId) → serial_at (content old.heap) place ≡ Some k → object_at (content old.heap) k ≡ Some o → id ≡ o.type) → e ≡ ended_by (class_name (named_type at.linked.now.program id)) → Does content at old (Ok Done) new (λ w number t. goes (ended_as w number t e)) → Steps content at old (Ok Done) new
@@ -146,6 +146,6 @@ module _ {H : Type 0} {content : H → Content ClassId} {at : At} {old : State H
         let f = name_of (content old.heap) in
         let named = named_type at.linked.now.program in
         unwinds w m
-        ∙ ap (λ gs. unwound w (at.index + 1) (model h) (map (rename_frame f) (map (frame_part at.linked.now) gs)) (f place) (named thrown.object.type)) (few_frames d fs (Some place) Running n (read h got) count few)
+        ∙ ap (λ gs. unwound w (at.index + 1) (model h) (map (rename_frame f) (map (frame_part at.linked.now) gs)) (f place) (named thrown.object.type)) (few_frames d fs _ n (read h got) count few)
         ∙ ap (λ x. goes (ended_as w (at.index + 1) (model h) (ended_by (class_name (named x))))) (sym (told h thrown class))
         ∙ ap (λ x. goes (ended_as w (at.index + 1) (model h) x)) (sym ended)) done

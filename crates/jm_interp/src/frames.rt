@@ -1,12 +1,11 @@
 // The frames of a thread.
 
-ghost use Rattle.std.specs.Prelude.{◌≡◌, ◌+◌, ℕ, List, ◌∷◌, Option};
+ghost use Rattle.std.specs.Prelude.{◌≡◌, ◌+◌, ℕ, List, ◌∷◌};
 ghost use Rattle.jm_frames.specs.FrameView.{FrameView};
-ghost use Rattle.jm_state.specs.declared.thread.Ending.{Ending};
 ghost use Rattle.jm_state.specs.declared.thread.StackFrame.{StackFrame};
 ghost use Rattle.jm_state.specs.declared.thread.StackFrame.TheVariants.{Method, Initialization};
 ghost use Rattle.jm_interp.specs.Returned.{Left, pop_fault};
-ghost use Rattle.jm_interp.specs.Standing.{Stands};
+ghost use Rattle.jm_interp.specs.Standing.{ThreadRest, Stands};
 
 use jm_state::{Halt, StackFrame, Thread};
 use jm_values::TagFault;
@@ -14,16 +13,16 @@ use jm_world::{Stage, Stop};
 
 /// Drops the top frame.
 pub(crate) fn drop_top(thread: &mut Thread)
-    requires { (f : StackFrame) × (below : List StackFrame) × (p : Option ℕ) × (e : Ending) × Stands thread.old (f ∷ below) p e }
-    ensures { (f : StackFrame) (below : List StackFrame) (p : Option ℕ) (e : Ending) → Stands thread.old (f ∷ below) p e → Stands thread.new below p e }
+    requires { (f : StackFrame) × (below : List StackFrame) × (r : ThreadRest) × Stands thread.old (f ∷ below) r }
+    ensures { (f : StackFrame) (below : List StackFrame) (r : ThreadRest) → Stands thread.old (f ∷ below) r → Stands thread.new below r }
 {
     let _top = thread.frames.pop();
 }
 
 /// Goes to a stage of an initialization, whose frame is on top.
 pub(crate) fn go_to_stage(thread: &mut Thread, class: u32, stage: Stage)
-    requires { (f : StackFrame) × (below : List StackFrame) × (p : Option ℕ) × (e : Ending) × Stands thread.old (f ∷ below) p e }
-    ensures { (f : StackFrame) (below : List StackFrame) (p : Option ℕ) (e : Ending) → Stands thread.old (f ∷ below) p e → Stands thread.new (Initialization class stage ∷ below) p e }
+    requires { (f : StackFrame) × (below : List StackFrame) × (r : ThreadRest) × Stands thread.old (f ∷ below) r }
+    ensures { (f : StackFrame) (below : List StackFrame) (r : ThreadRest) → Stands thread.old (f ∷ below) r → Stands thread.new (Initialization class stage ∷ below) r }
 {
     if let Some(top) = thread.frames.last_mut() {
         *top = StackFrame::Initialization { class, stage };
@@ -34,8 +33,8 @@ pub(crate) fn go_to_stage(thread: &mut Thread, class: u32, stage: Stage)
 /// as they were: `Overflow` where they do not fit. OutOfMemory: its instruction has no number after
 /// it, which no code that fits in memory has. Nothing has changed then.
 pub(crate) fn leave_top(thread: &mut Thread) -> Result<(), Halt>
-    requires { (f : FrameView) × (b : StackFrame) × (below : List StackFrame) × (p : Option ℕ) × (e : Ending) × Stands thread.old (Method f ∷ b ∷ below) p e }
-    ensures { (f : FrameView) (b : StackFrame) (below : List StackFrame) (p : Option ℕ) (e : Ending) → Stands thread.old (Method f ∷ b ∷ below) p e → Left result thread.new f b below p e }
+    requires { (f : FrameView) × (b : StackFrame) × (below : List StackFrame) × (r : ThreadRest) × Stands thread.old (Method f ∷ b ∷ below) r }
+    ensures { (f : FrameView) (b : StackFrame) (below : List StackFrame) (r : ThreadRest) → Stands thread.old (Method f ∷ b ∷ below) r → Left result thread.new f b below r }
 {
     let count = thread.frames.len();
     match &mut thread.frames[count - 2] {
@@ -61,8 +60,8 @@ pub(crate) fn leave_top(thread: &mut Thread) -> Result<(), Halt>
 /// returns, or there is none.
 #[cold]
 pub(crate) fn value_fault(thread: &Thread) -> TagFault
-    requires { (f : FrameView) × (below : List StackFrame) × (p : Option ℕ) × (e : Ending) × Stands thread.now (Method f ∷ below) p e }
-    ensures { (f : FrameView) (below : List StackFrame) (p : Option ℕ) (e : Ending) → Stands thread.now (Method f ∷ below) p e → result ≡ pop_fault f.activation.stack }
+    requires { (f : FrameView) × (below : List StackFrame) × (r : ThreadRest) × Stands thread.now (Method f ∷ below) r }
+    ensures { (f : FrameView) (below : List StackFrame) (r : ThreadRest) → Stands thread.now (Method f ∷ below) r → result ≡ pop_fault f.activation.stack }
 {
     let Some(top) = thread.frames.last() else {
         unreachable!();

@@ -1,12 +1,11 @@
 // The operands of a method of a print stream.
 
-ghost use Rattle.std.specs.Prelude.{◌≡◌, ◌+◌, ◌<◌, ◌^◌, ◌∷◌, ℕ, List, Option};
+ghost use Rattle.std.specs.Prelude.{◌≡◌, ◌+◌, ◌<◌, ◌^◌, ◌∷◌, List};
 ghost use Rattle.jm_frames.specs.FrameView.{FrameView, with_stack, gone_to};
-ghost use Rattle.jm_state.specs.declared.thread.Ending.{Ending};
 ghost use Rattle.jm_state.specs.declared.thread.StackFrame.{StackFrame};
 ghost use Rattle.jm_state.specs.declared.thread.StackFrame.TheVariants.{Method};
 ghost use Rattle.jm_interp.specs.Printing.{text_of, receiver_of, with_text, printing_of, left_by};
-ghost use Rattle.jm_interp.specs.Standing.{Stands};
+ghost use Rattle.jm_interp.specs.Standing.{ThreadRest, Stands};
 
 use jm_linked::{PrintMethod, Printed};
 use jm_state::{StackFrame, Thread};
@@ -86,8 +85,8 @@ fn with_text(
 /// What a method takes of the operands of the top frame, which stay. `Underflow`: there are fewer
 /// operands than it takes; `WrongTag`: one is of another type.
 pub(crate) fn operands_of(thread: &Thread, method: PrintMethod) -> Result<Printing, TagFault>
-    requires { (f : FrameView) × (below : List StackFrame) × (p : Option ℕ) × (e : Ending) × Stands thread.now (Method f ∷ below) p e }
-    ensures { (f : FrameView) (below : List StackFrame) (p : Option ℕ) (e : Ending) → Stands thread.now (Method f ∷ below) p e → result ≡ printing_of method f.activation.stack }
+    requires { (f : FrameView) × (below : List StackFrame) × (r : ThreadRest) × Stands thread.now (Method f ∷ below) r }
+    ensures { (f : FrameView) (below : List StackFrame) (r : ThreadRest) → Stands thread.now (Method f ∷ below) r → result ≡ printing_of method f.activation.stack }
 {
     let Some(top) = thread.frames.last() else {
         unreachable!();
@@ -110,8 +109,8 @@ pub(crate) fn operands_of(thread: &Thread, method: PrintMethod) -> Result<Printi
 
 /// Pops the operands of a method in the top frame, and goes on.
 pub(crate) fn pop_operands(thread: &mut Thread, method: PrintMethod)
-    requires { (f : FrameView) × (below : List StackFrame) × (p : Option ℕ) × (e : Ending) × Stands thread.old (Method f ∷ below) p e × (f.activation.at + 1 < 2 ^ 64) }
-    ensures { (f : FrameView) (below : List StackFrame) (p : Option ℕ) (e : Ending) → Stands thread.old (Method f ∷ below) p e → Stands thread.new (Method (gone_to (with_stack f (left_by method f.activation.stack)) (f.activation.at + 1)) ∷ below) p e }
+    requires { (f : FrameView) × (below : List StackFrame) × (r : ThreadRest) × Stands thread.old (Method f ∷ below) r × (f.activation.at + 1 < 2 ^ 64) }
+    ensures { (f : FrameView) (below : List StackFrame) (r : ThreadRest) → Stands thread.old (Method f ∷ below) r → Stands thread.new (Method (gone_to (with_stack f (left_by method f.activation.stack)) (f.activation.at + 1)) ∷ below) r }
 {
     if let Some(top) = thread.frames.last_mut() {
         match top {

@@ -5,8 +5,8 @@ ghost use Rattle.jm_linked.specs.Links.{class_name_of};
 ghost use Rattle.jm_interp.specs.At.{HasMethods, InMethod, Does};
 
 use crate::at::At;
-use jm_heap::Heap;
-use jm_state::{Halt, State, StepEnd, make_exception};
+use jm_heap::{Heap, Shape};
+use jm_state::{Halt, State, StepEnd, make_object};
 
 /// Makes an exception of a class, by its number, and leaves it pending (JVMS 2.10); the frames
 /// stay. The machine stops where the object cannot be made, and nothing has changed then, nor
@@ -16,7 +16,8 @@ pub(crate) fn throw<H: Heap>(at: At<'_>, state: &mut State<H>, class: u32) -> Re
     requires { HasMethods H.content at state.old }
     ensures { Does H.content at.entry state.old result state.new (λ w number t. throw w number t (class_name_of at.entry.linked.now.program class)) }
 {
-    match make_exception(at.alloc, at.linked, state, class, at.nursery) {
+    let shape = Shape::Instance { class, fields: &[] };
+    match make_object(at.alloc, at.linked, state, at.nursery, shape) {
         Ok(place) => {
             state.threads[at.index].pending = Some(place);
             Ok(StepEnd::Done)

@@ -1,16 +1,15 @@
 // The top frame of a thread, where a method runs.
 
-ghost use Rattle.std.specs.Prelude.{◌≡◌, ◌+◌, ◌<◌, ◌^◌, ℕ, ◌∷◌, List, Option};
+ghost use Rattle.std.specs.Prelude.{◌≡◌, ◌+◌, ◌<◌, ◌^◌, ◌∷◌, List};
 ghost use Rattle.jm_frames.specs.FrameView.{FrameView};
 ghost use Rattle.jm_frames.specs.Made.{outcome};
 ghost use Rattle.jm_ops.specs.Flows.{flow_outcome};
 ghost use Rattle.jm_ops.specs.SingleFrame.{IsOrdered};
 ghost use Rattle.jm_values.specs.Constants.{push_constant};
 ghost use Rattle.jm_values.specs.PlainRows.{row_plain};
-ghost use Rattle.jm_state.specs.declared.thread.Ending.{Ending};
 ghost use Rattle.jm_state.specs.declared.thread.StackFrame.{StackFrame};
 ghost use Rattle.jm_state.specs.declared.thread.StackFrame.TheVariants.{Method};
-ghost use Rattle.jm_interp.specs.Standing.{Stands};
+ghost use Rattle.jm_interp.specs.Standing.{ThreadRest, Stands};
 ghost use Rattle.jm_interp.specs.Stepped.{IsStepped};
 
 use jm_ops::{Fault, Flow, step};
@@ -21,9 +20,9 @@ use jm_values::{TagFault, Value};
 /// Makes a plain instruction in the top frame. A refused one leaves the frame as it was.
 #[inline]
 pub(crate) fn step_top(thread: &mut Thread, op: &Plain) -> Result<Flow, Fault>
-    requires there { (f : FrameView) × (below : List StackFrame) × (p : Option ℕ) × (e : Ending) × Stands thread.old (Method f ∷ below) p e × (f.activation.at + 1 < 2 ^ 64) }
+    requires there { (f : FrameView) × (below : List StackFrame) × (r : ThreadRest) × Stands thread.old (Method f ∷ below) r × (f.activation.at + 1 < 2 ^ 64) }
     requires ordered { IsOrdered op.now }
-    ensures { (f : FrameView) (below : List StackFrame) (p : Option ℕ) (e : Ending) → Stands thread.old (Method f ∷ below) p e → IsStepped (row_plain op.now) (flow_outcome result) thread.new f below p e }
+    ensures { (f : FrameView) (below : List StackFrame) (r : ThreadRest) → Stands thread.old (Method f ∷ below) r → IsStepped (row_plain op.now) (flow_outcome result) thread.new f below r }
 {
     let Some(top) = thread.frames.last_mut() else {
         unreachable!();
@@ -37,8 +36,8 @@ pub(crate) fn step_top(thread: &mut Thread, op: &Plain) -> Result<Flow, Fault>
 /// Pushes a value in the top frame, and goes on.
 #[inline]
 pub(crate) fn push_top(thread: &mut Thread, value: Value) -> Result<(), TagFault>
-    requires there { (f : FrameView) × (below : List StackFrame) × (p : Option ℕ) × (e : Ending) × Stands thread.old (Method f ∷ below) p e × (f.activation.at + 1 < 2 ^ 64) }
-    ensures { (f : FrameView) (below : List StackFrame) (p : Option ℕ) (e : Ending) → Stands thread.old (Method f ∷ below) p e → IsStepped (push_constant value) (outcome result) thread.new f below p e }
+    requires there { (f : FrameView) × (below : List StackFrame) × (r : ThreadRest) × Stands thread.old (Method f ∷ below) r × (f.activation.at + 1 < 2 ^ 64) }
+    ensures { (f : FrameView) (below : List StackFrame) (r : ThreadRest) → Stands thread.old (Method f ∷ below) r → IsStepped (push_constant value) (outcome result) thread.new f below r }
 {
     let Some(top) = thread.frames.last_mut() else {
         unreachable!();

@@ -19,6 +19,7 @@ use Rattle.jm_linked.specs.Links.{LinkedView}
 use Rattle.jm_state.specs.Parts.{parts}
 use Rattle.jm_state.specs.Reached.{LeavesReachable}
 use Rattle.jm_state.specs.declared.thread.Thread.{Thread}
+use Rattle.jm_state.specs.View.{StateView}
 use Rattle.jm_machine.specs.Collected.{HoldsReachable, LeavesAfter}
 
 within : {A : Type 0} (xs : List A) (k : ℕ) → k < length xs → (x : A) × (slice_get xs k ≡ Some x)
@@ -30,7 +31,7 @@ some_of : (named : ClassId → ObjectType) (x : Option (ObjectOf ClassId)) (y : 
 some_of named None y e = cc
 some_of named (Some o) y e = (o, refl)
 
-module _ (l : LinkedView) (c : Content ClassId) (ts : List Thread) (vs : List Value) (cs : List ClassState) (out : List ℕ) (stop : Option Stop) (w : World) (h : Matches (parts l c ts vs cs out stop) w) where
+module _ (l : LinkedView) (c : Content ClassId) (v : StateView) (w : World) (h : Matches (parts l c v) w) where
   pub holds_reachable : LeavesReachable kind.Full c w → HoldsReachable c w
   unfolding parts
   holds_reachable left = λ k. (
@@ -42,7 +43,7 @@ module _ (l : LinkedView) (c : Content ClassId) (ts : List Thread) (vs : List Va
   )
 
   -- a machine that has stopped collects nothing
-  pub stopped_leaves : {s : Stop} → stop ≡ Some s → (event : Event) (c' : Content ClassId) → LeavesAfter event c' w
+  pub stopped_leaves : {s : Stop} → v.stop ≡ Some s → (event : Event) (c' : Content ClassId) → LeavesAfter event c' w
   unfolding parts
   stopped_leaves e (Step number) c' = tt
   stopped_leaves e Minor c' = tt

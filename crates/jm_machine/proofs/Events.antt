@@ -28,16 +28,17 @@ use Rattle.jm_state.specs.declared.halt.StepEnd.{StepEnd}
 use Rattle.jm_state.specs.declared.halt.Halt.{Halt}
 use Rattle.jm_state.specs.declared.halt.StepEnd.TheVariants.{Done, Blocked}
 use Rattle.jm_state.specs.declared.halt.Halt.TheVariants.{Stopped, OutOfMemory}
+use Rattle.jm_state.specs.View.{StateView}
 use Rattle.jm_machine.specs.declared.fault.OutOfMemory as refusal
 use Rattle.jm_machine.specs.Threads.{thread_numbered, ending_numbered, class_of_ending, class_ended_by}
 use Rattle.jm_machine.specs.Answered.{IsAnswered}
 
-module _ (l : LinkedView) (c : Content ClassId) (ts : List held.Thread) (ss : List Value) (cs : List ClassState) (o : List ℕ) (s : Option Stop) (w : World) (m : Matches (parts l c ts ss cs o s) w) where
-  threads_are : map (rename_thread (name_of c)) (map (thread_part l) ts) ≡ w.threads
+module _ (l : LinkedView) (c : Content ClassId) (v : StateView) (w : World) (m : Matches (parts l c v) w) where
+  threads_are : map (rename_thread (name_of c)) (map (thread_part l) v.threads) ≡ w.threads
   unfolding parts
   threads_are = m.threads
 
-  pub stop_is : s ≡ w.stop
+  pub stop_is : v.stop ≡ w.stop
   unfolding parts
   stop_is = m.stop
 
@@ -45,14 +46,14 @@ module _ (l : LinkedView) (c : Content ClassId) (ts : List held.Thread) (ss : Li
   unfolding parts
   program_is = m.program
 
-  pub output_is : o ≡ w.output
+  pub output_is : v.output ≡ w.output
   unfolding parts
   output_is = m.output
 
   -- the thread of a number is the world's
-  pub thread_is : (n : ℕ) → thread_at w n ≡ option_map (λ t. rename_thread (name_of c) (thread_part l t)) (thread_numbered ts n)
+  pub thread_is : (n : ℕ) → thread_at w n ≡ option_map (λ t. rename_thread (name_of c) (thread_part l t)) (thread_numbered v.threads n)
   thread_is zero = refl
-  thread_is (suc n) = ap (λ xs. slice_get xs n) (sym threads_are) ∙ slice_get-map (rename_thread (name_of c)) (map (thread_part l) ts) n ∙ ap (option_map (rename_thread (name_of c))) (slice_get-map (thread_part l) ts n) ∙ twice (slice_get ts n)
+  thread_is (suc n) = ap (λ xs. slice_get xs n) (sym threads_are) ∙ slice_get-map (rename_thread (name_of c)) (map (thread_part l) v.threads) n ∙ ap (option_map (rename_thread (name_of c))) (slice_get-map (thread_part l) v.threads n) ∙ twice (slice_get v.threads n)
     where
       twice : (x : Option held.Thread) → option_map (rename_thread (name_of c)) (option_map (thread_part l) x) ≡ option_map (λ t. rename_thread (name_of c) (thread_part l t)) x
       twice None = refl
@@ -66,38 +67,38 @@ module _ (l : LinkedView) (c : Content ClassId) (ts : List held.Thread) (ss : Li
   some_of None end e = cc
   some_of (Some t) end e = (t, refl, cc)
 
-  pub no_thread : (n : ℕ) → ending_numbered ts n ≡ None → thread_at w n ≡ None
-  no_thread n e = thread_is n ∙ none_of (thread_numbered ts n) e
+  pub no_thread : (n : ℕ) → ending_numbered v.threads n ≡ None → thread_at w n ≡ None
+  no_thread n e = thread_is n ∙ none_of (thread_numbered v.threads n) e
 
-  pub a_thread : (n : ℕ) (end : code.Ending) → ending_numbered ts n ≡ Some end → (t : Thread) × (thread_at w n ≡ Some t) × (t.ending ≡ ending_part l.program end)
+  pub a_thread : (n : ℕ) (end : code.Ending) → ending_numbered v.threads n ≡ Some end → (t : Thread) × (thread_at w n ≡ Some t) × (t.ending ≡ ending_part l.program end)
   a_thread n end e =
-      let x = some_of (thread_numbered ts n) end e in
+      let x = some_of (thread_numbered v.threads n) end e in
       (rename_thread (name_of c) (thread_part l x.0), thread_is n ∙ ap (option_map (λ t. rename_thread (name_of c) (thread_part l t))) x.1, ap (ending_part l.program) x.2)
 
   -- the answer where there is no such thread, or where it has ended
-  pub none_answered : (n : ℕ) → ending_numbered ts n ≡ None → IsAnswered (parts l c ts ss cs o s) kind.None (after_event w (Step n))
-  none_answered n e = subst (λ t. IsAnswered (parts l c ts ss cs o s) kind.None (after_thread w n t)) (sym (no_thread n e)) (record { world = m; reply = refl })
+  pub none_answered : (n : ℕ) → ending_numbered v.threads n ≡ None → IsAnswered (parts l c v) kind.None (after_event w (Step n))
+  none_answered n e = subst (λ t. IsAnswered (parts l c v) kind.None (after_thread w n t)) (sym (no_thread n e)) (record { world = m; reply = refl })
 
-  ended_thread : (n : ℕ) (t : Thread) → is_running t.ending ≡ false → IsAnswered (parts l c ts ss cs o s) kind.Ended (after_thread w n (Some t))
-  ended_thread n t e = subst (λ b. IsAnswered (parts l c ts ss cs o s) kind.Ended (elim b [ true ↦ after_step w (step_thread w n t) | false ↦ answered kind.Ended w ])) (sym e) (record { world = m; reply = refl })
+  ended_thread : (n : ℕ) (t : Thread) → is_running t.ending ≡ false → IsAnswered (parts l c v) kind.Ended (after_thread w n (Some t))
+  ended_thread n t e = subst (λ b. IsAnswered (parts l c v) kind.Ended (elim b [ true ↦ after_step w (step_thread w n t) | false ↦ answered kind.Ended w ])) (sym e) (record { world = m; reply = refl })
 
-  pub ended_answered : (n : ℕ) (end : code.Ending) → ending_numbered ts n ≡ Some end → is_running (ending_part l.program end) ≡ false → IsAnswered (parts l c ts ss cs o s) kind.Ended (after_event w (Step n))
+  pub ended_answered : (n : ℕ) (end : code.Ending) → ending_numbered v.threads n ≡ Some end → is_running (ending_part l.program end) ≡ false → IsAnswered (parts l c v) kind.Ended (after_event w (Step n))
   ended_answered n end e r =
       let x = a_thread n end e in
-      subst (λ t. IsAnswered (parts l c ts ss cs o s) kind.Ended (after_thread w n t)) (sym x.1) (ended_thread n x.0 (ap is_running x.2 ∙ r))
+      subst (λ t. IsAnswered (parts l c v) kind.Ended (after_thread w n t)) (sym x.1) (ended_thread n x.0 (ap is_running x.2 ∙ r))
 
   -- a thread that runs makes a step
-  pub steps : (n : ℕ) → ending_numbered ts n ≡ Some Running → (t : Thread) × (thread_at w n ≡ Some t) × (after_event w (Step n) ≡ after_step w (step_thread w n t))
+  pub steps : (n : ℕ) → ending_numbered v.threads n ≡ Some Running → (t : Thread) × (thread_at w n ≡ Some t) × (after_event w (Step n) ≡ after_step w (step_thread w n t))
   steps n e =
       let x = a_thread n Running e in
       (x.0, x.1, ap (after_thread w n) x.1 ∙ ap (λ b. elim b as (λ v. After) [ true ↦ after_step w (step_thread w n x.0) | false ↦ answered kind.Ended w ]) (ap is_running x.2))
 
   -- a machine that has stopped stays, and one that has not makes the event
-  pub after_stop : (stop : Stop) → s ≡ Some stop → (e : Event) → IsAnswered (parts l c ts ss cs o s) kind.Stopped (after w e)
+  pub after_stop : (stop : Stop) → v.stop ≡ Some stop → (e : Event) → IsAnswered (parts l c v) kind.Stopped (after w e)
   unfolding after
-  after_stop stop e event = subst (λ x. IsAnswered (parts l c ts ss cs o s) kind.Stopped (elim x [ Some t ↦ answered kind.Stopped w | None ↦ after_event w event ])) (sym e ∙ stop_is) (record { world = m; reply = refl })
+  after_stop stop e event = subst (λ x. IsAnswered (parts l c v) kind.Stopped (elim x [ Some t ↦ answered kind.Stopped w | None ↦ after_event w event ])) (sym e ∙ stop_is) (record { world = m; reply = refl })
 
-  pub after_going : s ≡ None → (e : Event) → after w e ≡ after_event w e
+  pub after_going : v.stop ≡ None → (e : Event) → after w e ≡ after_event w e
   unfolding after
   after_going e event = ap (λ x. elim x as (λ v. After) [ Some t ↦ answered kind.Stopped w | None ↦ after_event w event ]) (sym stop_is ∙ e)
 
@@ -106,20 +107,20 @@ module _ (l : LinkedView) (c : Content ClassId) (ts : List held.Thread) (ss : Li
   live_renamed [] = refl
   live_renamed (x ∷ xs) = ap (λ n. elim (is_running x.ending) as (λ v. ℕ) [ true ↦ n + 1 | false ↦ n ]) (live_renamed xs)
 
-  pub made_is : length ts ≡ length w.threads
-  made_is = sym (ap length (sym threads_are) ∙ length-map (map (thread_part l) ts) (rename_thread (name_of c)) ∙ length-map ts (thread_part l))
+  pub made_is : length v.threads ≡ length w.threads
+  made_is = sym (ap length (sym threads_are) ∙ length-map (map (thread_part l) v.threads) (rename_thread (name_of c)) ∙ length-map v.threads (thread_part l))
 
-  pub live_is : (live : ℕ) → live ≡ live_among (map (thread_part l) ts) → live ≡ live_among w.threads
-  live_is live e = e ∙ sym (live_renamed (map (thread_part l) ts)) ∙ ap live_among threads_are
+  pub live_is : (live : ℕ) → live ≡ live_among (map (thread_part l) v.threads) → live ≡ live_among w.threads
+  live_is live e = e ∙ sym (live_renamed (map (thread_part l) v.threads)) ∙ ap live_among threads_are
 
-  pub reply_is : (live : ℕ) (k : ReplyKind) → live ≡ live_among (map (thread_part l) ts) → reply k w ≡ record { kind = k; made = length ts; live = live }
+  pub reply_is : (live : ℕ) (k : ReplyKind) → live ≡ live_among (map (thread_part l) v.threads) → reply k w ≡ record { kind = k; made = length v.threads; live = live }
   reply_is live k e = λ i. record { kind = k; made = sym made_is i; live = sym (live_is live e) i }
 
   -- how a thread has ended
-  pub not_by : (n : ℕ) → ending_numbered ts n ≡ None → class_ended_by (thread_at w n) ≡ None
+  pub not_by : (n : ℕ) → ending_numbered v.threads n ≡ None → class_ended_by (thread_at w n) ≡ None
   not_by n e = ap class_ended_by (no_thread n e)
 
-  pub by_class : (n : ℕ) (end : code.Ending) → ending_numbered ts n ≡ Some end → class_ended_by (thread_at w n) ≡ class_of_ending (ending_part l.program end)
+  pub by_class : (n : ℕ) (end : code.Ending) → ending_numbered v.threads n ≡ Some end → class_ended_by (thread_at w n) ≡ class_of_ending (ending_part l.program end)
   by_class n end e = let x = a_thread n end e in ap class_ended_by x.1 ∙ ap class_of_ending x.2
 
 pub some_is : (s : Option Stop) → is_some s ≡ true → (stop : Stop) × (s ≡ Some stop)
@@ -173,9 +174,9 @@ refused new w next halt e h = by next (subst (λ x. Ended (Err x) new w next) e 
     by (stops s) h = h
     by blocks h = h
 
-pub with_stop : (l : LinkedView) (c : Content ClassId) (ts : List held.Thread) (ss : List Value) (cs : List ClassState) (o : List ℕ) (s : Option Stop) (w : World) (stop : Stop) → Matches (parts l c ts ss cs o s) w → Matches (parts l c ts ss cs o (Some stop)) (record w { stop = Some stop })
+pub with_stop : (l : LinkedView) (c : Content ClassId) (v : StateView) (w : World) (stop : Stop) → Matches (parts l c v) w → Matches (parts l c (record v { stop = Some stop })) (record w { stop = Some stop })
 unfolding parts
-with_stop l c ts ss cs o s w stop m = record {
+with_stop l c v w stop m = record {
   sound = m.sound;
   resident = m.resident;
   limit = m.limit;
@@ -192,10 +193,10 @@ with_stop l c ts ss cs o s w stop m = record {
   stop = refl;
 }
 
-pub stopped : (l : LinkedView) (c : Content ClassId) (ts : List held.Thread) (ss : List Value) (cs : List ClassState) (o : List ℕ) (s : Option Stop) (w : World) (next : Next) (halt : Halt) (stop : Stop) → halt ≡ Stopped stop → Ended (Err halt) (parts l c ts ss cs o s) w next → IsAnswered (parts l c ts ss cs o (Some stop)) kind.Stopped (after_step w next)
-stopped l c ts ss cs o s w next halt stop e h = by next (subst (λ x. Ended (Err x) (parts l c ts ss cs o s) w next) e h)
+pub stopped : (l : LinkedView) (c : Content ClassId) (v : StateView) (w : World) (next : Next) (halt : Halt) (stop : Stop) → halt ≡ Stopped stop → Ended (Err halt) (parts l c v) w next → IsAnswered (parts l c (record v { stop = Some stop })) kind.Stopped (after_step w next)
+stopped l c v w next halt stop e h = by next (subst (λ x. Ended (Err x) (parts l c v) w next) e h)
   where
-    by : (next : Next) → Ended (Err (Stopped stop)) (parts l c ts ss cs o s) w next → IsAnswered (parts l c ts ss cs o (Some stop)) kind.Stopped (after_step w next)
+    by : (next : Next) → Ended (Err (Stopped stop)) (parts l c v) w next → IsAnswered (parts l c (record v { stop = Some stop })) kind.Stopped (after_step w next)
     by (goes v) h = absurd h
-    by (stops t) h = subst (λ x. IsAnswered (parts l c ts ss cs o (Some stop)) kind.Stopped (after_step w (stops x))) (sym h.0) (record { world = with_stop l c ts ss cs o s w stop h.1; reply = refl })
+    by (stops t) h = subst (λ x. IsAnswered (parts l c (record v { stop = Some stop })) kind.Stopped (after_step w (stops x))) (sym h.0) (record { world = with_stop l c v w stop h.1; reply = refl })
     by blocks h = absurd h

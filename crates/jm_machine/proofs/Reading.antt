@@ -13,19 +13,21 @@ use Rattle.jm_world.specs.Frames.{rename_frame, optional_number_shape}
 use Rattle.jm_world.specs.Loading.{first_statics}
 use Rattle.jm_world.specs.Matches.{Matches, as_named}
 use Rattle.jm_world.specs.Monitors.{monitor_in}
-use Rattle.jm_world.specs.Renaming.{rename_thread}
+use Rattle.jm_world.specs.Renaming.{rename_thread, monitor_shape}
 use Rattle.jm_world.specs.World.{World, thread_at, object_at, reach}
 use Rattle.jm_world.specs.declared.class_state.ClassState.{ClassState}
 use Rattle.jm_world.specs.declared.stop.Stop.{Stop}
 use Rattle.jm_world.proofs.Reaching.{reach_is_least}
 use Rattle.jm_heap.specs.declared.class_id.ClassId.{ClassId}
 use Rattle.jm_linked.specs.Links.{LinkedView}
-use Rattle.jm_state.specs.Parts.{parts, frame_part, thread_part, named_type}
-use Rattle.jm_state.specs.Places.{stack_frame_shape, held_thread, held_thread_shape, places_of}
+use Rattle.jm_state.specs.Parts.{parts, monitor_part, frame_part, thread_part, named_type}
+use Rattle.jm_state.specs.Places.{HeldThread, stack_frame_shape, live_object, held_thread, held_thread_shape, places_of}
 use Rattle.jm_state.specs.Runnable.{IsRunnable, ThreadRuns, FrameRuns}
 use Rattle.jm_state.specs.declared.thread.StackFrame.{StackFrame}
 use Rattle.jm_state.specs.declared.thread.Thread as held
+use Rattle.jm_state.proofs.Alike.{AreCounted}
 use Rattle.jm_state.proofs.Made.{all_resident}
+use Rattle.jm_state.specs.View.{StateView}
 use Rattle.jm_machine.specs.Readers.{frame_at, pending_of}
 use Rattle.jm_machine.specs.Seen.{object_seen, statics_seen}
 use Rattle.jm_machine.specs.Threads.{thread_numbered, frame_below, frame_numbered, pending_in, pending_numbered}
@@ -39,9 +41,9 @@ all_at P (y ∷ xs) zero x all e = let h : y ≡ x = cc in subst P h all.0
 all_at P (y ∷ xs) (suc i) x all e = all_at P xs i x all.1 e
 
 -- what holds of all threads holds of that of a number
-thread_at_number : (P : held.Thread → Type 0) (ts : List held.Thread) (n : ℕ) (t : held.Thread) → AllByRecursion P ts → thread_numbered ts n ≡ Some t → P t
+thread_at_number : (P : HeldThread → Type 0) (ts : List held.Thread) (n : ℕ) (t : held.Thread) → AllByRecursion P (map held_thread ts) → thread_numbered ts n ≡ Some t → P (held_thread t)
 thread_at_number P ts zero t all e = cc
-thread_at_number P ts (suc n) t all e = all_at P ts n t all e
+thread_at_number P ts (suc n) t all e = all_at P (map held_thread ts) n (held_thread t) all (slice_get-map held_thread ts n ∙ ap (option_map held_thread) e)
 
 -- the thread whose frame or pending exception it is
 frame_found : (o : Option held.Thread) (depth : ℕ) (x : StackFrame) → frame_below o depth ≡ Some x → (t : held.Thread) × (o ≡ Some t) × (slice_get (reverse t.frames.items) depth ≡ Some x)
@@ -52,19 +54,19 @@ pending_found : (o : Option held.Thread) (p : ℕ) → pending_in o ≡ Some p �
 pending_found None p e = cc
 pending_found (Some t) p e = (t, refl, e)
 
-pub frame_runs : (l : LinkedView) (ts : List held.Thread) (live : ℕ) (ss : List Value) (cs : List ClassState) → IsRunnable l ts live ss cs → (n depth : ℕ) (x : StackFrame) → frame_numbered ts n depth ≡ Some x → FrameRuns l x
-frame_runs l ts live ss cs runs n depth x e =
-    let f = frame_found (thread_numbered ts n) depth x e in
-    all_at (FrameRuns l) (reverse f.0.frames.items) depth x (thread_at_number (ThreadRuns l) ts n f.0 runs.threads f.1).frames f.2
+pub frame_runs : (l : LinkedView) (v : StateView) → IsRunnable l v → (n depth : ℕ) (x : StackFrame) → frame_numbered v.threads n depth ≡ Some x → FrameRuns l x
+frame_runs l v runs n depth x e =
+    let f = frame_found (thread_numbered v.threads n) depth x e in
+    all_at (FrameRuns l) (reverse f.0.frames.items) depth x (thread_at_number (ThreadRuns l) v.threads n f.0 runs.threads f.1).frames f.2
 
 -- the places of a thread of a number
 thread_places_among : (ts : List held.Thread) (n : ℕ) (t : held.Thread) (p : ℕ) → thread_numbered ts n ≡ Some t → Among p (held_thread_shape.refs (held_thread t)) → Among p ((list_shape held_thread_shape).refs (map held_thread ts))
 thread_places_among ts zero t p e a = cc
 thread_places_among ts (suc n) t p e a = among_element held_thread_shape (map held_thread ts) n (held_thread t) p (slice_get-map held_thread ts n ∙ ap (option_map held_thread) e) a
 
-module _ (l : LinkedView) (c : Content ClassId) (ts : List held.Thread) (ss : List Value) (cs : List ClassState) (o : List ℕ) (s : Option Stop) (w : World) (m : Matches (parts l c ts ss cs o s) w) where
-  frames_read : (n depth : ℕ) → frame_at (thread_at w n) depth ≡ option_map (rename_frame (name_of c)) (option_map (frame_part l) (frame_numbered ts n depth))
-  frames_read n depth = ap (λ u. frame_at u depth) (thread_is l c ts ss cs o s w m n) ∙ by (thread_numbered ts n)
+module _ (l : LinkedView) (c : Content ClassId) (v : StateView) (w : World) (m : Matches (parts l c v) w) where
+  frames_read : (n depth : ℕ) → frame_at (thread_at w n) depth ≡ option_map (rename_frame (name_of c)) (option_map (frame_part l) (frame_numbered v.threads n depth))
+  frames_read n depth = ap (λ u. frame_at u depth) (thread_is l c v w m n) ∙ by (thread_numbered v.threads n)
     where
       by : (x : Option held.Thread) → frame_at (option_map (λ t. rename_thread (name_of c) (thread_part l t)) x) depth ≡ option_map (rename_frame (name_of c)) (option_map (frame_part l) (frame_below x depth))
       by None = refl
@@ -72,26 +74,26 @@ module _ (l : LinkedView) (c : Content ClassId) (ts : List held.Thread) (ss : Li
           slice_get-map (rename_frame (name_of c)) (map (frame_part l) (reverse t.frames.items)) depth
           ∙ ap (option_map (rename_frame (name_of c))) (slice_get-map (frame_part l) (reverse t.frames.items) depth)
 
-  pub frame_read : (n depth : ℕ) (x : StackFrame) → frame_numbered ts n depth ≡ Some x → frame_at (thread_at w n) depth ≡ Some (rename_frame (name_of c) (frame_part l x))
+  pub frame_read : (n depth : ℕ) (x : StackFrame) → frame_numbered v.threads n depth ≡ Some x → frame_at (thread_at w n) depth ≡ Some (rename_frame (name_of c) (frame_part l x))
   frame_read n depth x e = frames_read n depth ∙ ap (λ u. option_map (rename_frame (name_of c)) (option_map (frame_part l) u)) e
 
-  pub no_frame : (n depth : ℕ) → frame_numbered ts n depth ≡ None → frame_at (thread_at w n) depth ≡ None
+  pub no_frame : (n depth : ℕ) → frame_numbered v.threads n depth ≡ None → frame_at (thread_at w n) depth ≡ None
   no_frame n depth e = frames_read n depth ∙ ap (λ u. option_map (rename_frame (name_of c)) (option_map (frame_part l) u)) e
 
-  pub pending_read : (n : ℕ) (p : Option ℕ) → pending_numbered ts n ≡ p → pending_of (thread_at w n) ≡ option_map (name_of c) p
-  pending_read n p e = ap pending_of (thread_is l c ts ss cs o s w m n) ∙ by (thread_numbered ts n) ∙ ap (option_map (name_of c)) e
+  pub pending_read : (n : ℕ) (p : Option ℕ) → pending_numbered v.threads n ≡ p → pending_of (thread_at w n) ≡ option_map (name_of c) p
+  pending_read n p e = ap pending_of (thread_is l c v w m n) ∙ by (thread_numbered v.threads n) ∙ ap (option_map (name_of c)) e
     where
       by : (x : Option held.Thread) → pending_of (option_map (λ t. rename_thread (name_of c) (thread_part l t)) x) ≡ option_map (name_of c) (pending_in x)
       by None = refl
       by (Some t) = refl
 
-  pub statics_read : statics_seen l c ss ≡ w.statics
+  pub statics_read : statics_seen l c v.statics ≡ w.statics
   unfolding parts
   statics_read = m.statics
 
-  pub monitors_read : (k : ℕ) → None ≡ monitor_in w.monitors k
+  pub monitors_read : v.monitors ≡ [] → (k : ℕ) → None ≡ monitor_in w.monitors k
   unfolding parts
-  monitors_read k = ap (λ ms. monitor_in ms k) m.monitors
+  monitors_read none k = ap (λ ms. monitor_in ((list_shape monitor_shape).rename (name_of c) (map monitor_part ms)) k) (sym none) ∙ ap (λ ms. monitor_in ms k) m.monitors
 
   pub is_sound : IsSound c
   unfolding parts
@@ -106,24 +108,24 @@ module _ (l : LinkedView) (c : Content ClassId) (ts : List held.Thread) (ss : Li
       ∙ ap (option_map (as_named (named_type l.program))) (ap (content.object_at c) (sym same) ∙ there.3)
       ∙ ap Some (sym (seen_is l c p m.sound (k, e)))
 
-  module _ (long : length ss ≡ length (first_statics l.program)) where
-    all_here : AllResident c (places_of ts ss)
-    all_here = all_resident l c ts ss cs o s w long m
+  module _ (n : AreCounted l v) where
+    all_here : AllResident c (places_of v)
+    all_here = all_resident l c v w n m (places_of v) refl
 
-    thread_resident : (n : ℕ) (t : held.Thread) → thread_numbered ts n ≡ Some t → AllResident c (held_thread_shape.refs (held_thread t))
+    thread_resident : (n : ℕ) (t : held.Thread) → thread_numbered v.threads n ≡ Some t → AllResident c (held_thread_shape.refs (held_thread t))
     unfolding places_of
-    thread_resident n t e = λ p a. all_here p (among_left p ((list_shape held_thread_shape).refs (map held_thread ts)) (stack_shape.refs ss) (thread_places_among ts n t p e a))
+    thread_resident n t e = λ p a. all_here p (among_left p ((list_shape held_thread_shape).refs (map held_thread v.threads)) _ (thread_places_among v.threads n t p e a))
 
-    pub frame_resident : (n depth : ℕ) (x : StackFrame) → frame_numbered ts n depth ≡ Some x → AllResident c (stack_frame_shape.refs x)
+    pub frame_resident : (n depth : ℕ) (x : StackFrame) → frame_numbered v.threads n depth ≡ Some x → AllResident c (stack_frame_shape.refs x)
     frame_resident n depth x e =
-        let f = frame_found (thread_numbered ts n) depth x e in
-        λ p a. thread_resident n f.0 f.1 p (among_right p (optional_number_shape.refs f.0.pending) ((list_shape stack_frame_shape).refs (reverse f.0.frames.items)) (among_element stack_frame_shape (reverse f.0.frames.items) depth x p f.2 a))
+        let f = frame_found (thread_numbered v.threads n) depth x e in
+        λ p a. thread_resident n f.0 f.1 p (among_right p (optional_number_shape.refs (live_object f.0.ending f.0.object)) _ (among_right p (optional_number_shape.refs f.0.pending) ((list_shape stack_frame_shape).refs (reverse f.0.frames.items)) (among_element stack_frame_shape (reverse f.0.frames.items) depth x p f.2 a)))
 
-    pub pending_resident : (n p : ℕ) → pending_numbered ts n ≡ Some p → (k : ℕ) × (serial_at c p ≡ Some k)
+    pub pending_resident : (n p : ℕ) → pending_numbered v.threads n ≡ Some p → (k : ℕ) × (serial_at c p ≡ Some k)
     pending_resident n p e =
-        let f = pending_found (thread_numbered ts n) p e in
-        thread_resident n f.0 f.1 p (among_left p (optional_number_shape.refs f.0.pending) ((list_shape stack_frame_shape).refs (reverse f.0.frames.items)) (subst (λ (x : Option ℕ). Among p (optional_number_shape.refs x)) (sym f.2) (inl refl)))
+        let f = pending_found (thread_numbered v.threads n) p e in
+        thread_resident n f.0 f.1 p (among_right p (optional_number_shape.refs (live_object f.0.ending f.0.object)) _ (among_left p (optional_number_shape.refs f.0.pending) ((list_shape stack_frame_shape).refs (reverse f.0.frames.items)) (subst (λ (x : Option ℕ). Among p (optional_number_shape.refs x)) (sym f.2) (inl refl))))
 
-    pub statics_resident : AllResident c (stack_shape.refs ss)
+    pub statics_resident : AllResident c (stack_shape.refs v.statics)
     unfolding places_of
-    statics_resident = λ p a. all_here p (among_right p ((list_shape held_thread_shape).refs (map held_thread ts)) (stack_shape.refs ss) a)
+    statics_resident = λ p a. all_here p (among_right p ((list_shape held_thread_shape).refs (map held_thread v.threads)) _ (among_left p (stack_shape.refs v.statics) _ a))

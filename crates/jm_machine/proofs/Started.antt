@@ -16,7 +16,7 @@ use Rattle.jm_world.specs.Objects.{Object, cells_of_all, new_array, size_of}
 use Rattle.jm_world.specs.Frames.{Frame, method_frame, initialization_frame, rename_frame}
 use Rattle.jm_world.specs.World.{Static, running, is_running, refs_thread}
 use Rattle.jm_values.specs.Content.{Content, AllResident, name_of, serial_at, object_at}
-use Rattle.jm_world.specs.Renaming.{static_shape, rename_thread}
+use Rattle.jm_world.specs.Renaming.{static_shape, literal_shape, rename_thread}
 use Rattle.jm_world.specs.Invocation.{padded, unset, locals_of, activation_of}
 use Rattle.jm_world.specs.Loading.{loaded_world, first_objects, objects_from, literals_from, literal_texts, first_statics, first_thread, first_frames as model_frames, main_in, out_field, statics_of_class, is_too_small}
 use Rattle.jm_world.specs.Matches.{Matches, places, as_named}
@@ -27,8 +27,10 @@ use Rattle.jm_world.proofs.LoadsWellFormed.{runs_are_well_formed}
 use Rattle.jm_heap.specs.declared.class_id.ClassId.{ClassId}
 use Rattle.jm_linked.specs.Links.{LinkedView, IsLinked, MethodLinks, name_of_number, name_among, name_in_class, member_name, class_name_of}
 use Rattle.jm_linked.specs.declared.method.LinkedMethod.{LinkedMethod}
-use Rattle.jm_state.specs.Parts.{parts, named_type, named_statics, named_states, thread_part, program_class_name, name_in_program, ending_part, frame_part, frames_part}
-use Rattle.jm_state.specs.Runnable.{IsRunnable, FrameRuns, StandOnTop}
+use Rattle.jm_state.specs.Parts.{parts, named_type, named_statics, named_literals, named_states, thread_part, part_of_held, program_class_name, name_in_program, ending_part, frame_part}
+use Rattle.jm_state.specs.Places.{held_thread}
+use Rattle.jm_state.specs.View.{StateView}
+use Rattle.jm_state.specs.Runnable.{IsRunnable, ThreadRuns, ThreadNotYet}
 use Rattle.jm_state.specs.declared.thread.Thread as held
 use Rattle.jm_state.specs.declared.thread.Ending.TheVariants.{Running}
 use Rattle.jm_machine.specs.Start.{HasFirst, stream, arguments, first_frames}
@@ -100,21 +102,6 @@ module _ (l : LinkedView) (linked : IsLinked l) where
   frames_are f array e =
       (λ i. initialization_frame (class_named_is i) Begin ∷ method_frame (number_named i) (activation_is f array e i) None ∷ []) ∙ sym model_frames_are
 
-  thread_is : (f : ℕ → ℕ) (array : ℕ) (t : held.Thread) → f array ≡ 1 → t.frames.items ≡ first_frames l.main linked.main array → t.pending ≡ None → t.ending ≡ Running → rename_thread f (thread_part l t) ≡ first_thread (main_in l.program)
-  thread_is f array t e frames pending ending =
-      ap (λ fs. rename_thread f (record { object = None; frames = frames_part l fs; pending = t.pending; ending = ending_part l.program t.ending })) frames
-      ∙ ap (λ p. rename_thread f (record { object = None; frames = frames_part l (first_frames l.main linked.main array); pending = p; ending = ending_part l.program t.ending })) pending
-      ∙ ap (λ x. rename_thread f (record { object = None; frames = frames_part l (first_frames l.main linked.main array); pending = None; ending = ending_part l.program x })) ending
-      ∙ ap (λ (fs : List Frame). record { object = None; frames = fs; pending = None; ending = running }) (frames_are f array e)
-      ∙ ap first_thread (sym linked.found_is)
-
-  thread_refs : (array : ℕ) (t : held.Thread) → t.frames.items ≡ first_frames l.main linked.main array → t.pending ≡ None → t.ending ≡ Running → refs_thread (thread_part l t) ≡ array ∷ []
-  thread_refs array t frames pending ending =
-      ap (λ fs. refs_thread (record { object = None; frames = frames_part l fs; pending = t.pending; ending = ending_part l.program t.ending })) frames
-      ∙ ap (λ p. refs_thread (record { object = None; frames = frames_part l (first_frames l.main linked.main array); pending = p; ending = ending_part l.program t.ending })) pending
-      ∙ ap (λ x. refs_thread (record { object = None; frames = frames_part l (first_frames l.main linked.main array); pending = None; ending = ending_part l.program x })) ending
-      ∙ rw (unset_refs (linked.main.max_locals - 1)) refl
-
 -- the one static field
 statics_are : (f : ℕ → ℕ) (out : ℕ) (ss : List Static) → ss ≡ [] → f out ≡ 0 → (list_shape static_shape).rename f (named_statics (record { field = out_field; value = Ref 0 } ∷ ss) (Ref out ∷ [])) ≡ record { field = out_field; value = Ref 0 } ∷ ss
 statics_are f out [] e n = ap (λ (k : ℕ). record { field = out_field; value = Ref k } ∷ []) n
@@ -134,86 +121,92 @@ objects_are program old c out array h rest (suc (suc k)) b = absurd (omega arith
 heap_length : (program : List ClassParts) → literal_texts program ≡ [] → length (first_objects program) ≡ 2
 heap_length program e = ap (λ ts. suc (suc (length (objects_from 2 ts)))) e
 
-places_are : (l : LinkedView) (i : IsLinked l) (c : Content ClassId) (out array : ℕ) (t : held.Thread) (states : List ClassState) (output : List ℕ)
-    → t.frames.items ≡ first_frames l.main i.main array → t.pending ≡ None → t.ending ≡ Running
-    → places (parts l c (t ∷ []) (Ref out ∷ []) states output None) ≡ array ∷ out ∷ []
-unfolding parts
-places_are l i c out array t states output f p e =
-    ap (λ xs. ((xs ++ []) ++ (list_shape static_shape).refs (named_statics (first_statics l.program) (Ref out ∷ []))) ++ [] ++ []) (thread_refs l i array t f p e)
-    ∙ ap (λ xs. ((array ∷ []) ++ xs) ++ [] ++ []) (static_refs out (flat_map statics_of_class l.program) (no_statics l.program i.whole))
+-- the state from which a run begins
+abbrev pub first_view : ℕ → held.Thread → List ClassState → StateView
+first_view out t states = record { threads = t ∷ []; live = 1; statics = Ref out ∷ []; classes = states; literals = []; monitors = []; output = []; stop = None }
 
--- the state from which a run begins is that of the loaded world
-pub started : (l : LinkedView) (old c : Content ClassId) (out array : ℕ) (t : held.Thread) (states : List ClassState) (output : List ℕ) → IsLinked l → HasFirst old c out array
-    → ((m : LinkedMethod) → slice_get l.methods l.main ≡ Some m → t.frames.items ≡ first_frames l.main m array) → t.pending ≡ None → t.ending ≡ Running
-    → states ≡ replicate (length l.program) NotBegun → output ≡ []
-    → Matches (parts l c (t ∷ []) (Ref out ∷ []) states output None) (loaded_world l.program old.limit)
-unfolding parts loaded_world
-started l old c out array t states output i h frames pending ending states_is output_is =
-    let none = no_literals l.program i.whole in
-    let long : length (first_objects l.program) ≡ 2 = heap_length l.program none in
-    let at_array : name_of c array ≡ 1 = named c array 1 h.array_at in
-    let at_out : name_of c out ≡ 0 = named c out 0 h.out_at in
-    let held_places : places (parts l c (t ∷ []) (Ref out ∷ []) states output None) ≡ array ∷ out ∷ [] = places_are l i c out array t states output (frames i.main i.main_is) pending ending in
-    let bounded = (runs_are_well_formed l.program old.limit []).1 in
-    record {
-      sound = h.sound;
-      resident = subst (AllResident c) (sym held_places) (both_resident c out array h.array_at h.out_at);
-      limit = h.limit;
-      next = h.next ∙ sym long;
-      bound = bounded;
-      objects = λ k r. let below : k < length (first_objects l.program) = bounded k r in objects_are l.program old c out array h (objects_from 2 (literal_texts l.program)) k (omega (arith, below, long));
-      threads = ap (λ x. x ∷ []) (thread_is l i (name_of c) array t at_array (frames i.main i.main_is) pending ending);
-      statics = statics_are (name_of c) out (flat_map statics_of_class l.program) (no_statics l.program i.whole) at_out;
+-- main's thread, with these frames and nothing else
+pub record IsFirst (l : LinkedView) (t : held.Thread) (array : ℕ) : Type 0 where
+  pub object : t.object ≡ None
+  pub frames : (m : LinkedMethod) → slice_get l.methods l.main ≡ Some m → t.frames.items ≡ first_frames l.main m array
+  pub pending : t.pending ≡ None
+  pub ending : t.ending ≡ Running
+
+no_named : (ts : List (List ℕ)) → named_literals ts [] ≡ []
+no_named [] = refl
+no_named (t ∷ ts) = refl
+
+module _ (l : LinkedView) (i : IsLinked l) (out array : ℕ) (t : held.Thread) (h : IsFirst l t array) where
+  first_held : held_thread t ≡ record { object = None; frames = reverse (first_frames l.main i.main array); pending = None; ending = Running }
+  first_held = λ j. record { object = h.object j; frames = reverse (h.frames i.main i.main_is j); pending = h.pending j; ending = h.ending j }
+
+  thread_is : (f : ℕ → ℕ) → f array ≡ 1 → rename_thread f (thread_part l t) ≡ first_thread (main_in l.program)
+  thread_is f e =
+      ap (λ x. rename_thread f (part_of_held l x)) first_held
+      ∙ ap (λ (fs : List Frame). record { object = None; frames = fs; pending = None; ending = running }) (frames_are l i f array e)
+      ∙ ap first_thread (sym i.found_is)
+
+  thread_refs : refs_thread (thread_part l t) ≡ array ∷ []
+  thread_refs = ap (λ x. refs_thread (part_of_held l x)) first_held ∙ rw (unset_refs (i.main.max_locals - 1)) refl
+
+  places_are : (c : Content ClassId) (states : List ClassState) → places (parts l c (first_view out t states)) ≡ array ∷ out ∷ []
+  unfolding parts
+  places_are c states =
+      ap (λ xs. ((xs ++ []) ++ (list_shape static_shape).refs (named_statics (first_statics l.program) (Ref out ∷ []))) ++ [] ++ (list_shape literal_shape).refs (named_literals (literal_texts l.program) [])) thread_refs
+      ∙ ap (λ xs. ((array ∷ []) ++ xs) ++ [] ++ (list_shape literal_shape).refs (named_literals (literal_texts l.program) [])) (static_refs out (flat_map statics_of_class l.program) (no_statics l.program i.whole))
+      ∙ ap (λ ls. ((array ∷ []) ++ (out ∷ [])) ++ [] ++ (list_shape literal_shape).refs ls) (no_named (literal_texts l.program))
+
+  both_resident : (c : Content ClassId) → serial_at c array ≡ Some 1 → serial_at c out ≡ Some 0 → AllResident c (array ∷ out ∷ [])
+  both_resident c a o p (inl e) = (1, ap (serial_at c) e ∙ a)
+  both_resident c a o p (inr (inl e)) = (0, ap (serial_at c) e ∙ o)
+  both_resident c a o p (inr (inr e)) = absurd e
+
+  -- it is that of the loaded world
+  pub started : (old c : Content ClassId) (states : List ClassState) → HasFirst old c out array → states ≡ replicate (length l.program) NotBegun → Matches (parts l c (first_view out t states)) (loaded_world l.program old.limit)
+  unfolding parts loaded_world
+  started old c states first states_is =
+      let none = no_literals l.program i.whole in
+      let long : length (first_objects l.program) ≡ 2 = heap_length l.program none in
+      let at_array : name_of c array ≡ 1 = named c array 1 first.array_at in
+      let at_out : name_of c out ≡ 0 = named c out 0 first.out_at in
+      let bounded = (runs_are_well_formed l.program old.limit []).1 in
+      record {
+        sound = first.sound;
+        resident = subst (AllResident c) (sym (places_are c states)) (both_resident c first.array_at first.out_at);
+        limit = first.limit;
+        next = first.next ∙ sym long;
+        bound = bounded;
+        objects = λ k r. let below : k < length (first_objects l.program) = bounded k r in objects_are l.program old c out array first (objects_from 2 (literal_texts l.program)) k (omega (arith, below, long));
+        threads = ap (λ x. x ∷ []) (thread_is (name_of c) at_array);
+        statics = statics_are (name_of c) out (flat_map statics_of_class l.program) (no_statics l.program i.whole) at_out;
+        monitors = refl;
+        literals = ap ((list_shape literal_shape).rename (name_of c)) (no_named (literal_texts l.program)) ∙ ap (literals_from 2) (sym none);
+        program = refl;
+        classes = ap (named_states l.program) states_is ∙ states_are l.program;
+        output = refl;
+        stop = refl;
+      }
+
+  -- and it keeps to what every state of a run keeps to
+  pub starts : (states : List ClassState) → states ≡ replicate (length l.program) NotBegun → IsRunnable l (first_view out t states)
+  starts states states_is = record {
+    threads = (
+      subst (ThreadRuns l) (sym first_held) (record {
+        frames = (slice_get_within l.program i.main.class _ (links l i).class_is, (slice_get_within l.methods l.main i.main i.main_is, tt));
+        few = omega arith;
+      }),
+      tt,
+    );
+    live = ap (λ e. elim (is_running (ending_part l.program e)) as (λ v. ℕ) [ true ↦ 0 + 1 | false ↦ 0 ]) (sym h.ending);
+    statics = ap (λ ss. suc (length ss)) (sym (no_statics l.program i.whole));
+    literals = ap length (sym (no_literals l.program i.whole));
+    classes = ap length states_is ∙ length-replicate (length l.program) NotBegun;
+    not_yet = record {
+      threads = (subst ThreadNotYet (sym first_held) (record { object = refl; monitors = (tt, (refl, tt)); initializers = (tt, tt) }), tt);
       monitors = refl;
-      literals = ap (literals_from 2) (sym none);
-      program = refl;
-      classes = ap (named_states l.program) states_is ∙ states_are l.program;
-      output = output_is;
-      stop = refl;
-    }
-  where
-    both_resident : (c : Content ClassId) (out array : ℕ) → serial_at c array ≡ Some 1 → serial_at c out ≡ Some 0 → AllResident c (array ∷ out ∷ [])
-    both_resident c out array a o p (inl e) = (1, ap (serial_at c) e ∙ a)
-    both_resident c out array a o p (inr (inl e)) = (0, ap (serial_at c) e ∙ o)
-    both_resident c out array a o p (inr (inr e)) = absurd e
-
--- the same of lists that have these parts
-pub started_lists : (l : LinkedView) (old c : Content ClassId) (out array : ℕ) (t : held.Thread) (ts : List held.Thread) (ss : List Value) (states : List ClassState) (output : List ℕ) → IsLinked l → HasFirst old c out array
-    → ((m : LinkedMethod) → slice_get l.methods l.main ≡ Some m → t.frames.items ≡ first_frames l.main m array) → t.pending ≡ None → t.ending ≡ Running
-    → ts ≡ t ∷ [] → ss ≡ Ref out ∷ [] → states ≡ replicate (length l.program) NotBegun → output ≡ []
-    → Matches (parts l c ts ss states output None) (loaded_world l.program old.limit)
-started_lists l old c out array t ts ss states output i h f p e ts_are ss_are s o =
-    subst (λ x. Matches (parts l c x ss states output None) (loaded_world l.program old.limit)) (sym ts_are)
-    (subst (λ x. Matches (parts l c (t ∷ []) x states output None) (loaded_world l.program old.limit)) (sym ss_are) (started l old c out array t states output i h f p e s o))
-
--- and it keeps to what every state of a run keeps to
-pub starts : (l : LinkedView) (out array : ℕ) (t : held.Thread) (states : List ClassState) → IsLinked l
-    → ((m : LinkedMethod) → slice_get l.methods l.main ≡ Some m → t.frames.items ≡ first_frames l.main m array) → t.pending ≡ None → t.ending ≡ Running
-    → states ≡ replicate (length l.program) NotBegun
-    → IsRunnable l (t ∷ []) 1 (Ref out ∷ []) states
-starts l out array t states i frames pending ending states_is =
-    let f = frames i.main i.main_is in
-    record {
-      threads = (
-        record {
-          frames = subst (λ fs. AllByRecursion (FrameRuns l) (reverse fs)) (sym f) (slice_get_within l.program i.main.class _ (links l i).class_is, ((slice_get_within l.methods l.main i.main i.main_is, refl), tt));
-          top = subst (λ fs. StandOnTop t.pending (reverse fs)) (sym f) (subst (λ p. StandOnTop p (reverse (first_frames l.main i.main array))) (sym pending) (tt, tt));
-          few = subst (λ fs. length fs ≤ 512) (sym f) (omega arith);
-        },
-        tt,
-      );
-      live = ap (λ e. elim (is_running (ending_part l.program e)) as (λ v. ℕ) [ true ↦ 0 + 1 | false ↦ 0 ]) (sym ending);
-      statics = ap (λ ss. suc (length ss)) (sym (no_statics l.program i.whole));
-      classes = ap length states_is ∙ length-replicate (length l.program) NotBegun;
-      begun = subst (AllByRecursion (λ s. s ≢ Failed)) (sym states_is) (none_failed (length l.program));
-    }
-
-pub starts_lists : (l : LinkedView) (out array : ℕ) (t : held.Thread) (ts : List held.Thread) (ss : List Value) (states : List ClassState) → IsLinked l
-    → ((m : LinkedMethod) → slice_get l.methods l.main ≡ Some m → t.frames.items ≡ first_frames l.main m array) → t.pending ≡ None → t.ending ≡ Running
-    → ts ≡ t ∷ [] → ss ≡ Ref out ∷ [] → states ≡ replicate (length l.program) NotBegun
-    → IsRunnable l ts 1 ss states
-starts_lists l out array t ts ss states i f p e ts_are ss_are s =
-    subst (λ x. IsRunnable l x 1 ss states) (sym ts_are) (subst (λ x. IsRunnable l (t ∷ []) 1 x states) (sym ss_are) (starts l out array t states i f p e s))
+      failures = subst (AllByRecursion (λ s. s ≢ Failed)) (sym states_is) (none_failed (length l.program));
+    };
+  }
 
 -- where they are too small for a heap
 pub too_small : (l : LinkedView) (limit : ℕ) → IsLinked l → is_too_small l.program limit ≡ nat_lt limit 5

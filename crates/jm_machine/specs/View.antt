@@ -1,37 +1,29 @@
 -- What contracts see of a machine, and the worlds that it matches.
-use Rattle.std.specs.Prelude.{ℕ, List, Option}
-use Rattle.jm_values.specs.declared.value.Value.{Value}
-use Rattle.jm_world.specs.World.{World}
 use Rattle.jm_values.specs.Content.{Content}
 use Rattle.jm_world.specs.Matches.{Parts, Matches}
-use Rattle.jm_world.specs.declared.class_state.ClassState.{ClassState}
-use Rattle.jm_world.specs.declared.stop.Stop.{Stop}
+use Rattle.jm_world.specs.World.{World}
 use Rattle.jm_heap.specs.declared.class_id.ClassId.{ClassId}
 use Rattle.jm_linked.specs.Links.{LinkedView}
 use Rattle.jm_state.specs.Parts.{parts}
 use Rattle.jm_state.specs.Runnable.{IsRunnable}
-use Rattle.jm_state.specs.declared.thread.Thread.{Thread}
+use Rattle.jm_state.specs.View.{StateView}
 
 -- a linked program with what its run has made: references are places, names are numbers
 pub record MachineView : Type 0 where
   pub linked : LinkedView
   pub content : Content ClassId
-  pub threads : List Thread
-  pub statics : List Value
-  pub classes : List ClassState
-  pub output : List ℕ
-  pub stop : Option Stop
+  pub state : StateView
 
 -- the parts that it stands for, each thing by its name
 abbrev pub machine_parts : MachineView → Parts ClassId
-machine_parts m = parts m.linked m.content m.threads m.statics m.classes m.output m.stop
+machine_parts m = parts m.linked m.content m.state
 
 -- places renamed to serials, each of its parts is the world's
 abbrev pub MatchesWorld : MachineView → World → Type 0
 MatchesWorld m w = Matches (machine_parts m) w
 
 -- what holds of every machine: it keeps to what every run keeps to, and matches some world
-pub record IsMachine (m : MachineView) (live : ℕ) : Type 0 where
-  pub runs : IsRunnable m.linked m.threads live m.statics m.classes
+pub record IsMachine (m : MachineView) : Type 0 where
+  pub runs : IsRunnable m.linked m.state
   pub world : World
   pub matches : MatchesWorld m world

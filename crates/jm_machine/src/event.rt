@@ -53,9 +53,9 @@ fn step_running<H: Heap>(
     number: u64,
 ) -> Result<ReplyKind, OutOfMemory>
     requires runs { StateRuns linked.now state.old }
-    requires matched { (w : World) × Matches (state_parts linked.now (H.content state.old.heap) state.old) w }
+    requires matched { (w : World) × Matches (state_parts H.content linked.now state.old) w }
     requires running { ending_numbered state.old.threads.items number ≡ Some Running }
-    ensures event { (w : World) (t : ModelThread) → Matches (state_parts linked.now (H.content state.old.heap) state.old) w → thread_at w number ≡ Some t → MatchResult result (λ kind. IsAnswered (state_parts linked.now (H.content state.new.heap) state.new) kind (after_step w (step_thread w number t))) (λ _. Matches (state_parts linked.now (H.content state.new.heap) state.new) w) }
+    ensures event { (w : World) (t : ModelThread) → Matches (state_parts H.content linked.now state.old) w → thread_at w number ≡ Some t → MatchResult result (λ kind. IsAnswered (state_parts H.content linked.now state.new) kind (after_step w (step_thread w number t))) (λ _. Matches (state_parts H.content linked.now state.new) w) }
     ensures runs { StateRuns linked.now state.new }
 {
     match step_thread(alloc, linked, state, number, nursery) {
@@ -78,8 +78,8 @@ fn step_numbered<H: Heap>(
     number: u64,
 ) -> Result<ReplyKind, OutOfMemory>
     requires runs { StateRuns linked.now state.old }
-    requires matched { (w : World) × Matches (state_parts linked.now (H.content state.old.heap) state.old) w }
-    ensures event { (w : World) → Matches (state_parts linked.now (H.content state.old.heap) state.old) w → MatchResult result (λ kind. IsAnswered (state_parts linked.now (H.content state.new.heap) state.new) kind (after_event w (Step number))) (λ _. Matches (state_parts linked.now (H.content state.new.heap) state.new) w) }
+    requires matched { (w : World) × Matches (state_parts H.content linked.now state.old) w }
+    ensures event { (w : World) → Matches (state_parts H.content linked.now state.old) w → MatchResult result (λ kind. IsAnswered (state_parts H.content linked.now state.new) kind (after_event w (Step number))) (λ _. Matches (state_parts H.content linked.now state.new) w) }
     ensures runs { StateRuns linked.now state.new }
 {
     match ending_of(&state.threads, number) {
@@ -98,11 +98,11 @@ fn collect_kind<H: Heap>(
     kind: Kind,
 ) -> Result<ReplyKind, OutOfMemory>
     requires runs { StateRuns linked.now state.old }
-    requires matched { (w : World) × Matches (state_parts linked.now (H.content state.old.heap) state.old) w }
-    ensures kept { (w : World) → Matches (state_parts linked.now (H.content state.old.heap) state.old) w → Matches (state_parts linked.now (H.content state.new.heap) state.new) w }
+    requires matched { (w : World) × Matches (state_parts H.content linked.now state.old) w }
+    ensures kept { (w : World) → Matches (state_parts H.content linked.now state.old) w → Matches (state_parts H.content linked.now state.new) w }
     ensures runs { StateRuns linked.now state.new }
     ensures kind { MatchResult result (λ kind. kind ≡ ReplyKind.Done) (λ _. Unit {0}) }
-    ensures leaves { (w : World) → Matches (state_parts linked.now (H.content state.old.heap) state.old) w → OnOk result (LeavesReachable kind (H.content state.new.heap) w) }
+    ensures leaves { (w : World) → Matches (state_parts H.content linked.now state.old) w → OnOk result (LeavesReachable kind (H.content state.new.heap) w) }
 {
     match collect(alloc, linked, state, kind) {
         Ok(()) => Ok(ReplyKind::Done),
@@ -119,9 +119,9 @@ pub(crate) fn make_event<H: Heap>(
     event: Event,
 ) -> Result<ReplyKind, OutOfMemory>
     requires runs { StateRuns linked.now state.old }
-    requires matched { (w : World) × Matches (state_parts linked.now (H.content state.old.heap) state.old) w }
-    ensures event { (w : World) → Matches (state_parts linked.now (H.content state.old.heap) state.old) w → MatchResult result (λ kind. IsAnswered (state_parts linked.now (H.content state.new.heap) state.new) kind (after w event)) (λ _. Matches (state_parts linked.now (H.content state.new.heap) state.new) w) }
-    ensures leaves { (w : World) → Matches (state_parts linked.now (H.content state.old.heap) state.old) w → OnOk result (LeavesAfter event (H.content state.new.heap) w) }
+    requires matched { (w : World) × Matches (state_parts H.content linked.now state.old) w }
+    ensures event { (w : World) → Matches (state_parts H.content linked.now state.old) w → MatchResult result (λ kind. IsAnswered (state_parts H.content linked.now state.new) kind (after w event)) (λ _. Matches (state_parts H.content linked.now state.new) w) }
+    ensures leaves { (w : World) → Matches (state_parts H.content linked.now state.old) w → OnOk result (LeavesAfter event (H.content state.new.heap) w) }
     ensures runs { StateRuns linked.now state.new }
 {
     if state.stop.is_some() {

@@ -120,7 +120,7 @@ pub(crate) fn make_first_state<H: Heap + Drop>(
 ) -> Result<State<H>, OutOfMemory>
     requires empty { IsEmpty (H.content heap) }
     requires room { is_too_small linked.now.program (H.content heap).limit ≡ false }
-    ensures loaded { IfOk result (λ state. Matches (state_parts linked.now (H.content state.heap) state) (loaded_world linked.now.program (H.content heap).limit)) }
+    ensures loaded { IfOk result (λ state. Matches (state_parts H.content linked.now state) (loaded_world linked.now.program (H.content heap).limit)) }
     ensures runs { IfOk result (λ state. StateRuns linked.now state) }
 {
     let count = linked.classes().len();
@@ -128,6 +128,7 @@ pub(crate) fn make_first_state<H: Heap + Drop>(
     let frames = make_first_frames(alloc, linked, first.arguments)?;
     let mut threads = Vec::with_capacity(alloc, 1)?;
     threads.push_reserved(Thread {
+        object: None,
         frames,
         pending: None,
         ending: Ending::Running,
@@ -141,6 +142,8 @@ pub(crate) fn make_first_state<H: Heap + Drop>(
         live: 1,
         statics,
         classes,
+        literals: Vec::new(alloc),
+        monitors: Vec::new(alloc),
         output: Vec::new(alloc),
         stop: None,
     })

@@ -36,13 +36,14 @@ pub struct Machine<H: Heap> {
 }
 
 impl<H: Heap> Model for Machine<H> {
+    ghost use Rattle.jm_state.specs.View.{view_of};
     ghost use Rattle.jm_machine.specs.View.{MachineView, IsMachine};
 
     ghost Value = { MachineView };
 
-    ghost view = { λ m. record { linked = m.linked; content = H.content m.state.heap; threads = m.state.threads.items; statics = m.state.statics.items; classes = m.state.classes.items; output = m.state.output.items; stop = m.state.stop } };
+    ghost view = { λ m. record { linked = m.linked; content = H.content m.state.heap; state = view_of m.state } };
 
-    ghost invariant = { λ m. IsMachine (record { linked = m.linked; content = H.content m.state.heap; threads = m.state.threads.items; statics = m.state.statics.items; classes = m.state.classes.items; output = m.state.output.items; stop = m.state.stop }) m.state.live };
+    ghost invariant = { λ m. IsMachine (record { linked = m.linked; content = H.content m.state.heap; state = view_of m.state }) };
 }
 
 impl<H: Heap + Drop> Machine<H> {

@@ -1,5 +1,5 @@
 pub mod Gathered
-pub mod PlacesOfParts
+pub mod Alike
 pub mod Moved
 pub mod Made
 pub mod Runs

@@ -1,3 +1,4 @@
+pub mod View
 pub mod Parts
 pub mod Ends
 pub mod Runnable

@@ -6,12 +6,11 @@ use Rattle.jm_program.specs.declared.descriptor.ElementType.TheVariants as type
 use Rattle.jm_values.specs.declared.value.Value.{Value}
 use Rattle.jm_world.specs.Types.{ObjectType, instance_of, array_of}
 use Rattle.jm_world.specs.Frames.{Frame, method_frame, initialization_frame}
-use Rattle.jm_world.specs.World.{Thread, Static, Progress, Ending, running, returned, ended_by}
+use Rattle.jm_world.specs.World.{Thread, Static, Progress, Monitor, Literal, Ending, running, returned, ended_by}
 use Rattle.jm_values.specs.Content.{Content}
-use Rattle.jm_world.specs.Loading.{first_statics}
+use Rattle.jm_world.specs.Loading.{first_statics, literal_texts}
 use Rattle.jm_world.specs.Matches.{Parts}
 use Rattle.jm_world.specs.declared.class_state.ClassState.{ClassState}
-use Rattle.jm_world.specs.declared.stop.Stop.{Stop}
 use Rattle.jm_heap.specs.declared.class_id.ClassId.{ClassId}
 use Rattle.jm_heap.specs.declared.class_id.ClassId.TheVariants.{Instance, Array}
 use Rattle.jm_heap.specs.declared.class_id.Element.{Element}
@@ -22,7 +21,10 @@ use Rattle.jm_state.specs.declared.thread.StackFrame.TheVariants.{Method, Initia
 use Rattle.jm_state.specs.declared.thread.Ending as code
 use Rattle.jm_state.specs.declared.thread.Ending.TheVariants.{Running, Returned, EndedBy}
 use Rattle.jm_state.specs.declared.thread.Thread as held
+use Rattle.jm_state.specs.declared.monitor.Monitor as held_monitor
 use Rattle.jm_state.specs.declared.state.State.{State}
+use Rattle.jm_state.specs.Places.{HeldThread, held_thread}
+use Rattle.jm_state.specs.View.{StateView, view_of}
 
 -- the class or the array type of a mark of the heap
 abbrev pub element_named : List ClassParts → Element → ElementType
@@ -55,8 +57,12 @@ ending_part program (EndedBy n) = ended_by (class_name_of program n)
 abbrev pub frames_part : LinkedView → List StackFrame → List Frame
 frames_part l frames = map (frame_part l) (reverse frames)
 
+-- a thread, from its frames from the top
+abbrev pub part_of_held : LinkedView → HeldThread → Thread
+part_of_held l t = record { object = t.object; frames = map (frame_part l) t.frames; pending = t.pending; ending = ending_part l.program t.ending }
+
 abbrev pub thread_part : LinkedView → held.Thread → Thread
-thread_part l t = record { object = None; frames = frames_part l t.frames.items; pending = t.pending; ending = ending_part l.program t.ending }
+thread_part l t = part_of_held l (held_thread t)
 
 -- the static fields by name, with these values
 abbrev pub named_statics : List Static → List Value → List Static
@@ -70,20 +76,29 @@ named_states [] ss = []
 named_states (c ∷ cs) [] = []
 named_states (c ∷ cs) (s ∷ ss) = record { class = c.name; state = s } ∷ named_states cs ss
 
--- the parts: a linked program has no literals, and no monitor is held
-unfoldable pub parts : LinkedView → Content ClassId → List held.Thread → List Value → List ClassState → List ℕ → Option Stop → Parts ClassId
-parts l content threads statics classes output stop = record {
+-- the literals by their texts, with the Strings at these places
+abbrev pub named_literals : List (List ℕ) → List ℕ → List Literal
+named_literals [] ps = []
+named_literals (t ∷ ts) [] = []
+named_literals (t ∷ ts) (p ∷ ps) = record { units = t; string = p } ∷ named_literals ts ps
+
+abbrev pub monitor_part : held_monitor.Monitor → Monitor
+monitor_part m = record { object = m.object; owner = m.owner; count = m.count }
+
+-- the parts of a machine that a state stands for beside a heap of this content
+unfoldable pub parts : LinkedView → Content ClassId → StateView → Parts ClassId
+parts l content s = record {
   program = l.program;
   named = named_type l.program;
   content = content;
-  literals = [];
-  statics = named_statics (first_statics l.program) statics;
-  classes = named_states l.program classes;
-  monitors = [];
-  threads = map (thread_part l) threads;
-  output = output;
-  stop = stop;
+  literals = named_literals (literal_texts l.program) s.literals;
+  statics = named_statics (first_statics l.program) s.statics;
+  classes = named_states l.program s.classes;
+  monitors = map monitor_part s.monitors;
+  threads = map (thread_part l) s.threads;
+  output = s.output;
+  stop = s.stop;
 }
 
-abbrev pub state_parts : {H : Type 0} → LinkedView → Content ClassId → State H → Parts ClassId
-state_parts l content s = parts l content s.threads.items s.statics.items s.classes.items s.output.items s.stop
+abbrev pub state_parts : {H : Type 0} → (H → Content ClassId) → LinkedView → State H → Parts ClassId
+state_parts content l s = parts l (content s.heap) (view_of s)

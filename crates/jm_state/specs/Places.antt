@@ -1,12 +1,15 @@
--- The places that the threads and the static fields of a state hold, and others put where they are.
-use Rattle.std.specs.Prelude.{ℕ, List, [], map, reverse, Option}
+-- The places that a state holds, and others put where they are.
+use Rattle.std.specs.Prelude.{◌≡◌, ℕ, List, [], map, reverse, Option, None}
 use Rattle.jm_values.specs.Shape.{Shape, list_shape, pair_shape, part_shape}
 use Rattle.jm_values.specs.Activation.{Activation}
 use Rattle.jm_values.specs.Rename.{stack_shape}
 use Rattle.jm_values.specs.declared.value.Value.{Value}
 use Rattle.jm_frames.specs.FrameView.{FrameView}
-use Rattle.jm_world.specs.Frames.{optional_number_shape, method_part_shape}
+use Rattle.jm_world.specs.Frames.{number_shape, optional_number_shape, method_part_shape}
+use Rattle.jm_state.specs.View.{StateView}
+use Rattle.jm_state.specs.declared.monitor.Monitor.{Monitor}
 use Rattle.jm_state.specs.declared.thread.Ending.{Ending}
+use Rattle.jm_state.specs.declared.thread.Ending.TheVariants.{Running, Returned, EndedBy}
 use Rattle.jm_state.specs.declared.thread.StackFrame.{StackFrame}
 use Rattle.jm_state.specs.declared.thread.StackFrame.TheVariants.{Method, Initialization}
 use Rattle.jm_state.specs.declared.thread.Thread.{Thread}
@@ -39,37 +42,68 @@ stack_frame_shape = record { rename = rename_stack_frame; refs = refs_stack_fram
 
 -- a thread with its frames from the top
 pub record HeldThread : Type 0 where
+  pub object : Option ℕ
   pub frames : List StackFrame
   pub pending : Option ℕ
   pub ending : Ending
 
 abbrev pub held_thread : Thread → HeldThread
-held_thread t = record { frames = reverse t.frames.items; pending = t.pending; ending = t.ending }
+held_thread t = record { object = t.object; frames = reverse t.frames.items; pending = t.pending; ending = t.ending }
 
--- its pending exception, then its frames
-abbrev pub thread_holders : HeldThread → Option ℕ × List StackFrame
-thread_holders t = (t.pending, t.frames)
+-- a thread's object has a place while the thread has not ended
+abbrev pub live_object : Ending → Option ℕ → Option ℕ
+live_object Running object = object
+live_object Returned object = None
+live_object (EndedBy class) object = None
 
-abbrev pub with_thread_holders : Option ℕ × List StackFrame → HeldThread → HeldThread
-with_thread_holders p t = record { frames = p.1; pending = p.0; ending = t.ending }
+abbrev pub with_live_object : Ending → Option ℕ → Option ℕ → Option ℕ
+with_live_object Running place object = place
+with_live_object Returned place object = object
+with_live_object (EndedBy class) place object = object
+
+-- its object, its pending exception, then its frames
+abbrev pub thread_holders : HeldThread → Option ℕ × (Option ℕ × List StackFrame)
+thread_holders t = (live_object t.ending t.object, (t.pending, t.frames))
+
+abbrev pub with_thread_holders : Option ℕ × (Option ℕ × List StackFrame) → HeldThread → HeldThread
+with_thread_holders p t = record { object = with_live_object t.ending p.0 t.object; frames = p.1.1; pending = p.1.0; ending = t.ending }
 
 abbrev pub held_thread_shape : Shape HeldThread
-held_thread_shape = part_shape thread_holders with_thread_holders (pair_shape optional_number_shape (list_shape stack_frame_shape))
+held_thread_shape = part_shape thread_holders with_thread_holders (pair_shape optional_number_shape (pair_shape optional_number_shape (list_shape stack_frame_shape)))
 
--- the threads, then the values of the static fields
-abbrev pub held_parts : List Thread → List Value → List HeldThread × List Value
-held_parts threads statics = (map held_thread threads, statics)
+abbrev pub held_monitor_shape : Shape Monitor
+held_monitor_shape = part_shape (λ m. m.object) (λ p m. record { object = p; owner = m.owner; count = m.count }) number_shape
 
-abbrev pub held_parts_shape : Shape (List HeldThread × List Value)
-held_parts_shape = pair_shape (list_shape held_thread_shape) stack_shape
+-- the threads, the values of the static fields, the monitors and the literals
+abbrev pub Holders : Type 0
+Holders = List HeldThread × (List Value × (List Monitor × List ℕ))
 
--- the places of a thread, and of all threads and static fields
+abbrev pub holders : StateView → Holders
+holders s = (map held_thread s.threads, (s.statics, (s.monitors, s.literals)))
+
+abbrev pub holders_shape : Shape Holders
+holders_shape = pair_shape (list_shape held_thread_shape) (pair_shape stack_shape (pair_shape (list_shape held_monitor_shape) (list_shape number_shape)))
+
+-- the places of a thread, and of a state
 abbrev pub thread_places : Thread → List ℕ
 thread_places t = held_thread_shape.refs (held_thread t)
 
-unfoldable pub places_of : List Thread → List Value → List ℕ
-places_of threads statics = held_parts_shape.refs (held_parts threads statics)
+unfoldable pub places_of : StateView → List ℕ
+places_of s = holders_shape.refs (holders s)
 
--- all of a thread but which objects it refers to
-abbrev pub shape_of : Thread → HeldThread
-shape_of t = held_thread_shape.rename (λ p. 0) (held_thread t)
+-- all that a state holds but which objects it refers to
+abbrev pub erased : StateView → Holders
+erased s = holders_shape.rename (λ p. 0) (holders s)
+
+-- the state is as it was, but that its objects may have moved
+pub record OnlyMoved (old new : StateView) : Type 0 where
+  pub held : erased new ≡ erased old
+  pub live : new.live ≡ old.live
+  pub classes : new.classes ≡ old.classes
+  pub output : new.output ≡ old.output
+  pub stop : new.stop ≡ old.stop
+
+-- these places stand where the state's places were
+pub record IsPutBack (places : List ℕ) (old new : StateView) : Type 0 where
+  pub held : holders new ≡ holders_shape.refill places (holders old)
+  pub moved : OnlyMoved old new

@@ -1,23 +1,29 @@
 -- What every state of a run of a linked program keeps to, beside its world.
 use Rattle.std.specs.Prelude.{◌≡◌, ◌≢◌, ◌<◌, ◌≤◌, ℕ, List, [], ◌∷◌, length, map, reverse, Option, Some, None}
 use Rattle.std.specs.List.{AllByRecursion}
-use Rattle.jm_values.specs.declared.value.Value.{Value}
 use Rattle.jm_world.specs.World.{live_among}
-use Rattle.jm_world.specs.Loading.{first_statics}
-use Rattle.jm_world.specs.declared.class_state.ClassState.{ClassState}
+use Rattle.jm_world.specs.Loading.{first_statics, literal_texts}
 use Rattle.jm_world.specs.declared.class_state.ClassState.TheVariants.{Failed}
 use Rattle.jm_linked.specs.Links.{LinkedView}
 use Rattle.jm_state.specs.Parts.{thread_part}
+use Rattle.jm_state.specs.Places.{HeldThread, held_thread}
+use Rattle.jm_state.specs.View.{StateView, view_of}
 use Rattle.jm_state.specs.declared.thread.StackFrame.{StackFrame}
 use Rattle.jm_state.specs.declared.thread.StackFrame.TheVariants.{Method, Initialization}
-use Rattle.jm_state.specs.declared.thread.Thread.{Thread}
 use Rattle.jm_state.specs.declared.state.State.{State}
 
--- a method frame is of a method that can run, and holds no monitor; an initialization frame is of a
--- class of the program
+-- a method frame is of a method that can run, an initialization frame of a class of the program
 abbrev pub FrameRuns : LinkedView → StackFrame → Type 0
-FrameRuns l (Method f) = (f.method < length l.methods) × (f.monitor ≡ None)
+FrameRuns l (Method f) = f.method < length l.methods
 FrameRuns l (Initialization class stage) = class < length l.program
+
+pub record ThreadRuns (l : LinkedView) (t : HeldThread) : Type 0 where
+  pub frames : AllByRecursion (FrameRuns l) t.frames
+  pub few : length t.frames ≤ 512
+
+abbrev pub HoldsNoMonitor : StackFrame → Type 0
+HoldsNoMonitor (Method f) = f.monitor ≡ None
+HoldsNoMonitor (Initialization class stage) = Unit {0}
 
 abbrev pub IsMethodFrame : StackFrame → Type 0
 IsMethodFrame (Method f) = Unit {0}
@@ -30,17 +36,26 @@ StandOnTop pending [] = Unit {0}
 StandOnTop None (f ∷ fs) = AllByRecursion IsMethodFrame fs
 StandOnTop (Some k) (f ∷ fs) = AllByRecursion IsMethodFrame (f ∷ fs)
 
-pub record ThreadRuns (l : LinkedView) (t : Thread) : Type 0 where
-  pub frames : AllByRecursion (FrameRuns l) (reverse t.frames.items)
-  pub top : StandOnTop t.pending (reverse t.frames.items)
-  pub few : length t.frames.items ≤ 512
+-- what no thread comes to while linking refuses the use of Thread, what takes a monitor, and
+-- <clinit>
+pub record ThreadNotYet (t : HeldThread) : Type 0 where
+  pub object : t.object ≡ None
+  pub monitors : AllByRecursion HoldsNoMonitor t.frames
+  pub initializers : StandOnTop t.pending t.frames
 
-pub record IsRunnable (l : LinkedView) (ts : List Thread) (count : ℕ) (values : List Value) (states : List ClassState) : Type 0 where
-  pub threads : AllByRecursion (ThreadRuns l) ts
-  pub live : count ≡ live_among (map (thread_part l) ts)
-  pub statics : length values ≡ length (first_statics l.program)
-  pub classes : length states ≡ length l.program
-  pub begun : AllByRecursion (λ s. s ≢ Failed) states
+-- and no state: without a monitor that is held, and a <clinit> that fails its class
+pub record NotYet (s : StateView) : Type 0 where
+  pub threads : AllByRecursion ThreadNotYet (map held_thread s.threads)
+  pub monitors : s.monitors ≡ []
+  pub failures : AllByRecursion (λ state. state ≢ Failed) s.classes
+
+pub record IsRunnable (l : LinkedView) (s : StateView) : Type 0 where
+  pub threads : AllByRecursion (ThreadRuns l) (map held_thread s.threads)
+  pub live : s.live ≡ live_among (map (thread_part l) s.threads)
+  pub statics : length s.statics ≡ length (first_statics l.program)
+  pub literals : length s.literals ≡ length (literal_texts l.program)
+  pub classes : length s.classes ≡ length l.program
+  pub not_yet : NotYet s
 
 abbrev pub StateRuns : {H : Type 0} → LinkedView → State H → Type 0
-StateRuns l s = IsRunnable l s.threads.items s.live s.statics.items s.classes.items
+StateRuns l s = IsRunnable l (view_of s)

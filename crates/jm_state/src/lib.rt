@@ -11,13 +11,15 @@
 
 mod halt;
 mod make;
+mod monitor;
 mod places;
 mod reach;
 mod state;
 mod thread;
 
 pub use halt::{Halt, StepEnd};
-pub use make::{collect, make_exception};
+pub use make::{collect, make_object};
+pub use monitor::Monitor;
 pub use places::{gather, put_back};
 pub use reach::{find_reachable, reachable};
 pub use state::State;

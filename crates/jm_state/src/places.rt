@@ -4,11 +4,14 @@ ghost use Rattle.std.specs.Prelude.{◌≡◌, ◌++◌, OnOk, IfOk, length, map
 ghost use Rattle.std.specs.Slice.Iter.{iter_rest};
 ghost use Rattle.jm_values.specs.Shape.{list_shape, option_shape};
 ghost use Rattle.jm_values.specs.Rename.{refs, value_shape, locals_shape, stack_shape};
-ghost use Rattle.jm_world.specs.Frames.{optional_number_shape};
-ghost use Rattle.jm_state.specs.Places.{method_shape, stack_frame_shape, held_thread, held_thread_shape, held_parts, held_parts_shape, thread_places, places_of, shape_of};
+ghost use Rattle.jm_world.specs.Frames.{number_shape, optional_number_shape};
+ghost use Rattle.jm_state.specs.Places.{IsPutBack};
+ghost use Rattle.jm_state.specs.Places.{method_shape, stack_frame_shape, live_object, with_live_object, held_thread, held_thread_shape, held_monitor_shape, thread_places, places_of};
+ghost use Rattle.jm_state.specs.View.{view_of};
 
+use crate::monitor::Monitor;
 use crate::state::State;
-use crate::thread::{StackFrame, Thread};
+use crate::thread::{Ending, StackFrame, Thread};
 use jm_frames::{Frame, put_value};
 use jm_heap::Roots;
 use jm_values::{Place, Value};
@@ -106,10 +109,22 @@ fn push_frames(roots: &mut Roots, frames: &[StackFrame]) -> Result<(), AllocErro
     Ok(())
 }
 
+// Adds the place of a thread's object, while the thread has not ended.
+fn push_object(roots: &mut Roots, thread: &Thread) -> Result<(), AllocError>
+    ensures { OnOk result (roots.new ≡ roots.old ++ optional_number_shape.refs (live_object thread.now.ending thread.now.object)) }
+{
+    match thread.ending {
+        Ending::Running => push_place(roots, thread.object),
+        Ending::Returned => Ok(()),
+        Ending::EndedBy(_) => Ok(()),
+    }
+}
+
 // Adds the places of a thread.
 fn push_thread(roots: &mut Roots, thread: &Thread) -> Result<(), AllocError>
     ensures { OnOk result (roots.new ≡ roots.old ++ thread_places thread.now) }
 {
+    push_object(roots, thread)?;
     push_place(roots, thread.pending)?;
     push_frames(roots, &thread.frames)
 }
@@ -124,16 +139,38 @@ fn push_threads(roots: &mut Roots, threads: &[Thread]) -> Result<(), AllocError>
     Ok(())
 }
 
-/// All places that the threads and the static fields of a state hold, in order: of each thread its
+// Adds the places of the objects of monitors.
+fn push_monitors(roots: &mut Roots, monitors: &[Monitor]) -> Result<(), AllocError>
+    ensures { OnOk result (roots.new ≡ roots.old ++ (list_shape held_monitor_shape).refs monitors.now) }
+{
+    for monitor in monitors {
+        roots.push(monitor.object)?;
+    }
+    Ok(())
+}
+
+// Adds the places of literals.
+fn push_literals(roots: &mut Roots, literals: &[Place]) -> Result<(), AllocError>
+    ensures { OnOk result (roots.new ≡ roots.old ++ (list_shape number_shape).refs literals.now) }
+{
+    for place in literals {
+        roots.push(*place)?;
+    }
+    Ok(())
+}
+
+/// All places that a state holds, in order: of each thread its object while it has not ended, its
 /// pending exception and its frames from the top, of a frame its local variables, its operands from
-/// the top and its monitor's object (JVMS 2.6). Linear in what they hold. `AllocError`: a growth was
-/// refused.
+/// the top and its monitor's object (JVMS 2.6); then those of static fields, of held monitors and
+/// of literals. Linear in what they hold. `AllocError`: a growth was refused.
 pub fn gather<H>(alloc: Global, state: &State<H>) -> Result<Roots, AllocError>
-    ensures { IfOk result (λ roots. roots ≡ places_of state.now.threads.items state.now.statics.items) }
+    ensures { IfOk result (λ roots. roots ≡ places_of (view_of state.now)) }
 {
     let mut roots = Roots::new(alloc);
     push_threads(&mut roots, &state.threads)?;
     push_statics(&mut roots, &state.statics)?;
+    push_monitors(&mut roots, &state.monitors)?;
+    push_literals(&mut roots, &state.literals)?;
     Ok(roots)
 }
 
@@ -181,11 +218,24 @@ fn put_frames(frames: &mut [StackFrame], places: &mut Iter<'_, Place>)
     }
 }
 
+// Puts the next place where a thread's object is, while the thread has not ended.
+fn put_object(thread: &mut Thread, places: &mut Iter<'_, Place>)
+    ensures thread { thread.new ≡ record thread.old { object = with_live_object thread.old.ending (optional_number_shape.refill (iter_rest places.old) (live_object thread.old.ending thread.old.object)) thread.old.object } }
+    ensures left { iter_rest places.new ≡ drop (length (optional_number_shape.refs (live_object thread.old.ending thread.old.object))) (iter_rest places.old) }
+{
+    match thread.ending {
+        Ending::Running => put_place(&mut thread.object, places),
+        Ending::Returned => {}
+        Ending::EndedBy(_) => {}
+    }
+}
+
 // Puts the next places into a thread.
 fn put_thread(thread: &mut Thread, places: &mut Iter<'_, Place>)
     ensures thread { held_thread thread.new ≡ held_thread_shape.refill (iter_rest places.old) (held_thread thread.old) }
     ensures left { iter_rest places.new ≡ drop (length (thread_places thread.old)) (iter_rest places.old) }
 {
+    put_object(thread, places);
     put_place(&mut thread.pending, places);
     put_frames(&mut thread.frames, places);
 }
@@ -202,26 +252,52 @@ fn put_threads(threads: &mut [Thread], places: &mut Iter<'_, Place>)
 
 // Puts the next places into static fields.
 fn put_statics(statics: &mut [Value], places: &mut Iter<'_, Place>)
-    ensures { statics.new ≡ stack_shape.refill (iter_rest places.old) statics.old }
+    ensures statics { statics.new ≡ stack_shape.refill (iter_rest places.old) statics.old }
+    ensures left { iter_rest places.new ≡ drop (length (stack_shape.refs statics.old)) (iter_rest places.old) }
 {
     for value in statics.iter_mut() {
         put_value(value, places);
     }
 }
 
+// Takes the next place; where there is none, it stays as it is.
+fn put_number(place: &mut Place, places: &mut Iter<'_, Place>)
+    ensures place { place.new ≡ number_shape.refill (iter_rest places.old) place.old }
+    ensures left { iter_rest places.new ≡ drop 1 (iter_rest places.old) }
+{
+    if let Some(moved) = places.next() {
+        *place = *moved;
+    }
+}
+
+// Puts the next places into monitors.
+fn put_monitors(monitors: &mut [Monitor], places: &mut Iter<'_, Place>)
+    ensures monitors { monitors.new ≡ (list_shape held_monitor_shape).refill (iter_rest places.old) monitors.old }
+    ensures left { iter_rest places.new ≡ drop (length ((list_shape held_monitor_shape).refs monitors.old)) (iter_rest places.old) }
+{
+    for monitor in monitors.iter_mut() {
+        put_number(&mut monitor.object, places);
+    }
+}
+
+// Puts the next places into literals.
+fn put_literals(literals: &mut [Place], places: &mut Iter<'_, Place>)
+    ensures { literals.new ≡ (list_shape number_shape).refill (iter_rest places.old) literals.old }
+{
+    for place in literals.iter_mut() {
+        put_number(place, places);
+    }
+}
+
 /// Puts places back where they were gathered, in the same order: after a collection, which has
 /// moved them with their objects. It takes no memory.
 pub fn put_back<H>(state: &mut State<H>, roots: &Roots)
-    ensures places { held_parts state.new.threads.items state.new.statics.items ≡ held_parts_shape.refill roots.now (held_parts state.old.threads.items state.old.statics.items) }
-    ensures shapes { map shape_of state.new.threads.items ≡ map shape_of state.old.threads.items }
-    ensures statics { length state.new.statics.items ≡ length state.old.statics.items }
+    ensures places { IsPutBack roots.now (view_of state.old) (view_of state.new) }
     ensures heap { state.new.heap ≡ state.old.heap }
-    ensures live { state.new.live ≡ state.old.live }
-    ensures classes { state.new.classes ≡ state.old.classes }
-    ensures output { state.new.output ≡ state.old.output }
-    ensures stop { state.new.stop ≡ state.old.stop }
 {
     let mut places = roots.as_slice().iter();
     put_threads(&mut state.threads, &mut places);
     put_statics(&mut state.statics, &mut places);
+    put_monitors(&mut state.monitors, &mut places);
+    put_literals(&mut state.literals, &mut places);
 }

@@ -140,9 +140,8 @@ pub fn reachable<H: Heap>(
     linked: &Linked,
     state: &State<H>,
 ) -> Result<Vec<u64>, AllocError>
-    requires runs { StateRuns linked.now state.now }
-    requires matched { (w : World) × Matches (state_parts linked.now (H.content state.now.heap) state.now) w }
-    ensures { IfOk result (λ serials. (w : World) → Matches (state_parts linked.now (H.content state.now.heap) state.now) w → AreReachable w serials.items) }
+    requires { StateRuns linked.now state.now × (w : World) × Matches (state_parts H.content linked.now state.now) w }
+    ensures { IfOk result (λ serials. (w : World) → Matches (state_parts H.content linked.now state.now) w → AreReachable w serials.items) }
 {
     let roots = gather(alloc, state)?;
     let seen = mark(alloc, &state.heap, roots.as_slice())?;
@@ -158,9 +157,8 @@ pub fn find_reachable<H: Heap>(
     state: &State<H>,
     serial: u64,
 ) -> Result<Option<Place>, AllocError>
-    requires runs { StateRuns linked.now state.now }
-    requires matched { (w : World) × Matches (state_parts linked.now (H.content state.now.heap) state.now) w }
-    ensures { IfOk result (λ found. (w : World) → Matches (state_parts linked.now (H.content state.now.heap) state.now) w → FindsReachable (H.content state.now.heap) w serial found) }
+    requires { StateRuns linked.now state.now × (w : World) × Matches (state_parts H.content linked.now state.now) w }
+    ensures { IfOk result (λ found. (w : World) → Matches (state_parts H.content linked.now state.now) w → FindsReachable (H.content state.now.heap) w serial found) }
 {
     let roots = gather(alloc, state)?;
     search(alloc, &state.heap, roots.as_slice(), serial)

@@ -1,7 +1,8 @@
 // The state of a run.
 
+use crate::monitor::Monitor;
 use crate::thread::Thread;
-use jm_values::Value;
+use jm_values::{Place, Value};
 use jm_world::{ClassState, Stop};
 
 /// What a run of a linked program has made.
@@ -16,6 +17,10 @@ pub struct State<H> {
     pub statics: Vec<Value>,
     /// How far the initialization of each of the program's classes is.
     pub classes: Vec<ClassState>,
+    /// The Strings of the program's literals, in the order of the literals.
+    pub literals: Vec<Place>,
+    /// The monitors that are held.
+    pub monitors: Vec<Monitor>,
     /// The bytes that the program has printed.
     pub output: Vec<u8>,
     pub stop: Option<Stop>,

@@ -25,9 +25,11 @@ pub enum Ending {
     EndedBy(u32),
 }
 
-/// A Java thread. The first one has no object.
+/// A Java thread.
 #[derive(Drop)]
 pub struct Thread {
+    /// Its object, by its place, and after the thread's end by its serial. The first one has none.
+    pub object: Option<Place>,
     /// The top frame is the last.
     pub frames: Vec<StackFrame>,
     /// The pending exception (JVMS 2.10).

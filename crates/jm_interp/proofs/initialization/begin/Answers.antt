@@ -3,6 +3,12 @@ use Rattle.jm_interp.proofs.Initialized.{class_within, skips, waits, begins, not
 use Rattle.jm_interp.proofs.OnThread.{within, numbered, read}
 use Rattle.jm_interp.proofs.initialization.begin.Goals as goal
 
+pub index-requires : goal.index-requires
+index-requires g c = class_within c.requires.1
+
+pub overflow_add-at : goal.overflow_add-at
+overflow_add-at g c = omega (arith, numbered c.requires.1)
+
 pub returns-in-Done : goal.returns-in-Done
 returns-in-Done g c = skips c.requires.1 c.index.ensures 0 (inl c.in-Done.is) c.skip.ensures
 
@@ -22,10 +28,10 @@ pub overflow_add-at-in-NotBegun : goal.overflow_add-at-in-NotBegun
 overflow_add-at-in-NotBegun g c = omega (arith, numbered c.requires.1)
 
 pub go_to_stage-requires : goal.go_to_stage-requires
-go_to_stage-requires g c = (_, _, _, _, read c.requires.1 c.index_mut-in-NotBegun.ensures.value)
+go_to_stage-requires g c = (_, _, _, read c.requires.1 c.index_mut-in-NotBegun.ensures.value)
 
 pub returns-in-NotBegun : goal.returns-in-NotBegun
-returns-in-NotBegun g c = begins c.requires.1 c.index.ensures c.in-NotBegun.is refl refl refl refl refl refl refl (c.go_to_stage.ensures _ _ _ _ (read c.requires.1 c.index_mut-in-NotBegun.ensures.value))
+returns-in-NotBegun g c = begins c.requires.1 c.index.ensures c.in-NotBegun.is (record { threads = refl; statics = refl; literals = refl; monitors = refl; heap = refl; stop = refl }) refl refl refl (c.go_to_stage.ensures _ _ _ (read c.requires.1 c.index_mut-in-NotBegun.ensures.value))
 
 pub unreachable-requires : goal.unreachable-requires
 unreachable-requires g c = not_failed c.requires.1 c.index.ensures c.in-Failed.is

@@ -9,10 +9,10 @@ pub index_mut-requires : goal.index_mut-requires
 index_mut-requires g c = within c.requires.1
 
 pub go_to_stage-requires : goal.go_to_stage-requires
-go_to_stage-requires g c = (_, _, _, _, read c.requires.1 c.index_mut.ensures.value)
+go_to_stage-requires g c = (_, _, _, read c.requires.1 c.index_mut.ensures.value)
 
 pub returns-in-Superclass : goal.returns-in-Superclass
-returns-in-Superclass g c = superclass_done c.requires.1 c.in-Superclass.is (c.go_to_stage.ensures _ _ _ _ (read c.requires.1 c.index_mut.ensures.value))
+returns-in-Superclass g c = superclass_done c.requires.1 c.in-Superclass.is (c.go_to_stage.ensures _ _ _ (read c.requires.1 c.index_mut.ensures.value))
 
 pub returns-in-Initializer : goal.returns-in-Initializer
 returns-in-Initializer g c = initializer_done c.requires.1 c.in-Initializer.is c.finish.ensures

@@ -1,5 +1,3 @@
-use Rattle.std.proofs.Common.{None}
-use Rattle.jm_state.specs.declared.thread.Ending.TheVariants.{Running}
 use Rattle.jm_interp.proofs.OnThread.{within, read}
 use Rattle.jm_interp.proofs.ReturnRow.{as_void, value_faults}
 use Rattle.jm_interp.proofs.returning.return_from.Goals as goal
@@ -11,7 +9,7 @@ pub index-requires : goal.index-requires
 index-requires g c = within c.requires.method.on
 
 pub value_fault-requires : goal.value_fault-requires
-value_fault-requires g c = (_, _, None, Running, read c.requires.method.on c.index.ensures)
+value_fault-requires g c = (_, _, _, read c.requires.method.on c.index.ensures)
 
 pub returns-in_default : goal.returns-in_default
 returns-in_default g c = value_faults c.requires c.in_default.not-Void c.index.ensures c.value_fault.ensures

@@ -1,5 +1,3 @@
-use Rattle.std.proofs.Common.{None}
-use Rattle.jm_state.specs.declared.thread.Ending.TheVariants.{Running}
 use Rattle.jm_interp.proofs.OnThread.{within, read}
 use Rattle.jm_interp.proofs.ReturnRow.{last_returns, on_two, returns_below, stays_there}
 use Rattle.jm_interp.proofs.returning.return_void.Goals as goal
@@ -11,7 +9,7 @@ pub index_mut-requires : goal.index_mut-requires
 index_mut-requires g c = within c.requires.method.on
 
 pub leave_top-requires : goal.leave_top-requires
-leave_top-requires g c = (_, _, _, None, Running, read (on_two c.requires c.index.ensures c.len.ensures c.if-len-lt2.false) c.index_mut.ensures.value)
+leave_top-requires g c = (_, _, _, _, read (on_two c.requires c.index.ensures c.len.ensures c.if-len-lt2.false) c.index_mut.ensures.value)
 
 pub returns-in-Ok : goal.returns-in-Ok
 returns-in-Ok g c = returns_below c.requires c.index.ensures c.len.ensures c.if-len-lt2.false _ c.index_mut.ensures.value c.in-Ok.ensures

@@ -6,13 +6,13 @@ use Rattle.jm_interp.proofs.StageSteps.{on_thread, counted, thread_there, unwind
 use Rattle.jm_interp.proofs.stages.unwind_stage.Goals as goal
 
 pub step_at-requires : goal.step_at-requires
-step_at-requires g c = (_, _, on_thread c.methods-methods.ensures.linked c.requires.runs c.requires.matched c.requires.here.2)
+step_at-requires g c = (_, _, on_thread c.methods-methods.ensures.linked c.requires.runs c.requires.matched c.requires.here.3)
 
 pub returns-clause-next : goal.returns-clause-next
 returns-clause-next g c w t k m at e =
     let number = c.args.number in
     let after = c.step_at.new.state in
-    subst (λ x. Ended c.step_at.result (state_parts c.args.linked.now (g.H.Heap.content after.heap) after) w x) (ap (λ n. step_thread w n t) (counted number c.requires.from_one) ∙ unwinding_step w number t k e) (c.step_at.ensures.ends w t m (thread_there w number t at))
+    subst (λ x. Ended c.step_at.result (state_parts g.H.Heap.content c.args.linked.now after) w x) (ap (λ n. step_thread w n t) (counted number c.requires.from_one) ∙ unwinding_step w number t k e) (c.step_at.ensures.ends w t m (thread_there w number t at))
 
 pub returns-clause-runs : goal.returns-clause-runs
 returns-clause-runs g c = c.step_at.ensures.runs

@@ -1,6 +1,5 @@
 use Rattle.std.proofs.Common.{ap}
 use Rattle.jm_world.specs.World.{is_running}
-use Rattle.jm_state.specs.declared.thread.Ending.TheVariants.{Running}
 use Rattle.jm_interp.proofs.Objects.{lies}
 use Rattle.jm_interp.proofs.OnThread.{within, read, refused}
 use Rattle.jm_interp.proofs.Unwound.{thrown, on_two, drops, ends_thread}
@@ -13,7 +12,7 @@ pub index_mut-requires : goal.index_mut-requires
 index_mut-requires g c = within c.requires.1
 
 pub drop_top-requires : goal.drop_top-requires
-drop_top-requires g c = (_, _, _, Running, read (on_two c.requires.1 c.index.ensures c.len.ensures c.if-len-gt1.true) c.index_mut.ensures.value)
+drop_top-requires g c = (_, _, _, read (on_two c.requires.1 c.index.ensures c.len.ensures c.if-len-gt1.true) c.index_mut.ensures.value)
 
 pub returns-then-len-gt1 : goal.returns-then-len-gt1
 returns-then-len-gt1 g c = drops c.requires.1 c.index.ensures c.len.ensures c.if-len-gt1.true c.index_mut.ensures.value c.drop_top.ensures

@@ -11,32 +11,32 @@ use Rattle.jm_machine.proofs.event.make_event.Goals as goal
 pub returns-then-is_some-clause-event : goal.returns-then-is_some-clause-event
 returns-then-is_some-clause-event g c = λ w m.
     let x = some_is c.args.state.now.stop (sym c.is_some.ensures ∙ c.if-is_some.true) in
-    after_stop _ _ _ _ _ _ _ w m x.0 x.1 c.args.event
+    after_stop _ _ _ w m x.0 x.1 c.args.event
 
 pub returns-in-Step-clause-event : goal.returns-in-Step-clause-event
 returns-in-Step-clause-event g c = λ w m.
     let n = none_is c.args.state.now.stop (sym c.is_some.ensures ∙ c.if-is_some.false) in
     let new = c.step_numbered.new.state in
-    subst (λ (a : After). MatchResult c.step_numbered.result (λ k. IsAnswered (state_parts c.args.linked.now (g.H.Heap.content new.heap) new) k a) (λ _. Matches (state_parts c.args.linked.now (g.H.Heap.content new.heap) new) w))
-    (sym (after_going _ _ _ _ _ _ _ w m n c.args.event ∙ ap (after_event w) c.in-Step.is)) (c.step_numbered.ensures.event w m)
+    subst (λ (a : After). MatchResult c.step_numbered.result (λ k. IsAnswered (state_parts g.H.Heap.content c.args.linked.now new) k a) (λ _. Matches (state_parts g.H.Heap.content c.args.linked.now new) w))
+    (sym (after_going _ _ _ w m n c.args.event ∙ ap (after_event w) c.in-Step.is)) (c.step_numbered.ensures.event w m)
 
 pub returns-in-Minor-clause-event : goal.returns-in-Minor-clause-event
 returns-in-Minor-clause-event g c = λ w m.
     let n = none_is c.args.state.now.stop (sym c.is_some.ensures ∙ c.if-is_some.false) in
-    collected c.collect_kind.result _ w (after w c.args.event) (after_going _ _ _ _ _ _ _ w m n c.args.event ∙ ap (after_event w) c.in-Minor.is) c.collect_kind.ensures.kind (c.collect_kind.ensures.kept w m)
+    collected c.collect_kind.result _ w (after w c.args.event) (after_going _ _ _ w m n c.args.event ∙ ap (after_event w) c.in-Minor.is) c.collect_kind.ensures.kind (c.collect_kind.ensures.kept w m)
 
 pub returns-in-Full-clause-event : goal.returns-in-Full-clause-event
 returns-in-Full-clause-event g c = λ w m.
     let n = none_is c.args.state.now.stop (sym c.is_some.ensures ∙ c.if-is_some.false) in
     let call = c.collect_kind-in-Full in
-    collected call.result _ w (after w c.args.event) (after_going _ _ _ _ _ _ _ w m n c.args.event ∙ ap (after_event w) c.in-Full.is) call.ensures.kind (call.ensures.kept w m)
+    collected call.result _ w (after w c.args.event) (after_going _ _ _ w m n c.args.event ∙ ap (after_event w) c.in-Full.is) call.ensures.kind (call.ensures.kept w m)
 
 pub returns-then-is_some-clause-leaves : goal.returns-then-is_some-clause-leaves
 returns-then-is_some-clause-leaves g c w m =
     let x = some_is c.args.state.now.stop (sym c.is_some.ensures ∙ c.if-is_some.true) in
-    stopped_leaves _ _ _ _ _ _ _ w m x.1 c.args.event _
+    stopped_leaves _ _ _ w m x.1 c.args.event _
 
 pub returns-in-Full-clause-leaves : goal.returns-in-Full-clause-leaves
 returns-in-Full-clause-leaves g c w m =
     let call = c.collect_kind-in-Full in
-    told_ok call.result (λ left. subst (λ e. LeavesAfter e (g.H.Heap.content call.new.state.heap) w) (sym c.in-Full.is) (λ none. holds_reachable _ _ _ _ _ _ _ w (call.ensures.kept w m) left)) (call.ensures.leaves w m)
+    told_ok call.result (λ left. subst (λ e. LeavesAfter e (g.H.Heap.content call.new.state.heap) w) (sym c.in-Full.is) (λ none. holds_reachable _ _ _ w (call.ensures.kept w m) left)) (call.ensures.leaves w m)

@@ -9,21 +9,21 @@ use Rattle.jm_machine.proofs.event.step_numbered.Goals as goal
 
 pub returns-in-None-clause-event : goal.returns-in-None-clause-event
 returns-in-None-clause-event g c = λ w m.
-    none_answered _ _ _ _ _ _ _ w m c.args.number (ap (λ ts. ending_numbered ts c.args.number) (sym c.deref.ensures.value) ∙ sym c.in-None.ensures)
+    none_answered _ _ _ w m c.args.number (ap (λ ts. ending_numbered ts c.args.number) (sym c.deref.ensures.value) ∙ sym c.in-None.ensures)
 
 pub step_running-requires-clause-running : goal.step_running-requires-clause-running
 step_running-requires-clause-running g c = ap (λ ts. ending_numbered ts c.args.number) (sym c.deref.ensures.value) ∙ sym c.in-Some-Running.ensures ∙ ap Some c.in-Some-Running.field-0-is
 
 pub returns-in-Some-Returned-clause-event : goal.returns-in-Some-Returned-clause-event
 returns-in-Some-Returned-clause-event g c = λ w m.
-    ended_answered _ _ _ _ _ _ _ w m c.args.number _ (ap (λ ts. ending_numbered ts c.args.number) (sym c.deref.ensures.value) ∙ sym c.in-Some-Returned.ensures ∙ ap Some c.in-Some-Returned.field-0-is) refl
+    ended_answered _ _ _ w m c.args.number _ (ap (λ ts. ending_numbered ts c.args.number) (sym c.deref.ensures.value) ∙ sym c.in-Some-Returned.ensures ∙ ap Some c.in-Some-Returned.field-0-is) refl
 
 pub returns-in-Some-EndedBy-clause-event : goal.returns-in-Some-EndedBy-clause-event
 returns-in-Some-EndedBy-clause-event g c = λ w m.
-    ended_answered _ _ _ _ _ _ _ w m c.args.number _ (ap (λ ts. ending_numbered ts c.args.number) (sym c.deref.ensures.value) ∙ sym c.in-Some-EndedBy.ensures ∙ ap Some c.in-Some-EndedBy.field-0-is) refl
+    ended_answered _ _ _ w m c.args.number _ (ap (λ ts. ending_numbered ts c.args.number) (sym c.deref.ensures.value) ∙ sym c.in-Some-EndedBy.ensures ∙ ap Some c.in-Some-EndedBy.field-0-is) refl
 
 pub returns-in-Some-Running-clause-event : goal.returns-in-Some-Running-clause-event
 returns-in-Some-Running-clause-event g c = λ w m.
-    let x = steps _ _ _ _ _ _ _ w m c.args.number (ap (λ ts. ending_numbered ts c.args.number) (sym c.deref.ensures.value) ∙ sym c.in-Some-Running.ensures ∙ ap Some c.in-Some-Running.field-0-is) in
+    let x = steps _ _ _ w m c.args.number (ap (λ ts. ending_numbered ts c.args.number) (sym c.deref.ensures.value) ∙ sym c.in-Some-Running.ensures ∙ ap Some c.in-Some-Running.field-0-is) in
     let new = c.step_running.new.state in
-    subst (λ (a : After). MatchResult c.step_running.result (λ k. IsAnswered (state_parts c.args.linked.now (g.H.Heap.content new.heap) new) k a) (λ _. Matches (state_parts c.args.linked.now (g.H.Heap.content new.heap) new) w)) (sym x.2) (c.step_running.ensures.event w x.0 m x.1)
+    subst (λ (a : After). MatchResult c.step_running.result (λ k. IsAnswered (state_parts g.H.Heap.content c.args.linked.now new) k a) (λ _. Matches (state_parts g.H.Heap.content c.args.linked.now new) w)) (sym x.2) (c.step_running.ensures.event w x.0 m x.1)

@@ -14,7 +14,7 @@ returns-in-Ok-Blocked-clause-event g c = λ w t m e. blocked _ w (step_thread w 
 pub returns-in-Err-Stopped-clause-event : goal.returns-in-Err-Stopped-clause-event
 returns-in-Err-Stopped-clause-event g c = λ w t m e.
     let s = c.step_thread.new.state in
-    stopped _ _ _ _ _ _ s.stop w (step_thread w c.args.number t) _ _ c.in-Err-Stopped.field-0-is (c.in-Err-Stopped.ensures.next w t m e)
+    stopped _ _ _ w (step_thread w c.args.number t) _ _ c.in-Err-Stopped.field-0-is (c.in-Err-Stopped.ensures.next w t m e)
 
 pub returns-in-Err-OutOfMemory-clause-event : goal.returns-in-Err-OutOfMemory-clause-event
 returns-in-Err-OutOfMemory-clause-event g c = λ w t m e. refused _ w (step_thread w c.args.number t) _ c.in-Err-OutOfMemory.field-0-is (c.in-Err-OutOfMemory.ensures.next w t m e)

@@ -1,4 +1,6 @@
 use Rattle.std.proofs.Common.{sym, subst, ap, ◌∙◌, Some}
+use Rattle.jm_state.specs.View.{view_of}
+use Rattle.jm_state.proofs.Made.{counted}
 use Rattle.jm_machine.specs.Readers.{IsOfProgram}
 use Rattle.jm_machine.specs.Threads.{frame_numbered}
 use Rattle.jm_machine.specs.View.{MatchesWorld}
@@ -11,28 +13,28 @@ returns-in-None-clause-frame g c = λ w m.
     let s = c.self.inside.state in
     let l = c.self.inside.linked in
     let heap = g.H.Heap.content s.heap in
-    no_frame l heap s.threads.items s.statics.items s.classes.items s.output.items s.stop w (subst (λ v. MatchesWorld v w) (sym c.self.view_is) m) c.args.number c.args.depth (ap (λ ts. frame_numbered ts c.args.number c.args.depth) (sym c.deref.ensures.value) ∙ c.in-None.ensures)
+    no_frame l heap (view_of s) w (subst (λ v. MatchesWorld v w) (sym c.self.view_is) m) c.args.number c.args.depth (ap (λ ts. frame_numbered ts c.args.number c.args.depth) (sym c.deref.ensures.value) ∙ c.in-None.ensures)
 
 pub world_frame-requires-clause-runs : goal.world_frame-requires-clause-runs
 world_frame-requires-clause-runs g c =
     let s = c.self.inside.state in
     let l = c.self.inside.linked in
     let heap = g.H.Heap.content s.heap in
-    frame_runs l s.threads.items s.live s.statics.items s.classes.items c.self.invariant.runs c.args.number c.args.depth c.in-Some.frame.now (ap (λ ts. frame_numbered ts c.args.number c.args.depth) (sym c.deref.ensures.value) ∙ c.in-Some.ensures)
+    frame_runs l (view_of s) c.self.invariant.runs c.args.number c.args.depth c.in-Some.frame.now (ap (λ ts. frame_numbered ts c.args.number c.args.depth) (sym c.deref.ensures.value) ∙ c.in-Some.ensures)
 
 pub world_frame-requires-clause-resident : goal.world_frame-requires-clause-resident
 world_frame-requires-clause-resident g c =
     let s = c.self.inside.state in
     let l = c.self.inside.linked in
     let heap = g.H.Heap.content s.heap in
-    frame_resident l heap s.threads.items s.statics.items s.classes.items s.output.items s.stop c.self.invariant.world c.self.invariant.matches c.self.invariant.runs.statics c.args.number c.args.depth c.in-Some.frame.now (ap (λ ts. frame_numbered ts c.args.number c.args.depth) (sym c.deref.ensures.value) ∙ c.in-Some.ensures)
+    frame_resident l heap (view_of s) c.self.invariant.world c.self.invariant.matches (counted c.self.invariant.runs) c.args.number c.args.depth c.in-Some.frame.now (ap (λ ts. frame_numbered ts c.args.number c.args.depth) (sym c.deref.ensures.value) ∙ c.in-Some.ensures)
 
 pub returns-in-Some-clause-frame : goal.returns-in-Some-clause-frame
 returns-in-Some-clause-frame g c = λ w m.
     let s = c.self.inside.state in
     let l = c.self.inside.linked in
     let heap = g.H.Heap.content s.heap in
-    frame_read l heap s.threads.items s.statics.items s.classes.items s.output.items s.stop w (subst (λ v. MatchesWorld v w) (sym c.self.view_is) m) c.args.number c.args.depth c.in-Some.frame.now (ap (λ ts. frame_numbered ts c.args.number c.args.depth) (sym c.deref.ensures.value) ∙ c.in-Some.ensures)
+    frame_read l heap (view_of s) w (subst (λ v. MatchesWorld v w) (sym c.self.view_is) m) c.args.number c.args.depth c.in-Some.frame.now (ap (λ ts. frame_numbered ts c.args.number c.args.depth) (sym c.deref.ensures.value) ∙ c.in-Some.ensures)
     ∙ ap Some (sym c.world_frame.ensures.frame)
 
 pub returns-in-Some-clause-method : goal.returns-in-Some-clause-method
@@ -40,4 +42,4 @@ returns-in-Some-clause-method g c = λ w m.
     let s = c.self.inside.state in
     let l = c.self.inside.linked in
     let heap = g.H.Heap.content s.heap in
-    subst (λ p. IsOfProgram p c.world_frame.result) (program_is l heap s.threads.items s.statics.items s.classes.items s.output.items s.stop w (subst (λ v. MatchesWorld v w) (sym c.self.view_is) m)) c.world_frame.ensures.method
+    subst (λ p. IsOfProgram p c.world_frame.result) (program_is l heap (view_of s) w (subst (λ v. MatchesWorld v w) (sym c.self.view_is) m)) c.world_frame.ensures.method

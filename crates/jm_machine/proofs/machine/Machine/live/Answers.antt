@@ -4,4 +4,4 @@ use Rattle.jm_machine.proofs.Events.{live_is}
 use Rattle.jm_machine.proofs.machine.Machine.live.Goals as goal
 
 pub returns : goal.returns
-returns g c = λ w m. live_is _ _ _ _ _ _ _ w (subst (λ v. MatchesWorld v w) (sym c.self.view_is) m) _ c.self.invariant.runs.live
+returns g c = λ w m. live_is _ _ _ w (subst (λ v. MatchesWorld v w) (sym c.self.view_is) m) _ c.self.invariant.runs.live

@@ -1,4 +1,5 @@
 use Rattle.std.proofs.Common.{sym, subst, ap, ◌∙◌, Some}
+use Rattle.jm_state.specs.View.{view_of}
 use Rattle.jm_machine.specs.View.{MatchesWorld}
 use Rattle.jm_state.specs.Reached.{FindsReachable}
 use Rattle.jm_machine.proofs.Reading.{is_sound, object_read}
@@ -9,7 +10,7 @@ new-object-requires-clause-sound g c =
     let s = c.self.inside.state in
     let l = c.self.inside.linked in
     let heap = g.H.Heap.content s.heap in
-    is_sound l heap s.threads.items s.statics.items s.classes.items s.output.items s.stop c.self.invariant.world c.self.invariant.matches
+    is_sound l heap (view_of s) c.self.invariant.world c.self.invariant.matches
 
 pub returns-in-Ok-Some : goal.returns-in-Ok-Some
 returns-in-Ok-Some g c = λ w m.
@@ -17,4 +18,4 @@ returns-in-Ok-Some g c = λ w m.
     let l = c.self.inside.linked in
     let heap = g.H.Heap.content s.heap in
     let here = subst (FindsReachable heap w c.args.number) c.in-Ok-Some.field-0-is (c.in-Ok-Some.ensures w (subst (λ v. MatchesWorld v w) (sym c.self.view_is) m)) in
-    (here.0, object_read l heap s.threads.items s.statics.items s.classes.items s.output.items s.stop w (subst (λ v. MatchesWorld v w) (sym c.self.view_is) m) c.args.number c.in-Ok-Some.place here.0 here.1 ∙ ap Some (sym c.new-object.ensures))
+    (here.0, object_read l heap (view_of s) w (subst (λ v. MatchesWorld v w) (sym c.self.view_is) m) c.args.number c.in-Ok-Some.place here.0 here.1 ∙ ap Some (sym c.new-object.ensures))

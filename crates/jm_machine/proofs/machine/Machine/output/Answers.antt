@@ -4,4 +4,4 @@ use Rattle.jm_machine.proofs.Events.{output_is}
 use Rattle.jm_machine.proofs.machine.Machine.output.Goals as goal
 
 pub returns : goal.returns
-returns g c = λ w m. c.deref.ensures.value ∙ output_is _ _ _ _ _ _ _ w (subst (λ v. MatchesWorld v w) (sym c.self.view_is) m)
+returns g c = λ w m. c.deref.ensures.value ∙ output_is _ _ _ w (subst (λ v. MatchesWorld v w) (sym c.self.view_is) m)

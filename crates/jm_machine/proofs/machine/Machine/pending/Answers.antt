@@ -1,4 +1,6 @@
 use Rattle.std.proofs.Common.{sym, subst, ap, ◌∙◌, Some, None}
+use Rattle.jm_state.specs.View.{view_of}
+use Rattle.jm_state.proofs.Made.{counted}
 use Rattle.jm_machine.specs.Threads.{pending_numbered}
 use Rattle.jm_machine.specs.View.{MatchesWorld}
 use Rattle.jm_state.proofs.Marking.{name_is}
@@ -10,14 +12,14 @@ returns-in-None g c = λ w m.
     let s = c.self.inside.state in
     let l = c.self.inside.linked in
     let heap = g.H.Heap.content s.heap in
-    sym (pending_read l heap s.threads.items s.statics.items s.classes.items s.output.items s.stop w (subst (λ v. MatchesWorld v w) (sym c.self.view_is) m) c.args.number None (ap (λ ts. pending_numbered ts c.args.number) (sym c.deref.ensures.value) ∙ sym c.in-None.ensures))
+    sym (pending_read l heap (view_of s) w (subst (λ v. MatchesWorld v w) (sym c.self.view_is) m) c.args.number None (ap (λ ts. pending_numbered ts c.args.number) (sym c.deref.ensures.value) ∙ sym c.in-None.ensures))
 
 pub serial-requires : goal.serial-requires
 serial-requires g c =
     let s = c.self.inside.state in
     let l = c.self.inside.linked in
     let heap = g.H.Heap.content s.heap in
-    pending_resident l heap s.threads.items s.statics.items s.classes.items s.output.items s.stop c.self.invariant.world c.self.invariant.matches c.self.invariant.runs.statics c.args.number c.in-Some.place (ap (λ ts. pending_numbered ts c.args.number) (sym c.deref.ensures.value) ∙ sym c.in-Some.ensures)
+    pending_resident l heap (view_of s) c.self.invariant.world c.self.invariant.matches (counted c.self.invariant.runs) c.args.number c.in-Some.place (ap (λ ts. pending_numbered ts c.args.number) (sym c.deref.ensures.value) ∙ sym c.in-Some.ensures)
 
 pub returns-in-Some : goal.returns-in-Some
 returns-in-Some g c = λ w m.
@@ -25,4 +27,4 @@ returns-in-Some g c = λ w m.
     let l = c.self.inside.linked in
     let heap = g.H.Heap.content s.heap in
     ap Some (sym (name_is heap c.in-Some.place c.serial.result c.serial.ensures))
-    ∙ sym (pending_read l heap s.threads.items s.statics.items s.classes.items s.output.items s.stop w (subst (λ v. MatchesWorld v w) (sym c.self.view_is) m) c.args.number (Some c.in-Some.place) (ap (λ ts. pending_numbered ts c.args.number) (sym c.deref.ensures.value) ∙ sym c.in-Some.ensures))
+    ∙ sym (pending_read l heap (view_of s) w (subst (λ v. MatchesWorld v w) (sym c.self.view_is) m) c.args.number (Some c.in-Some.place) (ap (λ ts. pending_numbered ts c.args.number) (sym c.deref.ensures.value) ∙ sym c.in-Some.ensures))

@@ -4,4 +4,4 @@ use Rattle.jm_machine.proofs.Events.{program_is}
 use Rattle.jm_machine.proofs.machine.Machine.program.Goals as goal
 
 pub returns : goal.returns
-returns g c = λ w m. c.classes.ensures.classes ∙ program_is _ _ _ _ _ _ _ w (subst (λ v. MatchesWorld v w) (sym c.self.view_is) m)
+returns g c = λ w m. c.classes.ensures.classes ∙ program_is _ _ _ w (subst (λ v. MatchesWorld v w) (sym c.self.view_is) m)
