@@ -23,7 +23,8 @@ use Rattle.jm_world.specs.declared.stage.Stage.{Stage}
 use Rattle.jm_world.specs.declared.stage.Stage.TheVariants as stage
 use Rattle.jm_heap.specs.declared.class_id.ClassId.{ClassId}
 use Rattle.jm_linked.specs.Links.{LinkedView, IsLinked}
-use Rattle.jm_state.specs.Parts.{parts, frame_part, thread_part, named_states, program_class_name, name_in_program}
+use Rattle.jm_linked.specs.Named.{named_states}
+use Rattle.jm_state.specs.Parts.{parts, frame_part, thread_part, program_class_name, name_in_program}
 use Rattle.jm_state.specs.Runnable.{IsMethodFrame, StandOnTop, ThreadRuns, ThreadNotYet}
 use Rattle.jm_state.specs.Places.{held_thread}
 use Rattle.jm_state.specs.Ends.{Ended}
@@ -32,9 +33,9 @@ use Rattle.jm_state.specs.declared.thread.StackFrame.{StackFrame}
 use Rattle.jm_state.specs.declared.thread.StackFrame.TheVariants.{Initialization}
 use Rattle.jm_state.specs.declared.thread.Thread as held
 use Rattle.jm_interp.proofs.Lists.{each_set, each_at}
-use Rattle.jm_interp.proofs.BuiltIns.{others}
-use Rattle.jm_interp.proofs.SystemOut.{not_listed}
-use Rattle.jm_interp.proofs.Classes.{IsPlain, plain_class, state_is, states_set, class_is}
+use Rattle.jm_linked.proofs.BuiltIns.{others}
+use Rattle.jm_linked.proofs.SystemOut.{not_listed}
+use Rattle.jm_linked.proofs.Classes.{IsPlain, plain_class, state_is, states_set, class_is}
 use Rattle.std.specs.Prelude.{slice_index_or, vec_len, Ok}
 use Rattle.jm_interp.specs.declared.at.At.{At}
 use Rattle.jm_interp.specs.At.{parts_at, OnThread, Does, Steps}

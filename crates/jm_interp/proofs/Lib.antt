@@ -7,16 +7,12 @@ pub mod Objects
 pub mod TopFrames
 pub mod Fetching
 pub mod Here
-pub mod BuiltIns
-pub mod SystemOut
-pub mod Classes
 pub mod Thrown
 pub mod Ended
 pub mod PlainRow
 pub mod PushRow
 pub mod ReturnRow
 pub mod Arguments
-pub mod PrintStreams
 pub mod PrintRow
 pub mod Unwound
 pub mod Initialized

@@ -38,7 +38,8 @@ use Rattle.jm_linked.specs.declared.instruction.LinkedInstr.TheVariants as linke
 use Rattle.jm_linked.specs.declared.instruction.Printed.TheVariants as printed
 use Rattle.jm_linked.specs.declared.instruction.PrintMethod.{PrintMethod}
 use Rattle.jm_linked.specs.declared.instruction.PrintMethod.TheVariants.{Print, Println, EndLine}
-use Rattle.jm_state.specs.Parts.{parts, named_type, named_states, element_named}
+use Rattle.jm_linked.specs.Named.{named_states}
+use Rattle.jm_state.specs.Parts.{parts, named_type, element_named}
 use Rattle.jm_state.specs.declared.state.State.{State}
 use Rattle.jm_state.specs.declared.thread.Ending.TheVariants.{Running}
 use Rattle.jm_state.specs.declared.thread.StackFrame.TheVariants.{Method}
@@ -49,7 +50,7 @@ use Rattle.jm_interp.specs.declared.operands.Text.TheVariants as text
 use Rattle.jm_interp.specs.Printing.{printing_of, left_by, text_bytes, line_bytes, is_print_stream}
 use Rattle.jm_interp.proofs.Lists.{among_split}
 use Rattle.jm_interp.proofs.Arguments.{arguments_of, Fits, AllFit, received, receives, ReceiverIn, receiver_in}
-use Rattle.jm_interp.proofs.PrintStreams.{ref_is, stream_selects, stream_below_itself, no_stream, other_name}
+use Rattle.jm_linked.proofs.PrintStreams.{ref_is, stream_selects, stream_below_itself, no_stream, other_name}
 use Rattle.std.specs.Prelude.{slice_index_or, Result}
 use Rattle.jm_linked.specs.Links.{Links}
 use Rattle.jm_frames.specs.FrameView.{FrameView}

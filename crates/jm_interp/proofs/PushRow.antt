@@ -32,15 +32,16 @@ use Rattle.jm_heap.specs.declared.class_id.ClassId.{ClassId}
 use Rattle.jm_linked.specs.Links.{Links}
 use Rattle.jm_linked.specs.declared.instruction.LinkedInstr.{LinkedInstr}
 use Rattle.jm_linked.specs.declared.instruction.LinkedInstr.TheVariants as linked
-use Rattle.jm_state.specs.Parts.{parts, named_statics}
+use Rattle.jm_linked.specs.Named.{named_statics}
+use Rattle.jm_state.specs.Parts.{parts}
 use Rattle.jm_state.specs.declared.halt.Halt.TheVariants.{Stopped}
 use Rattle.jm_state.specs.declared.halt.StepEnd.TheVariants as end
 use Rattle.jm_state.specs.declared.state.State.{State}
 use Rattle.jm_state.specs.declared.thread.Thread as held
 use Rattle.jm_interp.specs.Pushing.{Pushes}
 use Rattle.jm_interp.proofs.Lists.{among_split}
-use Rattle.jm_interp.proofs.BuiltIns.{others}
-use Rattle.jm_interp.proofs.SystemOut.{system_out_row, not_listed}
+use Rattle.jm_linked.proofs.BuiltIns.{others}
+use Rattle.jm_linked.proofs.SystemOut.{system_out_row, not_listed}
 use Rattle.std.specs.Prelude.{slice_index_or}
 use Rattle.jm_values.specs.Steps as steps
 use Rattle.jm_interp.specs.declared.at.At.{At}

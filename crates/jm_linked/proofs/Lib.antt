@@ -1,2 +1,6 @@
 pub mod Whole
 pub mod BuiltInNumbers
+pub mod BuiltIns
+pub mod Classes
+pub mod SystemOut
+pub mod PrintStreams

@@ -27,7 +27,8 @@ use Rattle.jm_world.proofs.LoadsWellFormed.{runs_are_well_formed}
 use Rattle.jm_heap.specs.declared.class_id.ClassId.{ClassId}
 use Rattle.jm_linked.specs.Links.{LinkedView, IsLinked, MethodLinks, name_of_number, name_among, name_in_class, member_name, class_name_of}
 use Rattle.jm_linked.specs.declared.method.LinkedMethod.{LinkedMethod}
-use Rattle.jm_state.specs.Parts.{parts, named_type, named_statics, named_literals, named_states, thread_part, part_of_held, program_class_name, name_in_program, ending_part, frame_part}
+use Rattle.jm_linked.specs.Named.{named_statics, named_literals, named_states}
+use Rattle.jm_state.specs.Parts.{parts, named_type, thread_part, part_of_held, program_class_name, name_in_program, ending_part, frame_part}
 use Rattle.jm_state.specs.Places.{held_thread}
 use Rattle.jm_state.specs.View.{StateView}
 use Rattle.jm_state.specs.Runnable.{IsRunnable, ThreadRuns, ThreadNotYet}

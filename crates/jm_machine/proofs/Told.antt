@@ -22,7 +22,8 @@ use Rattle.jm_world.specs.World.{Static}
 use Rattle.jm_heap.specs.declared.class_id.ClassId.{ClassId}
 use Rattle.jm_linked.specs.Links.{LinkedView, IsLinked, MethodLinks, name_of_number, name_among, name_in_class, member_name}
 use Rattle.jm_linked.specs.declared.method.LinkedMethod.{LinkedMethod}
-use Rattle.jm_state.specs.Parts.{named_type, named_statics, program_class_name, name_in_program}
+use Rattle.jm_linked.specs.Named.{named_statics}
+use Rattle.jm_state.specs.Parts.{named_type, program_class_name, name_in_program}
 use Rattle.jm_state.proofs.Marking.{name_is, object_there}
 use Rattle.jm_machine.specs.Seen.{object_or_none, object_seen, statics_seen}
 use Rattle.jm_machine.proofs.Path.{no_statics}

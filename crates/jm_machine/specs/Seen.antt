@@ -12,7 +12,8 @@ use Rattle.jm_world.specs.Types.{ObjectType, instance_of}
 use Rattle.jm_world.specs.World.{Static}
 use Rattle.jm_heap.specs.declared.class_id.ClassId.{ClassId}
 use Rattle.jm_linked.specs.Links.{LinkedView}
-use Rattle.jm_state.specs.Parts.{named_type, named_statics}
+use Rattle.jm_linked.specs.Named.{named_statics}
+use Rattle.jm_state.specs.Parts.{named_type}
 
 -- the object, its type by name; no object is seen as one without a name
 abbrev pub object_or_none : (ClassId → ObjectType) → Option (ObjectOf ClassId) → Object

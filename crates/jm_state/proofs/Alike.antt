@@ -14,7 +14,8 @@ use Rattle.jm_world.specs.Matches.{Parts, places}
 use Rattle.jm_world.specs.Renaming.{thread_shape, static_shape, monitor_shape, literal_shape, refill_by}
 use Rattle.jm_heap.specs.declared.class_id.ClassId.{ClassId}
 use Rattle.jm_linked.specs.Links.{LinkedView}
-use Rattle.jm_state.specs.Parts.{frame_part, ending_part, part_of_held, thread_part, monitor_part, named_statics, named_literals, parts}
+use Rattle.jm_linked.specs.Named.{named_statics, named_literals}
+use Rattle.jm_state.specs.Parts.{frame_part, ending_part, part_of_held, thread_part, monitor_part, parts}
 use Rattle.jm_state.specs.Places.{stack_frame_shape, HeldThread, held_thread, held_thread_shape, held_monitor_shape, Holders, holders, holders_shape, places_of}
 use Rattle.jm_state.specs.View.{StateView}
 use Rattle.jm_state.specs.declared.monitor.Monitor.{Monitor}

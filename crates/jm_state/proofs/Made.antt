@@ -27,7 +27,8 @@ use Rattle.jm_heap.specs.declared.fault.HeapFault.{HeapFault}
 use Rattle.jm_heap.specs.declared.fault.HeapFault.TheVariants as fault
 use Rattle.jm_linked.specs.Links.{LinkedView}
 use Rattle.jm_state.specs.Ends.{MadeOrNot, halt_from, with_object}
-use Rattle.jm_state.specs.Parts.{named_type, named_states, parts}
+use Rattle.jm_linked.specs.Named.{named_states}
+use Rattle.jm_state.specs.Parts.{named_type, parts}
 use Rattle.jm_state.specs.Places.{IsPutBack, places_of}
 use Rattle.jm_state.specs.Reached.{AreReachable, AreReached, FindsReached, FindsReachable, LeavesReachable}
 use Rattle.jm_state.specs.Runnable.{IsRunnable}

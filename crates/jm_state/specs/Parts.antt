@@ -3,18 +3,17 @@ use Rattle.std.specs.Prelude.{ℕ, List, [], ◌∷◌, map, reverse, Option, So
 use Rattle.jm_program.specs.declared.class.ClassParts.{ClassParts}
 use Rattle.jm_program.specs.declared.descriptor.ElementType.{ElementType}
 use Rattle.jm_program.specs.declared.descriptor.ElementType.TheVariants as type
-use Rattle.jm_values.specs.declared.value.Value.{Value}
 use Rattle.jm_world.specs.Types.{ObjectType, instance_of, array_of}
 use Rattle.jm_world.specs.Frames.{Frame, method_frame, initialization_frame}
-use Rattle.jm_world.specs.World.{Thread, Static, Progress, Monitor, Literal, Ending, running, returned, ended_by}
+use Rattle.jm_world.specs.World.{Thread, Monitor, Ending, running, returned, ended_by}
 use Rattle.jm_values.specs.Content.{Content}
 use Rattle.jm_world.specs.Loading.{first_statics, literal_texts}
 use Rattle.jm_world.specs.Matches.{Parts}
-use Rattle.jm_world.specs.declared.class_state.ClassState.{ClassState}
 use Rattle.jm_heap.specs.declared.class_id.ClassId.{ClassId}
 use Rattle.jm_heap.specs.declared.class_id.ClassId.TheVariants.{Instance, Array}
 use Rattle.jm_heap.specs.declared.class_id.Element.{Element}
 use Rattle.jm_heap.specs.declared.class_id.Element.TheVariants.{Base, Class}
+use Rattle.jm_linked.specs.Named.{named_statics, named_states, named_literals}
 use Rattle.jm_linked.specs.Links.{LinkedView, class_name_of, name_of_number}
 use Rattle.jm_state.specs.declared.thread.StackFrame.{StackFrame}
 use Rattle.jm_state.specs.declared.thread.StackFrame.TheVariants.{Method, Initialization}
@@ -63,24 +62,6 @@ part_of_held l t = record { object = t.object; frames = map (frame_part l) t.fra
 
 abbrev pub thread_part : LinkedView → held.Thread → Thread
 thread_part l t = part_of_held l (held_thread t)
-
--- the static fields by name, with these values
-abbrev pub named_statics : List Static → List Value → List Static
-named_statics [] vs = []
-named_statics (s ∷ ss) [] = []
-named_statics (s ∷ ss) (v ∷ vs) = record { field = s.field; value = v } ∷ named_statics ss vs
-
--- the classes by name, with these states
-abbrev pub named_states : List ClassParts → List ClassState → List Progress
-named_states [] ss = []
-named_states (c ∷ cs) [] = []
-named_states (c ∷ cs) (s ∷ ss) = record { class = c.name; state = s } ∷ named_states cs ss
-
--- the literals by their texts, with the Strings at these places
-abbrev pub named_literals : List (List ℕ) → List ℕ → List Literal
-named_literals [] ps = []
-named_literals (t ∷ ts) [] = []
-named_literals (t ∷ ts) (p ∷ ps) = record { units = t; string = p } ∷ named_literals ts ps
 
 abbrev pub monitor_part : held_monitor.Monitor → Monitor
 monitor_part m = record { object = m.object; owner = m.owner; count = m.count }

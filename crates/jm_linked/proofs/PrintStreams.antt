@@ -28,9 +28,9 @@ use Rattle.jm_linked.specs.declared.instruction.Printed.TheVariants as printed
 use Rattle.jm_linked.specs.declared.instruction.PrintMethod.{PrintMethod}
 use Rattle.jm_linked.specs.declared.instruction.PrintMethod.TheVariants.{Print, Println, EndLine}
 use Rattle.std.proofs.lemmas.Bool.{eqb-true}
-use Rattle.jm_interp.proofs.SystemOut.{left_true, right_true, class_is}
-use Rattle.jm_interp.proofs.BuiltIns.{AreOthers, others, built_in_class}
-use Rattle.jm_interp.proofs.Classes.{IsPlain, plain_class}
+use Rattle.jm_linked.proofs.SystemOut.{left_true, right_true, class_is}
+use Rattle.jm_linked.proofs.BuiltIns.{AreOthers, others, built_in_class}
+use Rattle.jm_linked.proofs.Classes.{IsPlain, plain_class}
 
 -- the type of a print by its parts
 int_is : (b : BaseType) → nat_eq (base_letter b) (base_letter base.Int) ≡ true → b ≡ base.Int

@@ -14,8 +14,8 @@ use Rattle.jm_world.specs.declared.class_state.ClassState.{ClassState}
 use Rattle.jm_linked.specs.Later.{later_part, later_class, later_superclass, other_method, later_code, first_later, or_later, unless_empty, is_main_method}
 use Rattle.jm_linked.specs.declared.later.LaterPart.{LaterPart}
 use Rattle.jm_linked.specs.declared.later.LaterPart.TheVariants as later
-use Rattle.jm_state.specs.Parts.{named_states}
-use Rattle.jm_interp.proofs.BuiltIns.{AreOthers}
+use Rattle.jm_linked.specs.Named.{named_states}
+use Rattle.jm_linked.proofs.BuiltIns.{AreOthers}
 
 first_none : (a b : Option Refusal) → or_else a b ≡ None → a ≡ None
 first_none None b e = refl

@@ -29,8 +29,8 @@ use Rattle.jm_world.specs.declared.class_state.ClassState.TheVariants.{Done}
 use Rattle.jm_world.specs.declared.stage.Stage.TheVariants.{Begin}
 use Rattle.jm_values.specs.declared.fault.TagFault.TheVariants.{WrongKind}
 use Rattle.jm_linked.specs.Later.{is_class_called, is_system_out}
-use Rattle.jm_state.specs.Parts.{named_states}
-use Rattle.jm_interp.proofs.BuiltIns.{AreOthers, built_in_class}
+use Rattle.jm_linked.specs.Named.{named_states}
+use Rattle.jm_linked.proofs.BuiltIns.{AreOthers, built_in_class}
 
 pub left_true : (a b : Bool) → (a && b) ≡ true → a ≡ true
 left_true true b e = refl
