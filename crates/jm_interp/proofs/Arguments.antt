@@ -12,9 +12,9 @@ use Rattle.jm_linked.specs.Later.{print_parameters}
 use Rattle.jm_linked.specs.declared.instruction.Printed.TheVariants as printed
 use Rattle.jm_linked.specs.declared.instruction.PrintMethod.{PrintMethod}
 use Rattle.jm_linked.specs.declared.instruction.PrintMethod.TheVariants.{Print, Println, EndLine}
-use Rattle.jm_interp.specs.declared.operands.Printing.{Printing}
-use Rattle.jm_interp.specs.declared.operands.Text.{Text}
-use Rattle.jm_interp.specs.declared.operands.Text.TheVariants as text
+use Rattle.jm_interp.specs.declared.print_operands.Printing.{Printing}
+use Rattle.jm_interp.specs.declared.print_operands.Text.{Text}
+use Rattle.jm_interp.specs.declared.print_operands.Text.TheVariants as text
 use Rattle.jm_interp.specs.Printing.{printing_of, left_by}
 
 -- the argument as the model has it
@@ -43,7 +43,9 @@ abbrev pub received : (ℕ → ℕ) → Result Printing TagFault → List Value 
 received f (Err fault) rest go = faults fault
 received f (Ok p) rest go = go (option_map f p.receiver) (arguments_of p.text) (map (rename f) rest)
 
-pub receives : (f : ℕ → ℕ) (m : PrintMethod) (s : List Value) (go : Option ℕ → List Value → List Value → Next) → (with_arguments (reverse (print_parameters m)) [] (map (rename f) s) (λ arguments below. with_reference below (λ r rest. go r arguments rest)) ≡ received f (printing_of m s) (left_by m s) go) × AllFit m (printing_of m s)
+pub receives : (f : ℕ → ℕ) (m : PrintMethod) (s : List Value) (go : Option ℕ → List Value → List Value → Next) → (with_arguments
+    (reverse (print_parameters m)) [] (map (rename f) s) (λ arguments below. with_reference below (λ r rest. go r arguments rest)) ≡ received f
+    (printing_of m s) (left_by m s) go) × AllFit m (printing_of m s)
 receives f (Print printed.Int) [] go = (refl, tt)
 receives f (Print printed.Int) (Int n ∷ []) go = (refl, tt)
 receives f (Print printed.Int) (Int n ∷ Int j ∷ s) go = (refl, tt)

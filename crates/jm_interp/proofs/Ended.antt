@@ -39,16 +39,19 @@ no_object program (EndedBy c) o q n a = a
 
 module _ {H : Type 0} {content : H → Content ClassId} {at : At} {old : State H} {fs : List StackFrame} {p : Option ℕ} (h : OnThread content at old fs p) where
   -- with the thread as another that has ended, one less is live
-  live_without : (y : Thread) → is_running y.ending ≡ false → live_among (slice_set (map (thread_part at.linked.now) old.threads.items) at.index y) + 1 ≡ old.live
+  live_without : (y : Thread) → is_running y.ending ≡ false
+      → live_among (slice_set (map (thread_part at.linked.now) old.threads.items) at.index y) + 1 ≡ old.live
   live_without y ended =
       let part = thread_part at.linked.now in
-      live_less (map part old.threads.items) at.index (part h.stands.thread) y (get_map part old.threads.items at.index h.stands.thread h.stands.at) (ap (λ (x : ThreadRest). is_running (ending_part at.linked.now.program x.ending)) h.stands.stands.rest_is) ended
+      live_less (map part old.threads.items) at.index (part h.stands.thread) y (get_map part old.threads.items at.index h.stands.thread h.stands.at)
+      (ap (λ (x : ThreadRest). is_running (ending_part at.linked.now.program x.ending)) h.stands.stands.rest_is) ended
       ∙ sym h.beside.runs.live
 
   pub one_lives : 0 < old.live
   one_lives = let a = live_without (record { object = None; frames = []; pending = None; ending = returned }) refl in omega arith
 
-  module _ (left : ℕ) {t : held.Thread} {e : code.Ending} (s : Stands t [] (record { object = h.object; pending = None; ending = e })) (ended : is_running (ending_part at.linked.now.program e) ≡ false) (fewer : old.live ≡ left + 1) where
+  module _ (left : ℕ) {t : held.Thread} {e : code.Ending} (s : Stands t [] (record { object = h.object; pending = None; ending = e }))
+      (ended : is_running (ending_part at.linked.now.program e) ≡ false) (fewer : old.live ≡ left + 1) where
     none : h.object ≡ None
     none = (part_here h).not_yet.object
 
@@ -61,15 +64,20 @@ module _ {H : Type 0} {content : H → Content ClassId} {at : At} {old : State H
         let r = h.beside.runs in
         let ends : is_running (part t).ending ≡ false = ap (λ (x : ThreadRest). is_running (ending_part at.linked.now.program x.ending)) s.rest_is ∙ ended in
         let a = live_without (part t) ends in
-        let b : live_among (map part (slice_set old.threads.items at.index t)) ≡ live_among (slice_set (map part old.threads.items) at.index (part t)) = ap live_among (map_set part old.threads.items at.index t) in
+        let b : live_among (map part (slice_set old.threads.items at.index t)) ≡ live_among (slice_set (map part old.threads.items) at.index (part t)) =
+        ap live_among (map_set part old.threads.items at.index t) in
         record {
-          threads = all_set (ThreadRuns at.linked.now) old.threads.items at.index t r.threads (subst (ThreadRuns at.linked.now) (sym (held_is s)) (record { frames = tt; few = omega arith }));
+          threads =
+              all_set (ThreadRuns at.linked.now) old.threads.items at.index t r.threads
+              (subst (ThreadRuns at.linked.now) (sym (held_is s)) (record { frames = tt; few = omega arith }));
           live = omega arith;
           statics = r.statics;
           literals = r.literals;
           classes = r.classes;
           not_yet = record {
-            threads = all_set ThreadNotYet old.threads.items at.index t r.not_yet.threads (subst ThreadNotYet (sym (held_is s)) (record { object = none; monitors = tt; initializers = tt }));
+            threads =
+                all_set ThreadNotYet old.threads.items at.index t r.not_yet.threads
+                (subst ThreadNotYet (sym (held_is s)) (record { object = none; monitors = tt; initializers = tt }));
             monitors = r.not_yet.monitors;
             failures = r.not_yet.failures;
           };
@@ -82,4 +90,5 @@ module _ {H : Type 0} {content : H → Content ClassId} {at : At} {old : State H
         let y : Option ℕ → Thread = λ object. record { object = object; frames = []; pending = None; ending = ending_part at.linked.now.program e } in
         subst (λ z. Matches (parts_at content at ended_state) (with_thread w (at.index + 1) z)) (ap y (none_left at.linked.now.program f f e h.object none))
         (subst (Matches (parts_at content at ended_state)) (same_rest h w m x)
-        (changed_matches h ended_state (record { threads = refl; statics = refl; literals = refl; monitors = refl; heap = refl; stop = refl }) s (λ q a. absurd (no_object at.linked.now.program e h.object q none a)) (λ q a. absurd a) w m)))
+        (changed_matches h ended_state (record { threads = refl; statics = refl; literals = refl; monitors = refl; heap = refl; stop = refl }) s
+        (λ q a. absurd (no_object at.linked.now.program e h.object q none a)) (λ q a. absurd a) w m)))

@@ -1,5 +1,6 @@
 -- Stages of initialization beside the model's.
-use Rattle.std.proofs.Common.{◌≡◌, ◌≢◌, ℕ, ◌+◌, ◌-◌, ◌<◌, List, [], ◌∷◌, Option, Some, None, true, false, refl, sym, ap, ◌∙◌, subst, inl, inr, ◌⊎◌, length, drop, arith, length-set}
+use Rattle.std.proofs.Common.{◌≡◌, ◌≢◌, ℕ, ◌+◌, ◌-◌, ◌<◌, List, [], ◌∷◌, Option, Some, None, true, false, refl, sym, ap, ◌∙◌, subst, inl, inr, ◌⊎◌, length}
+use Rattle.std.proofs.Common.{drop, arith, length-set}
 use Rattle.std.specs.Prelude.{map, slice_get, slice_set, nat_eq}
 use Rattle.std.specs.List.{AllByRecursion}
 use Rattle.jm_program.specs.declared.class.ClassParts.{ClassParts}
@@ -8,7 +9,8 @@ use Rattle.std.proofs.lemmas.Bool.Decides.{eqb_tells}
 use Rattle.jm_values.specs.Shape.{Among}
 use Rattle.jm_world.specs.Frames.{Frame, frames_shape, rename_frame, initialization_frame}
 use Rattle.jm_world.specs.Here.{with_frames, push_frame}
-use Rattle.jm_world.specs.Initialization.{initialize, begin, superclass_first, superclass_name, is_done, run_initializer, initializer_of, initializer_in, initializer_type, constants_of, with_constants, at_stage, finish}
+use Rattle.jm_world.specs.Initialization.{initialize, begin, superclass_first, superclass_name, is_done, run_initializer, initializer_of, initializer_in}
+use Rattle.jm_world.specs.Initialization.{initializer_type, constants_of, with_constants, at_stage, finish}
 use Rattle.jm_world.specs.Next as next
 use Rattle.jm_world.specs.Next.{Next, goes}
 use Rattle.jm_world.specs.Classes.{class_named, object_class}
@@ -72,10 +74,12 @@ pub below_on_top : (fs : List StackFrame) → AllByRecursion IsMethodFrame fs �
 below_on_top [] h = tt
 below_on_top (f ∷ fs) h = h.1
 
-pub dropped_runs : {l : LinkedView} {class : ℕ} {s : Stage} {below : List StackFrame} {o : Option ℕ} → PartRuns l (Initialization class s ∷ below) (running o None) → PartRuns l below (running o None)
+pub dropped_runs : {l : LinkedView} {class : ℕ} {s : Stage} {below : List StackFrame} {o : Option ℕ}
+    → PartRuns l (Initialization class s ∷ below) (running o None) → PartRuns l below (running o None)
 dropped_runs {below = below} q = without_top q (below_on_top below q.not_yet.initializers)
 
-pub staged_runs : {l : LinkedView} {class : ℕ} {s s' : Stage} {below : List StackFrame} {o : Option ℕ} → PartRuns l (Initialization class s ∷ below) (running o None) → PartRuns l (Initialization class s' ∷ below) (running o None)
+pub staged_runs : {l : LinkedView} {class : ℕ} {s s' : Stage} {below : List StackFrame} {o : Option ℕ}
+    → PartRuns l (Initialization class s ∷ below) (running o None) → PartRuns l (Initialization class s' ∷ below) (running o None)
 staged_runs {class = class} {s = s} q = with_top {f = Initialization class s} q.runs.frames.0 tt q q.not_yet.initializers
 
 differ : (a b : ℕ) → (a ≡ b → ⊥) → nat_eq a b ≡ false
@@ -84,7 +88,8 @@ differ a b n = elim (eqb_tells a b) [ inl t ↦ absurd (n t.1) | inr t ↦ t.0 ]
 alike : (a b : ℕ) → a ≡ b → nat_eq a b ≡ true
 alike a b e = eq-eqb a b e
 
-module _ {H : Type 0} {content : H → Content ClassId} {at : At} {old : State H} {class : ℕ} {s : Stage} {below : List StackFrame} (h : OnThread content at old (Initialization class s ∷ below) None) where
+module _ {H : Type 0} {content : H → Content ClassId} {at : At} {old : State H} {class : ℕ} {s : Stage} {below : List StackFrame}
+    (h : OnThread content at old (Initialization class s ∷ below) None) where
   abbrev name : List ℕ
   name = program_class_name at.linked.now.program class
 
@@ -106,14 +111,20 @@ module _ {H : Type 0} {content : H → Content ClassId} {at : At} {old : State H
       omega arith
 
   -- frames that hold the places of those below
-  inside : (fs : List StackFrame) → ((q : ℕ) → Among q (frames_shape.refs (map (frame_part at.linked.now) fs)) → Among q (frames_shape.refs (map (frame_part at.linked.now) below))) → (q : ℕ) → Among q (held_shape.refs (None, map (frame_part at.linked.now) fs)) → Among q (places (parts_at content at old))
+  inside : (fs : List StackFrame)
+      → ((q : ℕ) → Among q (frames_shape.refs (map (frame_part at.linked.now) fs)) → Among q (frames_shape.refs (map (frame_part at.linked.now) below)))
+      → (q : ℕ) → Among q (held_shape.refs (None, map (frame_part at.linked.now) fs)) → Among q (places (parts_at content at old))
   inside fs e q a = held_frames h q (elim (part_refs at.linked.now fs None q a) [ inl z ↦ absurd z | inr z ↦ e q z ])
 
   -- the frame is dropped, or goes to another stage
-  pub dropped : {t : held.Thread} {rule : World → ℕ → Thread → Next} → Stands t below (running h.object None) → ((w : World) → Matches (parts_at content at old) w → rule w (at.index + 1) (model h) ≡ goes (with_frames w (at.index + 1) (model h) lower)) → Does content at old (Ok step_end.Done) (with_thread_at old at.index t) rule
+  pub dropped : {t : held.Thread} {rule : World → ℕ → Thread → Next} → Stands t below (running h.object None)
+      → ((w : World) → Matches (parts_at content at old) w → rule w (at.index + 1) (model h) ≡ goes (with_frames w (at.index + 1) (model h) lower))
+      → Does content at old (Ok step_end.Done) (with_thread_at old at.index t) rule
   dropped s' is = thread.goes h s' (dropped_runs (part_here h)) (inside below (λ q a. a)) is
 
-  pub staged : {t : held.Thread} {s' : Stage} {rule : World → ℕ → Thread → Next} → Stands t (Initialization class s' ∷ below) (running h.object None) → ((w : World) → Matches (parts_at content at old) w → rule w (at.index + 1) (model h) ≡ goes (at_stage w (at.index + 1) (model h) name s' lower)) → Does content at old (Ok step_end.Done) (with_thread_at old at.index t) rule
+  pub staged : {t : held.Thread} {s' : Stage} {rule : World → ℕ → Thread → Next} → Stands t (Initialization class s' ∷ below) (running h.object None)
+      → ((w : World) → Matches (parts_at content at old) w → rule w (at.index + 1) (model h) ≡ goes (at_stage w (at.index + 1) (model h) name s' lower))
+      → Does content at old (Ok step_end.Done) (with_thread_at old at.index t) rule
   staged {t} {s'} is_so is = thread.goes h is_so (staged_runs (part_here h)) (inside (Initialization class s' ∷ below) (λ q a. a)) is
 
   -- the model's class, and its state
@@ -126,29 +137,44 @@ module _ {H : Type 0} {content : H → Content ClassId} {at : At} {old : State H
   state_here {st} there w m =
       let l = at.linked.now in
       let d = class_of in
-      ap (λ ps. state_in ps name) (sym m.classes) ∙ ap (state_in (named_states l.program old.classes.items)) d.named ∙ state_is l.program h.beside.linked.loads old.classes.items class d.class_of st d.at there
+      ap (λ ps. state_in ps name) (sym m.classes) ∙ ap (state_in (named_states l.program old.classes.items)) d.named
+      ∙ state_is l.program h.beside.linked.loads old.classes.items class d.class_of st d.at there
 
-  states_here : (st : ClassState) (w : World) → Matches (parts_at content at old) w → named_states at.linked.now.program (slice_set old.classes.items class st) ≡ set_state_in w.classes name st
+  states_here : (st : ClassState) (w : World) → Matches (parts_at content at old) w
+      → named_states at.linked.now.program (slice_set old.classes.items class st) ≡ set_state_in w.classes name st
   unfolding parts
   states_here st w m =
       let l = at.linked.now in
       let d = class_of in
-      sym (ap (λ ps. set_state_in ps name st) (sym m.classes) ∙ ap (λ n. set_state_in (named_states l.program old.classes.items) n st) d.named ∙ states_set l.program h.beside.linked.loads old.classes.items class d.class_of st d.at)
+      sym (ap (λ ps. set_state_in ps name st) (sym m.classes) ∙ ap (λ n. set_state_in (named_states l.program old.classes.items) n st) d.named
+      ∙ states_set l.program h.beside.linked.loads old.classes.items class d.class_of st d.at)
 
   -- a thread and the state of the class have changed
-  changes : {new : State H} {t : held.Thread} {fs : List StackFrame} {st : ClassState} {rule : World → ℕ → Thread → Next} → ChangedTo h new t → new.classes.items ≡ slice_set old.classes.items class st → new.output.items ≡ old.output.items → StateRuns at.linked.now new → Stands t fs (running h.object None) → ((q : ℕ) → Among q (held_shape.refs (None, map (frame_part at.linked.now) fs)) → Among q (places (parts_at content at old))) → ((w : World) → Matches (parts_at content at old) w → rule w (at.index + 1) (model h) ≡ goes (with_thread (with_state w name st) (at.index + 1) (other fs))) → Does content at old (Ok step_end.Done) new rule
+  changes : {new : State H} {t : held.Thread} {fs : List StackFrame} {st : ClassState} {rule : World → ℕ → Thread → Next} → ChangedTo h new t
+      → new.classes.items ≡ slice_set old.classes.items class st → new.output.items ≡ old.output.items → StateRuns at.linked.now new
+      → Stands t fs (running h.object None) → ((q : ℕ) → Among q (held_shape.refs (None, map (frame_part at.linked.now) fs))
+      → Among q (places (parts_at content at old))) → ((w : World) → Matches (parts_at content at old) w
+      → rule w (at.index + 1) (model h) ≡ goes (with_thread (with_state w name st) (at.index + 1) (other fs))) → Does content at old (Ok step_end.Done) new rule
   unfolding parts
   changes {new} {t} {fs} {st} same classes output runs s' within is = does h runs (λ w m.
       let n : at.index + 1 - 1 ≡ at.index = omega arith in
-      let states : named_states at.linked.now.program new.classes.items ≡ set_state_in w.classes name st = ap (named_states at.linked.now.program) classes ∙ states_here st w m in
+      let states : named_states at.linked.now.program new.classes.items ≡ set_state_in w.classes name st =
+      ap (named_states at.linked.now.program) classes ∙ states_here st w m in
       subst (Ended (Ok step_end.Done) (parts_at content at new) w) (sym (is w m))
-      (subst (λ k. Matches (parts_at content at new) (record w { threads = slice_set w.threads k (other fs); classes = set_state_in w.classes name st })) (sym n)
+      (subst (λ k. Matches (parts_at content at new) (record w { threads = slice_set w.threads k (other fs); classes = set_state_in w.classes name st }))
+      (sym n)
       (subst (λ k. Matches (parts_at content at new) (record w { threads = slice_set w.threads at.index (other fs); classes = k })) states
-      (subst (λ k. Matches (parts_at content at new) (record w { threads = slice_set w.threads at.index (other fs); classes = named_states at.linked.now.program new.classes.items; output = k })) (output ∙ m.output)
+      (subst (λ k. Matches (parts_at content at new) (record w {
+        threads = slice_set w.threads at.index (other fs);
+        classes = named_states at.linked.now.program new.classes.items;
+        output = k;
+      })) (output ∙ m.output)
       (changed_matches h new same s' (λ q a. a) within w m)))))
 
   -- the state with another thread and state of the class runs on
-  class_runs : (new : State H) {t : held.Thread} {fs : List StackFrame} {st : ClassState} → st ≢ Failed → ChangedTo h new t → new.classes.items ≡ slice_set old.classes.items class st → new.live ≡ old.live → Stands t fs (running h.object None) → PartRuns at.linked.now fs (running h.object None) → StateRuns at.linked.now new
+  class_runs : (new : State H) {t : held.Thread} {fs : List StackFrame} {st : ClassState} → st ≢ Failed → ChangedTo h new t
+      → new.classes.items ≡ slice_set old.classes.items class st → new.live ≡ old.live → Stands t fs (running h.object None)
+      → PartRuns at.linked.now fs (running h.object None) → StateRuns at.linked.now new
   class_runs new {t} {fs} {st} sound same classes live s' q =
       let r = runs_with h s' q in
       record {
@@ -164,21 +190,28 @@ module _ {H : Type 0} {content : H → Content ClassId} {at : At} {old : State H
         };
       }
 
-  pub finished : {new : State H} {t : held.Thread} → ChangedTo h new t → new.classes.items ≡ slice_set old.classes.items class Done → new.live ≡ old.live → new.output.items ≡ old.output.items → Stands t below (running h.object None) → Does content at old (Ok step_end.Done) new (λ w number x. finish w number x name (drop 1 x.frames))
+  pub finished : {new : State H} {t : held.Thread} → ChangedTo h new t → new.classes.items ≡ slice_set old.classes.items class Done → new.live ≡ old.live
+      → new.output.items ≡ old.output.items → Stands t below (running h.object None)
+      → Does content at old (Ok step_end.Done) new (λ w number x. finish w number x name (drop 1 x.frames))
   finished {new} same classes live output s' =
-      changes same classes output (class_runs new (λ (f : Done ≡ Failed). cc) same classes live s' (dropped_runs (part_here h))) s' (inside below (λ q a. a)) (λ w m. refl)
+      changes same classes output (class_runs new (λ (f : Done ≡ Failed). cc) same classes live s' (dropped_runs (part_here h))) s' (inside below (λ q a. a))
+      (λ w m. refl)
 
   -- what the model does at the stages
-  pub begin_is : {st : ClassState} → s ≡ stage.Begin → slice_get old.classes.items class ≡ Some st → (w : World) → Matches (parts_at content at old) w → step_thread w (at.index + 1) (model h) ≡ begin w (at.index + 1) (model h) name lower st
+  pub begin_is : {st : ClassState} → s ≡ stage.Begin → slice_get old.classes.items class ≡ Some st → (w : World) → Matches (parts_at content at old) w
+      → step_thread w (at.index + 1) (model h) ≡ begin w (at.index + 1) (model h) name lower st
   begin_is {st} e there w m =
       ap (λ z. initialize w (at.index + 1) (model h) name z lower) e
       ∙ ap (begin w (at.index + 1) (model h) name lower) (state_here there w m)
 
-  superclass_is : s ≡ stage.Superclass → (w : World) → Matches (parts_at content at old) w → step_thread w (at.index + 1) (model h) ≡ goes (at_stage w (at.index + 1) (model h) name stage.Initializer lower)
+  superclass_is : s ≡ stage.Superclass → (w : World) → Matches (parts_at content at old) w
+      → step_thread w (at.index + 1) (model h) ≡ goes (at_stage w (at.index + 1) (model h) name stage.Initializer lower)
   unfolding parts
   superclass_is e w m =
       let l = at.linked.now in
-      let done : state_of w object_class ≡ Done = ap (λ ps. state_in ps object_class) (sym m.classes) ∙ not_listed object_class l.program old.classes.items (others l.program h.beside.linked.loads object_class refl) in
+      let done : state_of w object_class ≡ Done =
+      ap (λ ps. state_in ps object_class) (sym m.classes)
+      ∙ not_listed object_class l.program old.classes.items (others l.program h.beside.linked.loads object_class refl) in
       ap (λ z. initialize w (at.index + 1) (model h) name z lower) e
       ∙ ap (λ o. superclass_first w (at.index + 1) (model h) name lower (superclass_name o)) (class_here w m)
       ∙ ap (superclass_first w (at.index + 1) (model h) name lower) class_of.plain.superclass
@@ -190,52 +223,68 @@ module _ {H : Type 0} {content : H → Content ClassId} {at : At} {old : State H
         | false ↦ push_frame w (at.index + 1) (model h) (initialization_frame name stage.Initializer ∷ lower) (initialization_frame object_class stage.Begin)
       ]
 
-  pub superclass_done : {t : held.Thread} → s ≡ stage.Superclass → Stands t (Initialization class stage.Initializer ∷ below) (running h.object None) → Steps content at old (Ok step_end.Done) (with_thread_at old at.index t)
+  pub superclass_done : {t : held.Thread} → s ≡ stage.Superclass → Stands t (Initialization class stage.Initializer ∷ below) (running h.object None)
+      → Steps content at old (Ok step_end.Done) (with_thread_at old at.index t)
   superclass_done e s' = staged s' (superclass_is e)
 
-  pub initializer_done : {new : State H} → s ≡ stage.Initializer → Does content at old (Ok step_end.Done) new (λ w number x. finish w number x name (drop 1 x.frames)) → Steps content at old (Ok step_end.Done) new
+  pub initializer_done : {new : State H} → s ≡ stage.Initializer
+      → Does content at old (Ok step_end.Done) new (λ w number x. finish w number x name (drop 1 x.frames)) → Steps content at old (Ok step_end.Done) new
   initializer_done e done = does_as h (λ w m. m) (λ w m.
       ap (λ z. initialize w (at.index + 1) (model h) name z lower) e
       ∙ ap (λ o. run_initializer w (at.index + 1) (model h) name lower (initializer_of o)) (class_here w m)
-      ∙ ap (λ o. run_initializer w (at.index + 1) (model h) name lower (initializer_in class_of.class_of o)) (class_of.plain.no_initializer initializer_type)) done
+      ∙ ap (λ o. run_initializer w (at.index + 1) (model h) name lower (initializer_in class_of.class_of o))
+      (class_of.plain.no_initializer initializer_type)) done
 
-  pub end_done : {new : State H} → s ≡ stage.End → Does content at old (Ok step_end.Done) new (λ w number x. finish w number x name (drop 1 x.frames)) → Steps content at old (Ok step_end.Done) new
+  pub end_done : {new : State H} → s ≡ stage.End → Does content at old (Ok step_end.Done) new (λ w number x. finish w number x name (drop 1 x.frames))
+      → Steps content at old (Ok step_end.Done) new
   end_done e done = does_as h (λ w m. m) (λ w m. ap (λ z. initialize w (at.index + 1) (model h) name z lower) e) done
 
 -- a class that is about to begin
-pub about_to_begin : {H : Type 0} {content : H → Content ClassId} {at : At} {old : State H} {class : ℕ} {s : Stage} {below : List StackFrame} → s ≡ stage.Begin → OnThread content at old (Initialization class s ∷ below) None → OnThread content at old (Initialization class stage.Begin ∷ below) None
-about_to_begin {content = content} {at = at} {old = old} {class = class} {below = below} e h = subst (λ z. OnThread content at old (Initialization class z ∷ below) None) e h
+pub about_to_begin : {H : Type 0} {content : H → Content ClassId} {at : At} {old : State H} {class : ℕ} {s : Stage} {below : List StackFrame} → s ≡ stage.Begin
+    → OnThread content at old (Initialization class s ∷ below) None → OnThread content at old (Initialization class stage.Begin ∷ below) None
+about_to_begin {content =
+    content} {at = at} {old = old} {class = class} {below = below} e h = subst (λ z. OnThread content at old (Initialization class z ∷ below) None) e h
 
-module _ {H : Type 0} {content : H → Content ClassId} {at : At} {old : State H} {class : ℕ} {below : List StackFrame} (h : OnThread content at old (Initialization class stage.Begin ∷ below) None) {st : ClassState} (there : st ≡ slice_index_or old.classes.items class st) where
+module _ {H : Type 0} {content : H → Content ClassId} {at : At} {old : State H} {class : ℕ} {below : List StackFrame}
+    (h : OnThread content at old (Initialization class stage.Begin ∷ below) None) {st : ClassState}
+    (there : st ≡ slice_index_or old.classes.items class st) where
   state_there : slice_get old.classes.items class ≡ Some st
   state_there = let n = old.classes.ok.0 in let a = class_within h in get_at old.classes.items class st (omega arith) there
 
   -- it is done, or this thread's
-  pub skips : (owner : ℕ) {new : State H} → (st ≡ Done) ⊎ ((st ≡ InProgress owner) × (owner ≡ at.index + 1)) → Does content at old (Ok step_end.Done) new (λ w number x. goes (with_frames w number x (drop 1 x.frames))) → Steps content at old (Ok step_end.Done) new
+  pub skips : (owner : ℕ) {new : State H} → (st ≡ Done) ⊎ ((st ≡ InProgress owner) × (owner ≡ at.index + 1))
+      → Does content at old (Ok step_end.Done) new (λ w number x. goes (with_frames w number x (drop 1 x.frames))) → Steps content at old (Ok step_end.Done) new
   skips owner (inl e) done = does_as h (λ w m. m) (λ w m. begin_is h refl state_there w m ∙ ap (begin w (at.index + 1) (model h) (name h) (lower h)) e) done
   skips owner (inr e) done = does_as h (λ w m. m) (λ w m.
       begin_is h refl state_there w m
       ∙ ap (begin w (at.index + 1) (model h) (name h) (lower h)) e.0
-      ∙ ap (λ b. elim b as (λ _. Next) [ true ↦ goes (with_frames w (at.index + 1) (model h) (lower h)) | false ↦ next.blocks ]) (alike owner (at.index + 1) e.1)) done
+      ∙ ap (λ b. elim b as (λ _. Next) [ true ↦ goes (with_frames w (at.index + 1) (model h) (lower h)) | false ↦ next.blocks ])
+      (alike owner (at.index + 1) e.1)) done
 
   -- it is another thread's
   pub waits : {owner : ℕ} → st ≡ InProgress owner → (owner ≡ at.index + 1 → ⊥) → Steps content at old (Ok step_end.Blocked) old
   waits {owner} e n = blocks h (λ w m.
       begin_is h refl state_there w m
       ∙ ap (begin w (at.index + 1) (model h) (name h) (lower h)) e
-      ∙ ap (λ b. elim b as (λ _. Next) [ true ↦ goes (with_frames w (at.index + 1) (model h) (lower h)) | false ↦ next.blocks ]) (differ owner (at.index + 1) n))
+      ∙ ap (λ b. elim b as (λ _. Next) [ true ↦ goes (with_frames w (at.index + 1) (model h) (lower h)) | false ↦ next.blocks ])
+      (differ owner (at.index + 1) n))
 
   -- it begins
-  pub begins : st ≡ NotBegun → {new : State H} {t : held.Thread} → ChangedTo h new t → new.classes.items ≡ slice_set old.classes.items class (InProgress (at.index + 1)) → new.live ≡ old.live → new.output.items ≡ old.output.items → Stands t (Initialization class stage.Superclass ∷ below) (running h.object None) → Steps content at old (Ok step_end.Done) new
+  pub begins : st ≡ NotBegun → {new : State H} {t : held.Thread} → ChangedTo h new t
+      → new.classes.items ≡ slice_set old.classes.items class (InProgress (at.index + 1)) → new.live ≡ old.live → new.output.items ≡ old.output.items
+      → Stands t (Initialization class stage.Superclass ∷ below) (running h.object None) → Steps content at old (Ok step_end.Done) new
   begins e {new} same classes live output s' =
       let q = staged_runs (part_here h) in
-      changes h same classes output (class_runs h new (λ (f : InProgress (at.index + 1) ≡ Failed). cc) same classes live s' q) s' (inside h (Initialization class stage.Superclass ∷ below) (λ r a. a)) (λ w m.
+      changes h same classes output (class_runs h new (λ (f : InProgress (at.index + 1) ≡ Failed). cc) same classes live s' q) s'
+      (inside h (Initialization class stage.Superclass ∷ below) (λ r a. a)) (λ w m.
       let n = name h in
       let d = class_of h in
-      let constants : constants_of w (class_named w.program n) ≡ w.statics = ap (constants_of w) (class_here h w m) ∙ ap (λ fs. with_constants w.literals d.class_of fs w.statics) d.plain.fields in
+      let constants : constants_of w (class_named w.program n) ≡ w.statics =
+      ap (constants_of w) (class_here h w m) ∙ ap (λ fs. with_constants w.literals d.class_of fs w.statics) d.plain.fields in
       begin_is h refl state_there w m
       ∙ ap (begin w (at.index + 1) (model h) n (lower h)) e
-      ∙ ap (λ v. goes (at_stage (record (with_state w n (InProgress (at.index + 1))) { statics = v }) (at.index + 1) (model h) n stage.Superclass (lower h))) constants)
+      ∙ ap (λ v. goes
+      (at_stage (record (with_state w n (InProgress (at.index + 1))) { statics = v }) (at.index + 1) (model h) n stage.Superclass (lower h))) constants)
 
   -- none has failed
   pub not_failed : st ≢ Failed

@@ -1,5 +1,6 @@
 -- Lists whose last element is on top, and lists of numbers.
-use Rattle.std.proofs.Common.{◌≡◌, ℕ, zero, suc, ◌+◌, ◌-◌, ◌<◌, List, [], ◌∷◌, ◌++◌, Some, refl, sym, ap, ◌∙◌, subst, inl, inr, ◌⊎◌, length, reverse, arith, length-append, append_assoc, take}
+use Rattle.std.proofs.Common.{◌≡◌, ℕ, zero, suc, ◌+◌, ◌-◌, ◌<◌, List, [], ◌∷◌, ◌++◌, Some, refl, sym, ap, ◌∙◌, subst, inl, inr, ◌⊎◌, length, reverse, arith}
+use Rattle.std.proofs.Common.{length-append, append_assoc, take}
 use Rattle.std.specs.Prelude.{map, slice_get, slice_set, slice_index_or}
 use Rattle.std.specs.List.{AllByRecursion}
 use Rattle.std.proofs.lemmas.List.{reverse-append, reverse-reverse}
@@ -26,7 +27,8 @@ before_end : {X : Type 0} (front : List X) (x : X) (n : ℕ) → n ≡ length (f
 before_end front x n e = let l : length (front ++ x ∷ []) ≡ length front + 1 = length-append front (x ∷ []) in omega arith
 
 -- another top
-pub top_set : {X : Type 0} (xs : List X) (x y : X) (below : List X) (n : ℕ) → reverse xs ≡ x ∷ below → n ≡ length xs → reverse (slice_set xs (n - 1) y) ≡ y ∷ below
+pub top_set : {X : Type 0} (xs : List X) (x y : X) (below : List X) (n : ℕ) → reverse xs ≡ x ∷ below → n ≡ length xs
+    → reverse (slice_set xs (n - 1) y) ≡ y ∷ below
 top_set xs x y below n e l =
     let is = by_top xs x below e in
     let at : n - 1 ≡ length (reverse below) = before_end (reverse below) x n (l ∙ ap length is) in
@@ -82,7 +84,8 @@ get_at (y ∷ xs) zero x h e = ap Some (sym e)
 get_at (y ∷ xs) (suc i) x h e = get_at xs i x (omega arith) e
 
 -- the references of a list with another element
-pub refs_set : {A : Type 0} (s : Shape A) (xs : List A) (i : ℕ) (x : A) (p : ℕ) → Among p ((list_shape s).refs (slice_set xs i x)) → Among p ((list_shape s).refs xs) ⊎ Among p (s.refs x)
+pub refs_set : {A : Type 0} (s : Shape A) (xs : List A) (i : ℕ) (x : A) (p : ℕ) → Among p ((list_shape s).refs (slice_set xs i x))
+    → Among p ((list_shape s).refs xs) ⊎ Among p (s.refs x)
 refs_set s [] i x p h = absurd h
 refs_set s (y ∷ xs) zero x p h = elim (among_split p (s.refs x) ((list_shape s).refs xs) h) [ inl a ↦ inr a | inr b ↦ inl (right b) ]
   where
@@ -131,7 +134,8 @@ second_is xs x y d below n e l =
     let at : n - 2 ≡ length (reverse below) = before_second (reverse below) x y n (l ∙ ap length is) in
     ap (λ k. slice_index_or xs k d) at ∙ ap (λ zs. slice_index_or zs (length (reverse below)) d) is ∙ get_second (reverse below) x y d
 
-pub second_set : {X : Type 0} (xs : List X) (x y z : X) (below : List X) (n : ℕ) → reverse xs ≡ x ∷ y ∷ below → n ≡ length xs → reverse (slice_set xs (n - 2) z) ≡ x ∷ z ∷ below
+pub second_set : {X : Type 0} (xs : List X) (x y z : X) (below : List X) (n : ℕ) → reverse xs ≡ x ∷ y ∷ below → n ≡ length xs
+    → reverse (slice_set xs (n - 2) z) ≡ x ∷ z ∷ below
 second_set xs x y z below n e l =
     let is = by_second xs x y below e in
     let at : n - 2 ≡ length (reverse below) = before_second (reverse below) x y n (l ∙ ap length is) in
@@ -150,7 +154,8 @@ pub top_taken : {X : Type 0} (xs : List X) (x : X) (below : List X) (n : ℕ) �
 top_taken xs x below n e l =
     let is = by_top xs x below e in
     let at : n - 1 ≡ length (reverse below) = before_end (reverse below) x n (l ∙ ap length is) in
-    ap (λ k. reverse (take k xs)) at ∙ ap (λ zs. reverse (take (length (reverse below)) zs)) is ∙ ap reverse (take_end (reverse below) x) ∙ reverse-reverse below
+    ap (λ k. reverse (take k xs)) at ∙ ap (λ zs. reverse (take (length (reverse below)) zs)) is ∙ ap reverse (take_end (reverse below) x)
+    ∙ reverse-reverse below
 
 -- what lies at an index
 pub get_there : {A : Type 0} (xs : List A) (i : ℕ) → i < length xs → (x : A) × (slice_get xs i ≡ Some x)

@@ -28,7 +28,8 @@ module _ {H : Type 0} {content : H → Content ClassId} {at : At} {old : State H
     pub object : ObjectOf ClassId
     pub serial_is : serial_at (content old.heap) place ≡ Some serial
     pub object_is : object_at (content old.heap) serial ≡ Some object
-    pub in_world : (w : World) → Matches (parts_at content at old) w → slice_get w.heap (name_of (content old.heap) place) ≡ Some (as_named (named_type at.linked.now.program) object)
+    pub in_world : (w : World) → Matches (parts_at content at old) w
+        → slice_get w.heap (name_of (content old.heap) place) ≡ Some (as_named (named_type at.linked.now.program) object)
 
   pub object_of : (place : ℕ) → Among place (places (parts_at content at old)) → IsObject place
   unfolding parts
@@ -43,15 +44,18 @@ module _ {H : Type 0} {content : H → Content ClassId} {at : At} {old : State H
         serial_is = k.1;
         object_is = o.1;
         in_world = λ w m.
-            let reached = (place_stands (parts_at content at old) w m (Reach (slice_get w.heap) (roots w)) (reach_shared (parts_at content at old) w m) place inside).1 in
+            let reached =
+            (place_stands (parts_at content at old) w m (Reach (slice_get w.heap) (roots w)) (reach_shared (parts_at content at old) w m) place inside).1 in
             sym (m.objects (name_of c place) reached)
             ∙ ap (λ j. option_map named (object_at c j)) (name_is c place k.0 k.1)
             ∙ ap (option_map named) o.1;
       }
 
   -- what the heap's calls ask of a place, and what they say of its object
-  pub lies : {place : ℕ} → IsObject place → (k : ℕ) × (o : ObjectOf ClassId) × (serial_at (content old.heap) place ≡ Some k) × (object_at (content old.heap) k ≡ Some o)
+  pub lies : {place : ℕ} → IsObject place
+      → (k : ℕ) × (o : ObjectOf ClassId) × (serial_at (content old.heap) place ≡ Some k) × (object_at (content old.heap) k ≡ Some o)
   lies t = (t.serial, t.object, t.serial_is, t.object_is)
 
-  pub told : {place : ℕ} {P : ObjectOf ClassId → Type 0} (t : IsObject place) → ((k : ℕ) (o : ObjectOf ClassId) → serial_at (content old.heap) place ≡ Some k → object_at (content old.heap) k ≡ Some o → P o) → P t.object
+  pub told : {place : ℕ} {P : ObjectOf ClassId → Type 0} (t : IsObject place)
+      → ((k : ℕ) (o : ObjectOf ClassId) → serial_at (content old.heap) place ≡ Some k → object_at (content old.heap) k ≡ Some o → P o) → P t.object
   told t say = say t.serial t.object t.serial_is t.object_is

@@ -42,25 +42,30 @@ use Rattle.jm_interp.specs.Stepped.{Stays}
 use Rattle.jm_interp.proofs.Here.{place, row_is, Leaves, done, left, top_held, one_to_one, goes_on, faults_there}
 use Rattle.jm_interp.proofs.OnThread.{model, with_thread_at, still, same_matches, does_as}
 
-module _ {H : Type 0} {content : H → Content ClassId} {at : At} {old : State H} {op : Plain} (h : StandsOn content at old (Links at.linked.now (linked.Plain op))) where
+module _ {H : Type 0} {content : H → Content ClassId} {at : At} {old : State H} {op : Plain}
+    (h : StandsOn content at old (Links at.linked.now (linked.Plain op))) where
   pub plain_ordered : IsOrdered op
   plain_ordered = fitting_is_ordered _ op (ap (instr_fits _) (sym h.is) ∙ h.fits)
 
-  plain_is : (w : World) → Matches (parts_at content at old) w → step_thread w (at.index + 1) (model h.method.on) ≡ from_outcome (place h.method w) (rename_outcome (name_of (content old.heap)) (row_plain op h.method.frame.activation))
+  plain_is : (w : World) → Matches (parts_at content at old) w → step_thread w (at.index + 1) (model h.method.on) ≡ from_outcome (place h.method w)
+      (rename_outcome (name_of (content old.heap)) (row_plain op h.method.frame.activation))
   plain_is w m =
       row_is h w m
       ∙ ap (row (place h.method w)) h.is
       ∙ ap (from_outcome (place h.method w)) (plain_natural op (name_of (content old.heap)) h.method.frame.activation (one_to_one h.method))
 
-  plain_held : (b : Activation) → row_plain op h.method.frame.activation ≡ outcome.goes b → (q : ℕ) → Among q (refs_activation b) → Among q (places (parts_at content at old))
+  plain_held : (b : Activation) → row_plain op h.method.frame.activation ≡ outcome.goes b → (q : ℕ) → Among q (refs_activation b)
+      → Among q (places (parts_at content at old))
   plain_held b e q m = top_held h.method q (brings_none (row_plain op) (λ f x one. plain_natural op f x one) h.method.frame.activation b e q m)
 
   -- what the call on the thread that was read left
   module _ {t d : held.Thread} (got : d ≡ slice_index_or old.threads.items at.index d) where
-    pub plain_faults : {fault : TagFault} → Leaves (row_plain op) (flow_outcome (Err fault)) d t → Steps content at old (Err (Stopped (why.TagFault fault))) (with_thread_at old at.index t)
+    pub plain_faults : {fault : TagFault} → Leaves (row_plain op) (flow_outcome (Err fault)) d t
+        → Steps content at old (Err (Stopped (why.TagFault fault))) (with_thread_at old at.index t)
     plain_faults stepped = faults_there h.method got stepped plain_is refl
 
-    pub plain_goes : {flow : Flow} → Leaves (row_plain op) (flow_outcome (Ok flow)) d t → ((thrown : Thrown) → flow ≡ Throw thrown → ⊥) → Steps content at old (Ok Done) (with_thread_at old at.index t)
+    pub plain_goes : {flow : Flow} → Leaves (row_plain op) (flow_outcome (Ok flow)) d t → ((thrown : Thrown) → flow ≡ Throw thrown → ⊥)
+        → Steps content at old (Ok Done) (with_thread_at old at.index t)
     plain_goes {flow} stepped goes =
         let end = done h.method got stepped in
         let is = on flow goes end.frame.activation in
@@ -81,8 +86,10 @@ module _ {H : Type 0} {content : H → Content ClassId} {at : At} {old : State H
       pub plain_still : InMethod content at (with_thread_at old at.index t)
       plain_still = record { frame = h.method.frame; below = h.method.below; on = still h.method.on as_before }
 
-      pub plain_throws : {result : Result StepEnd Halt} {new : State H} {class : List ℕ} → class ≡ class_of thrown → Does content at (with_thread_at old at.index t) result new (λ w number t. throw w number t class) → Steps content at old result new
+      pub plain_throws : {result : Result StepEnd Halt} {new : State H} {class : List ℕ} → class ≡ class_of thrown
+          → Does content at (with_thread_at old at.index t) result new (λ w number t. throw w number t class) → Steps content at old result new
       plain_throws c does =
           let end = done h.method got stepped in
           does_as h.method.on (same_matches h.method.on as_before) (λ w m.
-          plain_is w m ∙ ap (λ x. from_outcome (place h.method w) (rename_outcome (name_of (content old.heap)) x)) (end.made ∙ ap (λ x. flow_outcome (Ok x) end.frame.activation) is) ∙ ap (throws (place h.method w)) (sym c)) does
+          plain_is w m ∙ ap (λ x. from_outcome (place h.method w) (rename_outcome (name_of (content old.heap)) x))
+          (end.made ∙ ap (λ x. flow_outcome (Ok x) end.frame.activation) is) ∙ ap (throws (place h.method w)) (sym c)) does

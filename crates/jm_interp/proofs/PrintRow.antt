@@ -1,5 +1,6 @@
 -- A method of a print stream, where it stands.
-use Rattle.std.proofs.Common.{◌≡◌, ℕ, ◌+◌, ◌-◌, List, [], ◌∷◌, ◌++◌, Option, Some, None, Bool, true, false, refl, sym, ap, ◌∙◌, subst, inl, inr, drop, arith, add-one}
+use Rattle.std.proofs.Common.{◌≡◌, ℕ, ◌+◌, ◌-◌, List, [], ◌∷◌, ◌++◌, Option, Some, None, Bool, true, false, refl, sym, ap, ◌∙◌, subst, inl, inr, drop, arith}
+use Rattle.std.proofs.Common.{add-one}
 use Rattle.std.specs.Prelude.{map, slice_set, option_map, nat_eq, Ok, Err, codes}
 use Rattle.std.proofs.lemmas.Bool.{eqb-true}
 use Rattle.jm_program.specs.declared.class.ClassParts.{ClassParts}
@@ -44,9 +45,9 @@ use Rattle.jm_state.specs.declared.state.State.{State}
 use Rattle.jm_state.specs.declared.thread.Ending.TheVariants.{Running}
 use Rattle.jm_state.specs.declared.thread.StackFrame.TheVariants.{Method}
 use Rattle.jm_state.specs.declared.thread.Thread as held
-use Rattle.jm_interp.specs.declared.operands.Printing.{Printing}
-use Rattle.jm_interp.specs.declared.operands.Text.{Text}
-use Rattle.jm_interp.specs.declared.operands.Text.TheVariants as text
+use Rattle.jm_interp.specs.declared.print_operands.Printing.{Printing}
+use Rattle.jm_interp.specs.declared.print_operands.Text.{Text}
+use Rattle.jm_interp.specs.declared.print_operands.Text.TheVariants as text
 use Rattle.jm_interp.specs.Printing.{printing_of, left_by, text_bytes, line_bytes, is_print_stream}
 use Rattle.jm_interp.proofs.Lists.{among_split}
 use Rattle.jm_interp.proofs.Arguments.{arguments_of, Fits, AllFit, received, receives, ReceiverIn, receiver_in}
@@ -85,7 +86,8 @@ stream_name program (Instance n) e = ap (class_name_of program) (eqb-true n 5 e)
 stream_name program (Array component) e = cc
 
 -- the model's test of the receiver is that of its mark
-stream_test : (program : List ClassParts) → Loads program → later_part program ≡ None → (id : ClassId) → is_assignable program (type_of_object (named_type program id)) (class_type print_stream_class) ≡ is_print_stream id
+stream_test : (program : List ClassParts) → Loads program → later_part program ≡ None → (id : ClassId)
+    → is_assignable program (type_of_object (named_type program id)) (class_type print_stream_class) ≡ is_print_stream id
 unfolding named_type
 stream_test program loads plain (Instance n) = by (nat_eq n 5) refl
   where
@@ -100,30 +102,40 @@ stream_test program loads plain (Array component) =
     ap (λ n. dimensions_assignable program (element_named program component.element) (Class print_stream_class) n 0) (add-one component.dimensions)
 
 -- what the method writes
-stream_writes : (o : Here) (p : PrintMethod) (t : Text) (k : ℕ) (rest : List Value) → Fits p t → Loads o.world.program → call_found o (select o.world.program print_stream_class (print_name p) (print_type p)) k (arguments_of t) rest ≡ write o (text_bytes t ++ line_bytes p) rest
-stream_writes o (Print printed.Int) (text.Int n) k rest f loads = ap (λ z. call_found o z k (arguments_of (text.Int n)) rest) (stream_selects o.world.program loads (Print printed.Int)) ∙ ap (λ b. write o b rest) (sym (app_nil (number_text n)))
+stream_writes : (o : Here) (p : PrintMethod) (t : Text) (k : ℕ) (rest : List Value) → Fits p t → Loads o.world.program → call_found o
+    (select o.world.program print_stream_class (print_name p) (print_type p)) k (arguments_of t) rest ≡ write o (text_bytes t ++ line_bytes p) rest
+stream_writes o (Print printed.Int) (text.Int n) k rest f loads =
+    ap (λ z. call_found o z k (arguments_of (text.Int n)) rest) (stream_selects o.world.program loads (Print printed.Int))
+    ∙ ap (λ b. write o b rest) (sym (app_nil (number_text n)))
 stream_writes o (Print printed.Int) (text.Long n) k rest f loads = absurd f
 stream_writes o (Print printed.Int) (text.Char n) k rest f loads = absurd f
 stream_writes o (Print printed.Int) text.Nothing k rest f loads = absurd f
 stream_writes o (Print printed.Long) (text.Int n) k rest f loads = absurd f
-stream_writes o (Print printed.Long) (text.Long n) k rest f loads = ap (λ z. call_found o z k (arguments_of (text.Long n)) rest) (stream_selects o.world.program loads (Print printed.Long)) ∙ ap (λ b. write o b rest) (sym (app_nil (number_text n)))
+stream_writes o (Print printed.Long) (text.Long n) k rest f loads =
+    ap (λ z. call_found o z k (arguments_of (text.Long n)) rest) (stream_selects o.world.program loads (Print printed.Long))
+    ∙ ap (λ b. write o b rest) (sym (app_nil (number_text n)))
 stream_writes o (Print printed.Long) (text.Char n) k rest f loads = absurd f
 stream_writes o (Print printed.Long) text.Nothing k rest f loads = absurd f
 stream_writes o (Print printed.Char) (text.Int n) k rest f loads = absurd f
 stream_writes o (Print printed.Char) (text.Long n) k rest f loads = absurd f
-stream_writes o (Print printed.Char) (text.Char n) k rest f loads = ap (λ z. call_found o z k (arguments_of (text.Char n)) rest) (stream_selects o.world.program loads (Print printed.Char)) ∙ ap (λ b. write o b rest) (sym (app_nil (char_text n)))
+stream_writes o (Print printed.Char) (text.Char n) k rest f loads =
+    ap (λ z. call_found o z k (arguments_of (text.Char n)) rest) (stream_selects o.world.program loads (Print printed.Char))
+    ∙ ap (λ b. write o b rest) (sym (app_nil (char_text n)))
 stream_writes o (Print printed.Char) text.Nothing k rest f loads = absurd f
-stream_writes o (Println printed.Int) (text.Int n) k rest f loads = ap (λ z. call_found o z k (arguments_of (text.Int n)) rest) (stream_selects o.world.program loads (Println printed.Int))
+stream_writes o (Println printed.Int) (text.Int n) k rest f loads =
+    ap (λ z. call_found o z k (arguments_of (text.Int n)) rest) (stream_selects o.world.program loads (Println printed.Int))
 stream_writes o (Println printed.Int) (text.Long n) k rest f loads = absurd f
 stream_writes o (Println printed.Int) (text.Char n) k rest f loads = absurd f
 stream_writes o (Println printed.Int) text.Nothing k rest f loads = absurd f
 stream_writes o (Println printed.Long) (text.Int n) k rest f loads = absurd f
-stream_writes o (Println printed.Long) (text.Long n) k rest f loads = ap (λ z. call_found o z k (arguments_of (text.Long n)) rest) (stream_selects o.world.program loads (Println printed.Long))
+stream_writes o (Println printed.Long) (text.Long n) k rest f loads =
+    ap (λ z. call_found o z k (arguments_of (text.Long n)) rest) (stream_selects o.world.program loads (Println printed.Long))
 stream_writes o (Println printed.Long) (text.Char n) k rest f loads = absurd f
 stream_writes o (Println printed.Long) text.Nothing k rest f loads = absurd f
 stream_writes o (Println printed.Char) (text.Int n) k rest f loads = absurd f
 stream_writes o (Println printed.Char) (text.Long n) k rest f loads = absurd f
-stream_writes o (Println printed.Char) (text.Char n) k rest f loads = ap (λ z. call_found o z k (arguments_of (text.Char n)) rest) (stream_selects o.world.program loads (Println printed.Char))
+stream_writes o (Println printed.Char) (text.Char n) k rest f loads =
+    ap (λ z. call_found o z k (arguments_of (text.Char n)) rest) (stream_selects o.world.program loads (Println printed.Char))
 stream_writes o (Println printed.Char) text.Nothing k rest f loads = absurd f
 stream_writes o EndLine (text.Int n) k rest f loads = absurd f
 stream_writes o EndLine (text.Long n) k rest f loads = absurd f
@@ -142,9 +154,11 @@ left_refs EndLine s q a = drop_refs s q a
 
 -- what the code found of the operands of the thread that was read
 abbrev pub FindsOperands : PrintMethod → held.Thread → Result Printing TagFault → Type 0
-FindsOperands p d result = (f : FrameView) (below : List StackFrame) (r : ThreadRest) → Stands d (Method f ∷ below) r → result ≡ printing_of p f.activation.stack
+FindsOperands p d result =
+    (f : FrameView) (below : List StackFrame) (r : ThreadRest) → Stands d (Method f ∷ below) r → result ≡ printing_of p f.activation.stack
 
-module _ {H : Type 0} {content : H → Content ClassId} {at : At} {old : State H} (p : PrintMethod) (h : StandsOn content at old (Links at.linked.now (linked.Print p))) where
+module _ {H : Type 0} {content : H → Content ClassId} {at : At} {old : State H} (p : PrintMethod)
+    (h : StandsOn content at old (Links at.linked.now (linked.Print p))) where
   -- the operands that are left, in the model
   abbrev rest : List Value
   rest = map (rename (name_of (content old.heap))) (left_by p h.method.frame.activation.stack)
@@ -165,7 +179,8 @@ module _ {H : Type 0} {content : H → Content ClassId} {at : At} {old : State H
   abbrev on_receiver : World → Option ℕ → List Value → List Value → Next
   on_receiver w r arguments left = with_object (place h.method w) r (on_object w arguments left)
 
-  print_is : (w : World) → Matches (parts_at content at old) w → step_thread w (at.index + 1) (model h.method.on) ≡ received (name_of (content old.heap)) (printing_of p h.method.frame.activation.stack) (left_by p h.method.frame.activation.stack) (on_receiver w)
+  print_is : (w : World) → Matches (parts_at content at old) w → step_thread w (at.index + 1) (model h.method.on) ≡ received (name_of (content old.heap))
+      (printing_of p h.method.frame.activation.stack) (left_by p h.method.frame.activation.stack) (on_receiver w)
   print_is w m =
       row_is h w m
       ∙ ap (row (place h.method w)) (h.is.1 ∙ ap (instr.Invoke Virtual) (ref_is h.is.0 p h.is.2))
@@ -175,30 +190,38 @@ module _ {H : Type 0} {content : H → Content ClassId} {at : At} {old : State H
     found : {r : Result Printing TagFault} → FindsOperands p d r → printing_of p h.method.frame.activation.stack ≡ r
     found is = sym (is h.method.frame h.method.below _ (read h.method.on got))
 
-    received_is : {r : Result Printing TagFault} → FindsOperands p d r → (w : World) → Matches (parts_at content at old) w → step_thread w (at.index + 1) (model h.method.on) ≡ received (name_of (content old.heap)) r (left_by p h.method.frame.activation.stack) (on_receiver w)
+    received_is : {r : Result Printing TagFault} → FindsOperands p d r → (w : World) → Matches (parts_at content at old) w
+        → step_thread w (at.index + 1) (model h.method.on) ≡ received (name_of (content old.heap)) r (left_by p h.method.frame.activation.stack) (on_receiver w)
     received_is is w m = print_is w m ∙ ap (λ x. received (name_of (content old.heap)) x (left_by p h.method.frame.activation.stack) (on_receiver w)) (found is)
 
     pub print_faults : {fault : TagFault} → FindsOperands p d (Err fault) → Steps content at old (Err (Stopped (why.TagFault fault))) old
     print_faults is = stops h.method.on (received_is is)
 
     module _ {pr : Printing} (is : FindsOperands p d (Ok pr)) where
-      to_receiver : {r : Option ℕ} → pr.receiver ≡ r → (w : World) → Matches (parts_at content at old) w → step_thread w (at.index + 1) (model h.method.on) ≡ on_receiver w (option_map (name_of (content old.heap)) r) (arguments_of pr.text) rest
+      to_receiver : {r : Option ℕ} → pr.receiver ≡ r → (w : World) → Matches (parts_at content at old) w
+          → step_thread w (at.index + 1) (model h.method.on) ≡ on_receiver w (option_map (name_of (content old.heap)) r) (arguments_of pr.text) rest
       to_receiver e w m = received_is is w m ∙ ap (λ r. on_receiver w (option_map (name_of (content old.heap)) r) (arguments_of pr.text) rest) e
 
       -- null throws
-      pub print_throws : {result : Result StepEnd Halt} {new : State H} {class : List ℕ} → pr.receiver ≡ None → class ≡ codes "java/lang/NullPointerException" → Does content at old result new (λ w number t. throw w number t class) → Steps content at old result new
-      print_throws none is_class done = does_as h.method.on (λ w m. m) (λ w m. to_receiver none w m ∙ ap (throw w (at.index + 1) (model h.method.on)) (sym is_class)) done
+      pub print_throws : {result : Result StepEnd Halt} {new : State H} {class : List ℕ} → pr.receiver ≡ None → class ≡ codes "java/lang/NullPointerException"
+          → Does content at old result new (λ w number t. throw w number t class) → Steps content at old result new
+      print_throws none is_class done =
+          does_as h.method.on (λ w m. m) (λ w m. to_receiver none w m ∙ ap (throw w (at.index + 1) (model h.method.on)) (sym is_class)) done
 
       module _ {receiver : ℕ} (r : pr.receiver ≡ Some receiver) where
         pub receiver_object : IsObject h.method.on receiver
         receiver_object =
             let v = h.method.frame.activation in
             let inside : ReceiverIn (Ok pr) v.stack = subst (λ z. ReceiverIn z v.stack) (found is) (receiver_in p v.stack) in
-            object_of h.method.on receiver (top_held h.method receiver (among_right receiver (locals_shape.refs v.locals) (stack_shape.refs v.stack) (inside receiver r)))
+            object_of h.method.on receiver
+            (top_held h.method receiver (among_right receiver (locals_shape.refs v.locals) (stack_shape.refs v.stack) (inside receiver r)))
 
-        module _ {id : ClassId} {test : Bool} (class : (k : ℕ) (o : ObjectOf ClassId) → serial_at (content old.heap) receiver ≡ Some k → object_at (content old.heap) k ≡ Some o → id ≡ o.type) (tested : test ≡ is_print_stream id) where
+        module _ {id : ClassId} {test : Bool}
+            (class : (k : ℕ) (o : ObjectOf ClassId) → serial_at (content old.heap) receiver ≡ Some k → object_at (content old.heap) k ≡ Some o → id ≡ o.type)
+            (tested : test ≡ is_print_stream id) where
           -- its mark decides
-          by_mark : (w : World) → Matches (parts_at content at old) w → step_thread w (at.index + 1) (model h.method.on) ≡ on_type w (arguments_of pr.text) (name_of (content old.heap) receiver) (named_type at.linked.now.program id) test
+          by_mark : (w : World) → Matches (parts_at content at old) w → step_thread w (at.index + 1) (model h.method.on) ≡ on_type w (arguments_of pr.text)
+              (name_of (content old.heap) receiver) (named_type at.linked.now.program id) test
           unfolding parts
           by_mark w m =
               let l = at.linked.now in
@@ -207,27 +230,38 @@ module _ {H : Type 0} {content : H → Content ClassId} {at : At} {old : State H
               let k = name_of (content old.heap) receiver in
               to_receiver r w m
               ∙ ap (λ o. elim o as (λ _. Next) [ None ↦ faults WrongKind | Some z ↦ on_object w (arguments_of pr.text) rest k z ]) (t.in_world w m)
-              ∙ ap (λ x. on_object w (arguments_of pr.text) rest k (record { type = named_type l.program x; values = t.object.values })) (sym (told h.method.on t class))
+              ∙ ap (λ x. on_object w (arguments_of pr.text) rest k (record { type = named_type l.program x; values = t.object.values }))
+              (sym (told h.method.on t class))
               ∙ ap (on_type w (arguments_of pr.text) k (named_type l.program id))
-              (ap (λ program. is_assignable program (type_of_object (named_type l.program id)) (class_type print_stream_class)) (sym m.program) ∙ stream_test l.program b.loads b.whole id ∙ sym tested)
+              (ap (λ program. is_assignable program (type_of_object (named_type l.program id)) (class_type print_stream_class)) (sym m.program)
+              ∙ stream_test l.program b.loads b.whole id ∙ sym tested)
 
           -- one that is no print stream is a fault
           pub other_faults : test ≡ false → Steps content at old (Err (Stopped (why.TagFault WrongKind))) old
-          other_faults n = stops h.method.on (λ w m. by_mark w m ∙ ap (on_type w (arguments_of pr.text) (name_of (content old.heap) receiver) (named_type at.linked.now.program id)) n)
+          other_faults n =
+              stops h.method.on
+              (λ w m. by_mark w m ∙ ap (on_type w (arguments_of pr.text) (name_of (content old.heap) receiver) (named_type at.linked.now.program id)) n)
 
           -- the text comes to the end of the output
-          writes : test ≡ true → (w : World) → Matches (parts_at content at old) w → step_thread w (at.index + 1) (model h.method.on) ≡ write (place h.method w) (text_bytes pr.text ++ line_bytes p) rest
+          writes : test ≡ true → (w : World) → Matches (parts_at content at old) w
+              → step_thread w (at.index + 1) (model h.method.on) ≡ write (place h.method w) (text_bytes pr.text ++ line_bytes p) rest
           unfolding parts
           writes y w m =
               let l = at.linked.now in
               let k = name_of (content old.heap) receiver in
-              let fits : Fits p pr.text = subst (λ z. AllFit p z) (found is) (receives (name_of (content old.heap)) p h.method.frame.activation.stack (on_receiver w)).1 in
+              let fits : Fits p pr.text =
+              subst (λ z. AllFit p z) (found is) (receives (name_of (content old.heap)) p h.method.frame.activation.stack (on_receiver w)).1 in
               by_mark w m
               ∙ ap (on_type w (arguments_of pr.text) k (named_type l.program id)) y
-              ∙ ap (λ n. call_found (place h.method w) (select w.program n (print_name p) (print_type p)) k (arguments_of pr.text) rest) (stream_name l.program id (sym tested ∙ y))
+              ∙ ap (λ n. call_found (place h.method w) (select w.program n (print_name p) (print_type p)) k (arguments_of pr.text) rest)
+              (stream_name l.program id (sym tested ∙ y))
               ∙ stream_writes (place h.method w) p pr.text k rest fits (subst Loads m.program h.method.on.beside.linked.loads)
 
-          pub prints : test ≡ true → {new : State H} {t : held.Thread} → ChangedTo h.method.on new t → new.classes.items ≡ old.classes.items → StateRuns at.linked.now new → Stands t (Method (gone_to (with_stack h.method.frame (left_by p h.method.frame.activation.stack)) (h.method.frame.activation.at + 1)) ∷ h.method.below) (running h.method.on.object None) → new.output.items ≡ old.output.items ++ (text_bytes pr.text ++ line_bytes p) → Steps content at old (Ok Done) new
+          pub prints : test ≡ true → {new : State H} {t : held.Thread} → ChangedTo h.method.on new t → new.classes.items ≡ old.classes.items
+              → StateRuns at.linked.now new → Stands t
+              (Method (gone_to (with_stack h.method.frame (left_by p h.method.frame.activation.stack)) (h.method.frame.activation.at + 1)) ∷ h.method.below)
+              (running h.method.on.object None) → new.output.items ≡ old.output.items ++ (text_bytes pr.text ++ line_bytes p) → Steps content at old
+              (Ok Done) new
           unfolding parts
           prints y {new} {t} same classes runs s written = does h.method.on runs (λ w m.
               let v = h.method.frame in
@@ -235,13 +269,15 @@ module _ {H : Type 0} {content : H → Content ClassId} {at : At} {old : State H
               let x = rename_thread (name_of (content old.heap)) (part_of at.linked.now (Method g ∷ h.method.below) (running h.method.on.object None)) in
               let bytes = text_bytes pr.text ++ line_bytes p in
               let n : at.index + 1 - 1 ≡ at.index = omega arith in
-              let class_states : named_states at.linked.now.program new.classes.items ≡ w.classes = ap (named_states at.linked.now.program) classes ∙ m.classes in
+              let class_states : named_states at.linked.now.program new.classes.items ≡ w.classes =
+              ap (named_states at.linked.now.program) classes ∙ m.classes in
               let output_is : old.output.items ≡ w.output = m.output in
               let output : new.output.items ≡ w.output ++ bytes = written ∙ ap (λ z. z ++ bytes) output_is in
               subst (Ended (Ok Done) (parts_at content at new) w) (sym (writes y w m))
               (subst (λ k. Matches (parts_at content at new) (record w { threads = slice_set w.threads k x; output = w.output ++ bytes })) (sym n)
               (subst (λ k. Matches (parts_at content at new) (record w { threads = slice_set w.threads at.index x; output = k })) output
-              (subst (λ k. Matches (parts_at content at new) (record w { threads = slice_set w.threads at.index x; classes = k; output = new.output.items })) class_states
+              (subst (λ k. Matches (parts_at content at new) (record w { threads = slice_set w.threads at.index x; classes = k; output = new.output.items }))
+              class_states
               (changed_matches h.method.on new same s (λ q a. a) (inside_with h.method g.activation (λ q a.
               top_held h.method q (elim (among_split q (locals_shape.refs v.activation.locals) (stack_shape.refs (left_by p v.activation.stack)) a) [
                 | inl z ↦ among_left q (locals_shape.refs v.activation.locals) (stack_shape.refs v.activation.stack) z
@@ -249,5 +285,7 @@ module _ {H : Type 0} {content : H → Content ClassId} {at : At} {old : State H
               ]))) w m)))))
 
   -- the thread goes on without the operands
-  pub runs_on : {t : held.Thread} → Stands t (Method (gone_to (with_stack h.method.frame (left_by p h.method.frame.activation.stack)) (h.method.frame.activation.at + 1)) ∷ h.method.below) (running h.method.on.object None) → StateRuns at.linked.now (with_thread_at old at.index t)
+  pub runs_on : {t : held.Thread} → Stands t
+      (Method (gone_to (with_stack h.method.frame (left_by p h.method.frame.activation.stack)) (h.method.frame.activation.at + 1)) ∷ h.method.below)
+      (running h.method.on.object None) → StateRuns at.linked.now (with_thread_at old at.index t)
   runs_on s = runs_with h.method.on s (part_with h.method _)

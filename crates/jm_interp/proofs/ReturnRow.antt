@@ -59,7 +59,8 @@ use Rattle.jm_interp.proofs.Threads.{PartRuns, part_refs, without_top, with_top}
 count_is : (t : held.Thread) (fs : List StackFrame) (r : ThreadRest) → Stands t fs r → vec_len t.frames ≡ length fs
 count_is t fs r s = t.frames.ok.0 ∙ sym (length-reverse t.frames.items) ∙ ap length s.frames_are
 
-pub none_below : (t : held.Thread) (f : StackFrame) (below : List StackFrame) (r : ThreadRest) (n : ℕ) → Stands t (f ∷ below) r → n ≡ vec_len t.frames → n < 2 → below ≡ []
+pub none_below : (t : held.Thread) (f : StackFrame) (below : List StackFrame) (r : ThreadRest) (n : ℕ) → Stands t (f ∷ below) r → n ≡ vec_len t.frames → n < 2
+    → below ≡ []
 none_below t f [] r n s k h = refl
 none_below t f (b ∷ below) r n s k h = let a = count_is t (f ∷ b ∷ below) r s in absurd (omega arith)
 
@@ -68,7 +69,8 @@ pub record HasBelow (below : List StackFrame) : Type 0 where
   pub rest : List StackFrame
   pub is : below ≡ frame ∷ rest
 
-pub one_below : (t : held.Thread) (f : StackFrame) (below : List StackFrame) (r : ThreadRest) (n : ℕ) → Stands t (f ∷ below) r → n ≡ vec_len t.frames → 2 ≤ n → HasBelow below
+pub one_below : (t : held.Thread) (f : StackFrame) (below : List StackFrame) (r : ThreadRest) (n : ℕ) → Stands t (f ∷ below) r → n ≡ vec_len t.frames → 2 ≤ n
+    → HasBelow below
 one_below t f [] r n s k h = let a = count_is t (f ∷ []) r s in absurd (omega arith)
 one_below t f (b ∷ below) r n s k h = record { frame = b; rest = below; is = refl }
 
@@ -77,7 +79,8 @@ no_frames t [] r n s k h = refl
 no_frames t (b ∷ below) r n s k h = let a = count_is t (b ∷ below) r s in absurd (omega arith)
 
 -- a value is not returned
-popped : (o : Here) (type : OperandType) (f : ℕ → ℕ) (s : List Value) (r : Option FieldType) → r ≡ None → with_operand type (map (rename f) s) (λ v rest. return_value o type r v) ≡ faults (pop_fault s)
+popped : (o : Here) (type : OperandType) (f : ℕ → ℕ) (s : List Value) (r : Option FieldType) → r ≡ None
+    → with_operand type (map (rename f) s) (λ v rest. return_value o type r v) ≡ faults (pop_fault s)
 popped o type f [] r e = refl
 popped o type f (v ∷ s) r e = by (is_of type (rename f v)) ∙ ap faults refl
   where
@@ -88,17 +91,25 @@ popped o type f (v ∷ s) r e = by (is_of type (rename f v)) ∙ ap faults refl
     by true = wrong
     by false = refl
 
-value_row : (o : Here) (op : ReturnOp) (f : ℕ → ℕ) (s : List Value) → o.frame.stack ≡ map (rename f) s → o.method.descriptor.return_type ≡ None → (op ≡ return.Void → ⊥) → row_return o op ≡ faults (pop_fault s)
-value_row o return.Int f s k r n = ap (λ x. with_operand operand.Int x (λ v rest. return_value o operand.Int o.method.descriptor.return_type v)) k ∙ popped o operand.Int f s o.method.descriptor.return_type r
-value_row o return.Long f s k r n = ap (λ x. with_operand operand.Long x (λ v rest. return_value o operand.Long o.method.descriptor.return_type v)) k ∙ popped o operand.Long f s o.method.descriptor.return_type r
-value_row o return.Reference f s k r n = ap (λ x. with_operand operand.Reference x (λ v rest. return_value o operand.Reference o.method.descriptor.return_type v)) k ∙ popped o operand.Reference f s o.method.descriptor.return_type r
+value_row : (o : Here) (op : ReturnOp) (f : ℕ → ℕ) (s : List Value) → o.frame.stack ≡ map (rename f) s → o.method.descriptor.return_type ≡ None
+    → (op ≡ return.Void → ⊥) → row_return o op ≡ faults (pop_fault s)
+value_row o return.Int f s k r n =
+    ap (λ x. with_operand operand.Int x (λ v rest. return_value o operand.Int o.method.descriptor.return_type v)) k
+    ∙ popped o operand.Int f s o.method.descriptor.return_type r
+value_row o return.Long f s k r n =
+    ap (λ x. with_operand operand.Long x (λ v rest. return_value o operand.Long o.method.descriptor.return_type v)) k
+    ∙ popped o operand.Long f s o.method.descriptor.return_type r
+value_row o return.Reference f s k r n =
+    ap (λ x. with_operand operand.Reference x (λ v rest. return_value o operand.Reference o.method.descriptor.return_type v)) k
+    ∙ popped o operand.Reference f s o.method.descriptor.return_type r
 value_row o return.Void f s k r n = absurd (n refl)
 
 -- whatever two frames are on top, the call left the thread so
 abbrev pub Leaving : Result (Unit {0}) Halt → held.Thread → held.Thread → Type 0
 Leaving result d t = (f : FrameView) (b : StackFrame) (below : List StackFrame) (r : ThreadRest) → Stands d (Method f ∷ b ∷ below) r → Left result t f b below r
 
-module _ {H : Type 0} {content : H → Content ClassId} {at : At} {old : State H} {op : ReturnOp} (h : StandsOn content at old (Links at.linked.now (linked.Return op))) where
+module _ {H : Type 0} {content : H → Content ClassId} {at : At} {old : State H} {op : ReturnOp}
+    (h : StandsOn content at old (Links at.linked.now (linked.Return op))) where
   result_none : (name_of_number at.linked.now h.method.frame.method).descriptor.return_type ≡ None
   result_none =
       let m = get_there at.linked.now.methods h.method.frame.method (part_here h.method.on).runs.frames.0 in
@@ -107,31 +118,41 @@ module _ {H : Type 0} {content : H → Content ClassId} {at : At} {old : State H
   return_is : (w : World) → Matches (parts_at content at old) w → step_thread w (at.index + 1) (model h.method.on) ≡ row_return (place h.method w) op
   return_is w m = row_is h w m ∙ ap (row (place h.method w)) h.is
 
-  pub value_faults : {d : held.Thread} {fault : TagFault} → (op ≡ return.Void → ⊥) → d ≡ slice_index_or old.threads.items at.index d → ((f : FrameView) (below : List StackFrame) (r : ThreadRest) → Stands d (Method f ∷ below) r → fault ≡ pop_fault f.activation.stack) → Steps content at old (Err (Stopped (why.TagFault fault))) old
+  pub value_faults : {d : held.Thread} {fault : TagFault} → (op ≡ return.Void → ⊥) → d ≡ slice_index_or old.threads.items at.index d
+      → ((f : FrameView) (below : List StackFrame) (r : ThreadRest) → Stands d (Method f ∷ below) r → fault ≡ pop_fault f.activation.stack)
+      → Steps content at old (Err (Stopped (why.TagFault fault))) old
   value_faults n got e = stops h.method.on (λ w m.
       return_is w m
       ∙ value_row (place h.method w) op (name_of (content old.heap)) h.method.frame.activation.stack refl result_none n
       ∙ ap faults (sym (e h.method.frame h.method.below _ (read h.method.on got))))
 
 -- a return without a value
-pub as_void : {H : Type 0} {content : H → Content ClassId} {at : At} {old : State H} {op : ReturnOp} → op ≡ return.Void → StandsOn content at old (Links at.linked.now (linked.Return op)) → StandsOn content at old (Links at.linked.now (linked.Return return.Void))
+pub as_void : {H : Type 0} {content : H → Content ClassId} {at : At} {old : State H} {op : ReturnOp} → op ≡ return.Void
+    → StandsOn content at old (Links at.linked.now (linked.Return op)) → StandsOn content at old (Links at.linked.now (linked.Return return.Void))
 as_void {content = content} {at = at} {old = old} is h = subst (λ o. StandsOn content at old (Links at.linked.now (linked.Return o))) is h
 
-module _ {H : Type 0} {content : H → Content ClassId} {at : At} {old : State H} (h : StandsOn content at old (Links at.linked.now (linked.Return return.Void))) where
+module _ {H : Type 0} {content : H → Content ClassId} {at : At} {old : State H}
+    (h : StandsOn content at old (Links at.linked.now (linked.Return return.Void))) where
   -- the model returns to the frames below
-  void_is : (w : World) → Matches (parts_at content at old) w → step_thread w (at.index + 1) (model h.method.on) ≡ returned_to w (at.index + 1) (model h.method.on) None (map (rename_frame (name_of (content old.heap))) (map (frame_part at.linked.now) h.method.below))
+  void_is : (w : World) → Matches (parts_at content at old) w → step_thread w (at.index + 1) (model h.method.on) ≡ returned_to w (at.index + 1)
+      (model h.method.on) None (map (rename_frame (name_of (content old.heap))) (map (frame_part at.linked.now) h.method.below))
   void_is w m =
       let o = place h.method w in
       return_is h w m
       ∙ ap (return_nothing o) (result_none h)
-      ∙ ap (λ k. elim (leave_if w (at.index + 1) (option_map (name_of (content old.heap)) k)) as (λ _. Next) [ None ↦ throws o (codes "java/lang/IllegalMonitorStateException") | Some u ↦ returned_to u (at.index + 1) o.thread None o.below ]) (part_here h.method.on).not_yet.monitors.0
+      ∙ ap (λ k. elim (leave_if w (at.index + 1) (option_map (name_of (content old.heap)) k)) as
+      (λ _. Next) [ None ↦ throws o (codes "java/lang/IllegalMonitorStateException") | Some u ↦ returned_to u (at.index + 1) o.thread None o.below ])
+      (part_here h.method.on).not_yet.monitors.0
 
   module _ {d : held.Thread} {n : ℕ} (got : d ≡ slice_index_or old.threads.items at.index d) (count : n ≡ vec_len d.frames) where
     -- the last frame
-    pub last_returns : {new : State H} → n < 2 → Does content at old (Ok Done) new (λ w number t. goes (ended_as w number t returned)) → Steps content at old (Ok Done) new
+    pub last_returns : {new : State H} → n < 2 → Does content at old (Ok Done) new (λ w number t. goes (ended_as w number t returned))
+        → Steps content at old (Ok Done) new
     last_returns few done =
         let none : h.method.below ≡ [] = none_below d (Method h.method.frame) h.method.below _ n (read h.method.on got) count few in
-        does_as h.method.on (λ w m. m) (λ w m. void_is w m ∙ ap (λ fs. returned_to w (at.index + 1) (model h.method.on) None (map (rename_frame (name_of (content old.heap))) (map (frame_part at.linked.now) fs))) none) done
+        does_as h.method.on (λ w m. m) (λ w m. void_is w m ∙ ap
+        (λ fs. returned_to w (at.index + 1) (model h.method.on) None (map (rename_frame (name_of (content old.heap))) (map (frame_part at.linked.now) fs)))
+        none) done
 
     -- a frame is below
     module _ (many : 2 ≤ n) where
@@ -141,46 +162,63 @@ module _ {H : Type 0} {content : H → Content ClassId} {at : At} {old : State H
       abbrev pub on_two : OnThread content at old (Method h.method.frame ∷ below.frame ∷ below.rest) None
       on_two = as_frames h.method.on (ap (λ x. Method h.method.frame ∷ x) below.is)
 
-      returns_to : (w : World) → Matches (parts_at content at old) w → step_thread w (at.index + 1) (model on_two) ≡ returned_to w (at.index + 1) (model on_two) None (map (rename_frame (name_of (content old.heap))) (map (frame_part at.linked.now) (below.frame ∷ below.rest)))
+      returns_to : (w : World) → Matches (parts_at content at old) w → step_thread w (at.index + 1) (model on_two) ≡ returned_to w (at.index + 1)
+          (model on_two) None (map (rename_frame (name_of (content old.heap))) (map (frame_part at.linked.now) (below.frame ∷ below.rest)))
       returns_to w m =
           let f = rename_frame (name_of (content old.heap)) in
-          let x : List StackFrame → Thread = λ fs. rename_thread (name_of (content old.heap)) (part_of at.linked.now (Method h.method.frame ∷ fs) (running h.method.on.object None)) in
-          subst (λ fs. step_thread w (at.index + 1) (x fs) ≡ returned_to w (at.index + 1) (x fs) None (map f (map (frame_part at.linked.now) fs))) below.is (void_is w m)
+          let x : List StackFrame → Thread =
+          λ fs. rename_thread (name_of (content old.heap)) (part_of at.linked.now (Method h.method.frame ∷ fs) (running h.method.on.object None)) in
+          subst (λ fs. step_thread w (at.index + 1) (x fs) ≡ returned_to w (at.index + 1) (x fs) None (map f (map (frame_part at.linked.now) fs))) below.is
+          (void_is w m)
 
       module _ {e : held.Thread} (t : held.Thread) (again : e ≡ slice_index_or old.threads.items at.index e) where
         pub returns_below : Leaving (Ok tt) e t → Steps content at old (Ok Done) (with_thread_at old at.index t)
         returns_below leaving = by below.frame on_two returns_to (leaving h.method.frame below.frame below.rest _ (read on_two again))
           where
-            by : (b : StackFrame) (k : OnThread content at old (Method h.method.frame ∷ b ∷ below.rest) None) → ((w : World) → Matches (parts_at content at old) w → step_thread w (at.index + 1) (model k) ≡ returned_to w (at.index + 1) (model k) None (map (rename_frame (name_of (content old.heap))) (map (frame_part at.linked.now) (b ∷ below.rest)))) → Left (Ok tt) t h.method.frame b below.rest (running k.object None) → Steps content at old (Ok Done) (with_thread_at old at.index t)
+            by : (b : StackFrame) (k : OnThread content at old (Method h.method.frame ∷ b ∷ below.rest) None) → ((w : World) → Matches
+                (parts_at content at old) w → step_thread w (at.index + 1) (model k) ≡ returned_to w (at.index + 1) (model k) None
+                (map (rename_frame (name_of (content old.heap))) (map (frame_part at.linked.now) (b ∷ below.rest)))) → Left
+                (Ok tt) t h.method.frame b below.rest (running k.object None) → Steps content at old (Ok Done) (with_thread_at old at.index t)
             by (Initialization class stage) k is left = absurd (part_here k).not_yet.initializers.0
             by (Method u) k is left =
                 let f = name_of (content old.heap) in
                 let q = part_here k in
                 let r : PartRuns at.linked.now (Method u ∷ below.rest) (running k.object None) = without_top q q.not_yet.initializers.1 in
-                let room : nat_le (units (map (rename f) u.activation.stack)) u.activation.max_stack ≡ true = ap (λ n. nat_le n u.activation.max_stack) (units_renamed f u.activation.stack) ∙ left.0 in
-                thread.goes k left.1 (with_top {g = Method (gone_to u (u.activation.at + 1))} r.runs.frames.0 r.not_yet.monitors.0 r r.not_yet.initializers) (λ n a.
+                let room : nat_le (units (map (rename f) u.activation.stack)) u.activation.max_stack ≡ true =
+                ap (λ n. nat_le n u.activation.max_stack) (units_renamed f u.activation.stack) ∙ left.0 in
+                thread.goes k left.1 (with_top {g = Method (gone_to u (u.activation.at + 1))} r.runs.frames.0 r.not_yet.monitors.0 r r.not_yet.initializers)
+                (λ n a.
                 elim (part_refs at.linked.now (Method (gone_to u (u.activation.at + 1)) ∷ below.rest) None n a) [
                   | inl z ↦ absurd z
-                  | inr z ↦ held_frames k n (among_right n (refs_frame (frame_part at.linked.now (Method h.method.frame))) (frames_shape.refs (map (frame_part at.linked.now) (Method u ∷ below.rest))) z)
+                  | inr z ↦ held_frames k n (among_right n (refs_frame (frame_part at.linked.now (Method h.method.frame)))
+                      (frames_shape.refs (map (frame_part at.linked.now) (Method u ∷ below.rest))) z)
                 ]) (λ w m.
                 is w m
                 ∙ ap (λ b. elim b as (λ _. Next) [
-                  | true ↦ goes (with_frames w (at.index + 1) (model k) (method_frame (name_of_number at.linked.now u.method) (moved_on (rename_activation f u.activation) (map (rename f) u.activation.stack)) (option_map f u.monitor) ∷ map (rename_frame f) (map (frame_part at.linked.now) below.rest)))
+                  | true ↦ goes (with_frames w (at.index + 1) (model k) (method_frame (name_of_number at.linked.now u.method)
+                      (moved_on (rename_activation f u.activation) (map (rename f) u.activation.stack)) (option_map f u.monitor)
+                      ∷ map (rename_frame f) (map (frame_part at.linked.now) below.rest)))
                   | false ↦ faults Overflow
                 ]) room)
 
         pub stays_there : {halt : Halt} → Leaving (Err halt) e t → Steps content at old (Err halt) (with_thread_at old at.index t)
         stays_there {halt} leaving = by halt below.frame on_two returns_to (leaving h.method.frame below.frame below.rest _ (read on_two again))
           where
-            by : (why : Halt) (b : StackFrame) (k : OnThread content at old (Method h.method.frame ∷ b ∷ below.rest) None) → ((w : World) → Matches (parts_at content at old) w → step_thread w (at.index + 1) (model k) ≡ returned_to w (at.index + 1) (model k) None (map (rename_frame (name_of (content old.heap))) (map (frame_part at.linked.now) (b ∷ below.rest)))) → Left (Err why) t h.method.frame b below.rest (running k.object None) → Steps content at old (Err why) (with_thread_at old at.index t)
+            by : (why : Halt) (b : StackFrame) (k : OnThread content at old (Method h.method.frame ∷ b ∷ below.rest) None) → ((w : World) → Matches
+                (parts_at content at old) w → step_thread w (at.index + 1) (model k) ≡ returned_to w (at.index + 1) (model k) None
+                (map (rename_frame (name_of (content old.heap))) (map (frame_part at.linked.now) (b ∷ below.rest)))) → Left
+                (Err why) t h.method.frame b below.rest (running k.object None) → Steps content at old (Err why) (with_thread_at old at.index t)
             by OutOfMemory b k is left = does k (runs_with k left (part_here k)) (λ w m. same_matches k left w m)
             by (Stopped s) (Initialization class stage) k is left = absurd left
             by (Stopped s) (Method u) k is left =
                 let f = name_of (content old.heap) in
-                let room : nat_le (units (map (rename f) u.activation.stack)) u.activation.max_stack ≡ false = ap (λ n. nat_le n u.activation.max_stack) (units_renamed f u.activation.stack) ∙ left.0 in
+                let room : nat_le (units (map (rename f) u.activation.stack)) u.activation.max_stack ≡ false =
+                ap (λ n. nat_le n u.activation.max_stack) (units_renamed f u.activation.stack) ∙ left.0 in
                 does k (runs_with k left.2 (part_here k)) (λ w m.
                 subst (Ended (Err (Stopped s)) (parts_at content at (with_thread_at old at.index t)) w) (sym (is w m ∙ ap (λ b. elim b as (λ _. Next) [
-                  | true ↦ goes (with_frames w (at.index + 1) (model k) (method_frame (name_of_number at.linked.now u.method) (moved_on (rename_activation f u.activation) (map (rename f) u.activation.stack)) (option_map f u.monitor) ∷ map (rename_frame f) (map (frame_part at.linked.now) below.rest)))
+                  | true ↦ goes (with_frames w (at.index + 1) (model k) (method_frame (name_of_number at.linked.now u.method)
+                      (moved_on (rename_activation f u.activation) (map (rename f) u.activation.stack)) (option_map f u.monitor)
+                      ∷ map (rename_frame f) (map (frame_part at.linked.now) below.rest)))
                   | false ↦ faults Overflow
                 ]) room))
                 (sym left.1, same_matches k left.2 w m))

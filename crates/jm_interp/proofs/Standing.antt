@@ -20,7 +20,8 @@ changed_parts m threads classes output = record m { threads = threads; classes =
 
 -- the world that it then matches
 abbrev pub changed_world : {T : Type 0} → Parts T → World → List Thread → List Progress → List ℕ → World
-changed_world m w threads classes output = record w { threads = (list_shape thread_shape).rename (name_of m.content) threads; classes = classes; output = output }
+changed_world m w threads classes output =
+    record w { threads = (list_shape thread_shape).rename (name_of m.content) threads; classes = classes; output = output }
 
 -- a place of an object of a set
 abbrev pub Stands : {T : Type 0} → Parts T → (ℕ → Type 0) → ℕ → Type 0
@@ -40,9 +41,14 @@ module _ {T : Type 0} (m : Parts T) (w : World) (h : Matches m w) where
 
   -- the places of the machine stand
   pub place_stands : (Q : ℕ → Type 0) → IsShared m w Q → (p : ℕ) → Among p (places m) → Stands m Q p
-  place_stands Q q p a = (h.resident p a, q.reached (name_of m.content p) (root (name_of m.content p) (subst (Among (name_of m.content p)) (roots_are m w h) (among_map (name_of m.content) p (places m) a))))
+  place_stands Q q p a = (
+    h.resident p a,
+    q.reached (name_of m.content p)
+        (root (name_of m.content p) (subst (Among (name_of m.content p)) (roots_are m w h) (among_map (name_of m.content) p (places m) a))),
+  )
 
-  module _ (Q : ℕ → Type 0) (q : IsShared m w Q) (threads : List Thread) (classes : List Progress) (output : List ℕ) (stands : (p : ℕ) → Among p ((list_shape thread_shape).refs threads) → Stands m Q p) where
+  module _ (Q : ℕ → Type 0) (q : IsShared m w Q) (threads : List Thread) (classes : List Progress) (output : List ℕ)
+      (stands : (p : ℕ) → Among p ((list_shape thread_shape).refs threads) → Stands m Q p) where
     each_stands : (p : ℕ) → Among p (places (changed_parts m threads classes output)) → Stands m Q p
     each_stands p a =
         let ts = (list_shape thread_shape).refs threads in
@@ -63,8 +69,10 @@ module _ {T : Type 0} (m : Parts T) (w : World) (h : Matches m w) where
 
     new_roots : map (name_of m.content) (places (changed_parts m threads classes output)) ≡ roots (changed_world m w threads classes output)
     new_roots = join (name_of m.content)
-        ((list_shape thread_shape).refs threads) ((list_shape static_shape).refs m.statics) ((list_shape monitor_shape).refs m.monitors) ((list_shape literal_shape).refs m.literals)
-        ((list_shape thread_shape).refs ((list_shape thread_shape).rename (name_of m.content) threads)) ((list_shape static_shape).refs w.statics) ((list_shape monitor_shape).refs w.monitors) ((list_shape literal_shape).refs w.literals)
+        ((list_shape thread_shape).refs threads) ((list_shape static_shape).refs m.statics) ((list_shape monitor_shape).refs m.monitors)
+        ((list_shape literal_shape).refs m.literals)
+        ((list_shape thread_shape).refs ((list_shape thread_shape).rename (name_of m.content) threads)) ((list_shape static_shape).refs w.statics)
+        ((list_shape monitor_shape).refs w.monitors) ((list_shape literal_shape).refs w.literals)
         (listed thread_shape thread_is_shape (name_of m.content) threads ((list_shape thread_shape).rename (name_of m.content) threads) refl)
         (listed static_shape static_is_shape (name_of m.content) m.statics w.statics h.statics)
         (listed monitor_shape monitor_is_shape (name_of m.content) m.monitors w.monitors h.monitors)

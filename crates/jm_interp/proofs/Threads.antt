@@ -31,16 +31,20 @@ pub part_refs : (l : LinkedView) (fs : List StackFrame) (p : Option ℕ) (q : �
     → Among q (optional_number_shape.refs p) ⊎ Among q (frames_shape.refs (map (frame_part l) fs))
 part_refs l fs p q a = among_split q (optional_number_shape.refs p) (frames_shape.refs (map (frame_part l) fs)) a
 
-pub object_in : (l : LinkedView) (fs : List StackFrame) (r : ThreadRest) (q : ℕ) → Among q (object_refs (ending_part l.program r.ending) r.object) → Among q (refs_thread (part_of l fs r))
+pub object_in : (l : LinkedView) (fs : List StackFrame) (r : ThreadRest) (q : ℕ) → Among q (object_refs (ending_part l.program r.ending) r.object)
+    → Among q (refs_thread (part_of l fs r))
 object_in l fs r q a = among_left q (object_refs (ending_part l.program r.ending) r.object) (held_shape.refs (r.pending, map (frame_part l) fs)) a
 
-held_in : (l : LinkedView) (fs : List StackFrame) (r : ThreadRest) (q : ℕ) → Among q (held_shape.refs (r.pending, map (frame_part l) fs)) → Among q (refs_thread (part_of l fs r))
+held_in : (l : LinkedView) (fs : List StackFrame) (r : ThreadRest) (q : ℕ) → Among q (held_shape.refs (r.pending, map (frame_part l) fs))
+    → Among q (refs_thread (part_of l fs r))
 held_in l fs r q a = among_right q (object_refs (ending_part l.program r.ending) r.object) (held_shape.refs (r.pending, map (frame_part l) fs)) a
 
-pub pending_refs : (l : LinkedView) (fs : List StackFrame) (r : ThreadRest) (q : ℕ) → Among q (optional_number_shape.refs r.pending) → Among q (refs_thread (part_of l fs r))
+pub pending_refs : (l : LinkedView) (fs : List StackFrame) (r : ThreadRest) (q : ℕ) → Among q (optional_number_shape.refs r.pending)
+    → Among q (refs_thread (part_of l fs r))
 pending_refs l fs r q a = held_in l fs r q (among_left q (optional_number_shape.refs r.pending) (frames_shape.refs (map (frame_part l) fs)) a)
 
-pub frames_refs : (l : LinkedView) (fs : List StackFrame) (r : ThreadRest) (q : ℕ) → Among q (frames_shape.refs (map (frame_part l) fs)) → Among q (refs_thread (part_of l fs r))
+pub frames_refs : (l : LinkedView) (fs : List StackFrame) (r : ThreadRest) (q : ℕ) → Among q (frames_shape.refs (map (frame_part l) fs))
+    → Among q (refs_thread (part_of l fs r))
 frames_refs l fs r q a = held_in l fs r q (among_right q (optional_number_shape.refs r.pending) (frames_shape.refs (map (frame_part l) fs)) a)
 
 -- what a thread keeps to, and what it does not come to yet
@@ -48,27 +52,32 @@ pub record PartRuns (l : LinkedView) (fs : List StackFrame) (r : ThreadRest) : T
   pub runs : ThreadRuns l (held_as fs r)
   pub not_yet : ThreadNotYet (held_as fs r)
 
-pub part_runs : {l : LinkedView} {t : held.Thread} {fs : List StackFrame} {r : ThreadRest} → Stands t fs r → ThreadRuns l (held_thread t) → ThreadNotYet (held_thread t) → PartRuns l fs r
+pub part_runs : {l : LinkedView} {t : held.Thread} {fs : List StackFrame} {r : ThreadRest} → Stands t fs r → ThreadRuns l (held_thread t)
+    → ThreadNotYet (held_thread t) → PartRuns l fs r
 part_runs {l} s runs yet = record { runs = subst (ThreadRuns l) (held_is s) runs; not_yet = subst ThreadNotYet (held_is s) yet }
 
 -- without its top frame, or with another on top
-pub without_top : {l : LinkedView} {f : StackFrame} {fs : List StackFrame} {o p q : Option ℕ} → PartRuns l (f ∷ fs) (running o p) → StandOnTop q fs → PartRuns l fs (running o q)
+pub without_top : {l : LinkedView} {f : StackFrame} {fs : List StackFrame} {o p q : Option ℕ} → PartRuns l (f ∷ fs) (running o p) → StandOnTop q fs
+    → PartRuns l fs (running o q)
 without_top r top = record {
   runs = record { frames = r.runs.frames.1; few = let k = r.runs.few in omega arith };
   not_yet = record { object = r.not_yet.object; monitors = r.not_yet.monitors.1; initializers = top };
 }
 
-pub with_top : {l : LinkedView} {f g : StackFrame} {fs : List StackFrame} {o p q : Option ℕ} → FrameRuns l g → HoldsNoMonitor g → PartRuns l (f ∷ fs) (running o p) → StandOnTop q (g ∷ fs) → PartRuns l (g ∷ fs) (running o q)
+pub with_top : {l : LinkedView} {f g : StackFrame} {fs : List StackFrame} {o p q : Option ℕ} → FrameRuns l g → HoldsNoMonitor g
+    → PartRuns l (f ∷ fs) (running o p) → StandOnTop q (g ∷ fs) → PartRuns l (g ∷ fs) (running o q)
 with_top frame free r top = record {
   runs = record { frames = (frame, r.runs.frames.1); few = let k = r.runs.few in omega arith };
   not_yet = record { object = r.not_yet.object; monitors = (free, r.not_yet.monitors.1); initializers = top };
 }
 
 -- of each of a list of threads with another in it, and of one of them
-pub all_set : (P : HeldThread → Type 0) (ts : List held.Thread) (i : ℕ) (t : held.Thread) → AllByRecursion P (map held_thread ts) → P (held_thread t) → AllByRecursion P (map held_thread (slice_set ts i t))
+pub all_set : (P : HeldThread → Type 0) (ts : List held.Thread) (i : ℕ) (t : held.Thread) → AllByRecursion P (map held_thread ts) → P (held_thread t)
+    → AllByRecursion P (map held_thread (slice_set ts i t))
 all_set P ts i t all it = subst (AllByRecursion P) (sym (map_set held_thread ts i t)) (each_set P (map held_thread ts) i (held_thread t) all it)
 
-pub all_at : (P : HeldThread → Type 0) (ts : List held.Thread) (i : ℕ) (t : held.Thread) → AllByRecursion P (map held_thread ts) → slice_get ts i ≡ Some t → P (held_thread t)
+pub all_at : (P : HeldThread → Type 0) (ts : List held.Thread) (i : ℕ) (t : held.Thread) → AllByRecursion P (map held_thread ts) → slice_get ts i ≡ Some t
+    → P (held_thread t)
 all_at P ts i t all e = each_at P (map held_thread ts) i (held_thread t) all (get_map held_thread ts i t e)
 
 live_one : (x : Thread) (xs : List Thread) → is_running x.ending ≡ true → live_among (x ∷ xs) ≡ live_among xs + 1
@@ -80,7 +89,8 @@ live_none x xs e = ap (λ b. elim b as (λ _. ℕ) [ true ↦ live_among xs + 1 
 live_after : (x : Thread) (xs ys : List Thread) → live_among xs ≡ live_among ys → live_among (x ∷ xs) ≡ live_among (x ∷ ys)
 live_after x xs ys e = ap (λ n. elim (is_running x.ending) as (λ _. ℕ) [ true ↦ n + 1 | false ↦ n ]) e
 
-pub live_set : (xs : List Thread) (i : ℕ) (x y : Thread) → slice_get xs i ≡ Some x → is_running x.ending ≡ true → is_running y.ending ≡ true → live_among (slice_set xs i y) ≡ live_among xs
+pub live_set : (xs : List Thread) (i : ℕ) (x y : Thread) → slice_get xs i ≡ Some x → is_running x.ending ≡ true → is_running y.ending ≡ true
+    → live_among (slice_set xs i y) ≡ live_among xs
 live_set [] i x y e f g = refl
 live_set (z ∷ xs) zero x y e f g =
     let s : z ≡ x = cc in
@@ -94,7 +104,8 @@ live_before z xs ys e = by (is_running z.ending) refl
     by true d = let f = live_one z xs d in let g = live_one z ys d in omega arith
     by false d = let f = live_none z xs d in let g = live_none z ys d in omega arith
 
-pub live_less : (xs : List Thread) (i : ℕ) (x y : Thread) → slice_get xs i ≡ Some x → is_running x.ending ≡ true → is_running y.ending ≡ false → live_among (slice_set xs i y) + 1 ≡ live_among xs
+pub live_less : (xs : List Thread) (i : ℕ) (x y : Thread) → slice_get xs i ≡ Some x → is_running x.ending ≡ true → is_running y.ending ≡ false
+    → live_among (slice_set xs i y) + 1 ≡ live_among xs
 live_less [] i x y e f g = cc
 live_less (z ∷ xs) zero x y e f g =
     let s : z ≡ x = cc in

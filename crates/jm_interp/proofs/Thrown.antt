@@ -1,5 +1,6 @@
 -- An exception that is made and left pending.
-use Rattle.std.proofs.Common.{◌≡◌, ℕ, ◌+◌, ◌<◌, arith, List, [], ◌∷◌, ◌++◌, Option, Some, None, refl, sym, ap, ◌∙◌, subst, inl, inr, ◌⊎◌, length, reverse, length-append}
+use Rattle.std.proofs.Common.{◌≡◌, ℕ, ◌+◌, ◌<◌, arith, List, [], ◌∷◌, ◌++◌, Option, Some, None, refl, sym, ap, ◌∙◌, subst, inl, inr, ◌⊎◌, length, reverse}
+use Rattle.std.proofs.Common.{length-append}
 use Rattle.std.specs.Prelude.{slice_get, slice_index_or, vec_len, map, option_map, Ok, Err}
 use Rattle.std.specs.List.{AllByRecursion}
 use Rattle.std.proofs.lemmas.List.{length-map}
@@ -30,11 +31,12 @@ use Rattle.jm_state.specs.declared.thread.StackFrame.{StackFrame}
 use Rattle.jm_state.specs.declared.thread.StackFrame.TheVariants.{Method, Initialization}
 use Rattle.jm_state.specs.declared.thread.Thread as held
 use Rattle.jm_interp.specs.declared.at.At.{At}
-use Rattle.jm_interp.specs.At.{parts_at, HasMethods, InMethod, Does}
+use Rattle.jm_interp.specs.At.{parts_at, Beside, OnThread, HasMethods, InMethod, Does}
 use Rattle.jm_interp.specs.Standing.{ThreadRest, running, Stands, part_of}
 use Rattle.jm_interp.proofs.Lists.{get_map, get_there, got_within}
 use Rattle.jm_interp.proofs.Objects.{name_is}
-use Rattle.jm_interp.proofs.OnThread.{model, thread_there, does, within, read, part_here, runs_with, held_object, held_frames, changed_among, with_thread_changed, same_rest, with_thread_at}
+use Rattle.jm_interp.proofs.OnThread.{model, thread_there, does, within, read, part_here, runs_with, held_object, held_frames, changed_among}
+use Rattle.jm_interp.proofs.OnThread.{with_thread_changed, same_rest, with_thread_at}
 use Rattle.jm_interp.proofs.Standing as beside
 use Rattle.jm_interp.proofs.Standing.{IsShared, place_stands}
 use Rattle.jm_interp.proofs.Threads.{object_or_held, part_refs}
@@ -49,10 +51,13 @@ runs_named l Returned h = cc
 runs_named l (EndedBy n) h = cc
 
 -- frames that are seen as method frames are such
-methods_named : (l : LinkedView) (f g : ℕ → ℕ) (xs ys : List StackFrame) → map (rename_frame f) (map (frame_part l) xs) ≡ map (rename_frame g) (map (frame_part l) ys) → AllByRecursion IsMethodFrame ys → AllByRecursion IsMethodFrame xs
+methods_named : (l : LinkedView) (f g : ℕ → ℕ) (xs ys : List StackFrame)
+    → map (rename_frame f) (map (frame_part l) xs) ≡ map (rename_frame g) (map (frame_part l) ys) → AllByRecursion IsMethodFrame ys
+    → AllByRecursion IsMethodFrame xs
 methods_named l f g [] ys e h = tt
 methods_named l f g (x ∷ xs) [] e h = cc
-methods_named l f g (Method x ∷ xs) (y ∷ ys) e h = let t : map (rename_frame f) (map (frame_part l) xs) ≡ map (rename_frame g) (map (frame_part l) ys) = cc in (tt, methods_named l f g xs ys t h.1)
+methods_named l f g (Method x ∷ xs) (y ∷ ys) e h =
+    let t : map (rename_frame f) (map (frame_part l) xs) ≡ map (rename_frame g) (map (frame_part l) ys) = cc in (tt, methods_named l f g xs ys t h.1)
 methods_named l f g (Initialization n s ∷ xs) (Method y ∷ ys) e h = cc
 methods_named l f g (Initialization n s ∷ xs) (Initialization m r ∷ ys) e h = absurd h.0
 
@@ -66,7 +71,8 @@ get_last (x ∷ xs) o = get_last xs o
 
 module _ {H : Type 0} {content : H → Content ClassId} {at : At} {old : State H} (h : HasMethods content at old) where
   -- so it has in a state beside a world with the same threads
-  pub still_has : {new : State H} {w : World} → StateRuns at.linked.now new → Matches (parts_at content at new) w → w.threads ≡ h.on.world.threads → HasMethods content at new
+  pub still_has : {new : State H} {w : World} → StateRuns at.linked.now new → Matches (parts_at content at new) w → w.threads ≡ h.on.world.threads
+      → HasMethods content at new
   unfolding parts
   still_has {new} {w} runs m same =
       let l = at.linked.now in
@@ -74,10 +80,13 @@ module _ {H : Type 0} {content : H → Content ClassId} {at : At} {old : State H
       let part = thread_part l in
       let f = name_of (content new.heap) in
       let there : slice_get w.threads i ≡ Some (model h.on) = ap (λ xs. slice_get xs i) same ∙ thread_there h.on h.on.world h.on.beside.matches in
-      let long : length new.threads.items ≡ length w.threads = sym (length-map new.threads.items part) ∙ sym (length-map (map part new.threads.items) (rename_thread f)) ∙ ap length m.threads in
+      let long : length new.threads.items ≡ length w.threads =
+      sym (length-map new.threads.items part) ∙ sym (length-map (map part new.threads.items) (rename_thread f)) ∙ ap length m.threads in
       let inside : i < length w.threads = got_within w.threads i (model h.on) there in
       let t = get_there new.threads.items i (omega arith) in
-      let seen_here : slice_get w.threads i ≡ Some (rename_thread f (part t.0)) = ap (λ xs. slice_get xs i) (sym m.threads) ∙ get_map (rename_thread f) (map part new.threads.items) i (part t.0) (get_map part new.threads.items i t.0 t.1) in
+      let seen_here : slice_get w.threads i ≡ Some (rename_thread f (part t.0)) =
+      ap (λ xs. slice_get xs i) (sym m.threads)
+      ∙ get_map (rename_thread f) (map part new.threads.items) i (part t.0) (get_map part new.threads.items i t.0 t.1) in
       let both : Some (rename_thread f (part t.0)) ≡ Some (model h.on) = sym seen_here ∙ there in
       let seen : rename_thread f (part t.0) ≡ model h.on = cc in
       record {
@@ -91,7 +100,13 @@ module _ {H : Type 0} {content : H → Content ClassId} {at : At} {old : State H
             at = t.1;
             stands = record {
               frames_are = refl;
-              rest_is = λ j. record { object = t.0.object; pending = none_named f t.0.pending (ap (λ (y : Thread). y.pending) seen) j; ending = runs_named l t.0.ending (ap (λ (y : Thread). y.ending) seen) j };
+              rest_is =
+                  λ j. record {
+                    object = t.0.object;
+                    pending = none_named f t.0.pending
+                        (ap (λ (y : Thread). y.pending) seen) j;
+                    ending = runs_named l t.0.ending (ap (λ (y : Thread). y.ending) seen) j;
+                  };
             };
           };
         };
@@ -103,14 +118,18 @@ unfoldable pub IsKnown : World → Object → ℕ → Type 0
 IsKnown w o k = Reach (slice_get (with_object w o).heap) (roots (with_object w o)) k ⊎ (k ≡ length w.heap)
 
 -- they are shared, where the new one refers to none
-module _ {H : Type 0} (content : H → Content ClassId) (at : At) (new : State H) (w : World) (o : Object) (m : Matches (parts_at content at new) (with_object w o)) where
-  pub known : ((j : ℕ) → Among j (stack_shape.refs o.values) → ⊥) → option_map (as_named (parts_at content at new).named) (object_at (content new.heap) (length w.heap)) ≡ Some o → IsShared (parts_at content at new) (with_object w o) (IsKnown w o)
+module _ {H : Type 0} (content : H → Content ClassId) (at : At) (new : State H) (w : World) (o : Object)
+    (m : Matches (parts_at content at new) (with_object w o)) where
+  pub known : ((j : ℕ) → Among j (stack_shape.refs o.values) → ⊥)
+      → option_map (as_named (parts_at content at new).named) (object_at (content new.heap) (length w.heap)) ≡ Some o
+      → IsShared (parts_at content at new) (with_object w o) (IsKnown w o)
   unfolding IsKnown parts
   known bare filled = record {
     bound = λ k q. elim q [ inl r ↦ m.bound k r | inr e ↦ let a = length-append w.heap (o ∷ []) in omega arith ];
     objects = λ k q. elim q [
       | inl r ↦ m.objects k r
-      | inr e ↦ subst (λ j. option_map (as_named (parts_at content at new).named) (object_at (content new.heap) j) ≡ slice_get (w.heap ++ o ∷ []) j) (sym e) (filled ∙ sym (get_last w.heap o))
+      | inr e ↦ subst (λ j. option_map (as_named (parts_at content at new).named) (object_at (content new.heap) j) ≡ slice_get (w.heap ++ o ∷ []) j) (sym e)
+          (filled ∙ sym (get_last w.heap o))
     ];
     closed = λ i j q a. elim q [
       | inl r ↦ inl (field i j r a)
@@ -125,24 +144,40 @@ module _ {H : Type 0} (content : H → Content ClassId) (at : At) (new : State H
   new_stands q e = ((length w.heap, e), inr (name_is (content new.heap) q (length w.heap) e))
 
 -- the new exception is pending
-module _ {H : Type 0} {content : H → Content ClassId} {at : At} {mid : State H} (g : HasMethods content at mid) (place : ℕ) {d : held.Thread} (got : d ≡ slice_index_or mid.threads.items at.index d) where
+module _ {H : Type 0} {content : H → Content ClassId} {at : At} {mid : State H} (g : HasMethods content at mid) (place : ℕ) {d : held.Thread}
+    (got : d ≡ slice_index_or mid.threads.items at.index d) where
   abbrev pub pending_at : held.Thread
   pending_at = record d { pending = Some place }
 
   stands_pending : Stands pending_at g.frames (running g.on.object (Some place))
-  stands_pending = let s = read g.on got in record { frames_are = s.frames_are; rest_is = ap (λ (r : ThreadRest). record { object = r.object; pending = Some place; ending = r.ending }) s.rest_is }
+  stands_pending =
+      let s = read g.on got in record {
+        frames_are = s.frames_are;
+        rest_is = ap
+            (λ (r : ThreadRest). record { object = r.object; pending = Some place; ending = r.ending }) s.rest_is;
+      }
 
   pub pending_runs : StateRuns at.linked.now (with_thread_at mid at.index pending_at)
-  pending_runs = let q = part_here g.on in runs_with g.on stands_pending (record { runs = record { frames = q.runs.frames; few = q.runs.few }; not_yet = record { object = q.not_yet.object; monitors = q.not_yet.monitors; initializers = all_on_top place g.frames g.methods } })
+  pending_runs =
+      let q = part_here g.on in
+      runs_with g.on stands_pending (record {
+        runs = record { frames = q.runs.frames; few = q.runs.few };
+        not_yet = record { object = q.not_yet.object; monitors = q.not_yet.monitors; initializers = all_on_top place g.frames g.methods };
+      })
 
-  pub pending_matches : (w : World) (class : List ℕ) (m : Matches (parts_at content at mid) (with_object w (exception class))) → serial_at (content mid.heap) place ≡ Some (length w.heap) → option_map (as_named (parts_at content at mid).named) (object_at (content mid.heap) (length w.heap)) ≡ Some (exception class) → Matches (parts_at content at (with_thread_at mid at.index pending_at)) (with_thread (with_object w (exception class)) (at.index + 1) (record (model g.on) { pending = Some (length w.heap) }))
+  pub pending_matches : (w : World) (class : List ℕ) (m : Matches (parts_at content at mid) (with_object w (exception class))) → serial_at
+      (content mid.heap) place ≡ Some (length w.heap) → option_map (as_named (parts_at content at mid).named)
+      (object_at (content mid.heap) (length w.heap)) ≡ Some (exception class) → Matches (parts_at content at (with_thread_at mid at.index pending_at))
+      (with_thread (with_object w (exception class)) (at.index + 1) (record (model g.on) { pending = Some (length w.heap) }))
   pending_matches w class m lies filled =
       let c = content mid.heap in
       let after = with_object w (exception class) in
       let shared = known content at mid w (exception class) m (λ j a. absurd a) filled in
       let x = rename_thread (name_of c) (part_of at.linked.now g.frames (running g.on.object (Some place))) in
       let named : name_of c place ≡ length w.heap = name_is c place (length w.heap) lies in
-      let stand : (q : ℕ) → Among q (refs_thread (part_of at.linked.now g.frames (running g.on.object (Some place)))) → beside.Stands (parts_at content at mid) (IsKnown w (exception class)) q = λ q a.
+      let stand : (q : ℕ) → Among q (refs_thread (part_of at.linked.now g.frames (running g.on.object (Some place))))
+      → beside.Stands (parts_at content at mid) (IsKnown w (exception class)) q =
+      λ q a.
       elim (object_or_held at.linked.now g.frames (running g.on.object (Some place)) q a) [
         | inl b ↦ place_stands (parts_at content at mid) after m (IsKnown w (exception class)) shared q (held_object g.on q b)
         | inr b ↦ elim (part_refs at.linked.now g.frames (Some place) q b) [
@@ -150,23 +185,32 @@ module _ {H : Type 0} {content : H → Content ClassId} {at : At} {mid : State H
           | inr d ↦ place_stands (parts_at content at mid) after m (IsKnown w (exception class)) shared q (held_frames g.on q d)
         ]
       ] in
-      subst (λ k. Matches (parts_at content at (with_thread_at mid at.index pending_at)) (with_thread after (at.index + 1) (record (model g.on) { pending = Some k }))) named
+      subst (λ k. Matches (parts_at content at (with_thread_at mid at.index pending_at)) (with_thread after (at.index + 1) (record (model g.on) {
+        pending =
+            Some k;
+      }))) named
       (subst (Matches (parts_at content at (with_thread_at mid at.index pending_at))) (same_rest g.on after m x)
-      (changed_among g.on after m (IsKnown w (exception class)) shared (with_thread_at mid at.index pending_at) (with_thread_changed g.on pending_at) stands_pending stand))
+      (changed_among g.on after m (IsKnown w (exception class)) shared (with_thread_at mid at.index pending_at)
+      (with_thread_changed g.on pending_at) stands_pending stand))
 
 -- an exception of the class has been made, or none
-module _ {H : Type 0} {content : H → Content ClassId} {at : At} {old : State H} (mid : State H) (class : ℕ) (h : HasMethods content at old) (runs : StateRuns at.linked.now mid) where
-  module _ (place : ℕ) (made : (w : World) → Matches (parts_at content at old) w → MadeOrNot (Ok place) (parts_at content at mid) w (exception (class_name_of at.linked.now.program class))) where
+module _ {H : Type 0} {content : H → Content ClassId} {at : At} {old : State H} (mid : State H) (class : ℕ) (h : HasMethods content at old)
+    (runs : StateRuns at.linked.now mid) where
+  module _ (place : ℕ) (made : (w : World) → Matches (parts_at content at old) w
+      → MadeOrNot (Ok place) (parts_at content at mid) w (exception (class_name_of at.linked.now.program class))) where
     -- the thread of the state in which it was made
     has_made : (w : World) → Matches (parts_at content at old) w → HasMethods content at mid
     has_made w m =
-        let there : HasMethods content at old = record { frames = h.frames; on = record { world = w; beside = record { linked = h.on.beside.linked; runs = h.on.beside.runs; matches = m }; object = h.on.object; stands = h.on.stands }; methods = h.methods } in
+        let beside : Beside content at.linked.now old w = record { linked = h.on.beside.linked; runs = h.on.beside.runs; matches = m } in
+        let on : OnThread content at old h.frames None = record { world = w; beside = beside; object = h.on.object; stands = h.on.stands } in
+        let there : HasMethods content at old = record { frames = h.frames; on = on; methods = h.methods } in
         still_has there runs (made w m).1 refl
 
     pub made_within : at.index < vec_len mid.threads
     made_within = within (has_made h.on.world h.on.beside.matches).on
 
-    pub throws_made : {d : held.Thread} → d ≡ slice_index_or mid.threads.items at.index d → Does content at old (Ok Done) (with_thread_at mid at.index (record d { pending = Some place })) (λ w n t. throw w n t (class_name_of at.linked.now.program class))
+    pub throws_made : {d : held.Thread} → d ≡ slice_index_or mid.threads.items at.index d → Does content at old (Ok Done)
+        (with_thread_at mid at.index (record d { pending = Some place })) (λ w n t. throw w n t (class_name_of at.linked.now.program class))
     unfolding parts
     throws_made {d} got = does h.on (pending_runs (has_made h.on.world h.on.beside.matches) place got) (λ w m.
         let o = exception (class_name_of at.linked.now.program class) in
@@ -177,12 +221,18 @@ module _ {H : Type 0} {content : H → Content ClassId} {at : At} {old : State H
         let same : model g.on ≡ model h.on = cc in
         let go : World → ℕ → Next = λ after n. goes (with_thread after (at.index + 1) (record (model h.on) { pending = Some n })) in
         subst (Ended (Ok Done) (parts_at content at new) w) (sym (k.0 go))
-        (subst (λ (x : Thread). Matches (parts_at content at new) (with_thread (with_object w o) (at.index + 1) (record x { pending = Some (length w.heap) }))) same
+        (subst
+        (λ (x : Thread). Matches (parts_at content at new) (with_thread (with_object w o) (at.index + 1) (record x { pending = Some (length w.heap) }))) same
         (pending_matches g place got w (class_name_of at.linked.now.program class) k.1 k.2 k.3)))
 
-  pub throws_not : {halt : Halt} → ((w : World) → Matches (parts_at content at old) w → MadeOrNot (Err halt) (parts_at content at mid) w (exception (class_name_of at.linked.now.program class))) → Does content at old (Err halt) mid (λ w n t. throw w n t (class_name_of at.linked.now.program class))
+  pub throws_not : {halt : Halt} → ((w : World) → Matches (parts_at content at old) w
+      → MadeOrNot (Err halt) (parts_at content at mid) w (exception (class_name_of at.linked.now.program class)))
+      → Does content at old (Err halt) mid (λ w n t. throw w n t (class_name_of at.linked.now.program class))
   throws_not {halt = Stopped why} made = does h.on runs (λ w m.
-      subst (Ended (Err (Stopped why)) (parts_at content at mid) w) (sym ((made w m).0 (λ after n. goes (with_thread after (at.index + 1) (record (model h.on) { pending = Some n }))))) (refl, (made w m).1))
+      subst (Ended (Err (Stopped why)) (parts_at content at mid) w) (sym ((made w m).0 (λ after n. goes (with_thread after (at.index + 1) (record (model h.on) {
+        pending =
+            Some n;
+      }))))) (refl, (made w m).1))
   throws_not {halt = OutOfMemory} made = does h.on runs (λ w m. made w m)
 
 -- a thread that is in a method

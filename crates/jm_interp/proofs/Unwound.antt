@@ -49,10 +49,13 @@ pub instance_name : (program : List ClassParts) (id : ClassId) (n : ℕ) → id 
 unfolding named_type
 instance_name program id n e = ap (λ x. class_name (named_type program x)) (sym e)
 
-pub array_name : (program : List ClassParts) (id : ClassId) (component : Component) (n : ℕ) → id ≡ Array component → length the_builtins + length program ≤ n → class_name_of program n ≡ class_name (named_type program id)
+pub array_name : (program : List ClassParts) (id : ClassId) (component : Component) (n : ℕ) → id ≡ Array component → length the_builtins + length program ≤ n
+    → class_name_of program n ≡ class_name (named_type program id)
 unfolding named_type class_name_of
 array_name program id component n e far =
-    let a : length (class_names program) ≡ length the_builtins + length program = length-append (map (λ b. b.name) the_builtins) (map (λ c. c.name) program) ∙ ap (λ k. length (map (λ b. b.name) the_builtins) + k) (length-map program (λ c. c.name)) in
+    let a : length (class_names program) ≡ length the_builtins + length program =
+    length-append (map (λ b. b.name) the_builtins) (map (λ c. c.name) program)
+    ∙ ap (λ k. length (map (λ b. b.name) the_builtins) + k) (length-map program (λ c. c.name)) in
     ap (λ o. unwrap_or o []) (slice_get_past (class_names program) n (omega arith)) ∙ ap (λ x. class_name (named_type program x)) (sym e)
 
 -- the frames of a thread by their number
@@ -88,13 +91,17 @@ no_handlers l is k lt =
     ∙ ap (λ o. elim o as (λ _. List Handler) [ None ↦ [] | Some code ↦ code.handlers ]) links.code_is
     ∙ (fetching.whole l is k m.0 m.1).handlers
 
-module _ {H : Type 0} {content : H → Content ClassId} {at : At} {old : State H} {fs : List StackFrame} {place : ℕ} (h : OnThread content at old fs (Some place)) where
+module _ {H : Type 0} {content : H → Content ClassId} {at : At} {old : State H} {fs : List StackFrame} {place : ℕ}
+    (h : OnThread content at old fs (Some place)) where
   -- the pending exception lies in the heap
   pub thrown : IsObject h place
   thrown = object_of h place (held_pending h place (inl refl))
 
   -- no frame catches
-  frames_unwind : (gs : List StackFrame) → PartRuns at.linked.now gs (running h.object (Some place)) → (w : World) → Matches (parts_at content at old) w → (x : Thread) (k : ℕ) (type : ObjectType) → unwind_frames w (at.index + 1) x (map (rename_frame (name_of (content old.heap))) (map (frame_part at.linked.now) gs)) k type ≡ unwound w (at.index + 1) x (map (rename_frame (name_of (content old.heap))) (map (frame_part at.linked.now) (tail_of gs))) k type
+  frames_unwind : (gs : List StackFrame) → PartRuns at.linked.now gs (running h.object (Some place)) → (w : World) → Matches (parts_at content at old) w →
+      (x : Thread) (k : ℕ) (type : ObjectType) → unwind_frames w (at.index + 1) x
+      (map (rename_frame (name_of (content old.heap))) (map (frame_part at.linked.now) gs)) k type ≡ unwound w (at.index + 1) x
+      (map (rename_frame (name_of (content old.heap))) (map (frame_part at.linked.now) (tail_of gs))) k type
   unfolding parts
   frames_unwind [] q w m x k type = refl
   frames_unwind (Initialization class stage ∷ gs) q w m x k type = absurd q.not_yet.initializers.0
@@ -102,17 +109,21 @@ module _ {H : Type 0} {content : H → Content ClassId} {at : At} {old : State H
       let l = at.linked.now in
       let f = name_of (content old.heap) in
       let below = map (rename_frame f) (map (frame_part l) gs) in
-      let handlers : handlers_of (method_named w.program (name_of_number l v.method)) ≡ [] = ap (λ p. handlers_of (method_named p (name_of_number l v.method))) (sym m.program) ∙ no_handlers l h.beside.linked v.method q.runs.frames.0 in
+      let handlers : handlers_of (method_named w.program (name_of_number l v.method)) ≡ [] =
+      ap (λ p. handlers_of (method_named p (name_of_number l v.method))) (sym m.program) ∙ no_handlers l h.beside.linked v.method q.runs.frames.0 in
       ap (λ hs. elim (handler_in w v.activation.at type hs) as (λ _. Next) [
         | Some r ↦ handle w (at.index + 1) x (name_of_number l v.method) (rename_activation f v.activation) (option_map f v.monitor) below k r
         | None ↦ drop_method w (at.index + 1) x (option_map f v.monitor) below k type
       ]) handlers
       ∙ ap (λ o. drop_method w (at.index + 1) x (option_map f o) below k type) q.not_yet.monitors.0
 
-  unwinds : (w : World) → Matches (parts_at content at old) w → step_thread w (at.index + 1) (model h) ≡ unwound w (at.index + 1) (model h) (map (rename_frame (name_of (content old.heap))) (map (frame_part at.linked.now) (tail_of fs))) (name_of (content old.heap) place) (named_type at.linked.now.program thrown.object.type)
+  unwinds : (w : World) → Matches (parts_at content at old) w → step_thread w (at.index + 1) (model h) ≡ unwound w (at.index + 1) (model h)
+      (map (rename_frame (name_of (content old.heap))) (map (frame_part at.linked.now) (tail_of fs))) (name_of (content old.heap) place)
+      (named_type at.linked.now.program thrown.object.type)
   unwinds w m =
       let f = name_of (content old.heap) in
-      ap (λ o. elim o as (λ _. Next) [ None ↦ faults WrongKind | Some z ↦ unwind_frames w (at.index + 1) (model h) (model h).frames (f place) z.type ]) (thrown.in_world w m)
+      ap (λ o. elim o as (λ _. Next) [ None ↦ faults WrongKind | Some z ↦ unwind_frames w (at.index + 1) (model h) (model h).frames (f place) z.type ])
+      (thrown.in_world w m)
       ∙ frames_unwind fs (part_here h) w m (model h) (f place) (named_type at.linked.now.program thrown.object.type)
 
   module _ {d : held.Thread} {n : ℕ} (got : d ≡ slice_index_or old.threads.items at.index d) (count : n ≡ vec_len d.frames) where
@@ -124,7 +135,9 @@ module _ {H : Type 0} {content : H → Content ClassId} {at : At} {old : State H
       abbrev pub on_two : OnThread content at old (two.top ∷ two.next ∷ two.rest) (Some place)
       on_two = as_frames h two.is
 
-      pub drops : {e t : held.Thread} → e ≡ slice_index_or old.threads.items at.index e → ((f : StackFrame) (below : List StackFrame) (r : ThreadRest) → Stands e (f ∷ below) r → Stands t below r) → Steps content at old (Ok Done) (with_thread_at old at.index t)
+      pub drops : {e t : held.Thread} → e ≡ slice_index_or old.threads.items at.index e
+          → ((f : StackFrame) (below : List StackFrame) (r : ThreadRest) → Stands e (f ∷ below) r → Stands t below r)
+          → Steps content at old (Ok Done) (with_thread_at old at.index t)
       drops {e} {t} again dropped =
           let l = at.linked.now in
           let f = name_of (content old.heap) in
@@ -138,14 +151,19 @@ module _ {H : Type 0} {content : H → Content ClassId} {at : At} {old : State H
           ]) (λ w m.
           ap (step_thread w (at.index + 1)) (sym same)
           ∙ unwinds w m
-          ∙ ap (λ x. unwound w (at.index + 1) (rename_thread f (part_of l x (running h.object (Some place)))) (map (rename_frame f) (map (frame_part l) (tail_of x))) (f place) (named_type l.program thrown.object.type)) two.is)
+          ∙ ap (λ x. unwound w (at.index + 1) (rename_thread f (part_of l x (running h.object (Some place))))
+          (map (rename_frame f) (map (frame_part l) (tail_of x))) (f place) (named_type l.program thrown.object.type)) two.is)
 
     -- none is: the thread ends by the exception's class
-    pub ends_thread : n ≤ 1 → {id : ClassId} {e : Ending} {new : State H} → ((k : ℕ) (o : ObjectOf ClassId) → serial_at (content old.heap) place ≡ Some k → object_at (content old.heap) k ≡ Some o → id ≡ o.type) → e ≡ ended_by (class_name (named_type at.linked.now.program id)) → Does content at old (Ok Done) new (λ w number t. goes (ended_as w number t e)) → Steps content at old (Ok Done) new
+    pub ends_thread : n ≤ 1 → {id : ClassId} {e : Ending} {new : State H}
+        → ((k : ℕ) (o : ObjectOf ClassId) → serial_at (content old.heap) place ≡ Some k → object_at (content old.heap) k ≡ Some o → id ≡ o.type)
+        → e ≡ ended_by (class_name (named_type at.linked.now.program id)) → Does content at old (Ok Done) new (λ w number t. goes (ended_as w number t e))
+        → Steps content at old (Ok Done) new
     ends_thread few {id} {e} class ended done = does_as h (λ w m. m) (λ w m.
         let f = name_of (content old.heap) in
         let named = named_type at.linked.now.program in
         unwinds w m
-        ∙ ap (λ gs. unwound w (at.index + 1) (model h) (map (rename_frame f) (map (frame_part at.linked.now) gs)) (f place) (named thrown.object.type)) (few_frames d fs _ n (read h got) count few)
+        ∙ ap (λ gs. unwound w (at.index + 1) (model h) (map (rename_frame f) (map (frame_part at.linked.now) gs)) (f place) (named thrown.object.type))
+        (few_frames d fs _ n (read h got) count few)
         ∙ ap (λ x. goes (ended_as w (at.index + 1) (model h) (ended_by (class_name (named x))))) (sym (told h thrown class))
         ∙ ap (λ x. goes (ended_as w (at.index + 1) (model h) x)) (sym ended)) done

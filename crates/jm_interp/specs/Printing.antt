@@ -13,9 +13,9 @@ use Rattle.jm_linked.specs.declared.instruction.Printed.{Printed}
 use Rattle.jm_linked.specs.declared.instruction.Printed.TheVariants as printed
 use Rattle.jm_linked.specs.declared.instruction.PrintMethod.{PrintMethod}
 use Rattle.jm_linked.specs.declared.instruction.PrintMethod.TheVariants.{Print, Println, EndLine}
-use Rattle.jm_interp.specs.declared.operands.Printing.{Printing}
-use Rattle.jm_interp.specs.declared.operands.Text.{Text}
-use Rattle.jm_interp.specs.declared.operands.Text.TheVariants as text
+use Rattle.jm_interp.specs.declared.print_operands.Printing.{Printing}
+use Rattle.jm_interp.specs.declared.print_operands.Text.{Text}
+use Rattle.jm_interp.specs.declared.print_operands.Text.TheVariants as text
 
 -- the argument of its type
 abbrev pub text_of : Printed → Option Value → Result Text TagFault

@@ -15,9 +15,11 @@ use Rattle.jm_interp.specs.Standing.{ThreadRest, Stands}
 
 -- the frame below has moved on, if a method runs in it and its operands fit, or nothing has changed
 abbrev pub Left : Result (Unit {0}) Halt → held.Thread → FrameView → StackFrame → List StackFrame → ThreadRest → Type 0
-Left (Ok done) new f (Method v) below r = (nat_le (units v.activation.stack) v.activation.max_stack ≡ true) × Stands new (Method (gone_to v (v.activation.at + 1)) ∷ below) r
+Left (Ok done) new f (Method v) below r =
+    (nat_le (units v.activation.stack) v.activation.max_stack ≡ true) × Stands new (Method (gone_to v (v.activation.at + 1)) ∷ below) r
 Left (Ok done) new f (Initialization class stage) below r = Stands new (Initialization class stage ∷ below) r
-Left (Err (Stopped why)) new f (Method v) below r = (nat_le (units v.activation.stack) v.activation.max_stack ≡ false) × (why ≡ stop.TagFault Overflow) × Stands new (Method f ∷ Method v ∷ below) r
+Left (Err (Stopped why)) new f (Method v) below r =
+    (nat_le (units v.activation.stack) v.activation.max_stack ≡ false) × (why ≡ stop.TagFault Overflow) × Stands new (Method f ∷ Method v ∷ below) r
 Left (Err (Stopped why)) new f (Initialization class stage) below r = ⊥
 Left (Err OutOfMemory) new f b below r = Stands new (Method f ∷ b ∷ below) r
 

@@ -22,7 +22,8 @@ pub(crate) fn drop_top(thread: &mut Thread)
 /// Goes to a stage of an initialization, whose frame is on top.
 pub(crate) fn go_to_stage(thread: &mut Thread, class: u32, stage: Stage)
     requires { (f : StackFrame) × (below : List StackFrame) × (r : ThreadRest) × Stands thread.old (f ∷ below) r }
-    ensures { (f : StackFrame) (below : List StackFrame) (r : ThreadRest) → Stands thread.old (f ∷ below) r → Stands thread.new (Initialization class stage ∷ below) r }
+    ensures { (f : StackFrame) (below : List StackFrame) (r : ThreadRest) → Stands thread.old (f ∷ below) r
+        → Stands thread.new (Initialization class stage ∷ below) r }
 {
     if let Some(top) = thread.frames.last_mut() {
         *top = StackFrame::Initialization { class, stage };
@@ -34,7 +35,8 @@ pub(crate) fn go_to_stage(thread: &mut Thread, class: u32, stage: Stage)
 /// it, which no code that fits in memory has. Nothing has changed then.
 pub(crate) fn leave_top(thread: &mut Thread) -> Result<(), Halt>
     requires { (f : FrameView) × (b : StackFrame) × (below : List StackFrame) × (r : ThreadRest) × Stands thread.old (Method f ∷ b ∷ below) r }
-    ensures { (f : FrameView) (b : StackFrame) (below : List StackFrame) (r : ThreadRest) → Stands thread.old (Method f ∷ b ∷ below) r → Left result thread.new f b below r }
+    ensures { (f : FrameView) (b : StackFrame) (below : List StackFrame) (r : ThreadRest) → Stands thread.old (Method f ∷ b ∷ below) r
+        → Left result thread.new f b below r }
 {
     let count = thread.frames.len();
     match &mut thread.frames[count - 2] {

@@ -49,7 +49,8 @@ pub(crate) fn initialize_top<H: Heap>(
 // Marks the class as done, and drops the frame.
 fn finish<H: Heap>(at: At<'_>, state: &mut State<H>, class: u32)
     requires { (stage : Stage) × (below : List StackFrame) × OnThread H.content at state.old (Initialization class stage ∷ below) None }
-    ensures { Does H.content at.entry state.old (Ok Done) state.new (λ w number t. finish w number t (program_class_name at.entry.linked.now.program class) (drop 1 t.frames)) }
+    ensures { Does H.content at.entry state.old (Ok Done) state.new
+        (λ w number t. finish w number t (program_class_name at.entry.linked.now.program class) (drop 1 t.frames)) }
 {
     state.classes[class as usize] = ClassState::Done;
     drop_top(&mut state.threads[at.index]);

@@ -7,30 +7,31 @@
 //! model blocks, or has not changed where a growth was refused. [`unwind_stage`] and [`init_stage`]
 //! make the first and the last of these by themselves.
 //!
-//! `at` says where a step is made, and `specs/At` what it does: the words of all contracts. `step`
-//! chooses what is to be done; `plain`, `pushing`, `returning` and `printing` are the
-//! instructions, `throwing`, `unwinding` and `ending` what exceptions and ends do, `initialization`
-//! the stages of a class, over the calls on one thread in `top_frame`, `frames` and `operands`. A
-//! plain instruction looks up its thread, its top frame and its code, and takes no memory. The crate
-//! stands on `jm_state`, `jm_linked`, `jm_ops` and `jm_heap`'s trait.
+//! `at` says where a step is made, and `specs/At` what it does: the words of all contracts. The files
+//! are named as the model's (`jm_world`): `stepping` chooses what is to be done; `plain`,
+//! `constants`, `returns` and `built_in_methods` are the instructions, `throwing`, `unwinding` and
+//! `ending` what exceptions and ends do, `initialization` the stages of a class, over the calls on
+//! one thread in `top_frame`, `frames` and `print_operands`. A plain instruction looks up its thread,
+//! its top frame and its code, and takes no memory. The crate stands on `jm_state`, `jm_linked`,
+//! `jm_ops` and `jm_heap`'s trait.
 #![tactic(auto)]
 
 mod at;
+mod built_in_methods;
 mod class_number;
+mod constants;
 mod ending;
 mod frames;
 mod initialization;
-mod operands;
 mod plain;
-mod printing;
-mod pushing;
-mod returning;
+mod print_operands;
+mod returns;
 mod stages;
-mod step;
+mod stepping;
 mod text;
 mod throwing;
 mod top_frame;
 mod unwinding;
 
 pub use stages::{init_stage, unwind_stage};
-pub use step::step_thread;
+pub use stepping::step_thread;

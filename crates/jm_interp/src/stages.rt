@@ -15,7 +15,7 @@ ghost use Rattle.jm_state.specs.declared.thread.StackFrame.TheVariants.{Initiali
 ghost use Rattle.jm_interp.specs.Standing.{StandsAt, running};
 
 use crate::at::At;
-use crate::step::step_at;
+use crate::stepping::step_at;
 use jm_heap::Heap;
 use jm_linked::Linked;
 use jm_state::{Halt, State, StepEnd};
@@ -35,8 +35,10 @@ pub fn unwind_stage<H: Heap>(
     requires runs { StateRuns linked.now state.old }
     requires matched { (w : World) × Matches (state_parts H.content linked.now state.old) w }
     requires from_one { 1 ≤ number }
-    requires here { (object : Option ℕ) × (place : ℕ) × (fs : List StackFrame) × StandsAt state.old.threads.items (number - 1) fs (running object (Some place)) }
-    ensures next { (w : World) (t : ModelThread) (k : ℕ) → Matches (state_parts H.content linked.now state.old) w → thread_at w number ≡ Some t → t.pending ≡ Some k → Ended result (state_parts H.content linked.now state.new) w (unwind w number t k) }
+    requires here { (object : Option ℕ) × (place : ℕ) × (fs : List StackFrame)
+        × StandsAt state.old.threads.items (number - 1) fs (running object (Some place)) }
+    ensures next { (w : World) (t : ModelThread) (k : ℕ) → Matches (state_parts H.content linked.now state.old) w → thread_at w number ≡ Some t
+        → t.pending ≡ Some k → Ended result (state_parts H.content linked.now state.new) w (unwind w number t k) }
     ensures runs { StateRuns linked.now state.new }
 {
     // the program is linked
@@ -64,8 +66,11 @@ pub fn init_stage<H: Heap>(
     requires runs { StateRuns linked.now state.old }
     requires matched { (w : World) × Matches (state_parts H.content linked.now state.old) w }
     requires from_one { 1 ≤ number }
-    requires here { (object : Option ℕ) × (class : ℕ) × (stage : Stage) × (below : List StackFrame) × StandsAt state.old.threads.items (number - 1) (Initialization class stage ∷ below) (running object None) }
-    ensures next { (w : World) (t : ModelThread) (class : List ℕ) (stage : Stage) (below : List Frame) → Matches (state_parts H.content linked.now state.old) w → thread_at w number ≡ Some t → t.pending ≡ None → t.frames ≡ initialization_frame class stage ∷ below → Ended result (state_parts H.content linked.now state.new) w (initialize w number t class stage below) }
+    requires here { (object : Option ℕ) × (class : ℕ) × (stage : Stage) × (below : List StackFrame)
+        × StandsAt state.old.threads.items (number - 1) (Initialization class stage ∷ below) (running object None) }
+    ensures next { (w : World) (t : ModelThread) (class : List ℕ) (stage : Stage) (below : List Frame) → Matches (state_parts H.content linked.now state.old) w
+        → thread_at w number ≡ Some t → t.pending ≡ None → t.frames ≡ initialization_frame class stage ∷ below
+        → Ended result (state_parts H.content linked.now state.new) w (initialize w number t class stage below) }
     ensures runs { StateRuns linked.now state.new }
 {
     // the program is linked

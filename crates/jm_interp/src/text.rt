@@ -4,7 +4,7 @@ ghost use Rattle.std.specs.Prelude.{◌≡◌, ◌++◌, IfOk};
 ghost use Rattle.jm_world.specs.Text.{char_text};
 ghost use Rattle.jm_interp.specs.Printing.{text_bytes, line_bytes};
 
-use crate::operands::Text;
+use crate::print_operands::Text;
 use itoa::Buffer;
 use jm_linked::PrintMethod;
 use std::alloc::{AllocError, Global};

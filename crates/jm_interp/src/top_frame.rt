@@ -22,7 +22,8 @@ use jm_values::{TagFault, Value};
 pub(crate) fn step_top(thread: &mut Thread, op: &Plain) -> Result<Flow, Fault>
     requires there { (f : FrameView) × (below : List StackFrame) × (r : ThreadRest) × Stands thread.old (Method f ∷ below) r × (f.activation.at + 1 < 2 ^ 64) }
     requires ordered { IsOrdered op.now }
-    ensures { (f : FrameView) (below : List StackFrame) (r : ThreadRest) → Stands thread.old (Method f ∷ below) r → IsStepped (row_plain op.now) (flow_outcome result) thread.new f below r }
+    ensures { (f : FrameView) (below : List StackFrame) (r : ThreadRest) → Stands thread.old (Method f ∷ below) r
+        → IsStepped (row_plain op.now) (flow_outcome result) thread.new f below r }
 {
     let Some(top) = thread.frames.last_mut() else {
         unreachable!();
@@ -37,7 +38,8 @@ pub(crate) fn step_top(thread: &mut Thread, op: &Plain) -> Result<Flow, Fault>
 #[inline]
 pub(crate) fn push_top(thread: &mut Thread, value: Value) -> Result<(), TagFault>
     requires there { (f : FrameView) × (below : List StackFrame) × (r : ThreadRest) × Stands thread.old (Method f ∷ below) r × (f.activation.at + 1 < 2 ^ 64) }
-    ensures { (f : FrameView) (below : List StackFrame) (r : ThreadRest) → Stands thread.old (Method f ∷ below) r → IsStepped (push_constant value) (outcome result) thread.new f below r }
+    ensures { (f : FrameView) (below : List StackFrame) (r : ThreadRest) → Stands thread.old (Method f ∷ below) r
+        → IsStepped (push_constant value) (outcome result) thread.new f below r }
 {
     let Some(top) = thread.frames.last_mut() else {
         unreachable!();

@@ -33,7 +33,8 @@ pub record Alike {A B : Type 0} (s : Shape A) (t : Shape B) (part : A → B) (x 
 abbrev pub both : {A B : Type 0} (x : A) (y : B) → A × B
 both x y = (x, y)
 
-pair_alike : {A B C D : Type 0} {s : Shape A} {t : Shape B} {u : Shape C} {v : Shape D} {f : A → B} {g : C → D} {x : A} {y : C} → Alike s t f x → Alike u v g y → Alike (pair_shape s u) (pair_shape t v) (λ p. (f p.0, g p.1)) (x, y)
+pair_alike : {A B C D : Type 0} {s : Shape A} {t : Shape B} {u : Shape C} {v : Shape D} {f : A → B} {g : C → D} {x : A} {y : C} → Alike s t f x → Alike u v g y
+    → Alike (pair_shape s u) (pair_shape t v) (λ p. (f p.0, g p.1)) (x, y)
 pair_alike {s = s} {t = t} {u = u} {v = v} {f = f} {g = g} {x = x} {y = y} a b = record {
   refs = ap (λ r. r ++ v.refs (g y)) a.refs ∙ ap (λ r. s.refs x ++ r) b.refs;
   refill = λ ns.
@@ -41,13 +42,15 @@ pair_alike {s = s} {t = t} {u = u} {v = v} {f = f} {g = g} {x = x} {y = y} a b =
       ∙ ap (both (t.refill ns (f x))) (b.refill (drop (length (s.refs x)) ns) ∙ ap (λ r. v.refill (drop (length r) ns) (g y)) (sym a.refs));
 }
 
-list_alike : {A B : Type 0} {s : Shape A} {t : Shape B} {part : A → B} → ((x : A) → Alike s t part x) → (xs : List A) → Alike (list_shape s) (list_shape t) (map part) xs
+list_alike : {A B : Type 0} {s : Shape A} {t : Shape B} {part : A → B} → ((x : A) → Alike s t part x) → (xs : List A)
+    → Alike (list_shape s) (list_shape t) (map part) xs
 list_alike h [] = record { refs = refl; refill = λ ns. refl }
 list_alike {s = s} {t = t} {part = part} h (x ∷ xs) = record {
   refs = ap (λ l. l ++ (list_shape t).refs (map part xs)) (h x).refs ∙ ap (λ l. s.refs x ++ l) (list_alike h xs).refs;
   refill = λ ns.
       ap (λ y. y ∷ map part ((list_shape s).refill (drop (length (s.refs x)) ns) xs)) ((h x).refill ns)
-      ∙ ap (λ l. t.refill ns (part x) ∷ l) ((list_alike h xs).refill (drop (length (s.refs x)) ns) ∙ ap (λ r. (list_shape t).refill (drop (length r) ns) (map part xs)) (sym (h x).refs));
+      ∙ ap (λ l. t.refill ns (part x) ∷ l)
+      ((list_alike h xs).refill (drop (length (s.refs x)) ns) ∙ ap (λ r. (list_shape t).refill (drop (length r) ns) (map part xs)) (sym (h x).refs));
 }
 
 same_alike : {A : Type 0} (s : Shape A) (x : A) → Alike s s (λ y. y) x
@@ -58,7 +61,8 @@ frame_alike l (Method f) = record { refs = refl; refill = λ ns. refl }
 frame_alike l (Initialization class stage) = record { refs = refl; refill = λ ns. refl }
 
 -- a pending exception and frames
-held_alike : (l : LinkedView) (p : Option ℕ) (fs : List StackFrame) → Alike (pair_shape optional_number_shape (list_shape stack_frame_shape)) held_shape (λ x. (x.0, map (frame_part l) x.1)) (p, fs)
+held_alike : (l : LinkedView) (p : Option ℕ) (fs : List StackFrame)
+    → Alike (pair_shape optional_number_shape (list_shape stack_frame_shape)) held_shape (λ x. (x.0, map (frame_part l) x.1)) (p, fs)
 held_alike l p fs = pair_alike (same_alike optional_number_shape p) (list_alike (frame_alike l) fs)
 
 thread_alike : (l : LinkedView) (t : HeldThread) → Alike held_thread_shape thread_shape (part_of_held l) t
@@ -70,7 +74,8 @@ thread_alike l t = by t.object t.frames t.pending t.ending
     running_with : Option ℕ × (Option ℕ × List Frame) → world.Thread
     running_with x = record { object = x.0; frames = x.1.1; pending = x.1.0; ending = world.running }
 
-    by : (o : Option ℕ) (fs : List StackFrame) (p : Option ℕ) (e : Ending) → Alike held_thread_shape thread_shape (part_of_held l) (record { object = o; frames = fs; pending = p; ending = e })
+    by : (o : Option ℕ) (fs : List StackFrame) (p : Option ℕ) (e : Ending)
+        → Alike held_thread_shape thread_shape (part_of_held l) (record { object = o; frames = fs; pending = p; ending = e })
     by o fs p Running =
         let a = pair_alike (same_alike optional_number_shape o) (held_alike l p fs) in
         record { refs = a.refs; refill = λ ns. ap running_with (a.refill ns) }
@@ -83,21 +88,25 @@ statics_refs [] (v ∷ vs) e = absurd (omega arith)
 statics_refs (s ∷ ss) [] e = absurd (omega arith)
 statics_refs (s ∷ ss) (v ∷ vs) e = ap (λ l. value_shape.refs v ++ l) (statics_refs ss vs (omega arith))
 
-statics_refill : (ss : List world.Static) (ns : List ℕ) (vs : List Value) → named_statics ss (stack_shape.refill ns vs) ≡ (list_shape static_shape).refill ns (named_statics ss vs)
+statics_refill : (ss : List world.Static) (ns : List ℕ) (vs : List Value)
+    → named_statics ss (stack_shape.refill ns vs) ≡ (list_shape static_shape).refill ns (named_statics ss vs)
 statics_refill [] ns vs = refl
 statics_refill (s ∷ ss) ns [] = refl
-statics_refill (s ∷ ss) ns (v ∷ vs) = ap (λ l. record { field = s.field; value = value_shape.refill ns v } ∷ l) (statics_refill ss (drop (length (value_shape.refs v)) ns) vs)
+statics_refill (s ∷ ss) ns (v ∷ vs) =
+    ap (λ l. record { field = s.field; value = value_shape.refill ns v } ∷ l) (statics_refill ss (drop (length (value_shape.refs v)) ns) vs)
 
 statics_alike : (ss : List world.Static) (vs : List Value) → length vs ≡ length ss → Alike stack_shape (list_shape static_shape) (named_statics ss) vs
 statics_alike ss vs e = record { refs = statics_refs ss vs e; refill = λ ns. statics_refill ss ns vs }
 
-literals_refs : (ts : List (List ℕ)) (ps : List ℕ) → length ps ≡ length ts → (list_shape literal_shape).refs (named_literals ts ps) ≡ (list_shape number_shape).refs ps
+literals_refs : (ts : List (List ℕ)) (ps : List ℕ) → length ps ≡ length ts
+    → (list_shape literal_shape).refs (named_literals ts ps) ≡ (list_shape number_shape).refs ps
 literals_refs [] [] e = refl
 literals_refs [] (p ∷ ps) e = absurd (omega arith)
 literals_refs (t ∷ ts) [] e = absurd (omega arith)
 literals_refs (t ∷ ts) (p ∷ ps) e = ap (λ l. p ∷ l) (literals_refs ts ps (omega arith))
 
-literals_refill : (ts : List (List ℕ)) (ns ps : List ℕ) → named_literals ts ((list_shape number_shape).refill ns ps) ≡ (list_shape literal_shape).refill ns (named_literals ts ps)
+literals_refill : (ts : List (List ℕ)) (ns ps : List ℕ)
+    → named_literals ts ((list_shape number_shape).refill ns ps) ≡ (list_shape literal_shape).refill ns (named_literals ts ps)
 literals_refill [] ns ps = refl
 literals_refill (t ∷ ts) ns [] = refl
 literals_refill (t ∷ ts) ns (p ∷ ps) = ap (λ l. record { units = t; string = number_shape.refill ns p } ∷ l) (literals_refill ts (drop 1 ns) ps)
@@ -131,7 +140,8 @@ threads_seen l [] = refl
 threads_seen l (t ∷ ts) = ap (λ us. thread_part l t ∷ us) (threads_seen l ts)
 
 abbrev seen : LinkedView → Holders → Held
-seen l h = (map (part_of_held l) h.0, (named_statics (first_statics l.program) h.1.0, (map monitor_part h.1.1.0, named_literals (literal_texts l.program) h.1.1.1)))
+seen l h =
+    (map (part_of_held l) h.0, (named_statics (first_statics l.program) h.1.0, (map monitor_part h.1.1.0, named_literals (literal_texts l.program) h.1.1.1)))
 
 held_seen : (l : LinkedView) (c : Content ClassId) (s : StateView) → held_of (parts l c s) ≡ seen l (holders s)
 unfolding parts
@@ -154,6 +164,7 @@ unfolding places_of
 places_are l c s n = places_held (parts l c s) ∙ ap parts_shape.refs (held_seen l c s) ∙ (seen_alike l s n).refs
 
 -- places put into the state are put into the parts
-pub held_put : (l : LinkedView) (c d : Content ClassId) (s t : StateView) (ns : List ℕ) → AreCounted l s → holders t ≡ holders_shape.refill ns (holders s) → held_of (parts l d t) ≡ parts_shape.refill ns (held_of (parts l c s))
+pub held_put : (l : LinkedView) (c d : Content ClassId) (s t : StateView) (ns : List ℕ) → AreCounted l s → holders t ≡ holders_shape.refill ns (holders s)
+    → held_of (parts l d t) ≡ parts_shape.refill ns (held_of (parts l c s))
 held_put l c d s t ns n e =
     held_seen l d t ∙ ap (seen l) e ∙ (seen_alike l s n).refill ns ∙ ap (parts_shape.refill ns) (sym (held_seen l c s))

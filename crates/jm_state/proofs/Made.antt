@@ -1,5 +1,6 @@
 -- What a heap's making of an object comes to, beside the model's.
-use Rattle.std.proofs.Common.{◌≡◌, ℕ, ◌+◌, ◌^◌, ◌<◌, ◌≤◌, List, Option, Some, None, Result, Ok, Err, Bool, true, false, length, refl, sym, ap, ◌∙◌, subst, arith}
+use Rattle.std.proofs.Common.{◌≡◌, ℕ, ◌+◌, ◌^◌, ◌<◌, ◌≤◌, List, Option, Some, None, Result, Ok, Err, Bool, true, false, length, refl, sym, ap, ◌∙◌, subst}
+use Rattle.std.proofs.Common.{arith}
 use Rattle.std.specs.Prelude.{OnOk, map, nat_lt, nat_le}
 use Rattle.std.proofs.Math.Path.{fun_ext}
 use Rattle.std.proofs.lemmas.Bool.Decides.{nat_tests}
@@ -43,21 +44,25 @@ sizes_alike program (Instance class) n = refl
 sizes_alike program (Array component) n = refl
 
 -- the three ways of making
-third : (full ended : Bool) (x y z : Next) → full ≡ false → ended ≡ false → (elim full as (λ _. Next) [ true ↦ x | false ↦ elim ended as (λ _. Next) [ true ↦ y | false ↦ z ] ]) ≡ z
+third : (full ended : Bool) (x y z : Next) → full ≡ false → ended ≡ false
+    → (elim full as (λ _. Next) [ true ↦ x | false ↦ elim ended as (λ _. Next) [ true ↦ y | false ↦ z ] ]) ≡ z
 third true ended x y z e f = cc
 third false true x y z e f = cc
 third false false x y z e f = refl
 
-first : (full ended : Bool) (x y z : Next) → full ≡ true → (elim full as (λ _. Next) [ true ↦ x | false ↦ elim ended as (λ _. Next) [ true ↦ y | false ↦ z ] ]) ≡ x
+first : (full ended : Bool) (x y z : Next) → full ≡ true
+    → (elim full as (λ _. Next) [ true ↦ x | false ↦ elim ended as (λ _. Next) [ true ↦ y | false ↦ z ] ]) ≡ x
 first true ended x y z e = refl
 first false ended x y z e = cc
 
-second : (full ended : Bool) (x y z : Next) → full ≡ false → ended ≡ true → (elim full as (λ _. Next) [ true ↦ x | false ↦ elim ended as (λ _. Next) [ true ↦ y | false ↦ z ] ]) ≡ y
+second : (full ended : Bool) (x y z : Next) → full ≡ false → ended ≡ true
+    → (elim full as (λ _. Next) [ true ↦ x | false ↦ elim ended as (λ _. Next) [ true ↦ y | false ↦ z ] ]) ≡ y
 second true ended x y z e f = cc
 second false true x y z e f = refl
 second false false x y z e f = cc
 
-make_goes : (w : World) (o : Object) → reach_cells w + size o ≤ w.limit → length w.heap < 2 ^ 63 → (go : World → ℕ → Next) → make w o go ≡ go (with_object w o) (length w.heap)
+make_goes : (w : World) (o : Object) → reach_cells w + size o ≤ w.limit → length w.heap < 2 ^ 63 → (go : World → ℕ → Next)
+    → make w o go ≡ go (with_object w o) (length w.heap)
 make_goes w o fits lasts go =
     third (nat_lt w.limit (reach_cells w + size o)) (nat_le (2 ^ 63) (length w.heap)) (stops HeapFull) (stops SerialsEnd) (go (with_object w o) (length w.heap))
     (le-ltb w.limit (reach_cells w + size o) fits) (grind (arith, nat_tests))
@@ -69,11 +74,13 @@ make_full w o full go =
 
 make_ends : (w : World) (o : Object) → reach_cells w + size o ≤ w.limit → 2 ^ 63 ≤ length w.heap → (go : World → ℕ → Next) → make w o go ≡ stops SerialsEnd
 make_ends w o fits ends go =
-    second (nat_lt w.limit (reach_cells w + size o)) (nat_le (2 ^ 63) (length w.heap)) (stops HeapFull) (stops SerialsEnd) (go (with_object w o) (length w.heap))
+    second (nat_lt w.limit (reach_cells w + size o)) (nat_le (2 ^ 63) (length w.heap)) (stops HeapFull) (stops SerialsEnd)
+    (go (with_object w o) (length w.heap))
     (le-ltb w.limit (reach_cells w + size o) fits) (grind (arith, nat_tests))
 
 -- what a heap did, beside the world of the parts before
-module _ (m new : Parts ClassId) (w : World) (h : Matches m w) (a : HasMoved m new) (sizes : (t : ClassId) (n : ℕ) → size_of (m.named t) n ≡ class_size t n) (o : ObjectOf ClassId) where
+module _ (m new : Parts ClassId) (w : World) (h : Matches m w) (a : HasMoved m new) (sizes : (t : ClassId) (n : ℕ) → size_of (m.named t) n ≡ class_size t n)
+    (o : ObjectOf ClassId) where
   -- the cells of what the heap would hold are those of what the world would
   cells_alike : used_by class_size m.content (places m) + size_by class_size o ≡ reach_cells w + size (as_named m.named o)
   cells_alike =
@@ -112,12 +119,14 @@ unfolding parts
 sound l c s w h = h.sound
 
 -- the gathered places have objects
-pub all_resident : (l : LinkedView) (c : Content ClassId) (s : StateView) (w : World) → AreCounted l s → Matches (parts l c s) w → (roots : List ℕ) → roots ≡ places_of s → AllResident c roots
+pub all_resident : (l : LinkedView) (c : Content ClassId) (s : StateView) (w : World) → AreCounted l s → Matches (parts l c s) w → (roots : List ℕ)
+    → roots ≡ places_of s → AllResident c roots
 unfolding parts
 all_resident l c s w n h roots e = subst (AllResident c) (places_are l c s n ∙ sym e) h.resident
 
 -- what a heap did with the gathered places, after they were put back
-module _ (l : LinkedView) (c d : Content ClassId) (s t : StateView) (roots moved : List ℕ) (n : AreCounted l s) (gathered : roots ≡ places_of s) (back : IsPutBack moved s t) where
+module _ (l : LinkedView) (c d : Content ClassId) (s t : StateView) (roots moved : List ℕ) (n : AreCounted l s) (gathered : roots ≡ places_of s)
+    (back : IsPutBack moved s t) where
   put : held_of (parts l d t) ≡ parts_shape.refill moved (held_of (parts l c s))
   put = held_put l c d s t moved n back.held
 
@@ -148,13 +157,15 @@ module _ (l : LinkedView) (c d : Content ClassId) (s t : StateView) (roots moved
       kept_matches (parts l c s) (parts l d t) w h (has_moved kept.names)
       (subst (λ r. Kept c r d (places (parts l d t))) from (subst (Kept c roots d) (to kept.names) kept)) next
 
-  pub made_back : (w : World) → Matches (parts l c s) w → (place : ℕ) (o : ObjectOf ClassId) → Made class_size c roots d moved place o → MadeOrNot (Ok place) (parts l d t) w (as_named (named_type l.program) o)
+  pub made_back : (w : World) → Matches (parts l c s) w → (place : ℕ) (o : ObjectOf ClassId) → Made class_size c roots d moved place o
+      → MadeOrNot (Ok place) (parts l d t) w (as_named (named_type l.program) o)
   unfolding parts
   made_back w h place o made =
       made_ends (parts l c s) (parts l d t) w h (has_moved made.kept.names) (sizes_alike l.program) o place
       (subst (λ r. Made class_size c r d (places (parts l d t)) place o) from (subst (λ r. Made class_size c roots d r place o) (to made.kept.names) made))
 
-  pub refused_back : (w : World) → Matches (parts l c s) w → (why : HeapFault) (o : ObjectOf ClassId) → Kept c roots d moved → d.next ≡ c.next → IsRefused c roots o why → MadeOrNot (Err (halt_from why)) (parts l d t) w (as_named (named_type l.program) o)
+  pub refused_back : (w : World) → Matches (parts l c s) w → (why : HeapFault) (o : ObjectOf ClassId) → Kept c roots d moved → d.next ≡ c.next
+      → IsRefused c roots o why → MadeOrNot (Err (halt_from why)) (parts l d t) w (as_named (named_type l.program) o)
   unfolding parts
   refused_back w h why o kept next refused =
       refused_ends (parts l c s) (parts l d t) w h (has_moved kept.names) (sizes_alike l.program) o why (kept_back w h kept next)
@@ -187,7 +198,8 @@ module _ (l : LinkedView) (c : Content ClassId) (s : StateView) (w : World) (h :
       is_refused fault.SerialsEnd r = r (places (parts l c s)) resident
 
 -- what is reached from the gathered places is what the world reaches
-module _ (l : LinkedView) (c : Content ClassId) (s : StateView) (w : World) (n : AreCounted l s) (h : Matches (parts l c s) w) (roots : List ℕ) (gathered : roots ≡ places_of s) where
+module _ (l : LinkedView) (c : Content ClassId) (s : StateView) (w : World) (n : AreCounted l s) (h : Matches (parts l c s) w) (roots : List ℕ)
+    (gathered : roots ≡ places_of s) where
   inward : (k : ℕ) → Reached c roots k → Among k (reach w)
   unfolding parts
   inward k r =

@@ -1,5 +1,6 @@
 -- Marking serials goes on over lists of places, and ends at what is reached.
-use Rattle.std.proofs.Common.{◌≡◌, ◌≢◌, ◌⊎◌, ℕ, zero, suc, ◌+◌, ◌-◌, ◌<◌, ◌≤◌, List, [], ◌∷◌, ◌++◌, Option, Some, None, Bool, true, false, cond, refl, sym, ap, ◌∙◌, subst, inl, inr, length, arith, get_or, take, add-one, append_assoc}
+use Rattle.std.proofs.Common.{◌≡◌, ◌≢◌, ◌⊎◌, ℕ, zero, suc, ◌+◌, ◌-◌, ◌<◌, ◌≤◌, List, [], ◌∷◌, ◌++◌, Option, Some, None, Bool, true, false, cond, refl, sym, ap}
+use Rattle.std.proofs.Common.{◌∙◌, subst, inl, inr, length, arith, get_or, take, add-one, append_assoc}
 use Rattle.std.specs.Prelude.{Result, Ok, Err, IfOk, slice_get, nat_eq, nat_lt, map}
 use Rattle.std.specs.Ordering.{nat_cmp, match_ordering}
 use Rattle.std.specs.BTreeSet.{insert_key}
@@ -63,7 +64,8 @@ still_among : (xs : List ℕ) (x k : ℕ) → Among k xs → Among k (insert_key
 still_among [] x k a = absurd a
 still_among (y ∷ xs) x k a = by (still_among xs x k) (nat_cmp x y) a
   where
-    by : (Among k xs → Among k (insert_key nat_cmp xs x)) → (o : Ordering) → Among k (y ∷ xs) → Among k (match_ordering o (x ∷ y ∷ xs) (y ∷ xs) (y ∷ insert_key nat_cmp xs x))
+    by : (Among k xs → Among k (insert_key nat_cmp xs x)) → (o : Ordering) → Among k (y ∷ xs)
+        → Among k (match_ordering o (x ∷ y ∷ xs) (y ∷ xs) (y ∷ insert_key nat_cmp xs x))
     by later Less h = inr h
     by later Equal h = h
     by later Greater (inl e) = inl e
@@ -78,7 +80,8 @@ was_among (y ∷ xs) x k a = by (was_among xs x k) (nat_cmp x y) a
     behind (inl h) = inl (inr h)
     behind (inr e) = inr e
 
-    by : (Among k (insert_key nat_cmp xs x) → Among k xs ⊎ (k ≡ x)) → (o : Ordering) → Among k (match_ordering o (x ∷ y ∷ xs) (y ∷ xs) (y ∷ insert_key nat_cmp xs x)) → Among k (y ∷ xs) ⊎ (k ≡ x)
+    by : (Among k (insert_key nat_cmp xs x) → Among k xs ⊎ (k ≡ x)) → (o : Ordering)
+        → Among k (match_ordering o (x ∷ y ∷ xs) (y ∷ xs) (y ∷ insert_key nat_cmp xs x)) → Among k (y ∷ xs) ⊎ (k ≡ x)
     by later Less (inl e) = inr e
     by later Less (inr h) = inl h
     by later Equal h = inl h
@@ -87,10 +90,12 @@ was_among (y ∷ xs) x k a = by (was_among xs x k) (nat_cmp x y) a
 
 module _ {T : Type 0} (c : Content T) where
   pub marked_none : (seen waiting : List ℕ) → MarkedAll c [] seen waiting seen waiting
-  marked_none seen waiting = record { all = λ k a. absurd a; keeps = λ k a. a; stays = λ p a. a; new_seen = λ k a. inl a; new_pending = λ p a. inl a; distinct = λ d. d; count = refl }
+  marked_none seen waiting =
+      record { all = λ k a. absurd a; keeps = λ k a. a; stays = λ p a. a; new_seen = λ k a. inl a; new_pending = λ p a. inl a; distinct = λ d. d; count = refl }
 
   -- one object that was not seen before
-  pub marked_now : (seen waiting : List ℕ) (p k : ℕ) → serial_at c p ≡ Some k → length (insert_key nat_cmp seen k) ≡ length seen + 1 → AllDistinct (insert_key nat_cmp seen k) → MarkedAll c (name_of c p ∷ []) seen waiting (insert_key nat_cmp seen k) (waiting ++ p ∷ [])
+  pub marked_now : (seen waiting : List ℕ) (p k : ℕ) → serial_at c p ≡ Some k → length (insert_key nat_cmp seen k) ≡ length seen + 1
+      → AllDistinct (insert_key nat_cmp seen k) → MarkedAll c (name_of c p ∷ []) seen waiting (insert_key nat_cmp seen k) (waiting ++ p ∷ [])
   marked_now seen waiting p k e long apart = record {
     all = λ j a. all j a;
     keeps = λ j a. still_among seen k j a;
@@ -118,8 +123,10 @@ module _ {T : Type 0} (c : Content T) where
       pending q (inr (inr a)) = absurd a
 
   -- one that was
-  pub marked_before : (seen waiting : List ℕ) (p k : ℕ) → serial_at c p ≡ Some k → insert_key nat_cmp seen k ≡ seen → MarkedAll c (name_of c p ∷ []) seen waiting seen waiting
-  marked_before seen waiting p k e same = record { all = λ j a. all j a; keeps = λ j a. a; stays = λ q a. a; new_seen = λ j a. inl a; new_pending = λ q a. inl a; distinct = λ d. d; count = refl }
+  pub marked_before : (seen waiting : List ℕ) (p k : ℕ) → serial_at c p ≡ Some k → insert_key nat_cmp seen k ≡ seen
+      → MarkedAll c (name_of c p ∷ []) seen waiting seen waiting
+  marked_before seen waiting p k e same =
+      record { all = λ j a. all j a; keeps = λ j a. a; stays = λ q a. a; new_seen = λ j a. inl a; new_pending = λ q a. inl a; distinct = λ d. d; count = refl }
     where
       all : (j : ℕ) → Among j (name_of c p ∷ []) → Among j seen
       all j (inl i) = subst (λ n. Among n seen) (sym (i ∙ name_is c p k e)) (subst (Among k) same (inserted seen k))
@@ -148,11 +155,13 @@ module _ {T : Type 0} (c : Content T) where
       seen k (inl h) = first k (f.new_seen k h)
       seen k (inr h) = inr (among_right k ks js h.0, h.1)
 
-      earlier : (p : ℕ) → Among p s ⊎ (Among (name_of c p) ks × ((k : ℕ) × (serial_at c p ≡ Some k))) → Among p s ⊎ (Among (name_of c p) (ks ++ js) × ((k : ℕ) × (serial_at c p ≡ Some k)))
+      earlier : (p : ℕ) → Among p s ⊎ (Among (name_of c p) ks × ((k : ℕ) × (serial_at c p ≡ Some k)))
+          → Among p s ⊎ (Among (name_of c p) (ks ++ js) × ((k : ℕ) × (serial_at c p ≡ Some k)))
       earlier p (inl h) = inl h
       earlier p (inr h) = inr (among_left (name_of c p) ks js h.0, h.1)
 
-      pending : (p : ℕ) → Among p t ⊎ (Among (name_of c p) js × ((k : ℕ) × (serial_at c p ≡ Some k))) → Among p s ⊎ (Among (name_of c p) (ks ++ js) × ((k : ℕ) × (serial_at c p ≡ Some k)))
+      pending : (p : ℕ) → Among p t ⊎ (Among (name_of c p) js × ((k : ℕ) × (serial_at c p ≡ Some k)))
+          → Among p s ⊎ (Among (name_of c p) (ks ++ js) × ((k : ℕ) × (serial_at c p ≡ Some k)))
       pending p (inl h) = earlier p (f.new_pending p h)
       pending p (inr h) = inr (among_right (name_of c p) ks js h.0, h.1)
 
@@ -185,11 +194,13 @@ module _ {T : Type 0} (c : Content T) where
       new k (inl h) = absurd h
       new k (inr h) = root k h.0
 
-      waiting : (p : ℕ) → Among p [] ⊎ (Among (name_of c p) (map (name_of c) roots) × ((k : ℕ) × (serial_at c p ≡ Some k))) → Reached c roots (name_of c p) × ((k : ℕ) × (serial_at c p ≡ Some k))
+      waiting : (p : ℕ) → Among p [] ⊎ (Among (name_of c p) (map (name_of c) roots) × ((k : ℕ) × (serial_at c p ≡ Some k)))
+          → Reached c roots (name_of c p) × ((k : ℕ) × (serial_at c p ≡ Some k))
       waiting p (inl h) = absurd h
       waiting p (inr h) = (root (name_of c p) h.0, h.1)
 
-      by : (k : ℕ) → Among k [] ⊎ (Among k (map (name_of c) roots) × IsNamed c pending k) → IsNamed c pending k ⊎ ((j : ℕ) → Among j (refs_of (object_at c k)) → Among j now)
+      by : (k : ℕ) → Among k [] ⊎ (Among k (map (name_of c) roots) × IsNamed c pending k)
+          → IsNamed c pending k ⊎ ((j : ℕ) → Among j (refs_of (object_at c k)) → Among j now)
       by k (inl h) = absurd h
       by k (inr h) = inl h.1
 
@@ -197,7 +208,8 @@ module _ {T : Type 0} (c : Content T) where
       less k (inl h) = absurd h
       less k (inr h) = below_next whole pending (λ p a. (waiting p (f.new_pending p a)).1) k h.1
 
-  pub next_frontier : IsSound c → (roots a b s t : List ℕ) (p : ℕ) → Frontier roots a (s ++ p ∷ []) → MarkedAll c (refs_of (object_at c (name_of c p))) a s b t → Frontier roots b t
+  pub next_frontier : IsSound c → (roots a b s t : List ℕ) (p : ℕ) → Frontier roots a (s ++ p ∷ []) → MarkedAll c (refs_of (object_at c (name_of c p))) a s b t
+      → Frontier roots b t
   next_frontier whole roots a b s t p old f = record {
     sound = λ k h. new k (f.new_seen k h);
     ready = λ q h. waiting q (f.new_pending q h);
@@ -214,7 +226,8 @@ module _ {T : Type 0} (c : Content T) where
       new k (inl h) = old.sound k h
       new k (inr h) = field (name_of c p) k at h.0
 
-      waiting : (q : ℕ) → Among q s ⊎ (Among (name_of c q) (refs_of (object_at c (name_of c p))) × ((k : ℕ) × (serial_at c q ≡ Some k))) → Reached c roots (name_of c q) × ((k : ℕ) × (serial_at c q ≡ Some k))
+      waiting : (q : ℕ) → Among q s ⊎ (Among (name_of c q) (refs_of (object_at c (name_of c p))) × ((k : ℕ) × (serial_at c q ≡ Some k)))
+          → Reached c roots (name_of c q) × ((k : ℕ) × (serial_at c q ≡ Some k))
       waiting q (inl h) = old.ready q (among_left q s (p ∷ []) h)
       waiting q (inr h) = (field (name_of c p) (name_of c q) at h.0, h.1)
 
@@ -223,11 +236,13 @@ module _ {T : Type 0} (c : Content T) where
       last k q e (inr (inl i)) = inr (subst (λ n. (j : ℕ) → Among j (refs_of (object_at c n)) → Among j b) (ap (name_of c) (sym i) ∙ e) f.all)
       last k q e (inr (inr h)) = absurd h
 
-      looked : (k : ℕ) → IsNamed c (s ++ p ∷ []) k ⊎ ((j : ℕ) → Among j (refs_of (object_at c k)) → Among j a) → IsNamed c t k ⊎ ((j : ℕ) → Among j (refs_of (object_at c k)) → Among j b)
+      looked : (k : ℕ) → IsNamed c (s ++ p ∷ []) k ⊎ ((j : ℕ) → Among j (refs_of (object_at c k)) → Among j a)
+          → IsNamed c t k ⊎ ((j : ℕ) → Among j (refs_of (object_at c k)) → Among j b)
       looked k (inl h) = last k h.0 h.2 (among_both h.0 s (p ∷ []) h.1)
       looked k (inr h) = inr (λ j m. f.keeps j (h j m))
 
-      by : (k : ℕ) → Among k a ⊎ (Among k (refs_of (object_at c (name_of c p))) × IsNamed c t k) → IsNamed c t k ⊎ ((j : ℕ) → Among j (refs_of (object_at c k)) → Among j b)
+      by : (k : ℕ) → Among k a ⊎ (Among k (refs_of (object_at c (name_of c p))) × IsNamed c t k)
+          → IsNamed c t k ⊎ ((j : ℕ) → Among j (refs_of (object_at c k)) → Among j b)
       by k (inl h) = looked k (old.closed k h)
       by k (inr h) = inl h.1
 
@@ -260,7 +275,8 @@ module _ {T : Type 0} (c : Content T) where
       by (inr h) = h.1
 
   -- what may still be seen, and what is pending, has become less
-  pub less_is_left : (roots a b s t pending ks : List ℕ) (p : ℕ) → pending ≡ s ++ p ∷ [] → Frontier roots a pending → Frontier roots b t → MarkedAll c ks a s b t → c.next - length b + length t < c.next - length a + length pending
+  pub less_is_left : (roots a b s t pending ks : List ℕ) (p : ℕ) → pending ≡ s ++ p ∷ [] → Frontier roots a pending → Frontier roots b t
+      → MarkedAll c ks a s b t → c.next - length b + length t < c.next - length a + length pending
   less_is_left roots a b s t pending ks p e old new f =
       let few = few_below a c.next old.distinct old.below in
       let more = few_below b c.next new.distinct new.below in
@@ -329,7 +345,9 @@ module _ {T : Type 0} (c : Content T) (p : ℕ) where
       (v.0, (there.0, o.0, there.1, o.1, v.1))
 
   -- the values so far, and one more
-  pub looked_more : (i : ℕ) (v : Value) (a b d s t u : List ℕ) → HasValue c p i (rename (name_of c) v) → MarkedAll c (stack_shape.refs (take i (values_in (object_at c (name_of c p))))) a s b t → MarkedAll c (map (name_of c) (refs v)) b t d u → MarkedAll c (stack_shape.refs (take (i + 1) (values_in (object_at c (name_of c p))))) a s d u
+  pub looked_more : (i : ℕ) (v : Value) (a b d s t u : List ℕ) → HasValue c p i (rename (name_of c) v)
+      → MarkedAll c (stack_shape.refs (take i (values_in (object_at c (name_of c p))))) a s b t → MarkedAll c (map (name_of c) (refs v)) b t d u
+      → MarkedAll c (stack_shape.refs (take (i + 1) (values_in (object_at c (name_of c p))))) a s d u
   looked_more i v a b d s t u has f g =
       let vs = values_in (object_at c (name_of c p)) in
       let same : object_at c (name_of c p) ≡ Some has.1 = ap (object_at c) (name_is c p has.0 has.2) ∙ has.3 in
@@ -341,13 +359,15 @@ module _ {T : Type 0} (c : Content T) (p : ℕ) where
       ∙ ap (λ l. stack_shape.refs (take i vs) ++ l) (refs_one (rename (name_of c) v) ∙ refs_renamed (name_of c) v) in
       subst (λ ks. MarkedAll c ks a s d u) (sym more) (marked_more c (stack_shape.refs (take i vs)) (map (name_of c) (refs v)) a b d s t u f g)
 
-  pub all_looked : IsSound c → Lies → (n : ℕ) → Counts n → (a b s t : List ℕ) → MarkedAll c (stack_shape.refs (take n (values_in (object_at c (name_of c p))))) a s b t → MarkedAll c (refs_of (object_at c (name_of c p))) a s b t
+  pub all_looked : IsSound c → Lies → (n : ℕ) → Counts n → (a b s t : List ℕ)
+      → MarkedAll c (stack_shape.refs (take n (values_in (object_at c (name_of c p))))) a s b t → MarkedAll c (refs_of (object_at c (name_of c p))) a s b t
   all_looked whole there n counts a b s t f =
       let o = object_of_place c p there.0 there.1 in
       let same : object_at c (name_of c p) ≡ Some o.0 = ap (object_at c) (name_is c p there.0 there.1) ∙ o.1 in
       let long : n ≡ length o.0.values = counts there.0 o.0 there.1 o.1 in
       let few : length (values_in (object_at c (name_of c p))) ≤ n = subst (λ x. length (values_in x) ≤ n) (sym same) (omega arith) in
-      subst (λ ks. MarkedAll c ks a s b t) (ap stack_shape.refs (take_all n (values_in (object_at c (name_of c p))) few) ∙ refs_in (object_at c (name_of c p))) f
+      subst (λ ks. MarkedAll c ks a s b t)
+      (ap stack_shape.refs (take_all n (values_in (object_at c (name_of c p))) few) ∙ refs_in (object_at c (name_of c p))) f
 
 -- one more place
 pub among_at : (xs : List ℕ) (i x : ℕ) → i < length xs → x ≡ get_or xs i x → Among x xs

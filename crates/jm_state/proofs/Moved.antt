@@ -28,16 +28,21 @@ get_before (x ∷ xs) y zero h = refl
 get_before (x ∷ xs) y (suc k) h = get_before xs y k (omega arith)
 
 -- an object more is not reached
-still_reached : (heap : List Object) (o : Object) (from : List ℕ) → ((k : ℕ) → Reach (slice_get heap) from k → k < length heap) → (k : ℕ) → Reach (slice_get (heap ++ o ∷ [])) from k → Reach (slice_get heap) from k
+still_reached : (heap : List Object) (o : Object) (from : List ℕ) → ((k : ℕ) → Reach (slice_get heap) from k → k < length heap) → (k : ℕ)
+    → Reach (slice_get (heap ++ o ∷ [])) from k → Reach (slice_get heap) from k
 still_reached heap o from bound k r =
-    reach_within (Reach (slice_get heap) from) (λ j i. root j i) (λ i j p q. field i j p (subst (λ x. Among j (refs_of x)) (get_before heap o i (bound i p)) q)) k r
+    reach_within (Reach (slice_get heap) from) (λ j i. root j i)
+    (λ i j p q. field i j p (subst (λ x. Among j (refs_of x)) (get_before heap o i (bound i p)) q)) k r
 
 parts_is_shape : IsShape Held parts_shape
 parts_is_shape =
     let literals = list_is_shape literal_shape literal_is_shape in
     let monitors = pair_is_shape (list_shape monitor_shape) (list_shape literal_shape) (list_is_shape monitor_shape monitor_is_shape) literals in
-    let statics = pair_is_shape (list_shape static_shape) (pair_shape (list_shape monitor_shape) (list_shape literal_shape)) (list_is_shape static_shape static_is_shape) monitors in
-    pair_is_shape (list_shape thread_shape) (pair_shape (list_shape static_shape) (pair_shape (list_shape monitor_shape) (list_shape literal_shape))) (list_is_shape thread_shape thread_is_shape) statics
+    let statics =
+    pair_is_shape (list_shape static_shape) (pair_shape (list_shape monitor_shape) (list_shape literal_shape))
+    (list_is_shape static_shape static_is_shape) monitors in
+    pair_is_shape (list_shape thread_shape) (pair_shape (list_shape static_shape) (pair_shape (list_shape monitor_shape) (list_shape literal_shape)))
+    (list_is_shape thread_shape thread_is_shape) statics
 
 -- by its heap a machine's places name what another's name by theirs, and else the machines are the same
 pub record HasMoved {T : Type 0} (m new : Parts T) : Type 0 where
@@ -49,7 +54,8 @@ pub record HasMoved {T : Type 0} (m new : Parts T) : Type 0 where
   pub stop : new.stop ≡ m.stop
 
 -- so it is where moved places were put in
-module _ {T : Type 0} (c d : Content T) (held new : Held) (moved : List ℕ) (put : new ≡ parts_shape.refill moved held) (names : map (name_of d) moved ≡ map (name_of c) (parts_shape.refs held)) where
+module _ {T : Type 0} (c d : Content T) (held new : Held) (moved : List ℕ) (put : new ≡ parts_shape.refill moved held)
+    (names : map (name_of d) moved ≡ map (name_of c) (parts_shape.refs held)) where
   pub put_renamed : parts_shape.rename (name_of d) new ≡ parts_shape.rename (name_of c) held
   put_renamed =
       ap (parts_shape.rename (name_of d)) put
@@ -58,20 +64,23 @@ module _ {T : Type 0} (c d : Content T) (held new : Held) (moved : List ℕ) (pu
 
   pub put_refs : parts_shape.refs new ≡ moved
   put_refs =
-      let long : length moved ≡ length (parts_shape.refs held) = sym (length-map moved (name_of d)) ∙ ap length names ∙ length-map (parts_shape.refs held) (name_of c) in
+      let long : length moved ≡ length (parts_shape.refs held) =
+      sym (length-map moved (name_of d)) ∙ ap length names ∙ length-map (parts_shape.refs held) (name_of c) in
       ap parts_shape.refs put
       ∙ ap (λ ns. parts_shape.refs (parts_shape.refill ns held)) (sym (append-nil moved))
       ∙ (parts_is_shape held).refilled moved [] long
 
 -- and where nothing moved
-pub same_renamed : {T : Type 0} (c d : Content T) (held : Held) → map (name_of d) (parts_shape.refs held) ≡ map (name_of c) (parts_shape.refs held) → parts_shape.rename (name_of d) held ≡ parts_shape.rename (name_of c) held
+pub same_renamed : {T : Type 0} (c d : Content T) (held : Held) → map (name_of d) (parts_shape.refs held) ≡ map (name_of c) (parts_shape.refs held)
+    → parts_shape.rename (name_of d) held ≡ parts_shape.rename (name_of c) held
 same_renamed c d held names = (parts_is_shape held).agrees (name_of d) (name_of c) (same_names (name_of d) (name_of c) (parts_shape.refs held) names)
 
 module _ {T : Type 0} (m new : Parts T) (w : World) (h : Matches m w) (a : HasMoved m new) where
   reached_here : (k : ℕ) → Reach (slice_get w.heap) (roots w) k → Reached m.content (places m) k
   reached_here k r = ((reaches_alike m w h).same k).1 r
 
-  same_object : (k : ℕ) → object_at new.content k ≡ object_at m.content k → option_map (as_named new.named) (object_at new.content k) ≡ option_map (as_named m.named) (object_at m.content k)
+  same_object : (k : ℕ) → object_at new.content k ≡ object_at m.content k
+      → option_map (as_named new.named) (object_at new.content k) ≡ option_map (as_named m.named) (object_at m.content k)
   same_object k e = ap (λ (named : T → ObjectType). option_map (as_named named) (object_at new.content k)) a.named ∙ ap (option_map (as_named m.named)) e
 
   -- a heap that kept what is reached matches the same world
@@ -108,7 +117,9 @@ module _ {T : Type 0} (m new : Parts T) (w : World) (h : Matches m w) (a : HasMo
       limit = made.kept.limit ∙ h.limit;
       next = made.next ∙ ap (λ n. n + 1) h.next ∙ sym (length-append w.heap (object ∷ []));
       bound = λ k r. let b = h.bound k (reached_before k r) in omega (arith, b, length-append w.heap (object ∷ []));
-      objects = λ k r. same_object k (made.kept.reached k (reached_here k (reached_before k r))) ∙ h.objects k (reached_before k r) ∙ sym (get_before w.heap object k (h.bound k (reached_before k r)));
+      objects =
+          λ k r. same_object k (made.kept.reached k (reached_here k (reached_before k r))) ∙ h.objects k (reached_before k r)
+          ∙ sym (get_before w.heap object k (h.bound k (reached_before k r)));
       threads = ap (λ (p : Held). p.0) a.held ∙ h.threads;
       statics = ap (λ (p : Held). p.1.0) a.held ∙ h.statics;
       monitors = ap (λ (p : Held). p.1.1.0) a.held ∙ h.monitors;
@@ -120,7 +131,8 @@ module _ {T : Type 0} (m new : Parts T) (w : World) (h : Matches m w) (a : HasMo
     }
 
     -- the object lies where the world has it
-    pub made_lies : (serial_at new.content place ≡ Some (length w.heap)) × (option_map (as_named new.named) (object_at new.content (length w.heap)) ≡ Some object)
+    pub made_lies : (serial_at new.content place ≡ Some (length w.heap)) ×
+        (option_map (as_named new.named) (object_at new.content (length w.heap)) ≡ Some object)
     made_lies = (
       subst (λ n. serial_at new.content place ≡ Some n) h.next made.placed,
       ap (λ (named : T → ObjectType). option_map (as_named named) (object_at new.content (length w.heap))) a.named

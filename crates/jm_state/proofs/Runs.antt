@@ -12,7 +12,8 @@ use Rattle.jm_world.specs.declared.class_state.ClassState.TheVariants.{Failed}
 use Rattle.jm_world.specs.declared.stop.Stop.{Stop}
 use Rattle.jm_linked.specs.Links.{LinkedView}
 use Rattle.jm_state.specs.Parts.{part_of_held, thread_part, ending_part}
-use Rattle.jm_state.specs.Places.{with_method_holders, stack_frame_shape, rename_stack_frame, HeldThread, held_thread, held_thread_shape, held_monitor_shape, with_thread_holders, thread_holders, Holders, holders, holders_shape, erased, OnlyMoved, IsPutBack}
+use Rattle.jm_state.specs.Places.{with_method_holders, stack_frame_shape, rename_stack_frame, HeldThread, held_thread, held_thread_shape, held_monitor_shape}
+use Rattle.jm_state.specs.Places.{with_thread_holders, thread_holders, Holders, holders, holders_shape, erased, OnlyMoved, IsPutBack}
 use Rattle.jm_state.specs.Runnable.{FrameRuns, IsMethodFrame, HoldsNoMonitor, StandOnTop, ThreadRuns, ThreadNotYet, IsRunnable}
 use Rattle.jm_state.specs.View.{StateView}
 use Rattle.jm_state.specs.declared.monitor.Monitor.{Monitor}
@@ -58,19 +59,29 @@ number_leaves ns k = refl
 optional_leaves : Leaves optional_number_shape
 optional_leaves = option_leaves number_shape number_leaves
 
+activation_leaves : Leaves (pair_shape locals_shape stack_shape)
+activation_leaves =
+    pair_leaves locals_shape stack_shape
+    (list_leaves (option_shape value_shape) (option_leaves value_shape value_leaves))
+    (list_leaves value_shape value_leaves)
+
 frame_leaves : Leaves stack_frame_shape
 frame_leaves ns (Method f) =
     ap (λ p. Method (with_method_holders ((record { at = f.activation.at; max_stack = f.activation.max_stack; locals = p.0.0; stack = p.0.1 }), p.1) f))
-    (pair_leaves (pair_shape locals_shape stack_shape) optional_number_shape (pair_leaves locals_shape stack_shape (list_leaves (option_shape value_shape) (option_leaves value_shape value_leaves)) (list_leaves value_shape value_leaves)) optional_leaves ns ((f.activation.locals, f.activation.stack), f.monitor))
+    (pair_leaves (pair_shape locals_shape stack_shape) optional_number_shape activation_leaves optional_leaves ns ((f.activation.locals, f.activation.stack), f.monitor))
 frame_leaves ns (Initialization class stage) = refl
 
 thread_leaves : Leaves held_thread_shape
 thread_leaves ns t = by t.object t.frames t.pending t.ending
   where
     leaves : Leaves (pair_shape optional_number_shape (pair_shape optional_number_shape (list_shape stack_frame_shape)))
-    leaves = pair_leaves optional_number_shape (pair_shape optional_number_shape (list_shape stack_frame_shape)) optional_leaves (pair_leaves optional_number_shape (list_shape stack_frame_shape) optional_leaves (list_leaves stack_frame_shape frame_leaves))
+    leaves =
+        pair_leaves optional_number_shape (pair_shape optional_number_shape (list_shape stack_frame_shape)) optional_leaves
+        (pair_leaves optional_number_shape (list_shape stack_frame_shape) optional_leaves (list_leaves stack_frame_shape frame_leaves))
 
-    by : (o : Option ℕ) (fs : List StackFrame) (p : Option ℕ) (e : Ending) → let t : HeldThread = record { object = o; frames = fs; pending = p; ending = e } in held_thread_shape.rename (λ q. 0) (held_thread_shape.refill ns t) ≡ held_thread_shape.rename (λ q. 0) t
+    by : (o : Option ℕ) (fs : List StackFrame) (p : Option ℕ) (e : Ending) → let t : HeldThread = record
+        { object = o; frames = fs; pending = p; ending = e } in held_thread_shape.rename (λ q. 0) (held_thread_shape.refill ns t) ≡ held_thread_shape.rename
+        (λ q. 0) t
     by o fs p Running = ap (λ x. with_thread_holders x (record { object = o; frames = fs; pending = p; ending = Running })) (leaves ns (o, (p, fs)))
     by o fs p Returned = ap (λ x. with_thread_holders x (record { object = o; frames = fs; pending = p; ending = Returned })) (leaves ns (None, (p, fs)))
     by o fs p (EndedBy n) = ap (λ x. with_thread_holders x (record { object = o; frames = fs; pending = p; ending = EndedBy n })) (leaves ns (None, (p, fs)))
@@ -80,9 +91,11 @@ monitor_leaves ns m = refl
 
 holders_leave : Leaves holders_shape
 holders_leave =
-    pair_leaves (list_shape held_thread_shape) (pair_shape stack_shape (pair_shape (list_shape held_monitor_shape) (list_shape number_shape))) (list_leaves held_thread_shape thread_leaves)
+    pair_leaves (list_shape held_thread_shape) (pair_shape stack_shape (pair_shape (list_shape held_monitor_shape) (list_shape number_shape)))
+    (list_leaves held_thread_shape thread_leaves)
     (pair_leaves stack_shape (pair_shape (list_shape held_monitor_shape) (list_shape number_shape)) (list_leaves value_shape value_leaves)
-    (pair_leaves (list_shape held_monitor_shape) (list_shape number_shape) (list_leaves held_monitor_shape monitor_leaves) (list_leaves number_shape number_leaves)))
+    (pair_leaves (list_shape held_monitor_shape) (list_shape number_shape) (list_leaves held_monitor_shape monitor_leaves)
+    (list_leaves number_shape number_leaves)))
 
 -- what other places were put into differs in them alone
 pub put_erased : (ns : List ℕ) (old new : StateView) → holders new ≡ holders_shape.refill ns (holders old) → erased new ≡ erased old
@@ -92,11 +105,13 @@ abbrev erase : HeldThread → HeldThread
 erase = held_thread_shape.rename (λ p. 0)
 
 -- what holds of each of a list, where it holds of what each is seen as
-all_there : {A B : Type 0} (P : A → Type 0) (Q : B → Type 0) (f : A → B) → ((x : A) → P x → Q (f x)) → (xs : List A) → AllByRecursion P xs → AllByRecursion Q (map f xs)
+all_there : {A B : Type 0} (P : A → Type 0) (Q : B → Type 0) (f : A → B) → ((x : A) → P x → Q (f x)) → (xs : List A) → AllByRecursion P xs
+    → AllByRecursion Q (map f xs)
 all_there P Q f h [] r = tt
 all_there P Q f h (x ∷ xs) r = (h x r.0, all_there P Q f h xs r.1)
 
-all_back : {A B : Type 0} (P : A → Type 0) (Q : B → Type 0) (f : A → B) → ((x : A) → Q (f x) → P x) → (xs : List A) → AllByRecursion Q (map f xs) → AllByRecursion P xs
+all_back : {A B : Type 0} (P : A → Type 0) (Q : B → Type 0) (f : A → B) → ((x : A) → Q (f x) → P x) → (xs : List A) → AllByRecursion Q (map f xs)
+    → AllByRecursion P xs
 all_back P Q f h [] r = tt
 all_back P Q f h (x ∷ xs) r = (h x r.0, all_back P Q f h xs r.1)
 
@@ -202,25 +217,33 @@ runs_alike {l} {old} {new} m r =
     let monitors = ap (λ (h : Holders). h.1.1.0) m.held in
     let literals = ap (λ (h : Holders). h.1.1.1) m.held in
     record {
-      threads = all_back (ThreadRuns l) (ThreadRuns l) erase (thread_ran l) (map held_thread new.threads) (subst (AllByRecursion (ThreadRuns l)) (sym threads) (all_there (ThreadRuns l) (ThreadRuns l) erase (thread_runs l) (map held_thread old.threads) r.threads));
+      threads =
+          all_back (ThreadRuns l) (ThreadRuns l) erase (thread_ran l) (map held_thread new.threads) (subst (AllByRecursion (ThreadRuns l)) (sym threads)
+          (all_there (ThreadRuns l) (ThreadRuns l) erase (thread_runs l) (map held_thread old.threads) r.threads));
       live = m.live ∙ r.live ∙ ap live_among (threads_seen l old.threads) ∙ live_erased l (map held_thread old.threads)
-          ∙ ap (λ ts. live_among (map (part_of_held l) ts)) (sym threads) ∙ sym (ap live_among (threads_seen l new.threads) ∙ live_erased l (map held_thread new.threads));
+          ∙ ap (λ ts. live_among (map (part_of_held l) ts)) (sym threads)
+          ∙ sym (ap live_among (threads_seen l new.threads) ∙ live_erased l (map held_thread new.threads));
       statics = same_length _ new.statics old.statics statics ∙ r.statics;
       literals = same_length _ new.literals old.literals literals ∙ r.literals;
       classes = ap length m.classes ∙ r.classes;
       not_yet = record {
-        threads = all_back ThreadNotYet ThreadNotYet erase thread_was_not_yet (map held_thread new.threads) (subst (AllByRecursion ThreadNotYet) (sym threads) (all_there ThreadNotYet ThreadNotYet erase thread_not_yet (map held_thread old.threads) r.not_yet.threads));
+        threads =
+            all_back ThreadNotYet ThreadNotYet erase thread_was_not_yet (map held_thread new.threads) (subst (AllByRecursion ThreadNotYet) (sym threads)
+            (all_there ThreadNotYet ThreadNotYet erase thread_not_yet (map held_thread old.threads) r.not_yet.threads));
         monitors = still_none (held_monitor_shape.rename (λ p. 0)) new.monitors (monitors ∙ ap (map (held_monitor_shape.rename (λ p. 0))) r.not_yet.monitors);
         failures = subst (AllByRecursion (λ s. s ≢ Failed)) (sym m.classes) r.not_yet.failures;
       };
     }
 
 -- other places were put into a state and nothing else changed
-pub is_put_back : (ns : List ℕ) (old new : StateView) → holders new ≡ holders_shape.refill ns (holders old) → new.live ≡ old.live → new.classes ≡ old.classes → new.output ≡ old.output → new.stop ≡ old.stop → IsPutBack ns old new
-is_put_back ns old new e live classes output stop = record { held = e; moved = record { held = put_erased ns old new e; live = live; classes = classes; output = output; stop = stop } }
+pub is_put_back : (ns : List ℕ) (old new : StateView) → holders new ≡ holders_shape.refill ns (holders old) → new.live ≡ old.live → new.classes ≡ old.classes
+    → new.output ≡ old.output → new.stop ≡ old.stop → IsPutBack ns old new
+is_put_back ns old new e live classes output stop =
+    record { held = e; moved = record { held = put_erased ns old new e; live = live; classes = classes; output = output; stop = stop } }
 
 -- so does one that has printed or stopped
-pub runs_still : {l : LinkedView} {s : StateView} (output : List ℕ) (stop : Option Stop) → IsRunnable l s → IsRunnable l (record s { output = output; stop = stop })
+pub runs_still : {l : LinkedView} {s : StateView} (output : List ℕ) (stop : Option Stop) → IsRunnable l s
+    → IsRunnable l (record s { output = output; stop = stop })
 runs_still output stop r = record {
   threads = r.threads;
   live = r.live;

@@ -69,7 +69,8 @@ abbrev pub with_thread_holders : Option ℕ × (Option ℕ × List StackFrame) �
 with_thread_holders p t = record { object = with_live_object t.ending p.0 t.object; frames = p.1.1; pending = p.1.0; ending = t.ending }
 
 abbrev pub held_thread_shape : Shape HeldThread
-held_thread_shape = part_shape thread_holders with_thread_holders (pair_shape optional_number_shape (pair_shape optional_number_shape (list_shape stack_frame_shape)))
+held_thread_shape =
+    part_shape thread_holders with_thread_holders (pair_shape optional_number_shape (pair_shape optional_number_shape (list_shape stack_frame_shape)))
 
 abbrev pub held_monitor_shape : Shape Monitor
 held_monitor_shape = part_shape (λ m. m.object) (λ p m. record { object = p; owner = m.owner; count = m.count }) number_shape

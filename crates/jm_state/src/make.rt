@@ -41,7 +41,8 @@ fn make_with_roots<H: Heap>(
     shape: Shape<'_>,
 ) -> Result<Place, Halt>
     requires { StateRuns linked.now state.old × (w : World) × Matches (state_parts H.content linked.now state.old) w }
-    ensures made { (w : World) → Matches (state_parts H.content linked.now state.old) w → MadeOrNot result (state_parts H.content linked.now state.new) w (as_named (named_type linked.now.program) (new_object shape.entry)) }
+    ensures made { (w : World) → Matches (state_parts H.content linked.now state.old) w
+        → MadeOrNot result (state_parts H.content linked.now state.new) w (as_named (named_type linked.now.program) (new_object shape.entry)) }
     ensures runs { StateRuns linked.now state.new }
     ensures moved { OnlyMoved (view_of state.old) (view_of state.new) }
 {
@@ -68,7 +69,8 @@ pub fn make_object<H: Heap>(
     shape: Shape<'_>,
 ) -> Result<Place, Halt>
     requires { StateRuns linked.now state.old × (w : World) × Matches (state_parts H.content linked.now state.old) w }
-    ensures made { (w : World) → Matches (state_parts H.content linked.now state.old) w → MadeOrNot result (state_parts H.content linked.now state.new) w (as_named (named_type linked.now.program) (new_object shape.entry)) }
+    ensures made { (w : World) → Matches (state_parts H.content linked.now state.old) w
+        → MadeOrNot result (state_parts H.content linked.now state.new) w (as_named (named_type linked.now.program) (new_object shape.entry)) }
     ensures runs { StateRuns linked.now state.new }
     ensures moved { OnlyMoved (view_of state.old) (view_of state.new) }
 {

@@ -6,7 +6,8 @@ ghost use Rattle.jm_values.specs.Shape.{list_shape, option_shape};
 ghost use Rattle.jm_values.specs.Rename.{refs, value_shape, locals_shape, stack_shape};
 ghost use Rattle.jm_world.specs.Frames.{number_shape, optional_number_shape};
 ghost use Rattle.jm_state.specs.Places.{IsPutBack};
-ghost use Rattle.jm_state.specs.Places.{method_shape, stack_frame_shape, live_object, with_live_object, held_thread, held_thread_shape, held_monitor_shape, thread_places, places_of};
+ghost use Rattle.jm_state.specs.Places.{method_shape, stack_frame_shape, live_object, with_live_object};
+ghost use Rattle.jm_state.specs.Places.{held_thread, held_thread_shape, held_monitor_shape, thread_places, places_of};
 ghost use Rattle.jm_state.specs.View.{view_of};
 
 use crate::monitor::Monitor;
@@ -220,7 +221,10 @@ fn put_frames(frames: &mut [StackFrame], places: &mut Iter<'_, Place>)
 
 // Puts the next place where a thread's object is, while the thread has not ended.
 fn put_object(thread: &mut Thread, places: &mut Iter<'_, Place>)
-    ensures thread { thread.new ≡ record thread.old { object = with_live_object thread.old.ending (optional_number_shape.refill (iter_rest places.old) (live_object thread.old.ending thread.old.object)) thread.old.object } }
+    ensures thread { thread.new ≡ record thread.old {
+      object = with_live_object thread.old.ending
+          (optional_number_shape.refill (iter_rest places.old) (live_object thread.old.ending thread.old.object)) thread.old.object;
+    } }
     ensures left { iter_rest places.new ≡ drop (length (optional_number_shape.refs (live_object thread.old.ending thread.old.object))) (iter_rest places.old) }
 {
     match thread.ending {

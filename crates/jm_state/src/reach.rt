@@ -28,7 +28,8 @@ fn mark_place<H: Heap>(
     pending: &mut Vec<Place>,
 ) -> Result<(), AllocError>
     requires { (k : ℕ) × (serial_at (H.content heap.now) place ≡ Some k) }
-    ensures { OnOk result (MarkedAll (H.content heap.now) (name_of (H.content heap.now) place ∷ []) seen.old.keys pending.old.items seen.new.keys pending.new.items) }
+    ensures { OnOk result
+        (MarkedAll (H.content heap.now) (name_of (H.content heap.now) place ∷ []) seen.old.keys pending.old.items seen.new.keys pending.new.items) }
 {
     if seen.insert(heap.serial(place))? {
         pending.push(place)?;
@@ -44,7 +45,8 @@ fn mark_places<H: Heap>(
     pending: &mut Vec<Place>,
 ) -> Result<(), AllocError>
     requires { AllResident (H.content heap.now) places.now }
-    ensures { OnOk result (MarkedAll (H.content heap.now) (map (name_of (H.content heap.now)) places.now) seen.old.keys pending.old.items seen.new.keys pending.new.items) }
+    ensures { OnOk result
+        (MarkedAll (H.content heap.now) (map (name_of (H.content heap.now)) places.now) seen.old.keys pending.old.items seen.new.keys pending.new.items) }
 {
     for place in places {
         mark_place(heap, *place, seen, pending)?;
@@ -60,7 +62,8 @@ fn mark_value<H: Heap>(
     pending: &mut Vec<Place>,
 ) -> Result<(), AllocError>
     requires { AllResident (H.content heap.now) (refs value) }
-    ensures { OnOk result (MarkedAll (H.content heap.now) (map (name_of (H.content heap.now)) (refs value)) seen.old.keys pending.old.items seen.new.keys pending.new.items) }
+    ensures { OnOk result
+        (MarkedAll (H.content heap.now) (map (name_of (H.content heap.now)) (refs value)) seen.old.keys pending.old.items seen.new.keys pending.new.items) }
 {
     match value {
         Value::Ref(place) => mark_place(heap, place, seen, pending),
@@ -77,7 +80,8 @@ fn mark_object<H: Heap>(
 ) -> Result<(), AllocError>
     requires sound { IsSound (H.content heap.now) }
     requires there { (k : ℕ) × (serial_at (H.content heap.now) place ≡ Some k) }
-    ensures { OnOk result (MarkedAll (H.content heap.now) (refs_of (object_at (H.content heap.now) (name_of (H.content heap.now) place))) seen.old.keys pending.old.items seen.new.keys pending.new.items) }
+    ensures { OnOk result (MarkedAll (H.content heap.now)
+        (refs_of (object_at (H.content heap.now) (name_of (H.content heap.now) place))) seen.old.keys pending.old.items seen.new.keys pending.new.items) }
 {
     for index in 0..heap.length(place) {
         mark_value(heap, heap.get(place, index), seen, pending)?;
@@ -158,7 +162,8 @@ pub fn find_reachable<H: Heap>(
     serial: u64,
 ) -> Result<Option<Place>, AllocError>
     requires { StateRuns linked.now state.now × (w : World) × Matches (state_parts H.content linked.now state.now) w }
-    ensures { IfOk result (λ found. (w : World) → Matches (state_parts H.content linked.now state.now) w → FindsReachable (H.content state.now.heap) w serial found) }
+    ensures { IfOk result
+        (λ found. (w : World) → Matches (state_parts H.content linked.now state.now) w → FindsReachable (H.content state.now.heap) w serial found) }
 {
     let roots = gather(alloc, state)?;
     search(alloc, &state.heap, roots.as_slice(), serial)

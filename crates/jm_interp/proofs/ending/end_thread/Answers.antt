@@ -11,4 +11,9 @@ overflow_sub-state g c = let lives = one_lives c.requires.2 in omega arith
 pub returns : goal.returns
 returns g c =
     let lives = one_lives c.requires.2 in
-    ends c.requires.2 _ (record { frames_are = ap reverse c.clear.ensures.items; rest_is = ap (λ (r : ThreadRest). record { object = r.object; pending = None; ending = c.args.ending }) (read c.requires.2 c.index_mut-thread.ensures.value).rest_is }) c.requires.3 (omega arith)
+    ends c.requires.2 _ (record {
+      frames_are =
+          ap reverse c.clear.ensures.items;
+      rest_is = ap (λ (r : ThreadRest). record { object = r.object; pending = None; ending = c.args.ending })
+          (read c.requires.2 c.index_mut-thread.ensures.value).rest_is;
+    }) c.requires.3 (omega arith)

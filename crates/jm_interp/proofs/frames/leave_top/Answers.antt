@@ -19,8 +19,12 @@ returns-then-not-has_room c f b below r s =
     let n = c.len-count.result in
     let is : Method v ≡ b = sym c.in-Method.is ∙ second_frame t (Method f) b c.index_mut.result.now below r n s c.len-count.ensures c.index_mut.ensures.value in
     let t' : held.Thread = record { object = t.object; frames = with_item t.frames (n - 2) (Method v); pending = t.pending; ending = t.ending } in
-    subst (λ x. Left (Err (Stopped (why.TagFault Overflow))) t' f x below r) is
-    (no_more (units v.activation.stack) v.activation.max_stack c.has_room.result false c.has_room.ensures c.if-not-has_room.true, refl, second_other t t' (Method f) b (Method v) below r n s c.len-count.ensures refl refl)
+    subst (λ x. Left (Err (Stopped (why.TagFault Overflow))) t' f x below r) is (
+      no_more (units v.activation.stack) v.activation.max_stack c.has_room.result false c.has_room.ensures c.if-not-has_room.true,
+      refl,
+      second_other t t'
+          (Method f) b (Method v) below r n s c.len-count.ensures refl refl,
+    )
 
 pub returns-else-at : goal.returns-else-at
 returns-else-at c f b below r s =
@@ -33,5 +37,8 @@ returns-else-at c f b below r s =
     let t'' : held.Thread = record { object = t.object; frames = c.pop-top.new.self; pending = t.pending; ending = t.ending } in
     let moved = second_other t t' (Method f) b (Method g) below r n s c.len-count.ensures refl refl in
     let gone = top_less t' t'' (Method f) (Method g ∷ below) r moved c.pop-top.ensures.rest refl in
-    subst (λ x. Left (Ok (tt {0})) t'' f x below r) is
-    (no_more (units v.activation.stack) v.activation.max_stack c.has_room.result true c.has_room.ensures c.if-not-has_room.false, subst (λ x. Stands t'' (Method x ∷ below) r) c.go_on.ensures gone)
+    subst (λ x. Left (Ok (tt {0})) t'' f x below r) is (
+      no_more (units v.activation.stack) v.activation.max_stack c.has_room.result true c.has_room.ensures c.if-not-has_room.false,
+      subst
+          (λ x. Stands t'' (Method x ∷ below) r) c.go_on.ensures gone,
+    )

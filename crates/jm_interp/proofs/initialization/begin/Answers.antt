@@ -31,7 +31,10 @@ pub go_to_stage-requires : goal.go_to_stage-requires
 go_to_stage-requires g c = (_, _, _, read c.requires.1 c.index_mut-in-NotBegun.ensures.value)
 
 pub returns-in-NotBegun : goal.returns-in-NotBegun
-returns-in-NotBegun g c = begins c.requires.1 c.index.ensures c.in-NotBegun.is (record { threads = refl; statics = refl; literals = refl; monitors = refl; heap = refl; stop = refl }) refl refl refl (c.go_to_stage.ensures _ _ _ (read c.requires.1 c.index_mut-in-NotBegun.ensures.value))
+returns-in-NotBegun g c =
+    begins c.requires.1 c.index.ensures c.in-NotBegun.is
+    (record { threads = refl; statics = refl; literals = refl; monitors = refl; heap = refl; stop = refl }) refl refl refl
+    (c.go_to_stage.ensures _ _ _ (read c.requires.1 c.index_mut-in-NotBegun.ensures.value))
 
 pub unreachable-requires : goal.unreachable-requires
 unreachable-requires g c = not_failed c.requires.1 c.index.ensures c.in-Failed.is

@@ -13,4 +13,6 @@ pub drop_top-requires : goal.drop_top-requires
 drop_top-requires g c = (_, _, _, read c.requires.2 c.index_mut-2.ensures.value)
 
 pub returns : goal.returns
-returns g c = finished c.requires.2 (record { threads = refl; statics = refl; literals = refl; monitors = refl; heap = refl; stop = refl }) refl refl refl (c.drop_top.ensures _ _ _ (read c.requires.2 c.index_mut-2.ensures.value))
+returns g c =
+    finished c.requires.2 (record { threads = refl; statics = refl; literals = refl; monitors = refl; heap = refl; stop = refl }) refl refl refl
+    (c.drop_top.ensures _ _ _ (read c.requires.2 c.index_mut-2.ensures.value))

@@ -12,7 +12,9 @@ pub returns-clause-next : goal.returns-clause-next
 returns-clause-next g c w t k m at e =
     let number = c.args.number in
     let after = c.step_at.new.state in
-    subst (λ x. Ended c.step_at.result (state_parts g.H.Heap.content c.args.linked.now after) w x) (ap (λ n. step_thread w n t) (counted number c.requires.from_one) ∙ unwinding_step w number t k e) (c.step_at.ensures.ends w t m (thread_there w number t at))
+    subst (λ x. Ended c.step_at.result (state_parts g.H.Heap.content c.args.linked.now after) w x)
+    (ap (λ n. step_thread w n t) (counted number c.requires.from_one) ∙ unwinding_step w number t k e)
+    (c.step_at.ensures.ends w t m (thread_there w number t at))
 
 pub returns-clause-runs : goal.returns-clause-runs
 returns-clause-runs g c = c.step_at.ensures.runs

@@ -7,7 +7,8 @@ use Rattle.jm_interp.proofs.top_frame.push_top.Goals as goal
 
 pub returns-in-Ok : goal.returns-in-Ok
 returns-in-Ok c f below r s =
-    stepped c.args.thread.now _ (push_constant c.args.value) (outcome (Ok tt)) f c.in-Method.frame c.go_on.new.self below r c.in-Some.top.now s c.in-Some.ensures.value c.in-Method.is refl refl
+    stepped c.args.thread.now _ (push_constant c.args.value)
+    (outcome (Ok tt)) f c.in-Method.frame c.go_on.new.self below r c.in-Some.top.now s c.in-Some.ensures.value c.in-Method.is refl refl
     (push_goes c.in-Method.frame c.push.new.self c.go_on.new.self c.args.value c.in-Ok.ensures.result c.in-Ok.ensures.ok c.go_on.ensures)
     tt
     (push_same c.in-Method.frame c.push.new.self c.go_on.new.self c.args.value c.in-Ok.ensures.ok c.go_on.ensures)

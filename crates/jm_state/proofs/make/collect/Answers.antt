@@ -23,7 +23,8 @@ returns-clause-matches g c w h =
     let t = c.put_back.new.state in
     let new = g.H.Heap.content c.collect-done.new.self in
     subst (λ d. Matches (parts c.args.linked.now d (view_of t)) w) (sym (ap g.H.Heap.content c.put_back.ensures.heap))
-    (kept_back c.args.linked.now (g.H.Heap.content s.heap) new (view_of s) (view_of t) _ _ (counted c.requires.0) c.in_ok-roots.ensures c.put_back.ensures.places w h c.collect-done.ensures.kept c.collect-done.ensures.next)
+    (kept_back c.args.linked.now (g.H.Heap.content s.heap) new (view_of s) (view_of t) _ _
+    (counted c.requires.0) c.in_ok-roots.ensures c.put_back.ensures.places w h c.collect-done.ensures.kept c.collect-done.ensures.next)
 
 pub returns-clause-runs : goal.returns-clause-runs
 returns-clause-runs g c = runs_alike c.put_back.ensures.places.moved c.requires.0
@@ -33,5 +34,6 @@ returns-clause-leaves g c w h =
     let s = c.args.state.now in
     let same = ap g.H.Heap.content c.put_back.ensures.heap in
     on_ok c.collect-done.result _ _
-    (λ left. subst (λ x. LeavesReachable c.args.kind x w) (sym same) (leaves c.args.linked.now (g.H.Heap.content s.heap) (view_of s) w (counted c.requires.0) h _ c.in_ok-roots.ensures (g.H.Heap.content c.collect-done.new.self) c.args.kind left))
+    (λ left. subst (λ x. LeavesReachable c.args.kind x w) (sym same)
+    (leaves c.args.linked.now (g.H.Heap.content s.heap) (view_of s) w (counted c.requires.0) h _ c.in_ok-roots.ensures (g.H.Heap.content c.collect-done.new.self) c.args.kind left))
     c.collect-done.ensures.ok

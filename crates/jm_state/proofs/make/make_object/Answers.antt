@@ -16,13 +16,15 @@ pub returns-in-Ok-Some-clause-made : goal.returns-in-Ok-Some-clause-made
 returns-in-Ok-Some-clause-made g c w h =
     let s = c.args.state.now in
     let here = rw c.in-Ok-Some.field-0-is at c.in-Ok-Some.ensures.ok in
-    made_here c.args.linked.now (g.H.Heap.content s.heap) (view_of s) w h (new_object c.args.shape) (g.H.Heap.content c.allocate_here.new.self) c.in-Ok-Some.place here
+    made_here c.args.linked.now (g.H.Heap.content s.heap) (view_of s) w h (new_object c.args.shape)
+    (g.H.Heap.content c.allocate_here.new.self) c.in-Ok-Some.place here
 
 pub returns-in-Err-clause-made : goal.returns-in-Err-clause-made
 returns-in-Err-clause-made g c w h =
     let l = c.args.linked.now in
     let s = c.args.state.now in
     let o = new_object c.args.shape in
-    subst (λ r. MadeOrNot (Err r) (parts l (g.H.Heap.content c.allocate_here.new.self) (view_of s)) w (as_named (named_type l.program) o)) (sym c.halt_of.ensures)
+    subst (λ r. MadeOrNot (Err r) (parts l (g.H.Heap.content c.allocate_here.new.self) (view_of s)) w (as_named (named_type l.program) o))
+    (sym c.halt_of.ensures)
     (subst (λ d. MadeOrNot (Err (halt_from c.in-Err.fault)) (parts l d (view_of s)) w (as_named (named_type l.program) o)) (sym c.in-Err.ensures.same)
     (refused_here l (g.H.Heap.content s.heap) (view_of s) w h o c.in-Err.fault c.in-Err.ensures.err))

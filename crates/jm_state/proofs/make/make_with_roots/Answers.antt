@@ -25,7 +25,8 @@ returns-in-Ok-clause-made g c w h =
     let t = c.put_back.new.state in
     let o = new_object c.args.shape in
     subst (λ d. MadeOrNot (Ok c.in-Ok.place) (parts l d (view_of t)) w (as_named (named_type l.program) o)) (sym (ap g.H.Heap.content c.put_back.ensures.heap))
-    (made_back l (g.H.Heap.content s.heap) (g.H.Heap.content c.allocate-made.new.self) (view_of s) (view_of t) _ _ (counted c.requires.0) c.in_ok-roots.ensures c.put_back.ensures.places w h c.in-Ok.place o c.in-Ok.ensures.ok)
+    (made_back l (g.H.Heap.content s.heap) (g.H.Heap.content c.allocate-made.new.self) (view_of s) (view_of t) _ _
+    (counted c.requires.0) c.in_ok-roots.ensures c.put_back.ensures.places w h c.in-Ok.place o c.in-Ok.ensures.ok)
 
 pub returns-clause-made : goal.returns-clause-made
 returns-clause-made g c w h =
@@ -34,8 +35,10 @@ returns-clause-made g c w h =
     let t = c.put_back.new.state in
     let o = new_object c.args.shape in
     subst (λ r. MadeOrNot (Err r) (parts l (g.H.Heap.content t.heap) (view_of t)) w (as_named (named_type l.program) o)) (sym c.halt_of.ensures)
-    (subst (λ d. MadeOrNot (Err (halt_from c.in-Err.fault)) (parts l d (view_of t)) w (as_named (named_type l.program) o)) (sym (ap g.H.Heap.content c.put_back.ensures.heap))
-    (refused_back l (g.H.Heap.content s.heap) (g.H.Heap.content c.allocate-made.new.self) (view_of s) (view_of t) _ _ (counted c.requires.0) c.in_ok-roots.ensures c.put_back.ensures.places w h c.in-Err.fault o c.in-Err.ensures.kept c.in-Err.ensures.next c.in-Err.ensures.err))
+    (subst (λ d. MadeOrNot (Err (halt_from c.in-Err.fault)) (parts l d (view_of t)) w (as_named (named_type l.program) o))
+    (sym (ap g.H.Heap.content c.put_back.ensures.heap))
+    (refused_back l (g.H.Heap.content s.heap) (g.H.Heap.content c.allocate-made.new.self) (view_of s) (view_of t) _ _ (counted c.requires.0)
+    c.in_ok-roots.ensures c.put_back.ensures.places w h c.in-Err.fault o c.in-Err.ensures.kept c.in-Err.ensures.next c.in-Err.ensures.err))
 
 pub returns-in-Ok-clause-runs : goal.returns-in-Ok-clause-runs
 returns-in-Ok-clause-runs g c = runs_alike c.put_back.ensures.places.moved c.requires.0

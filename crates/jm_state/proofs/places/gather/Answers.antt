@@ -16,10 +16,14 @@ returns g c =
     let ms = (list_shape held_monitor_shape).refs s.monitors.items in
     let ls = (list_shape number_shape).refs s.literals.items in
     let threads : c.push_threads.new.roots ≡ ts =
-    c.in_ok-push_threads.ensures ∙ ap (λ xs. c.new-roots.result ++ flat_map thread_places xs) c.deref.ensures.value ∙ ap (λ l. l ++ flat_map thread_places s.threads.items) c.new-roots.ensures
+    c.in_ok-push_threads.ensures ∙ ap (λ xs. c.new-roots.result ++ flat_map thread_places xs) c.deref.ensures.value
+    ∙ ap (λ l. l ++ flat_map thread_places s.threads.items) c.new-roots.ensures
     ∙ gathered_mapped held_thread_shape.refs held_thread s.threads.items in
-    let statics : c.push_statics.new.roots ≡ ts ++ ss = c.in_ok-push_statics.ensures ∙ ap (λ xs. c.push_threads.new.roots ++ stack_shape.refs xs) c.deref-2.ensures.value ∙ ap (λ l. l ++ ss) threads in
+    let statics : c.push_statics.new.roots ≡ ts ++ ss =
+    c.in_ok-push_statics.ensures ∙ ap (λ xs. c.push_threads.new.roots ++ stack_shape.refs xs) c.deref-2.ensures.value ∙ ap (λ l. l ++ ss) threads in
     let monitors : c.push_monitors.new.roots ≡ ts ++ ss ++ ms =
-    c.in_ok-push_monitors.ensures ∙ ap (λ xs. c.push_statics.new.roots ++ (list_shape held_monitor_shape).refs xs) c.deref-3.ensures.value ∙ ap (λ l. l ++ ms) statics in
-    c.in_ok-push_literals.ensures ∙ ap (λ xs. c.push_monitors.new.roots ++ (list_shape number_shape).refs xs) c.deref-4.ensures.value ∙ ap (λ l. l ++ ls) monitors
+    c.in_ok-push_monitors.ensures ∙ ap (λ xs. c.push_statics.new.roots ++ (list_shape held_monitor_shape).refs xs) c.deref-3.ensures.value
+    ∙ ap (λ l. l ++ ms) statics in
+    c.in_ok-push_literals.ensures ∙ ap (λ xs. c.push_monitors.new.roots ++ (list_shape number_shape).refs xs) c.deref-4.ensures.value
+    ∙ ap (λ l. l ++ ls) monitors
     ∙ append_assoc (ts ++ ss) ms ls ∙ append_assoc ts ss (ms ++ ls)

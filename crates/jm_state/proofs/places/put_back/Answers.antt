@@ -41,7 +41,8 @@ returns-clause-places g c =
     let fourth : iter_rest c.put_monitors.new.places ≡ drop (length (of_monitors.refs s.monitors.items)) after_statics =
     c.put_monitors.ensures.left ∙ ap (λ xs. drop (length (of_monitors.refs xs)) (iter_rest c.put_statics.new.places)) c.deref_mut-3.ensures.value
     ∙ ap (drop (length (of_monitors.refs s.monitors.items))) third in
-    let literals : (with_items s.literals c.put_literals.new.literals).items ≡ of_literals.refill (drop (length (of_monitors.refs s.monitors.items)) after_statics) s.literals.items =
+    let after_monitors = drop (length (of_monitors.refs s.monitors.items)) after_statics in
+    let literals : (with_items s.literals c.put_literals.new.literals).items ≡ of_literals.refill after_monitors s.literals.items =
     written_back c.put_literals.new.literals s.literals.items s.literals.len (omega arith)
     ∙ c.put_literals.ensures ∙ ap (of_literals.refill (iter_rest c.put_monitors.new.places)) c.deref_mut-4.ensures.value
     ∙ ap (λ ns. of_literals.refill ns s.literals.items) fourth in

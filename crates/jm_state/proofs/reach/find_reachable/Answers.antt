@@ -12,7 +12,8 @@ search-requires-clause-sound g c =
 pub search-requires-clause-resident : goal.search-requires-clause-resident
 search-requires-clause-resident g c =
     let s = c.args.state.now in
-    all_resident c.args.linked.now (g.H.Heap.content s.heap) (view_of s) c.requires.1 (counted c.requires.0) c.requires.2 _ (c.as_slice.ensures ∙ c.in_ok-roots.ensures)
+    all_resident c.args.linked.now (g.H.Heap.content s.heap) (view_of s) c.requires.1 (counted c.requires.0) c.requires.2 _
+    (c.as_slice.ensures ∙ c.in_ok-roots.ensures)
 
 pub returns : goal.returns
 returns g c =

@@ -11,9 +11,12 @@ returns-in_ok-push g c =
     let heap = g.H.Heap.content c.args.heap.now in
     let seen = c.args.seen.now.keys in
     let keys = c.in_ok-insert.ensures.keys in
-    let sorted : IsStrictlySortedBy nat_cmp (insert_key nat_cmp seen c.serial.result) = subst (IsStrictlySortedBy nat_cmp) keys c.in_ok-insert.ensures.ordered in
-    let long : length (insert_key nat_cmp seen c.serial.result) ≡ length seen + 1 = sym (ap length keys) ∙ c.in_ok-insert.ensures.len ∙ ap (λ b. length seen + cond b 1 0) c.if-branch.true in
-    rw (keys, c.in_ok-push.ensures.items) (marked_now heap seen c.args.pending.now.items c.args.place c.serial.result c.serial.ensures long (keys_differ (insert_key nat_cmp seen c.serial.result) sorted))
+    let sorted : IsStrictlySortedBy nat_cmp (insert_key nat_cmp seen c.serial.result) =
+    subst (IsStrictlySortedBy nat_cmp) keys c.in_ok-insert.ensures.ordered in
+    let long : length (insert_key nat_cmp seen c.serial.result) ≡ length seen + 1 =
+    sym (ap length keys) ∙ c.in_ok-insert.ensures.len ∙ ap (λ b. length seen + cond b 1 0) c.if-branch.true in
+    rw (keys, c.in_ok-push.ensures.items) (marked_now heap seen c.args.pending.now.items c.args.place c.serial.result c.serial.ensures long
+    (keys_differ (insert_key nat_cmp seen c.serial.result) sorted))
 
 pub returns-else-branch : goal.returns-else-branch
 returns-else-branch g c =

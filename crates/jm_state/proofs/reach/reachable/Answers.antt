@@ -13,7 +13,8 @@ mark-requires-clause-sound g c =
 pub mark-requires-clause-resident : goal.mark-requires-clause-resident
 mark-requires-clause-resident g c =
     let s = c.args.state.now in
-    all_resident c.args.linked.now (g.H.Heap.content s.heap) (view_of s) c.requires.1 (counted c.requires.0) c.requires.2 _ (c.as_slice.ensures ∙ c.in_ok-roots.ensures)
+    all_resident c.args.linked.now (g.H.Heap.content s.heap) (view_of s) c.requires.1 (counted c.requires.0) c.requires.2 _
+    (c.as_slice.ensures ∙ c.in_ok-roots.ensures)
 
 pub returns : goal.returns
 returns g c =
@@ -21,5 +22,6 @@ returns g c =
     let n = counted c.requires.0 in
     let gathered = c.as_slice.ensures ∙ c.in_ok-roots.ensures in
     if_ok c.rising.result _ _
-    (λ serials e. λ w h. subst (AreReachable w) (sym e) (reaches c.args.linked.now (g.H.Heap.content s.heap) (view_of s) w n h _ gathered c.in_ok-seen.seen.keys c.in_ok-seen.ensures c.rising.ensures.rising))
+    (λ serials e. λ w h. subst (AreReachable w) (sym e)
+    (reaches c.args.linked.now (g.H.Heap.content s.heap) (view_of s) w n h _ gathered c.in_ok-seen.seen.keys c.in_ok-seen.ensures c.rising.ensures.rising))
     c.rising.ensures.same

@@ -1,6 +1,6 @@
 use Rattle.jm_interp.proofs.OnThread.{does_as}
 use Rattle.jm_interp.proofs.PushRow.{value_held, pushed_is}
-use Rattle.jm_interp.proofs.pushing.push_value.Goals as goal
+use Rattle.jm_interp.proofs.constants.push_value.Goals as goal
 
 pub push-requires-clause-here : goal.push-requires-clause-here
 push-requires-clause-here g c = (c.requires.1.method, c.requires.1.room)

@@ -21,7 +21,8 @@ use jm_world::Stop;
 pub(crate) fn push<H: Heap>(at: At<'_>, state: &mut State<H>, value: Value) -> Result<StepEnd, Halt>
     requires here { (h : InMethod H.content at state.old) × (h.frame.activation.at + 1 < 2 ^ 64) }
     requires held { Holds H.content at state.old value }
-    ensures { Does H.content at.entry state.old result state.new (in_method (λ here. here_push here (rename (name_of (H.content state.old.heap)) value) here.frame.stack)) }
+    ensures { Does H.content at.entry state.old result state.new
+        (in_method (λ here. here_push here (rename (name_of (H.content state.old.heap)) value) here.frame.stack)) }
 {
     match push_top(&mut state.threads[at.index], value) {
         Ok(()) => Ok(StepEnd::Done),

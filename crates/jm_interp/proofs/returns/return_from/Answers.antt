@@ -1,6 +1,6 @@
 use Rattle.jm_interp.proofs.OnThread.{within, read}
 use Rattle.jm_interp.proofs.ReturnRow.{as_void, value_faults}
-use Rattle.jm_interp.proofs.returning.return_from.Goals as goal
+use Rattle.jm_interp.proofs.returns.return_from.Goals as goal
 
 pub return_void-requires : goal.return_void-requires
 return_void-requires g c = as_void c.in-Void.is c.requires

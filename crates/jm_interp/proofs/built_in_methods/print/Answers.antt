@@ -3,7 +3,7 @@ use Rattle.jm_interp.proofs.Objects.{lies}
 use Rattle.jm_interp.proofs.OnThread.{within, read, with_thread_at}
 use Rattle.jm_interp.proofs.PrintRow.{print_faults, print_throws, receiver_object, other_faults, prints, runs_on}
 use Rattle.jm_state.proofs.Runs.{runs_still}
-use Rattle.jm_interp.proofs.printing.print.Goals as goal
+use Rattle.jm_interp.proofs.built_in_methods.print.Goals as goal
 
 pub returns-in-Err : goal.returns-in-Err
 returns-in-Err g c = print_faults c.args.method c.requires c.index.ensures c.in-Err.ensures
@@ -18,7 +18,9 @@ pub class_of-requires : goal.class_of-requires
 class_of-requires g c = lies c.requires.method.on (receiver_object c.args.method c.requires c.index.ensures c.in-Ok.ensures c.in-Some.is)
 
 pub returns-then-not-is_print_stream : goal.returns-then-not-is_print_stream
-returns-then-not-is_print_stream g c = other_faults c.args.method c.requires c.index.ensures c.in-Ok.ensures c.in-Some.is c.class_of.ensures c.is_print_stream.ensures c.if-not-is_print_stream.true
+returns-then-not-is_print_stream g c =
+    other_faults c.args.method c.requires c.index.ensures c.in-Ok.ensures c.in-Some.is c.class_of.ensures c.is_print_stream.ensures
+    c.if-not-is_print_stream.true
 
 pub index_mut-requires : goal.index_mut-requires
 index_mut-requires g c = within c.requires.method.on
@@ -29,7 +31,11 @@ pop_operands-requires g c = (_, _, _, read c.requires.method.on c.index_mut.ensu
 pub returns-in-Ok-extend_from_slice : goal.returns-in-Ok-extend_from_slice
 returns-in-Ok-extend_from_slice g c =
     let gone = c.pop_operands.ensures _ _ _ (read c.requires.method.on c.index_mut.ensures.value) in
-    let written = c.in-Ok-extend_from_slice.ensures.items ∙ ap (λ z. c.args.state.now.output.items ++ z) (c.as_slice.ensures.value ∙ c.in-Ok-printed_bytes.ensures) in
+    let written =
+    c.in-Ok-extend_from_slice.ensures.items ∙ ap (λ z. c.args.state.now.output.items ++ z) (c.as_slice.ensures.value ∙ c.in-Ok-printed_bytes.ensures) in
     let new = record (with_thread_at c.args.state.now c.args.at.index c.pop_operands.new.thread) { output = c.extend_from_slice.new.self } in
-    prints c.args.method c.requires c.index.ensures c.in-Ok.ensures c.in-Some.is c.class_of.ensures c.is_print_stream.ensures c.if-not-is_print_stream.false {new = new}
-    (record { threads = refl; statics = refl; literals = refl; monitors = refl; heap = refl; stop = refl }) refl (runs_still c.extend_from_slice.new.self.items c.args.state.now.stop (runs_on c.args.method c.requires gone)) gone written
+    prints c.args.method c.requires c.index.ensures c.in-Ok.ensures c.in-Some.is c.class_of.ensures c.is_print_stream.ensures c.if-not-is_print_stream.false
+    {new =
+    new}
+    (record { threads = refl; statics = refl; literals = refl; monitors = refl; heap = refl; stop = refl }) refl
+    (runs_still c.extend_from_slice.new.self.items c.args.state.now.stop (runs_on c.args.method c.requires gone)) gone written

@@ -1,6 +1,6 @@
 use Rattle.jm_interp.proofs.OnThread.{within, read}
 use Rattle.jm_interp.proofs.ReturnRow.{last_returns, on_two, returns_below, stays_there}
-use Rattle.jm_interp.proofs.returning.return_void.Goals as goal
+use Rattle.jm_interp.proofs.returns.return_void.Goals as goal
 
 pub returns-then-len-lt2 : goal.returns-then-len-lt2
 returns-then-len-lt2 g c = last_returns c.requires c.index.ensures c.len.ensures c.if-len-lt2.true c.end_thread.ensures

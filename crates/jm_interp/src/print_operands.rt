@@ -86,7 +86,8 @@ fn with_text(
 /// operands than it takes; `WrongTag`: one is of another type.
 pub(crate) fn operands_of(thread: &Thread, method: PrintMethod) -> Result<Printing, TagFault>
     requires { (f : FrameView) × (below : List StackFrame) × (r : ThreadRest) × Stands thread.now (Method f ∷ below) r }
-    ensures { (f : FrameView) (below : List StackFrame) (r : ThreadRest) → Stands thread.now (Method f ∷ below) r → result ≡ printing_of method f.activation.stack }
+    ensures { (f : FrameView) (below : List StackFrame) (r : ThreadRest) → Stands thread.now (Method f ∷ below) r
+        → result ≡ printing_of method f.activation.stack }
 {
     let Some(top) = thread.frames.last() else {
         unreachable!();
@@ -110,7 +111,8 @@ pub(crate) fn operands_of(thread: &Thread, method: PrintMethod) -> Result<Printi
 /// Pops the operands of a method in the top frame, and goes on.
 pub(crate) fn pop_operands(thread: &mut Thread, method: PrintMethod)
     requires { (f : FrameView) × (below : List StackFrame) × (r : ThreadRest) × Stands thread.old (Method f ∷ below) r × (f.activation.at + 1 < 2 ^ 64) }
-    ensures { (f : FrameView) (below : List StackFrame) (r : ThreadRest) → Stands thread.old (Method f ∷ below) r → Stands thread.new (Method (gone_to (with_stack f (left_by method f.activation.stack)) (f.activation.at + 1)) ∷ below) r }
+    ensures { (f : FrameView) (below : List StackFrame) (r : ThreadRest) → Stands thread.old (Method f ∷ below) r
+        → Stands thread.new (Method (gone_to (with_stack f (left_by method f.activation.stack)) (f.activation.at + 1)) ∷ below) r }
 {
     if let Some(top) = thread.frames.last_mut() {
         match top {

@@ -8,7 +8,7 @@ ghost use Rattle.jm_interp.specs.Printing.{is_print_stream};
 
 use crate::at::At;
 use crate::class_number::{PRINT_STREAM, null_pointer_exception};
-use crate::operands::{operands_of, pop_operands};
+use crate::print_operands::{operands_of, pop_operands};
 use crate::text::printed_bytes;
 use crate::throwing::throws;
 use jm_heap::{ClassId, Heap};
