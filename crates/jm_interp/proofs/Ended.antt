@@ -1,5 +1,5 @@
 -- A thread that has ended.
-use Rattle.std.proofs.Common.{◌≡◌, ℕ, ◌+◌, ◌<◌, arith, List, [], Option, None, false, inl, inr, refl, sym, ap, ◌∙◌, subst}
+use Rattle.std.proofs.Common.{◌≡◌, ℕ, ◌+◌, ◌<◌, arith, List, [], Option, None, false, refl, sym, ap, ◌∙◌, subst}
 use Rattle.std.specs.Prelude.{slice_set, map, option_map, Ok}
 use Rattle.jm_values.specs.Shape.{Among}
 use Rattle.jm_world.specs.Frames.{optional_number_shape}

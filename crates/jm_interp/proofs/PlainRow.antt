@@ -32,7 +32,6 @@ use Rattle.jm_state.specs.declared.halt.Halt.TheVariants.{Stopped}
 use Rattle.jm_state.specs.declared.halt.StepEnd.{StepEnd}
 use Rattle.jm_state.specs.declared.halt.StepEnd.TheVariants.{Done}
 use Rattle.jm_state.specs.declared.state.State.{State}
-use Rattle.jm_state.specs.declared.thread.Ending.TheVariants.{Running}
 use Rattle.jm_state.specs.declared.thread.StackFrame.TheVariants.{Method}
 use Rattle.jm_state.specs.declared.thread.Thread as held
 use Rattle.jm_interp.specs.declared.at.At.{At}

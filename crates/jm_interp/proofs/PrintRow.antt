@@ -42,7 +42,6 @@ use Rattle.jm_linked.specs.declared.instruction.PrintMethod.TheVariants.{Print, 
 use Rattle.jm_linked.specs.Named.{named_states}
 use Rattle.jm_state.specs.Parts.{parts, named_type, element_named}
 use Rattle.jm_state.specs.declared.state.State.{State}
-use Rattle.jm_state.specs.declared.thread.Ending.TheVariants.{Running}
 use Rattle.jm_state.specs.declared.thread.StackFrame.TheVariants.{Method}
 use Rattle.jm_state.specs.declared.thread.Thread as held
 use Rattle.jm_interp.specs.declared.print_operands.Printing.{Printing}
@@ -62,7 +61,6 @@ use Rattle.jm_state.specs.declared.halt.Halt.{Halt}
 use Rattle.jm_state.specs.declared.halt.Halt.TheVariants.{Stopped}
 use Rattle.jm_state.specs.declared.halt.StepEnd.{StepEnd}
 use Rattle.jm_state.specs.declared.halt.StepEnd.TheVariants.{Done}
-use Rattle.jm_state.specs.declared.thread.Ending as code
 use Rattle.jm_state.specs.declared.thread.StackFrame.{StackFrame}
 use Rattle.jm_interp.specs.declared.at.At.{At}
 use Rattle.jm_interp.specs.At.{parts_at, StandsOn, Does, Steps}

@@ -1,5 +1,5 @@
 -- A stage of unwinding beside the model's.
-use Rattle.std.proofs.Common.{◌≡◌, ℕ, ◌+◌, ◌<◌, ◌≤◌, List, [], ◌∷◌, Option, Some, None, refl, sym, ap, ◌∙◌, subst, inl, inr, length, arith, length-append}
+use Rattle.std.proofs.Common.{◌≡◌, ℕ, ◌+◌, ◌<◌, ◌≤◌, List, [], ◌∷◌, Some, None, refl, sym, ap, ◌∙◌, inl, inr, length, arith, length-append}
 use Rattle.std.specs.Prelude.{map, option_map, unwrap_or, Ok, vec_len}
 use Rattle.std.proofs.lemmas.List.{length-reverse, length-map}
 use Rattle.std.proofs.lemmas.Option.{slice_get_past}
@@ -27,8 +27,6 @@ use Rattle.jm_linked.specs.Links.{LinkedView, IsLinked, name_of_number, class_na
 use Rattle.jm_state.specs.Parts.{parts, frame_part, named_type}
 use Rattle.jm_state.specs.declared.halt.StepEnd.TheVariants.{Done}
 use Rattle.jm_state.specs.declared.state.State.{State}
-use Rattle.jm_state.specs.declared.thread.Ending as code
-use Rattle.jm_state.specs.declared.thread.Ending.TheVariants.{Running}
 use Rattle.jm_state.specs.declared.thread.StackFrame.{StackFrame}
 use Rattle.jm_state.specs.declared.thread.StackFrame.TheVariants.{Method, Initialization}
 use Rattle.jm_state.specs.declared.thread.Thread as held

@@ -1,5 +1,5 @@
 -- What a return leaves.
-use Rattle.std.specs.Prelude.{◌≡◌, ℕ, ◌+◌, List, [], ◌∷◌, Result, Ok, Err, nat_le, true, false}
+use Rattle.std.specs.Prelude.{◌≡◌, ◌+◌, List, [], ◌∷◌, Result, Ok, Err, nat_le, true, false}
 use Rattle.jm_frames.specs.FrameView.{FrameView, gone_to}
 use Rattle.jm_values.specs.Activation.{units}
 use Rattle.jm_values.specs.declared.value.Value.{Value}

@@ -1,5 +1,5 @@
 -- What the calls on a thread and on a state leave.
-use Rattle.std.specs.Prelude.{◌≡◌, ℕ, List, ◌∷◌}
+use Rattle.std.specs.Prelude.{◌≡◌, List, ◌∷◌}
 use Rattle.jm_frames.specs.FrameView.{FrameView}
 use Rattle.jm_values.specs.Activation.{Activation}
 use Rattle.jm_values.specs.Outcome.{Outcome, goes, throws, faults}

@@ -1,14 +1,12 @@
 -- After a full collection exactly what the world reaches is resident.
 use Rattle.std.proofs.Common.{◌≡◌, ℕ, ◌<◌, List, [], ◌∷◌, Option, Some, None, refl, sym, ◌∙◌, length, arith, zero, suc}
 use Rattle.std.specs.Prelude.{slice_get, option_map, Result, Ok, Err, OnOk}
-use Rattle.jm_values.specs.declared.value.Value.{Value}
 use Rattle.jm_values.specs.Content.{Content, object_at}
 use Rattle.jm_world.specs.Matches.{Matches, as_named}
 use Rattle.jm_world.specs.Objects.{Object}
 use Rattle.jm_values.specs.Objects.{ObjectOf}
 use Rattle.jm_world.specs.Types.{ObjectType}
 use Rattle.jm_world.specs.World.{World}
-use Rattle.jm_world.specs.declared.class_state.ClassState.{ClassState}
 use Rattle.jm_world.specs.declared.event.Event.{Event}
 use Rattle.jm_world.specs.declared.event.Event.TheVariants.{Step, Minor, Full}
 use Rattle.jm_world.specs.declared.stop.Stop.{Stop}
@@ -18,7 +16,6 @@ use Rattle.jm_heap.specs.declared.heap.Kind.TheVariants as kind
 use Rattle.jm_linked.specs.Links.{LinkedView}
 use Rattle.jm_state.specs.Parts.{parts}
 use Rattle.jm_state.specs.Reached.{LeavesReachable}
-use Rattle.jm_state.specs.declared.thread.Thread.{Thread}
 use Rattle.jm_state.specs.View.{StateView}
 use Rattle.jm_machine.specs.Collected.{HoldsReachable, LeavesAfter}
 

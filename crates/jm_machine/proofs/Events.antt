@@ -3,7 +3,6 @@ use Rattle.std.proofs.Common.{◌≡◌, ℕ, zero, suc, ◌+◌, ◌-◌, ◌�
 use Rattle.std.specs.Prelude.{map, slice_get, option_map, is_some}
 use Rattle.std.proofs.lemmas.Option.{slice_get-map}
 use Rattle.std.proofs.lemmas.List.{length-map}
-use Rattle.jm_values.specs.declared.value.Value.{Value}
 use Rattle.jm_world.specs.World.{World, Thread, thread_at, is_running, live_among}
 use Rattle.jm_world.specs.Renaming.{rename_thread}
 use Rattle.jm_values.specs.Content.{Content, name_of}
@@ -11,7 +10,6 @@ use Rattle.jm_world.specs.Next.{Next, goes, stops, blocks}
 use Rattle.jm_world.specs.Matches.{Parts, Matches}
 use Rattle.jm_world.specs.Run.{After, after, after_event, after_thread, after_step, answered, reply}
 use Rattle.jm_world.specs.Stepping.{step_thread}
-use Rattle.jm_world.specs.declared.class_state.ClassState.{ClassState}
 use Rattle.jm_world.specs.declared.event.Event.{Event}
 use Rattle.jm_world.specs.declared.event.Event.TheVariants.{Step}
 use Rattle.jm_world.specs.declared.reply.ReplyKind.{ReplyKind}

@@ -1,22 +1,18 @@
 -- What a machine's readers read beside the world.
-use Rattle.std.proofs.Common.{◌≡◌, ℕ, zero, suc, List, [], ◌∷◌, Option, Some, None, refl, sym, ap, ◌∙◌, subst, inl, length}
+use Rattle.std.proofs.Common.{◌≡◌, ℕ, zero, suc, List, [], ◌∷◌, Option, Some, None, refl, sym, ap, ◌∙◌, subst, inl}
 use Rattle.std.specs.Prelude.{slice_get, map, reverse, option_map}
 use Rattle.std.specs.List.{AllByRecursion}
 use Rattle.std.proofs.lemmas.Option.{slice_get-map}
 use Rattle.jm_values.specs.Shape.{Among, list_shape}
 use Rattle.jm_values.specs.Rename.{stack_shape}
-use Rattle.jm_values.specs.declared.value.Value.{Value}
 use Rattle.jm_values.proofs.Among.{among_left, among_right}
 use Rattle.jm_values.specs.Content.{Content, IsSound, AllResident, serial_at, name_of}
 use Rattle.jm_values.specs.Content as content
 use Rattle.jm_world.specs.Frames.{rename_frame, optional_number_shape}
-use Rattle.jm_world.specs.Loading.{first_statics}
 use Rattle.jm_world.specs.Matches.{Matches, as_named}
 use Rattle.jm_world.specs.Monitors.{monitor_in}
 use Rattle.jm_world.specs.Renaming.{rename_thread, monitor_shape}
 use Rattle.jm_world.specs.World.{World, thread_at, object_at, reach}
-use Rattle.jm_world.specs.declared.class_state.ClassState.{ClassState}
-use Rattle.jm_world.specs.declared.stop.Stop.{Stop}
 use Rattle.jm_world.proofs.Reaching.{reach_is_least}
 use Rattle.jm_heap.specs.declared.class_id.ClassId.{ClassId}
 use Rattle.jm_linked.specs.Links.{LinkedView}

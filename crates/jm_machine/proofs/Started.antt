@@ -9,7 +9,6 @@ use Rattle.jm_program.specs.declared.class.ClassParts.{ClassParts}
 use Rattle.jm_program.specs.declared.class.Method.{Method}
 use Rattle.jm_values.specs.Shape.{list_shape}
 use Rattle.jm_values.specs.Rename.{locals_shape, rename_activation}
-use Rattle.jm_values.specs.declared.value.Value.{Value}
 use Rattle.jm_values.specs.declared.value.Value.TheVariants.{Ref}
 use Rattle.jm_world.specs.Classes.{name_of_method, MethodName, method_named, print_stream_class, string_class}
 use Rattle.jm_world.specs.Objects.{Object, cells_of_all, new_array, size_of}

@@ -6,12 +6,12 @@ use Rattle.jm_values.specs.Shape.{Shape, list_shape, pair_shape}
 use Rattle.jm_values.specs.Rename.{value_shape, stack_shape}
 use Rattle.jm_values.specs.declared.value.Value.{Value}
 use Rattle.jm_values.specs.Content.{Content}
-use Rattle.jm_world.specs.Frames.{Frame, frame_shape, frames_shape, number_shape, optional_number_shape}
+use Rattle.jm_world.specs.Frames.{Frame, frame_shape, number_shape, optional_number_shape}
 use Rattle.jm_world.specs.World as world
 use Rattle.jm_world.specs.World.{held_shape}
 use Rattle.jm_world.specs.Loading.{first_statics, literal_texts}
 use Rattle.jm_world.specs.Matches.{Parts, places}
-use Rattle.jm_world.specs.Renaming.{thread_shape, static_shape, monitor_shape, literal_shape, refill_by}
+use Rattle.jm_world.specs.Renaming.{thread_shape, static_shape, monitor_shape, literal_shape}
 use Rattle.jm_heap.specs.declared.class_id.ClassId.{ClassId}
 use Rattle.jm_linked.specs.Links.{LinkedView}
 use Rattle.jm_linked.specs.Named.{named_statics, named_literals}

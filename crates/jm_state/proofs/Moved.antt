@@ -1,11 +1,10 @@
 -- Parts of a machine whose places have moved with their objects match the same world, and those of
 -- one whose heap has made an object the world with that object.
-use Rattle.std.proofs.Common.{◌≡◌, ℕ, zero, suc, ◌+◌, ◌<◌, ◌∷◌, ◌++◌, List, [], Option, Some, length, refl, sym, ap, ◌∙◌, subst, arith, length-append}
+use Rattle.std.proofs.Common.{◌≡◌, ℕ, zero, suc, ◌+◌, ◌<◌, ◌∷◌, ◌++◌, List, [], Some, length, refl, sym, ap, ◌∙◌, subst, arith, length-append}
 use Rattle.std.specs.Prelude.{map, slice_get, option_map}
 use Rattle.std.proofs.lemmas.List.{append-nil, length-map}
-use Rattle.jm_program.specs.declared.class.ClassParts.{ClassParts}
 use Rattle.jm_values.specs.Shape.{IsShape, Among, list_shape, pair_shape}
-use Rattle.jm_values.specs.Content.{Content, Kept, Made, Reached, AllResident, name_of, object_at, serial_at}
+use Rattle.jm_values.specs.Content.{Content, Kept, Made, Reached, name_of, object_at, serial_at}
 use Rattle.jm_values.specs.Objects.{ObjectOf, refs_of}
 use Rattle.jm_values.specs.Reach.{Reach, root, field}
 use Rattle.jm_values.proofs.Among.{same_names}
@@ -13,14 +12,13 @@ use Rattle.jm_values.proofs.Reaching.{reach_within}
 use Rattle.jm_values.proofs.Shapes.{list_is_shape, pair_is_shape}
 use Rattle.jm_world.specs.Objects.{Object}
 use Rattle.jm_world.specs.Types.{ObjectType}
-use Rattle.jm_world.specs.World.{World, Static, Monitor, Literal, Progress, roots}
+use Rattle.jm_world.specs.World.{World, roots}
 use Rattle.jm_world.specs.Matches.{Parts, Matches, places, as_named}
 use Rattle.jm_world.specs.Renaming.{thread_shape, static_shape, monitor_shape, literal_shape}
-use Rattle.jm_world.specs.declared.stop.Stop.{Stop}
 use Rattle.jm_world.proofs.Matching.{reaches_alike}
 use Rattle.jm_world.proofs.ShapesOfParts.{thread_is_shape, static_is_shape, monitor_is_shape, literal_is_shape}
 use Rattle.jm_state.specs.Ends.{with_object}
-use Rattle.jm_state.proofs.Alike.{Held, held_of, parts_shape, places_held}
+use Rattle.jm_state.proofs.Alike.{Held, held_of, parts_shape}
 
 get_before : {A : Type 0} (xs : List A) (y : A) (k : ℕ) → k < length xs → slice_get (xs ++ y ∷ []) k ≡ slice_get xs k
 get_before [] y k h = absurd (omega arith)

@@ -11,9 +11,9 @@ use Rattle.jm_world.specs.World.{live_among, is_running}
 use Rattle.jm_world.specs.declared.class_state.ClassState.TheVariants.{Failed}
 use Rattle.jm_world.specs.declared.stop.Stop.{Stop}
 use Rattle.jm_linked.specs.Links.{LinkedView}
-use Rattle.jm_state.specs.Parts.{part_of_held, thread_part, ending_part}
+use Rattle.jm_state.specs.Parts.{part_of_held, ending_part}
 use Rattle.jm_state.specs.Places.{with_method_holders, stack_frame_shape, rename_stack_frame, HeldThread, held_thread, held_thread_shape, held_monitor_shape}
-use Rattle.jm_state.specs.Places.{with_thread_holders, thread_holders, Holders, holders, holders_shape, erased, OnlyMoved, IsPutBack}
+use Rattle.jm_state.specs.Places.{with_thread_holders, Holders, holders, holders_shape, erased, OnlyMoved, IsPutBack}
 use Rattle.jm_state.specs.Runnable.{FrameRuns, IsMethodFrame, HoldsNoMonitor, StandOnTop, ThreadRuns, ThreadNotYet, IsRunnable}
 use Rattle.jm_state.specs.View.{StateView}
 use Rattle.jm_state.specs.declared.monitor.Monitor.{Monitor}
@@ -21,7 +21,6 @@ use Rattle.jm_state.specs.declared.thread.Ending.{Ending}
 use Rattle.jm_state.specs.declared.thread.Ending.TheVariants.{Running, Returned, EndedBy}
 use Rattle.jm_state.specs.declared.thread.StackFrame.{StackFrame}
 use Rattle.jm_state.specs.declared.thread.StackFrame.TheVariants.{Method, Initialization}
-use Rattle.jm_state.specs.declared.thread.Thread.{Thread}
 use Rattle.jm_state.proofs.Alike.{threads_seen}
 
 -- other references leave what there is without them

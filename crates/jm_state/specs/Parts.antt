@@ -1,5 +1,5 @@
 -- The parts of a machine that a state stands for, each thing by its name.
-use Rattle.std.specs.Prelude.{ℕ, List, [], ◌∷◌, map, reverse, Option, Some, None, slice_get}
+use Rattle.std.specs.Prelude.{ℕ, List, [], map, reverse, Option, Some, None, slice_get}
 use Rattle.jm_program.specs.declared.class.ClassParts.{ClassParts}
 use Rattle.jm_program.specs.declared.descriptor.ElementType.{ElementType}
 use Rattle.jm_program.specs.declared.descriptor.ElementType.TheVariants as type

@@ -1,5 +1,5 @@
 -- What every state of a run of a linked program keeps to, beside its world.
-use Rattle.std.specs.Prelude.{◌≡◌, ◌≢◌, ◌<◌, ◌≤◌, ℕ, List, [], ◌∷◌, length, map, reverse, Option, Some, None}
+use Rattle.std.specs.Prelude.{◌≡◌, ◌≢◌, ◌<◌, ◌≤◌, ℕ, List, [], ◌∷◌, length, map, Option, Some, None}
 use Rattle.std.specs.List.{AllByRecursion}
 use Rattle.jm_world.specs.World.{live_among}
 use Rattle.jm_world.specs.Loading.{first_statics, literal_texts}

@@ -1,4 +1,4 @@
-use Rattle.std.proofs.Common.{ap, arith, refl}
+use Rattle.std.proofs.Common.{ap, arith}
 use Rattle.std.specs.Prelude.{None, reverse}
 use Rattle.jm_interp.proofs.Ended.{ends, one_lives}
 use Rattle.jm_interp.specs.Standing.{ThreadRest}

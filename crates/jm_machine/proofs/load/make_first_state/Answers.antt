@@ -1,4 +1,4 @@
-use Rattle.std.proofs.Common.{◌≡◌, refl, [], None, sym, subst}
+use Rattle.std.proofs.Common.{refl, [], None, sym, subst}
 use Rattle.jm_values.specs.declared.value.Value.TheVariants.{Ref}
 use Rattle.jm_world.specs.Loading.{loaded_world}
 use Rattle.jm_world.specs.Matches.{Matches}
@@ -7,7 +7,7 @@ use Rattle.jm_state.specs.Runnable.{IsRunnable}
 use Rattle.jm_state.specs.declared.thread.Ending.TheVariants.{Running}
 use Rattle.jm_state.specs.declared.thread.Thread as held
 use Rattle.jm_machine.proofs.Folds.{pushed}
-use Rattle.jm_machine.proofs.Started.{first_view, started, starts, has_room, counted}
+use Rattle.jm_machine.proofs.Started.{started, starts, has_room, counted}
 use Rattle.jm_machine.proofs.load.make_first_state.Goals as goal
 
 pub make_first_objects-requires-clause-room : goal.make_first_objects-requires-clause-room

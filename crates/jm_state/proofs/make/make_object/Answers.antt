@@ -1,4 +1,4 @@
-use Rattle.std.proofs.Common.{Ok, Err, sym, subst}
+use Rattle.std.proofs.Common.{Err, sym, subst}
 use Rattle.jm_world.specs.Matches.{as_named}
 use Rattle.jm_heap.specs.NewObject.{new_object}
 use Rattle.jm_state.specs.Ends.{MadeOrNot, halt_from}
