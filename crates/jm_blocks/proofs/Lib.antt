@@ -1,0 +1,5 @@
+pub mod Spelling
+pub mod Sizes
+pub mod Placing
+pub mod Density
+pub mod Filling

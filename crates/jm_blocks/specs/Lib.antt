@@ -1,0 +1,5 @@
+pub mod Objects
+pub mod Cells
+pub mod Spelled
+pub mod Places
+pub mod Stores

@@ -1,0 +1,88 @@
+-- The objects of a store by their places.
+use Rattle.std.specs.Prelude.{◌≡◌, ◌≢◌, ℕ, ◌-◌, ◌<◌, ◌≤◌, List, [], ◌∷◌, ◌++◌, Option, Some, None, Bool, false, nat_eq, if◌then◌else◌, slice_get, length, map, sum_by}
+use Rattle.jm_blocks.specs.Objects.{Object}
+use Rattle.jm_blocks.specs.Cells.{object_cells, sizes_of, block_cells, has_room}
+use Rattle.jm_blocks.specs.Places.{place_at, lane_of, block_of, index_of}
+
+-- the blocks of a lane, each the list of its objects, under the numbers from 0 on
+pub record Blocks : Type 0 where
+  pub lane : ℕ
+  pub lists : List (List Object)
+
+abbrev pub object_of_list : Option (List Object) → ℕ → Option Object
+object_of_list None k = None
+object_of_list (Some os) k = slice_get os k
+
+-- the object at a place, if there is one
+unfoldable pub objects_in : Blocks → ℕ → Option Object
+objects_in s p = if nat_eq (lane_of p) s.lane then object_of_list (slice_get s.lists (block_of p)) (index_of p) else None
+
+-- a value of this number is there
+abbrev pub HasValue : Blocks → ℕ → ℕ → Type 0
+HasValue s p i = (o : Object) × (objects_in s p ≡ Some o) × (i < length o.values)
+
+-- one place has this object afterwards, and all others have what they had
+pub record Changed (old new : ℕ → Option Object) (p : ℕ) (o : Object) : Type 0 where
+  pub here : new p ≡ Some o
+  pub others : (q : ℕ) → q ≢ p → new q ≡ old q
+
+-- a place above all others has this object afterwards
+pub record Bumped (old new : ℕ → Option Object) (p : ℕ) (o : Object) : Type 0 where
+  pub changed : Changed old new p o
+  pub above : (q : ℕ) (a : Object) → old q ≡ Some a → q < p
+
+-- no object lies from a place on
+abbrev pub IsPast : (ℕ → Option Object) → ℕ → Type 0
+IsPast objects at = (q : ℕ) (a : Object) → objects q ≡ Some a → q < at
+
+-- the first place from a place on that has an object
+pub record IsNext (objects : ℕ → Option Object) (at p : ℕ) : Type 0 where
+  pub from : at ≤ p
+  pub there : (o : Object) × (objects p ≡ Some o)
+  pub first : (q : ℕ) (a : Object) → objects q ≡ Some a → q < p → q < at
+
+-- the blocks with an object more: in the last one, or in one of its own where it has no room there
+abbrev pub with_object : List (List Object) → Object → List (List Object)
+with_object [] o = (o ∷ []) ∷ []
+with_object (b ∷ []) o = if has_room (sizes_of b) (object_cells o) then (b ++ o ∷ []) ∷ [] else b ∷ (o ∷ []) ∷ []
+with_object (b ∷ c ∷ bs) o = b ∷ with_object (c ∷ bs) o
+
+abbrev pub objects_of : Option (List Object) → List Object
+objects_of None = []
+objects_of (Some os) = os
+
+abbrev pub list_has_room : Option (List Object) → ℕ → Bool
+list_has_room None n = false
+list_has_room (Some os) n = has_room (sizes_of os) n
+
+abbrev pub last_of : List (List Object) → Option (List Object)
+last_of bs = slice_get bs (length bs - 1)
+
+-- whether the last block has room for so many cells
+abbrev pub last_has_room : List (List Object) → ℕ → Bool
+last_has_room bs n = list_has_room (last_of bs) n
+
+-- where an object more of so many cells lies
+unfoldable pub next_place : Blocks → ℕ → ℕ
+next_place s n =
+    if last_has_room s.lists n
+    then place_at s.lane (length s.lists - 1) (length (objects_of (last_of s.lists)))
+    else place_at s.lane (length s.lists) 0
+
+-- the cells of all objects
+abbrev pub store_cells : List (List Object) → ℕ
+store_cells bs = sum_by block_cells bs
+
+-- the first size of the next block had no room beside these
+abbrev pub HadNoRoom : List ℕ → List (List ℕ) → Type 0
+HadNoRoom ss [] = Unit {0}
+HadNoRoom ss ([] ∷ rest) = ⊥
+HadNoRoom ss ((n ∷ ns) ∷ rest) = has_room ss n ≡ false
+
+-- each block has an object, and its first one had no room in the block before
+abbrev pub IsDense : List (List ℕ) → Type 0
+IsDense [] = Unit {0}
+IsDense (ss ∷ rest) = (0 < length ss) × HadNoRoom ss rest × IsDense rest
+
+abbrev pub all_sizes : List (List Object) → List (List ℕ)
+all_sizes bs = map sizes_of bs

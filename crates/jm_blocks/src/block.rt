@@ -1,0 +1,163 @@
+// A block of cells.
+
+ghost use Rattle.std.specs.Prelude.{◌≡◌, ◌+◌, ◌<◌, ◌≤◌, ◌^◌, ◌++◌, ◌∷◌, [], Some, None, MatchOption, take, drop, length, slice_get, slice_set, OnOk, OnErr, IsTrue, true};
+ghost use Rattle.jm_heap.specs.Cells.{class_size};
+ghost use Rattle.jm_blocks.specs.Objects.{Object, object_of, with_value};
+ghost use Rattle.jm_blocks.specs.Cells.{sizes_of, block_cells, has_room, HoldsItsCells};
+
+use crate::header::Header;
+use jm_values::Value;
+use std::alloc::{AllocError, Global};
+use std::marker::Model;
+
+/// The cells of a block that several objects share.
+const CELLS: u64 = 512;
+
+/// The cells of the largest object that shares a block.
+const SHARED: u64 = 256;
+
+/// An object's header, and where its values lie among the values of its block.
+#[derive(Clone, Copy)]
+struct Entry {
+    header: Header,
+    start: usize,
+    length: u32,
+}
+
+// So many values from a start on.
+#[inline]
+fn part(values: &[Value], start: usize, count: usize) -> &[Value]
+    requires { start + count ≤ length values.now }
+    ensures { result.now ≡ take count (drop start values.now) }
+{
+    &values[start..start + count]
+}
+
+/// Objects one after the other, each a header and its values: several that have at most 256 cells
+/// each and 512 together, or one.
+#[derive(Drop)]
+pub struct Block {
+    entries: Vec<Entry>,
+    values: Vec<Value>,
+    cells: u64,
+}
+
+impl Model for Block {
+    ghost use Rattle.std.specs.Prelude.{List};
+    ghost use Rattle.jm_blocks.specs.Objects.{Object};
+
+    ghost Value = { List Object };
+
+    ghost use Rattle.jm_blocks.specs.Spelled.{spelled, IsBlock};
+
+    ghost view = { λ b. spelled b.entries.items b.values.items };
+
+    ghost invariant = { λ b. IsBlock b.entries.items b.values.items b.cells };
+}
+
+impl Block {
+    /// A block without objects.
+    pub fn new(alloc: Global) -> Block
+        ensures { result ≡ [] }
+    {
+        Block {
+            entries: Vec::new(alloc),
+            values: Vec::new(alloc),
+            cells: 0,
+        }
+    }
+
+    /// How many objects there are.
+    #[inline]
+    pub fn len(&self) -> usize
+        ensures value { result ≡ length self.now }
+        ensures few { result ≤ 256 }
+    {
+        self.entries.len()
+    }
+
+    /// The cells of the objects. Where there are several, they are at most 512, and at most 256
+    /// each.
+    #[inline]
+    pub fn cells(&self) -> u64
+        ensures value { result ≡ block_cells self.now }
+        ensures held { HoldsItsCells (sizes_of self.now) }
+    {
+        self.cells
+    }
+
+    /// Whether an object of so many cells fits into the block.
+    #[inline]
+    pub fn has_room(&self, cells: u64) -> bool
+        ensures value { result ≡ has_room (sizes_of self.now) cells }
+        ensures open { IsTrue result → 2 ≤ cells → length self.now < 256 }
+    {
+        let objects = self.entries.len();
+        if objects == 0 {
+            return true;
+        }
+        if cells > SHARED {
+            return false;
+        }
+        if objects == 1 && self.cells > SHARED {
+            return false;
+        }
+        self.cells + cells <= CELLS
+    }
+
+    /// The object of this number: its header and its values.
+    #[inline]
+    pub fn object(&self, index: usize) -> Option<(Header, &[Value])>
+        ensures { MatchOption result (slice_get self.now index ≡ None) (λ o. slice_get self.now index ≡ Some (object_of o.0 o.1.now)) }
+    {
+        if index >= self.entries.len() {
+            return None;
+        }
+        let entry = self.entries[index];
+        Some((
+            entry.header,
+            part(self.values.as_slice(), entry.start, entry.length as usize),
+        ))
+    }
+
+    /// One value of the object of this number.
+    #[inline]
+    pub fn get(&self, index: usize, number: usize) -> Value
+        requires { (o : Object) × (slice_get self.now index ≡ Some o) × (number < length o.values) }
+        ensures { (o : Object) → slice_get self.now index ≡ Some o → slice_get o.values number ≡ Some result }
+    {
+        let _end = self.values.len();
+        let entry = self.entries[index];
+        self.values[entry.start + number]
+    }
+
+    /// Puts an object at the end. A growth that is refused changes nothing.
+    pub fn bump(&mut self, header: Header, values: &[Value]) -> Result<(), AllocError>
+        requires short { length values.now < 2 ^ 32 }
+        requires room { has_room (sizes_of self.old) (class_size header.class (length values.now)) ≡ true }
+        ensures ok { OnOk result (self.new ≡ self.old ++ object_of header values.now ∷ []) }
+        ensures err { OnErr result (self.new ≡ self.old) }
+    {
+        let start = self.values.len();
+        self.entries.reserve(1)?;
+        self.values.extend_from_slice(values)?;
+        self.cells += header.class.size(values.len() as u64);
+        self.entries.push_reserved(Entry {
+            header,
+            start,
+            length: values.len() as u32,
+        });
+        Ok(())
+    }
+
+    /// Changes one value of an object.
+    #[inline]
+    pub fn set(&mut self, index: usize, number: usize, value: Value)
+        requires { (o : Object) × (slice_get self.old index ≡ Some o) × (number < length o.values) }
+        ensures { (o : Object) → slice_get self.old index ≡ Some o → self.new ≡ slice_set self.old index (with_value o number value) }
+    {
+        let _end = self.values.len();
+        let entry = self.entries[index];
+        self.values[entry.start + number] = value;
+    }
+}

@@ -1,0 +1,185 @@
+// Blocks under numbers.
+
+ghost use Rattle.std.specs.Prelude.{◌≡◌, ℕ, ◌+◌, ◌*◌, ◌<◌, ◌≤◌, ◌^◌, Some, None, MatchOption, IfOk, OnOk, OnErr, length, slice_get, [], ◌∷◌};
+ghost use Rattle.jm_heap.specs.Cells.{class_size};
+ghost use Rattle.jm_blocks.specs.Objects.{Object, object_of, with_value};
+ghost use Rattle.jm_blocks.specs.Places.{place_at, lane_of};
+ghost use Rattle.jm_blocks.specs.Stores.{Blocks, objects_in, HasValue, Bumped, Changed, IsNext, IsPast, last_has_room, with_object, next_place, store_cells};
+
+use crate::block::Block;
+use crate::header::Header;
+use crate::position::Position;
+use jm_values::{Place, Value};
+use std::alloc::{AllocError, Global};
+use std::marker::Model;
+
+/// So many blocks of a lane have a number.
+const MAX_BLOCKS: usize = 1 << 49;
+
+/// The blocks of a lane, under the numbers from 0 on. An object is put into the last block, or into
+/// a new one where it has no room there.
+#[derive(Drop)]
+pub struct BlockStore {
+    lane: u64,
+    blocks: Vec<Block>,
+}
+
+impl Model for BlockStore {
+    ghost use Rattle.std.specs.Prelude.{◌<◌, ◌≤◌, ◌^◌, length};
+    ghost use Rattle.jm_blocks.specs.Stores.{Blocks, IsDense, all_sizes};
+
+    ghost Value = { Blocks };
+
+    ghost view = { λ s. record { lane = s.lane; lists = s.blocks.items } };
+
+    ghost invariant = { λ s. (0 < s.lane) × (s.lane < 64) × (length s.blocks.items ≤ 2 ^ 49) × IsDense (all_sizes s.blocks.items) };
+}
+
+impl BlockStore {
+    /// A store without blocks, in a lane from 1 to 63.
+    pub fn new(alloc: Global, lane: u64) -> BlockStore
+        requires some { 0 < lane }
+        requires below { lane < 64 }
+        ensures { result ≡ record { lane = lane; lists = [] } }
+    {
+        BlockStore {
+            lane,
+            blocks: Vec::new(alloc),
+        }
+    }
+
+    /// The lane of all blocks.
+    #[inline]
+    pub fn lane(&self) -> u64
+        ensures { result ≡ self.now.lane }
+    {
+        self.lane
+    }
+
+    /// How many blocks there are. They are few: two neighbours hold more than 256 cells together.
+    #[inline]
+    pub fn len(&self) -> usize
+        ensures value { result ≡ length self.now.lists }
+        ensures few { 257 * result ≤ 2 * store_cells self.now.lists + 257 }
+    {
+        self.blocks.len()
+    }
+
+    /// The block of this number.
+    #[inline]
+    pub fn block(&self, number: usize) -> &Block
+        requires { number < length self.now.lists }
+        ensures { slice_get self.now.lists number ≡ Some result.now }
+    {
+        &self.blocks[number]
+    }
+
+    /// The object at a place: its header and its values.
+    #[inline]
+    pub fn object(&self, place: Place) -> Option<(Header, &[Value])>
+        ensures { MatchOption result (objects_in self.now place ≡ None) (λ o. objects_in self.now place ≡ Some (object_of o.0 o.1.now)) }
+    {
+        let position = Position::of(place);
+        if position.lane != self.lane {
+            return None;
+        }
+        if position.block >= self.blocks.len() {
+            return None;
+        }
+        let block = &self.blocks[position.block];
+        block.object(position.index)
+    }
+
+    /// One value of the object at a place.
+    #[inline]
+    pub fn get(&self, place: Place, number: usize) -> Value
+        requires { HasValue self.now place number }
+        ensures { (o : Object) → objects_in self.now place ≡ Some o → slice_get o.values number ≡ Some result }
+    {
+        let position = Position::of(place);
+        let block = &self.blocks[position.block];
+        block.get(position.index, number)
+    }
+
+    /// Changes one value of the object at a place.
+    #[inline]
+    pub fn set(&mut self, place: Place, number: usize, value: Value)
+        requires { HasValue self.old place number }
+        ensures set { (o : Object) → objects_in self.old place ≡ Some o → Changed (objects_in self.old) (objects_in self.new) place (with_value o number value) }
+        ensures lane { self.new.lane ≡ self.old.lane }
+        ensures cells { store_cells self.new.lists ≡ store_cells self.old.lists }
+    {
+        let position = Position::of(place);
+        let block = &mut self.blocks[position.block];
+        block.set(position.index, number, value);
+    }
+
+    // Whether the last block has room for so many cells.
+    fn last_has_room(&self, cells: u64) -> bool
+        ensures { result ≡ last_has_room self.now.lists cells }
+    {
+        match self.blocks.last() {
+            Some(block) => block.has_room(cells),
+            None => false,
+        }
+    }
+
+    // The place of this number in a block.
+    fn place_in(&self, block: usize, index: usize) -> Place
+        requires block { block < 2 ^ 49 }
+        requires index { index < 256 }
+        ensures { result ≡ place_at self.now.lane block index }
+    {
+        Position {
+            lane: self.lane,
+            block,
+            index,
+        }
+        .place()
+    }
+
+    /// The place that the next object of so many cells gets: it is reserved for the store's owner,
+    /// who may let it go. It is refused only where a lane has 2^49 blocks.
+    pub fn reserve(&self, cells: u64) -> Result<Place, AllocError>
+        requires { 2 ≤ cells }
+        ensures ok { IfOk result (λ p. p ≡ next_place self.now cells) }
+        ensures lane { IfOk result (λ p. lane_of p ≡ self.now.lane) }
+        ensures err { OnErr result (length self.now.lists ≡ 2 ^ 49) }
+    {
+        let count = self.blocks.len();
+        if self.last_has_room(cells) {
+            return Ok(self.place_in(count - 1, self.blocks[count - 1].len()));
+        }
+        if count >= MAX_BLOCKS {
+            return Err(AllocError);
+        }
+        Ok(self.place_in(count, 0))
+    }
+
+    /// Puts an object at the place that is reserved for one of its cells, above all others. A growth
+    /// that is refused changes nothing.
+    pub fn fill(
+        &mut self,
+        alloc: Global,
+        header: Header,
+        values: &[Value],
+    ) -> Result<(), AllocError>
+        requires { length values.now < 2 ^ 32 }
+        ensures ok { OnOk result (Bumped (objects_in self.old) (objects_in self.new) (next_place self.old (class_size header.class (length values.now))) (object_of header values.now)) }
+        ensures blocks { OnOk result (self.new ≡ record { lane = self.old.lane; lists = with_object self.old.lists (object_of header values.now) }) }
+        ensures err { OnErr result (self.new ≡ self.old) }
+    {
+        let count = self.blocks.len();
+        if self.last_has_room(header.class.size(values.len() as u64)) {
+            let block = &mut self.blocks[count - 1];
+            return block.bump(header, values);
+        }
+        if count >= MAX_BLOCKS {
+            return Err(AllocError);
+        }
+        let mut block = Block::new(alloc);
+        block.bump(header, values)?;
+        self.blocks.push(block)?;
+        Ok(())
+    }
+}
