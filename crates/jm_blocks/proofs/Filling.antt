@@ -5,7 +5,7 @@ use Rattle.std.proofs.lemmas.Option.{slice_get_within, get_or_from_slice_get}
 use Rattle.jm_blocks.specs.Objects.{Object}
 use Rattle.jm_blocks.specs.Cells.{object_cells, sizes_of, has_room}
 use Rattle.jm_blocks.specs.Places.{place_at}
-use Rattle.jm_blocks.specs.Stores.{Blocks, objects_in, Bumped, with_object, objects_of, last_of, list_has_room, last_has_room, next_place, IsDense, all_sizes}
+use Rattle.jm_blocks.specs.Stores.{Blocks, Bumped, with_object, objects_of, last_of, list_has_room, last_has_room, next_place, IsDense, all_sizes}
 use Rattle.jm_blocks.proofs.Sizes.{at_least_two, few_where_room}
 use Rattle.jm_blocks.proofs.Placing.{bumped_last, bumped_new}
 use Rattle.jm_blocks.proofs.Density.{with_object_last, with_object_new, dense_more}
@@ -30,7 +30,7 @@ next_new s n e = ap (λ t. cond t (place_at s.lane (length s.lists - 1) (length 
 
 -- a store with an object more, which lies above all others
 pub record Filled (s t : Blocks) (o : Object) : Type 0 where
-  pub bumped : Bumped (objects_in s) (objects_in t) (next_place s (object_cells o)) o
+  pub bumped : Bumped s t (next_place s (object_cells o)) o
   pub blocks : t ≡ record { lane = s.lane; lists = with_object s.lists o }
 
 -- what is read as the last block is
@@ -53,10 +53,10 @@ fill_last s t n cur new o e m lane r room w = subst (λ x. last_has_room x.lists
         let made : last.0 ++ o ∷ [] ≡ new = ap (λ x. x ++ o ∷ []) (sym read.0) ∙ sym w in
         let lists : slice_set s.lists (length s.lists - 1) (last.0 ++ o ∷ []) ≡ slice_set s.lists (n - 1) new = ap (λ i. slice_set s.lists i (last.0 ++ o ∷ [])) at ∙ ap (slice_set s.lists (n - 1)) made in
         let place = next_last s (object_cells o) last.0 h last.1 in
-        let bumped = subst (λ p. Bumped (objects_in s) (objects_in (record { lane = s.lane; lists = slice_set s.lists (length s.lists - 1) (last.0 ++ o ∷ []) })) p o) place (bumped_last s.lane s.lists last.0 o lane few last.1) in
+        let bumped = subst (λ p. Bumped s (record { lane = s.lane; lists = slice_set s.lists (length s.lists - 1) (last.0 ++ o ∷ []) }) p o) place (bumped_last s.lane s.lists last.0 o lane few last.1) in
         let all : with_object s.lists o ≡ slice_set s.lists (n - 1) new = with_object_last s.lists o h ∙ ap (λ x. slice_set s.lists (length s.lists - 1) (objects_of x ++ o ∷ [])) last.1 ∙ lists in
         record {
-          bumped = subst (λ ls. Bumped (objects_in s) (objects_in (record { lane = s.lane; lists = ls })) (next_place s (object_cells o)) o) lists bumped;
+          bumped = subst (λ ls. Bumped s (record { lane = s.lane; lists = ls }) (next_place s (object_cells o)) o) lists bumped;
           blocks = ap (λ ls. record { lane = s.lane; lists = ls }) (sym all);
         }
 
@@ -67,9 +67,9 @@ fill_new s t ls o e lane room w = subst (λ x. last_has_room x.lists (object_cel
     inner : last_has_room s.lists (object_cells o) ≡ false → Filled s (record { lane = s.lane; lists = ls }) o
     inner h =
         let place = next_new s (object_cells o) h in
-        let bumped = subst (λ p. Bumped (objects_in s) (objects_in (record { lane = s.lane; lists = s.lists ++ (o ∷ []) ∷ [] })) p o) place (bumped_new s.lane s.lists o lane) in
+        let bumped = subst (λ p. Bumped s (record { lane = s.lane; lists = s.lists ++ (o ∷ []) ∷ [] }) p o) place (bumped_new s.lane s.lists o lane) in
         record {
-          bumped = subst (λ xs. Bumped (objects_in s) (objects_in (record { lane = s.lane; lists = xs })) (next_place s (object_cells o)) o) (sym w) bumped;
+          bumped = subst (λ xs. Bumped s (record { lane = s.lane; lists = xs }) (next_place s (object_cells o)) o) (sym w) bumped;
           blocks = ap (λ xs. record { lane = s.lane; lists = xs }) (w ∙ sym (with_object_new s.lists o h));
         }
 

@@ -3,3 +3,4 @@ pub mod Sizes
 pub mod Placing
 pub mod Density
 pub mod Filling
+pub mod Walking

@@ -88,7 +88,7 @@ alike : (t : Bool) (x y : Option Object) → (t ≡ true → x ≡ y) → cond t
 alike true x y h = h refl
 alike false x y h = refl
 
-pub changed : (lane : ℕ) (old new : List (List Object)) (b k p : ℕ) (o : Object) → lane_of p ≡ lane → block_of p ≡ b → index_of p ≡ k → ChangedBlock old new b k o → Changed (objects_in (record { lane = lane; lists = old })) (objects_in (record { lane = lane; lists = new })) p o
+pub changed : (lane : ℕ) (old new : List (List Object)) (b k p : ℕ) (o : Object) → lane_of p ≡ lane → block_of p ≡ b → index_of p ≡ k → ChangedBlock old new b k o → Changed (record { lane = lane; lists = old }) (record { lane = lane; lists = new }) p o
 unfolding objects_in
 changed lane old new b k p o l e f c = record {
   here = at_place (record { lane = lane; lists = new }) b k p l e f ∙ c.here;
@@ -140,10 +140,10 @@ block_new bs o = record {
     past (suc l) h = refl
 
 -- an object in the last block, past its end
-pub bumped_last : (lane : ℕ) (bs : List (List Object)) (os : List Object) (o : Object) → lane < 64 → length os < 256 → slice_get bs (length bs - 1) ≡ Some os → Bumped (objects_in (record { lane = lane; lists = bs })) (objects_in (record { lane = lane; lists = slice_set bs (length bs - 1) (os ++ o ∷ []) })) (place_at lane (length bs - 1) (length os)) o
+pub bumped_last : (lane : ℕ) (bs : List (List Object)) (os : List Object) (o : Object) → lane < 64 → length os < 256 → slice_get bs (length bs - 1) ≡ Some os → Bumped (record { lane = lane; lists = bs }) (record { lane = lane; lists = slice_set bs (length bs - 1) (os ++ o ∷ []) }) (place_at lane (length bs - 1) (length os)) o
 bumped_last lane bs os o h j e = record {
   changed = changed lane bs (slice_set bs (length bs - 1) (os ++ o ∷ [])) (length bs - 1) (length os) (place_at lane (length bs - 1) (length os)) o (lane_put lane (length bs - 1) (length os) h j) (block_put lane (length bs - 1) (length os) h j) (index_put lane (length bs - 1) (length os) j) (block_more bs (length bs - 1) os o e);
-  above = λ q a f. by q a (lies_in (record { lane = lane; lists = bs }) q a f) (eqb_tells (block_of q) (length bs - 1));
+  above = λ q f. by q f.0 (lies_in (record { lane = lane; lists = bs }) q f.0 f.1) (eqb_tells (block_of q) (length bs - 1));
 }
   where
     by : (q : ℕ) (a : Object) → LiesIn (record { lane = lane; lists = bs }) q a → ((nat_eq (block_of q) (length bs - 1) ≡ true) × (block_of q ≡ length bs - 1)) ⊎ ((nat_eq (block_of q) (length bs - 1) ≡ false) × (block_of q ≢ length bs - 1)) → q < place_at lane (length bs - 1) (length os)
@@ -160,10 +160,10 @@ bumped_last lane bs os o h j e = record {
         omega (arith, at.lane, t.1, within, whole, h)
 
 -- an object in a block of its own, after the last one
-pub bumped_new : (lane : ℕ) (bs : List (List Object)) (o : Object) → lane < 64 → Bumped (objects_in (record { lane = lane; lists = bs })) (objects_in (record { lane = lane; lists = bs ++ (o ∷ []) ∷ [] })) (place_at lane (length bs) 0) o
+pub bumped_new : (lane : ℕ) (bs : List (List Object)) (o : Object) → lane < 64 → Bumped (record { lane = lane; lists = bs }) (record { lane = lane; lists = bs ++ (o ∷ []) ∷ [] }) (place_at lane (length bs) 0) o
 bumped_new lane bs o h = record {
   changed = changed lane bs (bs ++ (o ∷ []) ∷ []) (length bs) 0 (place_at lane (length bs) 0) o (lane_put lane (length bs) 0 h (omega arith)) (block_put lane (length bs) 0 h (omega arith)) (index_put lane (length bs) 0 (omega arith)) (block_new bs o);
-  above = λ q a f. by q a (lies_in (record { lane = lane; lists = bs }) q a f);
+  above = λ q f. by q f.0 (lies_in (record { lane = lane; lists = bs }) q f.0 f.1);
 }
   where
     by : (q : ℕ) (a : Object) → LiesIn (record { lane = lane; lists = bs }) q a → q < place_at lane (length bs) 0
@@ -186,14 +186,14 @@ pub at_past : (s : Blocks) (p b : ℕ) → lane_of p ≡ s.lane → b ≡ block_
 at_past s p b l f h = at_place s b (index_of p) p l (sym f) refl ∙ ap (λ x. object_of_list x (index_of p)) (slice_get_past s.lists b h)
 
 -- one value of one object is another
-pub set_at : (s : Blocks) (p b k : ℕ) (cur new : List Object) (o a : Object) → objects_in s p ≡ Some a → b ≡ block_of p → k ≡ index_of p → cur ≡ get_or s.lists b cur → new ≡ slice_set cur k o → Changed (objects_in s) (objects_in (record { lane = s.lane; lists = slice_set s.lists b new })) p o
+pub set_at : (s : Blocks) (p b k : ℕ) (cur new : List Object) (o a : Object) → objects_in s p ≡ Some a → b ≡ block_of p → k ≡ index_of p → cur ≡ get_or s.lists b cur → new ≡ slice_set cur k o → Changed s (record { lane = s.lane; lists = slice_set s.lists b new }) p o
 set_at s p b k cur new o a e f g r w =
     let at = lies_in s p a e in
     let found : slice_get s.lists b ≡ Some at.block = ap (slice_get s.lists) f ∙ at.block_is in
     let same : cur ≡ at.block = r ∙ get_or_from_slice_get s.lists b at.block cur found in
     let there : slice_get at.block k ≡ Some a = ap (slice_get at.block) g ∙ at.object_is in
     let made : slice_set at.block k o ≡ new = ap (λ x. slice_set x k o) (sym same) ∙ sym w in
-    subst (λ x. Changed (objects_in s) (objects_in (record { lane = s.lane; lists = slice_set s.lists b x })) p o) made (changed s.lane s.lists (slice_set s.lists b (slice_set at.block k o)) b k p o at.lane (sym f) (sym g) (block_set s.lists b k at.block o a found there))
+    subst (λ x. Changed s (record { lane = s.lane; lists = slice_set s.lists b x }) p o) made (changed s.lane s.lists (slice_set s.lists b (slice_set at.block k o)) b k p o at.lane (sym f) (sym g) (block_set s.lists b k at.block o a found there))
 
 -- what an answer says of one look-up it says of an equal one
 pub same_answer : {A : Type 0} (r : Option A) (f : A → Object) (x y : Option Object) → x ≡ y → MatchOption r (y ≡ None) (λ a. y ≡ Some (f a)) → MatchOption r (x ≡ None) (λ a. x ≡ Some (f a))

@@ -1,6 +1,7 @@
 -- The objects of a store by their places.
 use Rattle.std.specs.Prelude.{◌≡◌, ◌≢◌, ℕ, ◌-◌, ◌<◌, ◌≤◌, List, [], ◌∷◌, ◌++◌, Option, Some, None, Bool, false, nat_eq, if◌then◌else◌, slice_get, length, map, sum_by}
-use Rattle.jm_blocks.specs.Objects.{Object}
+use Rattle.jm_values.specs.declared.value.Value.{Value}
+use Rattle.jm_blocks.specs.Objects.{Object, with_value}
 use Rattle.jm_blocks.specs.Cells.{object_cells, sizes_of, block_cells, has_room}
 use Rattle.jm_blocks.specs.Places.{place_at, lane_of, block_of, index_of}
 
@@ -17,29 +18,43 @@ object_of_list (Some os) k = slice_get os k
 unfoldable pub objects_in : Blocks → ℕ → Option Object
 objects_in s p = if nat_eq (lane_of p) s.lane then object_of_list (slice_get s.lists (block_of p)) (index_of p) else None
 
--- a value of this number is there
+-- an object, or a value of this number of one, is there
+abbrev pub HasObject : Blocks → ℕ → Type 0
+HasObject s p = (o : Object) × (objects_in s p ≡ Some o)
+
 abbrev pub HasValue : Blocks → ℕ → ℕ → Type 0
 HasValue s p i = (o : Object) × (objects_in s p ≡ Some o) × (i < length o.values)
 
 -- one place has this object afterwards, and all others have what they had
-pub record Changed (old new : ℕ → Option Object) (p : ℕ) (o : Object) : Type 0 where
-  pub here : new p ≡ Some o
-  pub others : (q : ℕ) → q ≢ p → new q ≡ old q
+pub record Changed (old new : Blocks) (p : ℕ) (o : Object) : Type 0 where
+  pub here : objects_in new p ≡ Some o
+  pub others : (q : ℕ) → q ≢ p → objects_in new q ≡ objects_in old q
+
+-- one value of the object there is another
+abbrev pub IsSet : Blocks → Blocks → ℕ → ℕ → Value → Type 0
+IsSet old new p i v = (o : Object) → objects_in old p ≡ Some o → Changed old new p (with_value o i v)
 
 -- a place above all others has this object afterwards
-pub record Bumped (old new : ℕ → Option Object) (p : ℕ) (o : Object) : Type 0 where
+pub record Bumped (old new : Blocks) (p : ℕ) (o : Object) : Type 0 where
   pub changed : Changed old new p o
-  pub above : (q : ℕ) (a : Object) → old q ≡ Some a → q < p
+  pub above : (q : ℕ) → HasObject old q → q < p
 
--- no object lies from a place on
-abbrev pub IsPast : (ℕ → Option Object) → ℕ → Type 0
-IsPast objects at = (q : ℕ) (a : Object) → objects q ≡ Some a → q < at
+-- there is no object, or no object above the one at a place
+abbrev pub IsEmpty : Blocks → Type 0
+IsEmpty s = (q : ℕ) → objects_in s q ≡ None
 
--- the first place from a place on that has an object
-pub record IsNext (objects : ℕ → Option Object) (at p : ℕ) : Type 0 where
-  pub from : at ≤ p
-  pub there : (o : Object) × (objects p ≡ Some o)
-  pub first : (q : ℕ) (a : Object) → objects q ≡ Some a → q < p → q < at
+abbrev pub IsLast : Blocks → ℕ → Type 0
+IsLast s p = (q : ℕ) → HasObject s q → q ≤ p
+
+-- the place of the first object, and of the first one above a place
+pub record IsFirst (s : Blocks) (p : ℕ) : Type 0 where
+  pub there : HasObject s p
+  pub least : (q : ℕ) → HasObject s q → p ≤ q
+
+pub record IsAfter (s : Blocks) (p next : ℕ) : Type 0 where
+  pub above : p < next
+  pub there : HasObject s next
+  pub least : (q : ℕ) → HasObject s q → p < q → next ≤ q
 
 -- the blocks with an object more: in the last one, or in one of its own where it has no room there
 abbrev pub with_object : List (List Object) → Object → List (List Object)

@@ -1,6 +1,7 @@
 // A block of cells.
 
-ghost use Rattle.std.specs.Prelude.{◌≡◌, ◌+◌, ◌<◌, ◌≤◌, ◌^◌, ◌++◌, ◌∷◌, [], Some, None, MatchOption, take, drop, length, slice_get, slice_set, OnOk, OnErr, IsTrue, true};
+ghost use Rattle.std.specs.Prelude.{◌≡◌, ◌+◌, ◌<◌, ◌≤◌, ◌^◌, ◌++◌, ◌∷◌, [], Some, None, MatchOption, OnOk, OnErr, IsTrue, true};
+ghost use Rattle.std.specs.Prelude.{take, drop, length, slice_get, slice_set, replicate};
 ghost use Rattle.jm_heap.specs.Cells.{class_size};
 ghost use Rattle.jm_blocks.specs.Objects.{Object, object_of, with_value};
 ghost use Rattle.jm_blocks.specs.Cells.{sizes_of, block_cells, has_room, HoldsItsCells};
@@ -31,6 +32,18 @@ fn part(values: &[Value], start: usize, count: usize) -> &[Value]
     ensures { result.now ≡ take count (drop start values.now) }
 {
     &values[start..start + count]
+}
+
+// So many copies of a value at the end. A growth that is refused changes nothing.
+fn push_copies(values: &mut Vec<Value>, value: &Value, count: usize) -> Result<(), AllocError>
+    ensures ok { OnOk result (values.new.items ≡ values.old.items ++ replicate count value.now) }
+    ensures err { OnErr result (values.new.items ≡ values.old.items) }
+{
+    values.reserve(count)?;
+    for _copy in 0..count {
+        values.push_reserved(*value);
+    }
+    Ok(())
 }
 
 /// Objects one after the other, each a header and its values: several that have at most 256 cells
@@ -146,6 +159,30 @@ impl Block {
             header,
             start,
             length: values.len() as u32,
+        });
+        Ok(())
+    }
+
+    /// Puts an object at the end whose values are so many copies of one. A growth that is refused
+    /// changes nothing.
+    pub fn bump_copies(
+        &mut self,
+        header: Header,
+        value: Value,
+        count: u32,
+    ) -> Result<(), AllocError>
+        requires { has_room (sizes_of self.old) (class_size header.class count) ≡ true }
+        ensures ok { OnOk result (self.new ≡ self.old ++ object_of header (replicate count value) ∷ []) }
+        ensures err { OnErr result (self.new ≡ self.old) }
+    {
+        let start = self.values.len();
+        self.entries.reserve(1)?;
+        push_copies(&mut self.values, &value, count as usize)?;
+        self.cells += header.class.size(count as u64);
+        self.entries.push_reserved(Entry {
+            header,
+            start,
+            length: count,
         });
         Ok(())
     }

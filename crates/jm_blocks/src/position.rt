@@ -27,6 +27,9 @@ impl Position {
         ensures lane { result.lane ≡ lane_of place }
         ensures block { result.block ≡ block_of place }
         ensures index { result.index ≡ index_of place }
+        ensures few { result.block < 2 ^ 49 }
+        ensures small { result.index < 256 }
+        ensures lanes { result.lane < 64 }
         ensures again { place_at result.lane result.block result.index ≡ place }
     {
         let number = place.number();

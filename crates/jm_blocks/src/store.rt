@@ -1,10 +1,11 @@
 // Blocks under numbers.
 
-ghost use Rattle.std.specs.Prelude.{◌≡◌, ℕ, ◌+◌, ◌*◌, ◌<◌, ◌≤◌, ◌^◌, Some, None, MatchOption, IfOk, OnOk, OnErr, length, slice_get, [], ◌∷◌};
-ghost use Rattle.jm_heap.specs.Cells.{class_size};
-ghost use Rattle.jm_blocks.specs.Objects.{Object, object_of, with_value};
+ghost use Rattle.std.specs.Prelude.{◌≡◌, ℕ, ◌+◌, ◌*◌, ◌<◌, ◌≤◌, ◌^◌, Some, None, MatchOption, IfOk, OnOk, OnErr, length, slice_get, replicate, [], ◌∷◌};
+ghost use Rattle.jm_blocks.specs.Objects.{Object, object_of};
+ghost use Rattle.jm_blocks.specs.Cells.{object_cells};
 ghost use Rattle.jm_blocks.specs.Places.{place_at, lane_of};
-ghost use Rattle.jm_blocks.specs.Stores.{Blocks, objects_in, HasValue, Bumped, Changed, IsNext, IsPast, last_has_room, with_object, next_place, store_cells};
+ghost use Rattle.jm_blocks.specs.Stores.{Blocks, objects_in, HasObject, HasValue, Bumped, IsSet, IsAfter, IsFirst, IsLast, IsEmpty};
+ghost use Rattle.jm_blocks.specs.Stores.{last_has_room, with_object, next_place, store_cells};
 
 use crate::block::Block;
 use crate::header::Header;
@@ -105,7 +106,7 @@ impl BlockStore {
     #[inline]
     pub fn set(&mut self, place: Place, number: usize, value: Value)
         requires { HasValue self.old place number }
-        ensures set { (o : Object) → objects_in self.old place ≡ Some o → Changed (objects_in self.old) (objects_in self.new) place (with_value o number value) }
+        ensures set { IsSet self.old self.new place number value }
         ensures lane { self.new.lane ≡ self.old.lane }
         ensures cells { store_cells self.new.lists ≡ store_cells self.old.lists }
     {
@@ -165,21 +166,75 @@ impl BlockStore {
         values: &[Value],
     ) -> Result<(), AllocError>
         requires { length values.now < 2 ^ 32 }
-        ensures ok { OnOk result (Bumped (objects_in self.old) (objects_in self.new) (next_place self.old (class_size header.class (length values.now))) (object_of header values.now)) }
+        ensures ok { let o = object_of header values.now in OnOk result (Bumped self.old self.new (next_place self.old (object_cells o)) o) }
         ensures blocks { OnOk result (self.new ≡ record { lane = self.old.lane; lists = with_object self.old.lists (object_of header values.now) }) }
         ensures err { OnErr result (self.new ≡ self.old) }
     {
-        let count = self.blocks.len();
+        let blocks = self.blocks.len();
         if self.last_has_room(header.class.size(values.len() as u64)) {
-            let block = &mut self.blocks[count - 1];
+            let block = &mut self.blocks[blocks - 1];
             return block.bump(header, values);
         }
-        if count >= MAX_BLOCKS {
+        if blocks >= MAX_BLOCKS {
             return Err(AllocError);
         }
         let mut block = Block::new(alloc);
         block.bump(header, values)?;
         self.blocks.push(block)?;
         Ok(())
+    }
+
+    /// Puts an object whose values are so many copies of one at the place that is reserved for one of
+    /// its cells, as `fill` does. A growth that is refused changes nothing.
+    pub fn fill_copies(
+        &mut self,
+        alloc: Global,
+        header: Header,
+        value: Value,
+        count: u32,
+    ) -> Result<(), AllocError>
+        ensures ok { let o = object_of header (replicate count value) in OnOk result (Bumped self.old self.new (next_place self.old (object_cells o)) o) }
+        ensures blocks { OnOk result (self.new ≡ record { lane = self.old.lane; lists = with_object self.old.lists (object_of header (replicate count value)) }) }
+        ensures err { OnErr result (self.new ≡ self.old) }
+    {
+        let blocks = self.blocks.len();
+        if self.last_has_room(header.class.size(count as u64)) {
+            let block = &mut self.blocks[blocks - 1];
+            return block.bump_copies(header, value, count);
+        }
+        if blocks >= MAX_BLOCKS {
+            return Err(AllocError);
+        }
+        let mut block = Block::new(alloc);
+        block.bump_copies(header, value, count)?;
+        self.blocks.push(block)?;
+        Ok(())
+    }
+
+    /// The place of the first object.
+    pub fn first(&self) -> Option<Place>
+        ensures { MatchOption result (IsEmpty self.now) (λ p. IsFirst self.now p) }
+    {
+        if self.blocks.len() == 0 {
+            return None;
+        }
+        Some(self.place_in(0, 0))
+    }
+
+    /// The place of the first object above the one at a place.
+    #[inline]
+    pub fn after(&self, place: Place) -> Option<Place>
+        requires { HasObject self.now place }
+        ensures { MatchOption result (IsLast self.now place) (λ p. IsAfter self.now place p) }
+    {
+        let position = Position::of(place);
+        let block = &self.blocks[position.block];
+        if position.index + 1 < block.len() {
+            return Some(self.place_in(position.block, position.index + 1));
+        }
+        if position.block + 1 < self.blocks.len() {
+            return Some(self.place_in(position.block + 1, 0));
+        }
+        None
     }
 }

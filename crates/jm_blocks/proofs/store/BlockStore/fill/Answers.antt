@@ -12,17 +12,17 @@ use Rattle.jm_blocks.proofs.store.BlockStore.fill.Goals as goal
 room : (c : goal.After-self-1) → last_has_room c.args.self.now.lists (object_cells (object_of c.args.header c.args.values.now)) ≡ true
 room c = ap (last_has_room c.args.self.now.lists) (sym c.size.ensures) ∙ sym c.last_has_room.ensures ∙ c.if-last_has_room.true
 
-in_last : (c : goal.After-self-1) → c.bump.new.self ≡ c.index_mut-block.result.now ++ object_of c.args.header c.args.values.now ∷ [] → Filled c.args.self.now (record { lane = c.self.inside.lane; lists = slice_set c.self.inside.blocks.items (c.len-count.result - 1) c.bump.new.self }) (object_of c.args.header c.args.values.now)
-in_last c w = fill_last (record { lane = c.self.inside.lane; lists = c.self.inside.blocks.items }) c.args.self.now c.len-count.result c.index_mut-block.result.now c.bump.new.self (object_of c.args.header c.args.values.now) c.self.view_is (c.len-count.ensures ∙ c.self.inside.blocks.ok.0) c.self.invariant.1 c.index_mut-block.ensures.value (room c) w
+in_last : (c : goal.After-self-1) → c.bump.new.self ≡ c.index_mut-block.result.now ++ object_of c.args.header c.args.values.now ∷ [] → Filled c.args.self.now (record { lane = c.self.inside.lane; lists = slice_set c.self.inside.blocks.items (c.len-blocks.result - 1) c.bump.new.self }) (object_of c.args.header c.args.values.now)
+in_last c w = fill_last (record { lane = c.self.inside.lane; lists = c.self.inside.blocks.items }) c.args.self.now c.len-blocks.result c.index_mut-block.result.now c.bump.new.self (object_of c.args.header c.args.values.now) c.self.view_is (c.len-blocks.ensures ∙ c.self.inside.blocks.ok.0) c.self.invariant.1 c.index_mut-block.ensures.value (room c) w
 
-filled : (c : goal.After-self-1) → c.bump.new.self ≡ c.index_mut-block.result.now ++ object_of c.args.header c.args.values.now ∷ [] → IsDense (all_sizes (slice_set c.self.inside.blocks.items (c.len-count.result - 1) c.bump.new.self))
+filled : (c : goal.After-self-1) → c.bump.new.self ≡ c.index_mut-block.result.now ++ object_of c.args.header c.args.values.now ∷ [] → IsDense (all_sizes (slice_set c.self.inside.blocks.items (c.len-blocks.result - 1) c.bump.new.self))
 filled c w =
     let dense = subst (λ x. IsDense (all_sizes x.lists)) c.self.view_is c.self.invariant.3 in
-    stays_dense c.args.self.now.lists (slice_set c.self.inside.blocks.items (c.len-count.result - 1) c.bump.new.self) (object_of c.args.header c.args.values.now) (ap (λ x. x.lists) (in_last c w).blocks) dense
+    stays_dense c.args.self.now.lists (slice_set c.self.inside.blocks.items (c.len-blocks.result - 1) c.bump.new.self) (object_of c.args.header c.args.values.now) (ap (λ x. x.lists) (in_last c w).blocks) dense
 
-refused : (c : goal.After-self-1) → c.bump.new.self ≡ c.index_mut-block.result.now → IsDense (all_sizes (slice_set c.self.inside.blocks.items (c.len-count.result - 1) c.bump.new.self))
+refused : (c : goal.After-self-1) → c.bump.new.self ≡ c.index_mut-block.result.now → IsDense (all_sizes (slice_set c.self.inside.blocks.items (c.len-blocks.result - 1) c.bump.new.self))
 refused c w =
-    let same = ap (slice_set c.self.inside.blocks.items (c.len-count.result - 1)) w ∙ set_same c.self.inside.blocks.items (c.len-count.result - 1) c.index_mut-block.result.now c.index_mut-block.ensures.value in
+    let same = ap (slice_set c.self.inside.blocks.items (c.len-blocks.result - 1)) w ∙ set_same c.self.inside.blocks.items (c.len-blocks.result - 1) c.index_mut-block.result.now c.index_mut-block.ensures.value in
     subst (λ bs. IsDense (all_sizes bs)) (sym same) c.self.invariant.3
 
 either : {P Q R : Type 0} (r : Result (Unit {0}) AllocError) → (P → R) → (Q → R) → OnOk r P → OnErr r Q → R
@@ -31,7 +31,7 @@ either (Err e) f g p q = g q
 
 pub invariant_of-self : goal.invariant_of-self
 invariant_of-self c =
-    let many = length-set c.self.inside.blocks.items (c.len-count.result - 1) c.bump.new.self in
+    let many = length-set c.self.inside.blocks.items (c.len-blocks.result - 1) c.bump.new.self in
     (c.self.invariant.0, c.self.invariant.1, omega (arith, many, c.self.invariant.2), either c.bump.result (λ w. filled c w) (λ w. refused c w) c.bump.ensures.ok c.bump.ensures.err)
 
 pub returns-then-last_has_room-clause-ok : goal.returns-then-last_has_room-clause-ok
@@ -50,7 +50,7 @@ pub invariant_of-self-2 : goal.invariant_of-self-2
 invariant_of-self-2 c =
     let dense = subst (λ x. IsDense (all_sizes x.lists)) c.self.view_is c.self.invariant.3 in
     let many : length c.push.new.self.items ≡ length c.self.inside.blocks.items + 1 = ap length c.in_ok-push.ensures.items ∙ length-append c.self.inside.blocks.items (c.bump-2.new.self ∷ []) in
-    (c.self.invariant.0, c.self.invariant.1, omega (arith, many, c.if-count-ge-MAX_BLOCKS.false, c.len-count.ensures, c.self.inside.blocks.ok.0), stays_dense c.args.self.now.lists c.push.new.self.items (object_of c.args.header c.args.values.now) (ap (λ x. x.lists) (own c).blocks) dense)
+    (c.self.invariant.0, c.self.invariant.1, omega (arith, many, c.if-blocks-ge-MAX_BLOCKS.false, c.len-blocks.ensures, c.self.inside.blocks.ok.0), stays_dense c.args.self.now.lists c.push.new.self.items (object_of c.args.header c.args.values.now) (ap (λ x. x.lists) (own c).blocks) dense)
 
 pub returns-clause-ok : goal.returns-clause-ok
 returns-clause-ok c = (own c).bumped

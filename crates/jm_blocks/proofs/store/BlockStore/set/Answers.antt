@@ -32,7 +32,7 @@ returns-clause-set c o e =
     let s : Blocks = record { lane = c.self.inside.lane; lists = c.self.inside.blocks.items } in
     let here = ap (λ x. objects_in x c.args.place) c.self.view_is ∙ e in
     let there = read_at s c.args.place c.of-position.result.block c.of-position.result.index c.index_mut-block.result.now o here c.of-position.ensures.block c.of-position.ensures.index c.index_mut-block.ensures.value in
-    subst (λ t. Changed (objects_in t) (objects_in (record { lane = s.lane; lists = slice_set s.lists c.of-position.result.block c.set.new.self })) c.args.place (with_value o c.args.number c.args.value)) c.self.view_is
+    subst (λ t. Changed t (record { lane = s.lane; lists = slice_set s.lists c.of-position.result.block c.set.new.self }) c.args.place (with_value o c.args.number c.args.value)) c.self.view_is
     (set_at s c.args.place c.of-position.result.block c.of-position.result.index c.index_mut-block.result.now c.set.new.self (with_value o c.args.number c.args.value) o here c.of-position.ensures.block c.of-position.ensures.index c.index_mut-block.ensures.value (c.set.ensures o there))
 
 pub returns-clause-cells : goal.returns-clause-cells

@@ -1,0 +1,24 @@
+use Rattle.std.proofs.Common.{◌≡◌, replicate, map, ap, sym, ◌∙◌, arith, true}
+use Rattle.std.proofs.lemmas.List.{length-replicate}
+use Rattle.jm_heap.specs.Cells.{class_size}
+use Rattle.jm_blocks.specs.Cells.{has_room}
+use Rattle.jm_blocks.specs.Spelled.{entry_cells}
+use Rattle.jm_blocks.proofs.Spelling.{bumped}
+use Rattle.jm_blocks.proofs.Sizes.{sizes_by, size_bounded, block_more}
+use Rattle.jm_blocks.proofs.block.Block.bump_copies.Goals as goal
+
+pub overflow_add-self : goal.overflow_add-self
+overflow_add-self c =
+    let size = size_bounded c.args.header.class c.args.count in
+    omega (arith, c.self.invariant.bounded, c.size.ensures, size, c.ranges.count)
+
+pub invariant_of-self-2 : goal.invariant_of-self-2
+invariant_of-self-2 c =
+    let sizes = sizes_by c.self.inside.entries.items c.self.inside.values.items c.args.self.now c.self.inside.cells c.self.view_is c.self.invariant in
+    let many = length-replicate c.args.count c.args.value in
+    let room : has_room (map entry_cells c.self.inside.entries.items) (class_size c.args.header.class c.args.count) ≡ true = ap (λ ss. has_room ss (class_size c.args.header.class c.args.count)) (sym sizes) ∙ c.requires in
+    rw (c.push_reserved.ensures.items, c.reserve.ensures.items, c.in_ok-push_copies.ensures.ok, c.size.ensures) (block_more c.self.inside.entries.items c.self.inside.values.items (replicate c.args.count c.args.value) _ c.self.inside.cells c.self.invariant (c.len-start.ensures ∙ c.self.inside.values.ok.0) (sym many) (omega (arith, many, c.ranges.count)) room)
+
+pub returns-clause-ok : goal.returns-clause-ok
+returns-clause-ok c =
+    rw (c.push_reserved.ensures.items, c.reserve.ensures.items, c.in_ok-push_copies.ensures.ok) (bumped c.args.self.now c.self.inside.entries.items c.self.inside.values.items (replicate c.args.count c.args.value) _ c.self.view_is c.self.invariant.packed (sym (length-replicate c.args.count c.args.value)))
