@@ -1,0 +1,2 @@
+pub mod Marks
+pub mod Remembered
