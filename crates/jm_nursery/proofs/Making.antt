@@ -1,0 +1,132 @@
+-- What an object more is to the nurseries.
+use Rattle.std.proofs.Common.{◌≡◌, ◌⊎◌, ◌≢◌, ℕ, zero, suc, ◌+◌, ◌-◌, ◌<◌, ◌≤◌, ◌&&◌, List, [], ◌∷◌, ◌++◌, Some, None, Bool, true, false, cond, refl, sym, ap, ◌∙◌, subst, inl, inr, length, sum, get_or, arith, length-append}
+use Rattle.std.specs.Prelude.{slice_get, slice_set, nat_eq, nat_le}
+use Rattle.std.proofs.lemmas.Bool.{le-leb}
+use Rattle.std.proofs.lemmas.Bool.Decides.{eqb_tells}
+use Rattle.std.proofs.lemmas.List.{length-set}
+use Rattle.std.proofs.lemmas.List.Sums.{sum_by-cons, sum_by_push}
+use Rattle.std.proofs.lemmas.Option.{slice_get_within, slice_get_read}
+use Rattle.jm_blocks.specs.Objects.{Object}
+use Rattle.jm_blocks.specs.Cells.{object_cells, sizes_of, block_cells, has_room}
+use Rattle.jm_blocks.specs.Places.{lane_of}
+use Rattle.jm_blocks.specs.Stores.{Blocks, store_cells, with_object, next_place, Bumped}
+use Rattle.jm_blocks.proofs.Placing.{get_set_same, get_set_other, get_end, get_before_end}
+use Rattle.jm_nursery.specs.Nurseries.{Young, AreNurseries, IsYoung, IsMade, nursery_at, lane_cells, young_cells}
+
+sizes_push : (os : List Object) (o : Object) → block_cells (os ++ o ∷ []) ≡ block_cells os + object_cells o
+sizes_push os o = ap sum (mapped os) ∙ sum_by_push (λ n. n) (sizes_of os) (object_cells o)
+  where
+    mapped : (xs : List Object) → sizes_of (xs ++ o ∷ []) ≡ sizes_of xs ++ object_cells o ∷ []
+    mapped [] = refl
+    mapped (x ∷ xs) = ap (λ ns. object_cells x ∷ ns) (mapped xs)
+
+one_block : (os : List Object) → store_cells (os ∷ []) ≡ block_cells os
+one_block os = let e = sum_by-cons block_cells os [] in omega (arith, e)
+
+-- the cells of a store with an object more
+pub cells_more : (bs : List (List Object)) (o : Object) → store_cells (with_object bs o) ≡ store_cells bs + object_cells o
+cells_more [] o = let e = one_block (o ∷ []) in let p = sizes_push [] o in omega (arith, e, p)
+cells_more (b ∷ []) o = by (has_room (sizes_of b) (object_cells o))
+  where
+    by : (t : Bool) → store_cells (cond t ((b ++ o ∷ []) ∷ []) (b ∷ (o ∷ []) ∷ [])) ≡ store_cells (b ∷ []) + object_cells o
+    by true = let e = one_block (b ++ o ∷ []) in let f = one_block b in let p = sizes_push b o in omega (arith, e, f, p)
+    by false = let e = sum_by-cons block_cells b ((o ∷ []) ∷ []) in let f = one_block b in let g = one_block (o ∷ []) in let p = sizes_push [] o in omega (arith, e, f, g, p)
+cells_more (b ∷ c ∷ bs) o =
+    let more = cells_more (c ∷ bs) o in
+    let e = sum_by-cons block_cells b (with_object (c ∷ bs) o) in
+    let f = sum_by-cons block_cells b (c ∷ bs) in
+    omega (arith, more, e, f)
+
+-- the cells of nurseries of which one is another
+young_set : (lanes : List Blocks) (n : ℕ) (s t : Blocks) (d : ℕ) → slice_get lanes n ≡ Some s → lane_cells t ≡ lane_cells s + d → young_cells (slice_set lanes n t) ≡ young_cells lanes + d
+young_set [] n s t d e h = cc
+young_set (x ∷ lanes) zero s t d e h =
+    let same : x ≡ s = cc in
+    let cells : lane_cells x ≡ lane_cells s = ap lane_cells same in
+    let a = sum_by-cons lane_cells t lanes in
+    let b = sum_by-cons lane_cells x lanes in
+    omega (arith, a, b, cells, h)
+young_set (x ∷ lanes) (suc n) s t d e h =
+    let more = young_set lanes n s t d e h in
+    let a = sum_by-cons lane_cells x (slice_set lanes n t) in
+    let b = sum_by-cons lane_cells x lanes in
+    omega (arith, more, a, b)
+
+-- the nurseries are in order with another store in the place of one
+nurseries_set : (lanes : List Blocks) (n : ℕ) (s t : Blocks) → AreNurseries lanes → slice_get lanes n ≡ Some s → t.lane ≡ s.lane → AreNurseries (slice_set lanes n t)
+nurseries_set lanes n s t r e h = record {
+  many = length-set lanes n t ∙ r.many;
+  numbered = λ k x f. by k x f (eqb_tells k n);
+}
+  where
+    by : (k : ℕ) (x : Blocks) → slice_get (slice_set lanes n t) k ≡ Some x → ((nat_eq k n ≡ true) × (k ≡ n)) ⊎ ((nat_eq k n ≡ false) × (k ≢ n)) → x.lane ≡ k + 1
+    by k x f (inr d) = r.numbered k x (sym (get_set_other lanes n k t d.1) ∙ f)
+    by k x f (inl d) =
+        let here : Some t ≡ Some x = sym (get_set_same lanes n t (slice_get_within lanes n s e)) ∙ ap (slice_get (slice_set lanes n t)) (sym d.1) ∙ f in
+        let same : x ≡ t = cc in
+        ap (λ y. y.lane) same ∙ h ∙ r.numbered n s e ∙ ap (λ m. m + 1) (sym d.1)
+
+in_nursery : (p n : ℕ) → lane_of p ≡ n + 1 → n < 16 → nursery_at p ≡ Some n
+in_nursery p n e h =
+    let low : 1 ≤ lane_of p = omega (arith, e) in
+    let high : lane_of p ≤ 16 = omega (arith, e, h) in
+    let at : lane_of p - 1 ≡ n = omega (arith, e) in
+    ap (λ b. cond (b && nat_le (lane_of p) 16) (Some (lane_of p - 1)) None) (le-leb 1 (lane_of p) low)
+    ∙ ap (λ b. cond (true && b) (Some (lane_of p - 1)) None) (le-leb (lane_of p) 16 high)
+    ∙ ap (λ k. Some k) at
+
+-- an object is made in a nursery
+pub made : (old : Young) (n p : ℕ) (cur new : Blocks) (o : Object) → AreNurseries old.lanes → n < 16 → cur ≡ get_or old.lanes n cur → p ≡ next_place cur (object_cells o) → lane_of p ≡ cur.lane → Bumped cur new (next_place cur (object_cells o)) o → new ≡ record { lane = cur.lane; lists = with_object cur.lists o } → IsMade old (record { limit = old.limit; lanes = slice_set old.lanes n new }) n p o
+made old n p cur new o r h read place lane bumped lists = record {
+  store = cur;
+  store_is = there;
+  place = place;
+  lane = in_nursery p n (lane ∙ r.numbered n cur there) h;
+  bumped = subst (λ q. Bumped cur (record { lane = cur.lane; lists = with_object cur.lists o }) q o) (sym place) (subst (λ t. Bumped cur t (next_place cur (object_cells o)) o) lists bumped);
+  lanes = ap (λ t. record { limit = old.limit; lanes = slice_set old.lanes n t }) lists;
+  cells = young_set old.lanes n cur new (object_cells o) there (ap (λ t. lane_cells t) lists ∙ cells_more cur.lists o);
+}
+  where
+    there : slice_get old.lanes n ≡ Some cur
+    there = let many = r.many in slice_get_read old.lanes (length old.lanes) n cur refl (omega (arith, many, h)) read
+
+-- and the nurseries stay in order
+pub young_more : (limit cells size : ℕ) (lanes : List Blocks) (n : ℕ) (cur new : Blocks) (o : Object) → IsYoung limit cells lanes → n < 16 → cur ≡ get_or lanes n cur → new ≡ record { lane = cur.lane; lists = with_object cur.lists o } → size ≡ object_cells o → young_cells lanes + object_cells o ≤ limit → IsYoung limit (cells + size) (slice_set lanes n new)
+young_more limit cells size lanes n cur new o y h read lists same fits =
+    let many = y.nurseries.many in
+    let there = slice_get_read lanes (length lanes) n cur refl (omega (arith, many, h)) read in
+    let all = young_set lanes n cur new (object_cells o) there (ap (λ t. lane_cells t) lists ∙ cells_more cur.lists o) in
+    let counted = y.counted in
+    record {
+      nurseries = nurseries_set lanes n cur new y.nurseries there (ap (λ t. t.lane) lists);
+      counted = omega (arith, all, counted, same);
+      within = omega (arith, counted, same, fits);
+    }
+
+-- so many nurseries without blocks
+pub record AreBare (lanes : List Blocks) (n : ℕ) : Type 0 where
+  pub many : length lanes ≡ n
+  pub numbered : (k : ℕ) (s : Blocks) → slice_get lanes k ≡ Some s → s.lane ≡ k + 1
+  pub cells : young_cells lanes ≡ 0
+
+pub bare_none : (lanes : List Blocks) → lanes ≡ [] → AreBare lanes 0
+bare_none lanes e = subst (λ ls. AreBare ls 0) (sym e) (record { many = refl; numbered = λ k s f. cc; cells = refl })
+
+pub bare_more : (lanes more : List Blocks) (n : ℕ) → AreBare lanes n → more ≡ lanes ++ record { lane = n + 1; lists = [] } ∷ [] → AreBare more (n + 1)
+bare_more lanes more n b e = subst (λ ls. AreBare ls (n + 1)) (sym e) (record {
+  many = let all = length-append lanes (record { lane = n + 1; lists = [] } ∷ []) in let many = b.many in omega (arith, all, many);
+  numbered = λ k s f. by k s f (eqb_tells k (length lanes));
+  cells = let all = sum_by_push lane_cells lanes (record { lane = n + 1; lists = [] }) in let cells = b.cells in omega (arith, all, cells);
+})
+  where
+    by : (k : ℕ) (s : Blocks) → slice_get (lanes ++ record { lane = n + 1; lists = [] } ∷ []) k ≡ Some s → ((nat_eq k (length lanes) ≡ true) × (k ≡ length lanes)) ⊎ ((nat_eq k (length lanes) ≡ false) × (k ≢ length lanes)) → s.lane ≡ k + 1
+    by k s f (inr d) = b.numbered k s (sym (get_before_end lanes (record { lane = n + 1; lists = [] }) k d.1) ∙ f)
+    by k s f (inl d) =
+        let here : Some (record { lane = n + 1; lists = [] }) ≡ Some s = sym (get_end lanes (record { lane = n + 1; lists = [] })) ∙ ap (slice_get (lanes ++ record { lane = n + 1; lists = [] } ∷ [])) (sym d.1) ∙ f in
+        let same : s ≡ record { lane = n + 1; lists = [] } = cc in
+        let lane : s.lane ≡ n + 1 = ap (λ y. y.lane) same in
+        let many = b.many in
+        omega (arith, lane, d.1, many)
+
+pub bare_all : (lanes : List Blocks) → AreBare lanes 16 → AreNurseries lanes × (young_cells lanes ≡ 0)
+bare_all lanes b = (record { many = b.many; numbered = b.numbered }, b.cells)

@@ -1,0 +1,141 @@
+// The nurseries of the workers.
+
+ghost use Rattle.std.specs.Prelude.{◌≡◌, ℕ, ◌+◌, ◌*◌, ◌/◌, ◌%◌, ◌<◌, ◌≤◌, ◌^◌, [], Some, IfOk, OnErr, length, slice_get, replicate, nat_le};
+ghost use Rattle.jm_blocks.specs.Objects.{object_of};
+ghost use Rattle.jm_blocks.specs.Cells.{object_cells};
+ghost use Rattle.jm_nursery.specs.Nurseries.{Young, AreNurseries, IsMade, quota, young_cells, nursery_at};
+
+use jm_blocks::{BlockStore, Header, Position};
+use jm_values::{Place, Value};
+use std::alloc::{AllocError, Global};
+use std::marker::Model;
+use std::mem;
+
+/// How many nurseries there are.
+const NURSERIES: usize = 16;
+
+/// The nursery in which a place is, or None where it is in a lane of none.
+#[inline]
+pub fn nursery_of(place: Place) -> Option<usize>
+    ensures { result ≡ nursery_at place }
+{
+    let position = Position::of(place);
+    if position.lane >= 1 && position.lane <= NURSERIES as u64 {
+        Some((position.lane - 1) as usize)
+    } else {
+        None
+    }
+}
+
+/// Sixteen nurseries without blocks, which a collection may fill.
+pub fn empty_nurseries(alloc: Global) -> Result<Vec<BlockStore>, AllocError>
+    ensures { IfOk result (λ stores. AreNurseries stores.items × (young_cells stores.items ≡ 0)) }
+{
+    let mut stores = Vec::with_capacity(alloc, NURSERIES)?;
+    for number in 0..NURSERIES {
+        stores.push(BlockStore::new(alloc, number as u64 + 1))?;
+    }
+    Ok(stores)
+}
+
+/// The blocks of sixteen workers' nurseries, and the cells of all their objects.
+#[derive(Drop)]
+pub struct Nurseries {
+    limit: u32,
+    cells: u64,
+    stores: Vec<BlockStore>,
+}
+
+impl Model for Nurseries {
+    ghost use Rattle.jm_nursery.specs.Nurseries.{Young, IsYoung};
+
+    ghost Value = { Young };
+
+    ghost view = { λ n. record { limit = n.limit; lanes = n.stores.items } };
+
+    ghost invariant = { λ n. IsYoung n.limit n.cells n.stores.items };
+}
+
+impl Nurseries {
+    /// Nurseries without objects, in a heap with this limit in cells.
+    pub fn new(alloc: Global, limit: u32) -> Result<Nurseries, AllocError>
+        ensures limit { IfOk result (λ young. young.limit ≡ limit) }
+        ensures empty { IfOk result (λ young. AreNurseries young.lanes × (young_cells young.lanes ≡ 0)) }
+    {
+        Ok(Nurseries {
+            limit,
+            cells: 0,
+            stores: empty_nurseries(alloc)?,
+        })
+    }
+
+    /// A quarter of the limit, rounded down: so many cells young objects may have before a minor
+    /// collection.
+    pub fn quota(&self) -> u64
+        ensures { result ≡ quota self.now }
+    {
+        self.limit as u64 / 4
+    }
+
+    /// The cells of all objects.
+    pub fn cells(&self) -> u64
+        ensures value { result ≡ young_cells self.now.lanes }
+        ensures within { result ≤ self.now.limit }
+    {
+        self.cells
+    }
+
+    /// Whether the cells with so many more stay within the quota.
+    #[inline]
+    pub fn has_room(&self, cells: u64) -> bool
+        requires { cells < 2 ^ 63 }
+        ensures { result ≡ nat_le (young_cells self.now.lanes + cells) (quota self.now) }
+    {
+        let quota = self.limit as u64 / 4;
+        self.cells + cells <= quota
+    }
+
+    /// The stores of the nurseries, in order; the last block of each is its worker's current one.
+    pub fn stores(&self) -> &[BlockStore]
+        ensures value { result.now ≡ self.now.lanes }
+        ensures nurseries { AreNurseries self.now.lanes }
+    {
+        self.stores.as_slice()
+    }
+
+    /// Makes an object in the nursery of a worker, its number modulo 16; all values are copies of
+    /// one. A growth that is refused changes nothing.
+    pub fn make(
+        &mut self,
+        alloc: Global,
+        worker: usize,
+        header: Header,
+        value: Value,
+        count: u32,
+    ) -> Result<Place, AllocError>
+        requires { let o = object_of header (replicate count value) in young_cells self.old.lanes + object_cells o ≤ self.old.limit }
+        ensures ok { let o = object_of header (replicate count value) in IfOk result (λ p. IsMade self.old self.new (worker % 16) p o) }
+        ensures err { OnErr result (self.new ≡ self.old) }
+    {
+        let size = header.class.size(count as u64);
+        let store = &mut self.stores[worker % NURSERIES];
+        let place = store.reserve(size)?;
+        store.fill_copies(alloc, header, value, count)?;
+        self.cells += size;
+        Ok(place)
+    }
+
+    /// Puts other stores in the place of those of all nurseries, which it hands over: no block is
+    /// lost or held twice. Who puts them in has counted their cells.
+    pub fn exchange(&mut self, stores: Vec<BlockStore>, cells: u64) -> Vec<BlockStore>
+        requires nurseries { AreNurseries stores.items }
+        requires counted { cells ≡ young_cells stores.items }
+        requires within { cells ≤ self.old.limit }
+        ensures out { result.items ≡ self.old.lanes }
+        ensures held { self.new ≡ record { limit = self.old.limit; lanes = stores.items } }
+        ensures nurseries { AreNurseries result.items }
+    {
+        self.cells = cells;
+        mem::replace(&mut self.stores, stores)
+    }
+}
