@@ -4,3 +4,5 @@ pub mod Placing
 pub mod Density
 pub mod Filling
 pub mod Walking
+pub mod Popping
+pub mod Unfilling

@@ -146,7 +146,7 @@ held_by es vs os cells e b = subst (λ ss. HoldsItsCells ss) (sym (sizes_by es v
 pub cells_by : (es : List Entry) (vs : List Value) (os : List Object) (cells : ℕ) → spelled es vs ≡ os → IsBlock es vs cells → cells ≡ sum (sizes_of os)
 cells_by es vs os cells e b = b.counted ∙ ap sum (sym (sizes_by es vs os cells e b))
 
-map_push : (f : Entry → ℕ) (es : List Entry) (e : Entry) → map f (es ++ e ∷ []) ≡ map f es ++ f e ∷ []
+pub map_push : (f : Entry → ℕ) (es : List Entry) (e : Entry) → map f (es ++ e ∷ []) ≡ map f es ++ f e ∷ []
 map_push f [] e = refl
 map_push f (g ∷ es) e = ap (λ ss. f g ∷ ss) (map_push f es e)
 

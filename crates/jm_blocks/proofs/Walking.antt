@@ -16,7 +16,7 @@ some_at (o ∷ os) zero h = (o, refl)
 some_at (o ∷ os) (suc k) h = some_at os k (omega arith)
 
 -- a block of dense ones has an object
-block_at : (bs : List (List Object)) (b : ℕ) → IsDense (all_sizes bs) → b < length bs → (os : List Object) × (slice_get bs b ≡ Some os) × (0 < length os)
+pub block_at : (bs : List (List Object)) (b : ℕ) → IsDense (all_sizes bs) → b < length bs → (os : List Object) × (slice_get bs b ≡ Some os) × (0 < length os)
 block_at [] b d h = absurd (omega arith)
 block_at (c ∷ bs) zero d h = let many = length_sizes c in (c, refl, omega (arith, many, d.0))
 block_at (c ∷ bs) (suc b) d h = block_at bs b d.2 (omega arith)

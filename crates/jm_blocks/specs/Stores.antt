@@ -1,5 +1,6 @@
 -- The objects of a store by their places.
-use Rattle.std.specs.Prelude.{◌≡◌, ◌≢◌, ℕ, ◌-◌, ◌<◌, ◌≤◌, List, [], ◌∷◌, ◌++◌, Option, Some, None, Bool, false, nat_eq, if◌then◌else◌, slice_get, length, map, sum_by}
+use Rattle.std.specs.Prelude.{◌≡◌, ◌≢◌, ℕ, ◌-◌, ◌<◌, ◌≤◌, [], ◌∷◌, ◌++◌, if◌then◌else◌}
+use Rattle.std.specs.Prelude.{List, Option, Some, None, Bool, false, nat_eq, slice_get, length, map, sum_by}
 use Rattle.jm_values.specs.declared.value.Value.{Value}
 use Rattle.jm_blocks.specs.Objects.{Object, with_value}
 use Rattle.jm_blocks.specs.Cells.{object_cells, sizes_of, block_cells, has_room}
@@ -61,6 +62,9 @@ abbrev pub with_object : List (List Object) → Object → List (List Object)
 with_object [] o = (o ∷ []) ∷ []
 with_object (b ∷ []) o = if has_room (sizes_of b) (object_cells o) then (b ++ o ∷ []) ∷ [] else b ∷ (o ∷ []) ∷ []
 with_object (b ∷ c ∷ bs) o = b ∷ with_object (c ∷ bs) o
+
+abbrev pub store_with : Blocks → Object → Blocks
+store_with s o = record { lane = s.lane; lists = with_object s.lists o }
 
 abbrev pub objects_of : Option (List Object) → List Object
 objects_of None = []

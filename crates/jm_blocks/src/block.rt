@@ -4,7 +4,7 @@ ghost use Rattle.std.specs.Prelude.{◌≡◌, ◌+◌, ◌<◌, ◌≤◌, ◌^
 ghost use Rattle.std.specs.Prelude.{take, drop, length, slice_get, slice_set, replicate};
 ghost use Rattle.jm_heap.specs.Cells.{class_size};
 ghost use Rattle.jm_blocks.specs.Objects.{Object, object_of, with_value};
-ghost use Rattle.jm_blocks.specs.Cells.{sizes_of, block_cells, has_room, HoldsItsCells};
+ghost use Rattle.jm_blocks.specs.Cells.{object_cells, sizes_of, block_cells, has_room, HoldsItsCells};
 
 use crate::header::Header;
 use jm_values::Value;
@@ -185,6 +185,18 @@ impl Block {
             length: count,
         });
         Ok(())
+    }
+
+    /// Gives up the last object: what is left has room for it.
+    pub fn pop(&mut self)
+        requires { 0 < length self.old }
+        ensures { (o : Object) × (self.old ≡ self.new ++ o ∷ []) × (has_room (sizes_of self.new) (object_cells o) ≡ true) }
+    {
+        let last = self.entries.len() - 1;
+        let entry = self.entries[last];
+        self.cells -= entry.header.class.size(entry.length as u64);
+        self.entries.truncate(last);
+        self.values.truncate(entry.start);
     }
 
     /// Changes one value of an object.

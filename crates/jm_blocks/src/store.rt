@@ -5,7 +5,7 @@ ghost use Rattle.jm_blocks.specs.Objects.{Object, object_of};
 ghost use Rattle.jm_blocks.specs.Cells.{object_cells};
 ghost use Rattle.jm_blocks.specs.Places.{place_at, lane_of};
 ghost use Rattle.jm_blocks.specs.Stores.{Blocks, objects_in, HasObject, HasValue, Bumped, IsSet, IsAfter, IsFirst, IsLast, IsEmpty};
-ghost use Rattle.jm_blocks.specs.Stores.{last_has_room, with_object, next_place, store_cells};
+ghost use Rattle.jm_blocks.specs.Stores.{last_has_room, store_with, next_place, store_cells};
 
 use crate::block::Block;
 use crate::header::Header;
@@ -167,7 +167,7 @@ impl BlockStore {
     ) -> Result<(), AllocError>
         requires { length values.now < 2 ^ 32 }
         ensures ok { let o = object_of header values.now in OnOk result (Bumped self.old self.new (next_place self.old (object_cells o)) o) }
-        ensures blocks { OnOk result (self.new ≡ record { lane = self.old.lane; lists = with_object self.old.lists (object_of header values.now) }) }
+        ensures blocks { OnOk result (self.new ≡ store_with self.old (object_of header values.now)) }
         ensures err { OnErr result (self.new ≡ self.old) }
     {
         let blocks = self.blocks.len();
@@ -194,7 +194,7 @@ impl BlockStore {
         count: u32,
     ) -> Result<(), AllocError>
         ensures ok { let o = object_of header (replicate count value) in OnOk result (Bumped self.old self.new (next_place self.old (object_cells o)) o) }
-        ensures blocks { OnOk result (self.new ≡ record { lane = self.old.lane; lists = with_object self.old.lists (object_of header (replicate count value)) }) }
+        ensures blocks { OnOk result (self.new ≡ store_with self.old (object_of header (replicate count value))) }
         ensures err { OnErr result (self.new ≡ self.old) }
     {
         let blocks = self.blocks.len();
@@ -209,6 +209,21 @@ impl BlockStore {
         block.bump_copies(header, value, count)?;
         self.blocks.push(block)?;
         Ok(())
+    }
+
+    /// Gives up the last object, and its block with it where it is the only one there: the store is
+    /// then as it was before that object was put in.
+    pub fn pop(&mut self)
+        requires { 0 < length self.old.lists }
+        ensures { (o : Object) × (self.old ≡ store_with self.new o) }
+    {
+        let last = self.blocks.len() - 1;
+        let block = &mut self.blocks[last];
+        if block.len() > 1 {
+            block.pop();
+        } else {
+            self.blocks.truncate(last);
+        }
     }
 
     /// The place of the first object.

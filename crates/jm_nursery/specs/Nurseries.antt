@@ -3,7 +3,7 @@ use Rattle.std.specs.Prelude.{◌≡◌, ℕ, ◌+◌, ◌-◌, ◌/◌, ◌≤�
 use Rattle.jm_blocks.specs.Objects.{Object}
 use Rattle.jm_blocks.specs.Cells.{object_cells}
 use Rattle.jm_blocks.specs.Places.{lane_of}
-use Rattle.jm_blocks.specs.Stores.{Blocks, store_cells, with_object, next_place, Bumped}
+use Rattle.jm_blocks.specs.Stores.{Blocks, store_cells, store_with, next_place, Bumped}
 
 -- the heap's limit in cells, and the blocks of each nursery, by its number
 pub record Young : Type 0 where
@@ -36,8 +36,8 @@ pub record IsMade (old new : Young) (n p : ℕ) (o : Object) : Type 0 where
   pub store_is : slice_get old.lanes n ≡ Some store
   pub place : p ≡ next_place store (object_cells o)
   pub lane : nursery_at p ≡ Some n
-  pub bumped : Bumped store (record { lane = store.lane; lists = with_object store.lists o }) p o
-  pub lanes : new ≡ record { limit = old.limit; lanes = slice_set old.lanes n (record { lane = store.lane; lists = with_object store.lists o }) }
+  pub bumped : Bumped store (store_with store o) p o
+  pub lanes : new ≡ record { limit = old.limit; lanes = slice_set old.lanes n (store_with store o) }
   pub cells : young_cells new.lanes ≡ young_cells old.lanes + object_cells o
 
 -- what holds of the nurseries' fields
