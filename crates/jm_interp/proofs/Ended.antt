@@ -6,12 +6,11 @@ use Rattle.jm_world.specs.Frames.{optional_number_shape}
 use Rattle.std.specs.Vec.{with_item}
 use Rattle.jm_program.specs.declared.class.ClassParts.{ClassParts}
 use Rattle.jm_values.specs.Content.{Content, name_of}
-use Rattle.jm_world.specs.Matches.{Matches}
 use Rattle.jm_world.specs.Next.{goes}
-use Rattle.jm_world.specs.Renaming.{rename_thread, rename_object}
+use Rattle.jm_world.specs.Renaming.{rename_object}
 use Rattle.jm_world.specs.World.{Thread, is_running, live_among, with_thread, returned, object_refs}
 use Rattle.jm_heap.specs.declared.class_id.ClassId.{ClassId}
-use Rattle.jm_state.specs.Parts.{thread_part, ending_part}
+use Rattle.jm_state.specs.Parts.{parts, thread_part, ending_part}
 use Rattle.jm_state.specs.Runnable.{ThreadRuns, ThreadNotYet, StateRuns}
 use Rattle.jm_state.specs.declared.halt.StepEnd.TheVariants.{Done}
 use Rattle.jm_state.specs.declared.state.State.{State}
@@ -22,10 +21,11 @@ use Rattle.jm_state.specs.declared.thread.Thread as held
 use Rattle.jm_interp.specs.declared.at.At.{At}
 use Rattle.jm_interp.specs.At.{parts_at, OnThread, Does}
 use Rattle.jm_interp.specs.Ending.{ended_as}
-use Rattle.jm_interp.specs.Standing.{ThreadRest, Stands, part_of}
-use Rattle.jm_interp.proofs.Lists.{get_map, map_set}
-use Rattle.jm_interp.proofs.OnThread.{does, part_here, changed_matches, same_rest}
-use Rattle.jm_interp.proofs.Threads.{held_is, all_set, live_less}
+use Rattle.jm_interp.specs.Standing.{ThreadRest, Stands}
+use Rattle.jm_values.proofs.Lists.{get_map, map_set}
+use Rattle.jm_interp.proofs.OnThread.{part_here, goes_to}
+use Rattle.jm_interp.proofs.Threads.{held_is, all_set}
+use Rattle.jm_world.proofs.Live.{live_less}
 
 none_left : (program : List ClassParts) (f g : ℕ → ℕ) (e : code.Ending) (o : Option ℕ) → o ≡ None → rename_object f (ending_part program e) o ≡ option_map g o
 none_left program f g Running o n = ap (option_map f) n ∙ sym (ap (option_map g) n)
@@ -84,11 +84,11 @@ module _ {H : Type 0} {content : H → Content ClassId} {at : At} {old : State H
         }
 
     pub ends : Does content at old (Ok Done) ended_state (λ w number x. goes (ended_as w number x (ending_part at.linked.now.program e)))
-    ends = does h ended_runs (λ w m.
-        let f = name_of (content old.heap) in
-        let x = rename_thread f (part_of at.linked.now [] (record { object = h.object; pending = None; ending = e })) in
+    unfolding parts
+    ends =
         let y : Option ℕ → Thread = λ object. record { object = object; frames = []; pending = None; ending = ending_part at.linked.now.program e } in
-        subst (λ z. Matches (parts_at content at ended_state) (with_thread w (at.index + 1) z)) (ap y (none_left at.linked.now.program f f e h.object none))
-        (subst (Matches (parts_at content at ended_state)) (same_rest h w m x)
-        (changed_matches h ended_state (record { threads = refl; statics = refl; literals = refl; monitors = refl; heap = refl; stop = refl }) s
-        (λ q a. absurd (no_object at.linked.now.program e h.object q none a)) (λ q a. absurd a) w m)))
+        goes_to h ended_state (λ w. w.classes) (λ w. w.output) ended_runs
+        (record { threads = refl; statics = refl; literals = refl; monitors = refl; heap = refl; stop = refl }) s
+        (λ q a. absurd (no_object at.linked.now.program e h.object q none a)) (λ q a. absurd a) (λ w m. (m.classes, m.output))
+        (λ w m. ap (λ o. goes (with_thread w (at.index + 1) (y o)))
+        (sym (none_left at.linked.now.program (name_of (content old.heap)) (name_of (content old.heap)) e h.object none)))

@@ -34,17 +34,17 @@ use Rattle.jm_state.specs.declared.state.State.{State}
 use Rattle.jm_state.specs.declared.thread.StackFrame.{StackFrame}
 use Rattle.jm_state.specs.declared.thread.StackFrame.TheVariants.{Initialization}
 use Rattle.jm_state.specs.declared.thread.Thread as held
-use Rattle.jm_interp.proofs.Lists.{each_set, each_at}
+use Rattle.jm_values.proofs.Lists.{each_set, each_at}
 use Rattle.jm_linked.proofs.BuiltIns.{others}
 use Rattle.jm_linked.proofs.SystemOut.{not_listed}
 use Rattle.jm_linked.proofs.Classes.{IsPlain, plain_class, state_is, states_set, class_is}
 use Rattle.std.specs.Prelude.{slice_index_or, vec_len, Ok}
 use Rattle.jm_interp.specs.declared.at.At.{At}
-use Rattle.jm_interp.specs.At.{parts_at, OnThread, Does, Steps}
+use Rattle.jm_interp.specs.At.{parts_at, HoldsAll, OnThread, Does, Steps}
 use Rattle.jm_interp.specs.Standing.{Stands, running, part_of}
-use Rattle.jm_interp.proofs.OnThread.{model, does, does_as, blocks, held_frames, part_here, runs_with, ChangedTo, changed_matches, with_thread_at}
+use Rattle.jm_interp.proofs.OnThread.{Leads, thread_as, model, does_as, blocks, held_frames, part_here, runs_with, ChangedTo, with_thread_at}
 use Rattle.jm_interp.proofs.OnThread as thread
-use Rattle.jm_interp.proofs.Lists.{get_there, get_at}
+use Rattle.jm_values.proofs.Lists.{get_there, get_at}
 use Rattle.jm_interp.proofs.Threads.{part_refs, PartRuns, without_top, with_top}
 use Rattle.jm_state.specs.Runnable.{StateRuns}
 use Rattle.jm_state.specs.declared.halt.StepEnd.TheVariants as step_end
@@ -95,10 +95,7 @@ module _ {H : Type 0} {content : H → Content ClassId} {at : At} {old : State H
 
   -- the frames below, in the model
   abbrev lower : List Frame
-  lower = map (rename_frame (name_of (content old.heap))) (map (frame_part at.linked.now) below)
-
-  abbrev other : List StackFrame → Thread
-  other fs = rename_thread (name_of (content old.heap)) (part_of at.linked.now fs (running h.object None))
+  lower = thread.lower h below
 
   pub class_of : HasClass at.linked.now class
   class_of = has_class at.linked.now h.beside.linked class (part_here h).runs.frames.0
@@ -113,17 +110,17 @@ module _ {H : Type 0} {content : H → Content ClassId} {at : At} {old : State H
   -- frames that hold the places of those below
   inside : (fs : List StackFrame)
       → ((q : ℕ) → Among q (frames_shape.refs (map (frame_part at.linked.now) fs)) → Among q (frames_shape.refs (map (frame_part at.linked.now) below)))
-      → (q : ℕ) → Among q (held_shape.refs (None, map (frame_part at.linked.now) fs)) → Among q (places (parts_at content at old))
+      → HoldsAll content at old (held_shape.refs (None, map (frame_part at.linked.now) fs))
   inside fs e q a = held_frames h q (elim (part_refs at.linked.now fs None q a) [ inl z ↦ absurd z | inr z ↦ e q z ])
 
   -- the frame is dropped, or goes to another stage
   pub dropped : {t : held.Thread} {rule : World → ℕ → Thread → Next} → Stands t below (running h.object None)
-      → ((w : World) → Matches (parts_at content at old) w → rule w (at.index + 1) (model h) ≡ goes (with_frames w (at.index + 1) (model h) lower))
+      → Leads h rule (λ w. goes (with_frames w (at.index + 1) (model h) lower))
       → Does content at old (Ok step_end.Done) (with_thread_at old at.index t) rule
   dropped s' is = thread.goes h s' (dropped_runs (part_here h)) (inside below (λ q a. a)) is
 
   pub staged : {t : held.Thread} {s' : Stage} {rule : World → ℕ → Thread → Next} → Stands t (Initialization class s' ∷ below) (running h.object None)
-      → ((w : World) → Matches (parts_at content at old) w → rule w (at.index + 1) (model h) ≡ goes (at_stage w (at.index + 1) (model h) name s' lower))
+      → Leads h rule (λ w. goes (at_stage w (at.index + 1) (model h) name s' lower))
       → Does content at old (Ok step_end.Done) (with_thread_at old at.index t) rule
   staged {t} {s'} is_so is = thread.goes h is_so (staged_runs (part_here h)) (inside (Initialization class s' ∷ below) (λ q a. a)) is
 
@@ -152,24 +149,13 @@ module _ {H : Type 0} {content : H → Content ClassId} {at : At} {old : State H
   -- a thread and the state of the class have changed
   changes : {new : State H} {t : held.Thread} {fs : List StackFrame} {st : ClassState} {rule : World → ℕ → Thread → Next} → ChangedTo h new t
       → new.classes.items ≡ slice_set old.classes.items class st → new.output.items ≡ old.output.items → StateRuns at.linked.now new
-      → Stands t fs (running h.object None) → ((q : ℕ) → Among q (held_shape.refs (None, map (frame_part at.linked.now) fs))
-      → Among q (places (parts_at content at old))) → ((w : World) → Matches (parts_at content at old) w
-      → rule w (at.index + 1) (model h) ≡ goes (with_thread (with_state w name st) (at.index + 1) (other fs))) → Does content at old (Ok step_end.Done) new rule
+      → Stands t fs (running h.object None) → HoldsAll content at old (held_shape.refs (None, map (frame_part at.linked.now) fs))
+      → Leads h rule (λ w. goes (with_thread (with_state w name st) (at.index + 1) (thread_as h fs (running h.object None))))
+      → Does content at old (Ok step_end.Done) new rule
   unfolding parts
-  changes {new} {t} {fs} {st} same classes output runs s' within is = does h runs (λ w m.
-      let n : at.index + 1 - 1 ≡ at.index = omega arith in
-      let states : named_states at.linked.now.program new.classes.items ≡ set_state_in w.classes name st =
-      ap (named_states at.linked.now.program) classes ∙ states_here st w m in
-      subst (Ended (Ok step_end.Done) (parts_at content at new) w) (sym (is w m))
-      (subst (λ k. Matches (parts_at content at new) (record w { threads = slice_set w.threads k (other fs); classes = set_state_in w.classes name st }))
-      (sym n)
-      (subst (λ k. Matches (parts_at content at new) (record w { threads = slice_set w.threads at.index (other fs); classes = k })) states
-      (subst (λ k. Matches (parts_at content at new) (record w {
-        threads = slice_set w.threads at.index (other fs);
-        classes = named_states at.linked.now.program new.classes.items;
-        output = k;
-      })) (output ∙ m.output)
-      (changed_matches h new same s' (λ q a. a) within w m)))))
+  changes {new} {st = st} same classes output runs s' within is =
+      thread.goes_to h new (λ w. set_state_in w.classes name st) (λ w. w.output) runs same s' (λ q a. a) within
+      (λ w m. (ap (named_states at.linked.now.program) classes ∙ states_here st w m, output ∙ m.output)) is
 
   -- the state with another thread and state of the class runs on
   class_runs : (new : State H) {t : held.Thread} {fs : List StackFrame} {st : ClassState} → st ≢ Failed → ChangedTo h new t
@@ -198,14 +184,13 @@ module _ {H : Type 0} {content : H → Content ClassId} {at : At} {old : State H
       (λ w m. refl)
 
   -- what the model does at the stages
-  pub begin_is : {st : ClassState} → s ≡ stage.Begin → slice_get old.classes.items class ≡ Some st → (w : World) → Matches (parts_at content at old) w
-      → step_thread w (at.index + 1) (model h) ≡ begin w (at.index + 1) (model h) name lower st
+  pub begin_is : {st : ClassState} → s ≡ stage.Begin → slice_get old.classes.items class ≡ Some st
+      → Leads h step_thread (λ w. begin w (at.index + 1) (model h) name lower st)
   begin_is {st} e there w m =
       ap (λ z. initialize w (at.index + 1) (model h) name z lower) e
       ∙ ap (begin w (at.index + 1) (model h) name lower) (state_here there w m)
 
-  superclass_is : s ≡ stage.Superclass → (w : World) → Matches (parts_at content at old) w
-      → step_thread w (at.index + 1) (model h) ≡ goes (at_stage w (at.index + 1) (model h) name stage.Initializer lower)
+  superclass_is : s ≡ stage.Superclass → Leads h step_thread (λ w. goes (at_stage w (at.index + 1) (model h) name stage.Initializer lower))
   unfolding parts
   superclass_is e w m =
       let l = at.linked.now in

@@ -1,6 +1,4 @@
-pub mod Lists
 pub mod StageSteps
-pub mod Standing
 pub mod Threads
 pub mod OnThread
 pub mod Objects

@@ -1,6 +1,6 @@
 -- The object of a place that a machine holds.
 use Rattle.std.proofs.Common.{◌≡◌, ℕ, List, Option, Some, sym, ap, ◌∙◌}
-use Rattle.std.specs.Prelude.{slice_get, option_map, unwrap_or}
+use Rattle.std.specs.Prelude.{slice_get, option_map}
 use Rattle.jm_values.specs.Shape.{Among}
 use Rattle.jm_values.specs.Content.{Content, name_of, serial_at, object_at}
 use Rattle.jm_world.specs.Matches.{Matches, places, as_named}
@@ -13,13 +13,8 @@ use Rattle.jm_state.specs.declared.state.State.{State}
 use Rattle.jm_state.specs.declared.thread.StackFrame.{StackFrame}
 use Rattle.jm_interp.specs.declared.at.At.{At}
 use Rattle.jm_interp.specs.At.{parts_at, OnThread}
-use Rattle.jm_values.proofs.SoundContents.{object_of_place}
-use Rattle.jm_interp.proofs.Standing.{reach_shared, place_stands}
-
--- its serial
-pub name_is : {T : Type 0} (c : Content T) (p k : ℕ) → serial_at c p ≡ Some k → name_of c p ≡ k
-unfolding name_of
-name_is c p k e = ap (λ o. unwrap_or o 0) e
+use Rattle.jm_values.proofs.SoundContents.{object_of_place, name_is}
+use Rattle.jm_world.proofs.Changed.{reach_shared, place_stands}
 
 module _ {H : Type 0} {content : H → Content ClassId} {at : At} {old : State H} {fs : List StackFrame} {p : Option ℕ} (h : OnThread content at old fs p) where
   -- the object in the heap, and in every world beside the state

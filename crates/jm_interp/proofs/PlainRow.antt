@@ -35,26 +35,25 @@ use Rattle.jm_state.specs.declared.state.State.{State}
 use Rattle.jm_state.specs.declared.thread.StackFrame.TheVariants.{Method}
 use Rattle.jm_state.specs.declared.thread.Thread as held
 use Rattle.jm_interp.specs.declared.at.At.{At}
-use Rattle.jm_interp.specs.At.{parts_at, InMethod, StandsOn, Does, Steps}
+use Rattle.jm_interp.specs.At.{HoldsAll, InMethod, StandsOn, Does, Steps}
 use Rattle.jm_interp.specs.Standing.{Stands, running}
 use Rattle.jm_interp.specs.Stepped.{Stays}
 use Rattle.jm_interp.proofs.Here.{place, row_is, Leaves, done, left, top_held, one_to_one, goes_on, faults_there}
-use Rattle.jm_interp.proofs.OnThread.{model, with_thread_at, still, same_matches, does_as}
+use Rattle.jm_interp.proofs.OnThread.{Leads, with_thread_at, still, same_matches, does_as}
 
 module _ {H : Type 0} {content : H → Content ClassId} {at : At} {old : State H} {op : Plain}
     (h : StandsOn content at old (Links at.linked.now (linked.Plain op))) where
   pub plain_ordered : IsOrdered op
   plain_ordered = fitting_is_ordered _ op (ap (instr_fits _) (sym h.is) ∙ h.fits)
 
-  plain_is : (w : World) → Matches (parts_at content at old) w → step_thread w (at.index + 1) (model h.method.on) ≡ from_outcome (place h.method w)
-      (rename_outcome (name_of (content old.heap)) (row_plain op h.method.frame.activation))
+  plain_is : Leads h.method.on step_thread
+      (λ w. from_outcome (place h.method w) (rename_outcome (name_of (content old.heap)) (row_plain op h.method.frame.activation)))
   plain_is w m =
       row_is h w m
       ∙ ap (row (place h.method w)) h.is
       ∙ ap (from_outcome (place h.method w)) (plain_natural op (name_of (content old.heap)) h.method.frame.activation (one_to_one h.method))
 
-  plain_held : (b : Activation) → row_plain op h.method.frame.activation ≡ outcome.goes b → (q : ℕ) → Among q (refs_activation b)
-      → Among q (places (parts_at content at old))
+  plain_held : (b : Activation) → row_plain op h.method.frame.activation ≡ outcome.goes b → HoldsAll content at old (refs_activation b)
   plain_held b e q m = top_held h.method q (brings_none (row_plain op) (λ f x one. plain_natural op f x one) h.method.frame.activation b e q m)
 
   -- what the call on the thread that was read left

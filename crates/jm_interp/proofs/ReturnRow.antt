@@ -48,33 +48,11 @@ use Rattle.jm_interp.specs.Ending.{ended_as}
 use Rattle.jm_interp.specs.Standing.{Stands, part_of, ThreadRest, running}
 use Rattle.jm_interp.proofs.Fetching.{no_result}
 use Rattle.jm_interp.proofs.Here.{place, row_is}
-use Rattle.jm_interp.proofs.Lists.{get_there}
-use Rattle.jm_interp.proofs.OnThread.{model, with_thread_at, read, does, does_as, stops, held_frames, part_here, runs_with, same_matches, as_frames}
+use Rattle.jm_values.proofs.Lists.{get_there}
+use Rattle.jm_interp.proofs.OnThread.{Leads, lower, model, with_thread_at, read, does, does_as, stops, held_frames, part_here, runs_with, same_matches}
+use Rattle.jm_interp.proofs.OnThread.{as_frames}
 use Rattle.jm_interp.proofs.OnThread as thread
-use Rattle.jm_interp.proofs.Threads.{PartRuns, part_refs, without_top, with_top}
-
--- how many frames a thread has
-count_is : (t : held.Thread) (fs : List StackFrame) (r : ThreadRest) → Stands t fs r → vec_len t.frames ≡ length fs
-count_is t fs r s = t.frames.ok.0 ∙ sym (length-reverse t.frames.items) ∙ ap length s.frames_are
-
-pub none_below : (t : held.Thread) (f : StackFrame) (below : List StackFrame) (r : ThreadRest) (n : ℕ) → Stands t (f ∷ below) r → n ≡ vec_len t.frames → n < 2
-    → below ≡ []
-none_below t f [] r n s k h = refl
-none_below t f (b ∷ below) r n s k h = let a = count_is t (f ∷ b ∷ below) r s in absurd (omega arith)
-
-pub record HasBelow (below : List StackFrame) : Type 0 where
-  pub frame : StackFrame
-  pub rest : List StackFrame
-  pub is : below ≡ frame ∷ rest
-
-pub one_below : (t : held.Thread) (f : StackFrame) (below : List StackFrame) (r : ThreadRest) (n : ℕ) → Stands t (f ∷ below) r → n ≡ vec_len t.frames → 2 ≤ n
-    → HasBelow below
-one_below t f [] r n s k h = let a = count_is t (f ∷ []) r s in absurd (omega arith)
-one_below t f (b ∷ below) r n s k h = record { frame = b; rest = below; is = refl }
-
-pub no_frames : (t : held.Thread) (fs : List StackFrame) (r : ThreadRest) (n : ℕ) → Stands t fs r → n ≡ vec_len t.frames → n ≡ 0 → fs ≡ []
-no_frames t [] r n s k h = refl
-no_frames t (b ∷ below) r n s k h = let a = count_is t (b ∷ below) r s in absurd (omega arith)
+use Rattle.jm_interp.proofs.Threads.{HasTwo, tail_of, two_frames, few_frames, PartRuns, part_refs, without_top, with_top}
 
 -- a value is not returned
 popped : (o : Here) (type : OperandType) (f : ℕ → ℕ) (s : List Value) (r : Option FieldType) → r ≡ None
@@ -113,7 +91,7 @@ module _ {H : Type 0} {content : H → Content ClassId} {at : At} {old : State H
       let m = get_there at.linked.now.methods h.method.frame.method (part_here h.method.on).runs.frames.0 in
       no_result at.linked.now h.method.on.beside.linked h.method.frame.method m.0 m.1
 
-  return_is : (w : World) → Matches (parts_at content at old) w → step_thread w (at.index + 1) (model h.method.on) ≡ row_return (place h.method w) op
+  return_is : Leads h.method.on step_thread (λ w. row_return (place h.method w) op)
   return_is w m = row_is h w m ∙ ap (row (place h.method w)) h.is
 
   pub value_faults : {d : held.Thread} {fault : TagFault} → (op ≡ return.Void → ⊥) → d ≡ slice_index_or old.threads.items at.index d
@@ -132,8 +110,7 @@ as_void {content = content} {at = at} {old = old} is h = subst (λ o. StandsOn c
 module _ {H : Type 0} {content : H → Content ClassId} {at : At} {old : State H}
     (h : StandsOn content at old (Links at.linked.now (linked.Return return.Void))) where
   -- the model returns to the frames below
-  void_is : (w : World) → Matches (parts_at content at old) w → step_thread w (at.index + 1) (model h.method.on) ≡ returned_to w (at.index + 1)
-      (model h.method.on) None (map (rename_frame (name_of (content old.heap))) (map (frame_part at.linked.now) h.method.below))
+  void_is : Leads h.method.on step_thread (λ w. returned_to w (at.index + 1) (model h.method.on) None (lower h.method.on h.method.below))
   void_is w m =
       let o = place h.method w in
       return_is h w m
@@ -147,31 +124,34 @@ module _ {H : Type 0} {content : H → Content ClassId} {at : At} {old : State H
     pub last_returns : {new : State H} → n < 2 → Does content at old (Ok Done) new (λ w number t. goes (ended_as w number t returned))
         → Steps content at old (Ok Done) new
     last_returns few done =
-        let none : h.method.below ≡ [] = none_below d (Method h.method.frame) h.method.below _ n (read h.method.on got) count few in
+        let none : h.method.below ≡ [] = few_frames (read h.method.on got) count (omega arith) in
         does_as h.method.on (λ w m. m) (λ w m. void_is w m ∙ ap
         (λ fs. returned_to w (at.index + 1) (model h.method.on) None (map (rename_frame (name_of (content old.heap))) (map (frame_part at.linked.now) fs)))
         none) done
 
     -- a frame is below
     module _ (many : 2 ≤ n) where
-      pub below : HasBelow h.method.below
-      below = one_below d (Method h.method.frame) h.method.below _ n (read h.method.on got) count many
+      pub below : HasTwo (Method h.method.frame ∷ h.method.below)
+      below = two_frames (read h.method.on got) count (omega arith)
 
-      abbrev pub on_two : OnThread content at old (Method h.method.frame ∷ below.frame ∷ below.rest) None
-      on_two = as_frames h.method.on (ap (λ x. Method h.method.frame ∷ x) below.is)
+      abbrev pub below_is : h.method.below ≡ below.next ∷ below.rest
+      below_is = ap tail_of below.is
+
+      abbrev pub on_two : OnThread content at old (Method h.method.frame ∷ below.next ∷ below.rest) None
+      on_two = as_frames h.method.on (ap (λ x. Method h.method.frame ∷ x) below_is)
 
       returns_to : (w : World) → Matches (parts_at content at old) w → step_thread w (at.index + 1) (model on_two) ≡ returned_to w (at.index + 1)
-          (model on_two) None (map (rename_frame (name_of (content old.heap))) (map (frame_part at.linked.now) (below.frame ∷ below.rest)))
+          (model on_two) None (map (rename_frame (name_of (content old.heap))) (map (frame_part at.linked.now) (below.next ∷ below.rest)))
       returns_to w m =
           let f = rename_frame (name_of (content old.heap)) in
           let x : List StackFrame → Thread =
           λ fs. rename_thread (name_of (content old.heap)) (part_of at.linked.now (Method h.method.frame ∷ fs) (running h.method.on.object None)) in
-          subst (λ fs. step_thread w (at.index + 1) (x fs) ≡ returned_to w (at.index + 1) (x fs) None (map f (map (frame_part at.linked.now) fs))) below.is
+          subst (λ fs. step_thread w (at.index + 1) (x fs) ≡ returned_to w (at.index + 1) (x fs) None (map f (map (frame_part at.linked.now) fs))) below_is
           (void_is w m)
 
       module _ {e : held.Thread} (t : held.Thread) (again : e ≡ slice_index_or old.threads.items at.index e) where
         pub returns_below : Leaving (Ok tt) e t → Steps content at old (Ok Done) (with_thread_at old at.index t)
-        returns_below leaving = by below.frame on_two returns_to (leaving h.method.frame below.frame below.rest _ (read on_two again))
+        returns_below leaving = by below.next on_two returns_to (leaving h.method.frame below.next below.rest _ (read on_two again))
           where
             by : (b : StackFrame) (k : OnThread content at old (Method h.method.frame ∷ b ∷ below.rest) None) → ((w : World) → Matches
                 (parts_at content at old) w → step_thread w (at.index + 1) (model k) ≡ returned_to w (at.index + 1) (model k) None
@@ -200,7 +180,7 @@ module _ {H : Type 0} {content : H → Content ClassId} {at : At} {old : State H
                 ]) room)
 
         pub stays_there : {halt : Halt} → Leaving (Err halt) e t → Steps content at old (Err halt) (with_thread_at old at.index t)
-        stays_there {halt} leaving = by halt below.frame on_two returns_to (leaving h.method.frame below.frame below.rest _ (read on_two again))
+        stays_there {halt} leaving = by halt below.next on_two returns_to (leaving h.method.frame below.next below.rest _ (read on_two again))
           where
             by : (why : Halt) (b : StackFrame) (k : OnThread content at old (Method h.method.frame ∷ b ∷ below.rest) None) → ((w : World) → Matches
                 (parts_at content at old) w → step_thread w (at.index + 1) (model k) ≡ returned_to w (at.index + 1) (model k) None

@@ -1,11 +1,12 @@
 -- A thread of a state, and the part of a machine that it is.
-use Rattle.std.proofs.Common.{◌≡◌, ℕ, zero, suc, ◌+◌, List, [], ◌∷◌, Option, Some, Bool, true, false, refl, sym, ap, ◌∙◌, subst, ◌⊎◌, arith}
-use Rattle.std.specs.Prelude.{map, slice_get, slice_set}
+use Rattle.std.proofs.Common.{◌≡◌, ℕ, ◌<◌, ◌≤◌, List, [], ◌∷◌, Option, Some, length, refl, sym, ap, ◌∙◌, subst, ◌⊎◌, arith}
+use Rattle.std.specs.Prelude.{map, slice_get, slice_set, vec_len}
+use Rattle.std.proofs.lemmas.List.{length-reverse}
 use Rattle.std.specs.List.{AllByRecursion}
 use Rattle.jm_values.specs.Shape.{Among}
-use Rattle.jm_values.proofs.Among.{among_left, among_right}
+use Rattle.jm_values.proofs.Among.{among_left, among_right, among_split}
 use Rattle.jm_world.specs.Frames.{frames_shape, optional_number_shape}
-use Rattle.jm_world.specs.World.{Thread, is_running, live_among, refs_thread, object_refs, held_shape}
+use Rattle.jm_world.specs.World.{Thread, refs_thread, object_refs, held_shape}
 use Rattle.jm_linked.specs.Links.{LinkedView}
 use Rattle.jm_state.specs.Parts.{part_of_held, thread_part, frame_part, ending_part}
 use Rattle.jm_state.specs.Places.{HeldThread, held_thread}
@@ -13,7 +14,7 @@ use Rattle.jm_state.specs.Runnable.{FrameRuns, HoldsNoMonitor, StandOnTop, Threa
 use Rattle.jm_state.specs.declared.thread.StackFrame.{StackFrame}
 use Rattle.jm_state.specs.declared.thread.Thread as held
 use Rattle.jm_interp.specs.Standing.{ThreadRest, rest_of, running, Stands, held_as, part_of}
-use Rattle.jm_interp.proofs.Lists.{among_split, map_set, get_map, each_set, each_at}
+use Rattle.jm_values.proofs.Lists.{map_set, get_map, each_set, each_at}
 
 -- the thread seen from the top of its frames, and the part that it is
 pub held_is : {t : held.Thread} {fs : List StackFrame} {r : ThreadRest} → Stands t fs r → held_thread t ≡ held_as fs r
@@ -80,34 +81,33 @@ pub all_at : (P : HeldThread → Type 0) (ts : List held.Thread) (i : ℕ) (t : 
     → P (held_thread t)
 all_at P ts i t all e = each_at P (map held_thread ts) i (held_thread t) all (get_map held_thread ts i t e)
 
-live_one : (x : Thread) (xs : List Thread) → is_running x.ending ≡ true → live_among (x ∷ xs) ≡ live_among xs + 1
-live_one x xs e = ap (λ b. elim b as (λ _. ℕ) [ true ↦ live_among xs + 1 | false ↦ live_among xs ]) e
+-- the frames of a thread by their number
+abbrev pub tail_of : List StackFrame → List StackFrame
+tail_of [] = []
+tail_of (f ∷ fs) = fs
 
-live_none : (x : Thread) (xs : List Thread) → is_running x.ending ≡ false → live_among (x ∷ xs) ≡ live_among xs
-live_none x xs e = ap (λ b. elim b as (λ _. ℕ) [ true ↦ live_among xs + 1 | false ↦ live_among xs ]) e
+pub record HasTwo (fs : List StackFrame) : Type 0 where
+  pub top : StackFrame
+  pub next : StackFrame
+  pub rest : List StackFrame
+  pub is : fs ≡ top ∷ next ∷ rest
 
-live_after : (x : Thread) (xs ys : List Thread) → live_among xs ≡ live_among ys → live_among (x ∷ xs) ≡ live_among (x ∷ ys)
-live_after x xs ys e = ap (λ n. elim (is_running x.ending) as (λ _. ℕ) [ true ↦ n + 1 | false ↦ n ]) e
+module _ {t : held.Thread} {fs : List StackFrame} {r : ThreadRest} {n : ℕ} (s : Stands t fs r) (k : n ≡ vec_len t.frames) where
+  count_is : n ≡ length fs
+  count_is = k ∙ t.frames.ok.0 ∙ sym (length-reverse t.frames.items) ∙ ap length s.frames_are
 
-pub live_set : (xs : List Thread) (i : ℕ) (x y : Thread) → slice_get xs i ≡ Some x → is_running x.ending ≡ true → is_running y.ending ≡ true
-    → live_among (slice_set xs i y) ≡ live_among xs
-live_set [] i x y e f g = refl
-live_set (z ∷ xs) zero x y e f g =
-    let s : z ≡ x = cc in
-    live_one y xs g ∙ sym (live_one z xs (ap (λ t. is_running t.ending) s ∙ f))
-live_set (z ∷ xs) (suc i) x y e f g = live_after z (slice_set xs i y) xs (live_set xs i x y e f g)
+  pub two_frames : 1 < n → HasTwo fs
+  two_frames h = by fs count_is
+    where
+      by : (gs : List StackFrame) → n ≡ length gs → HasTwo gs
+      by [] e = absurd (omega arith)
+      by (f ∷ []) e = absurd (omega arith)
+      by (f ∷ g ∷ gs) e = record { top = f; next = g; rest = gs; is = refl }
 
-live_before : (z : Thread) (xs ys : List Thread) → live_among xs + 1 ≡ live_among ys → live_among (z ∷ xs) + 1 ≡ live_among (z ∷ ys)
-live_before z xs ys e = by (is_running z.ending) refl
-  where
-    by : (b : Bool) → is_running z.ending ≡ b → live_among (z ∷ xs) + 1 ≡ live_among (z ∷ ys)
-    by true d = let f = live_one z xs d in let g = live_one z ys d in omega arith
-    by false d = let f = live_none z xs d in let g = live_none z ys d in omega arith
-
-pub live_less : (xs : List Thread) (i : ℕ) (x y : Thread) → slice_get xs i ≡ Some x → is_running x.ending ≡ true → is_running y.ending ≡ false
-    → live_among (slice_set xs i y) + 1 ≡ live_among xs
-live_less [] i x y e f g = cc
-live_less (z ∷ xs) zero x y e f g =
-    let s : z ≡ x = cc in
-    ap (λ n. n + 1) (live_none y xs g) ∙ sym (live_one z xs (ap (λ t. is_running t.ending) s ∙ f))
-live_less (z ∷ xs) (suc i) x y e f g = live_before z (slice_set xs i y) xs (live_less xs i x y e f g)
+  pub few_frames : n ≤ 1 → tail_of fs ≡ []
+  few_frames h = by fs count_is
+    where
+      by : (gs : List StackFrame) → n ≡ length gs → tail_of gs ≡ []
+      by [] e = refl
+      by (f ∷ []) e = refl
+      by (f ∷ g ∷ gs) e = absurd (omega arith)

@@ -33,12 +33,12 @@ use Rattle.jm_state.specs.declared.thread.Thread as held
 use Rattle.jm_interp.specs.declared.at.At.{At}
 use Rattle.jm_interp.specs.At.{parts_at, Beside, OnThread, HasMethods, InMethod, Does}
 use Rattle.jm_interp.specs.Standing.{ThreadRest, running, Stands, part_of}
-use Rattle.jm_interp.proofs.Lists.{get_map, get_there, got_within}
-use Rattle.jm_interp.proofs.Objects.{name_is}
+use Rattle.jm_values.proofs.Lists.{get_map, get_there, got_within}
+use Rattle.jm_values.proofs.SoundContents.{name_is}
 use Rattle.jm_interp.proofs.OnThread.{model, thread_there, does, within, read, part_here, runs_with, held_object, held_frames, changed_among}
 use Rattle.jm_interp.proofs.OnThread.{with_thread_changed, same_rest, with_thread_at}
-use Rattle.jm_interp.proofs.Standing as beside
-use Rattle.jm_interp.proofs.Standing.{IsShared, place_stands}
+use Rattle.jm_world.proofs.Changed as beside
+use Rattle.jm_world.proofs.Changed.{IsShared, place_stands}
 use Rattle.jm_interp.proofs.Threads.{object_or_held, part_refs}
 
 none_named : (f : ℕ → ℕ) (p : Option ℕ) → option_map f p ≡ None → p ≡ None
@@ -189,7 +189,7 @@ module _ {H : Type 0} {content : H → Content ClassId} {at : At} {mid : State H
         pending =
             Some k;
       }))) named
-      (subst (Matches (parts_at content at (with_thread_at mid at.index pending_at))) (same_rest g.on after m x)
+      (subst (Matches (parts_at content at (with_thread_at mid at.index pending_at))) (same_rest g.on after m g.frames (running g.on.object (Some place)))
       (changed_among g.on after m (IsKnown w (exception class)) shared (with_thread_at mid at.index pending_at)
       (with_thread_changed g.on pending_at) stands_pending stand))
 

@@ -37,10 +37,10 @@ use Rattle.jm_interp.specs.At.{parts_at, OnThread, Does, Steps}
 use Rattle.jm_interp.specs.Ending.{ended_as}
 use Rattle.jm_interp.specs.Standing.{Stands, part_of, ThreadRest, running}
 use Rattle.jm_interp.proofs.Objects.{IsObject, object_of, told}
-use Rattle.jm_interp.proofs.OnThread.{model, read, does_as, held_pending, held_frames, part_here, with_thread_at, as_frames}
+use Rattle.jm_interp.proofs.OnThread.{Leads, lower, model, read, does_as, held_pending, held_frames, part_here, with_thread_at, as_frames}
 use Rattle.jm_interp.proofs.OnThread as thread
-use Rattle.jm_interp.proofs.Lists.{get_there}
-use Rattle.jm_interp.proofs.Threads.{part_refs, PartRuns, without_top}
+use Rattle.jm_values.proofs.Lists.{get_there}
+use Rattle.jm_interp.proofs.Threads.{HasTwo, tail_of, two_frames, few_frames, part_refs, PartRuns, without_top}
 
 -- the names of what ends a thread
 pub instance_name : (program : List ClassParts) (id : ClassId) (n : ℕ) → id ≡ Instance n → class_name_of program n ≡ class_name (named_type program id)
@@ -55,30 +55,6 @@ array_name program id component n e far =
     length-append (map (λ b. b.name) the_builtins) (map (λ c. c.name) program)
     ∙ ap (λ k. length (map (λ b. b.name) the_builtins) + k) (length-map program (λ c. c.name)) in
     ap (λ o. unwrap_or o []) (slice_get_past (class_names program) n (omega arith)) ∙ ap (λ x. class_name (named_type program x)) (sym e)
-
--- the frames of a thread by their number
-abbrev pub tail_of : List StackFrame → List StackFrame
-tail_of [] = []
-tail_of (f ∷ fs) = fs
-
-pub record HasTwo (fs : List StackFrame) : Type 0 where
-  pub top : StackFrame
-  pub next : StackFrame
-  pub rest : List StackFrame
-  pub is : fs ≡ top ∷ next ∷ rest
-
-count_is : (t : held.Thread) (fs : List StackFrame) (r : ThreadRest) → Stands t fs r → vec_len t.frames ≡ length fs
-count_is t fs r s = t.frames.ok.0 ∙ sym (length-reverse t.frames.items) ∙ ap length s.frames_are
-
-pub two_frames : (t : held.Thread) (fs : List StackFrame) (r : ThreadRest) (n : ℕ) → Stands t fs r → n ≡ vec_len t.frames → 1 < n → HasTwo fs
-two_frames t [] r n s k h = let a = count_is t [] r s in absurd (omega arith)
-two_frames t (f ∷ []) r n s k h = let a = count_is t (f ∷ []) r s in absurd (omega arith)
-two_frames t (f ∷ g ∷ fs) r n s k h = record { top = f; next = g; rest = fs; is = refl }
-
-pub few_frames : (t : held.Thread) (fs : List StackFrame) (r : ThreadRest) (n : ℕ) → Stands t fs r → n ≡ vec_len t.frames → n ≤ 1 → tail_of fs ≡ []
-few_frames t [] r n s k h = refl
-few_frames t (f ∷ []) r n s k h = refl
-few_frames t (f ∷ g ∷ fs) r n s k h = let a = count_is t (f ∷ g ∷ fs) r s in absurd (omega arith)
 
 -- no method that can run catches
 no_handlers : (l : LinkedView) → IsLinked l → (k : ℕ) → k < length l.methods → handlers_of (method_named l.program (name_of_number l k)) ≡ []
@@ -97,9 +73,8 @@ module _ {H : Type 0} {content : H → Content ClassId} {at : At} {old : State H
 
   -- no frame catches
   frames_unwind : (gs : List StackFrame) → PartRuns at.linked.now gs (running h.object (Some place)) → (w : World) → Matches (parts_at content at old) w →
-      (x : Thread) (k : ℕ) (type : ObjectType) → unwind_frames w (at.index + 1) x
-      (map (rename_frame (name_of (content old.heap))) (map (frame_part at.linked.now) gs)) k type ≡ unwound w (at.index + 1) x
-      (map (rename_frame (name_of (content old.heap))) (map (frame_part at.linked.now) (tail_of gs))) k type
+      (x : Thread) (k : ℕ) (type : ObjectType)
+      → unwind_frames w (at.index + 1) x (lower h gs) k type ≡ unwound w (at.index + 1) x (lower h (tail_of gs)) k type
   unfolding parts
   frames_unwind [] q w m x k type = refl
   frames_unwind (Initialization class stage ∷ gs) q w m x k type = absurd q.not_yet.initializers.0
@@ -115,9 +90,8 @@ module _ {H : Type 0} {content : H → Content ClassId} {at : At} {old : State H
       ]) handlers
       ∙ ap (λ o. drop_method w (at.index + 1) x (option_map f o) below k type) q.not_yet.monitors.0
 
-  unwinds : (w : World) → Matches (parts_at content at old) w → step_thread w (at.index + 1) (model h) ≡ unwound w (at.index + 1) (model h)
-      (map (rename_frame (name_of (content old.heap))) (map (frame_part at.linked.now) (tail_of fs))) (name_of (content old.heap) place)
-      (named_type at.linked.now.program thrown.object.type)
+  unwinds : Leads h step_thread (λ w. unwound w (at.index + 1) (model h) (lower h (tail_of fs)) (name_of (content old.heap) place)
+      (named_type at.linked.now.program thrown.object.type))
   unwinds w m =
       let f = name_of (content old.heap) in
       ap (λ o. elim o as (λ _. Next) [ None ↦ faults WrongKind | Some z ↦ unwind_frames w (at.index + 1) (model h) (model h).frames (f place) z.type ])
@@ -128,7 +102,7 @@ module _ {H : Type 0} {content : H → Content ClassId} {at : At} {old : State H
     -- a frame is left
     module _ (many : 1 < n) where
       pub two : HasTwo fs
-      two = two_frames d fs _ n (read h got) count many
+      two = two_frames (read h got) count many
 
       abbrev pub on_two : OnThread content at old (two.top ∷ two.next ∷ two.rest) (Some place)
       on_two = as_frames h two.is
@@ -162,6 +136,6 @@ module _ {H : Type 0} {content : H → Content ClassId} {at : At} {old : State H
         let named = named_type at.linked.now.program in
         unwinds w m
         ∙ ap (λ gs. unwound w (at.index + 1) (model h) (map (rename_frame f) (map (frame_part at.linked.now) gs)) (f place) (named thrown.object.type))
-        (few_frames d fs _ n (read h got) count few)
+        (few_frames (read h got) count few)
         ∙ ap (λ x. goes (ended_as w (at.index + 1) (model h) (ended_by (class_name (named x))))) (sym (told h thrown class))
         ∙ ap (λ x. goes (ended_as w (at.index + 1) (model h) x)) (sym ended)) done

@@ -38,7 +38,7 @@ pub(crate) fn push_value<H: Heap>(
     state: &mut State<H>,
     value: Value,
 ) -> Result<StepEnd, Halt>
-    requires { (li : LinkedInstr) × StandsOn H.content at state.old (Links at.linked.now li) × Pushes li state.old.statics.items value }
+    requires { (li : LinkedInstr) × StandsOn H.content at state.old (Links at.linked.now li) × Pushes state.old.statics.items li value }
     ensures { Steps H.content at.entry state.old result state.new }
 {
     push(at, state, value)

@@ -5,25 +5,25 @@ ghost use Rattle.jm_frames.specs.FrameView.{FrameView};
 ghost use Rattle.jm_state.specs.declared.thread.StackFrame.{StackFrame};
 ghost use Rattle.jm_state.specs.declared.thread.StackFrame.TheVariants.{Method, Initialization};
 ghost use Rattle.jm_interp.specs.Returned.{Left, pop_fault};
-ghost use Rattle.jm_interp.specs.Standing.{ThreadRest, Stands};
+ghost use Rattle.jm_interp.specs.Standing.{ThreadRest, Stands, HasTop, Topped, RunsMethod, InAnyMethod};
 
+use crate::top_frame::top_method;
 use jm_state::{Halt, StackFrame, Thread};
 use jm_values::TagFault;
 use jm_world::{Stage, Stop};
 
 /// Drops the top frame.
 pub(crate) fn drop_top(thread: &mut Thread)
-    requires { (f : StackFrame) × (below : List StackFrame) × (r : ThreadRest) × Stands thread.old (f ∷ below) r }
-    ensures { (f : StackFrame) (below : List StackFrame) (r : ThreadRest) → Stands thread.old (f ∷ below) r → Stands thread.new below r }
+    requires { HasTop thread.old }
+    ensures { Topped thread.old (λ f. Stands thread.new) }
 {
     let _top = thread.frames.pop();
 }
 
 /// Goes to a stage of an initialization, whose frame is on top.
 pub(crate) fn go_to_stage(thread: &mut Thread, class: u32, stage: Stage)
-    requires { (f : StackFrame) × (below : List StackFrame) × (r : ThreadRest) × Stands thread.old (f ∷ below) r }
-    ensures { (f : StackFrame) (below : List StackFrame) (r : ThreadRest) → Stands thread.old (f ∷ below) r
-        → Stands thread.new (Initialization class stage ∷ below) r }
+    requires { HasTop thread.old }
+    ensures { Topped thread.old (λ f below. Stands thread.new (Initialization class stage ∷ below)) }
 {
     if let Some(top) = thread.frames.last_mut() {
         *top = StackFrame::Initialization { class, stage };
@@ -62,17 +62,11 @@ pub(crate) fn leave_top(thread: &mut Thread) -> Result<(), Halt>
 /// returns, or there is none.
 #[cold]
 pub(crate) fn value_fault(thread: &Thread) -> TagFault
-    requires { (f : FrameView) × (below : List StackFrame) × (r : ThreadRest) × Stands thread.now (Method f ∷ below) r }
-    ensures { (f : FrameView) (below : List StackFrame) (r : ThreadRest) → Stands thread.now (Method f ∷ below) r → result ≡ pop_fault f.activation.stack }
+    requires { RunsMethod thread.now }
+    ensures { InAnyMethod thread.now (λ f below r. result ≡ pop_fault f.activation.stack) }
 {
-    let Some(top) = thread.frames.last() else {
-        unreachable!();
-    };
-    match top {
-        StackFrame::Method(frame) => match frame.operand(0) {
-            Some(_) => TagFault::WrongTag,
-            None => TagFault::Underflow,
-        },
-        StackFrame::Initialization { class: _, stage: _ } => unreachable!(),
+    match top_method(thread).operand(0) {
+        Some(_) => TagFault::WrongTag,
+        None => TagFault::Underflow,
     }
 }

@@ -1,12 +1,12 @@
 // The operands of a method of a print stream.
 
-ghost use Rattle.std.specs.Prelude.{◌≡◌, ◌+◌, ◌<◌, ◌^◌, ◌∷◌, List};
-ghost use Rattle.jm_frames.specs.FrameView.{FrameView, with_stack, gone_to};
-ghost use Rattle.jm_state.specs.declared.thread.StackFrame.{StackFrame};
+ghost use Rattle.std.specs.Prelude.{◌≡◌, ◌+◌, ◌∷◌};
+ghost use Rattle.jm_frames.specs.FrameView.{with_stack, gone_to};
 ghost use Rattle.jm_state.specs.declared.thread.StackFrame.TheVariants.{Method};
 ghost use Rattle.jm_interp.specs.Printing.{text_of, receiver_of, with_text, printing_of, left_by};
-ghost use Rattle.jm_interp.specs.Standing.{ThreadRest, Stands};
+ghost use Rattle.jm_interp.specs.Standing.{Stands, RunsMethod, MayGoOn, InAnyMethod};
 
+use crate::top_frame::top_method;
 use jm_linked::{PrintMethod, Printed};
 use jm_state::{StackFrame, Thread};
 use jm_values::{Place, TagFault, Value};
@@ -85,34 +85,28 @@ fn with_text(
 /// What a method takes of the operands of the top frame, which stay. `Underflow`: there are fewer
 /// operands than it takes; `WrongTag`: one is of another type.
 pub(crate) fn operands_of(thread: &Thread, method: PrintMethod) -> Result<Printing, TagFault>
-    requires { (f : FrameView) × (below : List StackFrame) × (r : ThreadRest) × Stands thread.now (Method f ∷ below) r }
-    ensures { (f : FrameView) (below : List StackFrame) (r : ThreadRest) → Stands thread.now (Method f ∷ below) r
-        → result ≡ printing_of method f.activation.stack }
+    requires { RunsMethod thread.now }
+    ensures { InAnyMethod thread.now (λ f below r. result ≡ printing_of method f.activation.stack) }
 {
-    let Some(top) = thread.frames.last() else {
-        unreachable!();
-    };
-    match top {
-        StackFrame::Method(frame) => match method {
-            PrintMethod::Print(printed) => with_text(printed, frame.operand(0), frame.operand(1)),
-            PrintMethod::Println(printed) => with_text(printed, frame.operand(0), frame.operand(1)),
-            PrintMethod::EndLine => match receiver_of(frame.operand(0)) {
-                Ok(receiver) => Ok(Printing {
-                    receiver,
-                    text: Text::Nothing,
-                }),
-                Err(fault) => Err(fault),
-            },
+    let frame = top_method(thread);
+    match method {
+        PrintMethod::Print(printed) => with_text(printed, frame.operand(0), frame.operand(1)),
+        PrintMethod::Println(printed) => with_text(printed, frame.operand(0), frame.operand(1)),
+        PrintMethod::EndLine => match receiver_of(frame.operand(0)) {
+            Ok(receiver) => Ok(Printing {
+                receiver,
+                text: Text::Nothing,
+            }),
+            Err(fault) => Err(fault),
         },
-        StackFrame::Initialization { class: _, stage: _ } => unreachable!(),
     }
 }
 
 /// Pops the operands of a method in the top frame, and goes on.
 pub(crate) fn pop_operands(thread: &mut Thread, method: PrintMethod)
-    requires { (f : FrameView) × (below : List StackFrame) × (r : ThreadRest) × Stands thread.old (Method f ∷ below) r × (f.activation.at + 1 < 2 ^ 64) }
-    ensures { (f : FrameView) (below : List StackFrame) (r : ThreadRest) → Stands thread.old (Method f ∷ below) r
-        → Stands thread.new (Method (gone_to (with_stack f (left_by method f.activation.stack)) (f.activation.at + 1)) ∷ below) r }
+    requires { MayGoOn thread.old }
+    ensures { InAnyMethod thread.old (λ f below.
+        Stands thread.new (Method (gone_to (with_stack f (left_by method f.activation.stack)) (f.activation.at + 1)) ∷ below)) }
 {
     if let Some(top) = thread.frames.last_mut() {
         match top {

@@ -1,29 +1,41 @@
 // The top frame of a thread, where a method runs.
 
-ghost use Rattle.std.specs.Prelude.{◌≡◌, ◌+◌, ◌<◌, ◌^◌, ◌∷◌, List};
-ghost use Rattle.jm_frames.specs.FrameView.{FrameView};
+ghost use Rattle.std.specs.Prelude.{◌≡◌};
 ghost use Rattle.jm_frames.specs.Made.{outcome};
 ghost use Rattle.jm_ops.specs.Flows.{flow_outcome};
 ghost use Rattle.jm_ops.specs.SingleFrame.{IsOrdered};
 ghost use Rattle.jm_values.specs.Constants.{push_constant};
 ghost use Rattle.jm_values.specs.PlainRows.{row_plain};
-ghost use Rattle.jm_state.specs.declared.thread.StackFrame.{StackFrame};
-ghost use Rattle.jm_state.specs.declared.thread.StackFrame.TheVariants.{Method};
-ghost use Rattle.jm_interp.specs.Standing.{ThreadRest, Stands};
+ghost use Rattle.jm_interp.specs.Standing.{RunsMethod, MayGoOn, InAnyMethod};
 ghost use Rattle.jm_interp.specs.Stepped.{IsStepped};
 
+use jm_frames::Frame;
 use jm_ops::{Fault, Flow, step};
 use jm_program::Plain;
 use jm_state::{StackFrame, Thread};
 use jm_values::{TagFault, Value};
 
+/// The top frame, a method's.
+#[inline]
+pub(crate) fn top_method(thread: &Thread) -> &Frame
+    requires { RunsMethod thread.now }
+    ensures { InAnyMethod thread.now (λ f below r. result.now ≡ f) }
+{
+    let Some(top) = thread.frames.last() else {
+        unreachable!();
+    };
+    match top {
+        StackFrame::Method(frame) => frame,
+        StackFrame::Initialization { class: _, stage: _ } => unreachable!(),
+    }
+}
+
 /// Makes a plain instruction in the top frame. A refused one leaves the frame as it was.
 #[inline]
 pub(crate) fn step_top(thread: &mut Thread, op: &Plain) -> Result<Flow, Fault>
-    requires there { (f : FrameView) × (below : List StackFrame) × (r : ThreadRest) × Stands thread.old (Method f ∷ below) r × (f.activation.at + 1 < 2 ^ 64) }
+    requires there { MayGoOn thread.old }
     requires ordered { IsOrdered op.now }
-    ensures { (f : FrameView) (below : List StackFrame) (r : ThreadRest) → Stands thread.old (Method f ∷ below) r
-        → IsStepped (row_plain op.now) (flow_outcome result) thread.new f below r }
+    ensures { InAnyMethod thread.old (IsStepped (row_plain op.now) (flow_outcome result) thread.new) }
 {
     let Some(top) = thread.frames.last_mut() else {
         unreachable!();
@@ -37,9 +49,8 @@ pub(crate) fn step_top(thread: &mut Thread, op: &Plain) -> Result<Flow, Fault>
 /// Pushes a value in the top frame, and goes on.
 #[inline]
 pub(crate) fn push_top(thread: &mut Thread, value: Value) -> Result<(), TagFault>
-    requires there { (f : FrameView) × (below : List StackFrame) × (r : ThreadRest) × Stands thread.old (Method f ∷ below) r × (f.activation.at + 1 < 2 ^ 64) }
-    ensures { (f : FrameView) (below : List StackFrame) (r : ThreadRest) → Stands thread.old (Method f ∷ below) r
-        → IsStepped (push_constant value) (outcome result) thread.new f below r }
+    requires { MayGoOn thread.old }
+    ensures { InAnyMethod thread.old (IsStepped (push_constant value) (outcome result) thread.new) }
 {
     let Some(top) = thread.frames.last_mut() else {
         unreachable!();

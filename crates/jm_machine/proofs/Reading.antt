@@ -21,7 +21,6 @@ use Rattle.jm_state.specs.Places.{HeldThread, stack_frame_shape, live_object, he
 use Rattle.jm_state.specs.Runnable.{IsRunnable, ThreadRuns, FrameRuns}
 use Rattle.jm_state.specs.declared.thread.StackFrame.{StackFrame}
 use Rattle.jm_state.specs.declared.thread.Thread as held
-use Rattle.jm_state.proofs.Alike.{AreCounted}
 use Rattle.jm_state.proofs.Made.{all_resident}
 use Rattle.jm_state.specs.View.{StateView}
 use Rattle.jm_machine.specs.Readers.{frame_at, pending_of}
@@ -104,9 +103,9 @@ module _ (l : LinkedView) (c : Content ClassId) (v : StateView) (w : World) (m :
       ∙ ap (option_map (as_named (named_type l.program))) (ap (content.object_at c) (sym same) ∙ there.3)
       ∙ ap Some (sym (seen_is l c p m.sound (k, e)))
 
-  module _ (n : AreCounted l v) where
+  module _ (n : IsRunnable l v) where
     all_here : AllResident c (places_of v)
-    all_here = all_resident l c v w n m (places_of v) refl
+    all_here = all_resident l c v (n, w, m) refl
 
     thread_resident : (n : ℕ) (t : held.Thread) → thread_numbered v.threads n ≡ Some t → AllResident c (held_thread_shape.refs (held_thread t))
     unfolding places_of

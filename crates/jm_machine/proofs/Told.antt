@@ -24,7 +24,8 @@ use Rattle.jm_linked.specs.Links.{LinkedView, IsLinked, MethodLinks, name_of_num
 use Rattle.jm_linked.specs.declared.method.LinkedMethod.{LinkedMethod}
 use Rattle.jm_linked.specs.Named.{named_statics}
 use Rattle.jm_state.specs.Parts.{named_type, program_class_name, name_in_program}
-use Rattle.jm_state.proofs.Marking.{name_is, object_there}
+use Rattle.jm_values.proofs.Marking.{object_there}
+use Rattle.jm_values.proofs.SoundContents.{name_is}
 use Rattle.jm_machine.specs.Seen.{object_or_none, object_seen, statics_seen}
 use Rattle.jm_machine.proofs.Path.{no_statics}
 use Rattle.jm_machine.proofs.Parted.{among_element}
@@ -62,7 +63,7 @@ class_name_is program n c e = ap name_in_program e
 -- the object at a place
 module _ (l : LinkedView) (c : Content ClassId) (p : ℕ) (sound : IsSound c) (there : (k : ℕ) × (serial_at c p ≡ Some k)) where
   pub object : (k : ℕ) × (o : ObjectOf ClassId) × (serial_at c p ≡ Some k) × (object_at c k ≡ Some o)
-  object = object_there c p sound there
+  object = object_there c p there
 
   pub seen_is : object_seen l c p ≡ as_named (named_type l.program) object.1
   seen_is = ap (object_or_none (named_type l.program)) (ap (object_at c) (name_is c p object.0 object.2) ∙ object.3)

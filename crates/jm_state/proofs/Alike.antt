@@ -1,8 +1,9 @@
 -- The parts that a state stands for have its places, and where others are put into the state, they
 -- are put into its parts.
-use Rattle.std.proofs.Common.{◌≡◌, ℕ, ◌∷◌, ◌++◌, List, [], Option, length, drop, refl, sym, ap, ◌∙◌, arith, append_assoc}
+use Rattle.std.proofs.Common.{◌≡◌, ℕ, ◌∷◌, ◌++◌, List, [], Option, length, drop, refl, sym, ap, ◌∙◌, arith}
 use Rattle.std.specs.Prelude.{map}
-use Rattle.jm_values.specs.Shape.{Shape, list_shape, pair_shape}
+use Rattle.jm_values.specs.Shape.{list_shape, pair_shape}
+use Rattle.jm_values.proofs.Alike.{Alike, both, pair_alike, list_alike, same_alike}
 use Rattle.jm_values.specs.Rename.{value_shape, stack_shape}
 use Rattle.jm_values.specs.declared.value.Value.{Value}
 use Rattle.jm_values.specs.Content.{Content}
@@ -10,13 +11,15 @@ use Rattle.jm_world.specs.Frames.{Frame, frame_shape, number_shape, optional_num
 use Rattle.jm_world.specs.World as world
 use Rattle.jm_world.specs.World.{held_shape}
 use Rattle.jm_world.specs.Loading.{first_statics, literal_texts}
-use Rattle.jm_world.specs.Matches.{Parts, places}
+use Rattle.jm_world.specs.Matches.{places}
 use Rattle.jm_world.specs.Renaming.{thread_shape, static_shape, monitor_shape, literal_shape}
+use Rattle.jm_world.proofs.PlacesOfParts.{Held, held_of, parts_shape, places_held}
 use Rattle.jm_heap.specs.declared.class_id.ClassId.{ClassId}
 use Rattle.jm_linked.specs.Links.{LinkedView}
 use Rattle.jm_linked.specs.Named.{named_statics, named_literals}
 use Rattle.jm_state.specs.Parts.{frame_part, ending_part, part_of_held, thread_part, monitor_part, parts}
 use Rattle.jm_state.specs.Places.{stack_frame_shape, HeldThread, held_thread, held_thread_shape, held_monitor_shape, Holders, holders, holders_shape, places_of}
+use Rattle.jm_state.specs.Runnable.{IsRunnable}
 use Rattle.jm_state.specs.View.{StateView}
 use Rattle.jm_state.specs.declared.monitor.Monitor.{Monitor}
 use Rattle.jm_state.specs.declared.thread.Ending.{Ending}
@@ -24,37 +27,6 @@ use Rattle.jm_state.specs.declared.thread.Ending.TheVariants.{Running, Returned,
 use Rattle.jm_state.specs.declared.thread.StackFrame.{StackFrame}
 use Rattle.jm_state.specs.declared.thread.StackFrame.TheVariants.{Method, Initialization}
 use Rattle.jm_state.specs.declared.thread.Thread.{Thread}
-
--- what is seen of a thing has its references, and others put into the thing are put into what is seen
-pub record Alike {A B : Type 0} (s : Shape A) (t : Shape B) (part : A → B) (x : A) : Type 0 where
-  pub refs : t.refs (part x) ≡ s.refs x
-  pub refill : (ns : List ℕ) → part (s.refill ns x) ≡ t.refill ns (part x)
-
-abbrev pub both : {A B : Type 0} (x : A) (y : B) → A × B
-both x y = (x, y)
-
-pair_alike : {A B C D : Type 0} {s : Shape A} {t : Shape B} {u : Shape C} {v : Shape D} {f : A → B} {g : C → D} {x : A} {y : C} → Alike s t f x → Alike u v g y
-    → Alike (pair_shape s u) (pair_shape t v) (λ p. (f p.0, g p.1)) (x, y)
-pair_alike {s = s} {t = t} {u = u} {v = v} {f = f} {g = g} {x = x} {y = y} a b = record {
-  refs = ap (λ r. r ++ v.refs (g y)) a.refs ∙ ap (λ r. s.refs x ++ r) b.refs;
-  refill = λ ns.
-      ap (λ z. both z (g (u.refill (drop (length (s.refs x)) ns) y))) (a.refill ns)
-      ∙ ap (both (t.refill ns (f x))) (b.refill (drop (length (s.refs x)) ns) ∙ ap (λ r. v.refill (drop (length r) ns) (g y)) (sym a.refs));
-}
-
-list_alike : {A B : Type 0} {s : Shape A} {t : Shape B} {part : A → B} → ((x : A) → Alike s t part x) → (xs : List A)
-    → Alike (list_shape s) (list_shape t) (map part) xs
-list_alike h [] = record { refs = refl; refill = λ ns. refl }
-list_alike {s = s} {t = t} {part = part} h (x ∷ xs) = record {
-  refs = ap (λ l. l ++ (list_shape t).refs (map part xs)) (h x).refs ∙ ap (λ l. s.refs x ++ l) (list_alike h xs).refs;
-  refill = λ ns.
-      ap (λ y. y ∷ map part ((list_shape s).refill (drop (length (s.refs x)) ns) xs)) ((h x).refill ns)
-      ∙ ap (λ l. t.refill ns (part x) ∷ l)
-      ((list_alike h xs).refill (drop (length (s.refs x)) ns) ∙ ap (λ r. (list_shape t).refill (drop (length r) ns) (map part xs)) (sym (h x).refs));
-}
-
-same_alike : {A : Type 0} (s : Shape A) (x : A) → Alike s s (λ y. y) x
-same_alike s x = record { refs = refl; refill = λ ns. refl }
 
 frame_alike : (l : LinkedView) (x : StackFrame) → Alike stack_frame_shape frame_shape (frame_part l) x
 frame_alike l (Method f) = record { refs = refl; refill = λ ns. refl }
@@ -117,24 +89,6 @@ literals_alike ts ps e = record { refs = literals_refs ts ps e; refill = λ ns. 
 monitor_alike : (m : Monitor) → Alike held_monitor_shape monitor_shape monitor_part m
 monitor_alike m = record { refs = refl; refill = λ ns. refl }
 
--- what holds references in the parts of a machine
-abbrev pub Held : Type 0
-Held = List world.Thread × (List world.Static × (List world.Monitor × List world.Literal))
-
-abbrev pub held_of : {T : Type 0} → Parts T → Held
-held_of m = (m.threads, (m.statics, (m.monitors, m.literals)))
-
-abbrev pub parts_shape : Shape Held
-parts_shape = pair_shape (list_shape thread_shape) (pair_shape (list_shape static_shape) (pair_shape (list_shape monitor_shape) (list_shape literal_shape)))
-
-pub places_held : {T : Type 0} (m : Parts T) → places m ≡ parts_shape.refs (held_of m)
-places_held m =
-    let ts = (list_shape thread_shape).refs m.threads in
-    let ss = (list_shape static_shape).refs m.statics in
-    let ms = (list_shape monitor_shape).refs m.monitors in
-    let ls = (list_shape literal_shape).refs m.literals in
-    append_assoc (ts ++ ss) ms ls ∙ append_assoc ts ss (ms ++ ls)
-
 pub threads_seen : (l : LinkedView) (ts : List Thread) → map (thread_part l) ts ≡ map (part_of_held l) (map held_thread ts)
 threads_seen l [] = refl
 threads_seen l (t ∷ ts) = ap (λ us. thread_part l t ∷ us) (threads_seen l ts)
@@ -147,24 +101,19 @@ held_seen : (l : LinkedView) (c : Content ClassId) (s : StateView) → held_of (
 unfolding parts
 held_seen l c s = ap (λ ts. both ts ((seen l (holders s)).1)) (threads_seen l s.threads)
 
--- as many static fields and literals as the program has
-pub record AreCounted (l : LinkedView) (s : StateView) : Type 0 where
-  pub statics : length s.statics ≡ length (first_statics l.program)
-  pub literals : length s.literals ≡ length (literal_texts l.program)
-
-seen_alike : (l : LinkedView) (s : StateView) → AreCounted l s → Alike holders_shape parts_shape (seen l) (holders s)
+seen_alike : (l : LinkedView) (s : StateView) → IsRunnable l s → Alike holders_shape parts_shape (seen l) (holders s)
 seen_alike l s n =
     pair_alike (list_alike (thread_alike l) (map held_thread s.threads))
     (pair_alike (statics_alike (first_statics l.program) s.statics n.statics)
     (pair_alike (list_alike monitor_alike s.monitors) (literals_alike (literal_texts l.program) s.literals n.literals)))
 
 -- the places of the parts are those that are gathered
-pub places_are : (l : LinkedView) (c : Content ClassId) (s : StateView) → AreCounted l s → places (parts l c s) ≡ places_of s
+pub places_are : (l : LinkedView) (c : Content ClassId) (s : StateView) → IsRunnable l s → places (parts l c s) ≡ places_of s
 unfolding places_of
 places_are l c s n = places_held (parts l c s) ∙ ap parts_shape.refs (held_seen l c s) ∙ (seen_alike l s n).refs
 
 -- places put into the state are put into the parts
-pub held_put : (l : LinkedView) (c d : Content ClassId) (s t : StateView) (ns : List ℕ) → AreCounted l s → holders t ≡ holders_shape.refill ns (holders s)
+pub held_put : (l : LinkedView) (c d : Content ClassId) (s t : StateView) (ns : List ℕ) → IsRunnable l s → holders t ≡ holders_shape.refill ns (holders s)
     → held_of (parts l d t) ≡ parts_shape.refill ns (held_of (parts l c s))
 held_put l c d s t ns n e =
     held_seen l d t ∙ ap (seen l) e ∙ (seen_alike l s n).refill ns ∙ ap (parts_shape.refill ns) (sym (held_seen l c s))

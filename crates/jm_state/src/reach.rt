@@ -8,7 +8,8 @@ ghost use Rattle.jm_world.specs.Matches.{Matches};
 ghost use Rattle.jm_values.specs.Objects.{refs_of};
 ghost use Rattle.jm_world.specs.World.{World};
 ghost use Rattle.jm_state.specs.Parts.{state_parts};
-ghost use Rattle.jm_state.specs.Reached.{AreReachable, AreReached, FindsReached, FindsReachable, MarkedAll};
+ghost use Rattle.jm_values.specs.Marking.{AreReached, FindsReached, MarkedAll};
+ghost use Rattle.jm_state.specs.Reached.{AreReachable, FindsReachable};
 ghost use Rattle.jm_state.specs.Runnable.{StateRuns};
 
 use crate::places::gather;

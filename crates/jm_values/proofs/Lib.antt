@@ -1,12 +1,17 @@
 pub mod Among
+pub mod Lists
 pub mod Shapes
+pub mod Alike
+pub mod Erasing
 pub mod Renaming
 pub mod Reaching
 pub mod Agreeing
 pub mod SoundContents
+pub mod Marking
 pub mod NaturalSteps
 pub mod NaturalRows
 pub mod NoNewReferences
+pub mod Pushing
 pub mod WorkedReach
 pub mod WorkedStart
 pub mod WorkedLocals

@@ -1,11 +1,11 @@
 -- What a sound content has at each place.
-use Rattle.std.proofs.Common.{◌≡◌, ◌≢◌, ◌⊎◌, ℕ, ◌<◌, List, [], ◌∷◌, Option, Some, Bool, true, false, refl, sym, ◌∙◌, subst, inl, inr}
-use Rattle.std.specs.Prelude.{nat_eq}
+use Rattle.std.proofs.Common.{◌≡◌, ◌≢◌, ◌⊎◌, ℕ, ◌<◌, List, [], ◌∷◌, Option, Some, Bool, true, false, refl, sym, ap, ◌∙◌, subst, inl, inr}
+use Rattle.std.specs.Prelude.{nat_eq, unwrap_or}
 use Rattle.std.proofs.lemmas.Bool.Decides.{eqb_tells}
-use Rattle.jm_values.specs.Shape.{Among}
+use Rattle.jm_values.specs.Shape.{Among, IsOneToOne}
 use Rattle.jm_values.specs.Reach.{AllDistinct}
 use Rattle.jm_values.specs.Objects.{ObjectOf}
-use Rattle.jm_values.specs.Content.{Content, Resident, IsSound, serials_of, serial_in, object_in, serial_at, object_at}
+use Rattle.jm_values.specs.Content.{Content, Resident, IsSound, AllResident, serials_of, serial_in, object_in, serial_at, object_at, name_of}
 
 equal_numbers : (a b : ℕ) → nat_eq a b ≡ true → a ≡ b
 equal_numbers a b e = by (eqb_tells a b)
@@ -65,3 +65,16 @@ serial_below c s p k e = s.below k (serial_listed c.residents p k e)
 pub object_of_place : {T : Type 0} (c : Content T) (p k : ℕ) → serial_at c p ≡ Some k → (o : ObjectOf T) × (object_at c k ≡ Some o)
 unfolding serial_at object_at
 object_of_place c p k e = some_object c.residents p k e
+
+-- what its serial is names it
+pub name_is : {T : Type 0} (c : Content T) (p k : ℕ) → serial_at c p ≡ Some k → name_of c p ≡ k
+unfolding name_of
+name_is c p k e = ap (λ o. unwrap_or o 0) e
+
+-- places of objects have names of their own
+pub resident_one_to_one : {T : Type 0} (c : Content T) (ns : List ℕ) → IsSound c → AllResident c ns → IsOneToOne (name_of c) ns
+resident_one_to_one c ns s r p q a b e =
+    let i = r p a in
+    let j = r q b in
+    let same : i.0 ≡ j.0 = sym (name_is c p i.0 i.1) ∙ e ∙ name_is c q j.0 j.1 in
+    place_of_serial c s p q i.0 i.1 (subst (λ k. serial_at c q ≡ Some k) (sym same) j.1)

@@ -16,5 +16,6 @@ pub mod Rename
 pub mod Objects
 pub mod Reach
 pub mod Content
+pub mod Marking
 pub mod WellFormed
 pub mod Laws

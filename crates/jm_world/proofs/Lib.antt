@@ -1,6 +1,7 @@
 pub mod WholeMachine
 pub mod Matching
 pub mod ShapesOfParts
+pub mod PlacesOfParts
 pub mod Fitting
 pub mod KeepingForm
 pub mod FieldsKeepForm
@@ -17,4 +18,9 @@ pub mod KeepingCode
 pub mod LoadsWellFormed
 pub mod Reaching
 pub mod Making
+pub mod Moved
+pub mod Changed
+pub mod Live
+pub mod Pushing
+pub mod Stages
 pub mod Runs

@@ -1,10 +1,11 @@
 -- Making many objects at once, beside making one, and their numbers.
-use Rattle.std.proofs.Common.{◌≡◌, ℕ, zero, suc, ◌+◌, ◌<◌, ◌^◌, List, [], ◌∷◌, ◌++◌, Some, Bool, true, false, refl, ap, ◌∙◌, subst, length, arith}
+use Rattle.std.proofs.Common.{◌≡◌, ℕ, zero, suc, ◌+◌, ◌<◌, ◌≤◌, ◌^◌, List, [], ◌∷◌, ◌++◌, Some, Bool, true, false, refl, ap, ◌∙◌, subst, length, arith}
 use Rattle.std.specs.Prelude.{map, slice_get, nat_lt, nat_le}
 use Rattle.std.proofs.lemmas.Bool.Decides.{nat_tests}
+use Rattle.std.proofs.lemmas.Bool.{le-ltb}
 use Rattle.jm_world.specs.Objects.{Object, size}
-use Rattle.jm_world.specs.World.{reach_cells}
-use Rattle.jm_world.specs.Next.{Next, stops, numbers_from, with_objects}
+use Rattle.jm_world.specs.World.{World, reach_cells}
+use Rattle.jm_world.specs.Next.{Next, stops, make, numbers_from, with_objects}
 use Rattle.jm_world.specs.Making.{OneIsAList, ObjectsAreNumbered}
 use Rattle.jm_world.specs.declared.stop.Stop.TheVariants.{HeapFull, SerialsEnd}
 
@@ -32,11 +33,11 @@ one_is_a_list w o go =
     same_cells : reach_cells w + (size o + 0) ≡ reach_cells w + size o
     same_cells = omega arith
 
-get_at_end : (xs : List Object) (y : Object) (ys : List Object) → slice_get (xs ++ y ∷ ys) (length xs) ≡ Some y
+pub get_at_end : (xs : List Object) (y : Object) (ys : List Object) → slice_get (xs ++ y ∷ ys) (length xs) ≡ Some y
 get_at_end [] y ys = refl
 get_at_end (x ∷ xs) y ys = get_at_end xs y ys
 
-get_before : (xs ys : List Object) (k : ℕ) → k < length xs → slice_get (xs ++ ys) k ≡ slice_get xs k
+pub get_before : (xs ys : List Object) (k : ℕ) → k < length xs → slice_get (xs ++ ys) k ≡ slice_get xs k
 get_before [] ys k h = absurd (omega (arith, h))
 get_before (x ∷ xs) ys zero h = refl
 get_before (x ∷ xs) ys (suc k) h = get_before xs ys k (omega (arith, h))
@@ -63,3 +64,26 @@ get_all xs (y ∷ ys) =
 
 pub objects_are_numbered : ObjectsAreNumbered
 objects_are_numbered w os = record { new = get_all w.heap os; old = get_before w.heap os }
+
+-- what making an object comes to
+module _ (w : World) (o : Object) (go : World → ℕ → Next) where
+  abbrev made : Bool → Bool → Next
+  made full ended = elim full as (λ _. Next) [
+    | true ↦ stops HeapFull
+    | false ↦ elim ended as (λ _. Next) [ true ↦ stops SerialsEnd | false ↦ go (record w { heap = w.heap ++ o ∷ [] }) (length w.heap) ]
+  ]
+
+  pub make_goes : reach_cells w + size o ≤ w.limit → length w.heap < 2 ^ 63 → make w o go ≡ go (record w { heap = w.heap ++ o ∷ [] }) (length w.heap)
+  make_goes fits lasts =
+      let ended : nat_le (2 ^ 63) (length w.heap) ≡ false = grind (arith, nat_tests) in
+      ap (λ b. made b (nat_le (2 ^ 63) (length w.heap))) (le-ltb w.limit (reach_cells w + size o) fits) ∙ ap (made false) ended
+
+  pub make_full : w.limit < reach_cells w + size o → make w o go ≡ stops HeapFull
+  make_full passed =
+      let full : nat_lt w.limit (reach_cells w + size o) ≡ true = grind (arith, nat_tests) in
+      ap (λ b. made b (nat_le (2 ^ 63) (length w.heap))) full
+
+  pub make_ends : reach_cells w + size o ≤ w.limit → 2 ^ 63 ≤ length w.heap → make w o go ≡ stops SerialsEnd
+  make_ends fits last =
+      let ended : nat_le (2 ^ 63) (length w.heap) ≡ true = grind (arith, nat_tests) in
+      ap (λ b. made b (nat_le (2 ^ 63) (length w.heap))) (le-ltb w.limit (reach_cells w + size o) fits) ∙ ap (made false) ended

@@ -30,15 +30,21 @@ join f a b c d as' bs cs ds p q r s =
     ∙ ap (λ l. map f a ++ l ++ cs ++ ds) q
     ∙ ap (λ l. l ++ bs ++ cs ++ ds) p
 
+-- the roots of a world are the names of the places of parts that it has by their names
+pub roots_named : {T : Type 0} (m : Parts T) (w : World) → (list_shape thread_shape).rename (name_of m.content) m.threads ≡ w.threads
+    → (list_shape static_shape).rename (name_of m.content) m.statics ≡ w.statics → (list_shape monitor_shape).rename (name_of m.content) m.monitors ≡ w.monitors
+    → (list_shape literal_shape).rename (name_of m.content) m.literals ≡ w.literals → map (name_of m.content) (places m) ≡ roots w
+roots_named m w threads statics monitors literals = join (name_of m.content)
+    ((list_shape thread_shape).refs m.threads) ((list_shape static_shape).refs m.statics) ((list_shape monitor_shape).refs m.monitors) ((list_shape literal_shape).refs m.literals)
+    ((list_shape thread_shape).refs w.threads) ((list_shape static_shape).refs w.statics) ((list_shape monitor_shape).refs w.monitors) ((list_shape literal_shape).refs w.literals)
+    (listed thread_shape thread_is_shape (name_of m.content) m.threads w.threads threads)
+    (listed static_shape static_is_shape (name_of m.content) m.statics w.statics statics)
+    (listed monitor_shape monitor_is_shape (name_of m.content) m.monitors w.monitors monitors)
+    (listed literal_shape literal_is_shape (name_of m.content) m.literals w.literals literals)
+
 module _ {T : Type 0} (m : Parts T) (w : World) (h : Matches m w) where
   pub roots_are : map (name_of m.content) (places m) ≡ roots w
-  roots_are = join (name_of m.content)
-      ((list_shape thread_shape).refs m.threads) ((list_shape static_shape).refs m.statics) ((list_shape monitor_shape).refs m.monitors) ((list_shape literal_shape).refs m.literals)
-      ((list_shape thread_shape).refs w.threads) ((list_shape static_shape).refs w.statics) ((list_shape monitor_shape).refs w.monitors) ((list_shape literal_shape).refs w.literals)
-      (listed thread_shape thread_is_shape (name_of m.content) m.threads w.threads h.threads)
-      (listed static_shape static_is_shape (name_of m.content) m.statics w.statics h.statics)
-      (listed monitor_shape monitor_is_shape (name_of m.content) m.monitors w.monitors h.monitors)
-      (listed literal_shape literal_is_shape (name_of m.content) m.literals w.literals h.literals)
+  roots_are = roots_named m w h.threads h.statics h.monitors h.literals
 
   refs_alike : (o : Option (ObjectOf T)) (p : Option Object) → option_map (as_named m.named) o ≡ p → refs_of p ≡ refs_of o
   refs_alike None p e = ap refs_of (sym e)

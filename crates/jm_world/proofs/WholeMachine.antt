@@ -3,7 +3,7 @@ use Rattle.std.proofs.Common.{◌≡◌, ◌≢◌, ℕ, zero, suc, ◌+◌, ◌
 use Rattle.std.specs.Prelude.{map, slice_get, option_map, unwrap_or, nat_eq}
 use Rattle.std.proofs.lemmas.Bool.Decides.{eqb_tells}
 use Rattle.jm_values.specs.Shape.{Among, Shape, IsShape, list_shape}
-use Rattle.jm_values.proofs.Among.{among_left, among_right}
+use Rattle.jm_values.proofs.Among.{among_left, among_right, among_mapped}
 use Rattle.jm_values.proofs.Shapes.{list_is_shape}
 use Rattle.jm_world.specs.Objects.{Object}
 use Rattle.jm_world.specs.World.{World, roots}
@@ -82,11 +82,6 @@ module _ (w : World) (f : IsWellFormed w) where
     below = λ k a. omega (arith, (serial_within 0 w.heap k a).1);
   }
 
-  among_map : (g : ℕ → ℕ) (p : ℕ) (ks : List ℕ) → Among p (map g ks) → (k : ℕ) × Among k ks × (p ≡ g k)
-  among_map g p [] a = absurd a
-  among_map g p (k ∷ ks) (inl e) = (k, inl refl, e)
-  among_map g p (k ∷ ks) (inr a) = let found = among_map g p ks a in (found.0, inr found.1, found.2)
-
   places_are : map place_of (roots w) ≡ places (whole_machine w)
   places_are = join place_of
       ((list_shape thread_shape).refs w.threads) ((list_shape static_shape).refs w.statics) ((list_shape monitor_shape).refs w.monitors) ((list_shape literal_shape).refs w.literals)
@@ -99,7 +94,7 @@ module _ (w : World) (f : IsWellFormed w) where
   resident : AllResident (whole_content w) (places (whole_machine w))
   unfolding serial_at
   resident p a =
-      let found = among_map place_of p (roots w) (subst (Among p) (sym places_are) a) in
+      let found = among_mapped place_of p (roots w) (subst (Among p) (sym places_are) a) in
       (found.0, subst (λ q. serial_in (residents_from 0 w.heap) q ≡ Some found.0) (sym found.2) (serial_there 0 w.heap found.0 (omega arith) (omega (arith, among_roots w f found.0 found.1))))
 
   same_object : (o : Option Object) → option_map (as_named (λ t. t)) o ≡ o

@@ -2,7 +2,8 @@ use Rattle.std.proofs.Common.{ap, subst, ◌∙◌}
 use Rattle.jm_world.specs.Stepping.{step_thread}
 use Rattle.jm_state.specs.Ends.{Ended}
 use Rattle.jm_state.specs.Parts.{state_parts}
-use Rattle.jm_interp.proofs.StageSteps.{on_thread, counted, thread_there, initializing_step}
+use Rattle.jm_world.proofs.Stages.{thread_there, initializing_step}
+use Rattle.jm_interp.proofs.StageSteps.{on_thread, counted}
 use Rattle.jm_interp.proofs.stages.init_stage.Goals as goal
 
 pub step_at-requires : goal.step_at-requires

@@ -2,7 +2,7 @@ use Rattle.std.proofs.Common.{sym, ap, ◌∙◌}
 use Rattle.jm_values.specs.Rename.{rename}
 use Rattle.jm_values.specs.declared.value.Value.TheVariants.{Ref}
 use Rattle.jm_values.specs.Content.{name_of}
-use Rattle.jm_state.proofs.Marking.{name_is}
+use Rattle.jm_values.proofs.SoundContents.{name_is}
 use Rattle.jm_machine.proofs.value.world_value.Goals as goal
 
 pub returns-in-Ref : goal.returns-in-Ref

@@ -8,23 +8,16 @@ use Rattle.jm_state.proofs.Made.{sound, made_here, refused_here}
 use Rattle.jm_state.proofs.make.make_object.Goals as goal
 
 pub allocate_here-requires : goal.allocate_here-requires
-allocate_here-requires g c =
-    let s = c.args.state.now in
-    sound c.args.linked.now (g.H.Heap.content s.heap) (view_of s) c.requires.1 c.requires.2
+allocate_here-requires g c = sound _ _ _ c.requires
 
 pub returns-in-Ok-Some-clause-made : goal.returns-in-Ok-Some-clause-made
-returns-in-Ok-Some-clause-made g c w h =
-    let s = c.args.state.now in
-    let here = rw c.in-Ok-Some.field-0-is at c.in-Ok-Some.ensures.ok in
-    made_here c.args.linked.now (g.H.Heap.content s.heap) (view_of s) w h (new_object c.args.shape)
-    (g.H.Heap.content c.allocate_here.new.self) c.in-Ok-Some.place here
+returns-in-Ok-Some-clause-made g c w h = let here = rw c.in-Ok-Some.field-0-is at c.in-Ok-Some.ensures.ok in made_here _ _ _ h (new_object c.args.shape) here
 
 pub returns-in-Err-clause-made : goal.returns-in-Err-clause-made
 returns-in-Err-clause-made g c w h =
     let l = c.args.linked.now in
-    let s = c.args.state.now in
+    let s = view_of c.args.state.now in
     let o = new_object c.args.shape in
-    subst (λ r. MadeOrNot (Err r) (parts l (g.H.Heap.content c.allocate_here.new.self) (view_of s)) w (as_named (named_type l.program) o))
-    (sym c.halt_of.ensures)
-    (subst (λ d. MadeOrNot (Err (halt_from c.in-Err.fault)) (parts l d (view_of s)) w (as_named (named_type l.program) o)) (sym c.in-Err.ensures.same)
-    (refused_here l (g.H.Heap.content s.heap) (view_of s) w h o c.in-Err.fault c.in-Err.ensures.err))
+    subst (λ r. MadeOrNot (Err r) (parts l (g.H.Heap.content c.allocate_here.new.self) s) w (as_named (named_type l.program) o)) (sym c.halt_of.ensures)
+    (subst (λ d. MadeOrNot (Err (halt_from c.in-Err.fault)) (parts l d s) w (as_named (named_type l.program) o)) (sym c.in-Err.ensures.same)
+    (refused_here _ _ _ h o c.in-Err.fault c.in-Err.ensures.err))

@@ -1,7 +1,7 @@
 use Rattle.std.proofs.Common.{take}
 use Rattle.std.specs.Prelude.{map}
 use Rattle.jm_values.specs.Content.{name_of}
-use Rattle.jm_state.specs.Reached.{MarkedAll}
+use Rattle.jm_values.specs.Marking.{MarkedAll}
 use Rattle.jm_state.proofs.reach.mark_places.Given as goal
 
 abbrev pub invariant-loop-place : goal.invariant-loop-place

@@ -1,5 +1,5 @@
 use Rattle.std.proofs.Common.{◌+◌, ◌-◌, length}
-use Rattle.jm_state.proofs.Marking.{Frontier, IsAhead}
+use Rattle.jm_values.proofs.Marking.{Frontier, IsAhead}
 use Rattle.jm_state.proofs.reach.search.Given as goal
 
 abbrev pub invariant-loop-place : goal.invariant-loop-place

@@ -1,7 +1,7 @@
 use Rattle.std.proofs.Common.{sym, ap, ◌∙◌, Some}
 use Rattle.jm_values.specs.Content.{name_of}
 use Rattle.jm_world.specs.Frames.{optional_number_shape}
-use Rattle.jm_state.proofs.Marking.{name_is}
+use Rattle.jm_values.proofs.SoundContents.{name_is}
 use Rattle.jm_machine.specs.MethodFrames.{MethodFrameView}
 use Rattle.jm_machine.proofs.Parted.{monitor_resident}
 use Rattle.jm_machine.proofs.frame.MethodFrame.monitor.Goals as goal

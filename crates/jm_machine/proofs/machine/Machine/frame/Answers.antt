@@ -1,6 +1,5 @@
 use Rattle.std.proofs.Common.{sym, subst, ap, ◌∙◌, Some}
 use Rattle.jm_state.specs.View.{view_of}
-use Rattle.jm_state.proofs.Made.{counted}
 use Rattle.jm_machine.specs.Readers.{IsOfProgram}
 use Rattle.jm_machine.specs.Threads.{frame_numbered}
 use Rattle.jm_machine.specs.View.{MatchesWorld}
@@ -27,7 +26,7 @@ world_frame-requires-clause-resident g c =
     let s = c.self.inside.state in
     let l = c.self.inside.linked in
     let heap = g.H.Heap.content s.heap in
-    frame_resident l heap (view_of s) c.self.invariant.world c.self.invariant.matches (counted c.self.invariant.runs) c.args.number c.args.depth c.in-Some.frame.now (ap (λ ts. frame_numbered ts c.args.number c.args.depth) (sym c.deref.ensures.value) ∙ c.in-Some.ensures)
+    frame_resident l heap (view_of s) c.self.invariant.world c.self.invariant.matches c.self.invariant.runs c.args.number c.args.depth c.in-Some.frame.now (ap (λ ts. frame_numbered ts c.args.number c.args.depth) (sym c.deref.ensures.value) ∙ c.in-Some.ensures)
 
 pub returns-in-Some-clause-frame : goal.returns-in-Some-clause-frame
 returns-in-Some-clause-frame g c = λ w m.

@@ -4,7 +4,7 @@ use Rattle.std.proofs.lemmas.Option.{slice_get_past}
 use Rattle.jm_values.specs.Rename.{rename}
 use Rattle.jm_values.specs.Content.{name_of}
 use Rattle.jm_world.specs.Objects.{Object}
-use Rattle.jm_state.proofs.Marking.{value_there}
+use Rattle.jm_values.proofs.Marking.{value_there}
 use Rattle.jm_machine.proofs.Told.{object, seen_is, value_seen}
 use Rattle.jm_machine.proofs.object.WorldObject.value.Goals as goal
 
@@ -13,7 +13,7 @@ length-requires g c = object c.self.inside.linked.now (g.H.Heap.content c.self.i
 
 pub get-value-requires : goal.get-value-requires
 get-value-requires g c =
-    value_there (g.H.Heap.content c.self.inside.heap.now) c.self.inside.place c.self.invariant.0 c.self.invariant.1 c.length.result c.args.index c.length.ensures c.if-index-length.true
+    value_there (g.H.Heap.content c.self.inside.heap.now) c.self.inside.place c.self.invariant.1 c.length.ensures c.if-index-length.true
 
 pub returns-then-index-length : goal.returns-then-index-length
 returns-then-index-length g c =

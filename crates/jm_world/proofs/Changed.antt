@@ -1,18 +1,17 @@
 -- A machine beside its world after one thread, the classes or the output have changed.
-use Rattle.std.proofs.Common.{◌≡◌, ℕ, ◌<◌, List, ◌++◌, Some, refl, sym, subst, inl, inr, length}
+use Rattle.std.proofs.Common.{◌≡◌, ℕ, ◌<◌, List, [], Some, refl, sym, subst, inl, inr, length}
 use Rattle.std.specs.Prelude.{map, slice_get, option_map}
 use Rattle.jm_values.specs.Shape.{Among, list_shape}
-use Rattle.jm_values.proofs.Among.{among_left, among_right}
+use Rattle.jm_values.proofs.Among.{among_right, among_split, among_map, among_mapped}
 use Rattle.jm_values.specs.Objects.{refs_of}
 use Rattle.jm_values.specs.Reach.{Reach, root, field}
 use Rattle.jm_world.specs.World.{World, Thread, Progress, roots}
 use Rattle.jm_values.specs.Content.{name_of, object_at, serial_at}
-use Rattle.jm_world.specs.Renaming.{thread_shape, static_shape, monitor_shape, literal_shape}
+use Rattle.jm_world.specs.Renaming.{thread_shape}
 use Rattle.jm_world.specs.Matches.{Parts, Matches, places, as_named}
 use Rattle.jm_values.proofs.Reaching.{reach_within}
-use Rattle.jm_world.proofs.Matching.{join, listed, roots_are}
-use Rattle.jm_world.proofs.ShapesOfParts.{thread_is_shape, static_is_shape, monitor_is_shape, literal_is_shape}
-use Rattle.jm_interp.proofs.Lists.{among_split, among_map, among_mapped}
+use Rattle.jm_world.proofs.Matching.{roots_are, roots_named}
+use Rattle.jm_world.proofs.PlacesOfParts.{held_of, parts_shape, places_held}
 
 -- the machine with other threads, states of classes and output
 abbrev pub changed_parts : {T : Type 0} → Parts T → List Thread → List Progress → List ℕ → Parts T
@@ -51,32 +50,15 @@ module _ {T : Type 0} (m : Parts T) (w : World) (h : Matches m w) where
       (stands : (p : ℕ) → Among p ((list_shape thread_shape).refs threads) → Stands m Q p) where
     each_stands : (p : ℕ) → Among p (places (changed_parts m threads classes output)) → Stands m Q p
     each_stands p a =
-        let ts = (list_shape thread_shape).refs threads in
-        let old = (list_shape thread_shape).refs m.threads in
-        let ss = (list_shape static_shape).refs m.statics in
-        let ms = (list_shape monitor_shape).refs m.monitors in
-        let ls = (list_shape literal_shape).refs m.literals in
-        elim (among_split p (ts ++ ss ++ ms) ls a) [
-          | inr l ↦ place_stands Q q p (among_right p (old ++ ss ++ ms) ls l)
-          | inl b ↦ elim (among_split p (ts ++ ss) ms b) [
-            | inr l ↦ place_stands Q q p (among_left p (old ++ ss ++ ms) ls (among_right p (old ++ ss) ms l))
-            | inl c ↦ elim (among_split p ts ss c) [
-              | inr l ↦ place_stands Q q p (among_left p (old ++ ss ++ ms) ls (among_left p (old ++ ss) ms (among_right p old ss l)))
-              | inl d ↦ stands p d
-            ]
-          ]
+        let rest = parts_shape.refs ([], (held_of m).1) in
+        elim (among_split p ((list_shape thread_shape).refs threads) rest
+        (subst (Among p) (places_held (changed_parts m threads classes output)) a)) [
+          | inl d ↦ stands p d
+          | inr r ↦ place_stands Q q p (subst (Among p) (sym (places_held m)) (among_right p ((list_shape thread_shape).refs m.threads) rest r))
         ]
 
     new_roots : map (name_of m.content) (places (changed_parts m threads classes output)) ≡ roots (changed_world m w threads classes output)
-    new_roots = join (name_of m.content)
-        ((list_shape thread_shape).refs threads) ((list_shape static_shape).refs m.statics) ((list_shape monitor_shape).refs m.monitors)
-        ((list_shape literal_shape).refs m.literals)
-        ((list_shape thread_shape).refs ((list_shape thread_shape).rename (name_of m.content) threads)) ((list_shape static_shape).refs w.statics)
-        ((list_shape monitor_shape).refs w.monitors) ((list_shape literal_shape).refs w.literals)
-        (listed thread_shape thread_is_shape (name_of m.content) threads ((list_shape thread_shape).rename (name_of m.content) threads) refl)
-        (listed static_shape static_is_shape (name_of m.content) m.statics w.statics h.statics)
-        (listed monitor_shape monitor_is_shape (name_of m.content) m.monitors w.monitors h.monitors)
-        (listed literal_shape literal_is_shape (name_of m.content) m.literals w.literals h.literals)
+    new_roots = roots_named (changed_parts m threads classes output) (changed_world m w threads classes output) refl h.statics h.monitors h.literals
 
     new_root : (k : ℕ) → Among k (roots (changed_world m w threads classes output)) → Q k
     new_root k a =

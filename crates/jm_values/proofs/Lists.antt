@@ -1,15 +1,15 @@
--- Lists whose last element is on top, and lists of numbers.
+-- Lists: what lies at an index, another element, the last one as the top, and the references of an element.
 use Rattle.std.proofs.Common.{◌≡◌, ℕ, zero, suc, ◌+◌, ◌-◌, ◌<◌, List, [], ◌∷◌, ◌++◌, Some, refl, sym, ap, ◌∙◌, subst, inl, inr, ◌⊎◌, length, reverse, arith}
 use Rattle.std.proofs.Common.{length-append, append_assoc, take}
-use Rattle.std.specs.Prelude.{map, slice_get, slice_set, slice_index_or}
+use Rattle.std.specs.Prelude.{◌↔◌, map, slice_get, slice_set, slice_index_or}
 use Rattle.std.specs.List.{AllByRecursion}
 use Rattle.std.proofs.lemmas.List.{reverse-append, reverse-reverse}
 use Rattle.std.proofs.lemmas.Grind.{reverse_onto}
 use Rattle.jm_values.specs.Shape.{Among, Shape, list_shape}
-use Rattle.jm_values.proofs.Among.{among_left, among_right}
+use Rattle.jm_values.proofs.Among.{among_left, among_right, among_split}
 
 -- a list by its top and what lies below
-pub by_top : {X : Type 0} (xs : List X) (x : X) (below : List X) → reverse xs ≡ x ∷ below → xs ≡ reverse below ++ x ∷ []
+by_top : {X : Type 0} (xs : List X) (x : X) (below : List X) → reverse xs ≡ x ∷ below → xs ≡ reverse below ++ x ∷ []
 by_top xs x below e = sym (reverse-reverse xs) ∙ ap reverse e ∙ reverse_onto below x []
 
 set_end : {X : Type 0} (front : List X) (x y : X) → slice_set (front ++ x ∷ []) (length front) y ≡ front ++ y ∷ []
@@ -20,7 +20,7 @@ get_end : {X : Type 0} (front : List X) (x d : X) → slice_index_or (front ++ x
 get_end [] x d = refl
 get_end (z ∷ front) x d = get_end front x d
 
-pub reverse_end : {X : Type 0} (front : List X) (y : X) → reverse (front ++ y ∷ []) ≡ y ∷ reverse front
+reverse_end : {X : Type 0} (front : List X) (y : X) → reverse (front ++ y ∷ []) ≡ y ∷ reverse front
 reverse_end front y = reverse-append front (y ∷ [])
 
 before_end : {X : Type 0} (front : List X) (x : X) (n : ℕ) → n ≡ length (front ++ x ∷ []) → n - 1 ≡ length front
@@ -45,33 +45,10 @@ top_is xs x d below n e l =
     let at : n - 1 ≡ length (reverse below) = before_end (reverse below) x n (l ∙ ap length is) in
     ap (λ k. slice_index_or xs k d) at ∙ ap (λ zs. slice_index_or zs (length (reverse below)) d) is ∙ get_end (reverse below) x d
 
--- the top has gone
-pub popped : {X : Type 0} (xs ys : List X) (x : X) → xs ≡ ys ++ x ∷ [] → reverse xs ≡ x ∷ reverse ys
-popped xs ys x e = ap reverse e ∙ reverse_end ys x
-
-pub among_split : (p : ℕ) (a b : List ℕ) → Among p (a ++ b) → Among p a ⊎ Among p b
-among_split p [] b h = inr h
-among_split p (x ∷ a) b (inl e) = inl (inl e)
-among_split p (x ∷ a) b (inr h) = elim (among_split p a b h) [ inl l ↦ inl (inr l) | inr r ↦ inr r ]
-
-pub among_map : (f : ℕ → ℕ) (p : ℕ) (ps : List ℕ) → Among p ps → Among (f p) (map f ps)
-among_map f p [] h = absurd h
-among_map f p (x ∷ ps) (inl e) = inl (ap f e)
-among_map f p (x ∷ ps) (inr h) = inr (among_map f p ps h)
-
-pub among_mapped : (f : ℕ → ℕ) (k : ℕ) (ps : List ℕ) → Among k (map f ps) → (p : ℕ) × Among p ps × (k ≡ f p)
-among_mapped f k [] h = absurd h
-among_mapped f k (x ∷ ps) (inl e) = (x, inl refl, e)
-among_mapped f k (x ∷ ps) (inr h) = let r = among_mapped f k ps h in (r.0, inr r.1, r.2)
-
 pub map_set : {A B : Type 0} (f : A → B) (xs : List A) (i : ℕ) (x : A) → map f (slice_set xs i x) ≡ slice_set (map f xs) i (f x)
 map_set f [] i x = refl
 map_set f (y ∷ xs) zero x = refl
 map_set f (y ∷ xs) (suc i) x = ap (λ l. f y ∷ l) (map_set f xs i x)
-
-pub map_map : {A B C : Type 0} (f : A → B) (g : B → C) (h : A → C) → ((x : A) → g (f x) ≡ h x) → (xs : List A) → map g (map f xs) ≡ map h xs
-map_map f g h e [] = refl
-map_map f g h e (x ∷ xs) = ap (λ y. y ∷ map g (map f xs)) (e x) ∙ ap (λ l. h x ∷ l) (map_map f g h e xs)
 
 pub get_map : {A B : Type 0} (f : A → B) (xs : List A) (i : ℕ) (x : A) → slice_get xs i ≡ Some x → slice_get (map f xs) i ≡ Some (f x)
 get_map f [] i x e = cc
@@ -167,3 +144,19 @@ pub got_within : {A : Type 0} (xs : List A) (i : ℕ) (x : A) → slice_get xs i
 got_within [] i x e = cc
 got_within (y ∷ xs) zero x e = omega arith
 got_within (y ∷ xs) (suc i) x e = let h = got_within xs i x e in omega arith
+
+-- what holds of each holds of what each is seen as
+pub all_mapped : {A B : Type 0} (P : A → Type 0) (Q : B → Type 0) (f : A → B) → ((x : A) → P x ↔ Q (f x)) → (xs : List A)
+    → AllByRecursion P xs ↔ AllByRecursion Q (map f xs)
+all_mapped P Q f h [] = (λ r. tt, λ r. tt)
+all_mapped P Q f h (x ∷ xs) = let t = all_mapped P Q f h xs in (λ r. ((h x).0 r.0, t.0 r.1), λ r. ((h x).1 r.0, t.1 r.1))
+
+pub set_there : {A : Type 0} (xs : List A) (i : ℕ) (x y : A) → slice_get xs i ≡ Some x → slice_get (slice_set xs i y) i ≡ Some y
+set_there [] i x y e = cc
+set_there (z ∷ xs) zero x y e = refl
+set_there (z ∷ xs) (suc i) x y e = set_there xs i x y e
+
+pub set_same : {A : Type 0} (xs : List A) (i : ℕ) (x : A) → slice_get xs i ≡ Some x → slice_set xs i x ≡ xs
+set_same [] i x e = refl
+set_same (y ∷ xs) zero x e = let f : y ≡ x = cc in ap (λ z. z ∷ xs) (sym f)
+set_same (y ∷ xs) (suc i) x e = ap (λ z. y ∷ z) (set_same xs i x e)

@@ -1,46 +1,28 @@
 -- Parts of a machine whose places have moved with their objects match the same world, and those of
 -- one whose heap has made an object the world with that object.
-use Rattle.std.proofs.Common.{◌≡◌, ℕ, zero, suc, ◌+◌, ◌<◌, ◌∷◌, ◌++◌, List, [], Some, length, refl, sym, ap, ◌∙◌, subst, arith, length-append}
+use Rattle.std.proofs.Common.{◌≡◌, ℕ, ◌+◌, ◌<◌, ◌∷◌, ◌++◌, List, [], Some, length, refl, sym, ap, ◌∙◌, subst, arith, length-append}
 use Rattle.std.specs.Prelude.{map, slice_get, option_map}
 use Rattle.std.proofs.lemmas.List.{append-nil, length-map}
-use Rattle.jm_values.specs.Shape.{IsShape, Among, list_shape, pair_shape}
+use Rattle.jm_values.specs.Shape.{Among}
 use Rattle.jm_values.specs.Content.{Content, Kept, Made, Reached, name_of, object_at, serial_at}
 use Rattle.jm_values.specs.Objects.{ObjectOf, refs_of}
 use Rattle.jm_values.specs.Reach.{Reach, root, field}
 use Rattle.jm_values.proofs.Among.{same_names}
 use Rattle.jm_values.proofs.Reaching.{reach_within}
-use Rattle.jm_values.proofs.Shapes.{list_is_shape, pair_is_shape}
 use Rattle.jm_world.specs.Objects.{Object}
 use Rattle.jm_world.specs.Types.{ObjectType}
 use Rattle.jm_world.specs.World.{World, roots}
 use Rattle.jm_world.specs.Matches.{Parts, Matches, places, as_named}
-use Rattle.jm_world.specs.Renaming.{thread_shape, static_shape, monitor_shape, literal_shape}
 use Rattle.jm_world.proofs.Matching.{reaches_alike}
-use Rattle.jm_world.proofs.ShapesOfParts.{thread_is_shape, static_is_shape, monitor_is_shape, literal_is_shape}
-use Rattle.jm_state.specs.Ends.{with_object}
-use Rattle.jm_state.proofs.Alike.{Held, held_of, parts_shape}
-
-get_before : {A : Type 0} (xs : List A) (y : A) (k : ℕ) → k < length xs → slice_get (xs ++ y ∷ []) k ≡ slice_get xs k
-get_before [] y k h = absurd (omega arith)
-get_before (x ∷ xs) y zero h = refl
-get_before (x ∷ xs) y (suc k) h = get_before xs y k (omega arith)
+use Rattle.jm_world.proofs.Making.{get_before}
+use Rattle.jm_world.proofs.PlacesOfParts.{Held, held_of, parts_shape, parts_is_shape}
 
 -- an object more is not reached
 still_reached : (heap : List Object) (o : Object) (from : List ℕ) → ((k : ℕ) → Reach (slice_get heap) from k → k < length heap) → (k : ℕ)
     → Reach (slice_get (heap ++ o ∷ [])) from k → Reach (slice_get heap) from k
 still_reached heap o from bound k r =
     reach_within (Reach (slice_get heap) from) (λ j i. root j i)
-    (λ i j p q. field i j p (subst (λ x. Among j (refs_of x)) (get_before heap o i (bound i p)) q)) k r
-
-parts_is_shape : IsShape Held parts_shape
-parts_is_shape =
-    let literals = list_is_shape literal_shape literal_is_shape in
-    let monitors = pair_is_shape (list_shape monitor_shape) (list_shape literal_shape) (list_is_shape monitor_shape monitor_is_shape) literals in
-    let statics =
-    pair_is_shape (list_shape static_shape) (pair_shape (list_shape monitor_shape) (list_shape literal_shape))
-    (list_is_shape static_shape static_is_shape) monitors in
-    pair_is_shape (list_shape thread_shape) (pair_shape (list_shape static_shape) (pair_shape (list_shape monitor_shape) (list_shape literal_shape)))
-    (list_is_shape thread_shape thread_is_shape) statics
+    (λ i j p q. field i j p (subst (λ x. Among j (refs_of x)) (get_before heap (o ∷ []) i (bound i p)) q)) k r
 
 -- by its heap a machine's places name what another's name by theirs, and else the machines are the same
 pub record HasMoved {T : Type 0} (m new : Parts T) : Type 0 where
@@ -73,7 +55,7 @@ pub same_renamed : {T : Type 0} (c d : Content T) (held : Held) → map (name_of
     → parts_shape.rename (name_of d) held ≡ parts_shape.rename (name_of c) held
 same_renamed c d held names = (parts_is_shape held).agrees (name_of d) (name_of c) (same_names (name_of d) (name_of c) (parts_shape.refs held) names)
 
-module _ {T : Type 0} (m new : Parts T) (w : World) (h : Matches m w) (a : HasMoved m new) where
+module _ {T : Type 0} {m new : Parts T} {w : World} (h : Matches m w) (a : HasMoved m new) where
   reached_here : (k : ℕ) → Reach (slice_get w.heap) (roots w) k → Reached m.content (places m) k
   reached_here k r = ((reaches_alike m w h).same k).1 r
 
@@ -100,7 +82,7 @@ module _ {T : Type 0} (m new : Parts T) (w : World) (h : Matches m w) (a : HasMo
     stop = a.stop ∙ h.stop;
   }
 
-  module _ (sizes : T → ℕ → ℕ) (place : ℕ) (o : ObjectOf T) (made : Made sizes m.content (places m) new.content (places new) place o) where
+  module _ {sizes : T → ℕ → ℕ} {place : ℕ} {o : ObjectOf T} (made : Made sizes m.content (places m) new.content (places new) place o) where
     abbrev object : Object
     object = as_named m.named o
 
@@ -108,7 +90,7 @@ module _ {T : Type 0} (m new : Parts T) (w : World) (h : Matches m w) (a : HasMo
     reached_before k r = still_reached w.heap object (roots w) h.bound k r
 
     -- one that made an object matches the world with that object
-    pub made_matches : Matches new (with_object w object)
+    pub made_matches : Matches new (record w { heap = w.heap ++ object ∷ [] })
     made_matches = record {
       sound = made.kept.sound;
       resident = made.kept.resident;
@@ -117,7 +99,7 @@ module _ {T : Type 0} (m new : Parts T) (w : World) (h : Matches m w) (a : HasMo
       bound = λ k r. let b = h.bound k (reached_before k r) in omega (arith, b, length-append w.heap (object ∷ []));
       objects =
           λ k r. same_object k (made.kept.reached k (reached_here k (reached_before k r))) ∙ h.objects k (reached_before k r)
-          ∙ sym (get_before w.heap object k (h.bound k (reached_before k r)));
+          ∙ sym (get_before w.heap (object ∷ []) k (h.bound k (reached_before k r)));
       threads = ap (λ (p : Held). p.0) a.held ∙ h.threads;
       statics = ap (λ (p : Held). p.1.0) a.held ∙ h.statics;
       monitors = ap (λ (p : Held). p.1.1.0) a.held ∙ h.monitors;
