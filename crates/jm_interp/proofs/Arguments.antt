@@ -1,5 +1,5 @@
 -- What a method of a print stream pops, in the model.
-use Rattle.std.proofs.Common.{◌≡◌, ℕ, List, [], ◌∷◌, Option, Some, None, refl, sym, inl, subst}
+use Rattle.std.proofs.Common.{◌≡◌, ℕ, List, [], ◌∷◌, Option, Some, None, refl, inl, subst}
 use Rattle.std.specs.Prelude.{map, option_map, reverse, Result, Ok, Err, slice_get, drop, ℤ}
 use Rattle.jm_values.specs.Rename.{rename, value_shape, stack_shape}
 use Rattle.jm_values.specs.Shape.{Among}

@@ -19,7 +19,7 @@ use Rattle.jm_state.specs.declared.thread.Ending.TheVariants.{Running, Returned,
 use Rattle.jm_state.specs.declared.thread.StackFrame.{StackFrame}
 use Rattle.jm_state.specs.declared.thread.Thread as held
 use Rattle.jm_interp.specs.declared.at.At.{At}
-use Rattle.jm_interp.specs.At.{parts_at, OnThread, Does}
+use Rattle.jm_interp.specs.At.{OnThread, Does}
 use Rattle.jm_interp.specs.Ending.{ended_as}
 use Rattle.jm_interp.specs.Standing.{ThreadRest, Stands}
 use Rattle.jm_values.proofs.Lists.{get_map, map_set}

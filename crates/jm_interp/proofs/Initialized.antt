@@ -1,5 +1,5 @@
 -- Stages of initialization beside the model's.
-use Rattle.std.proofs.Common.{◌≡◌, ◌≢◌, ℕ, ◌+◌, ◌-◌, ◌<◌, List, [], ◌∷◌, Option, Some, None, true, false, refl, sym, ap, ◌∙◌, subst, inl, inr, ◌⊎◌, length}
+use Rattle.std.proofs.Common.{◌≡◌, ◌≢◌, ℕ, ◌+◌, ◌<◌, List, [], ◌∷◌, Option, Some, None, true, false, refl, sym, ap, ◌∙◌, subst, inl, inr, ◌⊎◌, length}
 use Rattle.std.proofs.Common.{drop, arith, length-set}
 use Rattle.std.specs.Prelude.{map, slice_get, slice_set, nat_eq}
 use Rattle.std.specs.List.{AllByRecursion}
@@ -7,7 +7,7 @@ use Rattle.jm_program.specs.declared.class.ClassParts.{ClassParts}
 use Rattle.std.proofs.lemmas.Bool.{eq-eqb}
 use Rattle.std.proofs.lemmas.Bool.Decides.{eqb_tells}
 use Rattle.jm_values.specs.Shape.{Among}
-use Rattle.jm_world.specs.Frames.{Frame, frames_shape, rename_frame, initialization_frame}
+use Rattle.jm_world.specs.Frames.{Frame, frames_shape, initialization_frame}
 use Rattle.jm_world.specs.Here.{with_frames, push_frame}
 use Rattle.jm_world.specs.Initialization.{initialize, begin, superclass_first, superclass_name, is_done, run_initializer, initializer_of, initializer_in}
 use Rattle.jm_world.specs.Initialization.{initializer_type, constants_of, with_constants, at_stage, finish}
@@ -15,9 +15,8 @@ use Rattle.jm_world.specs.Next as next
 use Rattle.jm_world.specs.Next.{Next, goes}
 use Rattle.jm_world.specs.Classes.{class_named, object_class}
 use Rattle.jm_world.specs.World.{World, Thread, with_thread, with_state, state_of, state_in, set_state_in, held_shape, live_among}
-use Rattle.jm_values.specs.Content.{Content, name_of}
-use Rattle.jm_world.specs.Matches.{Matches, places}
-use Rattle.jm_world.specs.Renaming.{rename_thread}
+use Rattle.jm_values.specs.Content.{Content}
+use Rattle.jm_world.specs.Matches.{Matches}
 use Rattle.jm_world.specs.Stepping.{step_thread}
 use Rattle.jm_world.specs.declared.class_state.ClassState.{ClassState}
 use Rattle.jm_world.specs.declared.class_state.ClassState.TheVariants.{NotBegun, InProgress, Done, Failed}
@@ -29,7 +28,6 @@ use Rattle.jm_linked.specs.Named.{named_states}
 use Rattle.jm_state.specs.Parts.{parts, frame_part, thread_part, program_class_name, name_in_program}
 use Rattle.jm_state.specs.Runnable.{IsMethodFrame, StandOnTop, ThreadRuns, ThreadNotYet}
 use Rattle.jm_state.specs.Places.{held_thread}
-use Rattle.jm_state.specs.Ends.{Ended}
 use Rattle.jm_state.specs.declared.state.State.{State}
 use Rattle.jm_state.specs.declared.thread.StackFrame.{StackFrame}
 use Rattle.jm_state.specs.declared.thread.StackFrame.TheVariants.{Initialization}
@@ -41,7 +39,7 @@ use Rattle.jm_linked.proofs.Classes.{IsPlain, plain_class, state_is, states_set,
 use Rattle.std.specs.Prelude.{slice_index_or, vec_len, Ok}
 use Rattle.jm_interp.specs.declared.at.At.{At}
 use Rattle.jm_interp.specs.At.{parts_at, HoldsAll, OnThread, Does, Steps}
-use Rattle.jm_interp.specs.Standing.{Stands, running, part_of}
+use Rattle.jm_interp.specs.Standing.{Stands, running}
 use Rattle.jm_interp.proofs.OnThread.{Leads, thread_as, model, does_as, blocks, held_frames, part_here, runs_with, ChangedTo, with_thread_at}
 use Rattle.jm_interp.proofs.OnThread as thread
 use Rattle.jm_values.proofs.Lists.{get_there, get_at}

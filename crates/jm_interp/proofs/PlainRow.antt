@@ -1,5 +1,5 @@
 -- The row of a plain instruction, where it stands.
-use Rattle.std.proofs.Common.{◌≡◌, ℕ, ◌+◌, List, ◌∷◌, None, refl, sym, ap, ◌∙◌, subst}
+use Rattle.std.proofs.Common.{◌≡◌, ℕ, List, ◌∷◌, None, refl, sym, ap, ◌∙◌, subst}
 use Rattle.std.specs.Prelude.{slice_index_or, Result, Ok, Err}
 use Rattle.jm_program.specs.Instructions.{instr_fits}
 use Rattle.jm_program.specs.declared.instruction.plain.Plain.{Plain}
@@ -7,16 +7,13 @@ use Rattle.jm_values.specs.Activation.{Activation}
 use Rattle.jm_values.specs.Outcome as outcome
 use Rattle.jm_values.specs.PlainRows.{row_plain}
 use Rattle.jm_values.specs.Rename.{rename_outcome, refs_activation}
-use Rattle.jm_values.specs.Shape.{Among}
 use Rattle.jm_values.specs.declared.fault.TagFault.{TagFault}
 use Rattle.jm_values.proofs.NaturalRows.{plain_natural}
 use Rattle.jm_values.proofs.NoNewReferences.{brings_none}
 use Rattle.jm_values.specs.Content.{Content, name_of}
 use Rattle.jm_world.specs.Here.{throws}
-use Rattle.jm_world.specs.Matches.{Matches, places}
 use Rattle.jm_world.specs.Next.{throw}
 use Rattle.jm_world.specs.Stepping.{from_outcome, row, step_thread}
-use Rattle.jm_world.specs.World.{World}
 use Rattle.jm_world.specs.declared.stop.Stop.TheVariants as why
 use Rattle.jm_heap.specs.declared.class_id.ClassId.{ClassId}
 use Rattle.jm_linked.specs.Links.{Links}

@@ -1,7 +1,7 @@
 -- A method of a print stream, where it stands.
-use Rattle.std.proofs.Common.{◌≡◌, ℕ, ◌+◌, ◌-◌, List, [], ◌∷◌, ◌++◌, Option, Some, None, Bool, true, false, refl, sym, ap, ◌∙◌, subst, inl, inr, drop, arith}
+use Rattle.std.proofs.Common.{◌≡◌, ℕ, ◌+◌, List, [], ◌∷◌, ◌++◌, Option, Some, None, Bool, true, false, refl, sym, ap, ◌∙◌, subst, inl, inr, drop}
 use Rattle.std.proofs.Common.{add-one, length}
-use Rattle.std.specs.Prelude.{map, slice_set, option_map, nat_eq, Ok, Err, codes}
+use Rattle.std.specs.Prelude.{map, option_map, nat_eq, Ok, Err, codes}
 use Rattle.std.proofs.lemmas.Bool.{eqb-true}
 use Rattle.std.proofs.lemmas.List.{append-nil}
 use Rattle.jm_program.specs.declared.class.ClassParts.{ClassParts}
@@ -29,8 +29,6 @@ use Rattle.jm_world.specs.Types.{ObjectType, class_type, type_of_object}
 use Rattle.jm_world.specs.World.{World}
 use Rattle.jm_values.specs.Content.{Content, name_of, serial_at, object_at}
 use Rattle.jm_world.specs.Loads.{Loads}
-use Rattle.jm_world.specs.Matches.{Matches}
-use Rattle.jm_world.specs.Renaming.{rename_thread}
 use Rattle.jm_world.specs.Stepping.{row, step_thread}
 use Rattle.jm_heap.specs.declared.class_id.ClassId.{ClassId}
 use Rattle.jm_heap.specs.declared.class_id.ClassId.TheVariants.{Instance, Array}
@@ -54,7 +52,6 @@ use Rattle.std.specs.Prelude.{slice_index_or, Result}
 use Rattle.jm_linked.specs.Links.{Links}
 use Rattle.jm_frames.specs.FrameView.{FrameView}
 use Rattle.jm_world.specs.declared.stop.Stop.TheVariants as why
-use Rattle.jm_state.specs.Ends.{Ended}
 use Rattle.jm_state.specs.Runnable.{StateRuns}
 use Rattle.jm_state.specs.declared.halt.Halt.{Halt}
 use Rattle.jm_state.specs.declared.halt.Halt.TheVariants.{Stopped}
@@ -62,8 +59,8 @@ use Rattle.jm_state.specs.declared.halt.StepEnd.{StepEnd}
 use Rattle.jm_state.specs.declared.halt.StepEnd.TheVariants.{Done}
 use Rattle.jm_state.specs.declared.thread.StackFrame.{StackFrame}
 use Rattle.jm_interp.specs.declared.at.At.{At}
-use Rattle.jm_interp.specs.At.{parts_at, StandsOn, Does, Steps}
-use Rattle.jm_interp.specs.Standing.{Stands, part_of, ThreadRest, running}
+use Rattle.jm_interp.specs.At.{StandsOn, Does, Steps}
+use Rattle.jm_interp.specs.Standing.{Stands, ThreadRest, running}
 use Rattle.jm_interp.proofs.Here.{place, row_is, top_held, inside_with, part_with}
 use Rattle.jm_interp.proofs.Objects.{IsObject, object_of, told}
 use Rattle.jm_interp.proofs.OnThread.{Leads, model, read, does_as, stops, runs_with, goes_to, with_thread_at, ChangedTo}

@@ -1,5 +1,5 @@
 -- A value that is pushed, where it stands.
-use Rattle.std.proofs.Common.{◌≡◌, ℕ, ◌+◌, List, [], ◌∷◌, ◌++◌, Some, Bool, true, false, refl, sym, ap, ◌∙◌, subst, inl, inr, ◌⊎◌}
+use Rattle.std.proofs.Common.{◌≡◌, ℕ, ◌+◌, List, [], ◌∷◌, Some, refl, sym, ap, ◌∙◌, subst, inl, inr}
 use Rattle.std.specs.Prelude.{slice_get, Ok, Err}
 use Rattle.jm_program.specs.declared.class.ClassParts.{ClassParts}
 use Rattle.jm_frames.specs.Made.{outcome}
@@ -19,7 +19,6 @@ use Rattle.jm_values.specs.Content.{Content, name_of}
 use Rattle.jm_world.specs.Classes.{system_class}
 use Rattle.jm_world.specs.Loads.{Loads}
 use Rattle.jm_world.specs.Loading.{first_statics, out_field}
-use Rattle.jm_world.specs.Matches.{Matches, places}
 use Rattle.jm_world.specs.Renaming.{static_shape}
 use Rattle.jm_world.specs.Stepping.{from_outcome, row, step_thread}
 use Rattle.jm_world.specs.declared.class_state.ClassState.TheVariants.{Done}
@@ -38,7 +37,7 @@ use Rattle.jm_linked.proofs.BuiltIns.{others}
 use Rattle.jm_linked.proofs.SystemOut.{system_out_row, not_listed}
 use Rattle.std.specs.Prelude.{slice_index_or}
 use Rattle.jm_interp.specs.declared.at.At.{At}
-use Rattle.jm_interp.specs.At.{parts_at, InMethod, Holds, StandsOn, Does, in_method}
+use Rattle.jm_interp.specs.At.{InMethod, Holds, StandsOn, Does, in_method}
 use Rattle.jm_interp.proofs.Here.{Leaves, place, row_is, top_held, done, goes_on, faults_there}
 use Rattle.jm_interp.proofs.OnThread.{Leads, model, with_thread_at, held_statics}
 

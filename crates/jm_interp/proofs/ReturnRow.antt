@@ -1,7 +1,6 @@
 -- A return, where it stands.
-use Rattle.std.proofs.Common.{◌≡◌, ℕ, ◌+◌, ◌<◌, ◌≤◌, List, [], ◌∷◌, Option, Some, None, Bool, true, false, refl, sym, ap, ◌∙◌, subst, inl, inr, length, arith}
+use Rattle.std.proofs.Common.{◌≡◌, ℕ, ◌+◌, ◌<◌, ◌≤◌, List, [], ◌∷◌, Option, Some, None, Bool, true, false, refl, sym, ap, ◌∙◌, subst, inl, inr, arith}
 use Rattle.std.specs.Prelude.{Result, map, option_map, nat_le, Ok, Err, vec_len, codes}
-use Rattle.std.proofs.lemmas.List.{length-reverse}
 use Rattle.jm_program.specs.declared.descriptor.FieldType.{FieldType}
 use Rattle.jm_program.specs.declared.instruction.operation.ReturnOp.{ReturnOp}
 use Rattle.jm_program.specs.declared.instruction.operation.ReturnOp.TheVariants as return

@@ -6,7 +6,7 @@ use Rattle.std.specs.List.{AllByRecursion}
 use Rattle.jm_values.specs.Shape.{Among}
 use Rattle.jm_values.proofs.Among.{among_left, among_right, among_split}
 use Rattle.jm_world.specs.Frames.{frames_shape, optional_number_shape}
-use Rattle.jm_world.specs.World.{Thread, refs_thread, object_refs, held_shape}
+use Rattle.jm_world.specs.World.{refs_thread, object_refs, held_shape}
 use Rattle.jm_linked.specs.Links.{LinkedView}
 use Rattle.jm_state.specs.Parts.{part_of_held, thread_part, frame_part, ending_part}
 use Rattle.jm_state.specs.Places.{HeldThread, held_thread}
