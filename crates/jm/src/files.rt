@@ -1,6 +1,7 @@
 // Files from their names.
 
 use jm_execute::{Contents, InputFile};
+use std::alloc::AllocError;
 use std::fs;
 use std::io::ErrorKind;
 
@@ -14,4 +15,13 @@ pub fn input_file(rt: &HostRuntime, name: String) -> InputFile {
         },
     };
     InputFile { name, contents }
+}
+
+/// The files of these names, in order. The error says that a growth was refused.
+pub fn input_files(rt: &HostRuntime, names: Vec<String>) -> Result<Vec<InputFile>, AllocError> {
+    let mut files = Vec::with_capacity(rt.alloc(), names.len())?;
+    for name in names {
+        files.push(input_file(rt, name))?;
+    }
+    Ok(files)
 }

@@ -1,4 +1,4 @@
-//! `jm`: runs the class of a class file or of an assembler text, by the events of a schedule, and
+//! `jm`: runs the program of some class files and assembler texts, by the events of a schedule, and
 //! assembles texts into class files.
 //!
 //! The command line is read by `jm_options`, and what a job does is `jm_execute`'s. What stands
@@ -10,19 +10,20 @@ mod files;
 mod output;
 mod word;
 
-use files::input_file;
+use files::{input_file, input_files};
 use jm_execute::{AssembleJob, Job, RunJob, Status, Watched, execute, write_out_of_memory};
 use jm_options::{AssembleOptions, Options, RunOptions, UsageFault, options};
 use output::Output;
+use std::alloc::AllocError;
 use std::process::ExitCode;
 use word::{WordsFault, words};
 
-fn run_job(rt: &HostRuntime, asked: RunOptions) -> Job {
-    Job::Run(RunJob {
+fn run_job(rt: &HostRuntime, asked: RunOptions) -> Result<Job, AllocError> {
+    Ok(Job::Run(RunJob {
         heap: asked.heap,
         schedule: input_file(rt, asked.schedule),
-        program: input_file(rt, asked.file),
-    })
+        program: input_files(rt, asked.files)?,
+    }))
 }
 
 fn assemble_job(rt: &HostRuntime, asked: AssembleOptions) -> Job {
@@ -68,7 +69,10 @@ fn status(rt: &HostRuntime) -> Status {
         }
     }
     match options(rt.alloc(), &texts) {
-        Ok(Options::Run(asked)) => done(rt, &run_job(rt, asked)),
+        Ok(Options::Run(asked)) => match run_job(rt, asked) {
+            Ok(job) => done(rt, &job),
+            Err(_) => out_of_memory(rt),
+        },
         Ok(Options::Assemble(asked)) => done(rt, &assemble_job(rt, asked)),
         Err(UsageFault::Usage(text)) => refused(rt, &text),
         Err(UsageFault::OutOfMemory) => out_of_memory(rt),

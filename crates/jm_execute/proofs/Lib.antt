@@ -3,7 +3,8 @@ mod Turns
 mod Folds
 mod Threads
 mod Texts
-mod Stages
+mod Chains
+mod FileLists
 mod Assemblies
 mod Beginnings
 mod Telling

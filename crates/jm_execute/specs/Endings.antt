@@ -1,5 +1,5 @@
 -- How a job ends, and what is told of it.
-use Rattle.std.specs.Prelude.{◌≡◌, ℕ, List, [], ◌++◌, Option, Some, None, Bool, true, false, ⊤}
+use Rattle.std.specs.Prelude.{◌≡◌, ℕ, List, [], ◌++◌, Option, Some, None, Ok, Err, Bool, true, false, ⊤}
 use Rattle.jm_program.specs.declared.class.ClassParts.{ClassParts}
 use Rattle.jm_class_format.specs.ClassFile.{Spells}
 use Rattle.jm_world.specs.World.{World}
@@ -7,7 +7,8 @@ use Rattle.jm_world.specs.Loading.{loaded_world}
 use Rattle.jm_world.specs.Run.{run_from}
 use Rattle.jm_world.specs.declared.event.Event.{Event}
 use Rattle.jm_execute.specs.Reports.{report, memory_line, status_of}
-use Rattle.jm_execute.specs.Verdicts.{Verdict, unread, refused, misspelled, unknown, runs, assembles}
+use Rattle.jm_execute.specs.Reasons.{Reason, reason_status, reason_line}
+use Rattle.jm_execute.specs.Verdicts.{Verdict, because, runs, assembles}
 use Rattle.jm_execute.specs.Written.{WatchedView, AllWritten, Broken}
 use Rattle.jm_execute.specs.declared.status.Status.{Status}
 use Rattle.jm_execute.specs.declared.status.Status.TheVariants as ends
@@ -21,24 +22,15 @@ pub data Ending : Type 0 where
   assembled : List ℕ → Ending
   -- memory was refused before the first event, or before the class file was whole
   exhausted : Ending
-  -- there was neither a run nor a class file
-  turned_away : Status → Ending
-
--- the status where there is neither
-abbrev pub status_without : Verdict → Option Status
-status_without unread = Some ends.Files
-status_without refused = Some ends.Refused
-status_without misspelled = Some ends.BadSchedule
-status_without unknown = None
-status_without (runs program limit events) = None
-status_without (assembles class bytes) = None
+  -- there was neither a run nor a class file, for this reason
+  turned_away : Reason → Ending
 
 -- the run that a world is the last of
 pub record Completes (v : Verdict) (w : World) : Type 0 where
   pub program : List ClassParts
   pub limit : ℕ
   pub events : List Event
-  pub runs_is : v ≡ runs program limit events
+  pub runs_is : v ≡ Ok (runs program limit events)
   pub world_is : w ≡ run_from (loaded_world program limit) events
 
 -- the run that a world is within
@@ -47,13 +39,13 @@ pub record StopsShort (v : Verdict) (w : World) : Type 0 where
   pub limit : ℕ
   pub made : List Event
   pub rest : List Event
-  pub runs_is : v ≡ runs program limit (made ++ rest)
+  pub runs_is : v ≡ Ok (runs program limit (made ++ rest))
   pub world_is : w ≡ run_from (loaded_world program limit) made
 
 -- the bytes are a class file's, and spell the class that the text denotes (JVMS 4)
 pub record Assembles (v : Verdict) (bytes : List ℕ) : Type 0 where
   pub class : ClassParts
-  pub assembles_is : v ≡ assembles class bytes
+  pub assembles_is : v ≡ Ok (assembles class bytes)
   pub spelled : Spells bytes class
 
 -- the endings of a run of events from a world on
@@ -62,7 +54,7 @@ Ends first events (completed w) = w ≡ run_from first events
 Ends first events (interrupted w) = (made : List Event) × (rest : List Event) × (events ≡ made ++ rest) × (w ≡ run_from first made)
 Ends first events (assembled bytes) = ⊥
 Ends first events exhausted = ⊥
-Ends first events (turned_away status) = ⊥
+Ends first events (turned_away reason) = ⊥
 
 -- the endings that the files allow: memory may be refused at any time
 abbrev pub Allows : Verdict → Ending → Type 0
@@ -70,29 +62,29 @@ Allows v (completed w) = Completes v w
 Allows v (interrupted w) = StopsShort v w
 Allows v (assembled bytes) = Assembles v bytes
 Allows v exhausted = ⊤
-Allows v (turned_away status) = status_without v ≡ Some status
+Allows v (turned_away reason) = v ≡ Err (because reason)
 
 abbrev pub output_of : Ending → List ℕ
 output_of (completed w) = w.output
 output_of (interrupted w) = w.output
 output_of (assembled bytes) = bytes
 output_of exhausted = []
-output_of (turned_away status) = []
+output_of (turned_away reason) = []
 
 abbrev pub status_after : Ending → Status
 status_after (completed w) = status_of w
 status_after (interrupted w) = ends.OutOfMemory
 status_after (assembled bytes) = ends.Done
 status_after exhausted = ends.OutOfMemory
-status_after (turned_away status) = status
+status_after (turned_away reason) = reason_status reason
 
--- the lines on standard error; of those for refused files nothing is said
+-- the lines on standard error, where definitions say what they are
 abbrev pub lines_after : Ending → Option (List ℕ)
 lines_after (completed w) = Some (report w)
 lines_after (interrupted w) = Some memory_line
 lines_after (assembled bytes) = Some []
 lines_after exhausted = Some memory_line
-lines_after (turned_away status) = None
+lines_after (turned_away reason) = reason_line reason
 
 abbrev pub LinesWritten : Option (List ℕ) → Bool → WatchedView → WatchedView → Type 0
 LinesWritten None failed old new = ⊤

@@ -2,7 +2,9 @@ pub mod Written
 pub mod Reports
 pub mod Codes
 pub mod Turns
+pub mod Beginnings
 pub mod ProgramFiles
+pub mod Reasons
 pub mod Verdicts
 pub mod Endings
 pub mod Refusals

@@ -1,11 +1,9 @@
--- Which class a program's file holds, by its name and its bytes.
+-- What a program's file is, by its name, and the class that a text denotes.
 use Rattle.std.specs.Prelude.{ℕ, ◌+◌, ◌==◌, nat_eq, List, take, Bool, codes, Result, Err, if◌then◌else◌}
 use Rattle.std.specs.List.{count_by, ends_with}
 use Rattle.std.specs.Str.{is_utf8}
 use Rattle.std.specs.Str.Lossy.{utf8_valid_len}
-use Rattle.jm_bytes.specs.Reading.{fault_as}
 use Rattle.jm_program.specs.declared.class.ClassParts.{ClassParts}
-use Rattle.jm_class_format.specs.ClassFile.{class_file}
 use Rattle.jm_class_format.specs.declared.read_fault.ReadFault.{ReadFault}
 use Rattle.jm_jasmin.specs.Text.{denoted}
 use Rattle.jm_jasmin_ops.specs.declared.fault.AsmFault.{AsmFault}
@@ -28,9 +26,3 @@ is_text_name name = ends_with nat_eq name (codes ".j")
 pub data FileFault : Type 0 where
   in_text : AsmFault → FileFault
   in_class_file : ReadFault → FileFault
-
--- the class that a file of this name with these bytes holds
-unfoldable pub file_class : List ℕ → List ℕ → Result ClassParts FileFault
-file_class name bytes =
-    if is_text_name name then fault_as in_text (text_class bytes)
-    else fault_as in_class_file (class_file.read bytes)

@@ -1,87 +1,160 @@
--- What the files of a job say: a run of a program, a class with the bytes of its file, or why there is neither.
-use Rattle.std.specs.Prelude.{ℕ, List, [], ◌∷◌, Bool, true, false, is_none, ◌&&◌, Result, Ok, Err}
+-- What the files of a job say: a run of a program, a class with the bytes of its file, or why there is neither. Each is a chain of steps;
+-- the first step that has no answer says why.
+use Rattle.std.specs.Prelude.{ℕ, List, [], ◌∷◌, Option, Some, None, Result, Ok, Err, if◌then◌else◌}
 use Rattle.std.specs.String.{string_bytes}
+use Rattle.jm_bytes.specs.Reading.{and_then, fault_as}
 use Rattle.jm_program.specs.declared.class.ClassParts.{ClassParts}
 use Rattle.jm_class_writer.specs.ClassParts.{written}
-use Rattle.jm_class_writer.specs.declared.fault.WriteFault.{WriteFault}
-use Rattle.jm_jasmin_ops.specs.declared.fault.AsmFault.{AsmFault}
 use Rattle.jm_world.specs.Loading.{is_too_small}
-use Rattle.jm_world.specs.Loads.{refusal}
+use Rattle.jm_world.specs.Loads.{Refusal, refusal, duplicate_class, no_class, cycle, no_field, no_method, wrong_kind, no_main, duplicate_member}
 use Rattle.jm_world.specs.Schedules.{schedule}
 use Rattle.jm_world.specs.declared.event.Event.{Event}
 use Rattle.jm_linked.specs.Later.{later_part}
+use Rattle.jm_linked.specs.declared.later.LaterPart.{LaterPart}
+use Rattle.jm_linker.specs.declared.fault.LinkFault.{LinkFault}
+use Rattle.jm_linker.specs.declared.fault.LinkFault.TheVariants as link
 use Rattle.jm_execute.specs.declared.job.Contents.{Contents}
 use Rattle.jm_execute.specs.declared.job.Contents.TheVariants.{Bytes, NotRead, OutOfMemory}
+use Rattle.jm_execute.specs.declared.job.InputFile.{InputFile}
 use Rattle.jm_execute.specs.declared.job.RunJob.{RunJob}
+use Rattle.jm_execute.specs.declared.job.AssembleJob.{AssembleJob}
 use Rattle.jm_execute.specs.declared.job.Job.{Job}
 use Rattle.jm_execute.specs.declared.job.Job.TheVariants.{Run, Assemble}
-use Rattle.jm_execute.specs.ProgramFiles.{FileFault, file_class, text_class}
+use Rattle.jm_class_format.specs.ClassFile.{class_file}
+use Rattle.jm_execute.specs.ProgramFiles.{in_text, in_class_file, is_text_name, text_class}
+use Rattle.jm_execute.specs.Reasons as reason
 
-pub data Verdict : Type 0 where
-  -- a file could not be read
-  unread : Verdict
-  -- the program's file holds no class, the class cannot be linked or loaded, or it has no class file
-  refused : Verdict
-  -- the schedule spells no events
-  misspelled : Verdict
-  -- memory was refused before the files were known
-  unknown : Verdict
-  -- a program, the limit of its heap, and the events of its run
-  runs : List ClassParts → ℕ → List Event → Verdict
+pub data Work : Type 0 where
+  -- the run of a program, over a heap of this limit, by these events
+  runs : List ClassParts → ℕ → List Event → Work
   -- a class, and the bytes that are written for it
-  assembles : ClassParts → List ℕ → Verdict
+  assembles : ClassParts → List ℕ → Work
+
+-- why there is none
+pub data Cause : Type 0 where
+  because : reason.Reason → Cause
+  -- memory was refused before the files were known
+  unknown : Cause
+
+abbrev pub Verdict : Type 0
+Verdict = Result Work Cause
+
+infixl 10 ◌>>=◌
+abbrev pub ◌>>=◌ : {A B : Type 0} → Result A Cause → (A → Result B Cause) → Result B Cause
+step >>= next = and_then step next
+
+-- ---- files
+
+abbrev pub bytes_in : List ℕ → Contents → Result (List ℕ) Cause
+bytes_in name (Bytes bytes) = Ok bytes.items
+bytes_in name NotRead = Err (because (reason.not_read name))
+bytes_in name OutOfMemory = Err unknown
+
+-- the bytes of a file
+abbrev pub bytes_of : InputFile → Result (List ℕ) Cause
+bytes_of file = bytes_in (string_bytes file.name) file.contents
+
+-- each of them was read
+abbrev pub all_read : List InputFile → Result (Unit {0}) Cause
+all_read [] = Ok tt
+all_read (file ∷ files) = do
+  bytes ← bytes_of file
+  all_read files
+
+-- ---- the classes of a program, the main class first
+
+-- the class that a text of this name denotes
+abbrev pub denoted_class : List ℕ → List ℕ → Result ClassParts Cause
+denoted_class name text = fault_as (λ fault. because (reason.no_class name (in_text fault))) (text_class text)
+
+-- the class that a class file of this name spells
+abbrev pub spelled_class : List ℕ → List ℕ → Result ClassParts Cause
+spelled_class name bytes = fault_as (λ fault. because (reason.no_class name (in_class_file fault))) (class_file.read bytes)
+
+-- the class that a file of this name with these bytes holds
+abbrev pub held_class : List ℕ → List ℕ → Result ClassParts Cause
+held_class name bytes = if is_text_name name then denoted_class name bytes else spelled_class name bytes
+
+unfoldable pub class_of : InputFile → Result ClassParts Cause
+class_of file = do
+  bytes ← bytes_of file
+  held_class (string_bytes file.name) bytes
+
+abbrev pub classes_of : List InputFile → Result (List ClassParts) Cause
+classes_of [] = Ok []
+classes_of (file ∷ files) = do
+  class ← class_of file
+  classes ← classes_of files
+  Ok (class ∷ classes)
+
+-- ---- linking
+
+-- the fault that says why a program does not load
+abbrev pub load_fault : Refusal → LinkFault
+load_fault (duplicate_class name) = link.DuplicateClass name
+load_fault (duplicate_member name) = link.DuplicateMember name
+load_fault (no_class name) = link.NoClass name
+load_fault (cycle name) = link.Cycle name
+load_fault (no_field name) = link.NoField name
+load_fault (no_method name) = link.NoMethod name
+load_fault (wrong_kind name) = link.WrongKind name
+load_fault no_main = link.NoMain
+
+-- that reason, or else the first part that cannot be run yet
+abbrev pub first_fault : Option Refusal → Option LaterPart → Option LinkFault
+first_fault (Some reason) later = Some (load_fault reason)
+first_fault None (Some part) = Some (link.Later part)
+first_fault None None = None
+
+-- why the classes are not linked, if they are not
+abbrev pub link_fault : List ClassParts → Option LinkFault
+link_fault program = first_fault (refusal program) (later_part program)
+
+abbrev pub unless_fault : Option LinkFault → List ClassParts → Result (List ClassParts) Cause
+unless_fault (Some fault) program = Err (because (reason.not_linked fault))
+unless_fault None program = Ok program
+
+abbrev pub linked_program : List ClassParts → Result (List ClassParts) Cause
+linked_program program = unless_fault (link_fault program) program
 
 -- ---- a run
 
--- the classes load, and nothing is in them that cannot be run yet
-abbrev pub links : List ClassParts → Bool
-links program = is_none (refusal program) && is_none (later_part program)
+-- a program whose first objects are within the heap's limit
+abbrev pub loaded_program : ℕ → List ClassParts → Result (List ClassParts) Cause
+loaded_program limit program = if is_too_small program limit then Err (because reason.heap_too_small) else Ok program
 
-abbrev pub of_schedule : List ClassParts → ℕ → Result (List Event) ℕ → Verdict
-of_schedule program limit (Ok events) = runs program limit events
-of_schedule program limit (Err line) = misspelled
+-- all files are read before the first is looked at
+unfoldable pub program_of : ℕ → List InputFile → Result (List ClassParts) Cause
+program_of limit files = do
+  read ← all_read files
+  classes ← classes_of files
+  program ← linked_program classes
+  loaded_program limit program
 
-abbrev pub of_load : List ClassParts → ℕ → List ℕ → Bool → Verdict
-of_load program limit text true = refused
-of_load program limit text false = of_schedule program limit (schedule text)
+abbrev pub events_in : List ℕ → Result (List Event) Cause
+events_in text = fault_as (λ line. because (reason.no_event line)) (schedule text)
 
-abbrev pub of_link : List ClassParts → ℕ → List ℕ → Bool → Verdict
-of_link program limit text true = of_load program limit text (is_too_small program limit)
-of_link program limit text false = refused
-
-abbrev pub of_class : ℕ → List ℕ → Result ClassParts FileFault → Verdict
-of_class limit text (Ok class) = of_link (class ∷ []) limit text (links (class ∷ []))
-of_class limit text (Err fault) = refused
-
--- the schedule is looked at first, and then the program's file
-abbrev pub of_program : ℕ → List ℕ → List ℕ → Contents → Verdict
-of_program limit text name (Bytes bytes) = of_class limit text (file_class name bytes.items)
-of_program limit text name NotRead = unread
-of_program limit text name OutOfMemory = unknown
-
-abbrev pub of_files : ℕ → Contents → List ℕ → Contents → Verdict
-of_files limit (Bytes text) name program = of_program limit text.items name program
-of_files limit NotRead name program = unread
-of_files limit OutOfMemory name program = unknown
-
+-- the schedule is read first and looked at last
 unfoldable pub run_verdict : RunJob → Verdict
-run_verdict job = of_files job.heap job.schedule.contents (string_bytes job.program.name) job.program.contents
+run_verdict job = do
+  text ← bytes_of job.schedule
+  program ← program_of job.heap job.program.items
+  events ← events_in text
+  Ok (runs program job.heap events)
 
 -- ---- a class file from a text
 
-abbrev pub of_written : ClassParts → Result (List ℕ) WriteFault → Verdict
-of_written class (Ok bytes) = assembles class bytes
-of_written class (Err fault) = refused
+-- the bytes that are written for the class of a text of this name
+abbrev pub written_class : List ℕ → ClassParts → Result (List ℕ) Cause
+written_class name class = fault_as (λ fault. because (reason.no_class_file name fault)) (written class)
 
-abbrev pub of_text_class : Result ClassParts AsmFault → Verdict
-of_text_class (Ok class) = of_written class (written class)
-of_text_class (Err fault) = refused
-
-abbrev pub of_text : Contents → Verdict
-of_text (Bytes bytes) = of_text_class (text_class bytes.items)
-of_text NotRead = unread
-of_text OutOfMemory = unknown
+unfoldable pub assembly_verdict : InputFile → Verdict
+assembly_verdict file = do
+  text ← bytes_of file
+  class ← denoted_class (string_bytes file.name) text
+  bytes ← written_class (string_bytes file.name) class
+  Ok (assembles class bytes)
 
 unfoldable pub verdict : Job → Verdict
 verdict (Run job) = run_verdict job
-verdict (Assemble job) = of_text job.text.contents
+verdict (Assemble job) = assembly_verdict job.text

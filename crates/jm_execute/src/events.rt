@@ -1,7 +1,10 @@
-// The events of a schedule, as turns of a journal.
+// Where the events of a run come from, as turns of a journal.
 
-ghost use Rattle.std.specs.Prelude.{MatchResult};
+ghost use Rattle.std.specs.Prelude.{MatchResult, List};
 ghost use Rattle.jm_schedule.specs.Runs.{repeats_of};
+ghost use Rattle.jm_shared.specs.Legal.{world_after};
+ghost use Rattle.jm_world.specs.World.{World};
+ghost use Rattle.jm_world.specs.declared.event.Event.{Event};
 ghost use Rattle.jm_execute.specs.Turns.{Records, RecordsPart};
 
 use jm_heap::Heap;
@@ -28,21 +31,35 @@ fn make_repeats<H: Heap, R: Origin>(
     Ok(())
 }
 
-/// Makes the events of a schedule, in order, each in a turn of the first seat. `OutOfMemory`: a
-/// growth was refused; the journal has the events that were made.
+/// A source of events: which ones it makes is known from the world that it finds.
+pub trait EventSource {
+    ghost events: { Self → World → List Event };
+
+    /// Makes its events, in order, each in a turn of the first seat. `OutOfMemory`: a growth was
+    /// refused; the journal has the events that were made.
+    fn make_events<H: Heap, R: Origin>(
+        &self,
+        journal: &mut Journal<H, R>,
+    ) -> Result<(), OutOfMemory>
+        ensures { let wanted = events self.now (world_after R.first journal.old.entries) in MatchResult result (λ _. Records journal.old journal.new wanted) (λ _. RecordsPart journal.old journal.new wanted) };
+}
+
+/// The events of a schedule, whatever the world is.
 #[tactic(auto, using(jm_schedule::proofs::RunLemmas::all_runs, jm_schedule::proofs::RunLemmas::no_run))]
-pub fn make_events<H: Heap, R: Origin>(
-    journal: &mut Journal<H, R>,
-    schedule: &Schedule,
-) -> Result<(), OutOfMemory>
-    ensures { MatchResult result (λ _. Records journal.old journal.new schedule.now) (λ _. RecordsPart journal.old journal.new schedule.now) }
-{
-    let runs = schedule.runs();
-    for run in runs {
-        match make_repeats(journal, *run) {
-            Ok(()) => {}
-            Err(fault) => return Err(fault),
+impl EventSource for Schedule {
+    ghost events = { λ schedule _. schedule };
+
+    fn make_events<H: Heap, R: Origin>(
+        &self,
+        journal: &mut Journal<H, R>,
+    ) -> Result<(), OutOfMemory> {
+        let runs = self.runs();
+        for run in runs {
+            match make_repeats(journal, *run) {
+                Ok(()) => {}
+                Err(fault) => return Err(fault),
+            }
         }
+        Ok(())
     }
-    Ok(())
 }

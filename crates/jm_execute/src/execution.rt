@@ -1,26 +1,24 @@
 // What `jm run` and `jm asm` do.
 
 ghost use Rattle.std.specs.Prelude.{◌≡◌, false};
-ghost use Rattle.std.specs.String.{string_bytes};
 ghost use Rattle.jm_machine.specs.View.{MatchesWorld};
 ghost use Rattle.jm_shared.specs.Legal.{world_after};
 ghost use Rattle.jm_execute.specs.Endings.{Ending, assembled, completed, interrupted, Allows, Ends, Leaves};
 ghost use Rattle.jm_execute.specs.Refusals.{Hinders};
-ghost use Rattle.jm_execute.specs.Verdicts.{Verdict, of_text, run_verdict, verdict};
+ghost use Rattle.jm_execute.specs.Verdicts.{Verdict, assembly_verdict, run_verdict, verdict};
 ghost use Rattle.jm_execute.specs.Written.{WatchedView, held};
 
 use crate::assembly::assemble_file;
 use crate::ends::status_of;
-use crate::events::make_events;
+use crate::events::EventSource;
 use crate::job::{AssembleJob, Job, RunJob};
 use crate::preparation::prepare;
 use crate::refusal::Obstacle;
 use crate::report::{write_out_of_memory, write_report};
 use crate::status::Status;
 use crate::watched::Watched;
-use jm_heap::{Heap, PlainHeap};
+use jm_heap::Heap;
 use jm_machine::Machine;
-use jm_schedule::Schedule;
 use jm_shared::{Journal, Origin};
 use std::alloc::Global;
 use std::io::{Read, Write};
@@ -72,21 +70,21 @@ fn tell_interrupted<H: Heap, R: Origin, O: Write, E: Write>(
     }
 }
 
-// Makes the events of a schedule from the origin on, and tells of the run.
-fn run_events<R: Origin, O: Write, E: Write>(
+// Makes the events of a source from the origin on, and tells of the run.
+fn run_events<S: EventSource, H: Heap + Drop, R: Origin, O: Write, E: Write>(
     alloc: Global,
-    machine: Machine<PlainHeap>,
-    schedule: &Schedule,
+    machine: Machine<H>,
+    source: &S,
     out: &mut Watched<O>,
     err: &mut Watched<E>,
 ) -> Status
     requires first { MatchesWorld machine R.first }
     requires out { out.old.failed ≡ false }
     requires err { err.old.failed ≡ false }
-    ensures { (e : Ending) × Ends R.first schedule.now e × Leaves e out.new.failed result (held O.contents out.old) (held O.contents out.new) (held E.contents err.old) (held E.contents err.new) }
+    ensures { (e : Ending) × Ends R.first (S.events source.now R.first) e × Leaves e out.new.failed result (held O.contents out.old) (held O.contents out.new) (held E.contents err.old) (held E.contents err.new) }
 {
-    let mut journal: Journal<PlainHeap, R> = Journal::new(alloc, machine);
-    match make_events(&mut journal, schedule) {
+    let mut journal: Journal<H, R> = Journal::new(alloc, machine);
+    match source.make_events(&mut journal) {
         Ok(()) => tell_run(&journal, out, err),
         Err(_) => tell_interrupted(&journal, out, err),
     }
@@ -141,7 +139,9 @@ fn execute_run<O: Write, E: Write>(
     ensures { (e : Ending) × Allows (run_verdict job.now) e × Leaves e out.new.failed result (held O.contents out.old) (held O.contents out.new) (held E.contents err.old) (held E.contents err.new) }
 {
     match prepare(alloc, job) {
-        Ok((machine, schedule)) => run_events::<Brand, O, E>(alloc, machine, &schedule, out, err),
+        Ok((machine, schedule)) => run_events::<_, _, Brand, O, E>(
+            alloc, machine, &schedule, out, err,
+        ),
         Err(obstacle) => tell_obstacle(obstacle, err),
     }
 }
@@ -154,7 +154,7 @@ fn execute_assemble<O: Write, E: Write>(
 ) -> Status
     requires out { out.old.failed ≡ false }
     requires err { err.old.failed ≡ false }
-    ensures { (e : Ending) × Allows (of_text job.now.text.contents) e × Leaves e out.new.failed result (held O.contents out.old) (held O.contents out.new) (held E.contents err.old) (held E.contents err.new) }
+    ensures { (e : Ending) × Allows (assembly_verdict job.now.text) e × Leaves e out.new.failed result (held O.contents out.old) (held O.contents out.new) (held E.contents err.old) (held E.contents err.new) }
 {
     match assemble_file(alloc, &job.text) {
         Ok(bytes) => tell_assembled(&bytes, &job.output, out, err),

@@ -24,14 +24,15 @@ pub enum Job {
     Assemble(AssembleJob),
 }
 
-/// To run the class of a file by the events of a schedule.
+/// To run the classes of some files by the events of a schedule.
 #[derive(Drop)]
 pub struct RunJob {
     /// The limit of the heap, in cells.
     pub heap: u32,
     pub schedule: InputFile,
-    /// A class file, or an assembler text where the name ends in `.j`.
-    pub program: InputFile,
+    /// The files of the classes, the main class's first: each a class file, or an assembler text
+    /// where its name ends in `.j`.
+    pub program: Vec<InputFile>,
 }
 
 /// To write the class that an assembler text denotes as a class file.

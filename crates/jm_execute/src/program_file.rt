@@ -4,11 +4,13 @@ ghost use Rattle.std.specs.Prelude.{◌≡◌, ◌≤◌, length, true, false, M
 ghost use Rattle.std.specs.Str.{is_utf8};
 ghost use Rattle.std.specs.Str.Lossy.{utf8_valid_len};
 ghost use Rattle.jm_bytes.specs.Reading.{GivesAll};
-ghost use Rattle.jm_class_format.specs.ClassFile.{class_file};
 ghost use Rattle.jm_jasmin_ops.specs.declared.fault.AsmFault.TheVariants as asm;
-ghost use Rattle.jm_execute.specs.ProgramFiles.{file_class, is_text_name, line_at, text_class};
-ghost use Rattle.jm_execute.specs.Refusals.{GivesClass, GivesFileClass, GivesTextClass};
+ghost use Rattle.jm_execute.specs.ProgramFiles.{is_text_name, line_at, text_class};
+ghost use Rattle.jm_execute.specs.Refusals.{Gives};
+ghost use Rattle.jm_execute.specs.Verdicts.{class_of, denoted_class, held_class, spelled_class};
 
+use crate::files::bytes_of;
+use crate::job::InputFile;
 use crate::refusal::{Obstacle, Refusal};
 use jm_class_reader::{ReadFault, read_class};
 use jm_jasmin::{AsmFault, assemble};
@@ -55,7 +57,7 @@ fn assembled(alloc: Global, bytes: &[u8]) -> Result<Class, AsmFault>
 
 /// The class that the bytes of an assembler text of this name denote.
 pub fn class_in_text<'a>(alloc: Global, file: &'a str, bytes: &[u8]) -> Result<Class, Obstacle<'a>>
-    ensures { GivesTextClass file.now (text_class bytes.now) result }
+    ensures { Gives result (denoted_class file.now bytes.now) (λ class. class) }
 {
     match assembled(alloc, bytes) {
         Ok(class) => Ok(class),
@@ -70,7 +72,7 @@ fn class_in_class_file<'a>(
     file: &'a str,
     bytes: &[u8],
 ) -> Result<Class, Obstacle<'a>>
-    ensures { GivesFileClass file.now (class_file.read bytes.now) result }
+    ensures { Gives result (spelled_class file.now bytes.now) (λ class. class) }
 {
     match read_class(alloc, bytes) {
         Ok(class) => Ok(class),
@@ -80,13 +82,21 @@ fn class_in_class_file<'a>(
 }
 
 /// The class that a file of this name with these bytes holds.
-#[tactic(auto, unfolding(crate::specs::ProgramFiles::file_class))]
 pub fn class_in_file<'a>(alloc: Global, file: &'a str, bytes: &[u8]) -> Result<Class, Obstacle<'a>>
-    ensures { GivesClass file.now (file_class file.now bytes.now) result }
+    ensures { Gives result (held_class file.now bytes.now) (λ class. class) }
 {
     if is_text_name(file) {
         class_in_text(alloc, file, bytes)
     } else {
         class_in_class_file(alloc, file, bytes)
     }
+}
+
+/// The class that a file of a program holds.
+#[tactic(auto, unfolding(crate::specs::Verdicts::class_of))]
+pub fn class_of(alloc: Global, file: &InputFile) -> Result<Class, Obstacle<'_>>
+    ensures { Gives result (class_of file.now) (λ class. class) }
+{
+    let bytes = bytes_of(file)?;
+    class_in_file(alloc, &file.name, bytes)
 }

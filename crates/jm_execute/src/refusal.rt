@@ -1,7 +1,8 @@
 // Why a job is not done.
 
 ghost use Rattle.std.specs.Prelude.{◌≡◌};
-ghost use Rattle.jm_execute.specs.Refusals.{refusal_line, refusal_status};
+ghost use Rattle.jm_execute.specs.Reasons.{reason_status, reason_text};
+ghost use Rattle.jm_execute.specs.Refusals.{reason_of};
 
 use crate::number::Number;
 use crate::status::Status;
@@ -32,7 +33,7 @@ pub enum Refusal<'a> {
 impl Refusal<'_> {
     /// The status that the program ends with.
     pub fn status(&self) -> Status
-        ensures { result ≡ refusal_status self.now }
+        ensures { result ≡ reason_status (reason_of self.now) }
     {
         match self {
             Refusal::NotRead(_) => Status::Files,
@@ -47,7 +48,7 @@ impl Refusal<'_> {
 }
 
 impl Display for Refusal<'_> {
-    ghost output = { λ refusal. refusal_line refusal };
+    ghost output = { λ refusal. reason_text (reason_of refusal) };
 
     fn fmt<W: fmt::Write>(&self, f: &mut fmt::Formatter<W>) -> fmt::Result {
         match self {

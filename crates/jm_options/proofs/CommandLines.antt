@@ -1,24 +1,27 @@
 -- What some command lines ask for, and what is wrong with others.
 use Rattle.std.proofs.Common.{◌≡◌, List, [], ◌∷◌, Option, Some, refl, codes}
 use Rattle.std.specs.Prelude.{option_map}
-use Rattle.clap.specs.Words.{Kinds, Text, fault_of, first_of, one_of, subcommand_of}
+use Rattle.clap.specs.Words.{Kinds, Text, all_of, fault_of, first_of, one_of, subcommand_of}
 use Rattle.clap.specs.declared.error.kind.ErrorKind.TheVariants as kind
 use Rattle.clap.proofs.OnLiterals.{clap_on_literals}
 use Rattle.jm_options.specs.CommandLine.{jm}
 use Rattle.jm_options.specs.Asked.{Subcommand}
 
-abbrev held : Subcommand → Text × Option Text × Option Text × Option Text
-held s = (s.0, one_of (codes "heap") s.1, first_of (codes "schedule") s.1, first_of (codes "file") s.1)
+abbrev held : Subcommand → Text × Option Text × Option Text × Option (List Text)
+held s = (s.0, one_of (codes "heap") s.1, first_of (codes "schedule") s.1, all_of (codes "file") s.1)
 
 -- the words after jm run
-abbrev run : List Text → Option (Text × Option Text × Option Text × Option Text)
+abbrev run : List Text → Option (Text × Option Text × Option Text × Option (List Text))
 run words = option_map held (subcommand_of jm (codes "jm" ∷ codes "run" ∷ words))
 
 abbrev fault : List Text → Kinds
 fault words = fault_of jm (codes "jm" ∷ codes "run" ∷ words)
 
-abbrev asked : Text → Option (Text × Option Text × Option Text × Option Text)
-asked heap = Some (codes "run", Some heap, Some (codes "s"), Some (codes "A.class"))
+abbrev asked_of : Text → List Text → Option (Text × Option Text × Option Text × Option (List Text))
+asked_of heap files = Some (codes "run", Some heap, Some (codes "s"), Some files)
+
+abbrev asked : Text → Option (Text × Option Text × Option Text × Option (List Text))
+asked heap = asked_of heap (codes "A.class" ∷ [])
 
 the_default : run (codes "--schedule" ∷ codes "s" ∷ codes "A.class" ∷ []) ≡ asked (codes "65536")
 unfolding jm clap_on_literals
@@ -48,9 +51,22 @@ no_schedule : fault (codes "A.class" ∷ []) ≡ kind.MissingRequiredArgument �
 unfolding jm clap_on_literals
 no_schedule = refl
 
-two_files : fault (codes "--schedule=s" ∷ codes "A.class" ∷ codes "B.class" ∷ []) ≡ kind.UnknownArgument ∷ []
+two_files : run (codes "--schedule=s" ∷ codes "A.class" ∷ codes "B.class" ∷ []) ≡ asked_of (codes "65536") (codes "A.class" ∷ codes "B.class" ∷ [])
 unfolding jm clap_on_literals
 two_files = refl
+
+no_fault_of_two : fault (codes "--schedule=s" ∷ codes "A.class" ∷ codes "B.class" ∷ []) ≡ []
+unfolding jm clap_on_literals
+no_fault_of_two = refl
+
+-- options may stand between them
+three_files : run (codes "B.j" ∷ codes "--heap=16" ∷ codes "A.class" ∷ codes "--schedule" ∷ codes "s" ∷ codes "B.j" ∷ []) ≡ asked_of (codes "16") (codes "B.j" ∷ codes "A.class" ∷ codes "B.j" ∷ [])
+unfolding jm clap_on_literals
+three_files = refl
+
+no_file : fault (codes "--schedule=s" ∷ []) ≡ kind.MissingRequiredArgument ∷ []
+unfolding jm clap_on_literals
+no_file = refl
 
 an_unknown_option : fault (codes "--steps=9" ∷ codes "--schedule=s" ∷ codes "A.class" ∷ []) ≡ kind.UnknownArgument ∷ []
 unfolding jm clap_on_literals

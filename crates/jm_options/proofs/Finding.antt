@@ -3,7 +3,7 @@ use Rattle.std.proofs.Common.{◌≡◌, true, [], ◌∷◌, inl, inr, ℕ, ◌
 use Rattle.std.specs.Prelude.{option_map, unwrap_or, MatchResult, IsOkAnd}
 use Rattle.std.specs.Str.Parse.{ParsesUnsigned, digits_value, without_leading_plus}
 use Rattle.std.specs.Box.{box_value}
-use Rattle.clap.specs.Words.{ReadsOne, Row, found_of, rows_of, Text, first_of, fault_of, is_simple, is_simple_and_free, HasKind, Kinds, kind_of, subcommand_of, subcommand_name_of, subcommand_rows_of}
+use Rattle.clap.specs.Words.{ReadsOne, Row, found_of, rows_of, Text, all_of, first_of, fault_of, is_simple, is_simple_and_free, HasKind, Kinds, kind_of, subcommand_of, subcommand_name_of, subcommand_rows_of}
 use Rattle.clap.specs.declared.parser.matches.ArgMatches.{ArgMatches}
 use Rattle.clap.specs.declared.parser.matches.ArgMatches.TheViews.{out-ArgMatches, out-SubCommand}
 use Rattle.clap.specs.declared.error.Error.{Error}
@@ -48,8 +48,8 @@ one_number t u n m same first second =
 pub no_schedule : (rows : List Row) → None ≡ first_of (codes "schedule") rows → (o : RunOptions) → HoldsRun rows o → ⊥
 no_schedule rows none o holds = let some = none ∙ holds.schedule in cc
 
-pub no_file : (rows : List Row) → None ≡ first_of (codes "file") rows → (o : RunOptions) → HoldsRun rows o → ⊥
-no_file rows none o holds = let some = none ∙ holds.file in cc
+pub no_files : (rows : List Row) → None ≡ all_of (codes "file") rows → (o : RunOptions) → HoldsRun rows o → ⊥
+no_files rows none o holds = let some = none ∙ holds.files in cc
 
 pub none_asked : (rows : List Row) (fault : UsageFault) → ((o : RunOptions) → HoldsRun rows o → ⊥) → FindsRun rows (Err fault)
 none_asked rows (Usage text) none = none

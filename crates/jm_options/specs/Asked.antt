@@ -1,7 +1,7 @@
 -- What words ask of jm.
-use Rattle.std.specs.Prelude.{◌≡◌, ◌≤◌, ℕ, List, Option, Some, [], Result, Ok, Err, ⊤, codes, string_bytes}
+use Rattle.std.specs.Prelude.{◌≡◌, ◌≤◌, ℕ, List, Option, Some, [], Result, Ok, Err, ⊤, codes, map, string_bytes}
 use Rattle.std.specs.Str.Parse.{IsNumeral, digits_value, without_leading_plus}
-use Rattle.clap.specs.Words.{Row, Text, first_of, one_of, fault_of, subcommand_of}
+use Rattle.clap.specs.Words.{Row, Text, all_of, first_of, one_of, fault_of, subcommand_of}
 use Rattle.jm_options.specs.CommandLine.{jm}
 use Rattle.jm_options.specs.declared.request.Options.{Options}
 use Rattle.jm_options.specs.declared.request.Options.TheVariants.{Run, Assemble}
@@ -27,7 +27,7 @@ pub record HoldsRun (matches : List Row) (o : RunOptions) : Type 0 where
   pub at_least : 16 ≤ o.heap
   pub at_most : o.heap ≤ 16777216
   pub schedule : first_of (codes "schedule") matches ≡ Some (string_bytes o.schedule)
-  pub file : first_of (codes "file") matches ≡ Some (string_bytes o.file)
+  pub files : all_of (codes "file") matches ≡ Some (map string_bytes o.files.items)
 
 -- the options are what the matches of an assembly hold
 pub record HoldsAssemble (matches : List Row) (o : AssembleOptions) : Type 0 where

@@ -4,6 +4,7 @@ use Rattle.clap.specs.Words.{App, Rule, Shape, app_of, new_app, new_rule, with_r
 use Rattle.clap.specs.Simple.{on_top}
 use Rattle.clap.specs.declared.builder.command.Command.{Command}
 use Rattle.clap.specs.declared.builder.command.Command.TheViews.{out-Command}
+use Rattle.clap.specs.declared.builder.action.ArgAction.TheVariants.{Append}
 use Rattle.clap.specs.declared.builder.value_parser.ValueParser.TheVariants as vp
 
 -- --heap N: a number of cells within the limits, 65,536 where it is left out
@@ -19,11 +20,11 @@ heap_argument = record (new_rule (codes "heap")) {
 abbrev pub schedule_argument : Rule
 schedule_argument = record (new_rule (codes "schedule")) { long = Some (codes "schedule"); value_names = 1; required = true }
 
--- FILE, which has to be there
+-- FILE.., of which one has to be there
 abbrev pub file_argument : Rule
-file_argument = record (new_rule (codes "file")) { value_names = 1; required = true }
+file_argument = record (new_rule (codes "file")) { value_names = 1; required = true; action = Some Append }
 
--- run [--heap N] --schedule FILE FILE
+-- run [--heap N] --schedule FILE FILE..
 abbrev pub run_command : App
 run_command = with_rule (with_rule (with_rule (new_app (codes "run")) heap_argument) schedule_argument) file_argument
 

@@ -4,7 +4,7 @@ ghost use Rattle.std.specs.Prelude.{◌≡◌, false, IfOk};
 ghost use Rattle.clap.specs.Words.{rule_of};
 ghost use Rattle.jm_options.specs.CommandLine.{heap_argument, schedule_argument, file_argument, run_command, input_argument, output_argument, assemble_command, top_command, jm, IsSeenAs};
 
-use clap::{Arg, Command, value_parser};
+use clap::{Arg, ArgAction, Command, value_parser};
 use std::alloc::{AllocError, Global};
 
 fn heap_argument<'a>(alloc: Global) -> Arg<'a>
@@ -37,14 +37,15 @@ fn file_argument<'a>(alloc: Global) -> Arg<'a>
     Arg::new(alloc, "file")
         .value_name("FILE")
         .required(true)
-        .help("Class file, or text ending in .j, whose `main` is run")
+        .action(ArgAction::Append)
+        .help("Class files, or texts ending in .j; the first one's `main` is run")
 }
 
 fn run_command<'a>(alloc: Global) -> Result<Command<'a>, AllocError>
     ensures { IfOk result (λ c. IsSeenAs c run_command) }
 {
     Command::new(alloc, "run")
-        .about("Run a class by the events of a schedule")
+        .about("Run a program by the events of a schedule")
         .arg(heap_argument(alloc))?
         .arg(schedule_argument(alloc))?
         .arg(file_argument(alloc))

@@ -1,7 +1,7 @@
 //! The command line of `jm`: which words it takes, and what they ask for.
 //!
 //! [`options`] reads the words of a command line as [`Options`], or says by a [`UsageFault`] what is
-//! wrong with them. What it knows is `jm run [--heap N] --schedule FILE FILE` and `jm asm IN OUT`; any
+//! wrong with them. What it knows is `jm run [--heap N] --schedule FILE FILE...` and `jm asm IN OUT`; any
 //! other option or subcommand is refused by its name.
 //!
 //! The crate stands on `clap`.

@@ -7,7 +7,7 @@ pub const MAX_HEAP: u32 = 16_777_216;
 /// What a command line asks for.
 #[derive(Drop)]
 pub enum Options {
-    /// `jm run`: to run a class.
+    /// `jm run`: to run a program.
     Run(RunOptions),
     /// `jm asm`: to assemble a text into a class file.
     Assemble(AssembleOptions),
@@ -20,8 +20,9 @@ pub struct RunOptions {
     pub heap: u32,
     /// The file of the schedule.
     pub schedule: String,
-    /// The class file, or the text of the class if its name ends in `.j`.
-    pub file: String,
+    /// The files of the classes, the main class's first: a class file, or the text of a class if its
+    /// name ends in `.j`.
+    pub files: Vec<String>,
 }
 
 /// What `jm asm` is given.

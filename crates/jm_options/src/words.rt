@@ -1,6 +1,6 @@
 // Words as clap reads them.
 
-ghost use Rattle.std.specs.Prelude.{◌≡◌, ◌≤◌, ℕ, List, codes, Some, None, MatchOption, map};
+ghost use Rattle.std.specs.Prelude.{◌≡◌, ◌≤◌, ℕ, List, codes, Some, None, MatchOption, MatchResult, map, string_bytes};
 ghost use Rattle.clap.specs.Words.{found_of, kind_of, one_of, rows_of, subcommand_rows_of};
 ghost use Rattle.clap.specs.declared.error.kind.ErrorKind.TheVariants as kind;
 ghost use Rattle.jm_options.specs.Asked.{Answers, Finds, FindsAssemble, FindsRun, SpellsNumber};
@@ -51,6 +51,17 @@ fn heap_limit(matches: &ArgMatches<'_>) -> Option<u32>
     }
 }
 
+// The texts, each by itself.
+fn strings_of(alloc: Global, texts: &[&str]) -> Result<Vec<String>, UsageFault>
+    ensures { MatchResult result (λ strings. map (λ s. string_bytes s) strings.items ≡ map (λ t. t.now) texts.now) (λ fault. fault ≡ UsageFault.OutOfMemory) }
+{
+    let mut strings = Vec::new(alloc);
+    for text in texts {
+        strings.push(String::from_str(alloc, text)?)?;
+    }
+    Ok(strings)
+}
+
 fn run_options(alloc: Global, matches: &ArgMatches<'_>) -> Result<RunOptions, UsageFault>
     ensures { FindsRun (rows_of (found_of matches.now)) result }
 {
@@ -60,13 +71,13 @@ fn run_options(alloc: Global, matches: &ArgMatches<'_>) -> Result<RunOptions, Us
     let Some(schedule) = matches.get_str("schedule") else {
         return Err(nothing_asked(alloc));
     };
-    let Some(file) = matches.get_str("file") else {
+    let Some(files) = matches.get_strs("file") else {
         return Err(nothing_asked(alloc));
     };
     Ok(RunOptions {
         heap,
         schedule: String::from_str(alloc, schedule)?,
-        file: String::from_str(alloc, file)?,
+        files: strings_of(alloc, files)?,
     })
 }
 

@@ -2,16 +2,17 @@
 
 ghost use Rattle.std.specs.Prelude.{◌≡◌, false};
 
-use crate::jobs::files::{bytes_of, file_of};
+use crate::jobs::files::{bytes_of, file_of, files_of};
 use jm_execute::{AssembleJob, Job, RunJob, Watched, execute};
 use std::alloc::Global;
 use std::io::Write;
 use std::process::Abort;
 use std::test::Fail;
 
-// A row is a line of columns with ` | ` between them: `run` or `asm`, the name of the program's file
-// or of the text's, what stands in it, the schedule of a run, what is written, the lines on standard
-// error, and the number of the status. `-` is nothing; `files` says what the columns of bytes mean.
+// A row is a line of columns with ` | ` between them: `run` or `asm`, the names of the program's files
+// or the text's name, what stands in them, the schedule of a run, what is written, the lines on
+// standard error, and the number of the status. Between files stands ` & `. `-` is nothing; `files`
+// says what the columns of bytes mean.
 const RUNS: &str = "\
 # three stages of initialization and six instructions
 run | Main.class | @class sum | t 1 x 9~ | 5~ | - | 0
@@ -64,6 +65,39 @@ run | sum.j | @wrong text | nothing~ | - | jm: sum.j: 41 Syntax(6)~ | 4
 run | sum.j | @sum text | nothing~ | - | jm: 70 BadSchedule(1)~ | 9
 ";
 
+const SEVERAL_FILES: &str = "\
+# the main class first, the others in any order
+run | Main.class & A.j | @class sum & @empty A | t 1 x 9~ | 5~ | - | 0
+run | sum.j & A.j | @sum text & @empty A | t 1 x 9~ | 5~ | - | 0
+run | sum.j & A.j & B.j | @sum text & @empty A & @empty B | t 1 x 9~ | 5~ | - | 0
+run | sum.j & B.j & A.j | @sum text & @empty B & @empty A | t 1 x 9~ | 5~ | - | 0
+run | Main.class & A.j | @class by zero & @empty A | t 1 x 7~ | - | jm: thread 1 ended by java/lang/ArithmeticException~ | 3
+# the first file's class is the main class
+run | A.j & Main.class | @empty A & @class sum | t 1 x 9~ | - | jm: 56 NoMain~ | 4
+run | A.j & sum.j & B.j | @empty A & @sum text & @empty B | t 1 x 9~ | - | jm: 56 NoMain~ | 4
+run | A.j & B.j & sum.j | @empty A & @empty B & @sum text | t 1 x 9~ | - | jm: 56 NoMain~ | 4
+# a class twice
+run | Main.class & Main.class | @class sum & @class sum | t 1 x 9~ | - | jm: 50 DuplicateClass(Main)~ | 4
+run | Main.class & sum.j | @class sum & @sum text | t 1 x 9~ | - | jm: 50 DuplicateClass(Main)~ | 4
+run | sum.j & A.j & A.j | @sum text & @empty A & @empty A | t 1 x 9~ | - | jm: 50 DuplicateClass(A)~ | 4
+run | A.j & A.j | @empty A & @empty A | t 1 x 9~ | - | jm: 50 DuplicateClass(A)~ | 4
+# the first file that is refused
+run | Main.class & A.class | @class sum & @cut class | ? | - | jm: A.class: 32 Cut~ | 4
+run | sum.j & A.j | @sum text & @wrong text | ? | - | jm: A.j: 41 Syntax(6)~ | 4
+run | Main.class & A.j | @cut class & @wrong text | ? | - | jm: Main.class: 32 Cut~ | 4
+run | A.j & Main.class | @wrong text & @cut class | ? | - | jm: A.j: 41 Syntax(6)~ | 4
+run | sum.j & A.j & B.j | @sum text & @empty A & - | ? | - | jm: B.j: 41 Syntax(1)~ | 4
+# a file that is not read comes before one that is refused, and the schedule before both
+run | Main.class & A.j | @cut class & @not read | ? | - | jm: A.j: not read~ | 2
+run | A.j & B.j | @not read & @not read | ? | - | jm: A.j: not read~ | 2
+run | sum.j & A.j | @sum text & @not read | @not read | - | jm: events: not read~ | 2
+run | sum.j & A.j | @sum text & @out of memory | ? | - | jm: 61 OutOfMemory~ | 7
+# a file before linking, and linking before the schedule
+run | sum.j & sum.j & A.j | @sum text & @sum text & @wrong text | ? | - | jm: A.j: 41 Syntax(6)~ | 4
+run | sum.j & sum.j | @sum text & @sum text | ? | - | jm: 50 DuplicateClass(Main)~ | 4
+run | sum.j & A.j | @sum text & @empty A | t 1~? | - | jm: 70 BadSchedule(2)~ | 9
+";
+
 const ASSEMBLIES: &str = "\
 asm | sum.j | @sum text | - | @class sum | - | 0
 asm | sum.class | @sum text | - | @class sum | - | 0
@@ -91,12 +125,12 @@ asm | sum.j | @far text | - | - | jm: sum.j: 14 BranchTooFar~ | 4
 asm | sum.j | @long text | - | - | jm: sum.j: 36 TooMany~ | 4
 ";
 
-// The run of a program's file by a schedule.
-fn run_job(alloc: Global, name: &str, program: &str, schedule: &str) -> Result<Job, Fail> {
+// The run of a program's files by a schedule.
+fn run_job(alloc: Global, names: &str, program: &str, schedule: &str) -> Result<Job, Fail> {
     Ok(Job::Run(RunJob {
         heap: 65_536,
         schedule: file_of(alloc, "events", schedule)?,
-        program: file_of(alloc, name, program)?,
+        program: files_of(alloc, names, program)?,
     }))
 }
 
@@ -108,7 +142,7 @@ fn assembly_job(alloc: Global, name: &str, text: &str) -> Result<Job, Fail> {
     }))
 }
 
-/// The job of a row's first columns: `run` or `asm`, the name of the file, what stands in it, and the
+/// The job of a row's first columns: `run` or `asm`, the names of the files, what stands in them, and the
 /// schedule of a run.
 pub fn job_of(
     alloc: Global,
@@ -201,6 +235,11 @@ fn runs_end_as_their_rows_say(rt: HostRuntime) -> Result<(), Fail> {
 #[test]
 fn program_files_are_known_by_their_names(rt: HostRuntime) -> Result<(), Fail> {
     check_rows(&rt, rt.alloc(), PROGRAM_FILES, 20)
+}
+
+#[test]
+fn several_files_are_one_program(rt: HostRuntime) -> Result<(), Fail> {
+    check_rows(&rt, rt.alloc(), SEVERAL_FILES, 24)
 }
 
 #[test]

@@ -52,6 +52,12 @@ fn with_source(alloc: Global, count: u32) -> Result<Vec<u8>, AllocError> {
     Ok(text)
 }
 
+// The text of a class of this name without members.
+fn empty_class(alloc: Global, name: &str) -> Result<Vec<u8>, Fail> {
+    let text = format!(in alloc; ".class {name}\n.super java/lang/Object\n")?;
+    Ok(text.as_bytes().to_vec(alloc)?)
+}
+
 // The class file of the sum without its last byte.
 fn cut_class(alloc: Global) -> Result<Vec<u8>, AllocError> {
     let mut bytes = main_with(alloc, &SUM_CODE)?;
@@ -90,7 +96,8 @@ fn bytes_of_text(alloc: Global, text: &str) -> Result<Vec<u8>, Fail> {
 }
 
 /// The bytes that a column means: none where it is `-`; behind `@class` the class file of Main with
-/// the code of that name; behind `@` another file; else the text itself.
+/// the code of that name, and behind `@empty` the text of a class of that name; behind `@` another file;
+/// else the text itself.
 pub fn bytes_of(alloc: Global, column: &str) -> Result<Vec<u8>, Fail> {
     match column {
         "-" => Ok(Vec::new(alloc)),
@@ -102,9 +109,10 @@ pub fn bytes_of(alloc: Global, column: &str) -> Result<Vec<u8>, Fail> {
         // a length of a text has 16 bits (JVMS 4.4.7)
         "@long text" => Ok(with_source(alloc, 65_536)?),
         "@cut class" => Ok(cut_class(alloc)?),
-        _ => match column.strip_prefix("@class ") {
-            Some(name) => class_with(alloc, name),
-            None => bytes_of_text(alloc, column),
+        _ => match column.split_once(' ') {
+            Some(("@class", name)) => class_with(alloc, name),
+            Some(("@empty", name)) => empty_class(alloc, name),
+            _ => bytes_of_text(alloc, column),
         },
     }
 }
@@ -124,4 +132,14 @@ pub fn file_of(alloc: Global, name: &str, column: &str) -> Result<InputFile, Fai
         name: String::from_str(alloc, name)?,
         contents: contents_of(alloc, column)?,
     })
+}
+
+/// The files of these names with what the columns mean; ` & ` stands between them.
+pub fn files_of(alloc: Global, names: &str, columns: &str) -> Result<Vec<InputFile>, Fail> {
+    let columns: Vec<&str> = columns.split(" & ").collect(alloc)?;
+    let mut files = Vec::new(alloc);
+    for (name, column) in names.split(" & ").zip(&columns) {
+        files.push(file_of(alloc, name, column)?)?;
+    }
+    Ok(files)
 }

@@ -6,8 +6,8 @@ use jm_options::{Options, options};
 use std::alloc::Global;
 use std::test::Fail;
 
-/// Words, parted by `|`, and behind ` => ` what they ask for, with the files and the limit of the
-/// heap that they give.
+/// Words, parted by `|`, and behind ` => ` what they ask for, with the files, `, ` between them, and the
+/// limit of the heap that they give.
 const ASKED: &str = "\
 jm|run|--schedule|s.txt|Main.class => run of Main.class by s.txt with 65536
 jm|run|--schedule=s.txt|Main.class => run of Main.class by s.txt with 65536
@@ -16,19 +16,34 @@ jm|run|--heap|16|--schedule|s.txt|Main.class => run of Main.class by s.txt with 
 jm|run|--schedule=s.txt|Main.class|--heap=16777216 => run of Main.class by s.txt with 16777216
 jm|run|--heap|00100|--schedule=s.txt|--|Main.class => run of Main.class by s.txt with 100
 /usr/bin/other|run|--schedule=s.txt|Main.class => run of Main.class by s.txt with 65536
+jm|run|--schedule=s.txt|Main.class|A.j => run of Main.class, A.j by s.txt with 65536
+jm|run|A.j|--heap=16|Main.class|--schedule=s.txt|A.j => run of A.j, Main.class, A.j by s.txt with 16
+jm|run|--schedule=s.txt|--|-A.j|--heap => run of -A.j, --heap by s.txt with 65536
 jm|asm|Main.j|Main.class => assembly of Main.j to Main.class
 jm|asm|-|out => assembly of - to out
 jm|asm|--|-Main.j|--help => assembly of -Main.j to --help
 jm|asm|run|asm => assembly of run to asm
 /usr/bin/other|asm||A B.class => assembly of  to A B.class";
 
+fn list_of(alloc: Global, files: &[String]) -> Result<String, Fail> {
+    let mut list = String::new(alloc);
+    for file in files {
+        if !list.is_empty() {
+            list.push_str(", ")?;
+        }
+        list.push_str(file)?;
+    }
+    Ok(list)
+}
+
 fn answer(alloc: Global, words: &str) -> Result<String, Fail> {
     let words = words_of(alloc, words, "|")?;
     let asked = options(alloc, &words)?;
     Ok(match &asked {
         Options::Run(run) => {
-            let (file, schedule, heap) = (&run.file, &run.schedule, run.heap);
-            format!(in alloc; "run of {file} by {schedule} with {heap}")
+            let files = list_of(alloc, &run.files)?;
+            let (schedule, heap) = (&run.schedule, run.heap);
+            format!(in alloc; "run of {files} by {schedule} with {heap}")
         }
         Options::Assemble(files) => {
             let (input, output) = (&files.input, &files.output);
@@ -44,6 +59,6 @@ fn words_ask_for_this(rt: HostRuntime) -> Result<(), Fail> {
         let answer = answer(rt.alloc(), words)?;
         assert!(rt; answer.as_str() == want, "{row}");
     }
-    assert!(rt; ASKED.lines().count() == 12);
+    assert!(rt; ASKED.lines().count() == 15);
     Ok(())
 }

@@ -1,6 +1,6 @@
 -- The journal begins in the world of the machine's program and limit.
-use Rattle.jm_world.specs.Loading.{loaded_world}
+use Rattle.jm_execute.specs.Beginnings.{beginning}
 use Rattle.jm_execute.proofs.execution.execute_run.Given as goal
 
 abbrev pub ghosts-run_events : goal.ghosts-run_events
-ghosts-run_events g a = record { first = loaded_world a.machine.linked.program a.machine.content.limit }
+ghosts-run_events g a = record { first = beginning a.machine }

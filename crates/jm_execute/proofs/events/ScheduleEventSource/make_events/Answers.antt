@@ -4,7 +4,7 @@ use Rattle.jm_schedule.proofs.RunLemmas.{no_run}
 use Rattle.jm_execute.specs.Turns.{Records, RecordsPart}
 use Rattle.jm_execute.proofs.Turns.{nothing_recorded}
 use Rattle.jm_execute.proofs.Folds.{runs_more, runs_part}
-use Rattle.jm_execute.proofs.events.make_events.Goals as goal
+use Rattle.jm_execute.proofs.events.ScheduleEventSource.make_events.Goals as goal
 
 pub loop-run-init : goal.loop-run-init
 loop-run-init g c = subst (Records _ _) (sym no_run) (nothing_recorded _)

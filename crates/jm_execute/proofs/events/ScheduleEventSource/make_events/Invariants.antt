@@ -2,7 +2,7 @@
 use Rattle.std.proofs.Common.{take}
 use Rattle.jm_schedule.specs.Runs.{events_of}
 use Rattle.jm_execute.specs.Turns.{Records}
-use Rattle.jm_execute.proofs.events.make_events.Given as goal
+use Rattle.jm_execute.proofs.events.ScheduleEventSource.make_events.Given as goal
 
 abbrev pub invariant-loop-run : goal.invariant-loop-run
 invariant-loop-run g l = Records l.initial.journal l.journal (events_of (take l.run-index l.runs))
