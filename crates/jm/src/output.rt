@@ -1,6 +1,9 @@
 // Where the output of a job goes.
 
-use jm_execute::{AssembleJob, Job};
+ghost use Rattle.std.specs.Prelude.{⊤};
+
+use jm_execute::{AssembleJob, Job, Watchable, WriteFailed, put_by_write, put_line_by_write};
+use std::fmt::Display;
 use std::fs::File;
 use std::io;
 use std::io::{Stdout, Write};
@@ -66,5 +69,18 @@ impl Write for Output<'_> {
             Output::Standard(standard) => standard.flush(),
             Output::ClassFile(file) => file.flush(),
         }
+    }
+}
+
+/// What it does with bytes is not known.
+impl Watchable for Output<'_> {
+    ghost ends = { λ _ _ _. ⊤ };
+
+    fn put(&mut self, bytes: &[u8]) -> Result<usize, WriteFailed> {
+        put_by_write(self, bytes)
+    }
+
+    fn put_line<D: Display + Drop>(&mut self, text: D) -> Result<(), WriteFailed> {
+        put_line_by_write(self, text)
     }
 }

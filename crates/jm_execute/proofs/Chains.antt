@@ -1,5 +1,5 @@
 -- A chain of steps, one step more.
-use Rattle.std.proofs.Common.{◌≡◌, ap, sym, subst, Result, Ok, Err}
+use Rattle.std.proofs.Common.{◌≡◌, ap, sym, subst, Result, Ok}
 use Rattle.jm_bytes.specs.Reading.{and_then}
 use Rattle.jm_execute.specs.Verdicts.{Cause}
 use Rattle.jm_execute.specs.Refusals.{Gives, Hinders}

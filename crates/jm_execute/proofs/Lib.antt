@@ -8,4 +8,6 @@ mod FileLists
 mod Assemblies
 mod Beginnings
 mod Telling
+mod Statuses
+mod Rooms
 pub mod Calls

@@ -1,23 +1,75 @@
 -- What stands in a writer after several writes.
-use Rattle.std.proofs.Common.{◌≡◌, ℕ, List, [], ◌++◌, refl, sym, ap, ◌∙◌, append_assoc, take, drop, take-append-drop, length, ◌-◌, arith}
+use Rattle.std.proofs.Common.{◌≡◌, ℕ, ◌<◌, List, [], ◌++◌, refl, sym, ap, ◌∙◌, append_assoc, append-nil, take, drop, take-append-drop, length, ◌-◌, arith, Option, Some, None}
 use Rattle.std.proofs.lemmas.Grind.{common_steps}
 use Rattle.std.proofs.KnownBytes.{Appends-nil, Appends-trans}
-use Rattle.jm_execute.specs.Written.{WatchedView, AllWritten, Broken}
+use Rattle.std.proofs.Output.{writes_in_calls_nil, writes_in_calls_single, writes_in_calls_append}
+use Rattle.std.specs.Io.KnownBytes.{Appends, Keeps}
+use Rattle.jm_execute.specs.CallEnds.{took, refused}
+use Rattle.jm_execute.specs.Written.{Watch, Words, AllWritten, Broken, LinesWritten}
+use Rattle.std.specs.Prelude.{true}
 
-pub nothing_written : (a : WatchedView) → AllWritten a a []
-nothing_written a = record { bytes = Appends-nil a.contents; same = refl }
+-- what kept its bytes wrote none
+pub kept_none : (a b : Option (List ℕ)) → Keeps a b → Appends a b []
+kept_none None b h = tt
+kept_none (Some xs) None h = absurd h
+kept_none (Some xs) (Some ys) h = h ∙ sym (append-nil xs)
 
-pub written_then : (a b c : WatchedView) (first second : List ℕ) → AllWritten a b first → AllWritten b c second → AllWritten a c (first ++ second)
-written_then a b c first second p q = record { bytes = Appends-trans a.contents b.contents c.contents first second p.bytes q.bytes; same = q.same ∙ p.same }
+-- and the other way round
+pub none_kept : (a b : Option (List ℕ)) → Appends a b [] → Keeps a b
+none_kept None b h = tt
+none_kept (Some xs) None h = absurd h
+none_kept (Some xs) (Some ys) h = h ∙ append-nil xs
 
-pub broken_after : (a b c : WatchedView) (text done rest : List ℕ) → text ≡ done ++ rest → AllWritten a b done → Broken b c rest → Broken a c text
-broken_after a b c text done rest whole p q = record {
-  front = done ++ q.front;
-  rest = q.rest;
-  whole = whole ∙ ap (λ t. done ++ t) q.whole ∙ sym (append_assoc done q.front q.rest);
-  bytes = Appends-trans a.contents b.contents c.contents done q.front p.bytes q.bytes;
-  failed = q.failed;
-}
+module _ {W : Type 0} (says : Words W) where
+  pub nothing_written : (a : Watch W) → AllWritten says a a []
+  nothing_written a = record { bytes = Appends-nil (says.contents a.inner); taken = writes_in_calls_nil _ a.inner; same = refl }
+
+  -- by one call
+  pub written_once : (a b : Watch W) (text : List ℕ) → Appends (says.contents a.inner) (says.contents b.inner) text → says.ends a.inner (took text) b.inner → b.failed ≡ a.failed → AllWritten says a b text
+  written_once a b text bytes call same = record { bytes = bytes; taken = writes_in_calls_single _ a.inner text b.inner call; same = same }
+
+  pub broken_once : (a b : Watch W) (text : List ℕ) → 0 < length text → Keeps (says.contents a.inner) (says.contents b.inner) → says.ends a.inner (refused text) b.inner → b.failed ≡ true → Broken says a b text
+  broken_once a b text some kept call failed = record {
+    front = [];
+    rest = text;
+    whole = refl;
+    left = some;
+    bytes = kept_none (says.contents a.inner) (says.contents b.inner) kept;
+    before = a.inner;
+    taken = writes_in_calls_nil _ a.inner;
+    call = call;
+    failed = failed;
+  }
+
+  pub written_then : (a b c : Watch W) (first second : List ℕ) → AllWritten says a b first → AllWritten says b c second → AllWritten says a c (first ++ second)
+  written_then a b c first second p q = record {
+    bytes = Appends-trans (says.contents a.inner) (says.contents b.inner) (says.contents c.inner) first second p.bytes q.bytes;
+    taken = writes_in_calls_append _ a.inner first b.inner second c.inner p.taken q.taken;
+    same = q.same ∙ p.same;
+  }
+
+  pub broken_after : (a b c : Watch W) (text done rest : List ℕ) → text ≡ done ++ rest → AllWritten says a b done → Broken says b c rest → Broken says a c text
+  broken_after a b c text done rest whole p q = record {
+    front = done ++ q.front;
+    rest = q.rest;
+    whole = whole ∙ ap (λ t. done ++ t) q.whole ∙ sym (append_assoc done q.front q.rest);
+    left = q.left;
+    bytes = Appends-trans (says.contents a.inner) (says.contents b.inner) (says.contents c.inner) done q.front p.bytes q.bytes;
+    before = q.before;
+    taken = writes_in_calls_append _ a.inner done b.inner q.front q.before p.taken q.taken;
+    call = q.call;
+    failed = q.failed;
+  }
+
+  -- lines
+  pub no_lines : (a : Watch W) → LinesWritten says a a []
+  no_lines a = record { bytes = Appends-nil (says.contents a.inner); same = refl }
+
+  pub lines_then : (a b c : Watch W) (first second : List ℕ) → LinesWritten says a b first → LinesWritten says b c second → LinesWritten says a c (first ++ second)
+  lines_then a b c first second p q = record {
+    bytes = Appends-trans (says.contents a.inner) (says.contents b.inner) (says.contents c.inner) first second p.bytes q.bytes;
+    same = q.same ∙ p.same;
+  }
 
 all_left : (xs : List ℕ) (n : ℕ) → take (length xs - n) (drop n xs) ≡ drop n xs
 all_left xs n = grind (arith, common_steps)

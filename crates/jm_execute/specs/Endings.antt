@@ -6,10 +6,10 @@ use Rattle.jm_world.specs.World.{World}
 use Rattle.jm_world.specs.Loading.{loaded_world}
 use Rattle.jm_world.specs.Run.{run_from}
 use Rattle.jm_world.specs.declared.event.Event.{Event}
-use Rattle.jm_execute.specs.Reports.{report, memory_line, status_of}
+use Rattle.jm_execute.specs.Reports.{report, memory_line, failure_line, status_of}
 use Rattle.jm_execute.specs.Reasons.{Reason, reason_status, reason_line}
 use Rattle.jm_execute.specs.Verdicts.{Verdict, because, runs, assembles}
-use Rattle.jm_execute.specs.Written.{WatchedView, AllWritten, Broken}
+use Rattle.jm_execute.specs.Written.{Watch, Words, AllWritten, Broken, LinesWritten, LineFailed}
 use Rattle.jm_execute.specs.declared.status.Status.{Status}
 use Rattle.jm_execute.specs.declared.status.Status.TheVariants as ends
 
@@ -86,13 +86,34 @@ lines_after (assembled bytes) = Some []
 lines_after exhausted = Some memory_line
 lines_after (turned_away reason) = reason_line reason
 
-abbrev pub LinesWritten : Option (List ℕ) → Bool → WatchedView → WatchedView → Type 0
-LinesWritten None failed old new = ⊤
-LinesWritten (Some lines) true old new = ⊤
-LinesWritten (Some lines) false old new = AllWritten old new lines
+-- the lines where the output could not be written whole; the name of a class file's output stands in no ending
+abbrev pub lines_at_failure : Ending → Option (List ℕ)
+lines_at_failure (completed w) = Some failure_line
+lines_at_failure (interrupted w) = Some failure_line
+lines_at_failure (assembled bytes) = None
+lines_at_failure exhausted = None
+lines_at_failure (turned_away reason) = None
+
+-- lines are told, or a call for one of them failed
+abbrev pub LinesTold : {W : Type 0} → Words W → Option (List ℕ) → Bool → Watch W → Watch W → Type 0
+LinesTold says lines true old new = LineFailed says new
+LinesTold says None false old new = ⊤
+LinesTold says (Some lines) false old new = LinesWritten says old new lines
+
+-- the status is the ending's, and its lines are told
+abbrev pub Tells : {W : Type 0} → Words W → Ending → Status → Watch W → Watch W → Type 0
+Tells says e status err new_err = (status ≡ status_after e) × LinesTold says (lines_after e) new_err.failed err new_err
+
+abbrev pub LeavesIf : {O E : Type 0} → Bool → Words O → Words E → Ending → Status → Watch O → Watch O → Watch E → Watch E → Type 0
+LeavesIf false o w e status out new_out err new_err = AllWritten o out new_out (output_of e) × Tells w e status err new_err
+LeavesIf true o w e status out new_out err new_err = Broken o out new_out (output_of e) × (status ≡ ends.Files)
+    × LinesTold w (lines_at_failure e) new_err.failed err new_err
 
 -- What a job leaves behind: the output is written, then the lines, and the status is the ending's.
--- Where the output could not be written whole, a beginning of it stands, and the status says so.
-abbrev pub Leaves : Ending → Bool → Status → WatchedView → WatchedView → WatchedView → WatchedView → Type 0
-Leaves e false status out new_out err new_err = AllWritten out new_out (output_of e) × (status ≡ status_after e) × LinesWritten (lines_after e) new_err.failed err new_err
-Leaves e true status out new_out err new_err = Broken out new_out (output_of e) × (status ≡ ends.Files)
+-- Where a write of the output failed, a beginning of it stands, and the status says so.
+abbrev pub Leaves : {O E : Type 0} → Words O → Words E → Ending → Status → Watch O → Watch O → Watch E → Watch E → Type 0
+Leaves o w e status out new_out err new_err = LeavesIf new_out.failed o w e status out new_out err new_err
+
+-- A job with this verdict is done: it ends as the verdict allows, and leaves that ending's output, status and lines.
+abbrev pub IsDone : {O E : Type 0} → Words O → Words E → Verdict → Status → Watch O → Watch O → Watch E → Watch E → Type 0
+IsDone o w v status out new_out err new_err = (e : Ending) × Allows v e × Leaves o w e status out new_out err new_err

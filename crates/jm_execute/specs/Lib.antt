@@ -1,3 +1,4 @@
+pub mod CallEnds
 pub mod Written
 pub mod Reports
 pub mod Codes

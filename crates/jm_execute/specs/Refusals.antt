@@ -1,6 +1,6 @@
 -- What a step answers: what its definition says, or the refusal that says why there is nothing.
 use Rattle.std.specs.declared.alloc.Global.{Global}
-use Rattle.std.specs.Prelude.{◌≡◌, ℕ, List, Vec, Result, Ok, Err, ⊤}
+use Rattle.std.specs.Prelude.{◌≡◌, ℕ, Vec, Result, Ok, Err, ⊤}
 use Rattle.jm_execute.specs.ProgramFiles.{in_text, in_class_file}
 use Rattle.jm_execute.specs.Reasons.{Reason, not_read, no_class, no_class_file, not_linked, heap_too_small, no_event}
 use Rattle.jm_execute.specs.Verdicts.{Cause, because, Verdict}

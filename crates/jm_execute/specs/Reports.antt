@@ -44,6 +44,9 @@ report w = thread_lines 1 w.threads ++ last_line w.stop (live_among w.threads)
 abbrev pub memory_line : List ℕ
 memory_line = codes "jm: 61 OutOfMemory\n"
 
+abbrev pub failure_line : List ℕ
+failure_line = codes "jm: write failed\n"
+
 -- an exception has ended one of the threads
 abbrev pub any_ended_by : List Thread → Bool
 any_ended_by [] = false

@@ -17,7 +17,6 @@ use Rattle.jm_execute.specs.declared.job.Contents.{Contents}
 use Rattle.jm_execute.specs.declared.job.Contents.TheVariants.{Bytes, NotRead, OutOfMemory}
 use Rattle.jm_execute.specs.declared.job.InputFile.{InputFile}
 use Rattle.jm_execute.specs.declared.job.RunJob.{RunJob}
-use Rattle.jm_execute.specs.declared.job.AssembleJob.{AssembleJob}
 use Rattle.jm_execute.specs.declared.job.Job.{Job}
 use Rattle.jm_execute.specs.declared.job.Job.TheVariants.{Run, Assemble}
 use Rattle.jm_class_format.specs.ClassFile.{class_file}

@@ -41,7 +41,8 @@ pub trait EventSource {
         &self,
         journal: &mut Journal<H, R>,
     ) -> Result<(), OutOfMemory>
-        ensures { let wanted = events self.now (world_after R.first journal.old.entries) in MatchResult result (λ _. Records journal.old journal.new wanted) (λ _. RecordsPart journal.old journal.new wanted) };
+        ensures { let wanted = events self.now (world_after R.first journal.old.entries) in
+            MatchResult result (λ _. Records journal.old journal.new wanted) (λ _. RecordsPart journal.old journal.new wanted) };
 }
 
 /// The events of a schedule, whatever the world is.

@@ -1,12 +1,12 @@
 // What `jm run` and `jm asm` do.
 
-ghost use Rattle.std.specs.Prelude.{◌≡◌, false};
+ghost use Rattle.std.specs.Prelude.{◌≡◌, [], false};
 ghost use Rattle.jm_machine.specs.View.{MatchesWorld};
 ghost use Rattle.jm_shared.specs.Legal.{world_after};
-ghost use Rattle.jm_execute.specs.Endings.{Ending, assembled, completed, interrupted, Allows, Ends, Leaves};
+ghost use Rattle.jm_execute.specs.Endings.{Ending, assembled, completed, interrupted, output_of, Allows, Ends, IsDone, Leaves, Tells};
 ghost use Rattle.jm_execute.specs.Refusals.{Hinders};
 ghost use Rattle.jm_execute.specs.Verdicts.{Verdict, assembly_verdict, run_verdict, verdict};
-ghost use Rattle.jm_execute.specs.Written.{WatchedView, held};
+ghost use Rattle.jm_execute.specs.Written.{words};
 
 use crate::assembly::assemble_file;
 use crate::ends::status_of;
@@ -16,23 +16,25 @@ use crate::preparation::prepare;
 use crate::refusal::Obstacle;
 use crate::report::{write_out_of_memory, write_report};
 use crate::status::Status;
+use crate::watchable::Watchable;
 use crate::watched::Watched;
 use jm_heap::Heap;
 use jm_machine::Machine;
 use jm_shared::{Journal, Origin};
 use std::alloc::Global;
-use std::io::{Read, Write};
+use std::io::Read;
 use std::marker::Brand;
 
 // Tells of a run whose events were all made.
-fn tell_run<H: Heap, R: Origin, O: Write, E: Write>(
+fn tell_run<H: Heap, R: Origin, O: Watchable, E: Watchable>(
     journal: &Journal<H, R>,
     out: &mut Watched<O>,
     err: &mut Watched<E>,
 ) -> Status
     requires out { out.old.failed ≡ false }
     requires err { err.old.failed ≡ false }
-    ensures { Leaves (completed (world_after R.first journal.now.entries)) out.new.failed result (held O.contents out.old) (held O.contents out.new) (held E.contents err.old) (held E.contents err.new) }
+    ensures { Leaves (words O.contents O.ends) (words E.contents E.ends)
+        (completed (world_after R.first journal.now.entries)) result out.old out.new err.old err.new }
 {
     let machine = journal.machine();
     match out.write_all(machine.output()) {
@@ -48,14 +50,15 @@ fn tell_run<H: Heap, R: Origin, O: Write, E: Write>(
 }
 
 // Tells of a run at one of whose events a growth was refused.
-fn tell_interrupted<H: Heap, R: Origin, O: Write, E: Write>(
+fn tell_interrupted<H: Heap, R: Origin, O: Watchable, E: Watchable>(
     journal: &Journal<H, R>,
     out: &mut Watched<O>,
     err: &mut Watched<E>,
 ) -> Status
     requires out { out.old.failed ≡ false }
     requires err { err.old.failed ≡ false }
-    ensures { Leaves (interrupted (world_after R.first journal.now.entries)) out.new.failed result (held O.contents out.old) (held O.contents out.new) (held E.contents err.old) (held E.contents err.new) }
+    ensures { Leaves (words O.contents O.ends) (words E.contents E.ends)
+        (interrupted (world_after R.first journal.now.entries)) result out.old out.new err.old err.new }
 {
     let machine = journal.machine();
     match out.write_all(machine.output()) {
@@ -71,7 +74,7 @@ fn tell_interrupted<H: Heap, R: Origin, O: Write, E: Write>(
 }
 
 // Makes the events of a source from the origin on, and tells of the run.
-fn run_events<S: EventSource, H: Heap + Drop, R: Origin, O: Write, E: Write>(
+fn run_events<S: EventSource, H: Heap + Drop, R: Origin, O: Watchable, E: Watchable>(
     alloc: Global,
     machine: Machine<H>,
     source: &S,
@@ -81,7 +84,8 @@ fn run_events<S: EventSource, H: Heap + Drop, R: Origin, O: Write, E: Write>(
     requires first { MatchesWorld machine R.first }
     requires out { out.old.failed ≡ false }
     requires err { err.old.failed ≡ false }
-    ensures { (e : Ending) × Ends R.first (S.events source.now R.first) e × Leaves e out.new.failed result (held O.contents out.old) (held O.contents out.new) (held E.contents err.old) (held E.contents err.new) }
+    ensures { (e : Ending) × Ends R.first (S.events source.now R.first) e
+        × Leaves (words O.contents O.ends) (words E.contents E.ends) e result out.old out.new err.old err.new }
 {
     let mut journal: Journal<H, R> = Journal::new(alloc, machine);
     match source.make_events(&mut journal) {
@@ -91,7 +95,7 @@ fn run_events<S: EventSource, H: Heap + Drop, R: Origin, O: Write, E: Write>(
 }
 
 // Tells of class-file bytes that were made for a file of this name.
-fn tell_assembled<O: Write, E: Write>(
+fn tell_assembled<O: Watchable, E: Watchable>(
     bytes: &[u8],
     file: &str,
     out: &mut Watched<O>,
@@ -99,7 +103,7 @@ fn tell_assembled<O: Write, E: Write>(
 ) -> Status
     requires out { out.old.failed ≡ false }
     requires err { err.old.failed ≡ false }
-    ensures { Leaves (assembled bytes.now) out.new.failed result (held O.contents out.old) (held O.contents out.new) (held E.contents err.old) (held E.contents err.new) }
+    ensures { Leaves (words O.contents O.ends) (words E.contents E.ends) (assembled bytes.now) result out.old out.new err.old err.new }
 {
     match out.write_all(bytes) {
         Ok(()) => Status::Done,
@@ -111,9 +115,10 @@ fn tell_assembled<O: Write, E: Write>(
 }
 
 // Tells why a job is not done. Nothing is written to the output.
-fn tell_obstacle<E: Write>(obstacle: Obstacle<'_>, err: &mut Watched<E>) -> Status
+fn tell_obstacle<E: Watchable>(obstacle: Obstacle<'_>, err: &mut Watched<E>) -> Status
     requires { err.old.failed ≡ false }
-    ensures { (v : Verdict) → Hinders v obstacle.entry → (out : WatchedView) → out.failed ≡ false → (e : Ending) × Allows v e × Leaves e false result out out (held E.contents err.old) (held E.contents err.new) }
+    ensures { (v : Verdict) → Hinders v obstacle.entry → (e : Ending) × Allows v e × (output_of e ≡ [])
+        × Tells (words E.contents E.ends) e result err.old err.new }
 {
     match obstacle {
         Obstacle::Refused(refusal) => {
@@ -128,7 +133,7 @@ fn tell_obstacle<E: Write>(obstacle: Obstacle<'_>, err: &mut Watched<E>) -> Stat
     }
 }
 
-fn execute_run<O: Write, E: Write>(
+fn execute_run<O: Watchable, E: Watchable>(
     alloc: Global,
     job: &RunJob,
     out: &mut Watched<O>,
@@ -136,7 +141,7 @@ fn execute_run<O: Write, E: Write>(
 ) -> Status
     requires out { out.old.failed ≡ false }
     requires err { err.old.failed ≡ false }
-    ensures { (e : Ending) × Allows (run_verdict job.now) e × Leaves e out.new.failed result (held O.contents out.old) (held O.contents out.new) (held E.contents err.old) (held E.contents err.new) }
+    ensures { IsDone (words O.contents O.ends) (words E.contents E.ends) (run_verdict job.now) result out.old out.new err.old err.new }
 {
     match prepare(alloc, job) {
         Ok((machine, schedule)) => run_events::<_, _, Brand, O, E>(
@@ -146,7 +151,7 @@ fn execute_run<O: Write, E: Write>(
     }
 }
 
-fn execute_assemble<O: Write, E: Write>(
+fn execute_assemble<O: Watchable, E: Watchable>(
     alloc: Global,
     job: &AssembleJob,
     out: &mut Watched<O>,
@@ -154,7 +159,7 @@ fn execute_assemble<O: Write, E: Write>(
 ) -> Status
     requires out { out.old.failed ≡ false }
     requires err { err.old.failed ≡ false }
-    ensures { (e : Ending) × Allows (assembly_verdict job.now.text) e × Leaves e out.new.failed result (held O.contents out.old) (held O.contents out.new) (held E.contents err.old) (held E.contents err.new) }
+    ensures { IsDone (words O.contents O.ends) (words E.contents E.ends) (assembly_verdict job.now.text) result out.old out.new err.old err.new }
 {
     match assemble_file(alloc, &job.text) {
         Ok(bytes) => tell_assembled(&bytes, &job.output, out, err),
@@ -174,10 +179,11 @@ fn execute_assemble<O: Write, E: Write>(
 /// `Assemble`: the bytes of the class file of the class that the text denotes go to `out`, once they
 /// stand whole in memory, and the status is `Done`.
 ///
-/// Where `out` fails, a beginning of the output stands in it, and the status is `Files`. A failing
-/// `err` changes no status.
+/// Where a write to `out` fails, a beginning of the output stands in it, and the status is `Files`;
+/// no other job but one with a file that could not be read ends so. A failing `err` changes no
+/// status.
 #[tactic(auto, unfolding(crate::specs::Verdicts::verdict))]
-pub fn execute<R: Read, O: Write, E: Write>(
+pub fn execute<R: Read, O: Watchable, E: Watchable>(
     alloc: Global,
     job: &Job,
     reader: &mut Watched<R>,
@@ -186,7 +192,7 @@ pub fn execute<R: Read, O: Write, E: Write>(
 ) -> Status
     requires out { out.old.failed ≡ false }
     requires err { err.old.failed ≡ false }
-    ensures done { (e : Ending) × Allows (verdict job.now) e × Leaves e out.new.failed result (held O.contents out.old) (held O.contents out.new) (held E.contents err.old) (held E.contents err.new) }
+    ensures done { IsDone (words O.contents O.ends) (words E.contents E.ends) (verdict job.now) result out.old out.new err.old err.new }
     ensures reader { reader.new ≡ reader.old }
 {
     match job {

@@ -3,8 +3,9 @@
 //! [`execute`] does a [`Job`] and answers the [`Status`] of the program. It runs the class of a
 //! program's file by the events of a schedule, and writes what the Java program prints and how the
 //! run ended; or it writes the class file of the class that an assembler text denotes. It knows no
-//! file and no terminal: the files' bytes stand in the job, and the two writers are any writers,
-//! each [`Watched`], so that its contract can say which bytes are written. The output and the lines
+//! file and no terminal: the files' bytes stand in the job, and the two writers are any that are
+//! [`Watchable`], each [`Watched`], so that its contract can say which bytes are written, and that a
+//! writer failed only where one of its calls did. The output and the lines
 //! of a run are those of the model's run (`jm_world`) over the events that the schedule spells; the
 //! bytes of a class file spell the class of its text (`jm_class_format`, `jm_jasmin`).
 //!
@@ -28,6 +29,7 @@ mod program_file;
 mod refusal;
 mod report;
 mod status;
+mod watchable;
 mod watched;
 
 pub use assembly::assemble_file;
@@ -42,4 +44,5 @@ pub use program_file::{class_in_file, class_in_text, class_of};
 pub use refusal::{Obstacle, Refusal};
 pub use report::{write_out_of_memory, write_report};
 pub use status::Status;
-pub use watched::{ReadFailed, Watched, WriteFailed};
+pub use watchable::{Watchable, WriteFailed, put_by_write, put_line_by_write};
+pub use watched::{ReadFailed, Watched};

@@ -4,25 +4,25 @@ ghost use Rattle.std.specs.Prelude.{Some};
 ghost use Rattle.jm_world.specs.World.{World, live_among, thread_at};
 ghost use Rattle.jm_machine.specs.Threads.{class_ended_by};
 ghost use Rattle.jm_machine.specs.View.{MatchesWorld};
-ghost use Rattle.jm_execute.specs.Written.{WritesLines, held};
+ghost use Rattle.jm_execute.specs.Written.{WritesLines, words};
 ghost use Rattle.jm_execute.specs.Reports.{ended_line, thread_line, thread_lines, stop_text, live_line, last_line, report, memory_line};
 
 use crate::class_name::ClassName;
 use crate::number::Number;
-use crate::watched::{Watched, WriteFailed};
+use crate::watchable::{Watchable, WriteFailed};
+use crate::watched::Watched;
 use jm_heap::Heap;
 use jm_machine::Machine;
 use jm_world::Stop;
 use std::fmt;
 use std::fmt::Display;
-use std::io::Write;
 
-fn write_ended<W: Write>(
+fn write_ended<W: Watchable>(
     err: &mut Watched<W>,
     number: u64,
     class: &[u16],
 ) -> Result<(), WriteFailed>
-    ensures { WritesLines result (held W.contents err.old) (held W.contents err.new) (ended_line number class.now) }
+    ensures { WritesLines (words W.contents W.ends) result err.old err.new (ended_line number class.now) }
 {
     let number = Number(number);
     let class = ClassName(class);
@@ -30,12 +30,13 @@ fn write_ended<W: Write>(
 }
 
 // Whether an exception has ended the thread of a number.
-fn write_thread<H: Heap, W: Write>(
+fn write_thread<H: Heap, W: Watchable>(
     machine: &Machine<H>,
     err: &mut Watched<W>,
     number: u64,
 ) -> Result<(), WriteFailed>
-    ensures { (w : World) → MatchesWorld machine.now w → WritesLines result (held W.contents err.old) (held W.contents err.new) (thread_line number (class_ended_by (thread_at w number))) }
+    ensures { (w : World) → MatchesWorld machine.now w
+        → WritesLines (words W.contents W.ends) result err.old err.new (thread_line number (class_ended_by (thread_at w number))) }
 {
     match machine.ended_by(number) {
         Some(class) => write_ended(err, number, class),
@@ -44,11 +45,12 @@ fn write_thread<H: Heap, W: Write>(
 }
 
 // The threads that an exception has ended, by number.
-fn write_threads<H: Heap, W: Write>(
+fn write_threads<H: Heap, W: Watchable>(
     machine: &Machine<H>,
     err: &mut Watched<W>,
 ) -> Result<(), WriteFailed>
-    ensures { (w : World) → MatchesWorld machine.now w → WritesLines result (held W.contents err.old) (held W.contents err.new) (thread_lines 1 w.threads) }
+    ensures { (w : World) → MatchesWorld machine.now w
+        → WritesLines (words W.contents W.ends) result err.old err.new (thread_lines 1 w.threads) }
 {
     for index in 0..machine.threads() {
         write_thread(machine, err, index as u64 + 1)?;
@@ -72,15 +74,15 @@ impl Display for StopText {
     }
 }
 
-fn write_stop<W: Write>(err: &mut Watched<W>, stop: Stop) -> Result<(), WriteFailed>
-    ensures { WritesLines result (held W.contents err.old) (held W.contents err.new) (last_line (Some stop) 0) }
+fn write_stop<W: Watchable>(err: &mut Watched<W>, stop: Stop) -> Result<(), WriteFailed>
+    ensures { WritesLines (words W.contents W.ends) result err.old err.new (last_line (Some stop) 0) }
 {
     let stop = StopText(stop);
     err.write_line(format_args!("jm: {stop}"))
 }
 
-fn write_live<W: Write>(err: &mut Watched<W>, live: u64) -> Result<(), WriteFailed>
-    ensures { WritesLines result (held W.contents err.old) (held W.contents err.new) (live_line live) }
+fn write_live<W: Watchable>(err: &mut Watched<W>, live: u64) -> Result<(), WriteFailed>
+    ensures { WritesLines (words W.contents W.ends) result err.old err.new (live_line live) }
 {
     if live == 0 {
         return Ok(());
@@ -90,11 +92,12 @@ fn write_live<W: Write>(err: &mut Watched<W>, live: u64) -> Result<(), WriteFail
 }
 
 // The stop, or else how many threads have not ended.
-fn write_last<H: Heap, W: Write>(
+fn write_last<H: Heap, W: Watchable>(
     machine: &Machine<H>,
     err: &mut Watched<W>,
 ) -> Result<(), WriteFailed>
-    ensures { (w : World) → MatchesWorld machine.now w → WritesLines result (held W.contents err.old) (held W.contents err.new) (last_line w.stop (live_among w.threads)) }
+    ensures { (w : World) → MatchesWorld machine.now w
+        → WritesLines (words W.contents W.ends) result err.old err.new (last_line w.stop (live_among w.threads)) }
 {
     match machine.stop() {
         Some(stop) => write_stop(err, stop),
@@ -105,19 +108,19 @@ fn write_last<H: Heap, W: Write>(
 /// Writes how a run ended: a line for each thread that an exception has ended, by number, and then
 /// the stop, or else how many threads have not ended, if any.
 #[tactic(auto, unfolding(crate::specs::Reports::report))]
-pub fn write_report<H: Heap, W: Write>(
+pub fn write_report<H: Heap, W: Watchable>(
     machine: &Machine<H>,
     err: &mut Watched<W>,
 ) -> Result<(), WriteFailed>
-    ensures { (w : World) → MatchesWorld machine.now w → WritesLines result (held W.contents err.old) (held W.contents err.new) (report w) }
+    ensures { (w : World) → MatchesWorld machine.now w → WritesLines (words W.contents W.ends) result err.old err.new (report w) }
 {
     write_threads(machine, err)?;
     write_last(machine, err)
 }
 
 /// Writes that a growth was refused.
-pub fn write_out_of_memory<W: Write>(err: &mut Watched<W>) -> Result<(), WriteFailed>
-    ensures { WritesLines result (held W.contents err.old) (held W.contents err.new) memory_line }
+pub fn write_out_of_memory<W: Watchable>(err: &mut Watched<W>) -> Result<(), WriteFailed>
+    ensures { WritesLines (words W.contents W.ends) result err.old err.new memory_line }
 {
     err.write_line("jm: 61 OutOfMemory")
 }

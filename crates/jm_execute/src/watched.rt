@@ -1,18 +1,15 @@
 // Readers and writers that remember whether they have failed.
 
-ghost use Rattle.std.specs.Prelude.{◌≡◌, ◌<◌, ◌≤◌, length, take, true, false, IfOk, IfSome, MatchResult};
+ghost use Rattle.std.specs.Prelude.{◌≡◌, ◌<◌, ◌≤◌, length, take, true, false, IfOk, IfSome, MatchResult, OnOk};
 ghost use Rattle.std.specs.Fmt.{with_newline};
 ghost use Rattle.std.specs.Io.{ReadsAtMost};
 ghost use Rattle.std.specs.Io.KnownBytes.{ReadConsumes};
-ghost use Rattle.jm_execute.specs.Written.{AllWritten, Broken, Writes, WritesLines, fresh, held};
+ghost use Rattle.jm_execute.specs.Written.{AllWritten, Broken, LineFailed, LinesWritten, Writes, fresh, words};
 
+use crate::watchable::{Watchable, WriteFailed};
 use std::fmt::Display;
-use std::io::{Read, Write};
+use std::io::Read;
 use std::marker::Model;
-
-/// The writer failed: a call answered an error, or took none of the bytes that it was given.
-#[derive(Clone, Copy)]
-pub struct WriteFailed;
 
 /// The reader failed: a call answered an error.
 #[derive(Clone, Copy, PartialEq, Eq)]
@@ -73,30 +70,27 @@ impl<R: Read> Watched<R> {
     }
 }
 
-impl<W: Write> Watched<W> {
+impl<W: Watchable> Watched<W> {
     // Writes some of the bytes, at least one, and answers how many.
     fn write_some(&mut self, bytes: &[u8]) -> Result<usize, WriteFailed>
         requires { 0 < length bytes.now }
         ensures count { IfOk result (λ count. (0 < count) × (count ≤ length bytes.now)) }
-        ensures written { MatchResult result (λ count. AllWritten (held W.contents self.old) (held W.contents self.new) (take count bytes.now)) (λ _. Broken (held W.contents self.old) (held W.contents self.new) bytes.now) }
+        ensures written { MatchResult result (λ count. AllWritten (words W.contents W.ends) self.old self.new (take count bytes.now))
+            (λ _. Broken (words W.contents W.ends) self.old self.new bytes.now) }
     {
-        match self.inner.write(bytes) {
-            Ok(0) => {
-                self.failed = true;
-                Err(WriteFailed)
-            }
+        match self.inner.put(bytes) {
             Ok(count) => Ok(count),
-            Err(_) => {
+            Err(fault) => {
                 self.failed = true;
-                Err(WriteFailed)
+                Err(fault)
             }
         }
     }
 
     /// Writes all bytes. An error says that a call failed: a beginning of the bytes was written,
-    /// and the flag is set.
+    /// the call was for those that are left, and the flag is set.
     pub fn write_all(&mut self, bytes: &[u8]) -> Result<(), WriteFailed>
-        ensures { Writes result (held W.contents self.old) (held W.contents self.new) bytes.now }
+        ensures { Writes (words W.contents W.ends) result self.old self.new bytes.now }
     {
         let mut rest = bytes;
         while !rest.is_empty() {
@@ -108,15 +102,17 @@ impl<W: Write> Watched<W> {
         Ok(())
     }
 
-    /// Writes a text and a line feed. After an error the flag is set.
+    /// Writes a text and a line feed. An error says that the call failed, and then the flag is set.
     pub fn write_line<D: Display + Drop>(&mut self, text: D) -> Result<(), WriteFailed>
-        ensures { IfSome (with_newline (D.output text)) (WritesLines result (held W.contents self.old) (held W.contents self.new)) }
+        ensures line { MatchResult result (λ _. IfSome (with_newline (D.output text)) (LinesWritten (words W.contents W.ends) self.old self.new))
+            (λ _. LineFailed (words W.contents W.ends) self.new) }
+        ensures same { OnOk result (self.new.failed ≡ self.old.failed) }
     {
-        match self.inner.writeln(text) {
+        match self.inner.put_line(text) {
             Ok(()) => Ok(()),
-            Err(_) => {
+            Err(fault) => {
                 self.failed = true;
-                Err(WriteFailed)
+                Err(fault)
             }
         }
     }

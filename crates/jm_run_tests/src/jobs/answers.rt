@@ -3,9 +3,8 @@
 ghost use Rattle.std.specs.Prelude.{◌≡◌, false};
 
 use crate::jobs::files::{bytes_of, file_of, files_of};
-use jm_execute::{AssembleJob, Job, RunJob, Watched, execute};
+use jm_execute::{AssembleJob, Job, RunJob, Watchable, Watched, execute};
 use std::alloc::Global;
-use std::io::Write;
 use std::process::Abort;
 use std::test::Fail;
 
@@ -159,7 +158,7 @@ pub fn job_of(
 }
 
 /// Does a job, which reads nothing of its input, and answers the number of its status.
-pub fn status_of<O: Write, E: Write>(
+pub fn status_of<O: Watchable, E: Watchable>(
     alloc: Global,
     job: &Job,
     out: &mut Watched<O>,

@@ -1,9 +1,12 @@
 // Jobs over a writer that fails.
 
+ghost use Rattle.std.specs.Prelude.{⊤};
+
 use crate::jobs::answers::{job_of, status_of};
 use crate::jobs::files::bytes_of;
-use jm_execute::{Job, Watched};
+use jm_execute::{Job, Watchable, Watched, WriteFailed, put_by_write, put_line_by_write};
 use std::alloc::Global;
+use std::fmt::Display;
 use std::io;
 use std::io::{ErrorKind, Write};
 use std::process::Abort;
@@ -29,6 +32,18 @@ impl Write for Narrow {
     }
 }
 
+impl Watchable for Narrow {
+    ghost ends = { λ _ _ _. ⊤ };
+
+    fn put(&mut self, bytes: &[u8]) -> Result<usize, WriteFailed> {
+        put_by_write(self, bytes)
+    }
+
+    fn put_line<D: Display + Drop>(&mut self, text: D) -> Result<(), WriteFailed> {
+        put_line_by_write(self, text)
+    }
+}
+
 // Answers an error to each write, as a pipe that is closed does.
 #[derive(Drop)]
 struct Closed;
@@ -40,6 +55,18 @@ impl Write for Closed {
 
     fn flush(&mut self) -> io::Result<()> {
         Ok(())
+    }
+}
+
+impl Watchable for Closed {
+    ghost ends = { λ _ _ _. ⊤ };
+
+    fn put(&mut self, bytes: &[u8]) -> Result<usize, WriteFailed> {
+        put_by_write(self, bytes)
+    }
+
+    fn put_line<D: Display + Drop>(&mut self, text: D) -> Result<(), WriteFailed> {
+        put_line_by_write(self, text)
     }
 }
 

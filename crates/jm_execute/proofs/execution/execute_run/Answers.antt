@@ -2,7 +2,6 @@
 use Rattle.std.proofs.Common.{subst}
 use Rattle.jm_world.specs.Loading.{loaded_world}
 use Rattle.jm_execute.specs.Endings.{Ends}
-use Rattle.jm_execute.specs.Verdicts.{runs}
 use Rattle.jm_execute.proofs.Beginnings.{allowed}
 use Rattle.jm_execute.proofs.Telling.{untouched_told}
 use Rattle.jm_execute.proofs.execution.execute_run.Goals as goal
@@ -18,4 +17,4 @@ returns-in-Ok g c =
     (ending, allowed _ _ _ _ c.in-Ok.ensures.run ending from, leaves)
 
 pub returns-in-Err : goal.returns-in-Err
-returns-in-Err g c = let (ending, allows, leaves) = c.tell_obstacle.ensures _ c.in-Err.ensures.run _ c.requires.out in (ending, allows, untouched_told ending _ _ _ _ c.requires.out leaves)
+returns-in-Err g c = let (ending, allows, none, told) = c.tell_obstacle.ensures _ c.in-Err.ensures.run in (ending, allows, untouched_told _ _ ending _ _ _ _ c.requires.out none told)

@@ -4,11 +4,13 @@ use Rattle.jm_execute.specs.Endings.{exhausted, turned_away}
 use Rattle.jm_execute.specs.Reasons.{reason_line}
 use Rattle.jm_execute.specs.Refusals.{reason_of}
 use Rattle.jm_execute.proofs.Telling.{lines_told, line_told}
-use Rattle.jm_execute.proofs.Writing.{nothing_written}
 use Rattle.jm_execute.proofs.execution.tell_obstacle.Goals as goal
 
 pub returns-in-Refused : goal.returns-in-Refused
-returns-in-Refused g c = λ v hinders out fresh. (turned_away (reason_of c.in-Refused.refusal), rw c.in-Refused.is at hinders, (nothing_written out, c.status-status.ensures, line_told _ _ _ (reason_line (reason_of c.in-Refused.refusal)) c.requires c.write_line-told.ensures))
+returns-in-Refused g c = λ v hinders.
+    let reason = reason_of c.in-Refused.refusal in
+    let told = line_told _ _ _ _ (reason_line reason) c.requires c.write_line-told.ensures.line c.write_line-told.ensures.same in
+    (turned_away reason, rw c.in-Refused.is at hinders, refl, (c.status-status.ensures, told))
 
 pub returns-in-OutOfMemory : goal.returns-in-OutOfMemory
-returns-in-OutOfMemory g c = λ v hinders out fresh. (exhausted, tt, (nothing_written out, refl, lines_told _ _ _ _ c.requires c.write_out_of_memory-told.ensures))
+returns-in-OutOfMemory g c = λ v hinders. (exhausted, tt, refl, (refl, lines_told _ _ _ _ _ c.requires c.write_out_of_memory-told.ensures))

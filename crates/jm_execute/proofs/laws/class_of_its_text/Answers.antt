@@ -1,5 +1,5 @@
 -- By the cases of the verdict.
-use Rattle.std.proofs.Common.{◌≡◌, ap, ◌∙◌, sym, List, ℕ, Ok}
+use Rattle.std.proofs.Common.{ap, ◌∙◌, sym}
 use Rattle.std.specs.String.{string_bytes}
 use Rattle.jm_class_format.specs.ClassFile.{class_file}
 use Rattle.jm_execute.specs.ProgramFiles.{text_class}

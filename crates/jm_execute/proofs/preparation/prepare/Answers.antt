@@ -1,7 +1,7 @@
 -- One step after the other.
 use Rattle.std.proofs.lemmas.Result.{err_from_is_err_and}
 use Rattle.jm_execute.specs.Verdicts.{run_verdict}
-use Rattle.jm_execute.proofs.Chains.{hindered, hindered_next, given_next}
+use Rattle.jm_execute.proofs.Chains.{hindered}
 use Rattle.jm_execute.proofs.preparation.prepare.Goals as goal
 
 pub returns-in_err-text-clause-run : goal.returns-in_err-text-clause-run

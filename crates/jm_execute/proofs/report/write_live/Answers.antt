@@ -5,4 +5,4 @@ use Rattle.jm_execute.proofs.Threads.{some_live}
 use Rattle.jm_execute.proofs.report.write_live.Goals as goal
 
 pub returns : goal.returns
-returns g c = subst (WritesLines _ _ _) (sym (some_live c.args.live c.if-live-eq0.false)) c.write_line.ensures
+returns g c = subst (WritesLines _ _ _ _) (sym (some_live c.args.live c.if-live-eq0.false)) c.write_line.ensures.line

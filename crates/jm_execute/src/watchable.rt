@@ -1,0 +1,117 @@
+// Writers that can be watched.
+
+ghost use Rattle.std.specs.Prelude.{◌≡◌, ◌<◌, ◌≤◌, length, take, IfOk, IfSome, MatchResult, OnErr, OnOk, ⊤};
+ghost use Rattle.std.specs.Fmt.{with_newline};
+ghost use Rattle.std.specs.Io.KnownBytes.{Appends, WriteAppends};
+ghost use Rattle.jm_execute.specs.CallEnds.{CallEnd, took, refused, line_refused, vec_ends};
+
+use std::alloc::Allocator;
+use std::fmt::Display;
+use std::io::{Stderr, Stdout, Write};
+
+/// The writer failed: a call answered an error, or took none of the bytes that it was given.
+#[derive(Clone, Copy)]
+pub struct WriteFailed;
+
+/// A writer whose calls have ends of which it says itself between which of its states they lie: code
+/// over any such writer knows that a call failed only from the call. A writer of whose calls nothing
+/// is known, as a file, says it of all states.
+pub trait Watchable: Write {
+    ghost ends: { Self → CallEnd → Self → Type 0 };
+
+    /// Writes some of the bytes, at least one, and answers how many. An error says that the call
+    /// answered one, or took no byte; the writer holds what it held.
+    fn put(&mut self, bytes: &[u8]) -> Result<usize, WriteFailed>
+        requires { 0 < length bytes.now }
+        ensures count { IfOk result (λ count. (0 < count) × (count ≤ length bytes.now)) }
+        ensures bytes { WriteAppends (Self.contents self.old) (Self.contents self.new) result bytes.now }
+        ensures ended { MatchResult result (λ count. ends self.old (took (take count bytes.now)) self.new)
+            (λ _. ends self.old (refused bytes.now) self.new) };
+
+    /// Writes a text and a line feed. After an error a beginning of the line may be written.
+    fn put_line<D: Display + Drop>(&mut self, text: D) -> Result<(), WriteFailed>
+        ensures bytes { OnOk result (IfSome (with_newline (D.output text)) (Appends (Self.contents self.old) (Self.contents self.new))) }
+        ensures ended { OnErr result (ends self.old line_refused self.new) };
+}
+
+/// Writes some of the bytes with one call, at least one, and answers how many. An error says that
+/// the call answered one, or took no byte.
+pub fn put_by_write<W: Write>(writer: &mut W, bytes: &[u8]) -> Result<usize, WriteFailed>
+    ensures count { IfOk result (λ count. (0 < count) × (count ≤ length bytes.now)) }
+    ensures bytes { WriteAppends (W.contents writer.old) (W.contents writer.new) result bytes.now }
+{
+    match writer.write(bytes) {
+        Ok(0) => Err(WriteFailed),
+        Ok(count) => Ok(count),
+        Err(_) => Err(WriteFailed),
+    }
+}
+
+/// Writes a text and a line feed. An error says that a call answered one, or took no byte, or that
+/// the text has none.
+pub fn put_line_by_write<W: Write, D: Display + Drop>(
+    writer: &mut W,
+    text: D,
+) -> Result<(), WriteFailed>
+    ensures { OnOk result (IfSome (with_newline (D.output text)) (Appends (W.contents writer.old) (W.contents writer.new))) }
+{
+    match writer.writeln(text) {
+        Ok(()) => Ok(()),
+        Err(_) => Err(WriteFailed),
+    }
+}
+
+impl<W: Watchable> Watchable for &mut W {
+    ghost ends = { λ old end new. W.ends old.now end new.now };
+
+    fn put(&mut self, bytes: &[u8]) -> Result<usize, WriteFailed> {
+        Watchable::put(&mut **self, bytes)
+    }
+
+    fn put_line<D: Display + Drop>(&mut self, text: D) -> Result<(), WriteFailed> {
+        Watchable::put_line(&mut **self, text)
+    }
+}
+
+/// It takes all bytes at each call, and refuses them only where memory is refused and they have no
+/// room in what it has.
+impl<A: Allocator> Watchable for Vec<u8, A> {
+    ghost ends = { vec_ends };
+
+    fn put(&mut self, bytes: &[u8]) -> Result<usize, WriteFailed> {
+        match self.extend_from_slice(bytes) {
+            Ok(()) => Ok(bytes.len()),
+            Err(_) => Err(WriteFailed),
+        }
+    }
+
+    fn put_line<D: Display + Drop>(&mut self, text: D) -> Result<(), WriteFailed> {
+        put_line_by_write(self, text)
+    }
+}
+
+/// What it does with bytes is not known.
+impl Watchable for Stdout {
+    ghost ends = { λ _ _ _. ⊤ };
+
+    fn put(&mut self, bytes: &[u8]) -> Result<usize, WriteFailed> {
+        put_by_write(self, bytes)
+    }
+
+    fn put_line<D: Display + Drop>(&mut self, text: D) -> Result<(), WriteFailed> {
+        put_line_by_write(self, text)
+    }
+}
+
+/// What it does with bytes is not known.
+impl Watchable for Stderr {
+    ghost ends = { λ _ _ _. ⊤ };
+
+    fn put(&mut self, bytes: &[u8]) -> Result<usize, WriteFailed> {
+        put_by_write(self, bytes)
+    }
+
+    fn put_line<D: Display + Drop>(&mut self, text: D) -> Result<(), WriteFailed> {
+        put_line_by_write(self, text)
+    }
+}
