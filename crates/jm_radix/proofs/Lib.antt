@@ -1,0 +1,5 @@
+mod MergeLaws
+mod NodeLaws
+pub mod RowLaws
+mod TableLaws
+mod WriteLaws
