@@ -1,13 +1,13 @@
-// A library with one function.
+//! Tables of a program's classes, by number: what each class has of its own and from the classes
+//! right above it.
+//!
+//! An [`Inheritance`] is made class by class, each after those right above it. A class shares with
+//! its superclass what it does not change, so it takes memory for its own alone, and what a class
+//! has is found in as many steps as there are digits. Contracts say what a class has by walking up
+//! (`inherited`), and for a program's classes in the words of the model. The crate stands on
+//! `jm_radix`, `jm_program`, `jm_builtins`, `jm_values` and `jm_world`.
 #![tactic(auto)]
 
-ghost use Rattle.std.specs.Prelude.{◌≡◌};
-ghost use Rattle.jm_tables.specs.Echo.{echo_of};
+mod inheritance;
 
-// The `ensures` clause is the contract: what `echo` returns is `echo_of` of its argument, a definition
-// in `specs/Echo.antt`, which a caller's clause can cite too.
-pub fn echo(x: usize) -> usize
-    ensures { result ≡ echo_of x }
-{
-    x
-}
+pub use inheritance::{Declared, Inheritance};

@@ -1,0 +1,140 @@
+// What each class has of its own and from the classes right above it.
+
+ghost use Rattle.std.specs.Prelude.{◌≡◌, ℕ, List, ◌+◌, ◌-◌, ◌<◌, ◌≤◌, ◌^◌, ◌↔◌, [], IfOk, IfSome, IsTrue, EachIndex, Some, length, map, slice_get, slice_index, slice_index_or};
+ghost use Rattle.std.specs.List.{All};
+ghost use Rattle.jm_radix.specs.Tables.{IsCellOf, row_at};
+ghost use Rattle.jm_tables.specs.declared.inheritance.Declared.{Declared};
+ghost use Rattle.jm_tables.specs.Inheriting.{inherited};
+ghost use Rattle.jm_tables.specs.Placing.{ArePlaced, AreRows};
+
+use jm_radix::{Cell, Table};
+use std::alloc::{AllocError, Global};
+use std::marker::Model;
+
+/// What a class has of its own, and the numbers of the classes right above it.
+#[derive(Debug, Drop)]
+pub struct Declared {
+    pub above: Vec<u32>,
+    pub own: Vec<Cell>,
+}
+
+/// What each class has, by the classes' numbers.
+#[derive(Drop)]
+pub struct Inheritance {
+    table: Table,
+    /// The rows of the classes in the table.
+    places: Vec<u32>,
+}
+
+impl Model for Inheritance {
+    ghost use Rattle.std.specs.Prelude.{ℕ, List, [], Option, map, slice_index_or};
+
+    ghost Value = { List (List (Option ℕ)) };
+
+    ghost view = { λ i. map (λ place. slice_index_or i.table.rows place []) i.places.items };
+}
+
+/// The place of a class that has no row yet.
+const NOT_PLACED: u32 = u32::MAX;
+
+// The rows of some classes, or none where one of them has no row yet.
+fn rows_of(
+    alloc: Global,
+    places: &[u32],
+    classes: &[u32],
+) -> Result<Option<Vec<u32>>, AllocError>
+    ensures { IfOk result (λ found. IfSome found (λ rows. ArePlaced places.now classes.now rows.items)) }
+{
+    let mut rows = Vec::new(alloc);
+    for class in classes {
+        match places.get(*class as usize) {
+            Some(row) if *row < NOT_PLACED => rows.push(*row)?,
+            _ => return Ok(None),
+        }
+    }
+    Ok(Some(rows))
+}
+
+fn are_placed(places: &[u32]) -> bool
+    ensures { IsTrue result ↔ EachIndex places.now (λ k. slice_index places.now k < 2 ^ 32 - 1) }
+{
+    places.iter().all(|place| *place < NOT_PLACED)
+}
+
+// Adds the row of a class, unless a class right above it has none yet.
+fn add(
+    alloc: Global,
+    places: &mut [u32],
+    table: &mut Table,
+    class: u32,
+    declared: &Declared,
+) -> Result<bool, AllocError>
+    requires class { class < length places.old }
+    requires cells { All (IsCellOf table.old.columns) declared.now.own.items }
+    ensures columns { table.new.columns ≡ table.old.columns }
+    ensures rows { length table.new.rows ≤ length table.old.rows + 1 }
+    ensures added { (classes : List Declared) → slice_get classes class ≡ Some declared.now
+        → AreRows classes places.old table.old → AreRows classes places.new table.new }
+{
+    let Some(rows) = rows_of(alloc, places, &declared.above)? else {
+        return Ok(false);
+    };
+    let Ok(row) = u32::try_from(table.row_count()) else {
+        return Err(AllocError);
+    };
+    table.push(&rows, &declared.own)?;
+    places[class as usize] = row;
+    Ok(true)
+}
+
+impl Inheritance {
+    /// What the classes have in columns below a number, made in an order in which each class comes
+    /// after those right above it: an order that is not so, or that leaves a class out, gives none.
+    pub fn of(
+        alloc: Global,
+        columns: u32,
+        classes: &[Declared],
+        order: &[u32],
+    ) -> Result<Option<Inheritance>, AllocError>
+        requires { All (λ d. All (IsCellOf columns) d.own.items) classes.now }
+        ensures { IfOk result (λ found. IfSome found (λ all. (class column : ℕ) → class < length classes.now → column < columns
+            → row_at all class column ≡ inherited (length classes.now) classes.now class column)) }
+    {
+        if order.len() != classes.len() {
+            return Ok(None);
+        }
+        let mut places = vec![in alloc; NOT_PLACED; classes.len()]?;
+        let mut table = Table::new(alloc, columns)?;
+        for class in order {
+            let Some(declared) = classes.get(*class as usize) else {
+                return Ok(None);
+            };
+            if !add(alloc, &mut places, &mut table, *class, declared)? {
+                return Ok(None);
+            }
+        }
+        Ok(Inheritance::whole(table, places))
+    }
+
+    // All of it, if each class has a row.
+    fn whole(table: Table, places: Vec<u32>) -> Option<Inheritance>
+        ensures { IfSome result (λ all. EachIndex places.items (λ k. slice_index places.items k < 2 ^ 32 - 1)
+            × (all ≡ map (λ place. slice_index_or table.rows place []) places.items)) }
+    {
+        if !are_placed(&places) {
+            return None;
+        }
+        Some(Inheritance { table, places })
+    }
+
+    /// The number that a class has in a column. A class that is not there has none.
+    #[inline]
+    pub fn get(&self, class: u32, column: u32) -> Option<u32>
+        ensures { result ≡ row_at self.now class column }
+    {
+        match self.places.get(class as usize) {
+            Some(place) => self.table.get(*place, column),
+            None => None,
+        }
+    }
+}
