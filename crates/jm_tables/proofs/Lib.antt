@@ -1,1 +1,3 @@
+mod HierarchyLaws
+mod MethodLaws
 mod PlacingLaws

@@ -1,10 +1,11 @@
 -- Rows of classes as one more is added.
-use Rattle.std.proofs.Common.{◌≡◌, ◌≢◌, ℕ, zero, suc, ◌+◌, ◌-◌, ◌^◌, ◌<◌, ◌≤◌, List, [], ◌∷◌, ◌++◌, Option, Some, None, Bool, true, false, length, nat_eq, nat_lt, get_or, set, take, drop, append-nil, replicate, map, IfSome, refl, sym, ◌∙◌, ap, subst, arith, slice_get, eq-eqb, eqb-true, length-append}
+use Rattle.std.proofs.Common.{◌≡◌, ◌≢◌, ℕ, zero, suc, ◌+◌, ◌-◌, ◌^◌, ◌<◌, ◌≤◌, List, [], ◌∷◌, ◌++◌, Option, Some, None, Bool, true, false, length, nat_eq}
+use Rattle.std.proofs.Common.{get_or, set, take, drop, append-nil, replicate, map, IfSome, refl, sym, ◌∙◌, ap, subst, arith, slice_get, eq-eqb}
+use Rattle.std.proofs.Common.{eqb-true, length-append}
 use Rattle.std.proofs.lemmas.List.{get_or_append_left, take_all}
 use Rattle.std.proofs.Math.ListN.{drop_of_length-le}
 use Rattle.std.proofs.lemmas.Option.{slice_get-get_or}
 use Rattle.std.proofs.Math.Seq.{get_or-append_seam}
-use Rattle.jm_radix.specs.declared.table.Cell.{Cell}
 use Rattle.jm_radix.specs.Tables.{Row, TableView, by_column, or_number, row_at, first_of, with_cells, with_row}
 use Rattle.jm_radix.proofs.RowLaws.{by_column_at, with_cells_at}
 use Rattle.jm_tables.specs.declared.inheritance.Declared.{Declared}
@@ -30,7 +31,8 @@ got_set_other (y ∷ ys) (suc i) x zero h = refl
 got_set_other (y ∷ ys) (suc i) x (suc j) h = got_set_other ys i x j (λ e. h (ap suc e))
 
 -- what the classes right above have
-above_rows : (classes : List Declared) (places : List ℕ) (table : TableView) (n column : ℕ) → AreRows classes places table → length table.rows ≤ n → column < table.columns
+above_rows : (classes : List Declared) (places : List ℕ) (table : TableView) (n column : ℕ) → AreRows classes places table → length table.rows ≤ n
+    → column < table.columns
     → (cs rs : List ℕ) → ArePlaced places cs rs → first_of table.rows rs column ≡ first_above (inherited n classes) cs column
 unfolding AreRows
 above_rows classes places table n column rows l small [] [] a = refl
@@ -42,11 +44,14 @@ above_rows classes places table n column rows l small [] (r ∷ rs) a = absurd a
 above_rows classes places table n column rows l small (c ∷ cs) [] a = absurd a
 
 -- a class's own row
-inherited_one : (n : ℕ) (classes : List Declared) (class : ℕ) (d : Declared) → slice_get classes class ≡ Some d → inherited (suc n) classes class ≡ with_cells (first_above (inherited n classes) d.above.items) d.own.items
+pub inherited_one : (n : ℕ) (classes : List Declared) (class : ℕ) (d : Declared) → slice_get classes class ≡ Some d
+    → inherited (suc n) classes class ≡ with_cells (first_above (inherited n classes) d.above.items) d.own.items
 unfolding inherited
-inherited_one n classes class d e = ap (λ o. elim o as (λ _. Row) [ None ↦ (λ column. None) | Some d ↦ with_cells (first_above (inherited n classes) d.above.items) d.own.items ]) e
+inherited_one n classes class d e = ap (λ o. elim o as (λ _. Row)
+    [ None ↦ (λ column. None) | Some d ↦ with_cells (first_above (inherited n classes) d.above.items) d.own.items ]) e
 
-module _ (classes : List Declared) (places : List ℕ) (table : TableView) (class : ℕ) (d : Declared) (rs : List ℕ) (is : slice_get classes class ≡ Some d) (rows : AreRows classes places table)
+module _ (classes : List Declared) (places : List ℕ) (table : TableView) (class : ℕ) (d : Declared) (rs : List ℕ) (is : slice_get classes class ≡ Some d)
+    (rows : AreRows classes places table)
     (placed : ArePlaced places d.above.items rs) where
   abbrev new_row : Row
   new_row = with_cells (first_of table.rows rs) d.own.items
@@ -59,7 +64,8 @@ module _ (classes : List Declared) (places : List ℕ) (table : TableView) (clas
       ∙ ap (λ (row : Row). row column) (sym (inherited_one n classes class d is))
 
   -- and those of the others, with it
-  pub rows_more : (row : ℕ) → row ≡ length table.rows → class < length places → (new : TableView) → new ≡ with_row table (with_cells (first_of table.rows rs) d.own.items) → AreRows classes (set places class row) new
+  pub rows_more : (row : ℕ) → row ≡ length table.rows → class < length places → (new : TableView)
+      → new ≡ with_row table (with_cells (first_of table.rows rs) d.own.items) → AreRows classes (set places class row) new
   unfolding AreRows
   rows_more row at within new e = λ c r p. by c r p (nat_eq c class) refl
     where
@@ -70,7 +76,8 @@ module _ (classes : List Declared) (places : List ℕ) (table : TableView) (clas
       columns = ap (λ (t : TableView). t.columns) e
 
       earlier : (r column : ℕ) → r < length table.rows → row_at new.rows r column ≡ row_at table.rows r column
-      earlier r column less = ap (λ (t : TableView). row_at t.rows r column) e ∙ ap (λ xs. get_or xs column None) (get_or_append_left table.rows (by_column table.columns new_row ∷ []) [] r less)
+      earlier r column less = ap (λ (t : TableView). row_at t.rows r column) e
+          ∙ ap (λ xs. get_or xs column None) (get_or_append_left table.rows (by_column table.columns new_row ∷ []) [] r less)
 
       last : (column : ℕ) → column < table.columns → row_at new.rows (length table.rows) column ≡ new_row column
       last column small = ap (λ (t : TableView). row_at t.rows (length table.rows) column) e
@@ -84,10 +91,13 @@ module _ (classes : List Declared) (places : List ℕ) (table : TableView) (clas
       by c r p true is_class =
           let same : c ≡ class = eqb-true c class is_class in
           let here : row ≡ r = some_same row r (sym (got_set places class row within) ∙ ap (slice_get (set places class row)) (sym same) ∙ p.0) in
-          let is_last : r ≡ length table.rows = sym here ∙ at in
-          (omega (arith, long, is_last), λ n column less small.
-          let within_table : column < table.columns = subst (λ k. column < k) columns small in
-          ap (λ k. row_at new.rows k column) is_last ∙ last column within_table ∙ own_row n column (subst (λ k. k < n) is_last less) within_table ∙ ap (λ k. inherited n classes k column) (sym same))
+          let is_last : r ≡ length table.rows = sym here ∙ at in (
+            omega (arith, long, is_last),
+            λ n column less small.
+                let within_table : column < table.columns = subst (λ k. column < k) columns small in
+                ap (λ k. row_at new.rows k column) is_last ∙ last column within_table ∙ own_row n column (subst (λ k. k < n) is_last less) within_table
+                ∙ ap (λ k. inherited n classes k column) (sym same),
+          )
       by c r p false is_other =
           let ne : c ≢ class = λ same. let t = eq-eqb c class same in cc in
           let old = rows c r (sym (got_set_other places class row c ne) ∙ p.0, p.1) in
@@ -99,7 +109,8 @@ written_back xs ys n a b =
     ap (λ zs. take n (xs ++ zs)) (drop_of_length-le ys (omega (arith, a, b))) ∙ ap (take n) (append-nil xs) ∙ take_all n xs (omega (arith, a))
 
 -- no class has a row yet
-pub none_placed : (classes : List Declared) (places : List ℕ) (table : TableView) → ((k r : ℕ) → slice_get places k ≡ Some r → r ≡ 2 ^ 32 - 1) → AreRows classes places table
+pub none_placed : (classes : List Declared) (places : List ℕ) (table : TableView) → ((k r : ℕ) → slice_get places k ≡ Some r → r ≡ 2 ^ 32 - 1)
+    → AreRows classes places table
 unfolding AreRows
 none_placed classes places table h = λ c r p. let none : r ≡ 2 ^ 32 - 1 = h c r p.0 in absurd (omega (arith, none, p.1))
 
@@ -116,7 +127,8 @@ pub got : {A : Type 0} → (xs : List A) (i : ℕ) (x : A) → i < length xs →
 got xs i x h f = slice_get-get_or xs i x h ∙ ap Some (sym (f x))
 
 -- the row of each class, where all have one
-pub whole_rows : (classes : List Declared) (places : List ℕ) (table : TableView) (class n column : ℕ) → AreRows classes places table → ((k : ℕ) → k < length places → get_or places k 0 < 2 ^ 32 - 1) → class < length places
+pub whole_rows : (classes : List Declared) (places : List ℕ) (table : TableView) (class n column : ℕ) → AreRows classes places table
+    → ((k : ℕ) → k < length places → get_or places k 0 < 2 ^ 32 - 1) → class < length places
     → length table.rows ≤ n → column < table.columns → row_at (map (λ place. get_or table.rows place []) places) class column ≡ inherited n classes class column
 unfolding AreRows
 whole_rows classes places table class n column rows all within l small =

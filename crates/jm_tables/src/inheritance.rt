@@ -38,11 +38,7 @@ impl Model for Inheritance {
 const NOT_PLACED: u32 = u32::MAX;
 
 // The rows of some classes, or none where one of them has no row yet.
-fn rows_of(
-    alloc: Global,
-    places: &[u32],
-    classes: &[u32],
-) -> Result<Option<Vec<u32>>, AllocError>
+fn rows_of(alloc: Global, places: &[u32], classes: &[u32]) -> Result<Option<Vec<u32>>, AllocError>
     ensures { IfOk result (λ found. IfSome found (λ rows. ArePlaced places.now classes.now rows.items)) }
 {
     let mut rows = Vec::new(alloc);

@@ -8,6 +8,10 @@
 //! `jm_radix`, `jm_program`, `jm_builtins`, `jm_values` and `jm_world`.
 #![tactic(auto)]
 
+mod hierarchy;
 mod inheritance;
+mod method_table;
 
+pub use hierarchy::Hierarchy;
 pub use inheritance::{Declared, Inheritance};
+pub use method_table::MethodTable;

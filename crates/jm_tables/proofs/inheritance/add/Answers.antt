@@ -1,8 +1,8 @@
 -- The class has its row.
-use Rattle.std.proofs.Common.{◌≡◌, ◌∙◌, ℕ, List, ◌<◌, length, refl, sym, ap, subst, arith}
+use Rattle.std.proofs.Common.{◌∙◌, ℕ, List, ap, subst}
 use Rattle.jm_radix.specs.declared.table.Cell.{Cell}
 use Rattle.jm_radix.specs.Tables.{first_of, with_cells, with_row}
-use Rattle.jm_tables.specs.Placing.{ArePlaced, AreRows}
+use Rattle.jm_tables.specs.Placing.{ArePlaced}
 use Rattle.jm_tables.proofs.PlacingLaws.{rows_more}
 use Rattle.jm_tables.proofs.inheritance.add.Goals as goal
 
@@ -12,5 +12,6 @@ returns-clause-added c = λ classes is rows.
     rows_more classes c.args.places.now c.args.table.now c.args.class c.args.declared.now c.in-Some.rows.items is rows
     (subst (λ (above : List ℕ). ArePlaced c.args.places.now above c.in-Some.rows.items) c.deref.ensures.value placed)
     c.in-Ok.row (c.in-Ok.ensures.1 ∙ c.row_count.ensures) c.requires.class c.push.new.self
-    (c.in_ok-push.ensures.ok ∙ ap (λ (rs : List ℕ). with_row c.args.table.now (with_cells (first_of c.args.table.now.rows rs) c.deref-3.result.now)) c.deref-2.ensures.value
+    (c.in_ok-push.ensures.ok ∙ ap (λ (rs : List ℕ). with_row c.args.table.now (with_cells (first_of c.args.table.now.rows rs) c.deref-3.result.now))
+    c.deref-2.ensures.value
     ∙ ap (λ (cells : List Cell). with_row c.args.table.now (with_cells (first_of c.args.table.now.rows c.in-Some.rows.items) cells)) c.deref-3.ensures.value)

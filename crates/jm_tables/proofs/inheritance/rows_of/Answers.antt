@@ -1,5 +1,5 @@
 -- One more row.
-use Rattle.std.proofs.Common.{◌≡◌, ◌∙◌, ◌+◌, ◌<◌, ◌++◌, ◌∷◌, [], List, ℕ, suc, take, length, get_or, refl, sym, ap, subst, arith}
+use Rattle.std.proofs.Common.{◌≡◌, ◌∙◌, ◌+◌, ◌++◌, ◌∷◌, [], suc, take, get_or, sym, ap, subst, arith}
 use Rattle.std.proofs.Math.Seq.{take-suc}
 use Rattle.jm_tables.specs.Placing.{ArePlaced}
 use Rattle.jm_tables.proofs.PlacingLaws.{placed_push, got}
@@ -7,8 +7,16 @@ use Rattle.jm_tables.proofs.inheritance.rows_of.Goals as goal
 
 pub loop-class-preserved : goal.loop-class-preserved
 loop-class-preserved c =
-    let more : take (c.loop-class.class-index + 1) c.args.classes.now ≡ take c.loop-class.class-index c.args.classes.now ++ get_or c.args.classes.now c.loop-class.class-index 0 ∷ [] =
-    (let next : c.loop-class.class-index + 1 ≡ suc c.loop-class.class-index = omega arith in ap (λ n. take n c.args.classes.now) next ∙ take-suc c.args.classes.now c.loop-class.class-index 0 c.loop-class-test.true) in
+    let more : take (c.loop-class.class-index + 1) c.args.classes.now ≡ take c.loop-class.class-index c.args.classes.now ++ get_or c.args.classes.now
+    c.loop-class.class-index 0 ∷ [] =
+    (let next : c.loop-class.class-index + 1 ≡ suc c.loop-class.class-index = omega arith in ap (λ n. take n c.args.classes.now) next
+    ∙ take-suc c.args.classes.now c.loop-class.class-index 0 c.loop-class-test.true) in
     subst (λ cs. ArePlaced c.args.places.now cs c.push.new.self.items) (sym more)
-    (subst (ArePlaced c.args.places.now (take c.loop-class.class-index c.args.classes.now ++ get_or c.args.classes.now c.loop-class.class-index 0 ∷ [])) (sym c.in_ok-push-in-Some.ensures.items)
-    (placed_push c.args.places.now (take c.loop-class.class-index c.args.classes.now) c.loop-class.rows.items (get_or c.args.classes.now c.loop-class.class-index 0) c.in-Some.row.now c.loop-class.invariant (got c.args.places.now (get_or c.args.classes.now c.loop-class.class-index 0) c.in-Some.row.now c.in-Some.ensures.lookup.3.0 c.in-Some.ensures.lookup.3.1, omega arith)))
+    (subst (ArePlaced c.args.places.now (take c.loop-class.class-index c.args.classes.now ++ get_or c.args.classes.now c.loop-class.class-index 0 ∷ []))
+    (sym c.in_ok-push-in-Some.ensures.items)
+    (placed_push c.args.places.now (take c.loop-class.class-index c.args.classes.now) c.loop-class.rows.items
+    (get_or c.args.classes.now c.loop-class.class-index 0) c.in-Some.row.now c.loop-class.invariant (
+      got c.args.places.now (get_or c.args.classes.now c.loop-class.class-index 0) c.in-Some.row.now c.in-Some.ensures.lookup.3.0
+          c.in-Some.ensures.lookup.3.1,
+      omega arith,
+    )))

@@ -5,4 +5,5 @@ use Rattle.jm_tables.proofs.inheritance.Inheritance.of.Given as goal
 
 abbrev pub invariant-loop-class : goal.invariant-loop-class
 invariant-loop-class l =
-    (l.table.columns ≡ l.columns) × (length l.table.rows ≤ l.class-index) × (length l.places.items ≡ length l.classes) × AreRows l.classes l.places.items l.table
+    (l.table.columns ≡ l.columns) × (length l.table.rows ≤ l.class-index) × (length l.places.items ≡ length l.classes) × AreRows l.classes l.places.items
+    l.table
