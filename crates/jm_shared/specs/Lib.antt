@@ -1,3 +1,5 @@
 pub mod Book
 pub mod Legal
 pub mod Stretches
+pub mod Seats
+pub mod SeatRule

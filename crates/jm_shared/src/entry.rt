@@ -1,7 +1,7 @@
 // What a journal tells of a turn, and what the turn answers.
 
 ghost use Rattle.std.specs.Prelude.{◌≡◌};
-ghost use Rattle.jm_shared.specs.Legal.{reply_of};
+ghost use Rattle.jm_shared.specs.Legal.{entry_of, reply_of};
 
 use jm_world::{Event, Reply, ReplyKind};
 
@@ -40,4 +40,19 @@ pub struct Receipt {
     pub number: usize,
     pub event: Event,
     pub reply: Reply,
+}
+
+impl Receipt {
+    /// The journal's entry of the turn.
+    pub fn entry(self) -> Entry
+        ensures { result ≡ entry_of self.seat self.event self.reply }
+    {
+        Entry {
+            event: self.event,
+            made: self.reply.made,
+            live: self.reply.live,
+            kind: self.reply.kind,
+            seat: self.seat,
+        }
+    }
 }

@@ -1,18 +1,18 @@
 // The journal.
 
-ghost use Rattle.std.specs.Prelude.{◌≡◌, ◌++◌, ◌∷◌, [], length, slice_get, IfOk, OnErr, MatchResult};
+ghost use Rattle.std.specs.Prelude.{◌≡◌, ◌++◌, ◌∷◌, [], length, map, slice_get, take, IfErr, IfOk, OnErr, OnOk, MatchResult};
 ghost use Rattle.jm_world.specs.World.{World};
-ghost use Rattle.jm_world.specs.Run.{after};
+ghost use Rattle.jm_world.specs.Run.{after, run_from};
 ghost use Rattle.jm_machine.specs.View.{MatchesWorld};
-ghost use Rattle.jm_shared.specs.Legal.{IsLegal, world_after, entry_of, receipt_of};
+ghost use Rattle.jm_shared.specs.Legal.{IsLegal, world_after, entry_of, events_of, receipt_of, reply_of};
 
 use crate::entry::{Entry, Receipt};
 use crate::origin::Origin;
-use crate::stretch::{Stretch, add, entry_at};
+use crate::stretch::{Stretch, add, entry_at, events_in};
 use jm_heap::Heap;
-use jm_machine::{Machine, OutOfMemory};
-use jm_world::Event;
-use std::alloc::Global;
+use jm_machine::{Interrupted, Machine, OutOfMemory};
+use jm_world::{Event, Reply};
+use std::alloc::{AllocError, Global};
 use std::marker::{Model, PhantomData};
 
 /// A machine and the journal of its events. The journal is legal from its origin, and the machine
@@ -102,6 +102,42 @@ impl<H: Heap, R: Origin> Journal<H, R> {
         ensures legal { IsLegal R.first self.now.entries }
     {
         entry_at(&self.stretches, &self.last, number)
+    }
+
+    /// The events of the entries, in order. `AllocError`: a growth was refused.
+    pub fn events(&self, alloc: Global) -> Result<Vec<Event>, AllocError>
+        ensures { IfOk result (λ events. events.items ≡ events_of self.now.entries) }
+    {
+        events_in(alloc, &self.stretches, &self.last)
+    }
+
+    /// Runs the journal's events again, on this thread, by a machine of any heap in the world in
+    /// which the journal begins: the replies are the entries', and then the machine matches the
+    /// world that the journal's own does, so the two have printed the same. `Interrupted`: a growth
+    /// was refused; the machine is where the events that were made lead.
+    pub fn run_again<G: Heap>(
+        &self,
+        alloc: Global,
+        machine: &mut Machine<G>,
+    ) -> Result<Vec<Reply>, Interrupted>
+        requires { MatchesWorld machine.old R.first }
+        ensures replies { IfOk result (λ replies. replies.items ≡ map reply_of self.now.entries) }
+        ensures world { OnOk result (MatchesWorld machine.new (world_after R.first self.now.entries) × MatchesWorld self.now.machine (world_after R.first self.now.entries)) }
+        ensures output { OnOk result (machine.new.state.output ≡ self.now.machine.state.output) }
+        ensures interrupted { IfErr result (λ fault. MatchesWorld machine.new (run_from R.first (take fault.made (events_of self.now.entries)))) }
+    {
+        self.shows();
+        let Ok(events) = self.events(alloc) else {
+            return Err(Interrupted { made: 0 });
+        };
+        machine.run(&events)
+    }
+
+    /// What holds of every journal, for contracts alone.
+    pub(crate) fn shows(&self)
+        ensures { IsLegal R.first self.now.entries × MatchesWorld self.now.machine (world_after R.first self.now.entries) }
+    {
+        let _kept = &self.machine;
     }
 
     /// The machine, without its journal.

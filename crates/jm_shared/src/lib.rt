@@ -1,17 +1,28 @@
-//! The state that the workers of one machine share: the machine and its journal.
+//! The state that the workers of one machine share: the machine and its journal, under one lock.
 //!
 //! A [`Journal`] makes each event of its machine in a turn of a seat, and keeps what was made: for
 //! each turn its seat, its event and the reply. It is legal at any time: the replies are those of
 //! the model from the first world on, and the machine matches the world to which the events lead.
-//! Equal turns in a row are kept once. A lock can be put round it.
+//! Equal turns in a row are kept once.
+//!
+//! A [`SharedMachine`] has a lock round a journal, so that many threads make turns, each with a
+//! [`Seat`] of its own. A turn answers a [`Receipt`]. Once all seats have come back, the receipts of
+//! each are exactly its entries in the journal, in order ([`SharedMachine::finish`]).
+//! `docs/WORKERS.md` tells how this hangs together.
 //!
 //! The crate stands on `jm_machine`, and passes on what leads to one: linking, loading and the
-//! reading of schedules.
+//! reading of schedules; on `atomic_table`, for the tokens behind the seats; and on `jm_forward`,
+//! for laws of sums over all tokens of a table.
 #![tactic(auto)]
 
 mod entry;
 mod journal;
+mod keeper;
 mod origin;
+mod rule;
+mod seat;
+mod shared_machine;
+mod sharing;
 mod stretch;
 
 pub use entry::{Entry, Receipt};
@@ -20,4 +31,9 @@ pub use jm_machine::{
     Interrupted, LoadFault, Machine, OutOfMemory, Schedule, ScheduleFault, read_schedule,
 };
 pub use journal::Journal;
+pub use keeper::SeatTable;
 pub use origin::Origin;
+pub use rule::Hand;
+pub use seat::Seat;
+pub use shared_machine::{SeatsMissing, SharedMachine};
+pub use sharing::Sharing;

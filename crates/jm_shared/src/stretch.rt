@@ -1,10 +1,12 @@
 // Equal turns in a row, kept once.
 
-ghost use Rattle.std.specs.Prelude.{◌≡◌, ◌+◌, ◌≤◌, ◌++◌, ◌∷◌, [], IsTrue, slice_get, vec_capacity, vec_len};
+ghost use Rattle.std.specs.Prelude.{◌≡◌, ◌+◌, ◌≤◌, ◌++◌, ◌∷◌, [], IfOk, IsTrue, slice_get, vec_capacity, vec_len};
+ghost use Rattle.jm_shared.specs.Legal.{events_of};
 ghost use Rattle.jm_shared.specs.Stretches.{Rises, entries_of, entry_in, event_of};
 
 use crate::entry::Entry;
 use jm_world::{Event, ReplyKind};
+use std::alloc::{AllocError, Global};
 
 /// What an event is, beside the number of a thread.
 #[derive(Clone, Copy)]
@@ -82,12 +84,19 @@ impl Stretch {
         }
     }
 
+    /// The event of each of its turns.
+    pub(crate) fn event(&self) -> Event
+        ensures { result ≡ event_of self.now.event self.now.thread }
+    {
+        event_of(self.event, self.thread)
+    }
+
     /// The entry of each of its turns.
     pub(crate) fn entry(&self) -> Entry
         ensures { result ≡ entry_in self.now }
     {
         Entry {
-            event: event_of(self.event, self.thread),
+            event: self.event(),
             made: self.made,
             live: self.live,
             kind: self.kind,
@@ -133,4 +142,22 @@ pub(crate) fn entry_at(stretches: &[Stretch], last: &Stretch, number: usize) -> 
         None if number < last.end => Some(last.entry()),
         None => None,
     }
+}
+
+/// The events of the turns of stretches and of the last, in order. `AllocError`: a growth was
+/// refused.
+pub(crate) fn events_in(
+    alloc: Global,
+    stretches: &[Stretch],
+    last: &Stretch,
+) -> Result<Vec<Event>, AllocError>
+    requires { Rises stretches.now last.now }
+    ensures { IfOk result (λ events. events.items ≡ events_of (entries_of stretches.now last.now)) }
+{
+    let mut events = Vec::new(alloc);
+    for stretch in stretches {
+        events.resize(stretch.end, stretch.event())?;
+    }
+    events.resize(last.end, last.event())?;
+    Ok(events)
 }

@@ -1,0 +1,136 @@
+// The keeper of a locked journal, and the table that ties the seats to it.
+
+ghost use Rattle.std.specs.Prelude.{◌≡◌, ℕ, ◌<◌, ◌≤◌, ◌++◌, ◌∷◌, [], length, IfOk};
+ghost use Rattle.std.specs.List.{All};
+ghost use Rattle.jm_shared.specs.Legal.{receipt_of};
+ghost use Rattle.jm_shared.specs.Seats.{hand, keeper_with, fresh_hands, of_seat, times};
+
+use crate::entry::Entry;
+use crate::rule::{Compare, DealHand, Note, Record, Repeated, SeatRule, TakeIn, View};
+use crate::seat::Seat;
+use crate::sharing::Sharing;
+use atomic_table::{Badge, Table};
+use std::alloc::{AllocError, Global};
+use std::marker::{Model, PhantomData};
+use std::mem;
+
+/// What lies beside a journal under its lock. Contracts see the entries that it knows.
+#[derive(Drop)]
+pub(crate) struct Keeper<S: Sharing> {
+    token: Badge<View>,
+    sharing: PhantomData<S>,
+}
+
+impl<S: Sharing> Model for Keeper<S> {
+    ghost use Rattle.std.specs.Prelude.{◌≡◌, List, [], ◌∷◌};
+    ghost use Rattle.jm_shared.specs.declared.entry.Entry.{Entry};
+    ghost use Rattle.jm_shared.specs.Seats.{keeper_with, entries_of_views};
+
+    ghost Value = { List Entry };
+
+    ghost view = { λ k. entries_of_views k.token.views };
+
+    ghost invariant = { λ k. (k.token.table_id ≡ S.table) × (k.token.views ≡ keeper_with (entries_of_views k.token.views) [] ∷ []) };
+}
+
+/// The table of so many seats, before it has a name. It is where a shared machine is made.
+pub struct SeatTable {
+    table: Table<Note, View, usize, SeatRule, Global>,
+    token: atomic_table::Seat<Note, View>,
+    pub(crate) seats: u8,
+    ghost words: { (0 < table.shared.table_id.words) × (token.table_id ≡ table.shared.table_id) },
+    ghost all: { token.me ≡ (keeper_with [] (fresh_hands 0 seats), []) },
+    ghost many: { (0 < seats) × (seats ≤ 16) },
+}
+
+impl SeatTable {
+    /// The table of so many seats, 1 to 16. `AllocError`: a growth was refused.
+    pub fn new(alloc: Global, seats: u8) -> Result<SeatTable, AllocError>
+        requires { (0 < seats) × (seats ≤ 16) }
+        ensures { IfOk result (λ table. table.seats ≡ seats) }
+    {
+        let (table, token) = Table::of_words(alloc, &[0], &usize::from(seats))?;
+        Ok(SeatTable {
+            table,
+            token,
+            seats,
+        })
+    }
+}
+
+/// What ties the seats of a table to its keeper.
+#[derive(Drop)]
+pub(crate) struct SeatTies<S: Sharing> {
+    table: Table<Note, View, usize, SeatRule, Global>,
+    sharing: PhantomData<S>,
+    ghost named: { (table.shared.table_id ≡ S.table) × (0 < table.shared.table_id.words) },
+}
+
+/// The seats of a table, in order, and their keeper, which knows no entry. `AllocError`: a growth
+/// was refused.
+pub(crate) fn deal_seats<S: Sharing>(
+    alloc: Global,
+    opened: SeatTable,
+) -> Result<(SeatTies<S>, Keeper<S>, Vec<Seat<S>>), AllocError>
+    requires { (opened.table.shared.table_id ≡ S.table) × (opened.seats ≡ S.seats) }
+    ensures { IfOk result (λ r. (r.1 ≡ []) × (r.2.items ≡ fresh_hands 0 S.seats)) }
+{
+    let SeatTable {
+        table,
+        token: mut all,
+        seats: count,
+    } = opened;
+    let mut seats = Vec::with_capacity(alloc, usize::from(count))?;
+    for number in 0..count {
+        let token = table.shared.split_seat::<DealHand>(&mut all);
+        seats.push_reserved(Seat {
+            number,
+            token,
+            sharing: PhantomData,
+        });
+    }
+    let keeper = Keeper {
+        token: all.into_badge(),
+        sharing: PhantomData,
+    };
+    let ties = SeatTies {
+        table,
+        sharing: PhantomData,
+    };
+    Ok((ties, keeper, seats))
+}
+
+impl<S: Sharing> SeatTies<S> {
+    /// Notes an entry of a seat: the keeper knows it, and the seat has its receipt. One join, one
+    /// atomic step and one split; it takes no memory.
+    pub(crate) fn note(&self, keeper: &mut Keeper<S>, seat: &mut Seat<S>, entry: Entry)
+        requires { entry.seat ≡ seat.old.number }
+        ensures keeper { keeper.new ≡ keeper.old ++ entry ∷ [] }
+        ensures seat { seat.new ≡ hand seat.old.number (seat.old.receipts ++ receipt_of (length keeper.old) entry ∷ []) }
+        ensures above { All (λ receipt. receipt.number < length keeper.old) seat.old.receipts }
+    {
+        let shared = &self.table.shared;
+        let mut all = mem::replace(&mut keeper.token, Badge::blank()).into_seat::<Note>();
+        let mine = shared.split_seat::<DealHand>(&mut seat.token);
+        shared.join_seat::<TakeIn>(&mut all, mine);
+        let note = [Repeated { entry, times: 1 }];
+        shared.compare_exchange_with::<Record>(&mut all, 0, 0, 0, &note);
+        seat.token = shared.split_seat::<DealHand>(&mut all);
+        keeper.token = all.into_badge();
+    }
+
+    /// What the keeper knows of seats that come back: each has the receipts of its entries, and no
+    /// two of them have one number.
+    pub(crate) fn compare(&self, keeper: Keeper<S>, mut seats: Vec<Seat<S>>)
+        ensures lists { All (λ seat. seat.receipts ≡ of_seat seat.number 0 keeper) seats.items }
+        ensures apart { (number : ℕ) → times number seats.items ≤ 1 }
+        ensures within { All (λ seat. seat.number < S.seats) seats.items }
+    {
+        let shared = &self.table.shared;
+        let mut all = keeper.token.into_seat::<Note>();
+        while let Some(seat) = seats.pop() {
+            shared.join_seat::<TakeIn>(&mut all, seat.token);
+        }
+        shared.load::<Compare>(&mut all, 0);
+    }
+}

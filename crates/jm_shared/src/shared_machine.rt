@@ -1,0 +1,144 @@
+// The machine that workers share.
+
+ghost use Rattle.std.specs.Prelude.{◌≡◌, ◌<◌, ◌++◌, ◌∷◌, [], length, IfErr, IfOk, MatchResult, OnErr, OnOk};
+ghost use Rattle.std.specs.List.{All};
+ghost use Rattle.jm_machine.specs.View.{MatchesWorld};
+ghost use Rattle.jm_shared.specs.Legal.{IsLegal, world_after, entry_of, receipt_of};
+ghost use Rattle.jm_shared.specs.Seats.{AreAll, LacksOne, fresh_hands, hand, of_seat};
+
+use crate::entry::Receipt;
+use crate::journal::Journal;
+use crate::keeper::{Keeper, SeatTable, SeatTies, deal_seats};
+use crate::seat::Seat;
+use crate::sharing::Sharing;
+use jm_heap::Heap;
+use jm_machine::{Machine, OutOfMemory};
+use jm_world::Event;
+use std::alloc::Global;
+use std::marker::Model;
+use std::sync::{Mutex, Wait};
+
+/// What lies under the lock: the journal, and the keeper, which knows it.
+#[derive(Drop)]
+struct LockedJournal<H: Heap, S: Sharing> {
+    journal: Journal<H, S>,
+    keeper: Keeper<S>,
+}
+
+impl<H: Heap, S: Sharing> Model for LockedJournal<H, S> {
+    ghost use Rattle.std.specs.Prelude.{◌≡◌, ◌<◌};
+    ghost use Rattle.std.specs.List.{All};
+    ghost use Rattle.jm_shared.specs.Book.{Book};
+
+    ghost Value = { Book };
+
+    ghost view = { λ l. l.journal };
+
+    ghost invariant = { λ l. (l.keeper ≡ l.journal.entries) × All (λ e. e.seat < S.seats) l.journal.entries };
+}
+
+impl<H: Heap, S: Sharing> LockedJournal<H, S> {
+    // Makes one event for a seat, and notes it.
+    fn turn(
+        &mut self,
+        ties: &SeatTies<S>,
+        seat: &mut Seat<S>,
+        event: Event,
+    ) -> Result<Receipt, OutOfMemory>
+        ensures entries { MatchResult result (λ receipt. self.new.entries ≡ self.old.entries ++ entry_of seat.old.number event receipt.reply ∷ []) (λ _. self.new.entries ≡ self.old.entries) }
+        ensures receipt { IfOk result (λ receipt. receipt ≡ receipt_of (length self.old.entries) (entry_of seat.old.number event receipt.reply)) }
+        ensures above { IfOk result (λ receipt. All (λ earlier. earlier.number < receipt.number) seat.old.receipts) }
+        ensures seat { MatchResult result (λ receipt. seat.new ≡ hand seat.old.number (seat.old.receipts ++ receipt ∷ [])) (λ _. seat.new ≡ seat.old) }
+    {
+        let receipt = self.journal.turn(seat.number(), event)?;
+        ties.note(&mut self.keeper, seat, receipt.entry());
+        Ok(receipt)
+    }
+}
+
+/// A machine that workers share, one event at a time: a journal with its machine under one lock.
+/// Whenever the lock is free the journal is legal from the sharing's first world, and the machine
+/// matches the world to which the journal's events lead.
+#[derive(Drop)]
+pub struct SharedMachine<H: Heap, S: Sharing> {
+    ties: SeatTies<S>,
+    lock: Mutex<LockedJournal<H, S>>,
+    seats: u8,
+    ghost many: { seats ≡ S.seats },
+}
+
+/// 65 SeatsMissing: not every seat was given back. The machine and the seats may be used on.
+#[derive(Drop)]
+pub struct SeatsMissing<H: Heap, S: Sharing> {
+    pub machine: SharedMachine<H, S>,
+    pub seats: Vec<Seat<S>>,
+}
+
+impl<H: Heap + Drop, S: Sharing> SharedMachine<H, S> {
+    /// A machine to be shared by the seats of a table, with no events yet, and its seats, in order,
+    /// each without receipts. `OutOfMemory`: a growth was refused, and what it took is dropped.
+    pub fn new(
+        alloc: Global,
+        machine: Machine<H>,
+        table: SeatTable,
+    ) -> Result<(SharedMachine<H, S>, Vec<Seat<S>>), OutOfMemory>
+        requires table { (table.table.shared.table_id ≡ S.table) × (table.seats ≡ S.seats) }
+        requires first { MatchesWorld machine S.first }
+        ensures { IfOk result (λ shared. shared.1.items ≡ fresh_hands 0 S.seats) }
+    {
+        let count = table.seats;
+        let (ties, keeper, seats) = deal_seats(alloc, table)?;
+        let journal = Journal::new(alloc, machine);
+        let machine = SharedMachine {
+            ties,
+            lock: Mutex::new(LockedJournal { journal, keeper }),
+            seats: count,
+        };
+        Ok((machine, seats))
+    }
+}
+
+impl<H: Heap, S: Sharing> SharedMachine<H, S> {
+    /// Makes one event for a seat, in the nursery of the seat's number, and adds one entry to the
+    /// journal and its receipt to the seat's. It may wait for other turns. `OutOfMemory`: the
+    /// event was not made and may be tried again, and the seat is as it was.
+    pub fn turn<R: Wait>(
+        &self,
+        rt: &R,
+        seat: &mut Seat<S>,
+        event: Event,
+    ) -> Result<Receipt, OutOfMemory>
+        ensures receipt { IfOk result (λ receipt. (receipt.seat ≡ seat.old.number) × (receipt.event ≡ event)) }
+        ensures above { IfOk result (λ receipt. All (λ earlier. earlier.number < receipt.number) seat.old.receipts) }
+        ensures seat { MatchResult result (λ receipt. seat.new ≡ hand seat.old.number (seat.old.receipts ++ receipt ∷ [])) (λ _. seat.new ≡ seat.old) }
+    {
+        self.lock.lock(rt).turn(&self.ties, seat, event)
+    }
+
+    /// The machine with its journal, once every seat is given back: then the receipts of each seat
+    /// are those of its entries, and every entry is a seat's. `SeatsMissing`: exactly where a seat
+    /// is not given back.
+    pub fn finish(self, seats: Vec<Seat<S>>) -> Result<Journal<H, S>, SeatsMissing<H, S>>
+        ensures lists { IfOk result (λ journal. All (λ seat. seat.receipts ≡ of_seat seat.number 0 journal.entries) seats.items) }
+        ensures all { OnOk result (AreAll S.seats seats.items) }
+        ensures known { IfOk result (λ journal. All (λ entry. entry.seat < S.seats) journal.entries) }
+        ensures legal { IfOk result (λ journal. IsLegal S.first journal.entries × MatchesWorld journal.machine (world_after S.first journal.entries)) }
+        ensures missing { IfErr result (λ fault. LacksOne S.seats seats.items × (fault.machine ≡ self) × (fault.seats.items ≡ seats.items)) }
+    {
+        if seats.len() < usize::from(self.seats) {
+            return Err(SeatsMissing {
+                machine: self,
+                seats,
+            });
+        }
+        let SharedMachine {
+            ties,
+            lock,
+            seats: _,
+        } = self;
+        let LockedJournal { journal, keeper } = lock.into_inner();
+        ties.compare(keeper, seats);
+        journal.shows();
+        Ok(journal)
+    }
+}
