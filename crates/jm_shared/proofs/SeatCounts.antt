@@ -50,7 +50,12 @@ below_low n (h ∷ hs) = omega (arith, one_more_below n h hs, is_below_low n h.n
 all_below : (n : ℕ) (hs : List Hand) → All (λ (h : Hand). h.number < n) hs → times_below n hs ≡ length hs
 all_below n [] all = none_below n
 all_below n (h ∷ hs) all =
-    omega (arith, one_more_below n h hs, is_below_once n h.number (All-head (λ (x : Hand). x.number < n) h hs all), all_below n hs (All-tail (λ (x : Hand). x.number < n) h hs all))
+    omega (
+      arith,
+      one_more_below n h hs,
+      is_below_once n h.number (All-head (λ (x : Hand). x.number < n) h hs all),
+      all_below n hs (All-tail (λ (x : Hand). x.number < n) h hs all),
+    )
 
 lacks : (n : ℕ) (hs : List Hand) → times_below n hs < n → LacksOne n hs
 lacks zero hs few = absurd (omega arith)

@@ -1,5 +1,6 @@
 -- The receipts of a seat, and seats in order, as lists.
-use Rattle.std.proofs.Common.{◌≡◌, ◌≢◌, ℕ, zero, suc, ◌+◌, ◌-◌, ◌<◌, ◌≤◌, ◌==◌, Bool, true, false, cond, eq-eqb, ne_eqb, List, [], ◌∷◌, ◌++◌, map, length, refl, sym, ap, ◌∙◌, subst, arith, append_assoc, append-nil}
+use Rattle.std.proofs.Common.{◌≡◌, ◌≢◌, ℕ, zero, suc, ◌+◌, ◌-◌, ◌<◌, ◌≤◌, ◌==◌, Bool, true, false, cond, eq-eqb, ne_eqb, List, [], ◌∷◌, ◌++◌, map, length}
+use Rattle.std.proofs.Common.{refl, sym, ap, ◌∙◌, subst, arith, append_assoc, append-nil}
 use mathlib.Core.Logic.{dite}
 use native.Mathlib.Decide.{ℕ_discrete}
 use Rattle.std.specs.List.{All}
@@ -39,7 +40,8 @@ of_seat_low : (k n : ℕ) (es : List Entry) → All (λ (r : Receipt). r.number 
 of_seat_low k n [] = All-nil (λ (r : Receipt). r.number < n + length {A = Entry} [])
 of_seat_low k n (e ∷ es) =
     let P : Receipt → Type 0 = λ r. r.number < n + suc (length es) in
-    let rest : All P (of_seat k (n + 1) es) = All-weaker (λ (r : Receipt). r.number < n + 1 + length es) P (λ r low. omega arith) (of_seat k (n + 1) es) (of_seat_low k (n + 1) es) in
+    let rest : All P (of_seat k (n + 1) es) =
+    All-weaker (λ (r : Receipt). r.number < n + 1 + length es) P (λ r low. omega arith) (of_seat k (n + 1) es) (of_seat_low k (n + 1) es) in
     let F : Bool → Type 0 = λ b. All P (cond b (receipt_of n e ∷ of_seat k (n + 1) es) (of_seat k (n + 1) es)) in
     dite (ℕ_discrete k e.seat)
     (λ is. subst F (sym (eq-eqb k e.seat is)) (All-cons P (receipt_of n e) (of_seat k (n + 1) es) (omega arith) rest))
@@ -49,7 +51,8 @@ of_seat_low k n (e ∷ es) =
 pub IsOf_low : (es : List Entry) (h : Hand) → IsOf es h → All (λ (r : Receipt). r.number < length es) h.receipts
 IsOf_low es h is =
     let same : 0 + length es ≡ length es = omega arith in
-    subst (λ n. All (λ (r : Receipt). r.number < n) h.receipts) same (subst (All (λ (r : Receipt). r.number < 0 + length es)) (sym is) (of_seat_low h.number 0 es))
+    subst (λ n. All (λ (r : Receipt). r.number < n) h.receipts) same
+    (subst (All (λ (r : Receipt). r.number < 0 + length es)) (sym is) (of_seat_low h.number 0 es))
 
 -- a hand that has noted the entries behind those that it knew
 pub IsOf_noted : (es fs : List Entry) (h : Hand) → IsOf es h → IsOf (es ++ fs) (noted (length es) fs h)
@@ -68,7 +71,8 @@ IsOf_still es fs h others is =
 other_numbers : (seat k : ℕ) (fs : List Entry) → k ≢ seat → All (λ (e : Entry). e.seat ≡ seat) fs → All (λ (e : Entry). k ≢ e.seat) fs
 other_numbers seat k fs ne own = All-weaker (λ (e : Entry). e.seat ≡ seat) (λ (e : Entry). k ≢ e.seat) (λ e is same. ne (same ∙ is)) fs own
 
-pub IsOf_others : (es fs : List Entry) (seat : ℕ) (hs : List Hand) → All (λ (e : Entry). e.seat ≡ seat) fs → times seat hs ≡ 0 → All (IsOf es) hs → All (IsOf (es ++ fs)) hs
+pub IsOf_others : (es fs : List Entry) (seat : ℕ) (hs : List Hand) → All (λ (e : Entry). e.seat ≡ seat) fs → times seat hs ≡ 0 → All (IsOf es) hs
+    → All (IsOf (es ++ fs)) hs
 IsOf_others es fs seat [] own none all = All-nil (IsOf (es ++ fs))
 IsOf_others es fs seat (h ∷ hs) own none all =
     let ne : h.number ≢ seat = λ is. omega (arith, one_at_same seat h.number (sym is), none) in
@@ -106,4 +110,5 @@ pub fresh_dealt : (seats now : List Hand) (h : Hand) (n count : ℕ) → n < cou
     → now ++ fresh_hands (n + 1) (count - (n + 1)) ≡ seats ++ fresh_hands n (count - n)
 fresh_dealt seats now h n count low is e =
     let rest : List Hand = fresh_hands (n + 1) (count - (n + 1)) in
-    ap (λ xs. xs ++ rest) e ∙ ap (λ x. (seats ++ x ∷ []) ++ rest) is ∙ append_assoc seats (hand n [] ∷ []) rest ∙ ap (λ xs. seats ++ xs) (sym (fresh_next n count low))
+    ap (λ xs. xs ++ rest) e ∙ ap (λ x. (seats ++ x ∷ []) ++ rest) is ∙ append_assoc seats (hand n [] ∷ []) rest
+    ∙ ap (λ xs. seats ++ xs) (sym (fresh_next n count low))

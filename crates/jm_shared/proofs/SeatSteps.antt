@@ -1,5 +1,6 @@
 -- Each step keeps the rule of the seats.
-use Rattle.std.proofs.Common.{◌≡◌, ◌≢◌, ◌⊎◌, ⊎_elim, ℕ, ◌+◌, ◌<◌, ◌≤◌, Bool, true, false, true≢false, cond, List, [], ◌∷◌, ◌++◌, map, length, set, refl, sym, ap, ◌∙◌, subst, arith}
+use Rattle.std.proofs.Common.{◌≡◌, ◌≢◌, ◌⊎◌, ⊎_elim, ℕ, ◌+◌, ◌<◌, ◌≤◌, Bool, true, false, true≢false, cond, List, [], ◌∷◌, ◌++◌, map, length, set, refl, sym}
+use Rattle.std.proofs.Common.{ap, ◌∙◌, subst, arith}
 use mathlib.Core.Option.{Option, none, some}
 use lib.ListN.{get_elem?}
 use Rattle.std.specs.List.{All}
@@ -41,7 +42,8 @@ module _ {S : Type 0} where
       let parts = cut_all kept.entries v.hands mine.1 in
       let left = set s.views id (kept_back v) in record {
         entries = kept.entries;
-        each = All-push (Fits kept.entries) left (dealt v) (All-set (Fits kept.entries) s.views id (kept_back v) (mine.0, parts.0) kept.each) (fits_seated kept.entries (first_hand v.hands) parts.1);
+        each = All-push (Fits kept.entries) left (dealt v) (All-set (Fits kept.entries) s.views id (kept_back v) (mine.0, parts.0) kept.each)
+            (fits_seated kept.entries (first_hand v.hands) parts.1);
         one_keeper = omega (arith, weigh_push keepers left (dealt v), weigh-set keepers s.views id v (kept_back v) at, kept.one_keeper);
         apart = λ k. let f : View → ℕ = λ v. times k v.hands in
             omega (arith, weigh_push f left (dealt v), weigh-set f s.views id v (kept_back v) at, cut_times k v.hands, kept.apart k);
@@ -51,7 +53,9 @@ module _ {S : Type 0} where
   joins id v other w s kept at ne there =
       let both = taken_in v w in
       let joined = set s.views id both in
-      let was : get_elem? s.views other ≡ some w = ⊎_elim (λ (t : (other ≡ id) × (both ≡ w)). absurd (ne t.0)) (λ (t : (other ≢ id) × (get_elem? s.views other ≡ some w)). t.1) (at_set s.views id other both w there) in
+      let was : get_elem? s.views other ≡ some w =
+      ⊎_elim (λ (t : (other ≡ id) × (both ≡ w)). absurd (ne t.0)) (λ (t : (other ≢ id) × (get_elem? s.views other ≡ some w)). t.1)
+      (at_set s.views id other both w there) in
       let mine = All-at (Fits kept.entries) s.views id v kept.each at in
       let theirs = All-at (Fits kept.entries) s.views other w kept.each was in record {
         entries = kept.entries;
@@ -59,7 +63,13 @@ module _ {S : Type 0} where
             (All-set (Fits kept.entries) s.views id both (mine.0, All-append (IsOf kept.entries) w.hands v.hands theirs.1 mine.1) kept.each);
         one_keeper = omega (arith, weigh-set keepers joined other w (seated []) there, weigh-set keepers s.views id v both at, kept.one_keeper);
         apart = λ k. let f : View → ℕ = λ v. times k v.hands in
-            omega (arith, weigh-set f joined other w (seated []) there, weigh-set f s.views id v both at, weigh-append (λ (h : Hand). one_at k h.number) w.hands v.hands, kept.apart k);
+            omega (
+              arith,
+              weigh-set f joined other w (seated []) there,
+              weigh-set f s.views id v both at,
+              weigh-append (λ (h : Hand). one_at k h.number) w.hands v.hands,
+              kept.apart k,
+            );
       }
 
   -- the keeper finds its hands as they are in the journal
@@ -69,7 +79,8 @@ module _ {S : Type 0} where
       subst (λ es. All (IsOf es) v.hands) (sym (mine.0 on)) mine.1
 
   -- a step that changes no view, whatever it does to the word
-  pub compares : (slots id i : ℕ) (f : ℕ → ℕ) (me : Me S View) → Allows (IsKept {S = S}) slots id me i f (λ r n. (n.1 ≡ me.1) × (n.0 ≡ me.0) × Finds me.0 × ((k : ℕ) → times k me.0.hands ≤ 1))
+  pub compares : (slots id i : ℕ) (f : ℕ → ℕ) (me : Me S View)
+      → Allows (IsKept {S = S}) slots id me i f (λ r n. (n.1 ≡ me.1) × (n.0 ≡ me.0) × Finds me.0 × ((k : ℕ) → times k me.0.hands ≤ 1))
   compares slots id i f me s kept len at short = (
     me.0,
     keeps,
@@ -84,7 +95,8 @@ module _ {S : Type 0} where
   )
 
   -- the views after the keeper has noted entries of a seat whose hand is with it
-  notes_all : (s : State S View) (kept : IsKept s) (id seat : ℕ) (es : List Entry) (v : View) → get_elem? s.views id ≡ some v → v.keeps ≡ true → 0 < times seat v.hands → All (λ (e : Entry). e.seat ≡ seat) es
+  notes_all : (s : State S View) (kept : IsKept s) (id seat : ℕ) (es : List Entry) (v : View) → get_elem? s.views id ≡ some v → v.keeps ≡ true
+      → 0 < times seat v.hands → All (λ (e : Entry). e.seat ≡ seat) es
       → All (Fits (kept.entries ++ es)) (set s.views id (with_entries es v))
   notes_all s kept id seat es v at on here own =
       let w = with_entries es v in
@@ -92,7 +104,8 @@ module _ {S : Type 0} where
       let mine = All-at (Fits kept.entries) s.views id v kept.each at in
       let same : v.entries ≡ kept.entries = mine.0 on in
       let hands = All-map (IsOf (v.entries ++ es)) (noted (length v.entries) es) v.hands
-      (All-weaker (IsOf v.entries) (λ h. IsOf (v.entries ++ es) (noted (length v.entries) es h)) (λ h is. IsOf_noted v.entries es h is) v.hands (finds s kept id v at on)) in
+      (All-weaker (IsOf v.entries) (λ h. IsOf (v.entries ++ es) (noted (length v.entries) es h)) (λ h is. IsOf_noted v.entries es h is) v.hands
+      (finds s kept id v at on)) in
       let now : P w = subst (λ l. Fits (l ++ es) w) same ((λ _. refl), hands) in
       All-from_at P (set s.views id w) (λ j u there. ⊎_elim
       (λ (t : (j ≡ id) × (w ≡ u)). subst P t.1 now)
@@ -106,7 +119,8 @@ module _ {S : Type 0} where
       (at_set s.views id j w u there))
 
 -- a turn's step, whatever it does to the word, where all its entries are of one seat, whose hand is with the keeper
-pub notes : (slots id i seat : ℕ) (note : List Repeated) (f : ℕ → ℕ) (me : Me (List Repeated) View) → me.0.keeps ≡ true → 0 < times seat me.0.hands → All (λ (e : Entry). e.seat ≡ seat) (entries_in note)
+pub notes : (slots id i seat : ℕ) (note : List Repeated) (f : ℕ → ℕ) (me : Me (List Repeated) View) → me.0.keeps ≡ true → 0 < times seat me.0.hands
+    → All (λ (e : Entry). e.seat ≡ seat) (entries_in note)
     → Allows (IsKept {S = List Repeated}) slots id me i f (λ r n. (n.1 ≡ me.1) × (n.0 ≡ with_note (some note) me.0) × Finds me.0)
 notes slots id i seat note f me on here own s kept len at short =
     let es = entries_in note in
@@ -119,7 +133,8 @@ notes slots id i seat note f me on here own s kept len at short =
         entries = kept.entries ++ es;
         each = notes_all s kept id seat es v at on here own;
         one_keeper = omega (arith, weigh-set keepers s.views id v w at, kept.one_keeper);
-        apart = λ k. let g : View → ℕ = λ v. times k v.hands in omega (arith, weigh-set g s.views id v w at, times_noted k (length v.entries) es v.hands, kept.apart k);
+        apart = λ k. let g : View → ℕ = λ v. times k v.hands in
+            omega (arith, weigh-set g s.views id v w at, times_noted k (length v.entries) es v.hands, kept.apart k);
       },
       (refl, refl, finds s kept id v at),
     )
@@ -135,7 +150,8 @@ opens n words = record {
 
 -- ---- a seat that is dealt out
 
-pub dealt_one : (v u : View) (n : ℕ) (rest : List Hand) → v ≡ keeper_with [] (hand n [] ∷ rest) → u ≡ dealt v → (u ≡ seated (hand_of u.hands ∷ [])) × (n ≡ (hand_of u.hands).number) × (hand_of u.hands ≡ hand n [])
+pub dealt_one : (v u : View) (n : ℕ) (rest : List Hand) → v ≡ keeper_with [] (hand n [] ∷ rest) → u ≡ dealt v
+    → (u ≡ seated (hand_of u.hands ∷ [])) × (n ≡ (hand_of u.hands).number) × (hand_of u.hands ≡ hand n [])
 dealt_one v u n rest e e' =
     let is : u ≡ seated (hand n [] ∷ []) = e' ∙ ap dealt e in
     let h : hand_of u.hands ≡ hand n [] = ap (λ x. hand_of x.hands) is in
@@ -146,7 +162,8 @@ dealt_rest v n rest e = ap kept_back e
 
 -- ---- a turn, in which one seat is with the keeper
 
-pub keeper_with_one : (taken kept : List View) (v u mine joined : View) (es : List Entry) (h : Hand) → taken ≡ kept → kept ≡ keeper_with es [] ∷ [] → taken ≡ v ∷ []
+pub keeper_with_one : (taken kept : List View) (v u mine joined : View) (es : List Entry) (h : Hand) → taken ≡ kept → kept ≡ keeper_with es [] ∷ []
+    → taken ≡ v ∷ []
     → u ≡ seated (h ∷ []) → mine ≡ dealt u → joined ≡ taken_in v mine → joined ≡ keeper_with es (h ∷ [])
 keeper_with_one taken kept v u mine joined es h same is alone seat cut together =
     let all : v ≡ keeper_with es [] = cc in

@@ -5,6 +5,7 @@ use Rattle.jm_shared.specs.declared.entry.Receipt.{Receipt}
 use Rattle.jm_shared.specs.declared.rule.Hand.{Hand}
 use Rattle.jm_shared.specs.declared.rule.View.{View}
 use Rattle.jm_shared.specs.declared.rule.Repeated.{Repeated}
+use Rattle.atomic_table.specs.Table.{Me}
 use Rattle.jm_forward.specs.Hands.{weigh, one_at}
 use Rattle.jm_shared.specs.Legal.{receipt_of}
 
@@ -38,6 +39,14 @@ keeper_with entries hands = record { keeps = true; entries = entries; hands = ha
 abbrev pub hand_of : List Hand → Hand
 hand_of [] = hand 0 []
 hand_of (h ∷ hs) = h
+
+-- the hand of a seat's token
+abbrev pub its_hand : Me (List Repeated) View → Hand
+its_hand me = hand_of me.0.hands
+
+-- the token has that hand, and no slot of the table
+abbrev pub IsToken : Me (List Repeated) View → Type 0
+IsToken me = (me.0 ≡ seated (its_hand me ∷ [])) × (me.1 ≡ [])
 
 -- how often a number is among some seats
 abbrev pub times : ℕ → List Hand → ℕ

@@ -4,6 +4,7 @@ ghost use Rattle.std.specs.Prelude.{◌≡◌, ◌++◌, ◌∷◌, [], length, 
 ghost use Rattle.jm_world.specs.World.{World};
 ghost use Rattle.jm_world.specs.Run.{after, run_from};
 ghost use Rattle.jm_machine.specs.View.{MatchesWorld};
+ghost use Rattle.jm_shared.specs.Book.{IsRunFrom};
 ghost use Rattle.jm_shared.specs.Legal.{IsLegal, world_after, entry_of, events_of, receipt_of, reply_of};
 
 use crate::entry::{Entry, Receipt};
@@ -30,17 +31,14 @@ pub struct Journal<H: Heap, R: Origin> {
 }
 
 impl<H: Heap, R: Origin> Model for Journal<H, R> {
-    ghost use Rattle.jm_machine.specs.View.{MatchesWorld};
-    ghost use Rattle.jm_shared.specs.Book.{Book};
+    ghost use Rattle.jm_shared.specs.Book.{Book, book, IsRunFrom};
+    ghost use Rattle.jm_shared.specs.Stretches.{Rises, entries_of};
 
     ghost Value = { Book };
 
-    ghost use Rattle.jm_shared.specs.Legal.{IsLegal, world_after};
-    ghost use Rattle.jm_shared.specs.Stretches.{Rises, entries_of};
+    ghost view = { λ j. book j.machine (entries_of j.stretches.items j.last) };
 
-    ghost view = { λ j. record { machine = j.machine; entries = entries_of j.stretches.items j.last } };
-
-    ghost invariant = { λ j. Rises j.stretches.items j.last × IsLegal R.first (entries_of j.stretches.items j.last) × MatchesWorld j.machine (world_after R.first (entries_of j.stretches.items j.last)) };
+    ghost invariant = { λ j. Rises j.stretches.items j.last × IsRunFrom R.first (book j.machine (entries_of j.stretches.items j.last)) };
 }
 
 impl<H: Heap, R: Origin> Journal<H, R> {
@@ -122,7 +120,7 @@ impl<H: Heap, R: Origin> Journal<H, R> {
     ) -> Result<Vec<Reply>, Interrupted>
         requires { MatchesWorld machine.old R.first }
         ensures replies { IfOk result (λ replies. replies.items ≡ map reply_of self.now.entries) }
-        ensures world { OnOk result (MatchesWorld machine.new (world_after R.first self.now.entries) × MatchesWorld self.now.machine (world_after R.first self.now.entries)) }
+        ensures world { OnOk result (IsRunFrom R.first self.now × MatchesWorld machine.new (world_after R.first self.now.entries)) }
         ensures output { OnOk result (machine.new.state.output ≡ self.now.machine.state.output) }
         ensures interrupted { IfErr result (λ fault. MatchesWorld machine.new (run_from R.first (take fault.made (events_of self.now.entries)))) }
     {
@@ -135,7 +133,7 @@ impl<H: Heap, R: Origin> Journal<H, R> {
 
     /// What holds of every journal, for contracts alone.
     pub(crate) fn shows(&self)
-        ensures { IsLegal R.first self.now.entries × MatchesWorld self.now.machine (world_after R.first self.now.entries) }
+        ensures { IsRunFrom R.first self.now }
     {
         let _kept = &self.machine;
     }

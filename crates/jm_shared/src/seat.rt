@@ -16,15 +16,15 @@ pub struct Seat<S: Sharing> {
 }
 
 impl<S: Sharing> Model for Seat<S> {
-    ghost use Rattle.std.specs.Prelude.{◌≡◌, ◌<◌, [], ◌∷◌};
+    ghost use Rattle.std.specs.Prelude.{◌≡◌, ◌<◌};
     ghost use Rattle.jm_shared.specs.declared.rule.Hand.{Hand};
-    ghost use Rattle.jm_shared.specs.Seats.{hand_of, seated};
+    ghost use Rattle.jm_shared.specs.Seats.{IsToken, its_hand};
 
     ghost Value = { Hand };
 
-    ghost view = { λ s. hand_of s.token.me.0.hands };
+    ghost view = { λ s. its_hand s.token.me };
 
-    ghost invariant = { λ s. (s.token.table_id ≡ S.table) × (s.token.me.1 ≡ []) × (s.token.me.0 ≡ seated (hand_of s.token.me.0.hands ∷ [])) × (s.number ≡ (hand_of s.token.me.0.hands).number) × (s.number < S.seats) };
+    ghost invariant = { λ s. (s.token.table_id ≡ S.table) × IsToken s.token.me × (s.number ≡ (its_hand s.token.me).number) × (s.number < S.seats) };
 }
 
 impl<S: Sharing> Seat<S> {

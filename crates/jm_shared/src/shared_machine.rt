@@ -3,7 +3,8 @@
 ghost use Rattle.std.specs.Prelude.{◌≡◌, ◌<◌, ◌++◌, ◌∷◌, [], length, IfErr, IfOk, MatchResult, OnErr, OnOk};
 ghost use Rattle.std.specs.List.{All};
 ghost use Rattle.jm_machine.specs.View.{MatchesWorld};
-ghost use Rattle.jm_shared.specs.Legal.{IsLegal, world_after, entry_of, receipt_of};
+ghost use Rattle.jm_shared.specs.Book.{IsRunFrom};
+ghost use Rattle.jm_shared.specs.Legal.{entry_of, receipt_of};
 ghost use Rattle.jm_shared.specs.Seats.{AreAll, LacksOne, fresh_hands, hand, of_seat};
 
 use crate::entry::Receipt;
@@ -45,7 +46,8 @@ impl<H: Heap, S: Sharing> LockedJournal<H, S> {
         seat: &mut Seat<S>,
         event: Event,
     ) -> Result<Receipt, OutOfMemory>
-        ensures entries { MatchResult result (λ receipt. self.new.entries ≡ self.old.entries ++ entry_of seat.old.number event receipt.reply ∷ []) (λ _. self.new.entries ≡ self.old.entries) }
+        ensures entries { IfOk result (λ receipt. self.new.entries ≡ self.old.entries ++ entry_of seat.old.number event receipt.reply ∷ []) }
+        ensures err { OnErr result (self.new.entries ≡ self.old.entries) }
         ensures receipt { IfOk result (λ receipt. receipt ≡ receipt_of (length self.old.entries) (entry_of seat.old.number event receipt.reply)) }
         ensures above { IfOk result (λ receipt. All (λ earlier. earlier.number < receipt.number) seat.old.receipts) }
         ensures seat { MatchResult result (λ receipt. seat.new ≡ hand seat.old.number (seat.old.receipts ++ receipt ∷ [])) (λ _. seat.new ≡ seat.old) }
@@ -122,7 +124,7 @@ impl<H: Heap, S: Sharing> SharedMachine<H, S> {
         ensures lists { IfOk result (λ journal. All (λ seat. seat.receipts ≡ of_seat seat.number 0 journal.entries) seats.items) }
         ensures all { OnOk result (AreAll S.seats seats.items) }
         ensures known { IfOk result (λ journal. All (λ entry. entry.seat < S.seats) journal.entries) }
-        ensures legal { IfOk result (λ journal. IsLegal S.first journal.entries × MatchesWorld journal.machine (world_after S.first journal.entries)) }
+        ensures legal { IfOk result (IsRunFrom S.first) }
         ensures missing { IfErr result (λ fault. LacksOne S.seats seats.items × (fault.machine ≡ self) × (fault.seats.items ≡ seats.items)) }
     {
         if seats.len() < usize::from(self.seats) {

@@ -16,7 +16,7 @@ invariant_of-push_reserved g c =
     let low : n < c.args.opened.seats = omega (arith, c.loop-number-test.true) in
     let is = i.view ∙ ap (keeper_with []) (fresh_next n c.args.opened.seats low) in
     let one = dealt_one _ c.split_seat-token.result.me.0 n _ is (ap (λ m. m.0) s.4) in
-    (s.3 ∙ i.table, ap (λ m. m.1) s.4, one.0, one.1, omega (arith, low, c.requires.1))
+    (s.3 ∙ i.table, (one.0, ap (λ m. m.1) s.4), one.1, omega (arith, low, c.requires.1))
 
 pub loop-number-preserved : goal.loop-number-preserved
 loop-number-preserved g c =

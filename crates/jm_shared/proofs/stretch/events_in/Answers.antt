@@ -9,10 +9,12 @@ loop-stretch-init c = let begins = events_begin _ _ _ c.new-events.ensures.items
 pub loop-stretch-preserved : goal.loop-stretch-preserved
 loop-stretch-preserved c =
     let i = c.loop-stretch.invariant in
-    let more = next_stretch _ _ _ _ _ _ _ _ c.loop-stretch-test.true (omega (arith, c.loop-stretch.events.ok.0)) i.rises i.events (rw c.event.ensures at c.in_ok-resize.ensures.items) in
+    let more = next_stretch _ _ _ _ _ _ _ _ c.loop-stretch-test.true (omega (arith, c.loop-stretch.events.ok.0)) i.rises i.events
+    (rw c.event.ensures at c.in_ok-resize.ensures.items) in
     record { rises = more.0; events = more.1 }
 
 pub returns : goal.returns
 returns c =
     let i = c.loop-stretch.invariant in
-    last_stretch _ _ _ _ _ _ _ c.loop-stretch-test.false (omega (arith, c.loop-stretch.events.ok.0)) i.rises i.events (rw c.event-2.ensures at c.in_ok-resize-2.ensures.items)
+    last_stretch _ _ _ _ _ _ _ c.loop-stretch-test.false (omega (arith, c.loop-stretch.events.ok.0)) i.rises i.events
+    (rw c.event-2.ensures at c.in_ok-resize-2.ensures.items)

@@ -16,11 +16,13 @@ pub returns-clause-world : goal.returns-clause-world
 returns-clause-world g c =
     let first = g.R.Origin.first in
     let same = c.deref.ensures.value ∙ c.in-Ok.ensures in
-    on_ok _ _ _ c.run.result (c.run.ensures.run first c.requires) (λ replies made. (subst (λ es. MatchesWorld c.run.new.self (run_from first es)) same made.0, c.shows.ensures.1))
+    on_ok _ _ _ c.run.result (c.run.ensures.run first c.requires)
+    (λ replies made. (c.shows.ensures, subst (λ es. MatchesWorld c.run.new.self (run_from first es)) same made.0))
 
 pub returns-clause-output : goal.returns-clause-output
 returns-clause-output g c =
     let first = g.R.Origin.first in
     let same = c.deref.ensures.value ∙ c.in-Ok.ensures in
     on_ok _ _ _ c.run.result (c.run.ensures.run first c.requires)
-    (λ replies made. same_output _ _ (world_after first c.args.self.now.entries) (subst (λ es. MatchesWorld c.run.new.self (run_from first es)) same made.0) c.shows.ensures.1)
+    (λ replies made. same_output _ _ (world_after first c.args.self.now.entries)
+    (subst (λ es. MatchesWorld c.run.new.self (run_from first es)) same made.0) c.shows.ensures.1)

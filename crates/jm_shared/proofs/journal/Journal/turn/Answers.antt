@@ -8,14 +8,14 @@ use Rattle.jm_shared.proofs.journal.Journal.turn.Goals as goal
 
 pub invariant_of-self-2 : goal.invariant_of-self-2
 invariant_of-self-2 g c =
-    let (rises, legal, matches) = c.self.invariant in
+    let (legal, matches) = c.self.invariant.1 in
     let last = c.self.inside.last in
     let entries = entries_of c.self.inside.stretches.items last in
     let entry = entry_of c.args.seat c.args.event c.in_ok-reply.reply in
     let made = c.in_ok-reply.ensures.next (world_after g.R.Origin.first entries) matches in
     let kept = ap (λ ss. entries_of ss last) c.in_ok-reserve.ensures.items in
     let whole = turned g.R.Origin.first entries _ _ entry c.step_at.new.self legal made.0 made.1 (rw c.of.ensures.0 at c.add.ensures.entries) kept in
-    (c.add.ensures.rises, whole.0, whole.1)
+    (c.add.ensures.rises, whole)
 
 pub returns-clause-receipt : goal.returns-clause-receipt
 returns-clause-receipt g c =

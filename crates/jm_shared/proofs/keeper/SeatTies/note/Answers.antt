@@ -7,7 +7,7 @@ use Rattle.jm_shared.specs.declared.entry.Entry.{Entry}
 use Rattle.jm_shared.specs.declared.entry.Receipt.{Receipt}
 use Rattle.jm_shared.specs.declared.rule.Hand.{Hand}
 use Rattle.jm_shared.specs.declared.rule.View.{View}
-use Rattle.jm_shared.specs.Seats.{hand_of, keeper_with, times}
+use Rattle.jm_shared.specs.Seats.{its_hand, times}
 use Rattle.jm_shared.proofs.SeatLists.{times_alone}
 use Rattle.jm_shared.proofs.SeatSteps.{splits, joins, notes, keeper_with_one, found_low}
 use Rattle.jm_shared.proofs.keeper.SeatTies.note.Goals as goal
@@ -30,8 +30,8 @@ pub compare_exchange_with-requires : goal.compare_exchange_with-requires
 compare_exchange_with-requires g c =
     let named = c.args.self.now.named in
     let entry = c.args.entry in
-    let h = hand_of c.seat.inside.token.me.0.hands in
-    let joined = keeper_with_one _ _ _ _ _ _ _ h (ap (λ b. b.views) c.replace.ensures.value) c.keeper.invariant.1 c.into_seat-all.ensures.2 c.seat.invariant.2
+    let h = its_hand c.seat.inside.token.me in
+    let joined = keeper_with_one _ _ _ _ _ _ _ h (ap (λ b. b.views) c.replace.ensures.value) c.keeper.invariant.1 c.into_seat-all.ensures.2 c.seat.invariant.1.0
     (ap (λ m. m.0) c.split_seat-mine.ensures.4) (ap (λ m. m.0) c.join_seat.ensures.2) in
     let number = c.requires ∙ ap (λ h. h.number) (sym c.seat.view_is) in (
       c.join_seat.ensures.0 ∙ c.into_seat-all.ensures.0 ∙ ap (λ b. b.table_id) c.replace.ensures.value ∙ c.keeper.invariant.0 ∙ sym named.0,
@@ -42,13 +42,17 @@ compare_exchange_with-requires g c =
     )
 
 pub split_seat-requires : goal.split_seat-requires
-split_seat-requires g c =
-    (c.compare_exchange_with.ensures.0 ∙ c.join_seat.ensures.0 ∙ c.into_seat-all.ensures.0 ∙ ap (λ b. b.table_id) c.replace.ensures.value ∙ c.keeper.invariant.0 ∙ sym c.args.self.now.named.0, c.args.self.now.named.1, splits _ _)
+split_seat-requires g c = (
+  c.compare_exchange_with.ensures.0 ∙ c.join_seat.ensures.0 ∙ c.into_seat-all.ensures.0 ∙ ap (λ b. b.table_id) c.replace.ensures.value
+      ∙ c.keeper.invariant.0 ∙ sym c.args.self.now.named.0,
+  c.args.self.now.named.1,
+  splits _ _,
+)
 
 pub returns-clause-above : goal.returns-clause-above
 returns-clause-above g c =
-    let h = hand_of c.seat.inside.token.me.0.hands in
-    let joined = keeper_with_one _ _ _ _ _ _ _ h (ap (λ b. b.views) c.replace.ensures.value) c.keeper.invariant.1 c.into_seat-all.ensures.2 c.seat.invariant.2
+    let h = its_hand c.seat.inside.token.me in
+    let joined = keeper_with_one _ _ _ _ _ _ _ h (ap (λ b. b.views) c.replace.ensures.value) c.keeper.invariant.1 c.into_seat-all.ensures.2 c.seat.invariant.1.0
     (ap (λ m. m.0) c.split_seat-mine.ensures.4) (ap (λ m. m.0) c.join_seat.ensures.2) in
     let low = found_low _ _ h joined c.compare_exchange_with.ensures.2.2 in
     subst (λ (x : Hand). All (λ (r : Receipt). r.number < length c.args.keeper.now) x.receipts) c.seat.view_is

@@ -9,4 +9,5 @@ returns-then-len-from-clause-missing g c =
 
 pub returns-clause-all : goal.returns-clause-all
 returns-clause-all g c =
-    enough _ _ c.compare.ensures.within c.compare.ensures.apart (omega (arith, c.if-len-from.false, c.len.ensures, c.from.ensures, c.args.seats.ok.0, c.args.self.many))
+    enough _ _ c.compare.ensures.within c.compare.ensures.apart
+    (omega (arith, c.if-len-from.false, c.len.ensures, c.from.ensures, c.args.seats.ok.0, c.args.self.many))
