@@ -3,7 +3,7 @@ use Rattle.std.proofs.Common.{◌≡◌, ◌≢◌, ◌⊎◌, ℕ, zero, suc, �
 use Rattle.std.specs.Prelude.{slice_get, nat_eq}
 use Rattle.std.proofs.lemmas.Bool.{cases_lt}
 use Rattle.std.proofs.lemmas.Bool.Decides.{eqb_tells}
-use Rattle.std.proofs.lemmas.Option.{slice_get_within, slice_get_read}
+use Rattle.std.proofs.lemmas.Option.{slice_get_within, slice_get_read, get_or_from_slice_get}
 use Rattle.jm_blocks.specs.Objects.{Object}
 use Rattle.jm_blocks.specs.Places.{place_at, lane_of, block_of, index_of}
 use Rattle.jm_blocks.specs.Stores.{Blocks, objects_in, object_of_list, HasObject, IsEmpty, IsFirst, IsAfter, IsLast, IsDense, all_sizes}
@@ -110,3 +110,19 @@ none_after s p b k cur here f g h r end last q there = by (cases_lt p q)
         let that = lies_in s q there.0 there.1 in
         let within = slice_get_within s.lists (block_of q) that.block that.block_is in
         absurd (omega (arith, later, within, last))
+
+-- the last one of the last block
+pub last_there : (s : Blocks) (b k : ℕ) (cur : List Object) → s.lane < 64 → length s.lists ≡ b + 1 → cur ≡ get_or s.lists b cur → length cur ≡ k + 1 → length cur ≤ 256 → HasObject s (place_at s.lane b k) × IsLast s (place_at s.lane b k)
+last_there s b k cur lane last r end few =
+    let found : slice_get s.lists b ≡ Some cur = slice_get_read s.lists (length s.lists) b cur refl (omega (arith, last)) r in
+    let small : k < 256 = omega (arith, end, few) in
+    let there = has_at s b k cur lane small found (omega (arith, end)) in
+    (there, none_after s (place_at s.lane b k) b k cur there (sym (block_put s.lane b k lane small)) (sym (index_put s.lane b k small)) (omega (arith, last)) r (omega (arith, end)) (omega (arith, last)))
+
+-- a block that was read has an object
+pub read_some : (bs : List (List Object)) (b : ℕ) (cur : List Object) → IsDense (all_sizes bs) → b < length bs → cur ≡ get_or bs b cur → 0 < length cur
+read_some bs b cur d h r =
+    let block = block_at bs b d h in
+    let same = r ∙ get_or_from_slice_get bs b block.0 cur block.1 in
+    let many = ap length same in
+    omega (arith, many, block.2)

@@ -1,6 +1,6 @@
 // A block of cells.
 
-ghost use Rattle.std.specs.Prelude.{◌≡◌, ◌+◌, ◌<◌, ◌≤◌, ◌^◌, ◌++◌, ◌∷◌, [], Some, None, MatchOption, OnOk, OnErr, IsTrue, true};
+ghost use Rattle.std.specs.Prelude.{◌≡◌, ◌+◌, ◌<◌, ◌≤◌, ◌^◌, ◌++◌, ◌∷◌, [], Some, None, MatchOption, IfSome, OnOk, OnErr, IsTrue, true};
 ghost use Rattle.std.specs.Prelude.{take, drop, length, slice_get, slice_set, replicate};
 ghost use Rattle.jm_heap.specs.Cells.{class_size};
 ghost use Rattle.jm_blocks.specs.Objects.{Object, object_of, with_value};
@@ -118,10 +118,11 @@ impl Block {
         self.cells + cells <= CELLS
     }
 
-    /// The object of this number: its header and its values.
+    /// The object of this number: its header and its values, which are fewer than 2^32.
     #[inline]
     pub fn object(&self, index: usize) -> Option<(Header, &[Value])>
-        ensures { MatchOption result (slice_get self.now index ≡ None) (λ o. slice_get self.now index ≡ Some (object_of o.0 o.1.now)) }
+        ensures short { IfSome result (λ o. length o.1.now < 2 ^ 32) }
+        ensures value { MatchOption result (slice_get self.now index ≡ None) (λ o. slice_get self.now index ≡ Some (object_of o.0 o.1.now)) }
     {
         if index >= self.entries.len() {
             return None;

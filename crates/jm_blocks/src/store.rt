@@ -1,6 +1,6 @@
 // Blocks under numbers.
 
-ghost use Rattle.std.specs.Prelude.{◌≡◌, ℕ, ◌+◌, ◌*◌, ◌<◌, ◌≤◌, ◌^◌, Some, None, MatchOption, IfOk, OnOk, OnErr, length, slice_get, replicate, [], ◌∷◌};
+ghost use Rattle.std.specs.Prelude.{◌≡◌, ℕ, ◌+◌, ◌*◌, ◌<◌, ◌≤◌, ◌^◌, Some, None, MatchOption, IfSome, IfOk, OnOk, OnErr, length, slice_get, replicate, [], ◌∷◌};
 ghost use Rattle.jm_blocks.specs.Objects.{Object, object_of};
 ghost use Rattle.jm_blocks.specs.Cells.{object_cells};
 ghost use Rattle.jm_blocks.specs.Places.{place_at, lane_of};
@@ -61,6 +61,7 @@ impl BlockStore {
     #[inline]
     pub fn len(&self) -> usize
         ensures value { result ≡ length self.now.lists }
+        ensures numbered { result ≤ 2 ^ 49 }
         ensures few { 257 * result ≤ 2 * store_cells self.now.lists + 257 }
     {
         self.blocks.len()
@@ -75,10 +76,11 @@ impl BlockStore {
         &self.blocks[number]
     }
 
-    /// The object at a place: its header and its values.
+    /// The object at a place: its header and its values, which are fewer than 2^32.
     #[inline]
     pub fn object(&self, place: Place) -> Option<(Header, &[Value])>
-        ensures { MatchOption result (objects_in self.now place ≡ None) (λ o. objects_in self.now place ≡ Some (object_of o.0 o.1.now)) }
+        ensures short { IfSome result (λ o. length o.1.now < 2 ^ 32) }
+        ensures value { MatchOption result (objects_in self.now place ≡ None) (λ o. objects_in self.now place ≡ Some (object_of o.0 o.1.now)) }
     {
         let position = Position::of(place);
         if position.lane != self.lane {
@@ -234,6 +236,19 @@ impl BlockStore {
             return None;
         }
         Some(self.place_in(0, 0))
+    }
+
+    /// The place of the last object.
+    pub fn last(&self) -> Option<Place>
+        ensures { MatchOption result (IsEmpty self.now) (λ p. HasObject self.now p × IsLast self.now p) }
+    {
+        let count = self.blocks.len();
+        if count == 0 {
+            return None;
+        }
+        let block = &self.blocks[count - 1];
+        let objects = block.len();
+        Some(self.place_in(count - 1, objects - 1))
     }
 
     /// The place of the first object above the one at a place.

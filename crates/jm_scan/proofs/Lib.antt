@@ -1,0 +1,3 @@
+pub mod Listed
+pub mod Steps
+pub mod Images

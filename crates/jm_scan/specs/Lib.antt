@@ -1,0 +1,2 @@
+pub mod Image
+pub mod Copying
