@@ -91,3 +91,14 @@ module _ {old : ℕ → Option Object} {roots : List ℕ} where
           let from = holder q p g in
           let n = reached_all q from.0 h from.1 in
           value_moved q p n.0 o n.1 e g
+
+-- an image speaks of what is at each place alone
+pub image_same : {old : ℕ → Option Object} {roots new_roots : List ℕ} {m : ℕ → Option ℕ} (new new' : ℕ → Option Object) → IsImage old roots new new_roots m → ((n : ℕ) → new n ≡ new' n) → IsImage old roots new' new_roots m
+image_same new new' i same = record {
+  reached = i.reached;
+  all = i.all;
+  apart = i.apart;
+  onto = λ n a e. i.onto n a (same n ∙ e);
+  copied = λ p n e. let has = i.copied p n e in (has.0, has.1, sym (same n) ∙ has.2);
+  moved_roots = i.moved_roots;
+}

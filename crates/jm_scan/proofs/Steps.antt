@@ -1,17 +1,17 @@
 -- What each step of a copier keeps.
-use Rattle.std.proofs.Common.{◌≡◌, ◌≢◌, ◌⊎◌, ℕ, zero, suc, ◌+◌, ◌<◌, ◌≤◌, List, Option, Some, None, true, false, cond, refl, sym, ap, ◌∙◌, subst, inl, inr, length, arith}
+use Rattle.std.proofs.Common.{◌≡◌, ◌≢◌, ◌⊎◌, ℕ, zero, suc, ◌+◌, ◌<◌, ◌≤◌, List, [], ◌∷◌, ◌++◌, Option, Some, None, true, false, cond, refl, sym, ap, ◌∙◌, subst, inl, inr, length, arith}
 use Rattle.std.specs.Prelude.{slice_get, slice_set, nat_eq, MatchOption, option_map}
 use Rattle.std.proofs.lemmas.Bool.Decides.{eqb_tells}
 use Rattle.std.proofs.lemmas.Bool.{lt-ltb, le-ltb}
 use Rattle.std.proofs.lemmas.Option.{slice_get_within}
-use Rattle.std.proofs.lemmas.List.{length-set}
+use Rattle.std.proofs.lemmas.List.{length-set, length-append}
 use Rattle.jm_values.specs.Objects.{refs_of}
 use Rattle.jm_values.specs.Shape.{Among}
 use Rattle.jm_values.specs.Reach.{Reach, root, field}
 use Rattle.jm_values.specs.declared.value.Value.{Value}
 use Rattle.jm_values.specs.declared.value.Value.TheVariants.{Int, Long, Null, Ref}
 use Rattle.jm_blocks.specs.Objects.{Object, with_value}
-use Rattle.jm_blocks.proofs.Placing.{get_set_same, get_set_other}
+use Rattle.jm_blocks.proofs.Placing.{get_set_same, get_set_other, get_end, get_before_end}
 use Rattle.jm_scan.specs.Image.{IsReached, bare, bare_at, older}
 use Rattle.jm_scan.specs.Copying.{Forwarded, ForwardedValue, IsPartly, IsCopy, HasCopy, Copying, Progress, IsAdded, IsReplaced, Gains, IsFurther, AreForwarded, scanned, raw_copy}
 use Rattle.jm_scan.proofs.Listed.{some_at, among_at, ref_at}
@@ -230,3 +230,16 @@ module _ {old : ℕ → Option Object} {roots : List ℕ} where
     onto = λ n a e. let both : None ≡ Some a = sym (g n) ∙ e in cc;
     copied = λ p n e. absurd (h p n e);
   }
+
+-- one root more is forwarded
+pub forwarded_more : (old : ℕ → Option Object) (m m' : ℕ → ℕ → Type 0) (ps qs : List ℕ) (p q : ℕ) → AreForwarded old m ps qs → ((r n : ℕ) → m r n → m' r n) → slice_get ps (length qs) ≡ Some p → Forwarded old m' p q → AreForwarded old m' ps (qs ++ q ∷ [])
+forwarded_more old m m' ps qs p q f g e h = record { many = let more = length-append qs (q ∷ []) in let within = slice_get_within ps (length qs) p e in omega (arith, more, within); each = λ i x y a b. by i x y a b (eqb_tells i (length qs)) }
+  where
+    by : (i x y : ℕ) → slice_get ps i ≡ Some x → slice_get (qs ++ q ∷ []) i ≡ Some y → ((nat_eq i (length qs) ≡ true) × (i ≡ length qs)) ⊎ ((nat_eq i (length qs) ≡ false) × (i ≢ length qs)) → Forwarded old m' x y
+    by i x y a b (inl d) =
+        let from : Some p ≡ Some x = sym e ∙ ap (λ k. slice_get ps k) (sym d.1) ∙ a in
+        let to : Some q ≡ Some y = sym (get_end qs q) ∙ ap (λ k. slice_get (qs ++ q ∷ []) k) (sym d.1) ∙ b in
+        let same_from : p ≡ x = cc in
+        let same_to : q ≡ y = cc in
+        subst (λ k. Forwarded old m' x k) same_to (subst (λ k. Forwarded old m' k q) same_from h)
+    by i x y a b (inr d) = forwarded_grows old m m' x y g (f.each i x y a (sym (get_before_end qs q i d.1) ∙ b))

@@ -1,0 +1,6 @@
+pub mod Condemned
+pub mod Numbers
+pub mod Words
+pub mod Copies
+pub mod Marks
+pub mod Collected

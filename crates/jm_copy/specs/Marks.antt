@@ -1,0 +1,48 @@
+-- How far the scan of the two stores has come.
+use Rattle.std.specs.Prelude.{◌≡◌, ◌≢◌, ◌⊎◌, ℕ, ◌≤◌, Option, Some, None, Bool, true, false, nat_eq, if◌then◌else◌}
+use Rattle.jm_blocks.specs.Places.{lane_of}
+use Rattle.jm_blocks.specs.Stores.{Blocks, HasObject}
+use Rattle.jm_scan.specs.Copying.{Progress}
+use Rattle.jm_copy.specs.Copies.{is_above, IsMark}
+use Rattle.jm_copy.specs.declared.copies.Copies.{Copies}
+use Rattle.jm_copy.specs.declared.scan.Marks.{Marks}
+
+-- whether a place is not scanned yet
+abbrev pub is_ahead : ℕ → Marks → ℕ → Bool
+is_ahead lane m n = if nat_eq (lane_of n) lane then is_above m.young n else is_above m.tenured n
+
+-- all values of what is marked are forwarded, and none of what is ahead
+unfoldable pub progress : ℕ → Marks → Progress
+progress lane m n count = if is_ahead lane m n then 0 else count
+
+-- of the object at s the first j values, and of the others as many as before
+unfoldable pub at : Progress → ℕ → ℕ → Progress
+at done s j n count = if nat_eq n s then j else done n count
+
+abbrev pub first_marks : Copies → Marks
+first_marks c = record { young = None; tenured = c.kept }
+
+-- an object is scanned
+abbrev pub passed : ℕ → Marks → ℕ → Marks
+passed lane m s = if nat_eq (lane_of s) lane then record { young = Some s; tenured = m.tenured } else record { young = m.young; tenured = Some s }
+
+-- the marks are places of objects, and the old one is not below the kept
+pub record AreMarks (c : Copies) (m : Marks) : Type 0 where
+  pub young : IsMark c.young m.young
+  pub tenured : IsMark c.tenured m.tenured
+  pub past : (n : ℕ) → is_above m.tenured n ≡ true → is_above c.kept n ≡ true
+
+-- nothing of a store is ahead, or this object is the first of it
+abbrev pub IsPassed : Blocks → Option ℕ → Type 0
+IsPassed s mark = (q : ℕ) → HasObject s q → is_above mark q ≡ false
+
+pub record IsNextOf (s : Blocks) (mark : Option ℕ) (p : ℕ) : Type 0 where
+  pub there : HasObject s p
+  pub above : is_above mark p ≡ true
+  pub least : (q : ℕ) → HasObject s q → is_above mark q ≡ true → p ≤ q
+
+abbrev pub AllPassed : Copies → Marks → Type 0
+AllPassed c m = IsPassed c.young m.young × IsPassed c.tenured m.tenured
+
+abbrev pub IsNext : Copies → Marks → ℕ → Type 0
+IsNext c m p = (lane_of p ≡ c.young.lane × IsNextOf c.young m.young p) ⊎ ((lane_of p ≢ c.young.lane) × IsNextOf c.tenured m.tenured p)

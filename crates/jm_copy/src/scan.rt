@@ -1,0 +1,100 @@
+// The scan over the two stores that are filled.
+
+ghost use Rattle.std.specs.Prelude.{◌≡◌, ◌≢◌, ◌<◌, ◌^◌, ℕ, Some, MatchOption, OnOk, length};
+ghost use Rattle.jm_blocks.specs.Objects.{Object};
+ghost use Rattle.jm_scan.specs.Copying.{IsScanned, Progress};
+ghost use Rattle.jm_copy.specs.Copies.{Extends, HasMade, IsCopying, IsMark, IsSource, made};
+ghost use Rattle.jm_copy.specs.Marks.{at, passed, progress, first_marks, AllPassed, AreMarks, IsNext, IsNextOf, IsPassed};
+
+use crate::copies::Copies;
+use crate::forward::forward_value;
+use crate::source::Source;
+use jm_blocks::{BlockStore, Position};
+use jm_values::Place;
+use std::alloc::{AllocError, Global};
+
+/// In each of the two stores the last object that was scanned, or one before all that are to be.
+#[derive(Clone, Copy)]
+pub struct Marks {
+    pub young: Option<Place>,
+    pub tenured: Option<Place>,
+}
+
+// The first object of a store after the mark.
+fn next_of(store: &BlockStore, mark: Option<Place>) -> Option<Place>
+    requires { IsMark store.now mark }
+    ensures { MatchOption result (IsPassed store.now mark) (λ p. IsNextOf store.now mark p) }
+{
+    match mark {
+        None => store.first(),
+        Some(place) => store.after(place),
+    }
+}
+
+// A new object that is not scanned, and before which all of its store are.
+fn next(to: &Copies, marks: &Marks) -> Option<Place>
+    requires marks { AreMarks to.now marks.now }
+    requires apart { to.now.tenured.lane ≢ to.now.young.lane }
+    ensures { MatchOption result (AllPassed to.now marks.now) (λ p. IsNext to.now marks.now p) }
+{
+    if let Some(place) = next_of(&to.young, marks.young) {
+        return Some(place);
+    }
+    next_of(&to.tenured, marks.tenured)
+}
+
+// The marks after an object was scanned.
+fn pass(to: &Copies, marks: &Marks, place: Place) -> Marks
+    ensures value { result ≡ passed to.now.young.lane marks.now place }
+    ensures below { place < 2 ^ 63 }
+{
+    let _number = place.number();
+    if Position::of(place).lane == to.young.lane() {
+        return Marks {
+            young: Some(place),
+            tenured: marks.tenured,
+        };
+    }
+    Marks {
+        young: marks.young,
+        tenured: Some(place),
+    }
+}
+
+// Forwards each value of one new object.
+fn scan_object(
+    alloc: Global,
+    from: Source<'_>,
+    to: &mut Copies,
+    place: Place,
+) -> Result<(), AllocError>
+    requires source { IsSource from.stores.now from.numbers.now }
+    requires copying { (done : Progress) × IsCopying from.stores.now from.roots.now to.old (at done place 0) }
+    requires there { HasMade to.old place }
+    ensures copying { OnOk result ((done : Progress) → IsCopying from.entry.stores.now from.entry.roots.now to.old (at done place 0) → (a : Object) × (made to.new place ≡ Some a) × IsCopying from.entry.stores.now from.entry.roots.now to.new (at done place (length a.values))) }
+    ensures extends { Extends from.entry.stores.now to.old to.new }
+{
+    let count = to.count(place);
+    for number in 0..count {
+        forward_value(alloc, from, to, place, number)?;
+    }
+    Ok(())
+}
+
+/// Scans all new objects, also those that the scan itself makes.
+pub fn scan(alloc: Global, from: Source<'_>, to: &mut Copies) -> Result<(), AllocError>
+    requires source { IsSource from.stores.now from.numbers.now }
+    requires copying { IsCopying from.stores.now from.roots.now to.old (progress to.old.young.lane (first_marks to.old)) }
+    ensures copying { OnOk result ((done : Progress) × IsCopying from.entry.stores.now from.entry.roots.now to.new done × IsScanned (made to.new) done) }
+    ensures extends { Extends from.entry.stores.now to.old to.new }
+{
+    let mut marks = Marks {
+        young: None,
+        tenured: to.kept,
+    };
+    while let Some(place) = next(to, &marks) {
+        scan_object(alloc, from, to, place)?;
+        marks = pass(to, &marks, place);
+    }
+    Ok(())
+}
