@@ -1,16 +1,19 @@
 -- Rows of classes as one more is added.
-use Rattle.std.proofs.Common.{◌≡◌, ◌≢◌, ℕ, zero, suc, ◌+◌, ◌-◌, ◌^◌, ◌<◌, ◌≤◌, List, [], ◌∷◌, ◌++◌, Option, Some, None, Bool, true, false, length, nat_eq}
+use Rattle.std.proofs.Common.{◌≡◌, ◌≢◌, ℕ, zero, suc, ◌+◌, ◌-◌, ◌^◌, ◌<◌, ◌≤◌, List, [], ◌∷◌, ◌++◌, Option, Some, None, Bool, nat_lt, true, false, length}
+use Rattle.std.proofs.Common.{nat_eq}
 use Rattle.std.proofs.Common.{get_or, set, take, drop, append-nil, replicate, map, IfSome, refl, sym, ◌∙◌, ap, subst, arith, slice_get, eq-eqb}
 use Rattle.std.proofs.Common.{eqb-true, length-append}
 use Rattle.std.proofs.lemmas.List.{get_or_append_left, take_all}
 use Rattle.std.proofs.Math.ListN.{drop_of_length-le}
-use Rattle.std.proofs.lemmas.Option.{slice_get-get_or}
+use Rattle.std.specs.Prelude.{is_some}
+use Rattle.std.specs.List.{All}
+use Rattle.std.proofs.lemmas.Option.{slice_get-get_or, get_or_from_slice_get}
 use Rattle.std.proofs.Math.Seq.{get_or-append_seam}
 use Rattle.jm_radix.specs.Tables.{Row, TableView, by_column, or_number, row_at, first_of, with_cells, with_row}
 use Rattle.jm_radix.proofs.RowLaws.{by_column_at, with_cells_at}
 use Rattle.jm_tables.specs.declared.inheritance.Declared.{Declared}
-use Rattle.jm_tables.specs.Inheriting.{first_above, inherited}
-use Rattle.jm_tables.specs.Placing.{IsPlaced, ArePlaced, IsRowOf, AreRows}
+use Rattle.jm_tables.specs.Inheriting.{StandsBefore, first_above, inherited}
+use Rattle.jm_tables.specs.Placing.{IsPlaced, HasRow, ArePlaced, IsRowOf, AreRows}
 
 pub placed_push : (places cs rs : List ℕ) (c r : ℕ) → ArePlaced places cs rs → IsPlaced places c r → ArePlaced places (cs ++ c ∷ []) (rs ++ r ∷ [])
 placed_push places [] [] c r a p = (p, tt)
@@ -143,3 +146,36 @@ whole_rows classes places table class n column rows all within l small =
 pub some_weaker : {A : Type 0} → (o : Option A) (P Q : A → Type 0) → ((x : A) → P x → Q x) → IfSome o P → IfSome o Q
 some_weaker None P Q h a = tt
 some_weaker (Some x) P Q h a = h x a
+
+-- a class keeps a row as another one is placed
+pub row_kept : (places : List ℕ) (class row other : ℕ) → class < length places → row < 2 ^ 32 - 1 → HasRow places other → HasRow (set places class row) other
+row_kept places class row other within small h = by (nat_eq other class) refl
+  where
+    by : (t : Bool) → nat_eq other class ≡ t → HasRow (set places class row) other
+    by true e = (row, (ap (slice_get (set places class row)) (eqb-true other class e) ∙ got_set places class row within, small))
+    by false e = let ne : other ≢ class = λ same. let t = eq-eqb other class same in cc in (h.0, (got_set_other places class row other ne ∙ h.1.0, h.1.1))
+
+-- the classes that stand before a place, and the one at it
+pub row_more : (order places new : List ℕ) (i : ℕ) → ((class : ℕ) → StandsBefore order i class → HasRow places class)
+    → ((class : ℕ) → HasRow places class → HasRow new class) → HasRow new (get_or order i 0)
+    → (class : ℕ) → StandsBefore order (i + 1) class → HasRow new class
+row_more order places new i before kept here class s = by (nat_lt s.0 i) refl
+  where
+    by : (t : Bool) → nat_lt s.0 i ≡ t → HasRow new class
+    by true e = let less : s.0 < i = grind (arith, e) in kept class (before class (s.0, less, s.2))
+    by false e =
+        let at : s.0 ≡ i = (let less = s.1 in grind (arith, e, less)) in
+        subst (HasRow new) (ap (λ k. get_or order k 0) (sym at) ∙ get_or_from_slice_get order s.0 class 0 s.2) here
+
+pub row_number : (places : List ℕ) (class : ℕ) → HasRow places class → get_or places class 0 < 2 ^ 32 - 1
+row_number places class h = subst (λ r. r < 2 ^ 32 - 1) (sym (get_or_from_slice_get places class h.0 0 h.1.0)) h.1.1
+
+pub all_rows : (order places cs : List ℕ) (i : ℕ) → ((class : ℕ) → StandsBefore order i class → HasRow places class) → All (StandsBefore order i) cs
+    → All (HasRow places) cs
+all_rows order places cs i h a = λ k d less. h (get_or cs k d) (a k d less)
+
+pub not_none : {A : Type 0} → (o : Option A) → o ≡ None → is_some o ≡ true → false ≡ true
+not_none o e s = sym (ap is_some e) ∙ s
+
+pub same_some : {A : Type 0} → (x y : A) → Some x ≡ Some y → x ≡ y
+same_some x y e = cc

@@ -21,3 +21,6 @@ IsRowOf columns classes table class row =
 
 unfoldable pub AreRows : List Declared → List ℕ → TableView → Type 0
 AreRows classes places table = (class row : ℕ) → IsPlaced places class row → IsRowOf table.columns classes table class row
+
+abbrev pub HasRow : List ℕ → ℕ → Type 0
+HasRow places class = (row : ℕ) × IsPlaced places class row

@@ -1,11 +1,12 @@
 // What each class has of its own and from the classes right above it.
 
-ghost use Rattle.std.specs.Prelude.{◌≡◌, ℕ, List, ◌+◌, ◌-◌, ◌<◌, ◌≤◌, ◌^◌, ◌↔◌, [], IfOk, IfSome, IsTrue, EachIndex, Some, length, map, slice_get, slice_index, slice_index_or};
+ghost use Rattle.std.specs.Prelude.{◌≡◌, ℕ, List, ◌+◌, ◌-◌, ◌<◌, ◌≤◌, ◌^◌, ◌↔◌};
+ghost use Rattle.std.specs.Prelude.{[], IfOk, IfSome, IsSome, true, IsTrue, EachIndex, Some, length, map, slice_get, slice_index, slice_index_or};
 ghost use Rattle.std.specs.List.{All};
 ghost use Rattle.jm_radix.specs.Tables.{IsCellOf, row_at};
 ghost use Rattle.jm_tables.specs.declared.inheritance.Declared.{Declared};
-ghost use Rattle.jm_tables.specs.Inheriting.{inherited};
-ghost use Rattle.jm_tables.specs.Placing.{ArePlaced, AreRows};
+ghost use Rattle.jm_tables.specs.Inheriting.{IsOrder, inherited};
+ghost use Rattle.jm_tables.specs.Placing.{IsPlaced, HasRow, ArePlaced, AreRows};
 
 use jm_radix::{Cell, Table};
 use std::alloc::{AllocError, Global};
@@ -37,16 +38,26 @@ impl Model for Inheritance {
 /// The place of a class that has no row yet.
 const NOT_PLACED: u32 = u32::MAX;
 
+// The row of a class, if it has one.
+fn row_of(places: &[u32], class: u32) -> Option<u32>
+    ensures found { IfSome result (IsPlaced places.now class) }
+    ensures all { HasRow places.now class → IsSome result }
+{
+    let row = *places.get(class as usize)?;
+    if row < NOT_PLACED { Some(row) } else { None }
+}
+
 // The rows of some classes, or none where one of them has no row yet.
 fn rows_of(alloc: Global, places: &[u32], classes: &[u32]) -> Result<Option<Vec<u32>>, AllocError>
-    ensures { IfOk result (λ found. IfSome found (λ rows. ArePlaced places.now classes.now rows.items)) }
+    ensures found { IfOk result (λ found. IfSome found (λ rows. ArePlaced places.now classes.now rows.items)) }
+    ensures all { All (HasRow places.now) classes.now → IfOk result (λ found. IsSome found) }
 {
     let mut rows = Vec::new(alloc);
     for class in classes {
-        match places.get(*class as usize) {
-            Some(row) if *row < NOT_PLACED => rows.push(*row)?,
-            _ => return Ok(None),
-        }
+        let Some(row) = row_of(places, *class) else {
+            return Ok(None);
+        };
+        rows.push(row)?;
     }
     Ok(Some(rows))
 }
@@ -71,6 +82,9 @@ fn add(
     ensures rows { length table.new.rows ≤ length table.old.rows + 1 }
     ensures added { (classes : List Declared) → slice_get classes class ≡ Some declared.now
         → AreRows classes places.old table.old → AreRows classes places.new table.new }
+    ensures all { All (HasRow places.old) declared.now.above.items → IfOk result (λ is_added. is_added ≡ true) }
+    ensures kept { length table.old.rows < 2 ^ 32 - 1 → (other : ℕ) → HasRow places.old other → HasRow places.new other }
+    ensures placed { length table.old.rows < 2 ^ 32 - 1 → IfOk result (λ is_added. is_added ≡ true → HasRow places.new class) }
 {
     let Some(rows) = rows_of(alloc, places, &declared.above)? else {
         return Ok(false);
@@ -85,7 +99,8 @@ fn add(
 
 impl Inheritance {
     /// What the classes have in columns below a number, made in an order in which each class comes
-    /// after those right above it: an order that is not so, or that leaves a class out, gives none.
+    /// after those right above it. Some for every such order; an order that is not so, or that
+    /// leaves a class out, gives none. (JVMS 5.3.5)
     pub fn of(
         alloc: Global,
         columns: u32,
@@ -93,8 +108,9 @@ impl Inheritance {
         order: &[u32],
     ) -> Result<Option<Inheritance>, AllocError>
         requires { All (λ d. All (IsCellOf columns) d.own.items) classes.now }
-        ensures { IfOk result (λ found. IfSome found (λ all. (class column : ℕ) → class < length classes.now → column < columns
+        ensures rows { IfOk result (λ found. IfSome found (λ all. (class column : ℕ) → class < length classes.now → column < columns
             → row_at all class column ≡ inherited (length classes.now) classes.now class column)) }
+        ensures made { IsOrder classes.now order.now → IfOk result (λ found. IsSome found) }
     {
         if order.len() != classes.len() {
             return Ok(None);
@@ -114,8 +130,9 @@ impl Inheritance {
 
     // All of it, if each class has a row.
     fn whole(table: Table, places: Vec<u32>) -> Option<Inheritance>
-        ensures { IfSome result (λ all. EachIndex places.items (λ k. slice_index places.items k < 2 ^ 32 - 1)
+        ensures rows { IfSome result (λ all. EachIndex places.items (λ k. slice_index places.items k < 2 ^ 32 - 1)
             × (all ≡ map (λ place. slice_index_or table.rows place []) places.items)) }
+        ensures made { EachIndex places.items (λ k. slice_index places.items k < 2 ^ 32 - 1) → IsSome result }
     {
         if !are_placed(&places) {
             return None;
