@@ -1,5 +1,7 @@
-// Machines: runs with what is told after each event, the readers, and journals.
+// Machines: runs with what is told after each event, the readers, journals, and workers that share
+// a machine.
 
 mod journals;
 mod readers;
 mod runs;
+mod workers;

@@ -5,6 +5,7 @@ use Rattle.jm_shared.specs.declared.entry.Receipt.{Receipt}
 use Rattle.jm_shared.specs.declared.rule.Hand.{Hand}
 use Rattle.jm_shared.specs.declared.rule.View.{View}
 use Rattle.jm_shared.specs.declared.rule.Repeated.{Repeated}
+use Rattle.atomic_table.specs.Seated.{TableId}
 use Rattle.atomic_table.specs.Table.{Me}
 use Rattle.jm_forward.specs.Hands.{weigh, one_at}
 use Rattle.jm_shared.specs.Legal.{receipt_of}
@@ -51,6 +52,11 @@ IsToken me = (me.0 ≡ seated (its_hand me ∷ [])) × (me.1 ≡ [])
 -- how often a number is among some seats
 abbrev pub times : ℕ → List Hand → ℕ
 times number hands = weigh (λ h. one_at number h.number) hands
+
+-- which table some seats are of, and how many they are
+pub record TableView : Type 0 where
+  pub table : TableId
+  pub seats : ℕ
 
 -- the entries that a keeper knows
 abbrev pub entries_of_views : List View → List Entry

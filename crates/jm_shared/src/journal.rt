@@ -118,11 +118,10 @@ impl<H: Heap, R: Origin> Journal<H, R> {
         alloc: Global,
         machine: &mut Machine<G>,
     ) -> Result<Vec<Reply>, Interrupted>
-        requires { MatchesWorld machine.old R.first }
-        ensures replies { IfOk result (λ replies. replies.items ≡ map reply_of self.now.entries) }
-        ensures world { OnOk result (IsRunFrom R.first self.now × MatchesWorld machine.new (world_after R.first self.now.entries)) }
-        ensures output { OnOk result (machine.new.state.output ≡ self.now.machine.state.output) }
-        ensures interrupted { IfErr result (λ fault. MatchesWorld machine.new (run_from R.first (take fault.made (events_of self.now.entries)))) }
+        ensures replies { MatchesWorld machine.old R.first → IfOk result (λ replies. replies.items ≡ map reply_of self.now.entries) }
+        ensures world { MatchesWorld machine.old R.first → OnOk result (IsRunFrom R.first self.now × MatchesWorld machine.new (world_after R.first self.now.entries)) }
+        ensures output { MatchesWorld machine.old R.first → OnOk result (machine.new.state.output ≡ self.now.machine.state.output) }
+        ensures interrupted { MatchesWorld machine.old R.first → IfErr result (λ fault. MatchesWorld machine.new (run_from R.first (take fault.made (events_of self.now.entries)))) }
     {
         self.shows();
         let Ok(events) = self.events(alloc) else {

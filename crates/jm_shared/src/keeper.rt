@@ -33,14 +33,24 @@ impl<S: Sharing> Model for Keeper<S> {
     ghost invariant = { λ k. (k.token.table_id ≡ S.table) × (k.token.views ≡ keeper_with (entries_of_views k.token.views) [] ∷ []) };
 }
 
-/// The table of so many seats, before it has a name. It is where a shared machine is made.
+/// The table of the seats of a machine that is not shared yet. Contracts see which table it is, and
+/// how many seats it is for. It may be dropped.
+#[derive(Drop)]
 pub struct SeatTable {
     table: Table<Note, View, usize, SeatRule, Global>,
     token: atomic_table::Seat<Note, View>,
-    pub(crate) seats: u8,
-    ghost words: { (0 < table.shared.table_id.words) × (token.table_id ≡ table.shared.table_id) },
-    ghost all: { token.me ≡ (keeper_with [] (fresh_hands 0 seats), []) },
-    ghost many: { (0 < seats) × (seats ≤ 16) },
+    seats: u8,
+}
+
+impl Model for SeatTable {
+    ghost use Rattle.std.specs.Prelude.{◌≡◌, ◌<◌, []};
+    ghost use Rattle.jm_shared.specs.Seats.{TableView, fresh_hands, keeper_with};
+
+    ghost Value = { TableView };
+
+    ghost view = { λ t. record { table = t.table.shared.table_id; seats = t.seats } };
+
+    ghost invariant = { λ t. (0 < t.table.shared.table_id.words) × (t.token.table_id ≡ t.table.shared.table_id) × (t.token.me ≡ (keeper_with [] (fresh_hands 0 t.seats), [])) };
 }
 
 impl SeatTable {
@@ -55,6 +65,13 @@ impl SeatTable {
             token,
             seats,
         })
+    }
+
+    /// How many seats it is for.
+    pub fn seats(&self) -> u8
+        ensures { result ≡ self.now.seats }
+    {
+        self.seats
     }
 }
 
@@ -72,7 +89,7 @@ pub(crate) fn deal_seats<S: Sharing>(
     alloc: Global,
     opened: SeatTable,
 ) -> Result<(SeatTies<S>, Keeper<S>, Vec<Seat<S>>), AllocError>
-    requires { (opened.table.shared.table_id ≡ S.table) × (opened.seats ≡ S.seats) }
+    requires { (opened.table ≡ S.table) × (opened.seats ≡ S.seats) }
     ensures { IfOk result (λ r. (r.1 ≡ []) × (r.2.items ≡ fresh_hands 0 S.seats)) }
 {
     let SeatTable {

@@ -84,11 +84,11 @@ impl<H: Heap + Drop, S: Sharing> SharedMachine<H, S> {
         machine: Machine<H>,
         table: SeatTable,
     ) -> Result<(SharedMachine<H, S>, Vec<Seat<S>>), OutOfMemory>
-        requires table { (table.table.shared.table_id ≡ S.table) × (table.seats ≡ S.seats) }
+        requires table { (table.table ≡ S.table) × (table.seats ≡ S.seats) }
         requires first { MatchesWorld machine S.first }
         ensures { IfOk result (λ shared. shared.1.items ≡ fresh_hands 0 S.seats) }
     {
-        let count = table.seats;
+        let count = table.seats();
         let (ties, keeper, seats) = deal_seats(alloc, table)?;
         let journal = Journal::new(alloc, machine);
         let machine = SharedMachine {

@@ -7,22 +7,22 @@ use Rattle.jm_shared.proofs.Replays.{same_output, if_ok, on_ok}
 use Rattle.jm_shared.proofs.journal.Journal.run_again.Goals as goal
 
 pub returns-clause-replies : goal.returns-clause-replies
-returns-clause-replies g c =
+returns-clause-replies g c begins =
     let first = g.R.Origin.first in
     let same = c.deref.ensures.value ∙ c.in-Ok.ensures in
-    if_ok _ _ _ c.run.result (c.run.ensures.run first c.requires) (λ replies made. made.1 ∙ ap (replies_from first) same ∙ sym c.shows.ensures.0)
+    if_ok _ _ _ c.run.result (c.run.ensures.run first begins) (λ replies made. made.1 ∙ ap (replies_from first) same ∙ sym c.shows.ensures.0)
 
 pub returns-clause-world : goal.returns-clause-world
-returns-clause-world g c =
+returns-clause-world g c begins =
     let first = g.R.Origin.first in
     let same = c.deref.ensures.value ∙ c.in-Ok.ensures in
-    on_ok _ _ _ c.run.result (c.run.ensures.run first c.requires)
+    on_ok _ _ _ c.run.result (c.run.ensures.run first begins)
     (λ replies made. (c.shows.ensures, subst (λ es. MatchesWorld c.run.new.self (run_from first es)) same made.0))
 
 pub returns-clause-output : goal.returns-clause-output
-returns-clause-output g c =
+returns-clause-output g c begins =
     let first = g.R.Origin.first in
     let same = c.deref.ensures.value ∙ c.in-Ok.ensures in
-    on_ok _ _ _ c.run.result (c.run.ensures.run first c.requires)
+    on_ok _ _ _ c.run.result (c.run.ensures.run first begins)
     (λ replies made. same_output _ _ (world_after first c.args.self.now.entries)
     (subst (λ es. MatchesWorld c.run.new.self (run_from first es)) same made.0) c.shows.ensures.1)
