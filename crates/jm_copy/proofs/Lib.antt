@@ -5,3 +5,4 @@ pub mod Keeping
 pub mod Marking
 pub mod Rewinding
 pub mod Whole
+pub mod Pointing

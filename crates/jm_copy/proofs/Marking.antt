@@ -151,7 +151,7 @@ pub left : Option ℕ → ℕ
 left None = 2 ^ 63
 left (Some p) = 2 ^ 63 - 1 - p
 
-less : (mark : Option ℕ) (s : ℕ) → is_above mark s ≡ true → s < 2 ^ 63 → left (Some s) < left mark
+pub less : (mark : Option ℕ) (s : ℕ) → is_above mark s ≡ true → s < 2 ^ 63 → left (Some s) < left mark
 unfolding left
 less None s e h = omega (arith, h)
 less (Some q) s e h = let over = is_over q s e in omega (arith, over, h)

@@ -16,9 +16,10 @@ use Rattle.jm_scan.proofs.Images.{copying_image, image_same}
 use Rattle.jm_copy.specs.Condemned.{objects_at}
 use Rattle.jm_copy.specs.Numbers.{object_count}
 use Rattle.jm_copy.specs.Words.{moved}
-use Rattle.jm_copy.specs.Copies.{is_above, made, made_in, age_at, IsCopying, IsFresh, IsCopiedOut, IsMark, Stays}
+use Rattle.jm_copy.specs.Copies.{is_above, made, made_in, age_at, IsCopying, IsFresh, IsMark, Stays}
 use Rattle.jm_copy.specs.Marks.{progress, first_marks}
-use Rattle.jm_copy.specs.Collected.{fresh, survivors, IsCollected}
+use Rattle.jm_copy.specs.Collected.{fresh, survivors, promoted_in, IsCollected, IsCopiedOut}
+use Rattle.jm_copy.specs.Pointing.{points_to, ListsAbove, ListsPointers}
 use Rattle.jm_copy.specs.declared.copies.Copies.{Copies}
 use Rattle.jm_copy.proofs.Moving.{none_moved, fresh_word}
 use Rattle.jm_copy.proofs.Making.{made_young, made_old, made_above, unequal}
@@ -52,17 +53,18 @@ fresh_copying stores roots c f = record {
 pub first_stays : (stores : List Blocks) (roots : List ℕ) (c d : Copies) → Stays c d → IsCopying stores roots d (progress c.young.lane (first_marks c)) → IsCopying stores roots d (progress d.young.lane (first_marks d))
 first_stays stores roots c d s i = subst (λ k. IsCopying stores roots d (progress d.young.lane (record { young = None; tenured = k }))) (sym s.kept) (subst (λ l. IsCopying stores roots d (progress l (first_marks c))) (sym s.young_lane) i)
 
-pub copied_out : (stores : List Blocks) (roots : List ℕ) (c d : Copies) (new_roots : List ℕ) (done : Progress) → IsCopying stores roots d done → IsScanned (made d) done → AreForwarded (objects_at stores) (Moves (moved stores c.words)) roots new_roots → length new_roots ≡ length roots → ((p n : ℕ) → moved stores c.words p ≡ Some n → moved stores d.words p ≡ Some n) → IsCopiedOut stores roots d new_roots
-copied_out stores roots c d new_roots done i scanned f many known = record {
+pub copied_out : (stores : List Blocks) (roots : List ℕ) (c d : Copies) (new_roots remembered : List ℕ) (done : Progress) → IsCopying stores roots d done → IsScanned (made d) done → AreForwarded (objects_at stores) (Moves (moved stores c.words)) roots new_roots → length new_roots ≡ length roots → ((p n : ℕ) → moved stores c.words p ≡ Some n → moved stores d.words p ≡ Some n) → ListsAbove d.young.lane d.tenured d.kept remembered → IsCopiedOut stores roots d new_roots remembered
+copied_out stores roots c d new_roots remembered done i scanned f many known listed = record {
   moved = moved stores d.words;
   image = copying_image (moved stores d.words) (made d) done new_roots i.copying scanned many (all_grow (objects_at stores) (Moves (moved stores c.words)) (Moves (moved stores d.words)) roots new_roots known f);
   ages = i.ages;
+  pointers = listed;
 }
 
 -- what the collector answers is what it promised
-pub collected : (stores : List Blocks) (roots : List ℕ) (c d : Copies) (new_roots : List ℕ) → IsFresh stores c → c.young.lane ≡ 1 → Stays c d → IsCopiedOut stores roots d new_roots → IsCollected stores c.tenured roots d.young d.tenured new_roots
+pub collected : (stores : List Blocks) (roots : List ℕ) (c d : Copies) (new_roots remembered : List ℕ) → IsFresh stores c → c.young.lane ≡ 1 → Stays c d → IsCopiedOut stores roots d new_roots remembered → IsCollected stores c.tenured roots d.young d.tenured remembered new_roots
 unfolding survivors
-collected stores roots c d new_roots f lane s out = record {
+collected stores roots c d new_roots remembered f lane s out = record {
   moved = out.moved;
   image = image_same (made d) (survivors d.young c.tenured d.tenured) out.image same;
   first_survival = λ n a e. let at = young n a e in out.ages n a (made_young d.young d.tenured d.kept n at ∙ e) ∙ ap (λ b. cond b 1 2) (eq-eqb (lane_of n) d.young.lane at);
@@ -70,6 +72,7 @@ collected stores roots c d new_roots f lane s out = record {
   kept = λ n o e. s.below n (f.last n (o, e)) ∙ e;
   young_lane = s.young_lane ∙ lane;
   tenured_lane = s.old_lane;
+  pointers = record { sound = λ p h. let has = out.pointers.sound p h in (has.0, new p has.0 has.1 has.2 (objects_in c.tenured p) refl, has.3); complete = λ p o e t. let at = was p o (objects_in c.tenured p) refl e in out.pointers.complete p o at.1 (above p o at.0 at.1) t; distinct = out.pointers.distinct };
 }
   where
     young : (n : ℕ) (a : Object) → objects_in d.young n ≡ Some a → lane_of n ≡ d.young.lane
@@ -84,6 +87,14 @@ collected stores roots c d new_roots f lane s out = record {
         by : (b : Bool) → is_above d.kept n ≡ b → is_above d.kept n ≡ true
         by true h = h
         by false h = let both : None ≡ Some a = sym e ∙ sym (s.below n (ap (λ k. is_above k n) (sym s.kept) ∙ h)) ∙ g in cc
+
+    new : (p : ℕ) (o : Object) → objects_in d.tenured p ≡ Some o → is_above d.kept p ≡ true → (x : Option Object) → objects_in c.tenured p ≡ x → promoted_in c.tenured d.tenured p ≡ Some o
+    new p o e h None g = ap (λ x. fresh x (objects_in d.tenured p)) g ∙ e
+    new p o e h (Some a) g = let both : true ≡ false = sym h ∙ ap (λ k. is_above k p) s.kept ∙ f.last p (a, g) in cc
+
+    was : (p : ℕ) (o : Object) (x : Option Object) → objects_in c.tenured p ≡ x → promoted_in c.tenured d.tenured p ≡ Some o → (objects_in c.tenured p ≡ None) × (objects_in d.tenured p ≡ Some o)
+    was p o None g e = (g, sym (ap (λ x. fresh x (objects_in d.tenured p)) g) ∙ e)
+    was p o (Some a) g e = let both : None ≡ Some o = sym (ap (λ x. fresh x (objects_in d.tenured p)) g) ∙ e in cc
 
     old : (n : ℕ) (b : Bool) → is_above d.kept n ≡ b → (x : Option Object) → objects_in c.tenured n ≡ x → cond b (objects_in d.tenured n) None ≡ fresh x (objects_in d.tenured n)
     old n true h None e = refl

@@ -3,7 +3,6 @@ use Rattle.std.specs.Prelude.{◌≡◌, ◌≢◌, ◌⊎◌, ℕ, ◌<◌, ◌
 use Rattle.jm_blocks.specs.Objects.{Object}
 use Rattle.jm_blocks.specs.Places.{lane_of}
 use Rattle.jm_blocks.specs.Stores.{Blocks, objects_in, HasObject, IsEmpty, Bumped}
-use Rattle.jm_scan.specs.Image.{IsImage}
 use Rattle.jm_scan.specs.Copying.{Copying, Progress, Moves}
 use Rattle.jm_copy.specs.Condemned.{AreLanes, objects_at}
 use Rattle.jm_copy.specs.Numbers.{AreNumbers, object_count}
@@ -101,10 +100,3 @@ pub record IsFresh (stores : List Blocks) (c : Copies) : Type 0 where
   pub kept : IsMark c.tenured c.kept
   pub last : (n : ℕ) → HasObject c.tenured n → is_above c.kept n ≡ false
   pub apart : c.tenured.lane ≢ c.young.lane
-
--- after the last one: the new objects are the image of the condemned, and their ages say which store
--- they are in
-pub record IsCopiedOut (stores : List Blocks) (roots : List ℕ) (c : Copies) (new_roots : List ℕ) : Type 0 where
-  pub moved : ℕ → Option ℕ
-  pub image : IsImage (objects_at stores) roots (made c) new_roots moved
-  pub ages : (n : ℕ) (a : Object) → made c n ≡ Some a → a.age ≡ age_at c n

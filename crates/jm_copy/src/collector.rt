@@ -10,11 +10,13 @@ use jm_values::Place;
 use std::alloc::Global;
 
 /// What a collection leaves of the condemned objects and the old store: the survivors that stay young,
-/// and the old store with those that were promoted.
+/// the old store with those that were promoted, and the places of the promoted ones that point to young
+/// ones, each once.
 #[derive(Drop)]
 pub struct Survivors {
     pub young: BlockStore,
     pub tenured: BlockStore,
+    pub remembered: Vec<Place>,
 }
 
 /// What a collection hands back that was refused a growth: the condemned stores, as they were, and
@@ -42,7 +44,7 @@ pub trait Collector {
     ) -> Result<Survivors, Refused>
         requires lanes { AreLanes condemned.items }
         requires apart { tenured.lane ≢ 1 }
-        ensures ok { IfOk result (λ s. IsCollected condemned.items tenured roots.old.items s.young s.tenured roots.new.items) }
+        ensures ok { IfOk result (λ s. IsCollected condemned.items tenured roots.old.items s.young s.tenured s.remembered.items roots.new.items) }
         ensures condemned { IfErr result (λ r. r.condemned.items ≡ condemned.items) }
         ensures tenured { IfErr result (λ r. (p : ℕ) → objects_in r.tenured p ≡ objects_in tenured p) }
         ensures roots { OnErr result (roots.new.items ≡ roots.old.items) };

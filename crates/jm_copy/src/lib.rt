@@ -18,6 +18,7 @@
 mod collector;
 mod copies;
 mod forward;
+mod pointers;
 mod scan;
 mod serial;
 mod source;

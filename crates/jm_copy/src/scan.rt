@@ -20,14 +20,14 @@ pub struct Marks {
     pub tenured: Option<Place>,
 }
 
-// The first object of a store after the mark.
-fn next_of(store: &BlockStore, mark: Option<Place>) -> Option<Place>
-    requires { IsMark store.now mark }
-    ensures { MatchOption result (IsPassed store.now mark) (λ p. IsNextOf store.now mark p) }
+/// The first object of a store after a mark, which is the place of an object there, or before all.
+pub fn next_of(store: &BlockStore, mark: &Option<Place>) -> Option<Place>
+    requires { IsMark store.now mark.now }
+    ensures { MatchOption result (IsPassed store.now mark.now) (λ p. IsNextOf store.now mark.now p) }
 {
     match mark {
         None => store.first(),
-        Some(place) => store.after(place),
+        Some(place) => store.after(*place),
     }
 }
 
@@ -37,10 +37,10 @@ fn next(to: &Copies, marks: &Marks) -> Option<Place>
     requires apart { to.now.tenured.lane ≢ to.now.young.lane }
     ensures { MatchOption result (AllPassed to.now marks.now) (λ p. IsNext to.now marks.now p) }
 {
-    if let Some(place) = next_of(&to.young, marks.young) {
+    if let Some(place) = next_of(&to.young, &marks.young) {
         return Some(place);
     }
-    next_of(&to.tenured, marks.tenured)
+    next_of(&to.tenured, &marks.tenured)
 }
 
 // The marks after an object was scanned.

@@ -3,13 +3,14 @@
 ghost use Rattle.std.specs.Prelude.{◌≡◌, ◌≢◌, ◌<◌, ◌^◌, ℕ, IfErr, IfOk, IsTrue, None, OnErr, true, false, replicate, length};
 ghost use Rattle.jm_blocks.specs.Stores.{objects_in, HasObject, IsLast};
 ghost use Rattle.jm_copy.specs.Condemned.{AreLanes};
-ghost use Rattle.jm_copy.specs.Collected.{IsCollected};
-ghost use Rattle.jm_copy.specs.Copies.{IsCopiedOut, IsFresh, IsMark, IsSource, Stays, is_above};
+ghost use Rattle.jm_copy.specs.Collected.{IsCollected, IsCopiedOut};
+ghost use Rattle.jm_copy.specs.Copies.{IsFresh, IsMark, IsSource, Stays, is_above};
 ghost use Rattle.jm_copy.specs.Numbers.{AreNumbers, object_count};
 
 use crate::collector::{Collector, Refused, Survivors};
 use crate::copies::Copies;
 use crate::forward::forward_roots;
+use crate::pointers::pointers;
 use crate::scan::scan;
 use crate::source::Source;
 use crate::starts::{Starts, number_all};
@@ -23,6 +24,13 @@ const YOUNG: u64 = 1;
 
 /// Copies what is reached, on the thread that calls it.
 pub struct SerialCollector;
+
+/// The new places of the roots, and of the promoted objects that point to young ones.
+#[derive(Drop)]
+struct Moved {
+    roots: Vec<Place>,
+    remembered: Vec<Place>,
+}
 
 // The numbers of all condemned objects, and a word for each.
 fn prepare(
@@ -38,20 +46,22 @@ fn prepare(
     Ok((numbers, words))
 }
 
-// Copies what is reached, and answers the new roots. What is copied from stays.
+// Copies what is reached, and answers the new roots and the promoted objects that point to young ones. What is
+// copied from stays.
 fn copy_reached(
     alloc: Global,
     from: Source<'_>,
     to: &mut Copies,
-) -> Result<Vec<Place>, AllocError>
+) -> Result<Moved, AllocError>
     requires source { IsSource from.stores.now from.numbers.now }
     requires fresh { IsFresh from.stores.now to.old }
-    ensures ok { IfOk result (λ r. IsCopiedOut from.entry.stores.now from.entry.roots.now to.new r.items) }
+    ensures ok { IfOk result (λ r. IsCopiedOut from.entry.stores.now from.entry.roots.now to.new r.roots.items r.remembered.items) }
     ensures stays { Stays to.old to.new }
 {
     let roots = forward_roots(alloc, from, to)?;
     scan(alloc, from, to)?;
-    Ok(roots)
+    let remembered = pointers(alloc, &to.tenured, &to.kept, to.young.lane())?;
+    Ok(Moved { roots, remembered })
 }
 
 // Whether a place is above a mark.
@@ -91,10 +101,10 @@ fn copy_or_rewind(
     alloc: Global,
     from: Source<'_>,
     to: &mut Copies,
-) -> Result<Vec<Place>, AllocError>
+) -> Result<Moved, AllocError>
     requires source { IsSource from.stores.now from.numbers.now }
     requires fresh { IsFresh from.stores.now to.old }
-    ensures ok { IfOk result (λ r. IsCopiedOut from.entry.stores.now from.entry.roots.now to.new r.items × Stays to.old to.new) }
+    ensures ok { IfOk result (λ r. IsCopiedOut from.entry.stores.now from.entry.roots.now to.new r.roots.items r.remembered.items × Stays to.old to.new) }
     ensures err { OnErr result ((n : ℕ) → objects_in to.new.tenured n ≡ objects_in to.old.tenured n) }
 {
     match copy_reached(alloc, from, to) {
@@ -116,7 +126,7 @@ fn survivors(
 ) -> Result<(Survivors, Vec<Place>), BlockStore>
     requires lanes { AreLanes condemned.now }
     requires apart { tenured.lane ≢ 1 }
-    ensures ok { IfOk result (λ r. IsCollected condemned.now tenured roots.now r.0.young r.0.tenured r.1.items) }
+    ensures ok { IfOk result (λ r. IsCollected condemned.now tenured roots.now r.0.young r.0.tenured r.0.remembered.items r.1.items) }
     ensures err { IfErr result (λ s. (n : ℕ) → objects_in s n ≡ objects_in tenured n) }
 {
     let Ok((numbers, words)) = prepare(alloc, condemned) else {
@@ -140,8 +150,9 @@ fn survivors(
     let survivors = Survivors {
         young: to.young,
         tenured: to.tenured,
+        remembered: moved.remembered,
     };
-    Ok((survivors, moved))
+    Ok((survivors, moved.roots))
 }
 
 impl Collector for SerialCollector {

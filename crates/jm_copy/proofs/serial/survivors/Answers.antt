@@ -11,4 +11,4 @@ returns-clause-ok c =
     let to : Copies = record { words = c.in-Ok.words; young = c.new.result; tenured = c.args.tenured; kept = c.last-kept.result } in
     let fresh = fresh_copies c.args.condemned.now c.in-Ok.words c.new.result c.args.tenured c.last-kept.result c.in-Ok.ensures.words c.new.ensures c.last-kept.ensures c.requires.apart in
     let out = c.in-Ok-copy_or_rewind.ensures.ok in
-    collected c.args.condemned.now c.args.roots.now to c.copy_or_rewind.new.to c.in-Ok-copy_or_rewind.moved.items fresh (ap (λ s. s.lane) c.new.ensures) out.1 out.0
+    collected c.args.condemned.now c.args.roots.now to c.copy_or_rewind.new.to c.in-Ok-copy_or_rewind.moved.roots.items c.in-Ok-copy_or_rewind.moved.remembered.items fresh (ap (λ s. s.lane) c.new.ensures) out.1 out.0
