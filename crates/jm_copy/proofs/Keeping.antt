@@ -1,13 +1,13 @@
 -- What each step of the collector keeps of its invariant.
 use Rattle.std.proofs.Common.{◌≡◌, ◌≢◌, ◌⊎◌, ℕ, zero, suc, ◌+◌, ◌<◌, List, [], ◌∷◌, Option, Some, None, true, false, cond, refl, sym, ap, ◌∙◌, subst, inl, inr, length, arith, eq-eqb}
-use Rattle.std.specs.Prelude.{slice_get, slice_set, slice_index, nat_eq}
+use Rattle.std.specs.Prelude.{slice_get, slice_set, nat_eq}
 use Rattle.std.proofs.lemmas.Bool.Decides.{eqb_tells}
 use Rattle.std.proofs.lemmas.List.{length-set}
 use Rattle.jm_values.specs.declared.value.Value.{Value}
 use Rattle.jm_values.specs.declared.value.Value.TheVariants.{Ref}
 use Rattle.jm_blocks.specs.Objects.{Object, with_value}
 use Rattle.jm_blocks.specs.Places.{lane_of}
-use Rattle.jm_blocks.specs.Stores.{Blocks, objects_in, HasObject}
+use Rattle.jm_blocks.specs.Stores.{Blocks, HasObject}
 use Rattle.jm_scan.specs.Image.{IsReached}
 use Rattle.jm_scan.specs.Copying.{Copying, ForwardedValue, Progress, IsAdded, IsReplaced, IsFurther, Moves, raw_copy}
 use Rattle.jm_scan.proofs.Steps.{copying_added, copying_set, reached_by_scan}

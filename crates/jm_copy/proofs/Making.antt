@@ -4,14 +4,13 @@ use Rattle.std.specs.Prelude.{nat_eq, nat_lt}
 use Rattle.std.proofs.lemmas.Bool.{lt-ltb, le-ltb, cases_lt}
 use Rattle.std.proofs.lemmas.Bool.Decides.{eqb_tells}
 use Rattle.jm_values.specs.declared.value.Value.{Value}
-use Rattle.jm_blocks.specs.Objects.{Object, object_of, with_value}
+use Rattle.jm_blocks.specs.Objects.{Object, object_of}
 use Rattle.jm_blocks.specs.declared.header.Header.{Header}
 use Rattle.jm_nursery.specs.Ages.{survived, survived_at}
 use Rattle.jm_nursery.specs.declared.age.Survival.TheVariants.{Young, Old}
 use Rattle.jm_scan.specs.Image.{older}
 use Rattle.jm_blocks.specs.Places.{lane_of}
 use Rattle.jm_blocks.specs.Stores.{Blocks, objects_in, HasObject, Bumped, Changed}
-use Rattle.jm_blocks.proofs.Placing.{lies_in}
 use Rattle.jm_scan.specs.Copying.{IsAdded, IsReplaced, raw_copy}
 use Rattle.jm_copy.specs.Copies.{is_above, made_in, made, store_of, IsPutIn, IsPutYoung, IsPutOld, IsPut, Stays, Extends, IsMark, IsPast}
 use Rattle.jm_copy.specs.Words.{moved}

@@ -1,17 +1,17 @@
 -- How the marks of the scan go on.
 use Rattle.std.proofs.Common.{◌≡◌, ◌≢◌, ◌⊎◌, ℕ, ◌+◌, ◌-◌, ◌^◌, ◌<◌, ◌≤◌, List, Option, Some, None, Bool, true, false, cond, refl, sym, ap, ◌∙◌, subst, inl, inr, length, arith, eq-eqb}
-use Rattle.std.specs.Prelude.{nat_eq, nat_lt, MatchOption}
+use Rattle.std.specs.Prelude.{nat_eq, MatchOption}
 use Rattle.std.proofs.lemmas.Bool.{lt-ltb, le-ltb, cases_lt}
 use Rattle.std.proofs.lemmas.Bool.Decides.{eqb_tells}
 use Rattle.jm_blocks.specs.Objects.{Object}
 use Rattle.jm_blocks.specs.Places.{lane_of}
-use Rattle.jm_blocks.specs.Stores.{Blocks, objects_in, HasObject, IsEmpty, IsFirst, IsLast, IsAfter}
+use Rattle.jm_blocks.specs.Stores.{Blocks, HasObject, IsEmpty, IsFirst, IsLast, IsAfter}
 use Rattle.jm_blocks.proofs.Placing.{lies_in}
 use Rattle.jm_scan.specs.Copying.{Progress, IsScanned, Moves}
 use Rattle.jm_scan.proofs.Steps.{copying_at}
 use Rattle.jm_copy.specs.Copies.{is_above, made, HasMade, IsCopying, IsMark, IsPast, Stays}
 use Rattle.jm_copy.specs.Words.{moved}
-use Rattle.jm_copy.specs.Marks.{is_ahead, progress, at, passed, AreMarks, IsPassed, IsNextOf, AllPassed, IsNext}
+use Rattle.jm_copy.specs.Marks.{progress, at, passed, AreMarks, IsPassed, IsNextOf, AllPassed, IsNext}
 use Rattle.jm_copy.specs.declared.copies.Copies.{Copies}
 use Rattle.jm_copy.specs.declared.scan.Marks.{Marks}
 use Rattle.jm_copy.proofs.Making.{LiesYoung, LiesOld, made_where, made_young, made_above, mark_past, above_more, is_over, unequal}

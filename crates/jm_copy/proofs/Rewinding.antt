@@ -1,19 +1,17 @@
 -- What a store is without its last object.
-use Rattle.std.proofs.Common.{◌≡◌, ◌≢◌, ◌⊎◌, ℕ, ◌-◌, ◌+◌, ◌<◌, ◌≤◌, ◌++◌, ◌∷◌, List, [], Option, Some, None, Bool, true, false, refl, sym, ap, ◌∙◌, subst, inl, inr, length, arith, get_or}
-use Rattle.std.specs.Prelude.{slice_get, slice_set, nat_eq}
+use Rattle.std.proofs.Common.{◌≡◌, ◌≢◌, ◌⊎◌, ℕ, ◌-◌, ◌<◌, ◌≤◌, ◌++◌, ◌∷◌, [], Option, Some, None, Bool, true, false, refl, sym, ap, ◌∙◌, subst, inl, inr, length, arith}
+use Rattle.std.specs.Prelude.{nat_eq}
 use Rattle.std.proofs.lemmas.Bool.Decides.{eqb_tells}
-use Rattle.std.proofs.lemmas.Bool.{cases_lt}
 use Rattle.std.proofs.lemmas.Option.{slice_get_within, get_or_from_slice_get}
 use Rattle.jm_blocks.specs.Objects.{Object}
 use Rattle.jm_blocks.specs.Cells.{object_cells}
-use Rattle.jm_blocks.specs.Places.{lane_of}
 use Rattle.jm_blocks.specs.Stores.{Blocks, objects_in, HasObject, IsLast, Bumped, store_with, next_place, last_has_room, store_cells}
 use Rattle.jm_blocks.proofs.Placing.{lies_in}
-use Rattle.jm_blocks.proofs.Filling.{Filled, last_is, fill_last, fill_new}
+use Rattle.jm_blocks.proofs.Filling.{last_is, fill_last, fill_new}
 use Rattle.jm_blocks.proofs.Sizes.{at_least_two}
 use Rattle.jm_nursery.proofs.Making.{cells_more}
 use Rattle.jm_copy.specs.Copies.{is_above, IsMark}
-use Rattle.jm_copy.proofs.Making.{bumped_free, above_more, is_over, not_above}
+use Rattle.jm_copy.proofs.Making.{is_over, not_above}
 
 -- an object more lies above all others
 with_bumped : (s : Blocks) (o : Object) → s.lane < 64 → Bumped s (store_with s o) (next_place s (object_cells o)) o

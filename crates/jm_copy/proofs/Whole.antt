@@ -9,17 +9,16 @@ use Rattle.jm_blocks.specs.Places.{lane_of}
 use Rattle.jm_blocks.specs.Stores.{Blocks, objects_in, HasObject, IsEmpty, IsLast}
 use Rattle.jm_blocks.proofs.Placing.{lies_in}
 use Rattle.jm_blocks.proofs.Walking.{nothing_there}
-use Rattle.jm_scan.specs.Image.{IsImage}
 use Rattle.jm_scan.specs.Copying.{AreForwarded, IsScanned, Moves, Progress}
 use Rattle.jm_scan.proofs.Steps.{copying_none, all_grow}
 use Rattle.jm_scan.proofs.Images.{copying_image, image_same}
 use Rattle.jm_copy.specs.Condemned.{objects_at}
 use Rattle.jm_copy.specs.Numbers.{object_count}
 use Rattle.jm_copy.specs.Words.{moved}
-use Rattle.jm_copy.specs.Copies.{is_above, made, made_in, age_at, IsCopying, IsFresh, IsMark, Stays}
+use Rattle.jm_copy.specs.Copies.{is_above, made, IsCopying, IsFresh, IsMark, Stays}
 use Rattle.jm_copy.specs.Marks.{progress, first_marks}
 use Rattle.jm_copy.specs.Collected.{fresh, survivors, promoted_in, IsCollected, IsCopiedOut}
-use Rattle.jm_copy.specs.Pointing.{points_to, ListsAbove, ListsPointers}
+use Rattle.jm_copy.specs.Pointing.{ListsAbove}
 use Rattle.jm_copy.specs.declared.copies.Copies.{Copies}
 use Rattle.jm_copy.proofs.Moving.{none_moved, fresh_word}
 use Rattle.jm_copy.proofs.Making.{made_young, made_old, made_above, unequal}

@@ -1,5 +1,5 @@
 -- Forwarding words: one for each condemned object, by its number.
-use Rattle.std.specs.Prelude.{◌≡◌, ℕ, zero, suc, List, Option, Some, None, slice_index}
+use Rattle.std.specs.Prelude.{ℕ, zero, suc, List, Option, Some, None, slice_index}
 use Rattle.jm_blocks.specs.Objects.{Object}
 use Rattle.jm_blocks.specs.Stores.{Blocks}
 use Rattle.jm_copy.specs.Condemned.{objects_at}

@@ -33,10 +33,7 @@ struct Moved {
 }
 
 // The numbers of all condemned objects, and a word for each.
-fn prepare(
-    alloc: Global,
-    stores: &[BlockStore],
-) -> Result<(Vec<Starts>, Words), AllocError>
+fn prepare(alloc: Global, stores: &[BlockStore]) -> Result<(Vec<Starts>, Words), AllocError>
     requires { AreLanes stores.now }
     ensures source { IfOk result (λ r. IsSource stores.now r.0.items) }
     ensures words { IfOk result (λ r. r.1 ≡ replicate (object_count stores.now) 0) }
@@ -48,11 +45,7 @@ fn prepare(
 
 // Copies what is reached, and answers the new roots and the promoted objects that point to young ones. What is
 // copied from stays.
-fn copy_reached(
-    alloc: Global,
-    from: Source<'_>,
-    to: &mut Copies,
-) -> Result<Moved, AllocError>
+fn copy_reached(alloc: Global, from: Source<'_>, to: &mut Copies) -> Result<Moved, AllocError>
     requires source { IsSource from.stores.now from.numbers.now }
     requires fresh { IsFresh from.stores.now to.old }
     ensures ok { IfOk result (λ r. IsCopiedOut from.entry.stores.now from.entry.roots.now to.new r.roots.items r.remembered.items) }
@@ -97,11 +90,7 @@ fn rewind(store: &mut BlockStore, mark: &Option<Place>)
 }
 
 // Copies what is reached. Where a growth is refused the old store has what it had, and no more.
-fn copy_or_rewind(
-    alloc: Global,
-    from: Source<'_>,
-    to: &mut Copies,
-) -> Result<Moved, AllocError>
+fn copy_or_rewind(alloc: Global, from: Source<'_>, to: &mut Copies) -> Result<Moved, AllocError>
     requires source { IsSource from.stores.now from.numbers.now }
     requires fresh { IsFresh from.stores.now to.old }
     ensures ok { IfOk result (λ r. IsCopiedOut from.entry.stores.now from.entry.roots.now to.new r.roots.items r.remembered.items × Stays to.old to.new) }

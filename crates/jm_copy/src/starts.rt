@@ -56,10 +56,7 @@ impl Starts {
 }
 
 /// The starts of all lanes, and how many objects there are in all.
-pub fn number_all(
-    alloc: Global,
-    stores: &[BlockStore],
-) -> Result<(Vec<Starts>, usize), AllocError>
+pub fn number_all(alloc: Global, stores: &[BlockStore]) -> Result<(Vec<Starts>, usize), AllocError>
     requires { length stores.now ≤ 63 }
     ensures numbers { IfOk result (λ r. AreNumbers stores.now r.0.items) }
     ensures count { IfOk result (λ r. r.1 ≡ object_count stores.now) }

@@ -1,6 +1,6 @@
 -- With all values forwarded and all roots, the new objects are the image of the old.
-use Rattle.std.proofs.Common.{◌≡◌, ℕ, zero, suc, ◌+◌, ◌<◌, ◌≤◌, List, Option, Some, None, refl, sym, ap, ◌∙◌, subst, length, arith}
-use Rattle.std.specs.Prelude.{slice_get, MatchOption, option_map, unwrap_or, map}
+use Rattle.std.proofs.Common.{◌≡◌, ℕ, ◌<◌, List, Option, Some, None, refl, sym, ap, ◌∙◌, subst, length, arith}
+use Rattle.std.specs.Prelude.{MatchOption, option_map, unwrap_or, map}
 use Rattle.std.proofs.lemmas.Option.{slice_get_within}
 use Rattle.std.proofs.lemmas.List.{length-map}
 use Rattle.jm_values.specs.Objects.{refs_of}
@@ -10,7 +10,7 @@ use Rattle.jm_values.specs.Reach.{Reach, root, field}
 use Rattle.jm_values.specs.declared.value.Value.{Value}
 use Rattle.jm_values.specs.declared.value.Value.TheVariants.{Int, Long, Null, Ref}
 use Rattle.jm_blocks.specs.Objects.{Object}
-use Rattle.jm_scan.specs.Image.{IsReached, IsImage, bare, bare_at, older, renamed, copy_of}
+use Rattle.jm_scan.specs.Image.{IsImage, bare, bare_at, older, renamed, copy_of}
 use Rattle.jm_scan.specs.Copying.{Forwarded, ForwardedValue, IsCopy, HasCopy, Copying, Progress, AreForwarded, IsScanned, Moves}
 use Rattle.jm_scan.proofs.Listed.{some_at, mapped_at, same_lists, at_among, at_ref}
 

@@ -1,6 +1,6 @@
 -- Elements of lists by their numbers, and references among values.
-use Rattle.std.proofs.Common.{◌≡◌, ◌≢◌, ℕ, zero, suc, ◌<◌, List, [], ◌∷◌, ◌++◌, Some, refl, sym, ap, ◌∙◌, inl, inr, length, arith}
-use Rattle.std.specs.Prelude.{slice_get, slice_set, map}
+use Rattle.std.proofs.Common.{◌≡◌, ℕ, zero, suc, ◌<◌, List, [], ◌∷◌, Some, refl, sym, ap, ◌∙◌, inl, inr, length, arith}
+use Rattle.std.specs.Prelude.{slice_get, map}
 use Rattle.jm_values.specs.Shape.{Among}
 use Rattle.jm_values.specs.Rename.{refs, stack_shape}
 use Rattle.jm_values.specs.declared.value.Value.{Value}

@@ -1,5 +1,5 @@
 -- What each step of a copier keeps.
-use Rattle.std.proofs.Common.{◌≡◌, ◌≢◌, ◌⊎◌, ℕ, zero, suc, ◌+◌, ◌<◌, ◌≤◌, List, [], ◌∷◌, ◌++◌, Option, Some, None, true, false, cond, refl, sym, ap, ◌∙◌, subst, inl, inr, length, arith}
+use Rattle.std.proofs.Common.{◌≡◌, ◌≢◌, ◌⊎◌, ℕ, ◌+◌, ◌<◌, ◌≤◌, List, [], ◌∷◌, ◌++◌, Option, Some, None, true, false, cond, refl, sym, ap, ◌∙◌, subst, inl, inr, length, arith}
 use Rattle.std.specs.Prelude.{slice_get, slice_set, nat_eq, MatchOption, option_map}
 use Rattle.std.proofs.lemmas.Bool.Decides.{eqb_tells}
 use Rattle.std.proofs.lemmas.Bool.{lt-ltb, le-ltb}
@@ -7,12 +7,12 @@ use Rattle.std.proofs.lemmas.Option.{slice_get_within}
 use Rattle.std.proofs.lemmas.List.{length-set, length-append}
 use Rattle.jm_values.specs.Objects.{refs_of}
 use Rattle.jm_values.specs.Shape.{Among}
-use Rattle.jm_values.specs.Reach.{Reach, root, field}
+use Rattle.jm_values.specs.Reach.{root, field}
 use Rattle.jm_values.specs.declared.value.Value.{Value}
 use Rattle.jm_values.specs.declared.value.Value.TheVariants.{Int, Long, Null, Ref}
 use Rattle.jm_blocks.specs.Objects.{Object, with_value}
 use Rattle.jm_blocks.proofs.Placing.{get_set_same, get_set_other, get_end, get_before_end}
-use Rattle.jm_scan.specs.Image.{IsReached, bare, bare_at, older}
+use Rattle.jm_scan.specs.Image.{IsReached, bare}
 use Rattle.jm_scan.specs.Copying.{Forwarded, ForwardedValue, IsPartly, IsCopy, HasCopy, Copying, Progress, IsAdded, IsReplaced, Gains, IsFurther, AreForwarded, scanned, raw_copy}
 use Rattle.jm_scan.proofs.Listed.{some_at, among_at, ref_at}
 

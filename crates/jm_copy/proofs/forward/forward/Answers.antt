@@ -1,14 +1,13 @@
-use Rattle.std.proofs.Common.{◌≡◌, ◌<◌, ℕ, List, Some, None, arith, ap, subst, sym, length, ◌∙◌}
+use Rattle.std.proofs.Common.{◌≡◌, ℕ, List, Some, None, arith, ap, subst, sym, ◌∙◌}
 use Rattle.std.specs.Prelude.{slice_index, slice_set}
 use Rattle.jm_blocks.specs.Objects.{Object, object_of}
-use Rattle.jm_scan.specs.Copying.{Forwarded, Moves, raw_copy}
+use Rattle.jm_scan.specs.Copying.{Moves, raw_copy}
 use Rattle.jm_scan.proofs.Steps.{added_keeps}
 use Rattle.jm_copy.specs.Condemned.{objects_at}
 use Rattle.jm_copy.specs.Copies.{IsCopying, Extends}
 use Rattle.jm_copy.specs.Numbers.{number_of}
 use Rattle.jm_copy.specs.Words.{moved, place_of}
-use Rattle.jm_copy.specs.declared.copies.Copies.{Copies}
-use Rattle.jm_copy.proofs.Moving.{moved_is, forwarded_known, forwarded_same}
+use Rattle.jm_copy.proofs.Moving.{moved_is, forwarded_known}
 use Rattle.jm_copy.proofs.Making.{put_added}
 use Rattle.jm_copy.proofs.Keeping.{put_copying, put_extends, word}
 use Rattle.jm_copy.proofs.forward.forward.Goals as goal

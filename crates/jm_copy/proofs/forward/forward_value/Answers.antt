@@ -1,10 +1,9 @@
-use Rattle.std.proofs.Common.{◌≡◌, Some, refl, ap, sym, ◌∙◌}
+use Rattle.std.proofs.Common.{Some, refl, ap, ◌∙◌}
 use Rattle.std.proofs.lemmas.List.{length-set}
-use Rattle.jm_values.specs.declared.value.Value.{Value}
-use Rattle.jm_values.specs.declared.value.Value.TheVariants.{Int, Long, Null, Ref}
+use Rattle.jm_values.specs.declared.value.Value.TheVariants.{Null, Ref}
 use Rattle.jm_blocks.specs.Objects.{with_value}
 use Rattle.jm_copy.specs.Copies.{made}
-use Rattle.jm_copy.proofs.Making.{stays_refl, extends_refl, extends_more, extends_set}
+use Rattle.jm_copy.proofs.Making.{stays_refl, extends_more, extends_set}
 use Rattle.jm_copy.proofs.Keeping.{set_copying, replaced_same, named_reached}
 use Rattle.jm_copy.proofs.forward.forward_value.Goals as goal
 

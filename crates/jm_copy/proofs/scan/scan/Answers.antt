@@ -1,4 +1,4 @@
-use Rattle.std.proofs.Common.{◌≡◌, Some, arith, ap, sym, subst, length, ◌∙◌, refl}
+use Rattle.std.proofs.Common.{arith, ap, sym, subst, length, ◌∙◌}
 use Rattle.jm_copy.specs.Copies.{IsCopying}
 use Rattle.jm_copy.specs.Marks.{at, passed, progress, AreMarks}
 use Rattle.jm_copy.proofs.Making.{extends_refl, extends_more}

@@ -1,4 +1,4 @@
-use Rattle.std.proofs.Common.{◌≡◌, ◌+◌}
+use Rattle.std.proofs.Common.{◌+◌}
 use Rattle.jm_copy.specs.Copies.{Extends, IsCopying}
 use Rattle.jm_copy.specs.Marks.{AreMarks, progress}
 use Rattle.jm_copy.proofs.Marking.{left}

@@ -1,5 +1,4 @@
-use Rattle.std.proofs.Common.{◌≡◌, ◌∙◌, ap, sym, subst, true, false}
-use Rattle.jm_blocks.specs.Stores.{objects_in}
+use Rattle.std.proofs.Common.{◌∙◌, ap, sym, subst}
 use Rattle.jm_copy.specs.Copies.{is_above, IsMark}
 use Rattle.jm_copy.proofs.Keeping.{mark_stays}
 use Rattle.jm_copy.proofs.Whole.{rewound}

@@ -1,7 +1,7 @@
 use Rattle.std.proofs.Common.{subst}
 use Rattle.jm_copy.specs.Pointing.{ListsAbove}
 use Rattle.jm_copy.specs.Marks.{progress, first_marks}
-use Rattle.jm_copy.proofs.Making.{stays_refl, stays_more}
+use Rattle.jm_copy.proofs.Making.{stays_more}
 use Rattle.jm_copy.proofs.Whole.{fresh_copying, first_stays, copied_out}
 use Rattle.jm_copy.proofs.serial.copy_reached.Goals as goal
 

@@ -1,4 +1,4 @@
-use Rattle.std.proofs.Common.{◌∙◌, sym, ap}
+use Rattle.std.proofs.Common.{◌∙◌, sym}
 use Rattle.jm_copy.proofs.Rewinding.{none_above}
 use Rattle.jm_copy.proofs.serial.reaches_above.Goals as goal
 

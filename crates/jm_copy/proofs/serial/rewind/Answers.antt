@@ -1,4 +1,4 @@
-use Rattle.std.proofs.Common.{◌≡◌, true, false, ap, sym, ◌∙◌}
+use Rattle.std.proofs.Common.{◌∙◌}
 use Rattle.jm_copy.proofs.Rewinding.{some_block, popped, popped_mark, popped_below, popped_cells}
 use Rattle.jm_copy.proofs.serial.rewind.Goals as goal
 

@@ -1,4 +1,4 @@
-use Rattle.std.proofs.Common.{◌≡◌, ap}
+use Rattle.std.proofs.Common.{ap}
 use Rattle.jm_copy.specs.declared.copies.Copies.{Copies}
 use Rattle.jm_copy.proofs.Whole.{collected, fresh_copies}
 use Rattle.jm_copy.proofs.serial.survivors.Goals as goal

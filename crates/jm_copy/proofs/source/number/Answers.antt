@@ -1,4 +1,4 @@
-use Rattle.std.proofs.Common.{◌∙◌, arith}
+use Rattle.std.proofs.Common.{arith}
 use Rattle.jm_copy.proofs.Numbering.{lane_there, numbered, number_within}
 use Rattle.jm_copy.proofs.source.number.Goals as goal
 

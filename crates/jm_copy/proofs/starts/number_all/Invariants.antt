@@ -1,4 +1,4 @@
-use Rattle.std.proofs.Common.{◌≡◌, ◌*◌, ◌^◌, ◌<◌, ◌≤◌, ℕ, List, Some, length, vec_capacity}
+use Rattle.std.proofs.Common.{◌≡◌, ◌*◌, ◌^◌, ◌≤◌, ℕ, List, Some, length, vec_capacity}
 use Rattle.std.specs.Prelude.{slice_get}
 use Rattle.jm_blocks.specs.Stores.{Blocks}
 use Rattle.jm_copy.specs.Numbers.{before, lane_counts, AreStarts}

@@ -1,7 +1,6 @@
 use Rattle.std.proofs.Common.{◌≡◌, ◌∙◌, Some, None, ap, sym, length}
-use Rattle.jm_blocks.specs.Objects.{Object, object_of}
+use Rattle.jm_blocks.specs.Objects.{object_of}
 use Rattle.jm_blocks.specs.Stores.{objects_in}
-use Rattle.jm_copy.specs.Copies.{store_of}
 use Rattle.jm_copy.proofs.Making.{store_has}
 use Rattle.jm_copy.proofs.copies.Copies.count.Goals as goal
 

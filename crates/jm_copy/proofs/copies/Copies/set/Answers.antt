@@ -1,5 +1,4 @@
-use Rattle.std.proofs.Common.{◌≡◌, ◌∙◌, ap, sym, refl}
-use Rattle.jm_blocks.specs.Places.{lane_of}
+use Rattle.std.proofs.Common.{◌∙◌, sym, refl}
 use Rattle.jm_copy.proofs.Making.{young_has, old_has, young_replaced, old_replaced, young_stays, old_stays}
 use Rattle.jm_copy.proofs.copies.Copies.set.Goals as goal
 
