@@ -3,7 +3,7 @@ use Rattle.std.specs.Prelude.{◌≡◌, ◌≢◌, ◌⊎◌, ℕ, ◌<◌, ◌
 use Rattle.jm_blocks.specs.Objects.{Object}
 use Rattle.jm_blocks.specs.Places.{lane_of}
 use Rattle.jm_blocks.specs.Stores.{Blocks, objects_in, HasObject, IsEmpty, Bumped}
-use Rattle.jm_scan.specs.Copying.{Copying, Progress, Moves}
+use Rattle.jm_scan.specs.Copying.{AreForwarded, Copying, Progress, Moves}
 use Rattle.jm_copy.specs.Condemned.{AreLanes, objects_at}
 use Rattle.jm_copy.specs.Numbers.{AreNumbers, object_count}
 use Rattle.jm_copy.specs.Words.{moved}
@@ -100,3 +100,12 @@ pub record IsFresh (stores : List Blocks) (c : Copies) : Type 0 where
   pub kept : IsMark c.tenured c.kept
   pub last : (n : ℕ) → HasObject c.tenured n → is_above c.kept n ≡ false
   pub apart : c.tenured.lane ≢ c.young.lane
+
+-- the invariant goes over from one to the other, however far the scan has come
+abbrev pub KeepsCopying : List Blocks → List ℕ → Copies → Copies → Type 0
+KeepsCopying stores roots c d = (done : Progress) → IsCopying stores roots c done → IsCopying stores roots d done
+
+-- all roots were forwarded to these places
+abbrev pub AreRoots : List Blocks → List ℕ → Copies → List ℕ → Type 0
+AreRoots stores roots c places =
+    AreForwarded (objects_at stores) (Moves (moved stores c.words)) roots places × (length places ≡ length roots)

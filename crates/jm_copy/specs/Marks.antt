@@ -1,9 +1,10 @@
 -- How far the scan of the two stores has come.
-use Rattle.std.specs.Prelude.{◌≡◌, ◌≢◌, ◌⊎◌, ℕ, ◌≤◌, Option, Some, None, Bool, true, false, nat_eq, if◌then◌else◌}
+use Rattle.std.specs.Prelude.{◌≡◌, ◌≢◌, ◌⊎◌, ℕ, ◌+◌, ◌≤◌, List, length, Option, Some, None, Bool, true, false, nat_eq, if◌then◌else◌}
+use Rattle.jm_blocks.specs.Objects.{Object}
 use Rattle.jm_blocks.specs.Places.{lane_of}
 use Rattle.jm_blocks.specs.Stores.{Blocks, HasObject}
 use Rattle.jm_scan.specs.Copying.{Progress}
-use Rattle.jm_copy.specs.Copies.{is_above, IsMark}
+use Rattle.jm_copy.specs.Copies.{is_above, made, IsCopying, IsMark}
 use Rattle.jm_copy.specs.declared.copies.Copies.{Copies}
 use Rattle.jm_copy.specs.declared.scan.Marks.{Marks}
 
@@ -46,3 +47,17 @@ AllPassed c m = IsPassed c.young m.young × IsPassed c.tenured m.tenured
 
 abbrev pub IsNext : Copies → Marks → ℕ → Type 0
 IsNext c m p = (lane_of p ≡ c.young.lane × IsNextOf c.young m.young p) ⊎ ((lane_of p ≢ c.young.lane) × IsNextOf c.tenured m.tenured p)
+
+-- of the object at a place one value more is forwarded, or all are
+abbrev pub ForwardsValue : List Blocks → List ℕ → Copies → Copies → ℕ → ℕ → Type 0
+ForwardsValue stores roots c d p j =
+    (done : Progress) → IsCopying stores roots c (at done p j) → IsCopying stores roots d (at done p (j + 1))
+
+abbrev pub ScansObject : List Blocks → List ℕ → Copies → Copies → ℕ → Type 0
+ScansObject stores roots c d p =
+    (done : Progress) → IsCopying stores roots c (at done p 0)
+    → (a : Object) × (made d p ≡ Some a) × IsCopying stores roots d (at done p (length a.values))
+
+-- an object that was made has as many values as before
+abbrev pub KeepsLength : Copies → Copies → ℕ → Type 0
+KeepsLength c d p = (a : Object) → made c p ≡ Some a → (b : Object) × (made d p ≡ Some b) × (length b.values ≡ length a.values)

@@ -2,11 +2,11 @@
 
 ghost use Rattle.std.specs.Prelude.{◌≡◌, ◌+◌, ◌<◌, ℕ, List, Some, IfOk, OnOk, length};
 ghost use Rattle.jm_blocks.specs.Objects.{Object};
-ghost use Rattle.jm_scan.specs.Copying.{AreForwarded, Forwarded, Moves, Progress};
+ghost use Rattle.jm_scan.specs.Copying.{Forwarded, Moves, Progress};
 ghost use Rattle.jm_scan.specs.Image.{IsReached};
 ghost use Rattle.jm_copy.specs.Condemned.{objects_at};
-ghost use Rattle.jm_copy.specs.Copies.{Extends, HasMade, IsCopying, IsSource, made};
-ghost use Rattle.jm_copy.specs.Marks.{at};
+ghost use Rattle.jm_copy.specs.Copies.{AreRoots, Extends, IsCopying, IsSource, KeepsCopying, made};
+ghost use Rattle.jm_copy.specs.Marks.{at, ForwardsValue, KeepsLength};
 ghost use Rattle.jm_copy.specs.Words.{moved};
 
 use crate::copies::Copies;
@@ -26,7 +26,7 @@ pub fn forward(
     requires copying { (done : Progress) × IsCopying from.stores.now from.roots.now to.old done }
     requires reached { (o : Object) → objects_at from.stores.now place ≡ Some o → IsReached (objects_at from.stores.now) from.roots.now place }
     ensures forwarded { IfOk result (λ q. Forwarded (objects_at from.entry.stores.now) (Moves (moved from.entry.stores.now to.new.words)) place q) }
-    ensures copying { OnOk result ((done : Progress) → IsCopying from.entry.stores.now from.entry.roots.now to.old done → IsCopying from.entry.stores.now from.entry.roots.now to.new done) }
+    ensures copying { OnOk result (KeepsCopying from.entry.stores.now from.entry.roots.now to.old to.new) }
     ensures keeps { OnOk result ((n : ℕ) (a : Object) → made to.old n ≡ Some a → made to.new n ≡ Some a) }
     ensures extends { Extends from.entry.stores.now to.old to.new }
 {
@@ -50,8 +50,8 @@ pub fn forward_roots(
 ) -> Result<Vec<Place>, AllocError>
     requires source { IsSource from.stores.now from.numbers.now }
     requires copying { (done : Progress) × IsCopying from.stores.now from.roots.now to.old done }
-    ensures forwarded { IfOk result (λ r. AreForwarded (objects_at from.entry.stores.now) (Moves (moved from.entry.stores.now to.new.words)) from.entry.roots.now r.items × (length r.items ≡ length from.entry.roots.now)) }
-    ensures copying { OnOk result ((done : Progress) → IsCopying from.entry.stores.now from.entry.roots.now to.old done → IsCopying from.entry.stores.now from.entry.roots.now to.new done) }
+    ensures forwarded { IfOk result (λ r. AreRoots from.entry.stores.now from.entry.roots.now to.new r.items) }
+    ensures copying { OnOk result (KeepsCopying from.entry.stores.now from.entry.roots.now to.old to.new) }
     ensures extends { Extends from.entry.stores.now to.old to.new }
 {
     let roots = from.roots;
@@ -74,8 +74,8 @@ pub fn forward_value(
     requires source { IsSource from.stores.now from.numbers.now }
     requires copying { (done : Progress) × IsCopying from.stores.now from.roots.now to.old (at done place number) }
     requires there { (a : Object) × (made to.old place ≡ Some a) × (number < length a.values) }
-    ensures copying { OnOk result ((done : Progress) → IsCopying from.entry.stores.now from.entry.roots.now to.old (at done place number) → IsCopying from.entry.stores.now from.entry.roots.now to.new (at done place (number + 1))) }
-    ensures there { OnOk result ((a : Object) → made to.old place ≡ Some a → (b : Object) × (made to.new place ≡ Some b) × (length b.values ≡ length a.values)) }
+    ensures copying { OnOk result (ForwardsValue from.entry.stores.now from.entry.roots.now to.old to.new place number) }
+    ensures there { OnOk result (KeepsLength to.old to.new place) }
     ensures extends { Extends from.entry.stores.now to.old to.new }
 {
     let value = to.value(place, number);

@@ -4,7 +4,7 @@ ghost use Rattle.std.specs.Prelude.{◌≡◌, ◌<◌, ◌^◌, ◌++◌, ◌�
 ghost use Rattle.jm_blocks.specs.Objects.{Object};
 ghost use Rattle.jm_blocks.specs.Stores.{HasObject, objects_in};
 ghost use Rattle.jm_copy.specs.Copies.{IsMark};
-ghost use Rattle.jm_copy.specs.Pointing.{ListsAbove, names_lane, points_to};
+ghost use Rattle.jm_copy.specs.Pointing.{ListsAbove, names_lane, points_to, with_pointer};
 
 use crate::scan::next_of;
 use jm_blocks::{BlockStore, Position};
@@ -44,7 +44,7 @@ fn note(
     lane: u64,
 ) -> Result<(), AllocError>
     requires { HasObject store.now place }
-    ensures ok { OnOk result ((o : Object) → objects_in store.now place ≡ Some o → places.new.items ≡ (if points_to lane o.values then places.old.items ++ place ∷ [] else places.old.items)) }
+    ensures ok { OnOk result ((o : Object) → objects_in store.now place ≡ Some o → places.new.items ≡ with_pointer lane o place places.old.items) }
     ensures below { place < 2 ^ 63 }
 {
     let _number = place.number();

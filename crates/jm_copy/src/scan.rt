@@ -4,7 +4,7 @@ ghost use Rattle.std.specs.Prelude.{◌≡◌, ◌≢◌, ◌<◌, ◌^◌, ℕ,
 ghost use Rattle.jm_blocks.specs.Objects.{Object};
 ghost use Rattle.jm_scan.specs.Copying.{IsScanned, Progress};
 ghost use Rattle.jm_copy.specs.Copies.{Extends, HasMade, IsCopying, IsMark, IsSource, made};
-ghost use Rattle.jm_copy.specs.Marks.{at, passed, progress, first_marks, AllPassed, AreMarks, IsNext, IsNextOf, IsPassed};
+ghost use Rattle.jm_copy.specs.Marks.{ScansObject, at, passed, progress, first_marks, AllPassed, AreMarks, IsNext, IsNextOf, IsPassed};
 
 use crate::copies::Copies;
 use crate::forward::forward_value;
@@ -71,7 +71,7 @@ fn scan_object(
     requires source { IsSource from.stores.now from.numbers.now }
     requires copying { (done : Progress) × IsCopying from.stores.now from.roots.now to.old (at done place 0) }
     requires there { HasMade to.old place }
-    ensures copying { OnOk result ((done : Progress) → IsCopying from.entry.stores.now from.entry.roots.now to.old (at done place 0) → (a : Object) × (made to.new place ≡ Some a) × IsCopying from.entry.stores.now from.entry.roots.now to.new (at done place (length a.values))) }
+    ensures copying { OnOk result (ScansObject from.entry.stores.now from.entry.roots.now to.old to.new place) }
     ensures extends { Extends from.entry.stores.now to.old to.new }
 {
     let count = to.count(place);
