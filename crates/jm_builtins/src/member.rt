@@ -6,7 +6,8 @@ ghost use Rattle.jm_builtins.specs.Members.{the_type, the_parameters, the_result
 use crate::row::{FieldRow, MemberType, MethodRow};
 use crate::text::name_of;
 use jm_program::{
-    AccessFlags, BaseType, Boxed, ElementType, Field, FieldType, Method, MethodDescriptor, Sequence,
+    AccessFlags, BaseType, ElementType, Field, FieldType, Method, MethodDescriptor, Sequence,
+    Shared,
 };
 use std::alloc::{AllocError, Global};
 
@@ -66,7 +67,7 @@ fn method_of(alloc: Global, row: &MethodRow) -> Result<Method, AllocError>
 {
     let name = name_of(alloc, row.name)?;
     let parameters = parameters_of(alloc, row.parameter)?;
-    let parameters = Boxed::new(alloc, parameters)?;
+    let parameters = Shared::new(alloc, parameters)?;
     let return_type = result_of(alloc, row.result)?;
     Ok(Method {
         flags: AccessFlags {

@@ -2,7 +2,6 @@
 
 ghost use Rattle.std.specs.Prelude.{◌≡◌, IfOk};
 ghost use Rattle.jm_bytes.specs.Reading.{Gives, GivesAll, Takes, TakesAs};
-ghost use Rattle.jm_program.specs.Fits.{constant_is_of};
 ghost use Rattle.jm_pool.specs.Texts.{Stands};
 ghost use Rattle.jm_class_format.specs.declared.read_fault.ReadFault.TheVariants.{OutOfMemory, Cut};
 ghost use Rattle.jm_class_format.specs.PoolLookups.{entry_at};
@@ -15,7 +14,7 @@ use crate::symbols::{NameKind, Symbols};
 use jm_bytes::Reader;
 use jm_class_format::{Entry, ReadFault};
 use jm_pool::{Pool, Text};
-use jm_program::{AccessFlags, BaseType, Constant, ElementType, Field, FieldType, Name, is_text};
+use jm_program::{AccessFlags, Constant, Field, FieldType, Name, is_text};
 use std::alloc::Global;
 
 /// The access flags, whichever they are.
@@ -58,27 +57,6 @@ fn constant_of(alloc: Global, symbols: &mut Symbols<'_>, index: u16) -> Result<C
     }
 }
 
-// Whether a field of the type can begin with the constant (JVMS 4.7.2, table 4.7.2-A).
-fn constant_is_of(constant: &Constant, element: &ElementType) -> bool
-    ensures { result ≡ constant_is_of constant.now element.now }
-{
-    match (constant, element) {
-        (
-            Constant::Int(_),
-            ElementType::Base(
-                BaseType::Int
-                | BaseType::Short
-                | BaseType::Char
-                | BaseType::Byte
-                | BaseType::Boolean,
-            ),
-        ) => true,
-        (Constant::Long(_), ElementType::Base(BaseType::Long)) => true,
-        (Constant::String(_), ElementType::Class(name)) => name.is_string(),
-        _ => false,
-    }
-}
-
 // A constant of the field's type.
 #[tactic(auto, unfolding(jm_class_format::specs::Members::constant_value))]
 fn constant_value(
@@ -94,7 +72,7 @@ fn constant_value(
         return Err(ReadFault::BadAttribute);
     };
     let value = constant_of(alloc, symbols, index)?;
-    if field_type.dimensions == 0 && constant_is_of(&value, &field_type.element) {
+    if field_type.dimensions == 0 && value.is_of(&field_type.element) {
         Ok(value)
     } else {
         Err(ReadFault::BadAttribute)

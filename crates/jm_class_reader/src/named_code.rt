@@ -16,7 +16,7 @@ use crate::symbols::{NameKind, Symbols};
 use jm_class_format::{Entry, IndexedInstr, LeftOutPart, PlacedInstr, PoolFault, ReadFault};
 use jm_pool::{Member, Pool, Text};
 use jm_program::{
-    Boxed, ClassRef, Constant, FieldOp, Instr, InvokeOp, MethodRef, Name, Sequence, TypeOp,
+    ClassRef, Constant, FieldOp, Instr, InvokeOp, MethodRef, Name, Sequence, Shared, TypeOp,
 };
 use jm_symbols::element_ref;
 use std::alloc::Global;
@@ -235,7 +235,7 @@ fn named_field(
         return Err(bad_index(index));
     };
     let field = symbols.field_ref(alloc, texts)?;
-    let field = Boxed::new(alloc, field)?;
+    let field = Shared::new(alloc, field)?;
     Ok(Instr::Field(op, field))
 }
 
@@ -251,7 +251,7 @@ fn named_method(
     ensures same { symbols.new ≡ symbols.old }
 {
     let method = class_method(alloc, symbols, op, index)?;
-    let method = Boxed::new(alloc, method)?;
+    let method = Shared::new(alloc, method)?;
     Ok(Instr::Invoke(op, method))
 }
 
@@ -268,7 +268,7 @@ fn named_interface_method(
     ensures same { symbols.new ≡ symbols.old }
 {
     let method = interface_method(alloc, symbols, index, count, last)?;
-    let method = Boxed::new(alloc, method)?;
+    let method = Shared::new(alloc, method)?;
     Ok(Instr::Invoke(InvokeOp::Interface, method))
 }
 
@@ -279,7 +279,7 @@ fn named_class(alloc: Global, symbols: &mut Symbols<'_>, index: u16) -> Result<I
     ensures same { symbols.new ≡ symbols.old }
 {
     let name = class_name_at(alloc, symbols, index)?;
-    let name = Boxed::new(alloc, name)?;
+    let name = Shared::new(alloc, name)?;
     Ok(Instr::New(name))
 }
 
@@ -295,7 +295,7 @@ fn named_type(
     ensures same { symbols.new ≡ symbols.old }
 {
     let class = type_operand(alloc, symbols, op, index)?;
-    let class = Boxed::new(alloc, class)?;
+    let class = Shared::new(alloc, class)?;
     Ok(Instr::Type(op, class))
 }
 

@@ -14,8 +14,8 @@ use indexmap::IndexMap;
 use jm_class_format::ReadFault;
 use jm_pool::{Member, Pool, Text};
 use jm_program::{
-    Boxed, ClassRef, FieldRef, FieldType, Instr, InvokeOp, MethodDescriptor, MethodRef, Name,
-    Sequence,
+    ClassRef, FieldRef, FieldType, Instr, InvokeOp, MethodDescriptor, MethodRef, Name, Sequence,
+    Shared,
 };
 use jm_symbols::{
     begins_with_bracket, class_name_of, field_name_of, field_type_of, invoked_name_of,
@@ -59,7 +59,7 @@ pub struct Symbols<'p> {
     names: IndexMap<NameUse, Name>,
     field_types: IndexMap<u16, FieldType>,
     method_types: IndexMap<MethodTypeUse, MethodDescriptor>,
-    strings: IndexMap<u16, Boxed<Sequence<u16>>>,
+    strings: IndexMap<u16, Shared<Sequence<u16>>>,
     instructions: IndexMap<Operand, Instr>,
 }
 
@@ -175,7 +175,7 @@ impl<'p> Symbols<'p> {
         &mut self,
         alloc: Global,
         text: Text<'_>,
-    ) -> Result<Boxed<Sequence<u16>>, ReadFault>
+    ) -> Result<Shared<Sequence<u16>>, ReadFault>
         requires { Stands self.old text }
         ensures given { GivesAll (λ units. units) OutOfMemory result (Ok text.entry.units.now) }
         ensures same { self.new ≡ self.old }
@@ -185,7 +185,7 @@ impl<'p> Symbols<'p> {
             return Ok(units);
         }
         let units = Vec::from_slice(alloc, text.units)?;
-        let units = Boxed::new(alloc, Sequence::new(units))?;
+        let units = Shared::new(alloc, Sequence::new(units))?;
         let shared = units.share()?;
         self.strings.insert(text.index, shared)?;
         Ok(units)

@@ -1,8 +1,8 @@
 // Small classes, made by hand.
 
 use jm_program::{
-    AccessFlags, Boxed, Class, ClassParts, Code, Field, Handler, Instr, LineNumber, Method,
-    MethodDescriptor, Name, Plain, ReturnOp, Sequence, Simple, Version, code_units,
+    AccessFlags, Class, ClassParts, Code, Field, Handler, Instr, LineNumber, Method,
+    MethodDescriptor, Name, Plain, ReturnOp, Sequence, Shared, Simple, Version, code_units,
 };
 use std::alloc::{AllocError, Global};
 
@@ -52,7 +52,7 @@ fn method(alloc: Global, code: Code) -> Result<Method, AllocError> {
         flags: AccessFlags { bits: 9 },
         name: name(alloc, "f")?,
         descriptor: MethodDescriptor {
-            parameters: Boxed::new(alloc, Sequence::new(Vec::new(alloc)))?,
+            parameters: Shared::new(alloc, Sequence::new(Vec::new(alloc)))?,
             return_type: None,
         },
         code: Some(code),

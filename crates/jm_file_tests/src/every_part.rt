@@ -3,10 +3,10 @@
 use crate::classes::name;
 use crate::round_trip::written_and_read;
 use jm_program::{
-    AccessFlags, ArrayKind, ArrayOp, BaseType, Boxed, Class, ClassParts, ClassRef, Code, Constant,
+    AccessFlags, ArrayKind, ArrayOp, BaseType, Class, ClassParts, ClassRef, Code, Constant,
     ElementType, Field, FieldOp, FieldRef, FieldType, Handler, Instr, InvokeOp, LineNumber, Method,
-    MethodDescriptor, MethodRef, MonitorOp, Name, Plain, PrimitiveType, ReturnOp, Sequence, Simple,
-    TypeOp, Version, code_units,
+    MethodDescriptor, MethodRef, MonitorOp, Name, Plain, PrimitiveType, ReturnOp, Sequence, Shared,
+    Simple, TypeOp, Version, code_units,
 };
 use std::alloc::{AllocError, Global};
 use std::test::Fail;
@@ -35,14 +35,14 @@ fn descriptor(alloc: Global) -> Result<MethodDescriptor, AllocError> {
     parameters.push(base(BaseType::Long))?;
     parameters.push(strings)?;
     Ok(MethodDescriptor {
-        parameters: Boxed::new(alloc, Sequence::new(parameters))?,
+        parameters: Shared::new(alloc, Sequence::new(parameters))?,
         return_type: Some(base(BaseType::Int)),
     })
 }
 
 fn text(alloc: Global) -> Result<Constant, AllocError> {
     let units = code_units(alloc, "text")?;
-    let units = Boxed::new(alloc, Sequence::new(units))?;
+    let units = Shared::new(alloc, Sequence::new(units))?;
     Ok(Constant::String(units))
 }
 
@@ -76,13 +76,13 @@ fn class_name(alloc: Global) -> Result<ClassRef, AllocError> {
     Ok(ClassRef::Class(name(alloc, "Main")?))
 }
 
-fn field_of(alloc: Global) -> Result<Boxed<FieldRef>, AllocError> {
+fn field_of(alloc: Global) -> Result<Shared<FieldRef>, AllocError> {
     let field = FieldRef {
         class: class_name(alloc)?,
         name: name(alloc, "i")?,
         descriptor: base(BaseType::Int),
     };
-    Boxed::new(alloc, field)
+    Shared::new(alloc, field)
 }
 
 fn invoke(alloc: Global, op: InvokeOp) -> Result<Instr, AllocError> {
@@ -91,7 +91,7 @@ fn invoke(alloc: Global, op: InvokeOp) -> Result<Instr, AllocError> {
         name: name(alloc, "f")?,
         descriptor: descriptor(alloc)?,
     };
-    Ok(Instr::Invoke(op, Boxed::new(alloc, method)?))
+    Ok(Instr::Invoke(op, Shared::new(alloc, method)?))
 }
 
 fn of_type(alloc: Global, op: TypeOp) -> Result<Instr, AllocError> {
@@ -99,7 +99,7 @@ fn of_type(alloc: Global, op: TypeOp) -> Result<Instr, AllocError> {
         dimensions: 3,
         element: ElementType::Base(BaseType::Int),
     };
-    Ok(Instr::Type(op, Boxed::new(alloc, ClassRef::Array(ints))?))
+    Ok(Instr::Type(op, Shared::new(alloc, ClassRef::Array(ints))?))
 }
 
 fn instructions(alloc: Global) -> Result<Vec<Instr>, AllocError> {
@@ -114,7 +114,7 @@ fn instructions(alloc: Global) -> Result<Vec<Instr>, AllocError> {
         Instr::Field(FieldOp::PutStatic, field_of(alloc)?),
         invoke(alloc, InvokeOp::Virtual)?,
         invoke(alloc, InvokeOp::Interface)?,
-        Instr::New(Boxed::new(alloc, name(alloc, "Main")?)?),
+        Instr::New(Shared::new(alloc, name(alloc, "Main")?)?),
         of_type(alloc, TypeOp::NewArray)?,
         of_type(alloc, TypeOp::InstanceOf)?,
         Instr::Return(ReturnOp::Int),

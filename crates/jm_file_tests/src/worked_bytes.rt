@@ -7,7 +7,7 @@ use crate::worked_file::WORKED;
 use jm_class_reader::read_class;
 use jm_class_writer::write_class;
 use jm_program::{
-    Boxed, Class, Constant, Instr, LookupSwitch, Plain, ReturnOp, Sequence, Simple, SmallInt,
+    Class, Constant, Instr, LookupSwitch, Plain, ReturnOp, Sequence, Shared, Simple, SmallInt,
     StackOp, SwitchPair, TableSwitch,
 };
 use std::alloc::{AllocError, AllocGlobal, Global};
@@ -82,7 +82,7 @@ fn table_to(alloc: Global, target: u32) -> Result<Plain, AllocError> {
         targets: Sequence::new(targets),
         default: target,
     };
-    Ok(Plain::TableSwitch(Boxed::new(alloc, table)?))
+    Ok(Plain::TableSwitch(Shared::new(alloc, table)?))
 }
 
 /// A switch of the int -2, to the instruction of a number.
@@ -93,7 +93,7 @@ fn lookup_to(alloc: Global, target: u32) -> Result<Plain, AllocError> {
         pairs: Sequence::new(pairs),
         default: target,
     };
-    Ok(Plain::LookupSwitch(Boxed::new(alloc, lookup)?))
+    Ok(Plain::LookupSwitch(Shared::new(alloc, lookup)?))
 }
 
 /// So many nops, a zero, a switch and a return.
@@ -158,7 +158,7 @@ fn switches_are_padded(rt: HostRuntime) -> Result<(), Fail> {
 /// The constant of a zero and of a supplementary character, a pop and a return.
 fn text(alloc: Global) -> Result<Vec<Instr>, AllocError> {
     let units = Vec::from_slice(alloc, &[0, 0xD83D, 0xDE00])?;
-    let text = Boxed::new(alloc, Sequence::new(units))?;
+    let text = Shared::new(alloc, Sequence::new(units))?;
     let mut instructions = Vec::new(alloc);
     instructions.push(Instr::Constant(Constant::String(text)))?;
     instructions.push(pop())?;

@@ -11,7 +11,9 @@ use crate::symbols::{field_name_at, field_type_at};
 use crate::words::{flags_before, with_length_from};
 use jm_jasmin_lex::{Token, integer, literal};
 use jm_jasmin_ops::AsmFault;
-use jm_program::{AccessFlags, BaseType, Boxed, Constant, ElementType, Field, FieldType, Sequence};
+use jm_program::{
+    AccessFlags, BaseType, Constant, ElementType, Field, FieldType, Sequence, Shared,
+};
 use std::alloc::{AllocError, Global};
 
 /// What the value of a field is (JVMS 4.7.2, table 4.7.2-A).
@@ -85,7 +87,7 @@ fn constant_of(
         (ValueKind::Long, true) => Ok(long_constant(integer(token.text()))),
         (ValueKind::String, false) => {
             let units = literal(alloc, token.text())?;
-            let units = Boxed::new(alloc, Sequence::new(units))?;
+            let units = Shared::new(alloc, Sequence::new(units))?;
             Ok(Some(Constant::String(units)))
         }
         _ => Ok(None),

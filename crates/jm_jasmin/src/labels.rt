@@ -10,7 +10,8 @@ ghost use Rattle.jm_jasmin.specs.Labels.{end_at, place_at, target, pair_of, tabl
 use crate::item::CatchRow;
 use jm_jasmin_ops::{AsmFault, Label, LabelledInstr, LabelledLookup, LabelledPair, LabelledTable};
 use jm_program::{
-    Boxed, Handler, Instr, LookupSwitch, Name, Plain, Sequence, SwitchPair, TableSwitch, code_units,
+    Handler, Instr, LookupSwitch, Name, Plain, Sequence, Shared, SwitchPair, TableSwitch,
+    code_units,
 };
 use std::alloc::Global;
 use std::collections::HashMap;
@@ -124,7 +125,7 @@ fn table_of(
 {
     let targets = targets(alloc, values, count, table.targets.as_slice())?;
     let default = target(alloc, values, count, &table.default)?;
-    let table = Boxed::new(
+    let table = Shared::new(
         alloc,
         TableSwitch {
             low: table.low,
@@ -146,7 +147,7 @@ fn lookup_of(
 {
     let pairs = pairs(alloc, values, count, lookup.pairs.as_slice())?;
     let default = target(alloc, values, count, &lookup.default)?;
-    let lookup = Boxed::new(
+    let lookup = Shared::new(
         alloc,
         LookupSwitch {
             pairs: Sequence::new(pairs),

@@ -22,8 +22,8 @@ use crate::words::{ended, first, label, word};
 use jm_class_format::Opcode;
 use jm_jasmin_lex::{Token, line_of};
 use jm_program::{
-    ArrayOp, Boxed, ClassRef, Constant, FieldRef, Instr, InvokeOp, MethodRef, Name, Plain,
-    PrimitiveType, TypeOp,
+    ArrayOp, ClassRef, Constant, FieldRef, Instr, InvokeOp, MethodRef, Name, Plain, PrimitiveType,
+    Shared, TypeOp,
 };
 use std::alloc::Global;
 
@@ -209,19 +209,19 @@ fn named_instr(
         Opcode::Increment => increment(line, words),
         Opcode::Field(op) => {
             let field = one_field(alloc, line, words)?;
-            Ok(Instr::Field(op, Boxed::new(alloc, field)?))
+            Ok(Instr::Field(op, Shared::new(alloc, field)?))
         }
         Opcode::Invoke(op) => {
             let method = one_method(alloc, line, op, words)?;
-            Ok(Instr::Invoke(op, Boxed::new(alloc, method)?))
+            Ok(Instr::Invoke(op, Shared::new(alloc, method)?))
         }
         Opcode::InvokeInterface => {
             let method = counted_method(alloc, line, words)?;
-            Ok(Instr::Invoke(InvokeOp::Interface, Boxed::new(alloc, method)?))
+            Ok(Instr::Invoke(InvokeOp::Interface, Shared::new(alloc, method)?))
         }
         Opcode::New => {
             let name = one_class(alloc, line, words)?;
-            Ok(Instr::New(Boxed::new(alloc, name)?))
+            Ok(Instr::New(Shared::new(alloc, name)?))
         }
         Opcode::NewArray => {
             let element = one_element(line, words)?;
@@ -229,7 +229,7 @@ fn named_instr(
         }
         Opcode::Type(op) => {
             let class = one_type(alloc, line, op, words)?;
-            Ok(Instr::Type(op, Boxed::new(alloc, class)?))
+            Ok(Instr::Type(op, Shared::new(alloc, class)?))
         }
         Opcode::LeftOut(op) => Err(left_out(op, line)),
         Opcode::Later(op) => Err(AsmFault::Later(op, line)),

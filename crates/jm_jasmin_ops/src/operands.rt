@@ -15,7 +15,8 @@ use crate::words::word;
 use jm_class_format::{LeftOutOp, LeftOutPart};
 use jm_jasmin_lex::{Token, TokenKind, literal};
 use jm_program::{
-    Boxed, ClassRef, Constant, FieldRef, InvokeOp, MethodRef, Name, PrimitiveType, Sequence, TypeOp,
+    ClassRef, Constant, FieldRef, InvokeOp, MethodRef, Name, PrimitiveType, Sequence, Shared,
+    TypeOp,
 };
 use std::alloc::Global;
 
@@ -49,7 +50,7 @@ pub fn loaded(alloc: Global, token: &Token<'_>) -> Result<Constant, AsmFault>
         }
         TokenKind::Text => {
             let units = literal(alloc, token.text())?;
-            let units = Boxed::new(alloc, Sequence::new(units))?;
+            let units = Shared::new(alloc, Sequence::new(units))?;
             Ok(Constant::String(units))
         }
     }

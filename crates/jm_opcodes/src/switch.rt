@@ -10,7 +10,7 @@ ghost use Rattle.jm_class_format.specs.Instructions.{padding, far_target, natura
 use crate::operands::far_target;
 use jm_bytes::Reader;
 use jm_class_format::{CodeFault, IndexedInstr};
-use jm_program::{Boxed, LookupSwitch, Plain, Sequence, SwitchPair, TableSwitch};
+use jm_program::{LookupSwitch, Plain, Sequence, Shared, SwitchPair, TableSwitch};
 use std::alloc::Global;
 
 /// Leaves out the padding of a switch: up to a multiple of four from the start of the code.
@@ -90,7 +90,7 @@ pub fn table_switch(
         targets: Sequence::new(targets),
         default,
     };
-    let table = Boxed::new(alloc, table)?;
+    let table = Shared::new(alloc, table)?;
     Ok(IndexedInstr::Plain(Plain::TableSwitch(table)))
 }
 
@@ -184,6 +184,6 @@ pub fn lookup_switch(
         pairs: Sequence::new(pairs),
         default,
     };
-    let lookup = Boxed::new(alloc, lookup)?;
+    let lookup = Shared::new(alloc, lookup)?;
     Ok(IndexedInstr::Plain(Plain::LookupSwitch(lookup)))
 }

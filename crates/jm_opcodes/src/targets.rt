@@ -8,7 +8,7 @@ ghost use Rattle.jm_class_format.specs.Code.{number_of, table_numbered, pair_num
 
 use crate::starts::Starts;
 use jm_class_format::{CodeFault, IndexedInstr, PlacedInstr};
-use jm_program::{Boxed, LookupSwitch, Plain, Sequence, SwitchPair, TableSwitch};
+use jm_program::{LookupSwitch, Plain, Sequence, Shared, SwitchPair, TableSwitch};
 use std::alloc::Global;
 
 /// The number of the instruction at a target.
@@ -102,11 +102,11 @@ fn number_plain(alloc: Global, starts: &Starts, plain: &mut Plain) -> Result<(),
         }
         Plain::TableSwitch(table) => {
             let numbered = table_numbered(alloc, starts, table.get())?;
-            *table = Boxed::new(alloc, numbered)?;
+            *table = Shared::new(alloc, numbered)?;
         }
         Plain::LookupSwitch(lookup) => {
             let numbered = lookup_numbered(alloc, starts, lookup.get())?;
-            *lookup = Boxed::new(alloc, numbered)?;
+            *lookup = Shared::new(alloc, numbered)?;
         }
         _ => {}
     }

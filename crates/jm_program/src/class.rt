@@ -5,11 +5,11 @@ ghost use Rattle.std.specs.List.{list_all};
 ghost use Rattle.std.specs.Option.{SomeIff};
 ghost use Rattle.jm_program.specs.Flags.{is_static, is_synchronized, is_native, is_abstract, is_interface};
 ghost use Rattle.jm_program.specs.Names.{is_class_name};
-ghost use Rattle.jm_program.specs.Fits.{superclass_fits, constant_is_of, field_constant_fits, field_fits, method_slots, is_class_initializer, body_fits, method_fits};
+ghost use Rattle.jm_program.specs.Fits.{superclass_fits, field_constant_fits, field_fits, method_slots, is_class_initializer, body_fits, method_fits};
 
 use crate::code::Code;
 use crate::constant::Constant;
-use crate::descriptor::{BaseType, ElementType, FieldType, MethodDescriptor};
+use crate::descriptor::{FieldType, MethodDescriptor};
 use crate::flags::AccessFlags;
 use crate::limits::{NEWEST_MAJOR, OLDEST_MAJOR};
 use crate::name::Name;
@@ -222,27 +222,6 @@ fn methods_fit(in_interface: bool, methods: &[Method]) -> bool
     methods.iter().all(|method| method.fits(in_interface))
 }
 
-// Whether a field of the type can begin with the constant.
-fn constant_is_of(constant: &Constant, element: &ElementType) -> bool
-    ensures { result ≡ constant_is_of constant.now element.now }
-{
-    match (constant, element) {
-        (
-            Constant::Int(_),
-            ElementType::Base(
-                BaseType::Int
-                | BaseType::Short
-                | BaseType::Char
-                | BaseType::Byte
-                | BaseType::Boolean,
-            ),
-        ) => true,
-        (Constant::Long(_), ElementType::Base(BaseType::Long)) => true,
-        (Constant::String(_), ElementType::Class(name)) => name.is_string(),
-        _ => false,
-    }
-}
-
 fn field_constant_fits(
     flags: AccessFlags,
     descriptor: &FieldType,
@@ -255,7 +234,7 @@ fn field_constant_fits(
         Some(constant) => {
             flags.has(AccessFlags::STATIC)
                 && descriptor.dimensions == 0
-                && constant_is_of(constant, &descriptor.element)
+                && constant.is_of(&descriptor.element)
         }
     }
 }

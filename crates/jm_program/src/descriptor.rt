@@ -6,10 +6,10 @@ ghost use Rattle.jm_program.specs.Descriptors.{is_field_type, is_return_type, is
 
 mod parse;
 
-use crate::boxed::Boxed;
 use crate::limits::MAX_DIMENSIONS;
 use crate::name::Name;
 use crate::sequence::Sequence;
+use crate::shared::Shared;
 use std::alloc::{AllocError, Global};
 
 /// A primitive type, by its letter `B C D F I J S Z` (JVMS 4.3.2).
@@ -44,7 +44,7 @@ pub struct FieldType {
 /// The type of a method (JVMS 4.3.3).
 #[derive(PartialEq, Eq, Drop)]
 pub struct MethodDescriptor {
-    pub parameters: Boxed<Sequence<FieldType>>,
+    pub parameters: Shared<Sequence<FieldType>>,
     /// None for `V`.
     pub return_type: Option<FieldType>,
 }

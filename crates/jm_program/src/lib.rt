@@ -9,7 +9,6 @@
 //! The crate stands on std alone.
 #![tactic(auto)]
 
-mod boxed;
 mod class;
 mod code;
 mod constant;
@@ -23,9 +22,9 @@ mod limits;
 mod name;
 mod reference;
 mod sequence;
+mod shared;
 mod text;
 
-pub use boxed::Boxed;
 pub use class::{Class, ClassParts, Field, Method, Version};
 pub use code::{Code, Handler, LineNumber};
 pub use constant::Constant;
@@ -43,4 +42,5 @@ pub use limits::{MAX_ARGUMENT_SLOTS, MAX_CODE_BYTES, MAX_DIMENSIONS, NEWEST_MAJO
 pub use name::Name;
 pub use reference::{ClassRef, FieldRef, MethodRef};
 pub use sequence::Sequence;
+pub use shared::Shared;
 pub use text::{code_units, is_text};

@@ -4,8 +4,8 @@ ghost use Rattle.std.specs.Prelude.{◌≡◌, IfOk, codes};
 ghost use Rattle.std.specs.List.{list_all};
 ghost use Rattle.jm_program.specs.Names.{same_text, is_unqualified, is_method_name, is_invoked_name, is_class_name, is_init, is_clinit, is_name_unit, is_method_unit, is_ordinary_method_name};
 
-use crate::boxed::Boxed;
 use crate::sequence::Sequence;
+use crate::shared::Shared;
 use crate::text::is_text;
 use std::alloc::{AllocError, Global};
 use std::hash::{Hash, Hasher};
@@ -34,7 +34,7 @@ pub struct Name {
 #[derive(Debug, Drop)]
 enum Units {
     Own(Vec<u16>),
-    Shared(Boxed<Sequence<u16>>),
+    Shared(Shared<Sequence<u16>>),
 }
 
 impl Model for Name {
@@ -62,7 +62,7 @@ impl Name {
         ensures { IfOk result (λ name. name ≡ units.now) }
     {
         let units = Vec::from_slice(alloc, units)?;
-        let units = Boxed::new(alloc, Sequence::new(units))?;
+        let units = Shared::new(alloc, Sequence::new(units))?;
         Ok(Name {
             units: Units::Shared(units),
         })

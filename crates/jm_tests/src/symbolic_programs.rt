@@ -3,10 +3,10 @@
 
 use crate::table::row_of;
 use jm_program::{
-    AccessFlags, ArrayOp, BaseType, Boxed, Branch, Class, ClassParts, ClassRef, Code, Comparison,
+    AccessFlags, ArrayOp, BaseType, Branch, Class, ClassParts, ClassRef, Code, Comparison,
     Constant, Descriptor, ElementType, FieldType, Instr, Integral, InvokeOp, LookupSwitch, Method,
     MethodDescriptor, MethodRef, Name, OperandType, Plain, PrimitiveType, ReturnOp, Sequence,
-    Shift, ShortIndex, Simple, SmallInt, StackOp, SwitchPair, Version, code_units,
+    Shared, Shift, ShortIndex, Simple, SmallInt, StackOp, SwitchPair, Version, code_units,
 };
 use std::alloc::{AllocError, Global};
 use std::test::Fail;
@@ -191,7 +191,7 @@ fn takes_long(alloc: Global) -> Result<MethodDescriptor, AllocError> {
     };
     let parameters = Vec::from_array(alloc, [long])?;
     Ok(MethodDescriptor {
-        parameters: Boxed::new(alloc, Sequence::new(parameters))?,
+        parameters: Shared::new(alloc, Sequence::new(parameters))?,
         return_type: None,
     })
 }
@@ -215,7 +215,7 @@ fn push_numbers(instructions: &mut Vec<Instr>) -> Result<(), AllocError> {
 
 fn text(alloc: Global) -> Result<Instr, AllocError> {
     let units = code_units(alloc, "a\"b")?;
-    let units = Boxed::new(alloc, Sequence::new(units))?;
+    let units = Shared::new(alloc, Sequence::new(units))?;
     Ok(Instr::Constant(Constant::String(units)))
 }
 
@@ -230,7 +230,7 @@ fn switch(alloc: Global) -> Result<Instr, AllocError> {
         pairs: Sequence::new(pairs),
         default: 2,
     };
-    let lookup = Boxed::new(alloc, lookup)?;
+    let lookup = Shared::new(alloc, lookup)?;
     Ok(Instr::Plain(Plain::LookupSwitch(lookup)))
 }
 
@@ -247,7 +247,7 @@ fn method_ref(alloc: Global) -> Result<MethodRef, AllocError> {
 
 fn invoke(alloc: Global) -> Result<Instr, AllocError> {
     let method = method_ref(alloc)?;
-    let method = Boxed::new(alloc, method)?;
+    let method = Shared::new(alloc, method)?;
     Ok(Instr::Invoke(InvokeOp::Interface, method))
 }
 

@@ -5,12 +5,12 @@ ghost use Rattle.std.specs.List.{prefix_len, position_or_len};
 ghost use Rattle.jm_program.specs.DescriptorReading.{base_of, is_semicolon, is_bracket, class_at, letter_at, element_at, field_at, parameters_at, whole_field, whole_return, whole_method, whole_descriptor};
 ghost use Rattle.jm_program.specs.DescriptorFaults.{GivesShape, GivesFront};
 
-use crate::boxed::Boxed;
 use crate::descriptor::{BaseType, Descriptor, ElementType, FieldType, MethodDescriptor};
 use crate::fault::DescriptorFault;
 use crate::limits::MAX_DIMENSIONS;
 use crate::name::Name;
 use crate::sequence::Sequence;
+use crate::shared::Shared;
 use crate::text::code_units;
 use std::alloc::Global;
 
@@ -201,7 +201,7 @@ fn whole_method(alloc: Global, units: &[u16]) -> Result<MethodDescriptor, Descri
     let (parameters, rest) = parameters_at(alloc, units)?;
     let return_type = whole_return(alloc, rest)?;
     let descriptor = MethodDescriptor {
-        parameters: Boxed::new(alloc, Sequence::new(parameters))?,
+        parameters: Shared::new(alloc, Sequence::new(parameters))?,
         return_type,
     };
     match descriptor.argument_slots() {

@@ -2,12 +2,12 @@
 
 ghost use Rattle.std.specs.Prelude.{◌≡◌, IfOk};
 
-use crate::boxed::Boxed;
 use crate::instruction::operation::{
     Arithmetic, Bitwise, Branch, Conversion, Integral, OperandType, Shift, ShortIndex, SmallInt,
     SmallLong, StackOp,
 };
 use crate::sequence::Sequence;
+use crate::shared::Shared;
 use std::alloc::AllocError;
 
 /// An instruction of one byte that touches one frame alone.
@@ -45,8 +45,8 @@ pub enum Plain {
     /// `iinc` of a local variable by a constant, wide or not.
     Increment(u16, i16),
     Branch(Branch, u32),
-    TableSwitch(Boxed<TableSwitch>),
-    LookupSwitch(Boxed<LookupSwitch>),
+    TableSwitch(Shared<TableSwitch>),
+    LookupSwitch(Shared<LookupSwitch>),
 }
 
 /// The operands of `tableswitch` (JVMS 6.5): the targets of `low`, `low` + 1, .. in order, of
@@ -75,7 +75,7 @@ pub struct SwitchPair {
 
 impl Plain {
     /// The same instruction once more; a switch is shared, and it takes no memory. The error is
-    /// that of [`Boxed::share`].
+    /// that of [`Shared::share`].
     pub fn share(&self) -> Result<Plain, AllocError>
         ensures { IfOk result (λ plain. plain ≡ self.now) }
     {

@@ -2,12 +2,12 @@
 
 ghost use Rattle.std.specs.Prelude.{◌≡◌, IfOk};
 
-use crate::boxed::Boxed;
 use crate::constant::Constant;
 use crate::instruction::operation::{ArrayOp, FieldOp, InvokeOp, MonitorOp, ReturnOp, TypeOp};
 use crate::instruction::plain::Plain;
 use crate::name::Name;
 use crate::reference::{ClassRef, FieldRef, MethodRef};
+use crate::shared::Shared;
 use std::alloc::AllocError;
 
 /// An instruction with its operands, by name.
@@ -22,16 +22,16 @@ pub enum Instr {
     Monitor(MonitorOp),
     /// `ldc` of an int or a string, `ldc2_w` of a long.
     Constant(Constant),
-    Field(FieldOp, Boxed<FieldRef>),
-    Invoke(InvokeOp, Boxed<MethodRef>),
+    Field(FieldOp, Shared<FieldRef>),
+    Invoke(InvokeOp, Shared<MethodRef>),
     /// `new`.
-    New(Boxed<Name>),
-    Type(TypeOp, Boxed<ClassRef>),
+    New(Shared<Name>),
+    Type(TypeOp, Shared<ClassRef>),
 }
 
 impl Instr {
     /// The same instruction once more; what it names is shared, and it takes no memory. The error
-    /// is that of [`Boxed::share`].
+    /// is that of [`Shared::share`].
     pub fn share(&self) -> Result<Instr, AllocError>
         ensures { IfOk result (λ instr. instr ≡ self.now) }
     {

@@ -2,8 +2,8 @@
 // table uses.
 
 use jm_program::{
-    Arithmetic, Bitwise, Boxed, Branch, Comparison, Conversion, Equality, Integral, LookupSwitch,
-    OperandType, Plain, Sequence, Shift, ShortIndex, Simple, SmallInt, SmallLong, StackOp,
+    Arithmetic, Bitwise, Branch, Comparison, Conversion, Equality, Integral, LookupSwitch,
+    OperandType, Plain, Sequence, Shared, Shift, ShortIndex, Simple, SmallInt, SmallLong, StackOp,
     SwitchPair, TableSwitch,
 };
 use std::alloc::{AllocError, Global};
@@ -169,7 +169,7 @@ fn table_switch(alloc: Global) -> Result<Plain, AllocError> {
         targets,
         default: TARGET,
     };
-    Ok(Plain::TableSwitch(Boxed::new(alloc, table)?))
+    Ok(Plain::TableSwitch(Shared::new(alloc, table)?))
 }
 
 // The lookupswitch of the table: five keys have the targets 20 to 24, all others 9.
@@ -188,7 +188,7 @@ fn lookup_switch(alloc: Global) -> Result<Plain, AllocError> {
         pairs: Sequence::new(pairs),
         default: TARGET,
     };
-    Ok(Plain::LookupSwitch(Boxed::new(alloc, lookup)?))
+    Ok(Plain::LookupSwitch(Shared::new(alloc, lookup)?))
 }
 
 /// All of them.

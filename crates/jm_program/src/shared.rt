@@ -10,36 +10,36 @@ use std::sync::Arc;
 /// A value in a place of its own, which contracts see as the value itself. It keeps an enum small
 /// whose other variants are small, and any number of owners, in any threads, can share it.
 #[derive(Debug, Drop)]
-pub struct Boxed<T> {
+pub struct Shared<T> {
     content: Arc<T>,
 }
 
-impl<T> Model for Boxed<T> {
+impl<T> Model for Shared<T> {
     ghost Value = { T };
 
-    ghost view = { λ b. b.content.value };
+    ghost view = { λ shared. shared.content.value };
 }
 
-impl<T: Drop> Boxed<T> {
+impl<T: Drop> Shared<T> {
     /// The value, put into a place of its own, or the error where there is no memory for it.
-    pub fn new(alloc: Global, value: T) -> Result<Boxed<T>, AllocError>
-        ensures { IfOk result (λ boxed. boxed ≡ value) }
+    pub fn new(alloc: Global, value: T) -> Result<Shared<T>, AllocError>
+        ensures { IfOk result (λ shared. shared ≡ value) }
     {
         let content = Arc::new(alloc, value)?;
-        Ok(Boxed { content })
+        Ok(Shared { content })
     }
 
     /// The same value once more, in the same place: it takes no memory. The error is for more
     /// than 2^63 - 1 owners.
-    pub fn share(&self) -> Result<Boxed<T>, AllocError>
-        ensures { IfOk result (λ boxed. boxed ≡ self.now) }
+    pub fn share(&self) -> Result<Shared<T>, AllocError>
+        ensures { IfOk result (λ shared. shared ≡ self.now) }
     {
         let content = Arc::try_clone(&self.content)?;
-        Ok(Boxed { content })
+        Ok(Shared { content })
     }
 }
 
-impl<T> Boxed<T> {
+impl<T> Shared<T> {
     /// The value.
     pub fn get(&self) -> &T
         ensures { result.now ≡ self.now }
@@ -48,7 +48,7 @@ impl<T> Boxed<T> {
     }
 }
 
-impl<T> Boxed<Sequence<T>> {
+impl<T> Shared<Sequence<T>> {
     /// The items, in order.
     pub fn as_slice(&self) -> &[T]
         ensures { result.now ≡ self.now }
@@ -57,16 +57,16 @@ impl<T> Boxed<Sequence<T>> {
     }
 }
 
-impl<T: PartialEq> PartialEq for Boxed<T> {
+impl<T: PartialEq> PartialEq for Shared<T> {
     ghost eq = { T.eq };
 
     ghost laws = { T.laws };
 
-    fn eq(&self, other: &Boxed<T>) -> bool {
+    fn eq(&self, other: &Shared<T>) -> bool {
         self.get() == other.get()
     }
 }
 
-impl<T: Eq> Eq for Boxed<T> {
+impl<T: Eq> Eq for Shared<T> {
     ghost laws = { T.Eq.laws };
 }
