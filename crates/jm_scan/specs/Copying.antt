@@ -5,7 +5,7 @@ use Rattle.std.specs.Prelude.{◌≡◌, ◌≢◌, ◌⊎◌, ℕ, ◌+◌, ◌
 use Rattle.jm_values.specs.declared.value.Value.{Value}
 use Rattle.jm_values.specs.declared.value.Value.TheVariants.{Int, Long, Null, Ref}
 use Rattle.jm_blocks.specs.Objects.{Object}
-use Rattle.jm_scan.specs.Image.{IsReached, older}
+use Rattle.jm_scan.specs.Image.{IsImage, IsReached, older}
 
 -- a place became another: a condemned object's one that is known, any other stays
 abbrev pub Forwarded : (ℕ → Option Object) → (ℕ → ℕ → Type 0) → ℕ → ℕ → Type 0
@@ -93,3 +93,14 @@ IsScanned new done = (n : ℕ) (a : Object) → new n ≡ Some a → done n (len
 -- what a map moves
 abbrev pub Moves : (ℕ → Option ℕ) → ℕ → ℕ → Type 0
 Moves moved p n = moved p ≡ Some n
+
+-- the scan is over: all values of the new objects are forwarded, and all roots
+pub record IsFinished (old : ℕ → Option Object) (roots : List ℕ) (new : ℕ → Option Object) (new_roots : List ℕ) (moved : ℕ → Option ℕ) (done : Progress) : Type 0 where
+  pub copying : Copying old roots (Moves moved) (Moves moved) new done
+  pub scanned : IsScanned new done
+  pub many : length new_roots ≡ length roots
+  pub forwarded : AreForwarded old (Moves moved) roots new_roots
+
+-- then they are the image
+abbrev pub FinishedIsImage : (ℕ → Option Object) → (ℕ → Option Object) → (ℕ → Option ℕ) → Progress → Type 0
+FinishedIsImage old new moved done = (roots new_roots : List ℕ) → IsFinished old roots new new_roots moved done → IsImage old roots new new_roots moved
