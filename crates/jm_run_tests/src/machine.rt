@@ -1,7 +1,5 @@
-// Machines: runs with what is told after each event, the readers, journals, and workers that share
-// a machine.
+// Machines: runs with what is told after each event, the readers, and journals.
 
 mod journals;
 mod readers;
 mod runs;
-mod workers;

@@ -1,5 +1,5 @@
 -- The events of stretches, one stretch after the other.
-use Rattle.std.proofs.Common.{◌≡◌, ℕ, zero, suc, ◌+◌, ◌-◌, ◌≤◌, List, [], ◌∷◌, ◌++◌, map, refl, sym, ap, subst, ◌∙◌, replicate, take, append_assoc}
+use Rattle.std.proofs.Common.{◌≡◌, ℕ, zero, suc, ◌+◌, ◌-◌, ◌≤◌, List, [], ◌∷◌, ◌++◌, refl, sym, ap, subst, ◌∙◌, replicate, take, append_assoc}
 use Rattle.std.proofs.Common.{append-nil, length, drop, get_or, ◌<◌, arith}
 use Rattle.std.proofs.lemmas.List.{take_all, drop_more, drop_all, length-append, length-replicate, map-append}
 use Rattle.jm_world.specs.declared.event.Event.{Event}

@@ -1,13 +1,13 @@
 -- Each step keeps the rule of the seats.
-use Rattle.std.proofs.Common.{◌≡◌, ◌≢◌, ◌⊎◌, ⊎_elim, ℕ, ◌+◌, ◌<◌, ◌≤◌, Bool, true, false, true≢false, cond, List, [], ◌∷◌, ◌++◌, map, length, set, refl, sym}
+use Rattle.std.proofs.Common.{◌≡◌, ◌≢◌, ⊎_elim, ℕ, ◌+◌, ◌<◌, ◌≤◌, Bool, true, false, true≢false, cond, List, [], ◌∷◌, ◌++◌, length, set, refl, sym}
 use Rattle.std.proofs.Common.{ap, ◌∙◌, subst, arith}
-use mathlib.Core.Option.{Option, none, some}
+use mathlib.Core.Option.{some}
 use lib.ListN.{get_elem?}
 use Rattle.std.specs.List.{All}
 use Rattle.std.proofs.lemmas.List.Elements.{All-nil, All-cons, All-head, All-tail, All-push, All-append, All-set, All-weaker, All-map}
 use Rattle.atomic_table.specs.Table.{State, Me, keeps, Allows, Splits, Joins, opening}
 use Rattle.atomic_table.proofs.Lists.{at_set}
-use Rattle.jm_forward.specs.Hands.{weigh, one_at}
+use Rattle.jm_forward.specs.Hands.{one_at}
 use Rattle.jm_forward.proofs.Totals.{weigh-append, weigh_push, weigh-set, weigh_two, weigh_one, All-at, All-from_at}
 use Rattle.jm_shared.specs.declared.entry.Entry.{Entry}
 use Rattle.jm_shared.specs.declared.entry.Receipt.{Receipt}

@@ -53,6 +53,10 @@ IsToken me = (me.0 ≡ seated (its_hand me ∷ [])) × (me.1 ≡ [])
 abbrev pub times : ℕ → List Hand → ℕ
 times number hands = weigh (λ h. one_at number h.number) hands
 
+-- the token of a new table, with all seats and the keeper
+abbrev pub fresh_token : ℕ → Me (List Repeated) View
+fresh_token seats = (keeper_with [] (fresh_hands 0 seats), [])
+
 -- which table some seats are of, and how many they are
 pub record TableView : Type 0 where
   pub table : TableId

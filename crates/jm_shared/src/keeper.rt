@@ -43,14 +43,14 @@ pub struct SeatTable {
 }
 
 impl Model for SeatTable {
-    ghost use Rattle.std.specs.Prelude.{◌≡◌, ◌<◌, []};
-    ghost use Rattle.jm_shared.specs.Seats.{TableView, fresh_hands, keeper_with};
+    ghost use Rattle.std.specs.Prelude.{◌≡◌, ◌<◌};
+    ghost use Rattle.jm_shared.specs.Seats.{TableView, fresh_token};
 
     ghost Value = { TableView };
 
     ghost view = { λ t. record { table = t.table.shared.table_id; seats = t.seats } };
 
-    ghost invariant = { λ t. (0 < t.table.shared.table_id.words) × (t.token.table_id ≡ t.table.shared.table_id) × (t.token.me ≡ (keeper_with [] (fresh_hands 0 t.seats), [])) };
+    ghost invariant = { λ t. (0 < t.table.shared.table_id.words) × (t.token.table_id ≡ t.table.shared.table_id) × (t.token.me ≡ fresh_token t.seats) };
 }
 
 impl SeatTable {

@@ -1,6 +1,6 @@
 -- One seat more is dealt out.
-use Rattle.std.proofs.Common.{◌≡◌, ◌<◌, ◌+◌, ◌-◌, [], ◌∷◌, sym, ap, ◌∙◌, arith, vec_len}
-use Rattle.jm_shared.specs.Seats.{keeper_with, fresh_hands, hand}
+use Rattle.std.proofs.Common.{◌<◌, [], sym, ap, ◌∙◌, arith}
+use Rattle.jm_shared.specs.Seats.{keeper_with}
 use Rattle.jm_shared.proofs.SeatLists.{fresh_next, fresh_dealt}
 use Rattle.jm_shared.proofs.SeatSteps.{splits, dealt_one, dealt_rest}
 use Rattle.jm_shared.proofs.keeper.deal_seats.Goals as goal

@@ -1,5 +1,5 @@
 -- The events of one stretch more.
-use Rattle.std.proofs.Common.{arith, vec_len, length}
+use Rattle.std.proofs.Common.{arith}
 use Rattle.jm_shared.proofs.Events.{events_begin, next_stretch, last_stretch}
 use Rattle.jm_shared.proofs.stretch.events_in.Goals as goal
 

@@ -1,5 +1,5 @@
 -- The replies are the journal's, since it is legal.
-use Rattle.std.proofs.Common.{◌≡◌, sym, ap, subst, ◌∙◌}
+use Rattle.std.proofs.Common.{sym, ap, subst, ◌∙◌}
 use Rattle.jm_world.specs.Run.{run_from, replies_from}
 use Rattle.jm_machine.specs.View.{MatchesWorld}
 use Rattle.jm_shared.specs.Legal.{world_after}

@@ -1,4 +1,4 @@
-use Rattle.std.proofs.Common.{◌≡◌, ◌<◌, true, [], ◌++◌, vec_len}
+use Rattle.std.proofs.Common.{◌≡◌, ◌<◌, true, ◌++◌, vec_len}
 use Rattle.std.specs.List.{All}
 use Rattle.jm_shared.proofs.keeper.SeatTies.compare.Given as goal
 

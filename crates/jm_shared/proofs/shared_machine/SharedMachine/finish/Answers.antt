@@ -1,5 +1,5 @@
 -- Too few seats lack one, and enough are all.
-use Rattle.std.proofs.Common.{◌≡◌, ◌<◌, ◌≤◌, length, refl, arith}
+use Rattle.std.proofs.Common.{refl, arith}
 use Rattle.jm_shared.proofs.SeatCounts.{too_few, enough}
 use Rattle.jm_shared.proofs.shared_machine.SharedMachine.finish.Goals as goal
 
