@@ -1,6 +1,7 @@
 // From a job's files to a machine and the events that it is to make.
 
-ghost use Rattle.std.specs.Prelude.{◌≡◌, IfOk};
+ghost use Rattle.std.specs.Prelude.{◌≡◌, None, IfOk};
+ghost use Rattle.jm_linked.specs.Later.{later_part};
 ghost use Rattle.jm_machine.specs.Start.{IsEmpty};
 ghost use Rattle.jm_execute.specs.Beginnings.{StandsAtItsBeginning};
 ghost use Rattle.jm_execute.specs.Refusals.{Gives};
@@ -32,7 +33,8 @@ fn classes_of(alloc: Global, files: &[InputFile]) -> Result<Vec<Class>, Obstacle
 }
 
 fn linked_program<'a>(alloc: Global, classes: Vec<Class>) -> Result<Linked, Obstacle<'a>>
-    ensures { Gives result (linked_program classes.items) (λ linked. linked.program) }
+    ensures program { Gives result (linked_program classes.items) (λ linked. linked.program) }
+    ensures whole { IfOk result (λ linked. later_part linked.program ≡ None) }
 {
     match link(alloc, classes) {
         Ok(linked) => Ok(linked),
@@ -46,7 +48,8 @@ fn loaded_machine<'a, H: Heap + Drop>(
     linked: Linked,
     heap: H,
 ) -> Result<Machine<H>, Obstacle<'a>>
-    requires { IsEmpty (H.content heap) }
+    requires empty { IsEmpty (H.content heap) }
+    requires whole { later_part linked.program ≡ None }
     ensures program { Gives result (loaded_program (H.content heap).limit linked.program) (λ machine. machine.linked.program) }
     ensures ready { IfOk result (StandsAtItsBeginning (H.content heap).limit) }
 {

@@ -75,6 +75,7 @@ module _ {H : Type 0} {content : H → Content ClassId} {at : At} {old : State H
           literals = r.literals;
           classes = r.classes;
           not_yet = record {
+            program = r.not_yet.program;
             threads =
                 all_set ThreadNotYet old.threads.items at.index t r.not_yet.threads
                 (subst ThreadNotYet (sym (held_is s)) (record { object = none; monitors = tt; initializers = tt }));

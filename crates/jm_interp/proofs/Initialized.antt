@@ -23,6 +23,7 @@ use Rattle.jm_world.specs.declared.class_state.ClassState.TheVariants.{NotBegun,
 use Rattle.jm_world.specs.declared.stage.Stage.{Stage}
 use Rattle.jm_world.specs.declared.stage.Stage.TheVariants as stage
 use Rattle.jm_heap.specs.declared.class_id.ClassId.{ClassId}
+use Rattle.jm_linked.specs.Later.{later_part}
 use Rattle.jm_linked.specs.Links.{LinkedView, IsLinked}
 use Rattle.jm_linked.specs.Named.{named_states}
 use Rattle.jm_state.specs.Parts.{parts, frame_part, thread_part, program_class_name, name_in_program}
@@ -55,16 +56,16 @@ pub record HasClass (l : LinkedView) (class : ℕ) : Type 0 where
   pub is_named : class_named l.program class_of.name ≡ Some class_of
   pub plain : IsPlain class_of
 
-pub has_class : (l : LinkedView) → IsLinked l → (class : ℕ) → class < length l.program → HasClass l class
+pub has_class : (l : LinkedView) → IsLinked l → later_part l.program ≡ None → (class : ℕ) → class < length l.program → HasClass l class
 unfolding program_class_name
-has_class l is class lt =
+has_class l is none class lt =
     let d = get_there l.program class lt in
     record {
       class_of = d.0;
       at = d.1;
       named = ap name_in_program d.1;
       is_named = class_is l.program is.loads class d.0 d.1;
-      plain = plain_class l.program is.whole class d.0 d.1;
+      plain = plain_class l.program none class d.0 d.1;
     }
 
 -- the frames below an initialization may be left
@@ -96,7 +97,7 @@ module _ {H : Type 0} {content : H → Content ClassId} {at : At} {old : State H
   lower = thread.lower h below
 
   pub class_of : HasClass at.linked.now class
-  class_of = has_class at.linked.now h.beside.linked class (part_here h).runs.frames.0
+  class_of = has_class at.linked.now h.beside.linked h.beside.runs.not_yet.program class (part_here h).runs.frames.0
 
   pub class_within : class < vec_len old.classes
   class_within =
@@ -168,6 +169,7 @@ module _ {H : Type 0} {content : H → Content ClassId} {at : At} {old : State H
         literals = ap length same.literals ∙ r.literals;
         classes = ap length classes ∙ length-set old.classes.items class st ∙ r.classes;
         not_yet = record {
+          program = r.not_yet.program;
           threads = subst (λ ts. AllByRecursion ThreadNotYet (map held_thread ts)) (sym same.threads) r.not_yet.threads;
           monitors = same.monitors ∙ r.not_yet.monitors;
           failures = subst (AllByRecursion (λ x. x ≢ Failed)) (sym classes) (each_set (λ x. x ≢ Failed) old.classes.items class st r.not_yet.failures sound);

@@ -210,7 +210,7 @@ module _ {H : Type 0} {content : H → Content ClassId} {at : At} {old : State H
               (sym (told h.method.on t class))
               ∙ ap (on_type w (arguments_of pr.text) k (named_type l.program id))
               (ap (λ program. is_assignable program (type_of_object (named_type l.program id)) (class_type print_stream_class)) (sym m.program)
-              ∙ stream_test l.program b.loads b.whole id ∙ sym tested)
+              ∙ stream_test l.program b.loads h.method.on.beside.runs.not_yet.program id ∙ sym tested)
 
           -- one that is no print stream is a fault
           pub other_faults : test ≡ false → Steps content at old (Err (Stopped (why.TagFault WrongKind))) old

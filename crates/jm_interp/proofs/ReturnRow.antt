@@ -88,7 +88,7 @@ module _ {H : Type 0} {content : H → Content ClassId} {at : At} {old : State H
   result_none : (name_of_number at.linked.now h.method.frame.method).descriptor.return_type ≡ None
   result_none =
       let m = get_there at.linked.now.methods h.method.frame.method (part_here h.method.on).runs.frames.0 in
-      no_result at.linked.now h.method.on.beside.linked h.method.frame.method m.0 m.1
+      no_result at.linked.now h.method.on.beside.linked h.method.frame.method m.0 m.1 h.method.on.beside.runs.not_yet.program
 
   return_is : Leads h.method.on step_thread (λ w. row_return (place h.method w) op)
   return_is w m = row_is h w m ∙ ap (row (place h.method w)) h.is

@@ -23,6 +23,7 @@ use Rattle.jm_values.specs.declared.fault.TagFault.TheVariants.{WrongKind}
 use Rattle.jm_heap.specs.declared.class_id.ClassId.{ClassId}
 use Rattle.jm_heap.specs.declared.class_id.ClassId.TheVariants.{Instance, Array}
 use Rattle.jm_heap.specs.declared.class_id.Component.{Component}
+use Rattle.jm_linked.specs.Later.{later_part}
 use Rattle.jm_linked.specs.Links.{LinkedView, IsLinked, name_of_number, class_name_of, class_names}
 use Rattle.jm_state.specs.Parts.{parts, frame_part, named_type}
 use Rattle.jm_state.specs.declared.halt.StepEnd.TheVariants.{Done}
@@ -57,13 +58,14 @@ array_name program id component n e far =
     ap (λ o. unwrap_or o []) (slice_get_past (class_names program) n (omega arith)) ∙ ap (λ x. class_name (named_type program x)) (sym e)
 
 -- no method that can run catches
-no_handlers : (l : LinkedView) → IsLinked l → (k : ℕ) → k < length l.methods → handlers_of (method_named l.program (name_of_number l k)) ≡ []
-no_handlers l is k lt =
+no_handlers : (l : LinkedView) → IsLinked l → later_part l.program ≡ None → (k : ℕ) → k < length l.methods
+    → handlers_of (method_named l.program (name_of_number l k)) ≡ []
+no_handlers l is none k lt =
     let m = get_there l.methods k lt in
     let links = is.methods k m.0 m.1 in
     ap handlers_of (fetching.method_is l is k m.0 m.1)
     ∙ ap (λ o. elim o as (λ _. List Handler) [ None ↦ [] | Some code ↦ code.handlers ]) links.code_is
-    ∙ (fetching.whole l is k m.0 m.1).handlers
+    ∙ (fetching.whole l is k m.0 m.1 none).handlers
 
 module _ {H : Type 0} {content : H → Content ClassId} {at : At} {old : State H} {fs : List StackFrame} {place : ℕ}
     (h : OnThread content at old fs (Some place)) where
@@ -83,7 +85,8 @@ module _ {H : Type 0} {content : H → Content ClassId} {at : At} {old : State H
       let f = name_of (content old.heap) in
       let below = map (rename_frame f) (map (frame_part l) gs) in
       let handlers : handlers_of (method_named w.program (name_of_number l v.method)) ≡ [] =
-      ap (λ p. handlers_of (method_named p (name_of_number l v.method))) (sym m.program) ∙ no_handlers l h.beside.linked v.method q.runs.frames.0 in
+      ap (λ p. handlers_of (method_named p (name_of_number l v.method))) (sym m.program)
+      ∙ no_handlers l h.beside.linked h.beside.runs.not_yet.program v.method q.runs.frames.0 in
       ap (λ hs. elim (handler_in w v.activation.at type hs) as (λ _. Next) [
         | Some r ↦ handle w (at.index + 1) x (name_of_number l v.method) (rename_activation f v.activation) (option_map f v.monitor) below k r
         | None ↦ drop_method w (at.index + 1) x (option_map f v.monitor) below k type

@@ -1,6 +1,6 @@
 -- What holds of a program in which nothing comes later.
 use Rattle.std.proofs.Common.{◌≡◌, ℕ, zero, suc, List, [], ◌∷◌, Option, Some, None, Bool, true, false, refl, sym, ap, ◌∙◌}
-use Rattle.std.specs.Prelude.{slice_get, ◌&&◌, codes}
+use Rattle.std.specs.Prelude.{slice_get, is_some, ◌&&◌, codes}
 use Rattle.jm_program.specs.Names.{same_text}
 use Rattle.jm_program.specs.declared.class.ClassParts.{ClassParts}
 use Rattle.jm_program.specs.declared.class.Method.{Method}
@@ -8,9 +8,20 @@ use Rattle.jm_program.specs.declared.code.Code.{Code}
 use Rattle.jm_program.specs.declared.descriptor.FieldType.{FieldType}
 use Rattle.jm_world.specs.Types.{same_types, same_result, same_method_type}
 use Rattle.jm_world.specs.Loading.{main_type}
+use Rattle.jm_program.specs.declared.instruction.operation.FieldOp.{FieldOp}
+use Rattle.jm_program.specs.declared.instruction.operation.FieldOp.TheVariants.{GetStatic, PutStatic, GetField, PutField}
+use Rattle.jm_program.specs.declared.instruction.operation.InvokeOp.{InvokeOp}
+use Rattle.jm_program.specs.declared.instruction.operation.InvokeOp.TheVariants.{Virtual, Special, Static, Interface}
+use Rattle.jm_program.specs.declared.instruction.symbolic.Instr.{Instr}
+use Rattle.jm_program.specs.declared.reference.FieldRef.{FieldRef}
+use Rattle.jm_program.specs.declared.reference.MethodRef.{MethodRef}
+use Rattle.jm_linked.specs.declared.instruction.LinkedInstr.{LinkedInstr}
+use Rattle.jm_linked.specs.declared.instruction.LinkedInstr.TheVariants as linked
+use Rattle.jm_linked.specs.declared.instruction.PrintMethod.{PrintMethod}
+use Rattle.jm_linked.specs.Links.{LinksIn, prints, reads_system_out}
 use Rattle.jm_linked.specs.declared.later.LaterPart.{LaterPart}
 use Rattle.jm_linked.specs.declared.later.LaterPart.TheVariants as later
-use Rattle.jm_linked.specs.Later.{or_later, first_later, unless_empty, later_instruction, later_code}
+use Rattle.jm_linked.specs.Later.{print_among, print_methods, or_later, first_later, unless_empty, later_field, later_invoke, later_instruction, later_code}
 use Rattle.jm_linked.specs.Later.{is_main_method, later_superclass, other_method, later_class, later_part}
 
 -- neither of two comes later
@@ -99,3 +110,51 @@ whole_method program n k c m code e class method is =
       instructions = parts.0;
       handlers = nothing_later later.Handlers code.handlers parts.1;
     }
+
+-- the linked instructions that the machine can run
+abbrev pub RunsToday : LinkedInstr → Type 0
+RunsToday (linked.Plain op) = Unit {0}
+RunsToday (linked.Int n) = Unit {0}
+RunsToday (linked.Long n) = Unit {0}
+RunsToday (linked.Return op) = Unit {0}
+RunsToday linked.SystemOut = Unit {0}
+RunsToday (linked.Print p) = Unit {0}
+RunsToday _ = ⊥
+
+field_later : (op : FieldOp) (f : FieldRef) → reads_system_out op f ≡ false → later_field op f ≡ None → ⊥
+field_later GetStatic f other e = let bad : Some (later.Field GetStatic) ≡ None = sym (ap (λ b. elim b as
+    (λ _. Option LaterPart) [ true ↦ None | false ↦ Some (later.Field GetStatic) ]) other) ∙ e in cc
+field_later PutStatic f other e = cc
+field_later GetField f other e = cc
+field_later PutField f other e = cc
+
+none_prints : (o : Option PrintMethod) → is_some o ≡ false → (elim o as (λ _. Option LaterPart) [
+  | Some p ↦ None
+  | None ↦ Some
+      (later.Invoke Virtual)
+]) ≡ None → ⊥
+none_prints None other e = cc
+none_prints (Some p) other e = cc
+
+invoke_later : (op : InvokeOp) (m : MethodRef) → prints op m ≡ false → later_invoke op m ≡ None → ⊥
+invoke_later Virtual m other e = none_prints (print_among print_methods m) other e
+invoke_later Special m other e = cc
+invoke_later Static m other e = cc
+invoke_later Interface m other e = cc
+
+-- an instruction that does not come later
+pub runs_today : (program : List ClassParts) (x : LinkedInstr) (i : Instr) → LinksIn program x i → later_instruction i ≡ None → RunsToday x
+runs_today program (linked.Plain op) i h e = tt
+runs_today program (linked.Int n) i h e = tt
+runs_today program (linked.Long n) i h e = tt
+runs_today program linked.Literal i h e = let bad : Some later.StringConstant ≡ None = sym (ap later_instruction h.1) ∙ e in cc
+runs_today program (linked.Return op) i h e = tt
+runs_today program (linked.Array op) i h e = let bad : Some (later.Array op) ≡ None = sym (ap later_instruction h) ∙ e in cc
+runs_today program linked.Throw i h e = let bad : Some later.Throw ≡ None = sym (ap later_instruction h) ∙ e in cc
+runs_today program (linked.Monitor op) i h e = let bad : Some (later.Monitor op) ≡ None = sym (ap later_instruction h) ∙ e in cc
+runs_today program linked.SystemOut i h e = tt
+runs_today program (linked.Field op n) i h e = field_later op h.field h.other (sym (ap later_instruction h.is) ∙ e)
+runs_today program (linked.Print p) i h e = tt
+runs_today program (linked.Invoke op n) i h e = invoke_later op h.method h.other (sym (ap later_instruction h.is) ∙ e)
+runs_today program (linked.New n) i h e = let bad : Some later.New ≡ None = sym (ap later_instruction h.1) ∙ e in cc
+runs_today program (linked.Type op t) i h e = let bad : Some (later.Type op) ≡ None = sym (ap later_instruction h.1) ∙ e in cc

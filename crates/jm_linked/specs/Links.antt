@@ -1,5 +1,5 @@
 -- A linked program beside its classes.
-use Rattle.std.specs.Prelude.{◌≡◌, ℕ, List, [], ◌∷◌, ◌++◌, map, length, Option, Some, None, true, unwrap_or, slice_get, option_map}
+use Rattle.std.specs.Prelude.{◌≡◌, ℕ, suc, List, [], ◌∷◌, ◌++◌, map, length, Option, Some, None, Bool, true, false, is_some, unwrap_or, slice_get, option_map}
 use Rattle.std.specs.List.{list_all}
 use Rattle.jm_program.specs.Instructions.{instr_fits}
 use Rattle.jm_program.specs.declared.class.ClassParts.{ClassParts}
@@ -7,24 +7,40 @@ use Rattle.jm_program.specs.declared.class.Method.{Method}
 use Rattle.jm_program.specs.declared.code.Code.{Code}
 use Rattle.jm_program.specs.declared.code.Handler.{Handler}
 use Rattle.jm_program.specs.declared.constant.Constant.TheVariants as constant
+use Rattle.jm_program.specs.declared.descriptor.ElementType.{ElementType}
+use Rattle.jm_program.specs.declared.descriptor.ElementType.TheVariants as type
+use Rattle.jm_program.specs.declared.descriptor.FieldType.{FieldType}
+use Rattle.jm_program.specs.declared.instruction.operation.FieldOp.{FieldOp}
 use Rattle.jm_program.specs.declared.instruction.operation.FieldOp.TheVariants.{GetStatic}
+use Rattle.jm_program.specs.declared.instruction.operation.InvokeOp.{InvokeOp}
 use Rattle.jm_program.specs.declared.instruction.operation.InvokeOp.TheVariants.{Virtual}
 use Rattle.jm_program.specs.declared.instruction.symbolic.Instr.{Instr}
 use Rattle.jm_program.specs.declared.instruction.symbolic.Instr.TheVariants as instr
+use Rattle.jm_program.specs.declared.reference.ClassRef.{ClassRef}
+use Rattle.jm_program.specs.declared.reference.ClassRef.TheVariants as named
 use Rattle.jm_program.specs.declared.reference.FieldRef.{FieldRef}
 use Rattle.jm_program.specs.declared.reference.MethodRef.{MethodRef}
+use Rattle.jm_builtins.specs.List.{the_builtins}
 use Rattle.jm_builtins.specs.Numbers.{built_in_names}
-use Rattle.jm_world.specs.Classes.{FoundMethod, MethodName, name_of_method, method_named}
+use Rattle.jm_world.specs.Classes.{FoundField, FoundMethod, MethodName, as_class, name_of_method, method_named}
+use Rattle.jm_world.specs.Fields.{resolved_field}
 use Rattle.jm_world.specs.Loading.{main_in}
 use Rattle.jm_world.specs.Loads.{Loads}
+use Rattle.jm_world.specs.Resolution.{resolve_method}
+use Rattle.jm_world.specs.Types.{type_of_ref}
 use Rattle.jm_linked.specs.Kinds.{kind_of}
-use Rattle.jm_linked.specs.Later.{is_system_out, is_print, later_part}
+use Rattle.jm_linked.specs.Later.{is_system_out, is_print, print_among, print_methods}
+use Rattle.jm_linked.specs.declared.instruction.InvokedMethod.{InvokedMethod}
+use Rattle.jm_linked.specs.declared.instruction.LinkedElement.{LinkedElement}
+use Rattle.jm_linked.specs.declared.instruction.LinkedElement.TheVariants as element
 use Rattle.jm_linked.specs.declared.instruction.LinkedInstr.{LinkedInstr}
 use Rattle.jm_linked.specs.declared.instruction.LinkedInstr.TheVariants as linked
+use Rattle.jm_linked.specs.declared.instruction.LinkedType.{LinkedType}
+use Rattle.jm_linked.specs.declared.instruction.MemberNumber.{MemberNumber}
 use Rattle.jm_linked.specs.declared.method.LinkedHandler.{LinkedHandler}
 use Rattle.jm_linked.specs.declared.method.LinkedMethod.{LinkedMethod}
 
--- the classes, the methods that can run, by number, and the number of main
+-- the classes, the methods with code, by number, and the number of main
 pub record LinkedView : Type 0 where
   pub program : List ClassParts
   pub methods : List LinkedMethod
@@ -37,25 +53,98 @@ class_names program = built_in_names ++ map (λ c. c.name) program
 unfoldable pub class_name_of : List ClassParts → ℕ → List ℕ
 class_name_of program n = unwrap_or (slice_get (class_names program) n) []
 
+-- the class of that number
+abbrev pub class_numbered : List ClassParts → ℕ → Option ClassParts
+class_numbered program n = slice_get (map as_class the_builtins ++ program) n
+
+-- the number names the class
+abbrev pub NamesClass : List ClassParts → ℕ → List ℕ → Type 0
+NamesClass program n name = slice_get (class_names program) n ≡ Some name
+
+abbrev pub NamesElement : List ClassParts → LinkedElement → ElementType → Type 0
+NamesElement program (element.Base base) t = t ≡ type.Base base
+NamesElement program (element.Class n) t = (name : List ℕ) × (t ≡ type.Class name) × NamesClass program n name
+
+pub record NamesType (program : List ClassParts) (linked : LinkedType) (t : FieldType) : Type 0 where
+  pub dimensions : t.dimensions ≡ linked.dimensions
+  pub element : NamesElement program linked.element t.element
+
+-- the field, or the method, that a class of that number declares under a number
+pub record IsFieldOf (program : List ClassParts) (n : MemberNumber) (found : FoundField) : Type 0 where
+  pub class : class_numbered program n.class ≡ Some found.class
+  pub field : slice_get found.class.fields n.member ≡ Some found.field
+
+pub record IsMethodOf (program : List ClassParts) (n : MemberNumber) (found : FoundMethod) : Type 0 where
+  pub class : class_numbered program n.class ≡ Some found.class
+  pub method : slice_get found.class.methods n.member ≡ Some found.method
+
+-- the uses of fields and the invokes that are linked in another way: getstatic of System.out, and
+-- the methods that print
+abbrev pub reads_system_out : FieldOp → FieldRef → Bool
+reads_system_out GetStatic f = is_system_out f
+reads_system_out _ f = false
+
+abbrev pub prints : InvokeOp → MethodRef → Bool
+prints Virtual m = is_some (print_among print_methods m)
+prints _ m = false
+
+-- a use of the field that the reference means (JVMS 5.4.3.2)
+pub record FieldLinks (program : List ClassParts) (op : FieldOp) (n : MemberNumber) (i : Instr) : Type 0 where
+  pub field : FieldRef
+  pub is : i ≡ instr.Field op field
+  pub other : reads_system_out op field ≡ false
+  pub found : FoundField
+  pub resolved : resolved_field program field field.class ≡ Some found
+  pub numbered : IsFieldOf program n found
+
+-- an invoke of the method that the reference means (JVMS 5.4.3.3, 5.4.3.4)
+pub record InvokeLinks (program : List ClassParts) (op : InvokeOp) (n : InvokedMethod) (i : Instr) : Type 0 where
+  pub method : MethodRef
+  pub is : i ≡ instr.Invoke op method
+  pub other : prints op method ≡ false
+  pub name : List ℕ
+  pub class : method.class ≡ named.Class name
+  pub named : NamesClass program n.named name
+  pub found : FoundMethod
+  pub resolved : resolve_method program name method.name method.descriptor ≡ Some found
+  pub numbered : IsMethodOf program n.found found
+
 -- the symbolic instruction is the linked one with names in the place of what the linked program
 -- numbers (JVMS 5.4.3)
+abbrev pub LinksIn : List ClassParts → LinkedInstr → Instr → Type 0
+LinksIn program (linked.Plain op) i = i ≡ instr.Plain op
+LinksIn program (linked.Int n) i = i ≡ instr.Constant (constant.Int n)
+LinksIn program (linked.Long n) i = i ≡ instr.Constant (constant.Long n)
+LinksIn program linked.Literal i = (units : List ℕ) × (i ≡ instr.Constant (constant.String units))
+LinksIn program (linked.Return op) i = i ≡ instr.Return op
+LinksIn program (linked.Array op) i = i ≡ instr.Array op
+LinksIn program linked.Throw i = i ≡ instr.Throw
+LinksIn program (linked.Monitor op) i = i ≡ instr.Monitor op
+LinksIn program linked.SystemOut i = (f : FieldRef) × (i ≡ instr.Field GetStatic f) × (is_system_out f ≡ true)
+LinksIn program (linked.Field op n) i = FieldLinks program op n i
+LinksIn program (linked.Print p) i = (m : MethodRef) × (i ≡ instr.Invoke Virtual m) × (is_print m p ≡ true)
+LinksIn program (linked.Invoke op n) i = InvokeLinks program op n i
+LinksIn program (linked.New n) i = (name : List ℕ) × (i ≡ instr.New name) × NamesClass program n name
+LinksIn program (linked.Type op t) i = (class : ClassRef) × (i ≡ instr.Type op class) × NamesType program t (type_of_ref class)
+
+abbrev pub AllLinkIn : List ClassParts → List LinkedInstr → List Instr → Type 0
+AllLinkIn program [] [] = Unit {0}
+AllLinkIn program (x ∷ xs) (i ∷ is) = LinksIn program x i × AllLinkIn program xs is
+AllLinkIn program [] (i ∷ is) = ⊥
+AllLinkIn program (x ∷ xs) [] = ⊥
+
 abbrev pub Links : LinkedView → LinkedInstr → Instr → Type 0
-Links l (linked.Plain op) i = i ≡ instr.Plain op
-Links l (linked.Int n) i = i ≡ instr.Constant (constant.Int n)
-Links l (linked.Long n) i = i ≡ instr.Constant (constant.Long n)
-Links l (linked.Return op) i = i ≡ instr.Return op
-Links l linked.SystemOut i = (f : FieldRef) × (i ≡ instr.Field GetStatic f) × (is_system_out f ≡ true)
-Links l (linked.Print p) i = (m : MethodRef) × (i ≡ instr.Invoke Virtual m) × (is_print m p ≡ true)
+Links l x i = LinksIn l.program x i
 
 abbrev pub AllLink : LinkedView → List LinkedInstr → List Instr → Type 0
-AllLink l [] [] = Unit {0}
-AllLink l (x ∷ xs) (i ∷ is) = Links l x i × AllLink l xs is
-AllLink l [] (i ∷ is) = ⊥
-AllLink l (x ∷ xs) [] = ⊥
+AllLink l xs is = AllLinkIn l.program xs is
 
 -- the row of the exception table that a linked one stands for
+abbrev pub handler_in : List ClassParts → LinkedHandler → Handler
+handler_in program h = record { start = h.start; end = h.end; target = h.target; catch_type = option_map (class_name_of program) h.catch_type }
+
 abbrev pub handler_of : LinkedView → LinkedHandler → Handler
-handler_of l h = record { start = h.start; end = h.end; target = h.target; catch_type = option_map (class_name_of l.program) h.catch_type }
+handler_of l h = handler_in l.program h
 
 -- the name by which the model keeps a method: that of the member of that number of a class
 abbrev pub no_name : MethodName
@@ -96,10 +185,24 @@ pub record MethodLinks (l : LinkedView) (m : LinkedMethod) : Type 0 where
   pub fits : list_all (instr_fits (length code.instructions)) code.instructions ≡ true
   pub handlers : map (handler_of l) m.handlers ≡ code.handlers
 
+-- the methods with code of a class, and of classes, by the number of the class among the program's
+-- and the method's among those of its class, both from a number on
+abbrev pub coded_among : ℕ → ℕ → List Method → List (ℕ × ℕ)
+coded_among class k [] = []
+coded_among class k (m ∷ ms) = elim m.code [ None ↦ coded_among class (suc k) ms | Some code ↦ (class, k) ∷ coded_among class (suc k) ms ]
+
+abbrev pub coded_from : ℕ → List ClassParts → List (ℕ × ℕ)
+coded_from k [] = []
+coded_from k (c ∷ cs) = coded_among k 0 c.methods ++ coded_from (suc k) cs
+
+abbrev pub place_of : LinkedMethod → ℕ × ℕ
+place_of m = (m.class, m.member)
+
 pub record IsLinked (l : LinkedView) : Type 0 where
   pub loads : Loads l.program
-  pub whole : later_part l.program ≡ None
+  -- the methods are all that have code, in the order of the classes and of the methods of each
   pub methods : (n : ℕ) (m : LinkedMethod) → slice_get l.methods n ≡ Some m → MethodLinks l m
+  pub all : map place_of l.methods ≡ coded_from 0 l.program
   -- main is the first class's
   pub main : LinkedMethod
   pub main_is : slice_get l.methods l.main ≡ Some main

@@ -1,6 +1,6 @@
 // Instructions whose names are resolved.
 
-use jm_program::{Plain, ReturnOp};
+use jm_program::{ArrayOp, BaseType, FieldOp, InvokeOp, MonitorOp, Plain, ReturnOp, TypeOp};
 
 /// What a print stream's method prints.
 #[derive(Clone, Copy)]
@@ -19,6 +19,38 @@ pub enum PrintMethod {
     EndLine,
 }
 
+/// A field or a method that a class declares, by numbers.
+#[derive(Clone, Copy)]
+pub struct MemberNumber {
+    /// The number of the class among all classes: the built-in ones first, then the program's.
+    pub class: u32,
+    /// The number among the fields, or among the methods, of that class.
+    pub member: u32,
+}
+
+/// What an invoke names.
+#[derive(Clone, Copy)]
+pub struct InvokedMethod {
+    /// The number of the class that is named, among all classes.
+    pub named: u32,
+    /// The method that its name and type mean there (JVMS 5.4.3.3, 5.4.3.4).
+    pub found: MemberNumber,
+}
+
+/// A type that is no array, a class by its number among all classes.
+#[derive(Clone, Copy)]
+pub enum LinkedElement {
+    Base(BaseType),
+    Class(u32),
+}
+
+/// A type: that of the element, or an array of so many dimensions of it.
+#[derive(Clone, Copy)]
+pub struct LinkedType {
+    pub dimensions: u8,
+    pub element: LinkedElement,
+}
+
 /// An instruction whose names are resolved.
 #[derive(Drop)]
 pub enum LinkedInstr {
@@ -28,9 +60,23 @@ pub enum LinkedInstr {
     Int(i32),
     /// `ldc2_w` of a long.
     Long(i64),
+    /// `ldc` of a string.
+    Literal,
     Return(ReturnOp),
+    Array(ArrayOp),
+    /// `athrow`.
+    Throw,
+    Monitor(MonitorOp),
     /// `getstatic` of System.out, which needs no initialization.
     SystemOut,
-    /// `invokevirtual` of a method of java/io/PrintStream.
+    /// Any other use of a field.
+    Field(FieldOp, MemberNumber),
+    /// `invokevirtual` of a method of java/io/PrintStream that prints an int, a long, a char or the
+    /// end of a line.
     Print(PrintMethod),
+    /// Any other invoke.
+    Invoke(InvokeOp, InvokedMethod),
+    /// `new`, by the number of the class among all classes.
+    New(u32),
+    Type(TypeOp, LinkedType),
 }

@@ -1,12 +1,12 @@
 //! A program whose names are resolved.
 //!
-//! A [`Linked`] keeps the classes of a program that loads, and beside them a table of the methods
-//! that can run, whose instructions name what they use by numbers. The relation between the two is
+//! A [`Linked`] keeps the classes of a program that loads, and beside them a table of all methods
+//! with code, whose instructions name what they use by numbers. The relation between the two is
 //! kept by the type (`specs/Links`), so that whoever runs the table runs the classes. Classes are
 //! numbered with the built-in ones first, in their order, and then the program's.
 //!
-//! What is in a program that the machine cannot run yet is a [`LaterPart`]; a linked program has
-//! none. The crate stands on `jm_program`, `jm_builtins` and `jm_world`.
+//! What is in a program that the machine cannot run yet is a [`LaterPart`]; a linked program may
+//! have some. The crate stands on `jm_program`, `jm_builtins` and `jm_world`.
 #![tactic(auto)]
 
 mod instruction;
@@ -15,7 +15,9 @@ mod later;
 mod linked;
 mod method;
 
-pub use instruction::{LinkedInstr, PrintMethod, Printed};
+pub use instruction::{
+    InvokedMethod, LinkedElement, LinkedInstr, LinkedType, MemberNumber, PrintMethod, Printed,
+};
 pub use kind::ValueKind;
 pub use later::LaterPart;
 pub use linked::Linked;

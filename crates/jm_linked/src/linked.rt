@@ -65,14 +65,14 @@ impl Linked {
         self.built_ins.as_slice()
     }
 
-    /// The number of main among the methods that can run.
+    /// The number of main among the methods with code.
     pub fn main(&self) -> u32
         ensures { result ≡ self.now.main }
     {
         self.main
     }
 
-    /// The methods that can run, by number.
+    /// The methods with code, in the order of the classes and of the methods of each.
     #[inline]
     pub fn methods(&self) -> &[LinkedMethod]
         ensures methods { result.now ≡ self.now.methods }

@@ -4,7 +4,7 @@ use crate::instruction::LinkedInstr;
 use crate::kind::ValueKind;
 use jm_program::Sequence;
 
-/// A method that can run.
+/// A method with code.
 #[derive(Drop)]
 pub struct LinkedMethod {
     /// The number of its class among the program's classes.
@@ -28,6 +28,6 @@ pub struct LinkedHandler {
     pub end: u32,
     /// The number of the handler's first instruction.
     pub target: u32,
-    /// The number of the class that is caught, or none for every one.
+    /// The number of the class that is caught among all classes, or none for every one.
     pub catch_type: Option<u32>,
 }

@@ -12,3 +12,6 @@ pub mod CodeLaws
 pub mod MainLaws
 pub mod Numbers
 pub mod RankLaws
+pub mod NumberedLaws
+pub mod FoundNumberLaws
+pub mod MethodLaws

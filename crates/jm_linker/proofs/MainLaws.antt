@@ -1,33 +1,32 @@
--- The first class's main.
-use Rattle.std.proofs.Common.{◌≡◌, ◌≢◌, ◌⊎◌, inl, inr, ℕ, ◌+◌, ◌<◌, zero, suc, Bool, true, false, ◌&&◌, List, [], ◌∷◌, Option, Some, None, length, get_or, drop, refl, sym, ap, ◌∙◌, codes}
-use Rattle.std.specs.Prelude.{slice_get, nat_eq, map, option_map}
-use Rattle.std.specs.List.{list_all}
-use Rattle.std.specs.Cmp.Lexicographic as std_text
-use Rattle.std.proofs.lemmas.Bool.Decides.{eqb_tells}
+-- The first class's main, and methods by their numbers.
+use Rattle.std.proofs.Common.{◌≡◌, ℕ, ◌+◌, ◌<◌, zero, suc, Bool, true, false, ◌&&◌, List, [], ◌∷◌, ◌++◌, Option, Some, None, length, get_or, drop}
+use Rattle.std.proofs.Common.{take, refl, sym, ap, subst, ◌∙◌, codes, arith}
+use Rattle.std.specs.Prelude.{slice_get, is_some, map, option_map}
+use Rattle.std.specs.List.{AllByRecursion, list_all}
 use Rattle.std.proofs.lemmas.Cmp.{nat_list_eq_equiv}
 use Rattle.std.proofs.lemmas.List.{drop_more}
-use Rattle.std.proofs.lemmas.Option.{slice_get_read}
+use Rattle.std.proofs.lemmas.Option.{slice_get_read, slice_get-map}
 use Rattle.jm_program.specs.Names.{same_text}
-use Rattle.jm_program.specs.Flags.{is_interface}
+use Rattle.jm_program.specs.Flags.{is_interface, is_static}
 use Rattle.jm_program.specs.Fits.{Fits, method_fits, body_fits, method_slots}
 use Rattle.jm_program.specs.Codes.{code_fits}
 use Rattle.jm_program.specs.Instructions.{instr_fits}
 use Rattle.jm_program.specs.declared.class.ClassParts.{ClassParts}
 use Rattle.jm_program.specs.declared.class.Method.{Method}
 use Rattle.jm_program.specs.declared.code.Code.{Code}
-use Rattle.jm_program.specs.declared.descriptor.ElementType.{ElementType}
-use Rattle.jm_program.specs.declared.descriptor.ElementType.TheVariants.{Base, Class}
-use Rattle.jm_program.specs.declared.descriptor.FieldType.{FieldType}
 use Rattle.jm_program.specs.declared.descriptor.MethodDescriptor.{MethodDescriptor}
-use Rattle.jm_world.specs.Types.{same_element, same_type, same_types, same_result, same_method_type}
-use Rattle.jm_world.specs.Classes.{FoundMethod, string_class, class_named, class_among, method_in, method_of_class, method_named, name_of_method}
-use Rattle.jm_world.specs.Loading.{strings_type, main_type, main_in}
+use Rattle.jm_world.specs.Types.{same_method_type}
+use Rattle.jm_world.specs.Classes.{FoundMethod, method_in, method_of_class, method_named, name_of_method}
+use Rattle.jm_world.specs.Loading.{main_type, main_in}
+use Rattle.jm_world.specs.Loads.{Loads, Refusal, refusal, is_main, or_else, when, first_of_all, duplicates, duplicate_members, duplicate_member}
+use Rattle.jm_world.specs.Loads.{duplicate_fields, duplicate_methods}
+use Rattle.jm_linked.specs.Later.{is_main_method}
+use Rattle.jm_linked.specs.Links.{LinkedView, MethodLinks, IsLinked, coded_among, coded_from, place_of, linked_name, name_in_class, member_name}
 use Rattle.jm_linked.specs.declared.method.LinkedMethod.{LinkedMethod}
-use Rattle.jm_linked.specs.Kinds.{kind_of}
-use Rattle.jm_linked.specs.Later.{is_main_method, later_part}
-use Rattle.jm_linked.specs.Links.{LinkedView, AllLink, handler_of, member_name, name_in_class}
-use Rattle.jm_linked.proofs.Whole.{whole_method}
-use Rattle.jm_linker.specs.MainLinks.{LinksMain}
+use Rattle.jm_linked.proofs.Classes.{class_is}
+use Rattle.jm_linker.specs.LinkedMethods.{LinksAlone, NumbersMain}
+use Rattle.jm_linker.proofs.NumberedLaws.{got_first}
+use Rattle.jm_linker.proofs.TableLaws.{same_method_type_equiv}
 
 -- the method at a place, after others that are not main
 pub main_here : (ms : List Method) (i : ℕ) (m : Method) → i < length ms → m ≡ get_or ms i m → is_main_method m ≡ true → method_in ms (codes "main") main_type ≡ method_in (drop i ms) (codes "main") main_type → method_in ms (codes "main") main_type ≡ slice_get ms i
@@ -37,75 +36,9 @@ main_here ms i m l is main e =
     ∙ ap (λ b. elim b as (λ _. Option Method) [ true ↦ Some m | false ↦ method_in (drop (i + 1) ms) (codes "main") main_type ]) main
     ∙ sym (slice_get_read ms (length ms) i m refl l is)
 
--- a type that is main's
-element_is : (name : List ℕ) (e : ElementType) → same_element e (Class name) ≡ true → e ≡ Class name
-element_is name (Base x) g = cc
-element_is name (Class x) g = ap Class (std_text.same_text x name (sym g))
-
 both : (a b : Bool) → (a && b) ≡ true → (a ≡ true) × (b ≡ true)
 both true b e = (refl, e)
 both false b e = cc
-
-eq_from_test : (a b : ℕ) → nat_eq a b ≡ true → a ≡ b
-eq_from_test a b e = by (eqb_tells a b)
-  where
-    by : ((nat_eq a b ≡ true) × (a ≡ b)) ⊎ ((nat_eq a b ≡ false) × (a ≢ b)) → a ≡ b
-    by (inl t) = t.1
-    by (inr t) = cc
-
-type_is : (t : FieldType) → same_type t strings_type ≡ true → t ≡ strings_type
-type_is t g =
-    let parts : (nat_eq t.dimensions 1 ≡ true) × (same_element t.element (Class string_class) ≡ true) = both _ _ g in
-    let one : t.dimensions ≡ 1 = eq_from_test t.dimensions 1 parts.0 in
-    let elem : t.element ≡ Class string_class = element_is string_class t.element parts.1 in
-    ap (λ n. record { dimensions = n; element = t.element }) one ∙ ap (λ e. record { dimensions = 1; element = e }) elem
-
-no_result : (o : Option FieldType) → same_result o None ≡ true → o ≡ None
-no_result None e = refl
-no_result (Some t) e = cc
-
-one_type : (ts : List FieldType) → same_types ts (strings_type ∷ []) ≡ true → ts ≡ strings_type ∷ []
-one_type [] e = cc
-one_type (t ∷ []) e = ap (λ k. k ∷ []) (type_is t (both _ _ e).0)
-one_type (t ∷ u ∷ us) e = cc_false (both (same_type t strings_type) false e).1
-  where
-    cc_false : false ≡ true → (t ∷ u ∷ us) ≡ strings_type ∷ []
-    cc_false g = cc
-
-main_type_is : (d : MethodDescriptor) → same_method_type d main_type ≡ true → d ≡ main_type
-main_type_is d e =
-    let parts : (same_types d.parameters (strings_type ∷ []) ≡ true) × (same_result d.return_type None ≡ true) = both _ _ e in
-    ap (λ ps. record { parameters = ps; return_type = d.return_type }) (one_type d.parameters parts.0)
-    ∙ ap (λ r. record { parameters = strings_type ∷ []; return_type = r }) (no_result d.return_type parts.1)
-
--- the method that is found has the name and the type
-method_passes : (ms : List Method) (name : List ℕ) (t : MethodDescriptor) (m : Method) → method_in ms name t ≡ Some m → (same_text m.name name && same_method_type m.descriptor t) ≡ true
-method_passes [] name t m e = cc
-method_passes (k ∷ ks) name t m e = by (method_passes ks name t m) (same_text k.name name && same_method_type k.descriptor t) refl e
-  where
-    same : Some k ≡ Some m → m ≡ k
-    same g = cc
-
-    by : (method_in ks name t ≡ Some m → (same_text m.name name && same_method_type m.descriptor t) ≡ true) → (b : Bool) → (same_text k.name name && same_method_type k.descriptor t) ≡ b → (elim b as (λ _. Option Method) [ true ↦ Some k | false ↦ method_in ks name t ]) ≡ Some m → (same_text m.name name && same_method_type m.descriptor t) ≡ true
-    by more true is g = ap (λ (d : Method). same_text d.name name && same_method_type d.descriptor t) (same g) ∙ is
-    by more false is g = more g
-
-record IsMain (m : Method) : Type 0 where
-  name : m.name ≡ codes "main"
-  type : m.descriptor ≡ main_type
-
-is_main_of : (ms : List Method) (m : Method) → method_in ms (codes "main") main_type ≡ Some m → IsMain m
-is_main_of ms m e =
-    let parts : (same_text m.name (codes "main") ≡ true) × (same_method_type m.descriptor main_type ≡ true) = both _ _ (method_passes ms (codes "main") main_type m e) in
-    record { name = std_text.same_text m.name (codes "main") (sym parts.0); type = main_type_is m.descriptor parts.1 }
-
--- the program has main under its name
-named_main : (c : ClassParts) (cs : List ClassParts) (m : Method) → method_in c.methods (codes "main") main_type ≡ Some m → method_named (c ∷ cs) (name_of_method (record { class = c; method = m })) ≡ Some m
-unfolding class_named
-named_main c cs m e =
-    let is : IsMain m = is_main_of c.methods m e in
-    ap (λ b. method_of_class (elim b as (λ _. Option ClassParts) [ true ↦ Some c | false ↦ class_among cs c.name ]) (name_of_method (record { class = c; method = m }))) (nat_list_eq_equiv.refl c.name)
-    ∙ ap (λ n. method_in c.methods n m.descriptor) is.name ∙ ap (λ t. method_in c.methods (codes "main") t) is.type ∙ e
 
 -- the instructions of a method of a class fit
 all_get : {A : Type 0} (p : A → Bool) (xs : List A) (i : ℕ) (x : A) → list_all p xs ≡ true → slice_get xs i ≡ Some x → p x ≡ true
@@ -124,39 +57,208 @@ instructions_fit c i m code fits at is =
     let good : code_fits (method_slots m) code ≡ true = (both _ _ of_code).1 in
     (both _ _ (both _ _ (both _ _ good).0).0).1
 
--- the linked main
-pub main_links : (program : List ClassParts) (c : ClassParts) (i : ℕ) (m : Method) (code : Code) (l : LinkedMethod) → slice_get program 0 ≡ Some c → Fits c
-    → later_part program ≡ None → method_in c.methods (codes "main") main_type ≡ slice_get c.methods i → slice_get c.methods i ≡ Some m → m.code ≡ Some code
-    → ((v : LinkedView) → AllLink v l.code code.instructions) → l.class ≡ 0 → l.member ≡ i → l.result ≡ option_map kind_of m.descriptor.return_type
-    → l.max_stack ≡ code.max_stack → l.max_locals ≡ code.max_locals → l.handlers ≡ [] → LinksMain program l
-main_links [] c i m code l first fits whole main at is links class member result stack locals handlers = cc
-main_links (k ∷ ks) c i m code l first fits whole main at is links class member result stack locals handlers =
-    let at_class : slice_get (k ∷ ks) l.class ≡ Some c = ap (slice_get (k ∷ ks)) class ∙ first in
-    let at_member : slice_get c.methods l.member ≡ Some m = ap (slice_get c.methods) member ∙ at in
-    let found : method_in c.methods (codes "main") main_type ≡ Some m = main ∙ at in
-    let this : c ≡ k = same first in
-    let name = name_of_method (record { class = c; method = m }) in
-    let none : code.handlers ≡ [] = (whole_method (k ∷ ks) 0 i c m code whole first at is).handlers in
-    record {
-      links = λ v e. record {
-        class = c;
-        method = m;
-        code = code;
-        class_is = ap (λ p. slice_get p l.class) e ∙ at_class;
-        method_is = at_member;
-        code_is = is;
-        named = ap (λ p. method_named p name) e ∙ ap (λ d. method_named (d ∷ ks) name) (sym this) ∙ named_main c ks m found;
-        result = result;
-        max_stack = stack;
-        max_locals = locals;
-        instructions = links v;
-        fits = instructions_fit c i m code fits at is;
-        handlers = ap (map (handler_of v)) handlers ∙ sym none;
-      };
-      found = record { class = c; method = m };
-      found_is = ap (λ d. main_in (d ∷ ks)) (sym this) ∙ ap (λ o. elim o as (λ _. Option FoundMethod) [ None ↦ None | Some d ↦ Some (record { class = c; method = d }) ]) found;
-      name = ap (λ o. name_in_class o l.member) at_class ∙ ap (member_name c) at_member;
-    }
+-- a method of a class that loads is found by its name and type
+neither_refuses : (a b : Option Refusal) → or_else a b ≡ None → (a ≡ None) × (b ≡ None)
+neither_refuses None b e = (refl, e)
+neither_refuses (Some r) b e = cc
+
+not_so : (b : Bool) (r : Refusal) → when b r ≡ None → b ≡ false
+not_so true r e = cc
+not_so false r e = refl
+
+passed_over : (b : Bool) (x : Method) (o : Option Method) → is_some (elim b as (λ _. Option Method) [ true ↦ Some x | false ↦ o ]) ≡ false
+    → (b ≡ false) × (is_some o ≡ false)
+passed_over true x o e = cc
+passed_over false x o e = (refl, e)
+
+new_method : (seen ms : List Method) (k : ℕ) (m : Method) → duplicate_methods seen ms ≡ None → slice_get ms k ≡ Some m
+    → is_some (method_in seen m.name m.descriptor) ≡ false
+new_method seen [] k m e at = cc
+new_method seen (x ∷ xs) zero m e at =
+    let same : x ≡ m = cc in
+    subst (λ (y : Method). is_some (method_in seen y.name y.descriptor) ≡ false) same (not_so (is_some (method_in seen x.name x.descriptor))
+    (duplicate_member x.name) (neither_refuses _ _ e).0)
+new_method seen (x ∷ xs) (suc k) m e at =
+    (passed_over (same_text x.name m.name && same_method_type x.descriptor m.descriptor) x (method_in seen m.name m.descriptor)
+    (new_method (x ∷ seen) xs k m (neither_refuses _ _ e).1 at)).1
+
+same_itself : (m : Method) → (same_text m.name m.name && same_method_type m.descriptor m.descriptor) ≡ true
+same_itself m = ap (λ b. b && same_method_type m.descriptor m.descriptor) (nat_list_eq_equiv.refl m.name) ∙ same_method_type_equiv.refl m.descriptor
+
+method_again : (seen ms : List Method) (k : ℕ) (m : Method) → duplicate_methods seen ms ≡ None → slice_get ms k ≡ Some m
+    → method_in ms m.name m.descriptor ≡ Some m
+method_again seen [] k m e at = cc
+method_again seen (x ∷ xs) zero m e at =
+    let same : x ≡ m = cc in
+    subst (λ (y : Method). method_in (x ∷ xs) y.name y.descriptor ≡ Some y) same
+    (ap (λ b. elim b as (λ _. Option Method) [ true ↦ Some x | false ↦ method_in xs x.name x.descriptor ]) (same_itself x))
+method_again seen (x ∷ xs) (suc k) m e at =
+    let rest = (neither_refuses _ _ e).1 in
+    let other = (passed_over (same_text x.name m.name && same_method_type x.descriptor m.descriptor) x (method_in seen m.name m.descriptor) (new_method
+    (x ∷ seen) xs k m rest at)).0 in
+    ap (λ b. elim b as (λ _. Option Method) [ true ↦ Some x | false ↦ method_in xs m.name m.descriptor ]) other ∙ method_again (x ∷ seen) xs k m rest at
+
+none_at : {A : Type 0} (check : A → Option Refusal) (xs : List A) (k : ℕ) (x : A) → first_of_all check xs ≡ None → slice_get xs k ≡ Some x → check x ≡ None
+none_at check [] k x e at = cc
+none_at check (y ∷ ys) zero x e at = let same : y ≡ x = cc in ap check (sym same) ∙ (neither_refuses (check y) (first_of_all check ys) e).0
+none_at check (y ∷ ys) (suc k) x e at = none_at check ys k x (neither_refuses (check y) (first_of_all check ys) e).1 at
+
+methods_once : (program : List ClassParts) → Loads program → (k : ℕ) (c : ClassParts) → slice_get program k ≡ Some c → duplicate_methods [] c.methods ≡ None
+unfolding refusal
+methods_once program loads k c at =
+    let members = (neither_refuses (first_of_all duplicate_members program) _ (neither_refuses (duplicates [] program) _ loads).1).0 in
+    (neither_refuses (duplicate_fields [] c.fields) (duplicate_methods [] c.methods) (none_at duplicate_members program k c members at)).1
+
+named_again : (program : List ClassParts) → Loads program → (k j : ℕ) (c : ClassParts) (m : Method) → slice_get program k ≡ Some c
+    → slice_get c.methods j ≡ Some m
+    → method_named program (name_of_method (record { class = c; method = m })) ≡ Some m
+named_again program loads k j c m at there =
+    ap (λ o. method_of_class o (name_of_method (record { class = c; method = m }))) (class_is program loads k c at)
+    ∙ method_again [] c.methods j m (methods_once program loads k c at) there
+
+-- a linked method, where the program loads
+pub method_links : (l : LinkedView) → Loads l.program → (m : LinkedMethod) → LinksAlone l.program m → MethodLinks l m
+method_links l loads m a = record {
+  class = a.class;
+  method = a.method;
+  code = a.code;
+  class_is = a.class_is;
+  method_is = a.method_is;
+  code_is = a.code_is;
+  named = named_again l.program loads m.class m.member a.class a.method a.class_is a.method_is;
+  result = a.links.result;
+  max_stack = a.links.max_stack;
+  max_locals = a.links.max_locals;
+  instructions = a.links.instructions;
+  fits = instructions_fit a.class m.member a.method a.code a.fits a.method_is a.code_is;
+  handlers = a.links.handlers;
+}
+
+each_at : {A : Type 0} (P : A → Type 0) (xs : List A) (n : ℕ) (x : A) → AllByRecursion P xs → slice_get xs n ≡ Some x → P x
+each_at P [] n x a at = cc
+each_at P (y ∷ ys) zero x a at = let same : y ≡ x = cc in subst P same a.0
+each_at P (y ∷ ys) (suc n) x a at = each_at P ys n x a.1 at
+
+-- the linked method that stands at a place
+record IsPlaced (ms : List LinkedMethod) (n class member : ℕ) : Type 0 where
+  method : LinkedMethod
+  at : slice_get ms n ≡ Some method
+  class_is : method.class ≡ class
+  member_is : method.member ≡ member
+
+placed : (ms : List LinkedMethod) (n class member : ℕ) → slice_get (map place_of ms) n ≡ Some (class, member) → IsPlaced ms n class member
+placed ms n class member e = by (slice_get ms n) refl (sym (slice_get-map place_of ms n) ∙ e)
   where
-    same : Some k ≡ Some c → c ≡ k
-    same g = cc
+    by : (o : Option LinkedMethod) → slice_get ms n ≡ o → option_map place_of o ≡ Some (class, member) → IsPlaced ms n class member
+    by None is g = cc
+    by (Some m) is g =
+        let same : (m.class, m.member) ≡ (class, member) = cc in
+        record { method = m; at = is; class_is = ap (λ (p : ℕ × ℕ). p.0) same; member_is = ap (λ (p : ℕ × ℕ). p.1) same }
+
+pub is_linked : (program : List ClassParts) (methods : List LinkedMethod) (main : ℕ) → Loads program → map place_of methods ≡ coded_from 0 program
+    → AllByRecursion (LinksAlone program) methods → NumbersMain program main → IsLinked (record { program = program; methods = methods; main = main })
+is_linked program methods main loads places linked n =
+    let l : LinkedView = record { program = program; methods = methods; main = main } in
+    let p = placed methods main 0 n.member (ap (λ ps. slice_get ps main) places ∙ n.place) in
+    record {
+      loads = loads;
+      methods = λ k m at. method_links l loads m (each_at (LinksAlone program) methods k m linked at);
+      all = places;
+      main = p.method;
+      main_is = p.at;
+      found = n.found;
+      found_is = n.found_is;
+      main_name =
+          ap (λ k. name_in_class (slice_get program k) p.method.member) p.class_is
+          ∙ ap (λ j. name_in_class (slice_get program 0) j) p.member_is
+          ∙ ap (λ o. name_in_class o n.member) n.class_is
+          ∙ ap (member_name n.found.class) n.method_is;
+    }
+
+-- the place of a method with code, behind those before it
+coded_at : (ms : List Method) (k i j : ℕ) (m : Method) (code : Code) → slice_get ms j ≡ Some m → m.code ≡ Some code
+    → slice_get (coded_among k i ms) (length (coded_among k i (take j ms))) ≡ Some (k, i + j)
+coded_at [] k i j m code at is = cc
+coded_at (x ∷ xs) k i zero m code at is =
+    let same : x ≡ m = cc in
+    let all : i + 0 ≡ i = omega arith in
+    ap (λ (o : Option Code). slice_get (elim o as (λ _. List (ℕ × ℕ)) [ None ↦ coded_among k (suc i) xs | Some c ↦ (k, i) ∷ coded_among k (suc i) xs ]) 0)
+    (ap (λ (y : Method). y.code) same ∙ is)
+    ∙ ap (λ n. Some (k, n)) (sym all)
+coded_at (x ∷ xs) k i (suc j) m code at is = by x.code (coded_at xs k (suc i) j m code at is)
+  where
+    all : suc i + j ≡ i + suc j
+    all = omega arith
+
+    by : (o : Option Code) → slice_get (coded_among k (suc i) xs) (length (coded_among k (suc i) (take j xs))) ≡ Some (k, suc i + j)
+        → slice_get (elim o as (λ _. List (ℕ × ℕ)) [ None ↦ coded_among k (suc i) xs | Some c ↦ (k, i) ∷ coded_among k (suc i) xs ])
+        (length (elim o as (λ _. List (ℕ × ℕ)) [ None ↦ coded_among k (suc i) (take j xs) | Some c ↦ (k, i) ∷ coded_among k (suc i) (take j xs) ])) ≡ Some
+        (k, i + suc j)
+    by None e = e ∙ ap (λ n. Some (k, n)) all
+    by (Some c) e = e ∙ ap (λ n. Some (k, n)) all
+
+-- the number of main
+main_there : (o : Option Method) (c : ClassParts) → is_main (elim o as (λ _. Option FoundMethod) [
+  | None ↦ None
+  | Some d ↦ Some
+      (record { class = c; method = d })
+]) ≡ true
+    → (m : Method) × (code : Code) × (o ≡ Some m) × (m.code ≡ Some code)
+main_there None c e = cc
+main_there (Some m) c e = by m.code refl (both (is_static m.flags) (is_some m.code) e).1
+  where
+    by : (o : Option Code) → m.code ≡ o → is_some o ≡ true → (d : Method) × (code : Code) × (Some m ≡ Some d) × (d.code ≡ Some code)
+    by None is g = cc
+    by (Some code) is g = (m, code, refl, is)
+
+pub numbers_main : (program : List ClassParts) (c : ClassParts) (ms : List Method) (i n : ℕ) → slice_get program 0 ≡ Some c → ms ≡ c.methods
+    → is_main (main_in program) ≡ true
+    → method_in ms (codes "main") main_type ≡ slice_get ms i → n ≡ length (coded_among 0 0 (take i ms)) → NumbersMain program n
+numbers_main [] c ms i n first same loads main count = cc
+numbers_main (k ∷ ks) c ms i n first same loads main count =
+    let this : k ≡ c = cc in
+    let mine : ms ≡ k.methods = same ∙ ap (λ (d : ClassParts). d.methods) (sym this) in
+    let there = main_there (method_in k.methods (codes "main") main_type) k loads in
+    let at : slice_get ms i ≡ Some there.0 = sym main ∙ ap (λ xs. method_in xs (codes "main") main_type) mine ∙ there.2 in
+    let place = coded_at ms 0 0 i there.0 there.1 at there.3 in
+    let all : 0 + i ≡ i = omega arith in
+    record {
+      found = record { class = k; method = there.0 };
+      found_is = ap (λ o. elim o as (λ _. Option FoundMethod) [ None ↦ None | Some d ↦ Some (record { class = k; method = d }) ]) there.2;
+      member = i;
+      place = ap (slice_get (coded_from 0 (k ∷ ks))) count
+          ∙ ap (λ xs. slice_get (coded_among 0 0 xs ++ coded_from 1 ks) (length (coded_among 0 0 (take i ms)))) (sym mine)
+          ∙ got_first (coded_among 0 0 ms) (coded_from 1 ks) (length (coded_among 0 0 (take i ms))) (0, i) (place ∙ ap (λ x. Some (0, x)) all);
+      class_is = refl;
+      method_is = ap (λ xs. slice_get xs i) (sym mine) ∙ at;
+    }
+
+-- one more method, and one more class
+pub coded_more : (ms : List Method) (k i : ℕ) (m : Method) → coded_among k i (ms ++ m ∷ []) ≡ coded_among k i ms ++ coded_among k (i + length ms) (m ∷ [])
+coded_more [] k i m = let all : i + 0 ≡ i = omega arith in ap (λ n. coded_among k n (m ∷ [])) (sym all)
+coded_more (x ∷ xs) k i m = by x.code (coded_more xs k (suc i) m ∙ ap (λ n. coded_among k (suc i) xs ++ coded_among k n (m ∷ [])) all)
+  where
+    all : suc i + length xs ≡ i + length (x ∷ xs)
+    all = omega arith
+
+    by : (o : Option Code) → coded_among k (suc i) (xs ++ m ∷ []) ≡ coded_among k (suc i) xs ++ coded_among k (i + length (x ∷ xs)) (m ∷ [])
+        → (elim o as (λ _. List (ℕ × ℕ)) [ None ↦ coded_among k (suc i) (xs ++ m ∷ []) | Some c ↦ (k, i) ∷ coded_among k (suc i) (xs ++ m ∷ []) ])
+        ≡ (elim o as (λ _. List (ℕ × ℕ)) [ None ↦ coded_among k (suc i) xs | Some c ↦ (k, i) ∷ coded_among k (suc i) xs ]) ++ coded_among k (i + length
+        (x ∷ xs)) (m ∷ [])
+    by None e = e
+    by (Some c) e = ap (λ ps. (k, i) ∷ ps) e
+
+pub append_assoc : {A : Type 0} (xs ys zs : List A) → (xs ++ ys) ++ zs ≡ xs ++ (ys ++ zs)
+append_assoc [] ys zs = refl
+append_assoc (x ∷ xs) ys zs = ap (λ l. x ∷ l) (append_assoc xs ys zs)
+
+pub append_nil : {A : Type 0} (xs : List A) → xs ++ [] ≡ xs
+append_nil [] = refl
+append_nil (x ∷ xs) = ap (λ l. x ∷ l) (append_nil xs)
+
+pub classes_more : (cs : List ClassParts) (k : ℕ) (c : ClassParts) → coded_from k (cs ++ c ∷ []) ≡ coded_from k cs ++ coded_among (k + length cs) 0 c.methods
+classes_more [] k c = let all : k + 0 ≡ k = omega arith in append_nil (coded_among k 0 c.methods) ∙ ap (λ n. coded_among n 0 c.methods) (sym all)
+classes_more (d ∷ ds) k c =
+    let all : suc k + length ds ≡ k + length (d ∷ ds) = omega arith in
+    ap (λ ps. coded_among k 0 d.methods ++ ps) (classes_more ds (suc k) c ∙ ap (λ n. coded_from (suc k) ds ++ coded_among n 0 c.methods) all)
+    ∙ sym (append_assoc (coded_among k 0 d.methods) (coded_from (suc k) ds) (coded_among (k + length (d ∷ ds)) 0 c.methods))

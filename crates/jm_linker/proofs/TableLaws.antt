@@ -1,7 +1,9 @@
 -- Tables of members, with one more member.
-use Rattle.std.proofs.Common.{◌≡◌, ℕ, ◌+◌, ◌<◌, Bool, true, false, ◌&&◌, cond, List, [], ◌∷◌, ◌++◌, Option, Some, None, Bor, length, get_or, take, refl, sym, ap, ◌∙◌}
+use Rattle.std.proofs.Common.{◌≡◌, ℕ, ◌+◌, ◌<◌, Bool, true, false, ◌&&◌, cond, List, [], ◌∷◌, ◌++◌, Option, Some, None, length, get_or, take, refl}
+use Rattle.std.proofs.Common.{sym, ap, subst, ◌∙◌}
 use Rattle.std.proofs.lemmas.List.{take_more}
-use Rattle.std.specs.Prelude.{is_some, option_copied}
+use Rattle.std.proofs.lemmas.Option.{slice_get_read}
+use Rattle.std.specs.Prelude.{is_some, option_map, slice_get}
 use Rattle.std.specs.BTreeMap.{BTreeMap, get}
 use Rattle.std.specs.Cmp.{IsEquivalence}
 use Rattle.std.proofs.lemmas.Cmp.{nat_eq_equiv, nat_list_eq_equiv, on_equiv, and_equiv, lists_equiv}
@@ -18,12 +20,20 @@ use Rattle.jm_program.specs.declared.descriptor.ElementType.TheVariants.{Base, C
 use Rattle.jm_world.specs.Types.{same_element, same_type, same_types, same_result, same_method_type}
 use Rattle.jm_world.specs.Classes.{field_in, method_in}
 use Rattle.jm_linker.specs.Keys.{IsFieldKey, IsMethodKey}
-use Rattle.jm_linker.specs.Tables.{HasFields, HasMethods}
+use Rattle.jm_linker.specs.Tables.{HasFields, HasMethods, NumbersFields, NumbersMethods}
 use Rattle.jm_linker.specs.declared.key.FieldKey.{FieldKey}
 use Rattle.jm_linker.specs.declared.key.MethodKey.{MethodKey}
+use Rattle.jm_linker.specs.declared.members.NumberedField.{NumberedField}
+use Rattle.jm_linker.specs.declared.members.NumberedMethod.{NumberedMethod}
 use Rattle.jm_linker.specs.contracts.key.FieldKeyOrd.TheImpl as field_ord
 use Rattle.jm_linker.specs.contracts.key.MethodKeyOrd.TheImpl as method_ord
 use Rattle.jm_linker.proofs.KeyLaws.{fields_tied, methods_tied}
+
+abbrev pub seen_field : Option NumberedField → Option Field
+seen_field o = option_map (λ (f : NumberedField). f.field.now) o
+
+abbrev pub seen_method : Option NumberedMethod → Option Method
+seen_method o = option_map (λ (m : NumberedMethod). m.method.now) o
 
 -- types that are the same are the same as others
 same_element_equiv : IsEquivalence same_element
@@ -73,7 +83,7 @@ same_result_equiv = record { refl = itself; symm = back; congr = alike }
 same_types_equiv : IsEquivalence same_types
 same_types_equiv = lists_equiv same_type_equiv
 
-same_method_type_equiv : IsEquivalence same_method_type
+pub same_method_type_equiv : IsEquivalence same_method_type
 same_method_type_equiv = and_equiv (on_equiv (λ (t : MethodDescriptor). t.parameters) same_types_equiv) (on_equiv (λ (t : MethodDescriptor). t.return_type) same_result_equiv)
 
 both : (a b : Bool) → (a && b) ≡ true → (a ≡ true) × (b ≡ true)
@@ -120,13 +130,16 @@ field_in_more (y ∷ ys) x name t = by (same_text y.name name && same_type y.des
     by false e = e
 
 -- a field whose key is not in the table is not among those so far
-pub field_is_new : (table : BTreeMap FieldKey (Bor Field)) (xs : List Field) (k : FieldKey) (name : List ℕ) (t : FieldType) (o : Option (Bor Field)) → HasFields table xs → IsFieldKey k name t → o ≡ get (field_ord.ghosts).cmp table k → o ≡ None → is_some (field_in xs name t) ≡ false
-field_is_new table xs k name t o h key e none = ap is_some (sym (h k name t key) ∙ ap option_copied (sym e ∙ none))
+pub field_is_new : (table : BTreeMap FieldKey NumberedField) (xs : List Field) (k : FieldKey) (name : List ℕ) (t : FieldType) (o : Option NumberedField)
+    → HasFields table xs → IsFieldKey k name t → o ≡ get (field_ord.ghosts).cmp table k → o ≡ None → is_some (field_in xs name t) ≡ false
+field_is_new table xs k name t o h key e none = ap is_some (sym (h k name t key) ∙ ap seen_field (sym e ∙ none))
 
-pub field_is_there : (table : BTreeMap FieldKey (Bor Field)) (xs : List Field) (k : FieldKey) (name : List ℕ) (t : FieldType) (o : Option (Bor Field)) (b : Bor Field) → HasFields table xs → IsFieldKey k name t → o ≡ get (field_ord.ghosts).cmp table k → o ≡ Some b → is_some (field_in xs name t) ≡ true
-field_is_there table xs k name t o b h key e some = ap is_some (sym (h k name t key) ∙ ap option_copied (sym e ∙ some))
+pub field_is_there : (table : BTreeMap FieldKey NumberedField) (xs : List Field) (k : FieldKey) (name : List ℕ) (t : FieldType) (o : Option NumberedField)
+    (b : NumberedField) → HasFields table xs → IsFieldKey k name t → o ≡ get (field_ord.ghosts).cmp table k → o ≡ Some b → is_some (field_in xs name t) ≡ true
+field_is_there table xs k name t o b h key e some = ap is_some (sym (h k name t key) ∙ ap seen_field (sym e ∙ some))
 
-pub fields_more : (xs : List Field) (i : ℕ) (x : Field) (b : Bor Field) (k : FieldKey) (m n : BTreeMap FieldKey (Bor Field)) → i < length xs → x ≡ get_or xs i x → b.now ≡ x → IsFieldKey k x.name x.descriptor
+pub fields_more : (xs : List Field) (i : ℕ) (x : Field) (b : NumberedField) (k : FieldKey) (m n : BTreeMap FieldKey NumberedField) → i < length xs
+    → x ≡ get_or xs i x → b.field.now ≡ x → IsFieldKey k x.name x.descriptor
     → get (field_ord.ghosts).cmp m k ≡ None → ((q : FieldKey) → get (field_ord.ghosts).cmp n q ≡ cond (is_eq ((field_ord.ghosts).cmp k q)) (Some b) (get (field_ord.ghosts).cmp m q)) → HasFields m (take i xs) → HasFields n (take (i + 1) xs)
 fields_more xs i x b k m n l is at key none updates h = λ q name t keyed. by q name t keyed (is_eq ((field_ord.ghosts).cmp k q)) refl
   where
@@ -138,18 +151,20 @@ fields_more xs i x b k m n l is at key none updates h = λ q name t keyed. by q 
         ap (λ ys. field_in ys name t) more ∙ field_in_more (take i xs) x name t
         ∙ ap (λ c. first (field_in (take i xs) name t) (cond c (Some x) None)) (sym (fields_tied k q x.name name x.descriptor t key keyed) ∙ e)
 
-    by : (q : FieldKey) (name : List ℕ) (t : FieldType) → IsFieldKey q name t → (a : Bool) → is_eq ((field_ord.ghosts).cmp k q) ≡ a → option_copied (get (field_ord.ghosts).cmp n q) ≡ field_in (take (i + 1) xs) name t
+    by : (q : FieldKey) (name : List ℕ) (t : FieldType) → IsFieldKey q name t → (a : Bool) → is_eq ((field_ord.ghosts).cmp k q) ≡ a
+        → seen_field (get (field_ord.ghosts).cmp n q) ≡ field_in (take (i + 1) xs) name t
     by q name t keyed true e =
         let same = sym (fields_tied k q x.name name x.descriptor t key keyed) ∙ e in
-        let none_there : field_in (take i xs) name t ≡ None = sym (field_in_alike (take i xs) x.name name x.descriptor t same) ∙ sym (h k x.name x.descriptor key) ∙ ap option_copied none in
-        ap option_copied (updates q ∙ ap (λ a. cond a (Some b) (get (field_ord.ghosts).cmp m q)) e) ∙ ap Some at
+        let none_there : field_in (take i xs) name t ≡ None = sym (field_in_alike (take i xs) x.name name x.descriptor t same)
+        ∙ sym (h k x.name x.descriptor key) ∙ ap seen_field none in
+        ap seen_field (updates q ∙ ap (λ a. cond a (Some b) (get (field_ord.ghosts).cmp m q)) e) ∙ ap Some at
         ∙ sym (new q name t keyed true e ∙ ap (λ o. first o (Some x)) none_there)
     by q name t keyed false e =
-        ap option_copied (updates q ∙ ap (λ a. cond a (Some b) (get (field_ord.ghosts).cmp m q)) e) ∙ h q name t keyed
+        ap seen_field (updates q ∙ ap (λ a. cond a (Some b) (get (field_ord.ghosts).cmp m q)) e) ∙ h q name t keyed
         ∙ sym (new q name t keyed false e ∙ first_none (field_in (take i xs) name t))
 
-pub no_fields : (table : BTreeMap FieldKey (Bor Field)) → table.entries ≡ [] → HasFields table []
-no_fields table e = λ q name t keyed. ap (λ es. option_copied (lookup (λ k. is_eq ((field_ord.ghosts).cmp q k)) es)) e
+pub no_fields : (table : BTreeMap FieldKey NumberedField) → table.entries ≡ [] → HasFields table []
+no_fields table e = λ q name t keyed. ap (λ es. seen_field (lookup (λ k. is_eq ((field_ord.ghosts).cmp q k)) es)) e
 
 method_in_alike : (xs : List Method) (m n : List ℕ) (t u : MethodDescriptor) → (same_text m n && same_method_type t u) ≡ true → method_in xs m t ≡ method_in xs n u
 method_in_alike [] m n t u e = refl
@@ -173,13 +188,18 @@ method_in_more (y ∷ ys) x name t = by (same_text y.name name && same_method_ty
     by false e = e
 
 -- a method whose key is not in the table is not among those so far
-pub method_is_new : (table : BTreeMap MethodKey (Bor Method)) (xs : List Method) (k : MethodKey) (name : List ℕ) (t : MethodDescriptor) (o : Option (Bor Method)) → HasMethods table xs → IsMethodKey k name t → o ≡ get (method_ord.ghosts).cmp table k → o ≡ None → is_some (method_in xs name t) ≡ false
-method_is_new table xs k name t o h key e none = ap is_some (sym (h k name t key) ∙ ap option_copied (sym e ∙ none))
+pub method_is_new : (table : BTreeMap MethodKey NumberedMethod) (xs : List Method) (k : MethodKey) (name : List ℕ) (t : MethodDescriptor)
+    (o : Option NumberedMethod) → HasMethods table xs → IsMethodKey k name t → o ≡ get (method_ord.ghosts).cmp table k → o ≡ None
+    → is_some (method_in xs name t) ≡ false
+method_is_new table xs k name t o h key e none = ap is_some (sym (h k name t key) ∙ ap seen_method (sym e ∙ none))
 
-pub method_is_there : (table : BTreeMap MethodKey (Bor Method)) (xs : List Method) (k : MethodKey) (name : List ℕ) (t : MethodDescriptor) (o : Option (Bor Method)) (b : Bor Method) → HasMethods table xs → IsMethodKey k name t → o ≡ get (method_ord.ghosts).cmp table k → o ≡ Some b → is_some (method_in xs name t) ≡ true
-method_is_there table xs k name t o b h key e some = ap is_some (sym (h k name t key) ∙ ap option_copied (sym e ∙ some))
+pub method_is_there : (table : BTreeMap MethodKey NumberedMethod) (xs : List Method) (k : MethodKey) (name : List ℕ) (t : MethodDescriptor)
+    (o : Option NumberedMethod) (b : NumberedMethod) → HasMethods table xs → IsMethodKey k name t → o ≡ get (method_ord.ghosts).cmp table k → o ≡ Some b
+    → is_some (method_in xs name t) ≡ true
+method_is_there table xs k name t o b h key e some = ap is_some (sym (h k name t key) ∙ ap seen_method (sym e ∙ some))
 
-pub methods_more : (xs : List Method) (i : ℕ) (x : Method) (b : Bor Method) (k : MethodKey) (m n : BTreeMap MethodKey (Bor Method)) → i < length xs → x ≡ get_or xs i x → b.now ≡ x → IsMethodKey k x.name x.descriptor
+pub methods_more : (xs : List Method) (i : ℕ) (x : Method) (b : NumberedMethod) (k : MethodKey) (m n : BTreeMap MethodKey NumberedMethod) → i < length xs
+    → x ≡ get_or xs i x → b.method.now ≡ x → IsMethodKey k x.name x.descriptor
     → get (method_ord.ghosts).cmp m k ≡ None → ((q : MethodKey) → get (method_ord.ghosts).cmp n q ≡ cond (is_eq ((method_ord.ghosts).cmp k q)) (Some b) (get (method_ord.ghosts).cmp m q)) → HasMethods m (take i xs) → HasMethods n (take (i + 1) xs)
 methods_more xs i x b k m n l is at key none updates h = λ q name t keyed. by q name t keyed (is_eq ((method_ord.ghosts).cmp k q)) refl
   where
@@ -191,15 +211,58 @@ methods_more xs i x b k m n l is at key none updates h = λ q name t keyed. by q
         ap (λ ys. method_in ys name t) more ∙ method_in_more (take i xs) x name t
         ∙ ap (λ c. first (method_in (take i xs) name t) (cond c (Some x) None)) (sym (methods_tied k q x.name name x.descriptor t key keyed) ∙ e)
 
-    by : (q : MethodKey) (name : List ℕ) (t : MethodDescriptor) → IsMethodKey q name t → (a : Bool) → is_eq ((method_ord.ghosts).cmp k q) ≡ a → option_copied (get (method_ord.ghosts).cmp n q) ≡ method_in (take (i + 1) xs) name t
+    by : (q : MethodKey) (name : List ℕ) (t : MethodDescriptor) → IsMethodKey q name t → (a : Bool) → is_eq ((method_ord.ghosts).cmp k q) ≡ a
+        → seen_method (get (method_ord.ghosts).cmp n q) ≡ method_in (take (i + 1) xs) name t
     by q name t keyed true e =
         let same = sym (methods_tied k q x.name name x.descriptor t key keyed) ∙ e in
-        let none_there : method_in (take i xs) name t ≡ None = sym (method_in_alike (take i xs) x.name name x.descriptor t same) ∙ sym (h k x.name x.descriptor key) ∙ ap option_copied none in
-        ap option_copied (updates q ∙ ap (λ a. cond a (Some b) (get (method_ord.ghosts).cmp m q)) e) ∙ ap Some at
+        let none_there : method_in (take i xs) name t ≡ None = sym (method_in_alike (take i xs) x.name name x.descriptor t same)
+        ∙ sym (h k x.name x.descriptor key) ∙ ap seen_method none in
+        ap seen_method (updates q ∙ ap (λ a. cond a (Some b) (get (method_ord.ghosts).cmp m q)) e) ∙ ap Some at
         ∙ sym (new q name t keyed true e ∙ ap (λ o. first o (Some x)) none_there)
     by q name t keyed false e =
-        ap option_copied (updates q ∙ ap (λ a. cond a (Some b) (get (method_ord.ghosts).cmp m q)) e) ∙ h q name t keyed
+        ap seen_method (updates q ∙ ap (λ a. cond a (Some b) (get (method_ord.ghosts).cmp m q)) e) ∙ h q name t keyed
         ∙ sym (new q name t keyed false e ∙ first_none (method_in (take i xs) name t))
 
-pub no_methods : (table : BTreeMap MethodKey (Bor Method)) → table.entries ≡ [] → HasMethods table []
-no_methods table e = λ q name t keyed. ap (λ es. option_copied (lookup (λ k. is_eq ((method_ord.ghosts).cmp q k)) es)) e
+pub no_methods : (table : BTreeMap MethodKey NumberedMethod) → table.entries ≡ [] → HasMethods table []
+no_methods table e = λ q name t keyed. ap (λ es. seen_method (lookup (λ k. is_eq ((method_ord.ghosts).cmp q k)) es)) e
+
+-- one more number
+at_number : {A : Type 0} (xs : List A) (i n : ℕ) (x y : A) → i < length xs → x ≡ get_or xs i x → n ≡ i → y ≡ x → slice_get xs n ≡ Some y
+at_number xs i n x y l is same it = ap (slice_get xs) same ∙ slice_get_read xs (length xs) i x refl l is ∙ ap Some (sym it)
+
+pub field_numbers_more : (xs : List Field) (i : ℕ) (x : Field) (b : NumberedField) (k : FieldKey) (m n : BTreeMap FieldKey NumberedField) → i < length xs
+    → x ≡ get_or xs i x
+    → b.number ≡ i → b.field.now ≡ x
+    → ((q : FieldKey) → get (field_ord.ghosts).cmp n q ≡ cond (is_eq ((field_ord.ghosts).cmp k q)) (Some b) (get (field_ord.ghosts).cmp m q))
+    → NumbersFields m xs → NumbersFields n xs
+field_numbers_more xs i x b k m n l is number at updates h = λ q f got. by q f (is_eq ((field_ord.ghosts).cmp k q)) (sym (updates q) ∙ got)
+  where
+    by : (q : FieldKey) (f : NumberedField) (a : Bool) → cond a (Some b) (get (field_ord.ghosts).cmp m q) ≡ Some f → slice_get xs f.number ≡ Some f.field.now
+    by q f true e = let same : b ≡ f = cc in subst (λ (g : NumberedField). slice_get xs g.number ≡ Some g.field.now) same
+        (at_number xs i b.number x b.field.now l is number at)
+    by q f false e = h q f e
+
+pub no_field_numbers : (table : BTreeMap FieldKey NumberedField) (xs : List Field) → table.entries ≡ [] → NumbersFields table xs
+no_field_numbers table xs e = λ q f got. by f (ap (lookup (λ k. is_eq ((field_ord.ghosts).cmp q k))) (sym e) ∙ got)
+  where
+    by : (f : NumberedField) → None ≡ Some f → slice_get xs f.number ≡ Some f.field.now
+    by f g = cc
+
+pub method_numbers_more : (xs : List Method) (i : ℕ) (x : Method) (b : NumberedMethod) (k : MethodKey) (m n : BTreeMap MethodKey NumberedMethod)
+    → i < length xs → x ≡ get_or xs i x
+    → b.number ≡ i → b.method.now ≡ x
+    → ((q : MethodKey) → get (method_ord.ghosts).cmp n q ≡ cond (is_eq ((method_ord.ghosts).cmp k q)) (Some b) (get (method_ord.ghosts).cmp m q))
+    → NumbersMethods m xs → NumbersMethods n xs
+method_numbers_more xs i x b k m n l is number at updates h = λ q f got. by q f (is_eq ((method_ord.ghosts).cmp k q)) (sym (updates q) ∙ got)
+  where
+    by : (q : MethodKey) (f : NumberedMethod) (a : Bool) → cond a (Some b) (get (method_ord.ghosts).cmp m q) ≡ Some f
+        → slice_get xs f.number ≡ Some f.method.now
+    by q f true e = let same : b ≡ f = cc in subst (λ (g : NumberedMethod). slice_get xs g.number ≡ Some g.method.now) same
+        (at_number xs i b.number x b.method.now l is number at)
+    by q f false e = h q f e
+
+pub no_method_numbers : (table : BTreeMap MethodKey NumberedMethod) (xs : List Method) → table.entries ≡ [] → NumbersMethods table xs
+no_method_numbers table xs e = λ q f got. by f (ap (lookup (λ k. is_eq ((method_ord.ghosts).cmp q k))) (sym e) ∙ got)
+  where
+    by : (f : NumberedMethod) → None ≡ Some f → slice_get xs f.number ≡ Some f.method.now
+    by f g = cc

@@ -5,8 +5,10 @@ pub mod LaterHead
 pub mod Walks
 pub mod Found
 pub mod Cycles
-pub mod MainLinks
 pub mod Linking
 pub mod Keys
 pub mod Tables
 pub mod Ranks
+pub mod NumberedClasses
+pub mod FoundNumbers
+pub mod LinkedMethods

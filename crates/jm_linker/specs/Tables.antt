@@ -1,5 +1,5 @@
 -- Tables by name: of a class's members, and of a program's classes.
-use Rattle.std.specs.Prelude.{◌≡◌, ℕ, List, option_copied}
+use Rattle.std.specs.Prelude.{◌≡◌, ℕ, List, Some, option_map, slice_get}
 use Rattle.std.specs.Borrow.{Bor}
 use Rattle.std.specs.BTreeMap.{BTreeMap, get}
 use Rattle.std.specs.Cmp.Lexicographic.{slice_cmp}
@@ -15,15 +15,27 @@ use Rattle.jm_linker.specs.BuiltInClasses.{number_from}
 use Rattle.jm_linker.specs.Keys.{IsFieldKey, IsMethodKey}
 use Rattle.jm_linker.specs.declared.key.FieldKey.{FieldKey}
 use Rattle.jm_linker.specs.declared.key.MethodKey.{MethodKey}
+use Rattle.jm_linker.specs.declared.members.NumberedField.{NumberedField}
+use Rattle.jm_linker.specs.declared.members.NumberedMethod.{NumberedMethod}
 use Rattle.jm_linker.specs.contracts.key.FieldKeyOrd.TheImpl as field_ord
 use Rattle.jm_linker.specs.contracts.key.MethodKeyOrd.TheImpl as method_ord
 
 -- the table has each of the fields under its name and type, and no others
-abbrev pub HasFields : BTreeMap FieldKey (Bor Field) → List Field → Type 0
-HasFields table fields = (key : FieldKey) (name : List ℕ) (t : FieldType) → IsFieldKey key name t → option_copied (get (field_ord.ghosts).cmp table key) ≡ field_in fields name t
+abbrev pub HasFields : BTreeMap FieldKey NumberedField → List Field → Type 0
+HasFields table fields = (key : FieldKey) (name : List ℕ) (t : FieldType) → IsFieldKey key name t
+    → option_map (λ f. f.field.now) (get (field_ord.ghosts).cmp table key) ≡ field_in fields name t
 
-abbrev pub HasMethods : BTreeMap MethodKey (Bor Method) → List Method → Type 0
-HasMethods table methods = (key : MethodKey) (name : List ℕ) (t : MethodDescriptor) → IsMethodKey key name t → option_copied (get (method_ord.ghosts).cmp table key) ≡ method_in methods name t
+abbrev pub HasMethods : BTreeMap MethodKey NumberedMethod → List Method → Type 0
+HasMethods table methods = (key : MethodKey) (name : List ℕ) (t : MethodDescriptor) → IsMethodKey key name t
+    → option_map (λ m. m.method.now) (get (method_ord.ghosts).cmp table key) ≡ method_in methods name t
+
+-- each field of the table stands among the fields under its number
+abbrev pub NumbersFields : BTreeMap FieldKey NumberedField → List Field → Type 0
+NumbersFields table fields = (key : FieldKey) (f : NumberedField) → get (field_ord.ghosts).cmp table key ≡ Some f → slice_get fields f.number ≡ Some f.field.now
+
+abbrev pub NumbersMethods : BTreeMap MethodKey NumberedMethod → List Method → Type 0
+NumbersMethods table methods = (key : MethodKey) (m : NumberedMethod) → get (method_ord.ghosts).cmp table key ≡ Some m
+    → slice_get methods m.number ≡ Some m.method.now
 
 -- names in the order of their code units
 abbrev pub by_units : Bor (List ℕ) → Bor (List ℕ) → Ordering

@@ -1,6 +1,6 @@
 // The classes of a program and the built-in ones, found by name.
 
-ghost use Rattle.std.specs.Prelude.{◌≡◌, ◌<◌, IfOk, MatchResult, List, Some, length, map, option_copied, option_map, slice_get, take};
+ghost use Rattle.std.specs.Prelude.{◌≡◌, ◌<◌, IfOk, MatchOption, MatchResult, None, List, Some, length, map, option_copied, option_map, slice_get, take};
 ghost use Rattle.std.specs.List.{list_any};
 ghost use Rattle.jm_program.specs.Names.{same_text};
 ghost use Rattle.jm_program.specs.declared.class.ClassParts.{ClassParts};
@@ -8,6 +8,7 @@ ghost use Rattle.jm_world.specs.Classes.{as_class, class_named, height};
 ghost use Rattle.jm_world.specs.Loads.{duplicate_members, first_of_all};
 ghost use Rattle.jm_linker.specs.Answers.{Answers, IsOutOfMemory};
 ghost use Rattle.jm_linker.specs.BuiltInClasses.{built_in_classes, class_in, is_built_in_name, number_from};
+ghost use Rattle.jm_linker.specs.NumberedClasses.{IsNumberOf};
 ghost use Rattle.jm_linker.specs.Tables.{HasNumbers};
 
 use crate::fault::LinkFault;
@@ -125,6 +126,18 @@ fn find_among<'c, 'a>(classes: &'c [Members<'a>], name: &Name) -> Option<&'c Mem
     None
 }
 
+// The number of the first of the classes that has the name.
+fn number_among(classes: &[Members], name: &Name) -> Option<usize>
+    ensures { result ≡ number_from 0 (map (λ m. m.class.now) classes.now) name.now }
+{
+    for (number, members) in classes.iter().enumerate() {
+        if is_same(&members.class.name, name) {
+            return Some(number);
+        }
+    }
+    None
+}
+
 #[tactic(auto, using(crate::proofs::ClassLaws::members_at))]
 fn members_at<'c, 'a>(classes: &'c [Members<'a>], number: usize) -> &'c Members<'a>
     requires { number < length classes.now }
@@ -215,6 +228,17 @@ impl<'a> Classes<'a> {
         ensures { result ≡ number_from 0 self.now.program.now name.now }
     {
         number_in(&self.numbers, name)
+    }
+
+    /// The number of the class of the name among all classes: the built-in ones first, and then the
+    /// program's.
+    pub fn class_number(&self, name: &'a Name) -> Option<usize>
+        ensures { MatchOption result (class_named self.now.program.now name.now ≡ None) (λ n. IsNumberOf self.now.program.now name.now n) }
+    {
+        match self.number(name) {
+            Some(number) => Some(self.height() - self.program.len() + number),
+            None => number_among(&self.built_ins, name),
+        }
     }
 
     /// The class of the name with its members: the program's, or else a built-in one.

@@ -17,6 +17,7 @@ mod linking;
 mod main_method;
 mod members;
 mod name;
+mod number;
 mod parents;
 mod ranks;
 mod references;

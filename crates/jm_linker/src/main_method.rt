@@ -1,20 +1,17 @@
 // The method with which a run begins.
 
-ghost use Rattle.std.specs.Prelude.{◌≡◌, ◌<◌, None, true, MatchOption, MatchResult, length, slice_get, codes, not, option_map};
+ghost use Rattle.std.specs.Prelude.{◌≡◌, ◌<◌, None, true, MatchOption, MatchResult, length, slice_get, codes, not};
 ghost use Rattle.jm_world.specs.Classes.{method_in};
 ghost use Rattle.jm_world.specs.Loading.{main_type, main_in};
 ghost use Rattle.jm_world.specs.Loads.{is_main, when, no_main};
-ghost use Rattle.jm_linked.specs.Kinds.{kind_of};
-ghost use Rattle.jm_linked.specs.Later.{later_part};
+ghost use Rattle.jm_linked.specs.Links.{coded_among};
 ghost use Rattle.jm_linker.specs.Answers.{Answers, IsOutOfMemory};
-ghost use Rattle.jm_linker.specs.MainLinks.{LinksMain};
+ghost use Rattle.jm_linker.specs.LinkedMethods.{NumbersMain};
 
-use crate::code::link_code;
 use crate::fault::LinkFault;
 use crate::later::is_main_method;
-use jm_linked::{LinkedMethod, ValueKind};
-use jm_program::{AccessFlags, Class, Method, MethodDescriptor, Sequence};
-use std::alloc::Global;
+use crate::number::short_number;
+use jm_program::{AccessFlags, Class, Method};
 
 /// The number of `main([Ljava/lang/String;)V` among the methods of a class.
 pub fn main_number(methods: &[Method]) -> Option<usize>
@@ -55,21 +52,25 @@ pub fn check_main(program: &[Class]) -> Result<(), LinkFault>
     }
 }
 
-fn result_kind(descriptor: &MethodDescriptor) -> Option<ValueKind>
-    ensures { result ≡ option_map kind_of descriptor.now.return_type }
+// How many of the methods have code.
+fn count_coded(methods: &[Method]) -> usize
+    ensures { result ≡ length (coded_among 0 0 methods.now) }
 {
-    match &descriptor.return_type {
-        Some(field_type) => Some(ValueKind::of(field_type)),
-        None => None,
+    let mut count = 0;
+    for method in methods {
+        if method.code.is_none() {
+            continue;
+        }
+        count += 1;
     }
+    count
 }
 
-/// The first class's main with its names resolved. The one error is that memory was refused, or
-/// that more than 2^32 methods stand before it.
-pub fn link_main(alloc: Global, program: &[Class]) -> Result<LinkedMethod, LinkFault>
-    requires loads { is_main (main_in program.now) ≡ true }
-    requires whole { later_part program.now ≡ None }
-    ensures { MatchResult result (λ m. LinksMain program.now m) (λ fault. IsOutOfMemory fault) }
+/// The number of the first class's main among the methods with code of the program. The one error is
+/// that more than 2^32 stand before it.
+pub fn main_among_coded(program: &[Class]) -> Result<u32, LinkFault>
+    requires { is_main (main_in program.now) ≡ true }
+    ensures { MatchResult result (NumbersMain program.now) (λ fault. IsOutOfMemory fault) }
 {
     let Some(first) = program.first() else {
         unreachable!()
@@ -79,21 +80,5 @@ pub fn link_main(alloc: Global, program: &[Class]) -> Result<LinkedMethod, LinkF
     let Some(number) = main_number(methods) else {
         unreachable!()
     };
-    let method = &methods[number];
-    let Some(code) = &method.code else {
-        unreachable!()
-    };
-    let Ok(member) = u32::try_from(number) else {
-        return Err(LinkFault::OutOfMemory);
-    };
-    let linked = link_code(alloc, code.instructions.as_slice())?;
-    Ok(LinkedMethod {
-        class: 0,
-        member,
-        result: result_kind(&method.descriptor),
-        max_stack: code.max_stack,
-        max_locals: code.max_locals,
-        code: linked,
-        handlers: Sequence::new(Vec::new(alloc)),
-    })
+    Ok(short_number(count_coded(&methods[..number]))?)
 }

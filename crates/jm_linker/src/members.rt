@@ -1,6 +1,6 @@
 // The members that a class declares, found by name and type through a table.
 
-ghost use Rattle.std.specs.Prelude.{◌≡◌, List, ℕ, IfOk, IfErr, [], map, option_copied, option_map};
+ghost use Rattle.std.specs.Prelude.{◌≡◌, List, ℕ, IfOk, IfErr, IfSome, Some, [], map, option_map, slice_get};
 ghost use Rattle.jm_program.specs.declared.descriptor.FieldType.{FieldType};
 ghost use Rattle.jm_program.specs.declared.descriptor.MethodDescriptor.{MethodDescriptor};
 ghost use Rattle.jm_world.specs.Classes.{field_in, method_in};
@@ -8,36 +8,54 @@ ghost use Rattle.jm_world.specs.Loads.{duplicate_fields, duplicate_methods, dupl
 ghost use Rattle.jm_world.specs.Resolution.{nameable};
 ghost use Rattle.jm_linker.specs.Answers.{Answers};
 ghost use Rattle.jm_linker.specs.Keys.{IsFieldKey, IsMethodKey};
-ghost use Rattle.jm_linker.specs.Tables.{HasFields, HasMethods};
+ghost use Rattle.jm_linker.specs.Tables.{HasFields, HasMethods, NumbersFields, NumbersMethods};
 
 use crate::fault::{LinkFault, duplicate_member};
 use crate::key::{FieldKey, MethodKey, field_key, method_key};
+use crate::number::short_number;
 use jm_program::{Class, ClassParts, Field, Method};
 use std::alloc::Global;
 use std::collections::BTreeMap;
+
+/// A field, with its number among those of its class.
+#[derive(Clone, Copy)]
+pub struct NumberedField<'a> {
+    pub number: u32,
+    pub field: &'a Field,
+}
+
+/// A method, with its number among those of its class.
+#[derive(Clone, Copy)]
+pub struct NumberedMethod<'a> {
+    pub number: u32,
+    pub method: &'a Method,
+}
 
 /// A class with its fields and methods by name and type, found in logarithmic time.
 #[derive(Drop)]
 pub struct Members<'a> {
     pub class: &'a ClassParts,
-    fields: BTreeMap<FieldKey<'a>, &'a Field>,
-    methods: BTreeMap<MethodKey<'a>, &'a Method>,
+    fields: BTreeMap<FieldKey<'a>, NumberedField<'a>>,
+    methods: BTreeMap<MethodKey<'a>, NumberedMethod<'a>>,
     ghost has_fields: { HasFields fields class.now.fields },
+    ghost numbers_fields: { NumbersFields fields class.now.fields },
     ghost has_methods: { HasMethods methods class.now.methods },
+    ghost numbers_methods: { NumbersMethods methods class.now.methods },
 }
 
 // The fields by name and type, or the fault of the first that stands twice (JVMS 4.5).
 fn fields_of<'a>(
     alloc: Global,
     fields: &'a [Field],
-) -> Result<BTreeMap<FieldKey<'a>, &'a Field>, LinkFault>
+) -> Result<BTreeMap<FieldKey<'a>, NumberedField<'a>>, LinkFault>
     ensures refusal { Answers result (duplicate_fields [] fields.now) }
-    ensures table { IfOk result (λ table. HasFields table fields.now) }
+    ensures table { IfOk result (λ table. HasFields table fields.now × NumbersFields table fields.now) }
 {
     let mut table = BTreeMap::new(alloc);
-    for field in fields {
+    for (index, field) in fields.iter().enumerate() {
         let key = field_key(&field.name, &field.descriptor);
-        if let Some(_) = table.insert(key, field)? {
+        let number = short_number(index)?;
+        if let Some(_) = table.insert(key, NumberedField { number, field })? {
             return Err(duplicate_member(alloc, &field.name));
         }
     }
@@ -48,14 +66,15 @@ fn fields_of<'a>(
 fn methods_of<'a>(
     alloc: Global,
     methods: &'a [Method],
-) -> Result<BTreeMap<MethodKey<'a>, &'a Method>, LinkFault>
+) -> Result<BTreeMap<MethodKey<'a>, NumberedMethod<'a>>, LinkFault>
     ensures refusal { Answers result (duplicate_methods [] methods.now) }
-    ensures table { IfOk result (λ table. HasMethods table methods.now) }
+    ensures table { IfOk result (λ table. HasMethods table methods.now × NumbersMethods table methods.now) }
 {
     let mut table = BTreeMap::new(alloc);
-    for method in methods {
+    for (index, method) in methods.iter().enumerate() {
         let key = method_key(alloc, &method.name, &method.descriptor)?;
-        if let Some(_) = table.insert(key, method)? {
+        let number = short_number(index)?;
+        if let Some(_) = table.insert(key, NumberedMethod { number, method })? {
             return Err(duplicate_member(alloc, &method.name));
         }
     }
@@ -78,28 +97,30 @@ impl<'a> Members<'a> {
         })
     }
 
-    /// The field of the name and type that a program can name: String's one field has no name for
-    /// it.
-    pub fn field(&self, key: &FieldKey<'a>) -> Option<&'a Field>
-        ensures { (name : List ℕ) (t : FieldType) → IsFieldKey key.now name t
-            → option_copied result ≡ field_in (nameable self.now.class.now) name t }
+    /// The field of the name and type that a program can name, with its number: String's one field
+    /// has no name for it.
+    pub fn field(&self, key: &FieldKey<'a>) -> Option<NumberedField<'a>>
+        ensures field { (name : List ℕ) (t : FieldType) → IsFieldKey key.now name t
+            → option_map (λ f. f.field.now) result ≡ field_in (nameable self.now.class.now) name t }
+        ensures number { IfSome result (λ f. slice_get self.now.class.now.fields f.number ≡ Some f.field.now) }
     {
         if self.class.name.is_string() {
             return None;
         }
         match self.fields.get(key) {
-            Some(field) => Some(*field),
+            Some(found) => Some(*found),
             None => None,
         }
     }
 
-    /// The method of the name and type.
-    pub fn method(&self, key: &MethodKey<'a>) -> Option<&'a Method>
-        ensures { (name : List ℕ) (t : MethodDescriptor) → IsMethodKey key.now name t
-            → option_copied result ≡ method_in self.now.class.now.methods name t }
+    /// The method of the name and type, with its number.
+    pub fn method(&self, key: &MethodKey<'a>) -> Option<NumberedMethod<'a>>
+        ensures method { (name : List ℕ) (t : MethodDescriptor) → IsMethodKey key.now name t
+            → option_map (λ m. m.method.now) result ≡ method_in self.now.class.now.methods name t }
+        ensures number { IfSome result (λ m. slice_get self.now.class.now.methods m.number ≡ Some m.method.now) }
     {
         match self.methods.get(key) {
-            Some(method) => Some(*method),
+            Some(found) => Some(*found),
             None => None,
         }
     }

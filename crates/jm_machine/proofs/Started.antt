@@ -24,6 +24,7 @@ use Rattle.jm_world.specs.declared.class_state.ClassState.TheVariants.{NotBegun,
 use Rattle.jm_world.specs.declared.stage.Stage.TheVariants.{Begin}
 use Rattle.jm_world.proofs.LoadsWellFormed.{runs_are_well_formed}
 use Rattle.jm_heap.specs.declared.class_id.ClassId.{ClassId}
+use Rattle.jm_linked.specs.Later.{later_part}
 use Rattle.jm_linked.specs.Links.{LinkedView, IsLinked, MethodLinks, name_of_number, name_among, name_in_class, member_name, class_name_of}
 use Rattle.jm_linked.specs.declared.method.LinkedMethod.{LinkedMethod}
 use Rattle.jm_linked.specs.Named.{named_statics, named_literals, named_states}
@@ -136,7 +137,7 @@ no_named : (ts : List (List ℕ)) → named_literals ts [] ≡ []
 no_named [] = refl
 no_named (t ∷ ts) = refl
 
-module _ (l : LinkedView) (i : IsLinked l) (out array : ℕ) (t : held.Thread) (h : IsFirst l t array) where
+module _ (l : LinkedView) (i : IsLinked l) (none_later : later_part l.program ≡ None) (out array : ℕ) (t : held.Thread) (h : IsFirst l t array) where
   first_held : held_thread t ≡ record { object = None; frames = reverse (first_frames l.main i.main array); pending = None; ending = Running }
   first_held = λ j. record { object = h.object j; frames = reverse (h.frames i.main i.main_is j); pending = h.pending j; ending = h.ending j }
 
@@ -153,7 +154,7 @@ module _ (l : LinkedView) (i : IsLinked l) (out array : ℕ) (t : held.Thread) (
   unfolding parts
   places_are c states =
       ap (λ xs. ((xs ++ []) ++ (list_shape static_shape).refs (named_statics (first_statics l.program) (Ref out ∷ []))) ++ [] ++ (list_shape literal_shape).refs (named_literals (literal_texts l.program) [])) thread_refs
-      ∙ ap (λ xs. ((array ∷ []) ++ xs) ++ [] ++ (list_shape literal_shape).refs (named_literals (literal_texts l.program) [])) (static_refs out (flat_map statics_of_class l.program) (no_statics l.program i.whole))
+      ∙ ap (λ xs. ((array ∷ []) ++ xs) ++ [] ++ (list_shape literal_shape).refs (named_literals (literal_texts l.program) [])) (static_refs out (flat_map statics_of_class l.program) (no_statics l.program none_later))
       ∙ ap (λ ls. ((array ∷ []) ++ (out ∷ [])) ++ [] ++ (list_shape literal_shape).refs ls) (no_named (literal_texts l.program))
 
   both_resident : (c : Content ClassId) → serial_at c array ≡ Some 1 → serial_at c out ≡ Some 0 → AllResident c (array ∷ out ∷ [])
@@ -165,7 +166,7 @@ module _ (l : LinkedView) (i : IsLinked l) (out array : ℕ) (t : held.Thread) (
   pub started : (old c : Content ClassId) (states : List ClassState) → HasFirst old c out array → states ≡ replicate (length l.program) NotBegun → Matches (parts l c (first_view out t states)) (loaded_world l.program old.limit)
   unfolding parts loaded_world
   started old c states first states_is =
-      let none = no_literals l.program i.whole in
+      let none = no_literals l.program none_later in
       let long : length (first_objects l.program) ≡ 2 = heap_length l.program none in
       let at_array : name_of c array ≡ 1 = named c array 1 first.array_at in
       let at_out : name_of c out ≡ 0 = named c out 0 first.out_at in
@@ -178,7 +179,7 @@ module _ (l : LinkedView) (i : IsLinked l) (out array : ℕ) (t : held.Thread) (
         bound = bounded;
         objects = λ k r. let below : k < length (first_objects l.program) = bounded k r in objects_are l.program old c out array first (objects_from 2 (literal_texts l.program)) k (omega (arith, below, long));
         threads = ap (λ x. x ∷ []) (thread_is (name_of c) at_array);
-        statics = statics_are (name_of c) out (flat_map statics_of_class l.program) (no_statics l.program i.whole) at_out;
+        statics = statics_are (name_of c) out (flat_map statics_of_class l.program) (no_statics l.program none_later) at_out;
         monitors = refl;
         literals = ap ((list_shape literal_shape).rename (name_of c)) (no_named (literal_texts l.program)) ∙ ap (literals_from 2) (sym none);
         program = refl;
@@ -198,10 +199,11 @@ module _ (l : LinkedView) (i : IsLinked l) (out array : ℕ) (t : held.Thread) (
       tt,
     );
     live = ap (λ e. elim (is_running (ending_part l.program e)) as (λ v. ℕ) [ true ↦ 0 + 1 | false ↦ 0 ]) (sym h.ending);
-    statics = ap (λ ss. suc (length ss)) (sym (no_statics l.program i.whole));
-    literals = ap length (sym (no_literals l.program i.whole));
+    statics = ap (λ ss. suc (length ss)) (sym (no_statics l.program none_later));
+    literals = ap length (sym (no_literals l.program none_later));
     classes = ap length states_is ∙ length-replicate (length l.program) NotBegun;
     not_yet = record {
+      program = none_later;
       threads = (subst ThreadNotYet (sym first_held) (record { object = refl; monitors = (tt, (refl, tt)); initializers = (tt, tt) }), tt);
       monitors = refl;
       failures = subst (AllByRecursion (λ s. s ≢ Failed)) (sym states_is) (none_failed (length l.program));
@@ -209,11 +211,11 @@ module _ (l : LinkedView) (i : IsLinked l) (out array : ℕ) (t : held.Thread) (
   }
 
 -- where they are too small for a heap
-pub too_small : (l : LinkedView) (limit : ℕ) → IsLinked l → is_too_small l.program limit ≡ nat_lt limit 5
+pub too_small : (l : LinkedView) (limit : ℕ) → later_part l.program ≡ None → is_too_small l.program limit ≡ nat_lt limit 5
 unfolding size_of
-too_small l limit i = ap (λ ts. nat_lt limit (2 + (3 + cells_of_all (objects_from 2 ts)))) (no_literals l.program i.whole)
+too_small l limit i = ap (λ ts. nat_lt limit (2 + (3 + cells_of_all (objects_from 2 ts)))) (no_literals l.program i)
 
-pub has_room : (l : LinkedView) (limit : ℕ) → IsLinked l → is_too_small l.program limit ≡ false → 5 ≤ limit
+pub has_room : (l : LinkedView) (limit : ℕ) → later_part l.program ≡ None → is_too_small l.program limit ≡ false → 5 ≤ limit
 has_room l limit i e = let t : nat_lt limit 5 ≡ false = sym (too_small l limit i) ∙ e in ltb-false limit 5 t
 
 -- as many states as classes

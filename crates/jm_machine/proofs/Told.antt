@@ -1,5 +1,5 @@
 -- What readers tell beside what the world has.
-use Rattle.std.proofs.Common.{◌≡◌, ℕ, zero, suc, ◌<◌, List, [], ◌∷◌, Some, refl, sym, ap, ◌∙◌, subst, length, get_or, arith}
+use Rattle.std.proofs.Common.{None, ◌≡◌, ℕ, zero, suc, ◌<◌, List, [], ◌∷◌, Some, refl, sym, ap, ◌∙◌, subst, length, get_or, arith}
 use Rattle.std.specs.Prelude.{slice_get}
 use Rattle.std.proofs.lemmas.Option.{slice_get_within}
 use Rattle.std.proofs.lemmas.List.{length-map}
@@ -20,6 +20,7 @@ use Rattle.jm_values.specs.Objects.{ObjectOf}
 use Rattle.jm_world.specs.Renaming.{static_shape}
 use Rattle.jm_world.specs.World.{Static}
 use Rattle.jm_heap.specs.declared.class_id.ClassId.{ClassId}
+use Rattle.jm_linked.specs.Later.{later_part}
 use Rattle.jm_linked.specs.Links.{LinkedView, IsLinked, MethodLinks, name_of_number, name_among, name_in_class, member_name}
 use Rattle.jm_linked.specs.declared.method.LinkedMethod.{LinkedMethod}
 use Rattle.jm_linked.specs.Named.{named_statics}
@@ -93,12 +94,12 @@ one_static f ss vs i v e long g =
     by (x ∷ y ∷ vs) i few g = absurd (omega arith)
 
 -- the static field is System.out
-module _ (l : LinkedView) (linked : IsLinked l) (c : Content ClassId) (vs : List Value) (long : length vs ≡ length (first_statics l.program)) (i : ℕ) (v : Value) (g : slice_get vs i ≡ Some v) where
+module _ (l : LinkedView) (none_later : later_part l.program ≡ None) (c : Content ClassId) (vs : List Value) (long : length vs ≡ length (first_statics l.program)) (i : ℕ) (v : Value) (g : slice_get vs i ≡ Some v) where
   pub static_resident : AllResident c (stack_shape.refs vs) → AllResident c (refs v)
   static_resident all = λ p a. all p (among_element value_shape vs i v p g a)
 
   pub static_is : slice_get (statics_seen l c vs) i ≡ Some (record { field = out_field; value = rename (name_of c) v })
-  static_is = one_static (name_of c) (first_statics l.program) vs i v (ap (λ ss. record { field = out_field; value = Ref 0 } ∷ ss) (no_statics l.program linked.whole)) long g
+  static_is = one_static (name_of c) (first_statics l.program) vs i v (ap (λ ss. record { field = out_field; value = Ref 0 } ∷ ss) (no_statics l.program none_later)) long g
 
 pub out_is : (bs : List BuiltIn) (b : BuiltIn) (fs : List Field) (f : Field) → bs ≡ the_builtins → b ≡ get_or bs 4 b → fs ≡ b.fields → f ≡ get_or fs 0 f → out_field ≡ record { class = b.name; name = f.name; type = f.descriptor }
 out_is bs b fs f e g s h =

@@ -1,6 +1,7 @@
 // How a program is loaded.
 
-ghost use Rattle.std.specs.Prelude.{◌≡◌, ◌≤◌, ◌∷◌, [], IfOk, Some, false, slice_get, replicate, length};
+ghost use Rattle.std.specs.Prelude.{◌≡◌, ◌≤◌, ◌∷◌, [], IfOk, Some, None, false, slice_get, replicate, length};
+ghost use Rattle.jm_linked.specs.Later.{later_part};
 ghost use Rattle.jm_linked.specs.declared.method.LinkedMethod.{LinkedMethod as Method};
 ghost use Rattle.jm_machine.specs.Start.{IsEmpty, HasFirst, first_frames};
 ghost use Rattle.jm_state.specs.Parts.{state_parts};
@@ -104,11 +105,12 @@ fn not_begun(alloc: Global, count: usize) -> Result<Vec<ClassState>, AllocError>
     vec![in alloc; ClassState::NotBegun; count]
 }
 
-/// Whether the first objects pass a limit. A linked program has no literals, so there are two.
+/// Whether the first objects pass a limit. A program in which nothing comes later has no literals, so
+/// there are two.
 pub(crate) fn is_too_small(linked: &Linked, limit: u64) -> bool
+    requires { later_part linked.now.program ≡ None }
     ensures { result ≡ is_too_small linked.now.program limit }
 {
-    let _ = linked.classes();
     limit < FIRST_CELLS
 }
 
@@ -118,6 +120,7 @@ pub(crate) fn make_first_state<H: Heap + Drop>(
     linked: &Linked,
     mut heap: H,
 ) -> Result<State<H>, OutOfMemory>
+    requires not_later { later_part linked.now.program ≡ None }
     requires empty { IsEmpty (H.content heap) }
     requires room { is_too_small linked.now.program (H.content heap).limit ≡ false }
     ensures loaded { IfOk result (λ state. Matches (state_parts H.content linked.now state) (loaded_world linked.now.program (H.content heap).limit)) }

@@ -1,8 +1,9 @@
 // Static fields as readers tell them.
 
-ghost use Rattle.std.specs.Prelude.{◌≡◌, length, option_map, slice_get};
+ghost use Rattle.std.specs.Prelude.{◌≡◌, None, length, option_map, slice_get};
 ghost use Rattle.jm_values.specs.Rename.{stack_shape};
 ghost use Rattle.jm_values.specs.Content.{AllResident};
+ghost use Rattle.jm_linked.specs.Later.{later_part};
 ghost use Rattle.jm_world.specs.Loading.{first_statics};
 ghost use Rattle.jm_machine.specs.Readers.{model_static};
 ghost use Rattle.jm_machine.specs.Seen.{statics_seen};
@@ -37,23 +38,26 @@ pub struct WorldStatics<'a, H: Heap> {
 }
 
 impl<'a, H: Heap> Model for WorldStatics<'a, H> {
-    ghost use Rattle.std.specs.Prelude.{◌≡◌, List, length};
+    ghost use Rattle.std.specs.Prelude.{◌≡◌, None, List, length};
     ghost use Rattle.jm_values.specs.Rename.{stack_shape};
     ghost use Rattle.jm_values.specs.Content.{AllResident};
     ghost use Rattle.jm_world.specs.Loading.{first_statics};
     ghost use Rattle.jm_world.specs.World.{Static};
+    ghost use Rattle.jm_linked.specs.Later.{later_part};
     ghost use Rattle.jm_machine.specs.Seen.{statics_seen};
 
     ghost Value = { List Static };
 
     ghost view = { λ s. statics_seen s.linked.now (H.content s.heap.now) s.values.now };
 
-    ghost invariant = { λ s. (length s.values.now ≡ length (first_statics s.linked.now.program)) × AllResident (H.content s.heap.now) (stack_shape.refs s.values.now) };
+    ghost invariant = { λ s. (length s.values.now ≡ length (first_statics s.linked.now.program)) × AllResident (H.content s.heap.now) (stack_shape.refs s.values.now)
+        × (later_part s.linked.now.program ≡ None) };
 }
 
 impl<'a, H: Heap> WorldStatics<'a, H> {
     // The static fields with these values, whose references are places in the heap.
     pub(crate) fn new(heap: &'a H, linked: &'a Linked, values: &'a [Value]) -> WorldStatics<'a, H>
+        requires not_later { later_part linked.now.program ≡ None }
         requires many { length values.now ≡ length (first_statics linked.now.program) }
         requires resident { AllResident (H.content heap.now) (stack_shape.refs values.now) }
         ensures { result ≡ statics_seen linked.now (H.content heap.now) values.now }
@@ -79,8 +83,7 @@ impl<'a, H: Heap> WorldStatics<'a, H> {
         if index >= self.values.len() {
             return None;
         }
-        // a linked program's classes have no fields
-        let _ = self.linked.classes();
+        // a program in which nothing comes later has no fields
         let value = self.values[index];
         let system = &self.linked.built_ins()[SYSTEM];
         let fields = system.fields.as_slice();

@@ -81,7 +81,7 @@ fn classes_of(alloc: Global, program: &str) -> Result<Vec<Class>, Fail> {
     Ok(classes)
 }
 
-// How linking ends: `linked` and how many methods can run, or the fault as it is printed.
+// How linking ends: `linked` and how many methods have code, or the fault as it is printed.
 fn outcome(alloc: Global, program: &str) -> Result<String, Fail> {
     match link(alloc, classes_of(alloc, program)?) {
         Ok(linked) => {

@@ -150,6 +150,7 @@ runs_alike {l} {old} {new} m r =
       literals = same_length _ new.literals old.literals literals ∙ r.literals;
       classes = ap length m.classes ∙ r.classes;
       not_yet = record {
+        program = r.not_yet.program;
         threads = each_alike ThreadNotYet not_yet_same (map held_thread old.threads) (map held_thread new.threads) threads r.not_yet.threads;
         monitors = still_none (held_monitor_shape.rename (λ p. 0)) new.monitors (monitors ∙ ap (map (held_monitor_shape.rename (λ p. 0))) r.not_yet.monitors);
         failures = subst (AllByRecursion (λ s. s ≢ Failed)) (sym m.classes) r.not_yet.failures;
@@ -171,5 +172,5 @@ runs_still output stop r = record {
   statics = r.statics;
   literals = r.literals;
   classes = r.classes;
-  not_yet = record { threads = r.not_yet.threads; monitors = r.not_yet.monitors; failures = r.not_yet.failures };
+  not_yet = record { program = r.not_yet.program; threads = r.not_yet.threads; monitors = r.not_yet.monitors; failures = r.not_yet.failures };
 }

@@ -4,6 +4,7 @@ use Rattle.std.specs.List.{AllByRecursion}
 use Rattle.jm_world.specs.World.{live_among}
 use Rattle.jm_world.specs.Loading.{first_statics, literal_texts}
 use Rattle.jm_world.specs.declared.class_state.ClassState.TheVariants.{Failed}
+use Rattle.jm_linked.specs.Later.{later_part}
 use Rattle.jm_linked.specs.Links.{LinkedView}
 use Rattle.jm_state.specs.Parts.{thread_part}
 use Rattle.jm_state.specs.Places.{HeldThread, held_thread}
@@ -12,7 +13,7 @@ use Rattle.jm_state.specs.declared.thread.StackFrame.{StackFrame}
 use Rattle.jm_state.specs.declared.thread.StackFrame.TheVariants.{Method, Initialization}
 use Rattle.jm_state.specs.declared.state.State.{State}
 
--- a method frame is of a method that can run, an initialization frame of a class of the program
+-- a method frame is of a method with code, an initialization frame of a class of the program
 abbrev pub FrameRuns : LinkedView → StackFrame → Type 0
 FrameRuns l (Method f) = f.method < length l.methods
 FrameRuns l (Initialization class stage) = class < length l.program
@@ -43,8 +44,10 @@ pub record ThreadNotYet (t : HeldThread) : Type 0 where
   pub monitors : AllByRecursion HoldsNoMonitor t.frames
   pub initializers : StandOnTop t.pending t.frames
 
--- and no state: without a monitor that is held, and a <clinit> that fails its class
-pub record NotYet (s : StateView) : Type 0 where
+-- and no state: a program in which nothing comes later is loaded, so that no monitor is held, and
+-- no <clinit> fails its class
+pub record NotYet (l : LinkedView) (s : StateView) : Type 0 where
+  pub program : later_part l.program ≡ None
   pub threads : AllByRecursion ThreadNotYet (map held_thread s.threads)
   pub monitors : s.monitors ≡ []
   pub failures : AllByRecursion (λ state. state ≢ Failed) s.classes
@@ -55,7 +58,7 @@ pub record IsRunnable (l : LinkedView) (s : StateView) : Type 0 where
   pub statics : length s.statics ≡ length (first_statics l.program)
   pub literals : length s.literals ≡ length (literal_texts l.program)
   pub classes : length s.classes ≡ length l.program
-  pub not_yet : NotYet s
+  pub not_yet : NotYet l s
 
 abbrev pub StateRuns : {H : Type 0} → LinkedView → State H → Type 0
 StateRuns l s = IsRunnable l (view_of s)

@@ -1,6 +1,7 @@
 // Journals of Main's run.
 
-ghost use Rattle.std.specs.Prelude.{◌≡◌};
+ghost use Rattle.std.specs.Prelude.{◌≡◌, None};
+ghost use Rattle.jm_linked.specs.Later.{later_part};
 ghost use Rattle.jm_world.specs.Loading.{loaded_world};
 
 use crate::class_file::SUM;
@@ -49,7 +50,8 @@ fn check_turns<R: Origin>(
 }
 
 fn nine_turns<R: Origin>(rt: &impl Abort, alloc: Global, linked: Linked) -> Result<(), Fail>
-    requires { R.first ≡ loaded_world linked.program 65536 }
+    requires not_later { later_part linked.program ≡ None }
+    requires first { R.first ≡ loaded_world linked.program 65536 }
 {
     let machine = Machine::load(alloc, linked, PlainHeap::new(alloc, 65536))?;
     let mut journal: Journal<PlainHeap, R> = Journal::new(alloc, machine);

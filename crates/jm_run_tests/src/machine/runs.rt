@@ -1,7 +1,8 @@
 // Runs of Main over the plain heap. The answers are worked out by hand: three stages of
 // initialization come before the first instruction.
 
-ghost use Rattle.std.specs.Prelude.{◌+◌, ◌<◌, ◌^◌, length};
+ghost use Rattle.std.specs.Prelude.{◌≡◌, ◌+◌, ◌<◌, ◌^◌, IfOk, None, length};
+ghost use Rattle.jm_linked.specs.Later.{later_part};
 
 use crate::class_file::{BY_ZERO, SUM, WRONG_TAG, main_with};
 use jm_class_reader::read_class;
@@ -63,6 +64,7 @@ t 1 | Stopped 1 1, 1 1 HeapFull | - |
 /// Main with this code for main, linked.
 pub fn linked_main(alloc: Global, code: &[u8]) -> Result<Linked, Fail>
     requires { length code.now + 12 < 2 ^ 32 }
+    ensures { IfOk result (λ l. later_part l.program ≡ None) }
 {
     let bytes = main_with(alloc, code)?;
     let class = read_class(alloc, &bytes)?;

@@ -11,7 +11,7 @@ use Rattle.jm_machine.proofs.Started.{started, starts, has_room, counted}
 use Rattle.jm_machine.proofs.load.make_first_state.Goals as goal
 
 pub make_first_objects-requires-clause-room : goal.make_first_objects-requires-clause-room
-make_first_objects-requires-clause-room g c = has_room c.args.linked.now _ c.classes-count.ensures.linked c.requires.room
+make_first_objects-requires-clause-room g c = has_room c.args.linked.now _ c.requires.not_later c.requires.room
 
 pub returns-clause-loaded : goal.returns-clause-loaded
 returns-clause-loaded g c =
@@ -23,7 +23,7 @@ returns-clause-loaded g c =
     let states = c.in_ok-classes.classes.items in
     subst (λ v. Matches (parts l (g.H.Heap.content c.make_first_objects.new.heap) v) (loaded_world l.program (g.H.Heap.content c.args.heap).limit))
     (λ j. record { threads = sym threads j; live = 1; statics = sym statics j; classes = states; literals = sym c.new.ensures.items j; monitors = sym c.new-2.ensures.items j; output = sym c.new-3.ensures.items j; stop = None })
-    (started l c.classes-count.ensures.linked first.out first.arguments t (record { object = refl; frames = c.in_ok-frames.ensures; pending = refl; ending = refl }) _ _ states c.in_ok-first.ensures
+    (started l c.classes-count.ensures.linked c.requires.not_later first.out first.arguments t (record { object = refl; frames = c.in_ok-frames.ensures; pending = refl; ending = refl }) _ _ states c.in_ok-first.ensures
     (counted c.classes-count.result.now l.program states c.in_ok-classes.ensures c.classes-count.ensures.classes))
 
 pub returns-clause-runs : goal.returns-clause-runs
@@ -36,5 +36,5 @@ returns-clause-runs g c =
     let states = c.in_ok-classes.classes.items in
     subst (IsRunnable l)
     (λ j. record { threads = sym threads j; live = 1; statics = sym statics j; classes = states; literals = sym c.new.ensures.items j; monitors = sym c.new-2.ensures.items j; output = sym c.new-3.ensures.items j; stop = None })
-    (starts l c.classes-count.ensures.linked first.out first.arguments t (record { object = refl; frames = c.in_ok-frames.ensures; pending = refl; ending = refl }) states
+    (starts l c.classes-count.ensures.linked c.requires.not_later first.out first.arguments t (record { object = refl; frames = c.in_ok-frames.ensures; pending = refl; ending = refl }) states
     (counted c.classes-count.result.now l.program states c.in_ok-classes.ensures c.classes-count.ensures.classes))

@@ -16,7 +16,7 @@ returns-then-index-self g c =
 
 pub world_value-requires : goal.world_value-requires
 world_value-requires g c =
-    static_resident c.self.inside.linked.now c.classes.ensures.linked (g.H.Heap.content c.self.inside.heap.now) c.self.inside.values.now c.self.invariant.0 c.args.index _ (slice_get-get_or c.self.inside.values.now c.args.index c.index-self-index.result c.if-index-self.false) c.self.invariant.1
+    static_resident c.self.inside.linked.now c.self.invariant.2 (g.H.Heap.content c.self.inside.heap.now) c.self.inside.values.now c.self.invariant.0 c.args.index _ (slice_get-get_or c.self.inside.values.now c.args.index c.index-self-index.result c.if-index-self.false) c.self.invariant.1
 
 pub returns : goal.returns
 returns g c =
@@ -25,5 +25,5 @@ returns g c =
     let values = c.self.inside.values.now in
     let field = out_is c.built_ins.result.now c.index-built_ins-4.result c.as_slice-fields.result.now c.index-fields-0.result c.built_ins.ensures c.index-built_ins-4.is c.as_slice-fields.ensures c.index-fields-0.is in
     (λ i. Some (record { field = sym field i; value = c.world_value.ensures i }))
-    ∙ sym (static_is l c.classes.ensures.linked heap values c.self.invariant.0 c.args.index _ (slice_get-get_or values c.args.index c.index-self-index.result c.if-index-self.false))
+    ∙ sym (static_is l c.self.invariant.2 heap values c.self.invariant.0 c.args.index _ (slice_get-get_or values c.args.index c.index-self-index.result c.if-index-self.false))
     ∙ ap (λ (xs : List Static). slice_get xs c.args.index) c.self.view_is
