@@ -1,3 +1,4 @@
 pub mod Loops
+pub mod Taken
 pub mod Spelled
 pub mod Unique

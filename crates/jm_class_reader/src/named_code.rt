@@ -363,7 +363,7 @@ fn named(alloc: Global, symbols: &mut Symbols<'_>, instr: IndexedInstr) -> Resul
 }
 
 /// The instructions with what their indexes name.
-#[tactic(auto, using(jm_opcodes::proofs::Taken::taken_steps))]
+#[tactic(auto, using(jm_bytes::proofs::Taken::taken_steps))]
 pub fn instructions_of(
     alloc: Global,
     symbols: &mut Symbols<'_>,

@@ -8,7 +8,7 @@ use Rattle.std.proofs.lemmas.Option.{get_or_from_slice_get, slice_get_within, sl
 use Rattle.jm_values.specs.declared.value.Value.{Value}
 use Rattle.jm_values.specs.Rename.{stack_shape, refs}
 use Rattle.jm_values.specs.Shape.{Among}
-use Rattle.jm_values.proofs.Among.{among_left, among_right}
+use Rattle.jm_values.proofs.Among.{among_left, among_right, among_split}
 use Rattle.jm_values.specs.Objects.{refs_of}
 use Rattle.jm_values.specs.Reach.{Reach, root, field}
 use Rattle.jm_values.proofs.Reaching.{reach_within}
@@ -18,21 +18,12 @@ use Rattle.jm_heap.specs.declared.slot.Object.{Object}
 use Rattle.jm_heap.specs.declared.slot.Slot.{Slot}
 use Rattle.jm_heap.proofs.SlotLemmas.{get_set_same, get_set_other}
 
-pub among_both : (n : ℕ) (a b : List ℕ) → Among n (a ++ b) → Among n a ⊎ Among n b
-among_both n [] b h = inr h
-among_both n (x ∷ a) b (inl e) = inl (inl e)
-among_both n (x ∷ a) b (inr h) = by (among_both n a b h)
-  where
-    by : Among n a ⊎ Among n b → ((n ≡ x) ⊎ Among n a) ⊎ Among n b
-    by (inl m) = inl (inr m)
-    by (inr m) = inr m
-
 pub marked_none : (m : List Bool) (s : List ℕ) → MarkedAll [] m s m s
 marked_none m s = record { all = λ q a. absurd a; keeps = λ q h. h; stays = λ q a. a; new_marks = λ q h. inl h; new_pending = λ q a. inl a; count = refl; many = refl }
 
 pub marked_more : (ps qs : List ℕ) (a b c : List Bool) (s t u : List ℕ) → MarkedAll ps a s b t → MarkedAll qs b t c u → MarkedAll (ps ++ qs) a s c u
 marked_more ps qs a b c s t u f g = record {
-  all = λ q h. both q (among_both q ps qs h);
+  all = λ q h. both q (among_split q ps qs h);
   keeps = λ q h. g.keeps q (f.keeps q h);
   stays = λ q h. g.stays q (f.stays q h);
   new_marks = λ q h. marks q (g.new_marks q h);
@@ -93,7 +84,7 @@ marked_now_at m s i w e = record {
   keeps = λ q h. keeps q h (eqb_tells q (suc i));
   stays = λ q a. among_left q s (suc i ∷ []) a;
   new_marks = λ q h. fresh q h (eqb_tells q (suc i));
-  new_pending = λ q a. among_both q s (suc i ∷ []) a;
+  new_pending = λ q a. among_split q s (suc i ∷ []) a;
   count = let total = sum_by-set (λ (b : Bool). elim b as (λ _. ℕ) [ true ↦ 0 | false ↦ 1 ]) m i true false w in
       let was : get_or m i false ≡ false = get_or_from_slice_get m i false false e in
       let counted : unmarked (slice_set m i true) + 1 ≡ unmarked m + 0 = subst (λ b. unmarked (slice_set m i true) + (elim b as (λ _. ℕ) [ true ↦ 0 | false ↦ 1 ]) ≡ unmarked m + 0) was total in
@@ -225,7 +216,7 @@ next_frontier slots roots a b s t p old f = record {
     last q (inr (inr h)) = absurd h
 
     looked : (q : ℕ) → Among q (s ++ p ∷ []) ⊎ ((k : ℕ) → Among k (refs_of (objects_of slots q)) → is_marked a k ≡ true) → Among q t ⊎ ((k : ℕ) → Among k (refs_of (objects_of slots q)) → is_marked b k ≡ true)
-    looked q (inl h) = last q (among_both q s (p ∷ []) h)
+    looked q (inl h) = last q (among_split q s (p ∷ []) h)
     looked q (inr h) = inr (λ k m. f.keeps k (h k m))
 
     by : (q : ℕ) → (is_marked a q ≡ true) ⊎ (Among q (refs_of (objects_of slots p)) × Among q t) → Among q t ⊎ ((k : ℕ) → Among k (refs_of (objects_of slots q)) → is_marked b k ≡ true)

@@ -6,7 +6,8 @@ use Rattle.std.proofs.lemmas.List.{length-set}
 use Rattle.jm_values.specs.declared.value.Value.{Value}
 use Rattle.jm_values.specs.Rename.{rename, refs, stack_shape}
 use Rattle.jm_values.specs.Shape.{Among}
-use Rattle.jm_values.proofs.Among.{among_left, among_right}
+use Rattle.jm_values.proofs.Among.{among_left, among_right, among_split}
+use Rattle.jm_values.proofs.Lists.{map_set}
 use Rattle.jm_values.specs.Objects.{ObjectOf}
 use Rattle.jm_values.specs.Content.{Content, IsSet, HasValue, AllResident, serial_at, object_at, name_of}
 use Rattle.jm_heap.specs.Slots.{AreSound, object_in, serial_of, named_object, content_of}
@@ -16,17 +17,16 @@ use Rattle.jm_heap.specs.declared.slot.Object.{Object}
 use Rattle.jm_heap.specs.declared.slot.Slot.{Slot}
 use Rattle.jm_heap.proofs.ContentLemmas.{Shows, slots_show, serial_of_place, named_same}
 use Rattle.jm_heap.proofs.SoundLemmas.{at_place, serial_is, some_is, sound_content}
-use Rattle.jm_heap.proofs.MarkLemmas.{among_both}
 use Rattle.jm_heap.proofs.ReadingLemmas.{value_within, object_read}
 
 among_set : (vs : List Value) (i : ℕ) (v : Value) (q : ℕ) → Among q (stack_shape.refs (slice_set vs i v)) → Among q (stack_shape.refs vs) ⊎ Among q (refs v)
 among_set [] i v q a = inl a
-among_set (w ∷ vs) zero v q a = by (among_both q (refs v) (stack_shape.refs vs) a)
+among_set (w ∷ vs) zero v q a = by (among_split q (refs v) (stack_shape.refs vs) a)
   where
     by : Among q (refs v) ⊎ Among q (stack_shape.refs vs) → Among q (stack_shape.refs (w ∷ vs)) ⊎ Among q (refs v)
     by (inl m) = inr m
     by (inr m) = inl (among_right q (refs w) (stack_shape.refs vs) m)
-among_set (w ∷ vs) (suc i) v q a = by (among_set vs i v q) (among_both q (refs w) (stack_shape.refs (slice_set vs i v)) a)
+among_set (w ∷ vs) (suc i) v q a = by (among_set vs i v q) (among_split q (refs w) (stack_shape.refs (slice_set vs i v)) a)
   where
     later : Among q (stack_shape.refs vs) ⊎ Among q (refs v) → Among q (stack_shape.refs (w ∷ vs)) ⊎ Among q (refs v)
     later (inl m) = inl (among_right q (refs w) (stack_shape.refs vs) m)
@@ -35,11 +35,6 @@ among_set (w ∷ vs) (suc i) v q a = by (among_set vs i v q) (among_both q (refs
     by : (Among q (stack_shape.refs (slice_set vs i v)) → Among q (stack_shape.refs vs) ⊎ Among q (refs v)) → Among q (refs w) ⊎ Among q (stack_shape.refs (slice_set vs i v)) → Among q (stack_shape.refs (w ∷ vs)) ⊎ Among q (refs v)
     by ih (inl m) = inl (among_left q (refs w) (stack_shape.refs vs) m)
     by ih (inr m) = later (ih m)
-
-map_set : (f : Value → Value) (vs : List Value) (i : ℕ) (v : Value) → map f (slice_set vs i v) ≡ slice_set (map f vs) i (f v)
-map_set f [] i v = refl
-map_set f (w ∷ vs) zero v = refl
-map_set f (w ∷ vs) (suc i) v = ap (λ l. f w ∷ l) (map_set f vs i v)
 
 abbrev Told : ℕ → ℕ → Type 0
 Told a b = ((nat_eq a b ≡ true) × (a ≡ b)) ⊎ ((nat_eq a b ≡ false) × (a ≢ b))

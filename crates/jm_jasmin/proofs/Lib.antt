@@ -6,7 +6,6 @@ pub mod Rest
 pub mod ItemLaws
 pub mod Ranges
 pub mod PartTables
-pub mod Taken
 pub mod Ends
 pub mod Denoted
 pub mod Readings

@@ -63,7 +63,7 @@ fn part_of(
 }
 
 /// What becomes of each item.
-#[tactic(auto, using(crate::proofs::Taken::taken_steps))]
+#[tactic(auto, using(jm_bytes::proofs::Taken::taken_steps))]
 pub fn parts_of(
     alloc: Global,
     values: &HashMap<Name, u32>,

@@ -10,7 +10,7 @@ ghost use Rattle.jm_jasmin.specs.Symbols.{class_name, field_name, method_name, f
 use crate::lines::line_number;
 use crate::words::operand;
 use jm_jasmin_lex::Token;
-use jm_jasmin_ops::AsmFault;
+use jm_jasmin_ops::{AsmFault, at_line};
 use jm_program::{FieldType, MethodDescriptor, Name, code_units};
 use jm_symbols::{class_name_of, field_name_of, field_type_of, method_name_of, method_type_of};
 use std::alloc::Global;
@@ -19,20 +19,14 @@ use std::alloc::Global;
 fn class_name(alloc: Global, line: usize, units: &[u16]) -> Result<Name, AsmFault>
     ensures { GivesAll (λ name. name) OutOfMemory result (class_name line units.now) }
 {
-    match class_name_of(alloc, units) {
-        Ok(name) => Ok(name),
-        Err(fault) => Err(AsmFault::of_read(line, fault)),
-    }
+    at_line(line, class_name_of(alloc, units))
 }
 
 #[tactic(auto, unfolding(crate::specs::Symbols::field_name), using(crate::proofs::Faults::fault_seen))]
 fn field_name(alloc: Global, line: usize, units: &[u16]) -> Result<Name, AsmFault>
     ensures { GivesAll (λ name. name) OutOfMemory result (field_name line units.now) }
 {
-    match field_name_of(alloc, units) {
-        Ok(name) => Ok(name),
-        Err(fault) => Err(AsmFault::of_read(line, fault)),
-    }
+    at_line(line, field_name_of(alloc, units))
 }
 
 /// The name of a method that a class declares (JVMS 4.2.2).
@@ -40,20 +34,14 @@ fn field_name(alloc: Global, line: usize, units: &[u16]) -> Result<Name, AsmFaul
 pub fn method_name(alloc: Global, line: usize, units: &[u16]) -> Result<Name, AsmFault>
     ensures { GivesAll (λ name. name) OutOfMemory result (method_name line units.now) }
 {
-    match method_name_of(alloc, units) {
-        Ok(name) => Ok(name),
-        Err(fault) => Err(AsmFault::of_read(line, fault)),
-    }
+    at_line(line, method_name_of(alloc, units))
 }
 
 #[tactic(auto, unfolding(crate::specs::Symbols::field_type), using(crate::proofs::Faults::fault_seen))]
 fn field_type(alloc: Global, line: usize, units: &[u16]) -> Result<FieldType, AsmFault>
     ensures { GivesAll (λ t. t) OutOfMemory result (field_type line units.now) }
 {
-    match field_type_of(alloc, units) {
-        Ok(field_type) => Ok(field_type),
-        Err(fault) => Err(AsmFault::of_read(line, fault)),
-    }
+    at_line(line, field_type_of(alloc, units))
 }
 
 /// The type of a method whose receiver takes so many slots (JVMS 4.3.3).
@@ -67,10 +55,7 @@ pub fn method_type(
     ensures given { GivesAll (λ d. d) OutOfMemory result (method_type line receiver units.now) }
     ensures few { IfOk result (λ d. argument_slots d + receiver ≤ 255) }
 {
-    match method_type_of(alloc, receiver, units) {
-        Ok(method_type) => Ok(method_type),
-        Err(fault) => Err(AsmFault::of_read(line, fault)),
-    }
+    at_line(line, method_type_of(alloc, receiver, units))
 }
 
 /// The UTF-16 code units of the word at a place of a line.

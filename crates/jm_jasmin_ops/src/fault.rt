@@ -1,6 +1,7 @@
 // Why a text is no class.
 
 ghost use Rattle.std.specs.Prelude.{◌≡◌};
+ghost use Rattle.jm_bytes.specs.Reading.{fault_as};
 ghost use Rattle.jm_jasmin_ops.specs.Faults.{line_of, of_read};
 
 use crate::directive::LeftOutDirective;
@@ -100,6 +101,16 @@ impl AsmFault {
             ReadFault::OutOfMemory => AsmFault::OutOfMemory,
             _ => AsmFault::Syntax(line),
         }
+    }
+}
+
+/// What was read of a name or a type in a line, or its fault there.
+pub fn at_line<T: Drop>(line: usize, read: Result<T, ReadFault>) -> Result<T, AsmFault>
+    ensures { result ≡ fault_as (of_read line) read }
+{
+    match read {
+        Ok(value) => Ok(value),
+        Err(fault) => Err(AsmFault::of_read(line, fault)),
     }
 }
 

@@ -22,7 +22,7 @@ mod symbols;
 mod words;
 
 pub use directive::LeftOutDirective;
-pub use fault::{AsmFault, AsmLeftOut};
+pub use fault::{AsmFault, AsmLeftOut, at_line};
 pub use labelled::{Label, LabelledInstr, LabelledLookup, LabelledPair, LabelledTable, Line};
 pub use laws::{each_opcode_is_named, spelled_instructions_keep_rules};
 pub use line::instruction;

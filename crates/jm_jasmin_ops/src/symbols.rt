@@ -9,7 +9,7 @@ ghost use Rattle.jm_jasmin_ops.specs.declared.fault.AsmFault.TheVariants.{OutOfM
 ghost use Rattle.jm_jasmin_ops.specs.Faults.{of_read};
 ghost use Rattle.jm_jasmin_ops.specs.Operands.{units, element_if, field_of};
 
-use crate::fault::AsmFault;
+use crate::fault::{AsmFault, at_line};
 use crate::words::word;
 use jm_class_format::ReadFault;
 use jm_jasmin_lex::Token;
@@ -30,10 +30,7 @@ pub fn units(alloc: Global, token: &Token<'_>) -> Result<Vec<u16>, AsmFault>
 pub fn class_name_at(alloc: Global, line: usize, units: &[u16]) -> Result<Name, AsmFault>
     ensures { GivesAll (λ name. name) OutOfMemory result (fault_as (of_read line) (class_name_of units.now)) }
 {
-    match jm_symbols::class_name_of(alloc, units) {
-        Ok(name) => Ok(name),
-        Err(fault) => Err(AsmFault::of_read(line, fault)),
-    }
+    at_line(line, jm_symbols::class_name_of(alloc, units))
 }
 
 fn element_if(op: TypeOp, class: ClassRef) -> Result<ClassRef, ReadFault>
@@ -62,10 +59,7 @@ pub fn class_ref_at(
 ) -> Result<ClassRef, AsmFault>
     ensures { GivesAll (λ class. class) OutOfMemory result (fault_as (of_read line) (and_then (class_ref_of units.now) (element_if op))) }
 {
-    match typed_ref(alloc, op, units) {
-        Ok(class) => Ok(class),
-        Err(fault) => Err(AsmFault::of_read(line, fault)),
-    }
+    at_line(line, typed_ref(alloc, op, units))
 }
 
 fn field_of(alloc: Global, class: &[u16], name: &[u16]) -> Result<(ClassRef, Name), ReadFault>
@@ -85,20 +79,14 @@ pub fn field_at(
 ) -> Result<(ClassRef, Name), AsmFault>
     ensures { GivesAll (λ x. (x.0, x.1)) OutOfMemory result (fault_as (of_read line) (field_of (class.now, name.now))) }
 {
-    match field_of(alloc, class, name) {
-        Ok(named) => Ok(named),
-        Err(fault) => Err(AsmFault::of_read(line, fault)),
-    }
+    at_line(line, field_of(alloc, class, name))
 }
 
 /// The type of a field.
 pub fn field_type_at(alloc: Global, line: usize, units: &[u16]) -> Result<FieldType, AsmFault>
     ensures { GivesAll (λ t. t) OutOfMemory result (fault_as (of_read line) (field_type_of units.now)) }
 {
-    match jm_symbols::field_type_of(alloc, units) {
-        Ok(field_type) => Ok(field_type),
-        Err(fault) => Err(AsmFault::of_read(line, fault)),
-    }
+    at_line(line, jm_symbols::field_type_of(alloc, units))
 }
 
 /// The method that an instruction invokes: class before name before type.
@@ -112,8 +100,8 @@ pub fn method_ref_at(
 ) -> Result<MethodRef, AsmFault>
     ensures { GivesAll (λ method. method) OutOfMemory result (fault_as (of_read line) (method_ref_of op (class.now, name.now, descriptor.now))) }
 {
-    match jm_symbols::method_ref_of(alloc, op, class, name, descriptor) {
-        Ok(method) => Ok(method),
-        Err(fault) => Err(AsmFault::of_read(line, fault)),
-    }
+    at_line(
+        line,
+        jm_symbols::method_ref_of(alloc, op, class, name, descriptor),
+    )
 }

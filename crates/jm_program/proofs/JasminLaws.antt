@@ -2,7 +2,8 @@
 use Rattle.std.proofs.Common.{◌≡◌, ℕ, zero, suc, ◌+◌, ◌<◌, ◌≤◌, Bool, true, false, cond, List, [], ◌∷◌, ◌++◌, length, get_or, drop, Option, Some, None, refl, sym, ap, subst, ◌∙◌, append_assoc, arith, add-one, drop-cons, IsTrue}
 use Rattle.std.proofs.lemmas.List.{nil_from_length, length-drop}
 use Rattle.std.proofs.lemmas.Option.{same_Some}
-use Rattle.jm_program.specs.JasminUnits.{is_high, waits, step_text, lone_text, text_from}
+use Rattle.jm_program.specs.Surrogates.{is_high}
+use Rattle.jm_program.specs.JasminUnits.{waits, step_text, lone_text, text_from}
 use Rattle.jm_program.specs.declared.jasmin.units.Context.{Context}
 
 waits_high_on : (b : Bool) (u high : ℕ) → is_high u ≡ b → cond b (Some u) None ≡ Some high → is_high high ≡ true

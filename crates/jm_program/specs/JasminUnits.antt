@@ -1,21 +1,15 @@
 -- Names and strings in a line of Jasmin: what cannot stand there as it is becomes \uXXXX.
-use Rattle.std.specs.Prelude.{ℕ, ◌+◌, ◌-◌, ◌*◌, ◌/◌, ◌%◌, List, [], ◌∷◌, ◌++◌, Bool, true, false, ◌&&◌, ◌||◌, ◌==◌, nat_lt, nat_le, Option, Some, None, if◌then◌else◌, codes, encode_utf8}
+use Rattle.std.specs.Prelude.{ℕ, ◌/◌, ◌%◌, List, [], ◌∷◌, ◌++◌, Bool, true, false, ◌||◌, ◌==◌, nat_lt, nat_le, Option, Some, None, if◌then◌else◌, codes, encode_utf8}
 use Rattle.std.specs.Fmt.{digits}
+use Rattle.jm_program.specs.Surrogates.{is_high, is_low, is_surrogate, character_of}
 use Rattle.jm_program.specs.declared.jasmin.units.Context.{Context}
 use Rattle.jm_program.specs.declared.jasmin.units.Context.TheVariants.{InName, InString}
-
--- the first and the second unit of a supplementary character (Unicode, UTF-16)
-abbrev pub is_high : ℕ → Bool
-is_high u = nat_le 0xD800 u && nat_lt u 0xDC00
-
-abbrev pub is_low : ℕ → Bool
-is_low u = nat_le 0xDC00 u && nat_lt u 0xE000
 
 -- a blank, a control character, ; or \ in a name; a control character, " or \ in a string; a
 -- surrogate without its partner in both
 abbrev pub is_escaped : Context → ℕ → Bool
-is_escaped InName u = nat_le u 32 || u == 59 || u == 92 || u == 127 || (nat_le 0xD800 u && nat_lt u 0xE000)
-is_escaped InString u = nat_lt u 32 || u == 34 || u == 92 || u == 127 || (nat_le 0xD800 u && nat_lt u 0xE000)
+is_escaped InName u = nat_le u 32 || u == 59 || u == 92 || u == 127 || is_surrogate u
+is_escaped InString u = nat_lt u 32 || u == 34 || u == 92 || u == 127 || is_surrogate u
 
 -- \uXXXX
 unfoldable pub escape_text : ℕ → List ℕ
@@ -25,7 +19,7 @@ unfoldable pub unit_text : Context → ℕ → List ℕ
 unit_text place u = if is_escaped place u then escape_text u else encode_utf8 u
 
 unfoldable pub pair_text : ℕ → ℕ → List ℕ
-pair_text high low = encode_utf8 (0x1_0000 + (high - 0xD800) * 0x400 + (low - 0xDC00))
+pair_text high low = encode_utf8 (character_of high low)
 
 -- a first unit that no second one followed
 unfoldable pub lone_text : Option ℕ → List ℕ

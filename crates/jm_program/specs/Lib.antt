@@ -9,6 +9,7 @@ pub mod Fits
 pub mod DescriptorReading
 pub mod DescriptorFaults
 pub mod Texts
+pub mod Surrogates
 pub mod JasminUnits
 pub mod JasminTypes
 pub mod Mnemonics

@@ -23,6 +23,7 @@ mod name;
 mod reference;
 mod sequence;
 mod shared;
+mod surrogate;
 mod text;
 
 pub use class::{Class, ClassParts, Field, Method, Version};
@@ -43,4 +44,5 @@ pub use name::Name;
 pub use reference::{ClassRef, FieldRef, MethodRef};
 pub use sequence::Sequence;
 pub use shared::Shared;
+pub use surrogate::{is_high_surrogate, is_low_surrogate, supplementary_character};
 pub use text::{code_units, is_text};

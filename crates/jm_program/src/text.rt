@@ -11,7 +11,7 @@ use std::alloc::{AllocError, Global};
 pub fn code_units(alloc: Global, text: &str) -> Result<Vec<u16>, AllocError>
     ensures { IfOk result (λ v. v.items ≡ utf16_of text.now) }
 {
-    let mut units = Vec::new(alloc);
+    let mut units = Vec::with_capacity(alloc, text.len())?;
     for character in text.chars() {
         push_character(&mut units, character)?;
     }

@@ -1,16 +1,10 @@
 -- What print and println write: a number in decimal digits, text in UTF-8.
-use Rattle.std.specs.Prelude.{ℕ, ◌+◌, ◌-◌, ◌*◌, ◌%◌, ◌^◌, List, [], ◌∷◌, ◌++◌, Option, Some, None, Bool, true, false, ◌&&◌, nat_le, nat_lt, ℤ, encode_utf8}
+use Rattle.std.specs.Prelude.{ℕ, ◌%◌, ◌^◌, List, [], ◌∷◌, ◌++◌, Option, Some, None, true, false, ℤ, encode_utf8}
 use Rattle.std.specs.Fmt.{signed_decimal}
 use Rattle.std.specs.Int.{w32, cast_unsigned}
+use Rattle.jm_program.specs.Surrogates.{is_high, is_low, character_of}
 use Rattle.jm_values.specs.declared.value.Value.{Value}
 use Rattle.jm_values.specs.declared.value.Value.TheVariants.{Int}
-
--- the first and the second half of a surrogate pair (JVMS 4.4.7)
-abbrev pub is_high : ℕ → Bool
-is_high u = nat_le 0xD800 u && nat_lt u 0xDC00
-
-abbrev pub is_low : ℕ → Bool
-is_low u = nat_le 0xDC00 u && nat_lt u 0xE000
 
 -- a code unit that is no first half; a lone second half is ?
 abbrev pub unit_text : ℕ → List ℕ
@@ -18,7 +12,7 @@ unit_text u = elim (is_low u) [ true ↦ 63 ∷ [] | false ↦ encode_utf8 u ]
 
 -- the character of a pair
 abbrev pub pair_text : ℕ → ℕ → List ℕ
-pair_text high low = encode_utf8 (0x10000 + (high - 0xD800) * 0x400 + (low - 0xDC00))
+pair_text high low = encode_utf8 (character_of high low)
 
 -- code units in UTF-8, after a first half if there is one; a lone half is ?
 abbrev pub utf8_after : Option ℕ → List ℕ → List ℕ

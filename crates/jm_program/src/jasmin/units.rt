@@ -1,9 +1,11 @@
 // Code units in a line of Jasmin.
 
-ghost use Rattle.std.specs.Prelude.{◌≡◌, ◌+◌, ◌-◌, ◌*◌, IsTrue, Option, ℕ};
+ghost use Rattle.std.specs.Prelude.{◌≡◌, IsTrue, Option, ℕ};
 ghost use Rattle.std.specs.Fmt.{WritesOnOk};
-ghost use Rattle.jm_program.specs.JasminUnits.{is_high, is_low, is_escaped, escape_text, unit_text, pair_text, lone_text, after_text, step_text, waits, text_from};
+ghost use Rattle.jm_program.specs.Surrogates.{is_high, is_low, is_surrogate};
+ghost use Rattle.jm_program.specs.JasminUnits.{is_escaped, escape_text, unit_text, pair_text, lone_text, after_text, step_text, waits, text_from};
 
+use crate::surrogate::{is_high_surrogate, is_low_surrogate, supplementary_character};
 use std::fmt;
 
 /// What code units stand in.
@@ -13,22 +15,10 @@ pub enum Context {
     InString,
 }
 
-const HIGH: u16 = 0xD800;
-
-const LOW: u16 = 0xDC00;
-
-const AFTER: u16 = 0xE000;
-
-fn is_high(unit: u16) -> bool
-    ensures { result ≡ is_high unit }
+fn is_surrogate(unit: u16) -> bool
+    ensures { result ≡ is_surrogate unit }
 {
-    HIGH <= unit && unit < LOW
-}
-
-fn is_low(unit: u16) -> bool
-    ensures { result ≡ is_low unit }
-{
-    LOW <= unit && unit < AFTER
+    is_high_surrogate(unit) || is_low_surrogate(unit)
 }
 
 fn is_escaped(place: Context, unit: u16) -> bool
@@ -36,10 +26,10 @@ fn is_escaped(place: Context, unit: u16) -> bool
 {
     match place {
         Context::InName => {
-            unit <= 32 || unit == 59 || unit == 92 || unit == 127 || (HIGH <= unit && unit < AFTER)
+            unit <= 32 || unit == 59 || unit == 92 || unit == 127 || is_surrogate(unit)
         }
         Context::InString => {
-            unit < 32 || unit == 34 || unit == 92 || unit == 127 || (HIGH <= unit && unit < AFTER)
+            unit < 32 || unit == 34 || unit == 92 || unit == 127 || is_surrogate(unit)
         }
     }
 }
@@ -75,11 +65,7 @@ fn write_pair<W: fmt::Write>(f: &mut fmt::Formatter<W>, high: u16, low: u16) -> 
     requires low { IsTrue (is_low low) }
     ensures { WritesOnOk W.write_str_gives f.old result (pair_text high low) f.new }
 {
-    let above = u32::from(high - HIGH) * 0x400 + u32::from(low - LOW);
-    match char::from_u32(0x1_0000 + above) {
-        Some(character) => f.write_char(character),
-        None => write_escape(f, high),
-    }
+    f.write_char(supplementary_character(high, low))
 }
 
 // The first unit that waited, if no second one came.
@@ -106,7 +92,7 @@ fn write_after<W: fmt::Write>(
     let Some(high) = waiting else {
         return write_unit(f, place, unit);
     };
-    if is_low(unit) {
+    if is_low_surrogate(unit) {
         return write_pair(f, high, unit);
     }
     write_escape(f, high)?;
@@ -123,7 +109,7 @@ fn write_step<W: fmt::Write>(
     requires { (high : ℕ) → waiting ≡ Some high → IsTrue (is_high high) }
     ensures { WritesOnOk W.write_str_gives f.old result (step_text place waiting unit) f.new }
 {
-    if is_high(unit) {
+    if is_high_surrogate(unit) {
         write_lone(f, waiting)
     } else {
         write_after(f, place, waiting, unit)
@@ -133,7 +119,7 @@ fn write_step<W: fmt::Write>(
 fn waits(unit: u16) -> Option<u16>
     ensures { result ≡ waits unit }
 {
-    if is_high(unit) { Some(unit) } else { None }
+    if is_high_surrogate(unit) { Some(unit) } else { None }
 }
 
 /// Writes code units as they stand in such a place.

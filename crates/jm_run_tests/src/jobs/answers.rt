@@ -23,10 +23,10 @@ run | Main.class | @class sum | - | - | jm: 1 threads not ended~ | 8
 run | Main.class | @class wrong tag | t 1 x 20~ | - | jm: 60 TagFault(WrongTag)~ | 5
 run | Main.class | @class by zero | t 1 x 7~ | - | jm: thread 1 ended by java/lang/ArithmeticException~ | 3
 run | Main.class | @class by zero | t 1 x 6~ | - | jm: 1 threads not ended~ | 8
-run | Main.class | @class later | t 1 x 7~ | - | jm: 16 Later(iaload)~ | 4
+run | Main.class | @class later | t 1 x 7~ | - | jm: 16 Later(athrow)~ | 4
 run | Main.class | @class sum | t 1~t 1 x 0~ | - | jm: 70 BadSchedule(2)~ | 9
 # the class before the schedule
-run | Main.class | @class later | nothing~ | - | jm: 16 Later(iaload)~ | 4
+run | Main.class | @class later | nothing~ | - | jm: 16 Later(athrow)~ | 4
 run | Main.class | @class jsr_w | - | - | jm: Main.class: 11 LeftOut(jsr_w)~ | 4
 # files that are not read
 run | Main.class | @class sum | @not read | - | jm: events: not read~ | 2
@@ -35,6 +35,24 @@ run | Main.class | @not read | ? | - | jm: Main.class: not read~ | 2
 run | Main.class | @class sum | @out of memory | - | jm: 61 OutOfMemory~ | 7
 # a class that is cut
 run | Main.class | @cut class | ? | - | jm: Main.class: 32 Cut~ | 4
+";
+
+// What main prints by `println(I)V`: the lengths and the elements of new arrays (JVMS 6.5 `newarray`,
+// `arraylength`, `iaload` and the other loads), and the exceptions that these throw.
+const ARRAYS: &str = "\
+run | Main.j | @print iconst_3 / newarray int / arraylength | t 1 x 9~ | 3~ | - | 0
+run | Main.j | @print iconst_0 / newarray byte / arraylength | t 1 x 9~ | 0~ | - | 0
+run | Main.j | @print iconst_2 / newarray int / iconst_1 / iaload | t 1 x 10~ | 0~ | - | 0
+run | Main.j | @print iconst_2 / newarray boolean / iconst_1 / baload | t 1 x 10~ | 0~ | - | 0
+run | Main.j | @print iconst_2 / newarray char / iconst_0 / caload | t 1 x 10~ | 0~ | - | 0
+run | Main.j | @print iconst_2 / newarray short / iconst_0 / saload | t 1 x 10~ | 0~ | - | 0
+run | Main.j | @print iconst_2 / newarray long / iconst_1 / laload / l2i | t 1 x 11~ | 0~ | - | 0
+run | Main.j | @print iconst_m1 / newarray int / arraylength | t 1 x 7~ | - | jm: thread 1 ended by java/lang/NegativeArraySizeException~ | 3
+run | Main.j | @print aconst_null / arraylength | t 1 x 7~ | - | jm: thread 1 ended by java/lang/NullPointerException~ | 3
+run | Main.j | @print aconst_null / iconst_0 / iaload | t 1 x 8~ | - | jm: thread 1 ended by java/lang/NullPointerException~ | 3
+run | Main.j | @print iconst_2 / newarray int / iconst_2 / iaload | t 1 x 9~ | - | jm: thread 1 ended by java/lang/ArrayIndexOutOfBoundsException~ | 3
+run | Main.j | @print iconst_2 / newarray int / iconst_m1 / iaload | t 1 x 9~ | - | jm: thread 1 ended by java/lang/ArrayIndexOutOfBoundsException~ | 3
+run | Main.j | @print ldc 65536 / newarray int / arraylength | t 1 x 9~ | - | jm: 62 HeapFull~ | 6
 ";
 
 const PROGRAM_FILES: &str = "\
@@ -229,6 +247,11 @@ fn check_rows(rt: &impl Abort, alloc: Global, table: &str, count: u32) -> Result
 #[test]
 fn runs_end_as_their_rows_say(rt: HostRuntime) -> Result<(), Fail> {
     check_rows(&rt, rt.alloc(), RUNS, 17)
+}
+
+#[test]
+fn arrays_answer_as_java_does(rt: HostRuntime) -> Result<(), Fail> {
+    check_rows(&rt, rt.alloc(), ARRAYS, 13)
 }
 
 #[test]

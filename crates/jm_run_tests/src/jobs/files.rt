@@ -58,6 +58,14 @@ fn empty_class(alloc: Global, name: &str) -> Result<Vec<u8>, Fail> {
     Ok(text.as_bytes().to_vec(alloc)?)
 }
 
+// The text of a main that prints by `println(I)V` what these instructions leave; ` / ` stands between
+// them.
+fn printing(alloc: Global, instructions: &str) -> Result<Vec<u8>, Fail> {
+    let lines = instructions.replace(alloc, " / ", "\n")?;
+    let text = SUM.replace(alloc, "iconst_2\niconst_3\niadd", &lines)?;
+    Ok(text.as_bytes().to_vec(alloc)?)
+}
+
 // The class file of the sum without its last byte.
 fn cut_class(alloc: Global) -> Result<Vec<u8>, AllocError> {
     let mut bytes = main_with(alloc, &SUM_CODE)?;
@@ -96,8 +104,8 @@ fn bytes_of_text(alloc: Global, text: &str) -> Result<Vec<u8>, Fail> {
 }
 
 /// The bytes that a column means: none where it is `-`; behind `@class` the class file of Main with
-/// the code of that name, and behind `@empty` the text of a class of that name; behind `@` another file;
-/// else the text itself.
+/// the code of that name, behind `@empty` the text of a class of that name, and behind `@print` that of a
+/// main that prints what the instructions leave; behind `@` another file; else the text itself.
 pub fn bytes_of(alloc: Global, column: &str) -> Result<Vec<u8>, Fail> {
     match column {
         "-" => Ok(Vec::new(alloc)),
@@ -112,6 +120,7 @@ pub fn bytes_of(alloc: Global, column: &str) -> Result<Vec<u8>, Fail> {
         _ => match column.split_once(' ') {
             Some(("@class", name)) => class_with(alloc, name),
             Some(("@empty", name)) => empty_class(alloc, name),
+            Some(("@print", instructions)) => printing(alloc, instructions),
             _ => bytes_of_text(alloc, column),
         },
     }

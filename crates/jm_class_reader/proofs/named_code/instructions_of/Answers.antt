@@ -3,7 +3,7 @@ use Rattle.std.proofs.lemmas.Result.{err_from_is_err_and}
 use Rattle.std.proofs.lemmas.List.{nil_from_length}
 use Rattle.std.specs.Vec.Iter.{into_iter_items}
 use Rattle.jm_class_format.specs.NamedCode.{placed_named}
-use Rattle.jm_opcodes.proofs.Taken.{taken_fault, taken_done}
+use Rattle.jm_bytes.proofs.Taken.{taken_fault, taken_done}
 use Rattle.jm_class_reader.proofs.named_code.instructions_of.Goals as goal
 
 pub returns-in_err-instr-clause-given : goal.returns-in_err-instr-clause-given

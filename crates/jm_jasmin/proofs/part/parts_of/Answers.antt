@@ -5,7 +5,7 @@ use Rattle.std.specs.HashMap.{get}
 use Rattle.std.specs.Vec.Iter.{into_iter_items}
 use Rattle.jm_program.specs.Names.{same_text}
 use Rattle.jm_jasmin.specs.Labels.{part_of}
-use Rattle.jm_jasmin.proofs.Taken.{taken_fault, taken_done}
+use Rattle.jm_bytes.proofs.Taken.{taken_fault, taken_done}
 use Rattle.jm_jasmin.proofs.part.parts_of.Goals as goal
 
 pub returns-in_err-part : goal.returns-in_err-part

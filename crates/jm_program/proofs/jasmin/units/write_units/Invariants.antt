@@ -1,7 +1,8 @@
 -- What is written, and the text of what is left, are the text.
 use Rattle.std.proofs.Common.{◌≡◌, List, ℕ, ◌++◌, drop, None, Some, IsTrue}
 use Rattle.std.specs.Fmt.{HasWritten, IsPlainFormatter}
-use Rattle.jm_program.specs.JasminUnits.{is_high, text_from}
+use Rattle.jm_program.specs.Surrogates.{is_high}
+use Rattle.jm_program.specs.JasminUnits.{text_from}
 use Rattle.jm_program.proofs.jasmin.units.write_units.Given as goal
 
 abbrev pub invariant-loop-unit : goal.invariant-loop-unit
