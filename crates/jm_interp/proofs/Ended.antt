@@ -77,8 +77,8 @@ module _ {H : Type 0} {content : H → Content ClassId} {at : At} {old : State H
           not_yet = record {
             program = r.not_yet.program;
             threads =
-                all_set ThreadNotYet old.threads.items at.index t r.not_yet.threads
-                (subst ThreadNotYet (sym (held_is s)) (record { object = none; monitors = tt; initializers = tt }));
+                all_set (ThreadNotYet at.linked.now) old.threads.items at.index t r.not_yet.threads
+                (subst (ThreadNotYet at.linked.now) (sym (held_is s)) (record { object = none; frames = tt; initializers = tt }));
             monitors = r.not_yet.monitors;
             failures = r.not_yet.failures;
           };

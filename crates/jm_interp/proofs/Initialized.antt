@@ -4,17 +4,18 @@ use Rattle.std.proofs.Common.{drop, arith, length-set}
 use Rattle.std.specs.Prelude.{map, slice_get, slice_set, nat_eq}
 use Rattle.std.specs.List.{AllByRecursion}
 use Rattle.jm_program.specs.declared.class.ClassParts.{ClassParts}
+use Rattle.jm_program.specs.declared.class.Field.{Field}
 use Rattle.std.proofs.lemmas.Bool.{eq-eqb}
 use Rattle.std.proofs.lemmas.Bool.Decides.{eqb_tells}
 use Rattle.jm_values.specs.Shape.{Among}
 use Rattle.jm_world.specs.Frames.{Frame, frames_shape, initialization_frame}
 use Rattle.jm_world.specs.Here.{with_frames, push_frame}
 use Rattle.jm_world.specs.Initialization.{initialize, begin, superclass_first, superclass_name, is_done, run_initializer, initializer_of, initializer_in}
-use Rattle.jm_world.specs.Initialization.{initializer_type, constants_of, with_constants, at_stage, finish}
+use Rattle.jm_world.specs.Initialization.{initializer_type, constants_of, with_constant, with_constants, at_stage, finish}
 use Rattle.jm_world.specs.Next as next
 use Rattle.jm_world.specs.Next.{Next, goes}
 use Rattle.jm_world.specs.Classes.{class_named, object_class}
-use Rattle.jm_world.specs.World.{World, Thread, with_thread, with_state, state_of, state_in, set_state_in, held_shape, live_among}
+use Rattle.jm_world.specs.World.{World, Thread, Static, Literal, with_thread, with_state, state_of, state_in, set_state_in, held_shape, live_among}
 use Rattle.jm_values.specs.Content.{Content}
 use Rattle.jm_world.specs.Matches.{Matches}
 use Rattle.jm_world.specs.Stepping.{step_thread}
@@ -23,7 +24,7 @@ use Rattle.jm_world.specs.declared.class_state.ClassState.TheVariants.{NotBegun,
 use Rattle.jm_world.specs.declared.stage.Stage.{Stage}
 use Rattle.jm_world.specs.declared.stage.Stage.TheVariants as stage
 use Rattle.jm_heap.specs.declared.class_id.ClassId.{ClassId}
-use Rattle.jm_linked.specs.Later.{later_part}
+use Rattle.jm_linked.specs.Later.{later_part, later_declared_field, first_later}
 use Rattle.jm_linked.specs.Links.{LinkedView, IsLinked}
 use Rattle.jm_linked.specs.Named.{named_states}
 use Rattle.jm_state.specs.Parts.{parts, frame_part, thread_part, program_class_name, name_in_program}
@@ -36,7 +37,8 @@ use Rattle.jm_state.specs.declared.thread.Thread as held
 use Rattle.jm_values.proofs.Lists.{each_set, each_at}
 use Rattle.jm_linked.proofs.BuiltIns.{others}
 use Rattle.jm_linked.proofs.SystemOut.{not_listed}
-use Rattle.jm_linked.proofs.Classes.{IsPlain, plain_class, state_is, states_set, class_is}
+use Rattle.jm_linked.proofs.Classes.{IsPlain, plain_main, no_constant, state_is, states_set, class_is}
+use Rattle.jm_linked.proofs.Whole.{neither_later}
 use Rattle.std.specs.Prelude.{slice_index_or, vec_len, Ok}
 use Rattle.jm_interp.specs.declared.at.At.{At}
 use Rattle.jm_interp.specs.At.{parts_at, HoldsAll, OnThread, Does, Steps}
@@ -48,7 +50,7 @@ use Rattle.jm_interp.proofs.Threads.{part_refs, PartRuns, without_top, with_top}
 use Rattle.jm_state.specs.Runnable.{StateRuns}
 use Rattle.jm_state.specs.declared.halt.StepEnd.TheVariants as step_end
 
--- the class of the number
+-- the main class, by its number
 pub record HasClass (l : LinkedView) (class : ℕ) : Type 0 where
   pub class_of : ClassParts
   pub at : slice_get l.program class ≡ Some class_of
@@ -56,17 +58,25 @@ pub record HasClass (l : LinkedView) (class : ℕ) : Type 0 where
   pub is_named : class_named l.program class_of.name ≡ Some class_of
   pub plain : IsPlain class_of
 
-pub has_class : (l : LinkedView) → IsLinked l → later_part l.program ≡ None → (class : ℕ) → class < length l.program → HasClass l class
+pub has_class : (l : LinkedView) → IsLinked l → later_part l.program ≡ None → (class : ℕ) → class < length l.program → class ≡ 0 → HasClass l class
 unfolding program_class_name
-has_class l is none class lt =
+has_class l is none class lt first =
     let d = get_there l.program class lt in
     record {
       class_of = d.0;
       at = d.1;
       named = ap name_in_program d.1;
       is_named = class_is l.program is.loads class d.0 d.1;
-      plain = plain_class l.program none class d.0 d.1;
+      plain = plain_main l.program none d.0 (ap (slice_get l.program) (sym first) ∙ d.1);
     }
+
+-- no field of it has a constant
+no_constants : (literals : List Literal) (c : ClassParts) (fs : List Field) (statics : List Static) → first_later later_declared_field fs ≡ None
+    → with_constants literals c fs statics ≡ statics
+no_constants literals c [] statics e = refl
+no_constants literals c (f ∷ fs) statics e =
+    let parts = neither_later (later_declared_field f) (first_later later_declared_field fs) e in
+    ap (λ o. with_constants literals c fs (with_constant literals c f o statics)) (no_constant f parts.0) ∙ no_constants literals c fs statics parts.1
 
 -- the frames below an initialization may be left
 pub below_on_top : (fs : List StackFrame) → AllByRecursion IsMethodFrame fs → StandOnTop None fs
@@ -79,7 +89,7 @@ dropped_runs {below = below} q = without_top q (below_on_top below q.not_yet.ini
 
 pub staged_runs : {l : LinkedView} {class : ℕ} {s s' : Stage} {below : List StackFrame} {o : Option ℕ}
     → PartRuns l (Initialization class s ∷ below) (running o None) → PartRuns l (Initialization class s' ∷ below) (running o None)
-staged_runs {class = class} {s = s} q = with_top {f = Initialization class s} q.runs.frames.0 tt q q.not_yet.initializers
+staged_runs {class = class} {s = s} q = with_top {f = Initialization class s} q.runs.frames.0 q.not_yet.frames.0 q q.not_yet.initializers
 
 differ : (a b : ℕ) → (a ≡ b → ⊥) → nat_eq a b ≡ false
 differ a b n = elim (eqb_tells a b) [ inl t ↦ absurd (n t.1) | inr t ↦ t.0 ]
@@ -97,7 +107,7 @@ module _ {H : Type 0} {content : H → Content ClassId} {at : At} {old : State H
   lower = thread.lower h below
 
   pub class_of : HasClass at.linked.now class
-  class_of = has_class at.linked.now h.beside.linked h.beside.runs.not_yet.program class (part_here h).runs.frames.0
+  class_of = has_class at.linked.now h.beside.linked h.beside.runs.not_yet.program class (part_here h).runs.frames.0 (part_here h).not_yet.frames.0
 
   pub class_within : class < vec_len old.classes
   class_within =
@@ -170,7 +180,7 @@ module _ {H : Type 0} {content : H → Content ClassId} {at : At} {old : State H
         classes = ap length classes ∙ length-set old.classes.items class st ∙ r.classes;
         not_yet = record {
           program = r.not_yet.program;
-          threads = subst (λ ts. AllByRecursion ThreadNotYet (map held_thread ts)) (sym same.threads) r.not_yet.threads;
+          threads = subst (λ ts. AllByRecursion (ThreadNotYet at.linked.now) (map held_thread ts)) (sym same.threads) r.not_yet.threads;
           monitors = same.monitors ∙ r.not_yet.monitors;
           failures = subst (AllByRecursion (λ x. x ≢ Failed)) (sym classes) (each_set (λ x. x ≢ Failed) old.classes.items class st r.not_yet.failures sound);
         };
@@ -265,7 +275,7 @@ module _ {H : Type 0} {content : H → Content ClassId} {at : At} {old : State H
       let n = name h in
       let d = class_of h in
       let constants : constants_of w (class_named w.program n) ≡ w.statics =
-      ap (constants_of w) (class_here h w m) ∙ ap (λ fs. with_constants w.literals d.class_of fs w.statics) d.plain.fields in
+      ap (constants_of w) (class_here h w m) ∙ no_constants w.literals d.class_of d.class_of.fields w.statics d.plain.constants in
       begin_is h refl state_there w m
       ∙ ap (begin w (at.index + 1) (model h) n (lower h)) e
       ∙ ap (λ v. goes

@@ -32,7 +32,7 @@ use Rattle.jm_world.specs.Loads.{Loads}
 use Rattle.jm_world.specs.Stepping.{row, step_thread}
 use Rattle.jm_heap.specs.declared.class_id.ClassId.{ClassId}
 use Rattle.jm_heap.specs.declared.class_id.ClassId.TheVariants.{Instance, Array}
-use Rattle.jm_linked.specs.Later.{later_part, print_name, print_type}
+use Rattle.jm_linked.specs.Later.{print_name, print_type}
 use Rattle.jm_linked.specs.Links.{class_name_of}
 use Rattle.jm_linked.specs.declared.instruction.LinkedInstr.TheVariants as linked
 use Rattle.jm_linked.specs.declared.instruction.Printed.{Printed}
@@ -76,10 +76,10 @@ stream_name program (Instance n) e = ap (class_name_of program) (eqb-true n 5 e)
 stream_name program (Array component) e = cc
 
 -- the model's test of the receiver is that of its mark
-stream_test : (program : List ClassParts) → Loads program → later_part program ≡ None → (id : ClassId)
+stream_test : (program : List ClassParts) → Loads program → (id : ClassId)
     → is_assignable program (type_of_object (named_type program id)) (class_type print_stream_class) ≡ is_print_stream id
 unfolding named_type
-stream_test program loads plain (Instance n) = by (nat_eq n 5) refl
+stream_test program loads (Instance n) = by (nat_eq n 5) refl
   where
     by : (b : Bool) → nat_eq n 5 ≡ b → is_subclass program (class_name_of program n) print_stream_class ≡ nat_eq n 5
     by true t =
@@ -87,8 +87,8 @@ stream_test program loads plain (Instance n) = by (nat_eq n 5) refl
         ∙ ap (λ x. is_subclass program x print_stream_class) (five_is program)
         ∙ stream_below_itself program
         ∙ sym t
-    by false t = no_stream program plain (class_name_of program n) (other_name program loads n t) ∙ sym t
-stream_test program loads plain (Array component) =
+    by false t = no_stream program loads (class_name_of program n) (other_name program loads n t) ∙ sym t
+stream_test program loads (Array component) =
     ap (λ n. dimensions_assignable program (element_named program component.element) (Class print_stream_class) n 0) (add-one component.dimensions)
 
 -- what the method writes
@@ -210,7 +210,7 @@ module _ {H : Type 0} {content : H → Content ClassId} {at : At} {old : State H
               (sym (told h.method.on t class))
               ∙ ap (on_type w (arguments_of pr.text) k (named_type l.program id))
               (ap (λ program. is_assignable program (type_of_object (named_type l.program id)) (class_type print_stream_class)) (sym m.program)
-              ∙ stream_test l.program b.loads h.method.on.beside.runs.not_yet.program id ∙ sym tested)
+              ∙ stream_test l.program b.loads id ∙ sym tested)
 
           -- one that is no print stream is a fault
           pub other_faults : test ≡ false → Steps content at old (Err (Stopped (why.TagFault WrongKind))) old

@@ -27,6 +27,7 @@ use Rattle.jm_world.specs.Renaming.{rename_thread}
 use Rattle.jm_world.specs.Stepping.{row, step_thread}
 use Rattle.jm_world.specs.declared.stop.Stop.TheVariants as why
 use Rattle.jm_heap.specs.declared.class_id.ClassId.{ClassId}
+use Rattle.jm_linked.proofs.Whole.{main_result}
 use Rattle.jm_linked.specs.Links.{name_of_number}
 use Rattle.jm_linked.specs.declared.instruction.LinkedInstr.TheVariants as linked
 use Rattle.jm_state.specs.Ends.{Ended}
@@ -45,9 +46,7 @@ use Rattle.jm_interp.specs.declared.at.At.{At}
 use Rattle.jm_interp.specs.At.{parts_at, OnThread, StandsOn, Does, Steps}
 use Rattle.jm_interp.specs.Ending.{ended_as}
 use Rattle.jm_interp.specs.Standing.{Stands, part_of, ThreadRest, running}
-use Rattle.jm_interp.proofs.Fetching.{no_result}
 use Rattle.jm_interp.proofs.Here.{place, row_is}
-use Rattle.jm_values.proofs.Lists.{get_there}
 use Rattle.jm_interp.proofs.OnThread.{Leads, lower, model, with_thread_at, read, does, does_as, stops, held_frames, part_here, runs_with, same_matches}
 use Rattle.jm_interp.proofs.OnThread.{as_frames}
 use Rattle.jm_interp.proofs.OnThread as thread
@@ -87,8 +86,8 @@ module _ {H : Type 0} {content : H → Content ClassId} {at : At} {old : State H
     (h : StandsOn content at old (Links at.linked.now (linked.Return op))) where
   result_none : (name_of_number at.linked.now h.method.frame.method).descriptor.return_type ≡ None
   result_none =
-      let m = get_there at.linked.now.methods h.method.frame.method (part_here h.method.on).runs.frames.0 in
-      no_result at.linked.now h.method.on.beside.linked h.method.frame.method m.0 m.1 h.method.on.beside.runs.not_yet.program
+      ap (λ n. (name_of_number at.linked.now n).descriptor.return_type) (part_here h.method.on).not_yet.frames.0.0
+      ∙ main_result at.linked.now h.method.on.beside.linked
 
   return_is : Leads h.method.on step_thread (λ w. row_return (place h.method w) op)
   return_is w m = row_is h w m ∙ ap (row (place h.method w)) h.is
@@ -116,7 +115,7 @@ module _ {H : Type 0} {content : H → Content ClassId} {at : At} {old : State H
       ∙ ap (return_nothing o) (result_none h)
       ∙ ap (λ k. elim (leave_if w (at.index + 1) (option_map (name_of (content old.heap)) k)) as
       (λ _. Next) [ None ↦ throws o (codes "java/lang/IllegalMonitorStateException") | Some u ↦ returned_to u (at.index + 1) o.thread None o.below ])
-      (part_here h.method.on).not_yet.monitors.0
+      (part_here h.method.on).not_yet.frames.0.1
 
   module _ {d : held.Thread} {n : ℕ} (got : d ≡ slice_index_or old.threads.items at.index d) (count : n ≡ vec_len d.frames) where
     -- the last frame
@@ -163,7 +162,7 @@ module _ {H : Type 0} {content : H → Content ClassId} {at : At} {old : State H
                 let r : PartRuns at.linked.now (Method u ∷ below.rest) (running k.object None) = without_top q q.not_yet.initializers.1 in
                 let room : nat_le (units (map (rename f) u.activation.stack)) u.activation.max_stack ≡ true =
                 ap (λ n. nat_le n u.activation.max_stack) (units_renamed f u.activation.stack) ∙ left.0 in
-                thread.goes k left.1 (with_top {g = Method (gone_to u (u.activation.at + 1))} r.runs.frames.0 r.not_yet.monitors.0 r r.not_yet.initializers)
+                thread.goes k left.1 (with_top {g = Method (gone_to u (u.activation.at + 1))} r.runs.frames.0 r.not_yet.frames.0 r r.not_yet.initializers)
                 (λ n a.
                 elim (part_refs at.linked.now (Method (gone_to u (u.activation.at + 1)) ∷ below.rest) None n a) [
                   | inl z ↦ absurd z

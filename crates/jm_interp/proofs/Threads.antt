@@ -10,7 +10,7 @@ use Rattle.jm_world.specs.World.{refs_thread, object_refs, held_shape}
 use Rattle.jm_linked.specs.Links.{LinkedView}
 use Rattle.jm_state.specs.Parts.{part_of_held, thread_part, frame_part, ending_part}
 use Rattle.jm_state.specs.Places.{HeldThread, held_thread}
-use Rattle.jm_state.specs.Runnable.{FrameRuns, HoldsNoMonitor, StandOnTop, ThreadRuns, ThreadNotYet}
+use Rattle.jm_state.specs.Runnable.{FrameRuns, FrameNotYet, StandOnTop, ThreadRuns, ThreadNotYet}
 use Rattle.jm_state.specs.declared.thread.StackFrame.{StackFrame}
 use Rattle.jm_state.specs.declared.thread.Thread as held
 use Rattle.jm_interp.specs.Standing.{ThreadRest, rest_of, running, Stands, held_as, part_of}
@@ -51,25 +51,25 @@ frames_refs l fs r q a = held_in l fs r q (among_right q (optional_number_shape.
 -- what a thread keeps to, and what it does not come to yet
 pub record PartRuns (l : LinkedView) (fs : List StackFrame) (r : ThreadRest) : Type 0 where
   pub runs : ThreadRuns l (held_as fs r)
-  pub not_yet : ThreadNotYet (held_as fs r)
+  pub not_yet : ThreadNotYet l (held_as fs r)
 
 pub part_runs : {l : LinkedView} {t : held.Thread} {fs : List StackFrame} {r : ThreadRest} → Stands t fs r → ThreadRuns l (held_thread t)
-    → ThreadNotYet (held_thread t) → PartRuns l fs r
-part_runs {l} s runs yet = record { runs = subst (ThreadRuns l) (held_is s) runs; not_yet = subst ThreadNotYet (held_is s) yet }
+    → ThreadNotYet l (held_thread t) → PartRuns l fs r
+part_runs {l} s runs yet = record { runs = subst (ThreadRuns l) (held_is s) runs; not_yet = subst (ThreadNotYet l) (held_is s) yet }
 
 -- without its top frame, or with another on top
 pub without_top : {l : LinkedView} {f : StackFrame} {fs : List StackFrame} {o p q : Option ℕ} → PartRuns l (f ∷ fs) (running o p) → StandOnTop q fs
     → PartRuns l fs (running o q)
 without_top r top = record {
   runs = record { frames = r.runs.frames.1; few = let k = r.runs.few in omega arith };
-  not_yet = record { object = r.not_yet.object; monitors = r.not_yet.monitors.1; initializers = top };
+  not_yet = record { object = r.not_yet.object; frames = r.not_yet.frames.1; initializers = top };
 }
 
-pub with_top : {l : LinkedView} {f g : StackFrame} {fs : List StackFrame} {o p q : Option ℕ} → FrameRuns l g → HoldsNoMonitor g
+pub with_top : {l : LinkedView} {f g : StackFrame} {fs : List StackFrame} {o p q : Option ℕ} → FrameRuns l g → FrameNotYet l g
     → PartRuns l (f ∷ fs) (running o p) → StandOnTop q (g ∷ fs) → PartRuns l (g ∷ fs) (running o q)
-with_top frame free r top = record {
+with_top frame yet r top = record {
   runs = record { frames = (frame, r.runs.frames.1); few = let k = r.runs.few in omega arith };
-  not_yet = record { object = r.not_yet.object; monitors = (free, r.not_yet.monitors.1); initializers = top };
+  not_yet = record { object = r.not_yet.object; frames = (yet, r.not_yet.frames.1); initializers = top };
 }
 
 -- of each of a list of threads with another in it, and of one of them

@@ -162,7 +162,7 @@ module _ {H : Type 0} {content : H → Content ClassId} {at : At} {mid : State H
       let q = part_here g.on in
       runs_with g.on stands_pending (record {
         runs = record { frames = q.runs.frames; few = q.runs.few };
-        not_yet = record { object = q.not_yet.object; monitors = q.not_yet.monitors; initializers = all_on_top place g.frames g.methods };
+        not_yet = record { object = q.not_yet.object; frames = q.not_yet.frames; initializers = all_on_top place g.frames g.methods };
       })
 
   pub pending_matches : (w : World) (class : List ℕ) (m : Matches (parts_at content at mid) (with_object w (exception class))) → serial_at

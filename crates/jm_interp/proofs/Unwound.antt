@@ -91,7 +91,7 @@ module _ {H : Type 0} {content : H → Content ClassId} {at : At} {old : State H
         | Some r ↦ handle w (at.index + 1) x (name_of_number l v.method) (rename_activation f v.activation) (option_map f v.monitor) below k r
         | None ↦ drop_method w (at.index + 1) x (option_map f v.monitor) below k type
       ]) handlers
-      ∙ ap (λ o. drop_method w (at.index + 1) x (option_map f o) below k type) q.not_yet.monitors.0
+      ∙ ap (λ o. drop_method w (at.index + 1) x (option_map f o) below k type) q.not_yet.frames.0.1
 
   unwinds : Leads h step_thread (λ w. unwound w (at.index + 1) (model h) (lower h (tail_of fs)) (name_of (content old.heap) place)
       (named_type at.linked.now.program thrown.object.type))

@@ -18,8 +18,9 @@ use jm_heap::Heap;
 use jm_state::{Halt, State, StepEnd};
 use jm_world::{ClassState, Stage};
 
-/// Makes one stage of the initialization whose frame is on top (JVMS 5.5). Every class has Object
-/// as its superclass, which is initialized, and none has a `<clinit>` or a field with a constant.
+/// Makes one stage of the initialization whose frame is on top (JVMS 5.5). It is that of the main
+/// class, which has Object as its superclass, and that is initialized; no class has a `<clinit>` or
+/// a field with a constant.
 pub(crate) fn initialize_top<H: Heap>(
     at: At<'_>,
     state: &mut State<H>,

@@ -4,18 +4,24 @@ use Rattle.std.specs.Prelude.{slice_get, slice_set, codes, ◌&&◌, ◌||◌}
 use Rattle.std.specs.Cmp.Lexicographic as texts
 use Rattle.jm_program.specs.Names.{same_text}
 use Rattle.jm_program.specs.declared.class.ClassParts.{ClassParts}
+use Rattle.jm_program.specs.declared.class.Field.{Field}
 use Rattle.jm_program.specs.declared.class.Method.{Method}
+use Rattle.jm_program.specs.declared.constant.Constant.{Constant}
 use Rattle.jm_program.specs.declared.descriptor.MethodDescriptor.{MethodDescriptor}
-use Rattle.jm_world.specs.Classes.{class_among, class_named, method_in, object_class}
+use Rattle.jm_program.specs.Flags.{is_static, is_synchronized}
+use Rattle.jm_world.specs.Classes.{FoundMethod, MethodName, name_of_method, class_among, class_named, method_in, object_class}
+use Rattle.jm_world.specs.Loading.{main_in, main_type}
 use Rattle.jm_world.specs.Loads.{Loads, Refusal, refusal, duplicates, is_named_among, or_else, when, duplicate_class}
 use Rattle.jm_world.specs.Types.{same_method_type}
 use Rattle.jm_world.specs.World.{Progress, state_in, set_state_in}
 use Rattle.jm_world.specs.declared.class_state.ClassState.{ClassState}
-use Rattle.jm_linked.specs.Later.{later_part, later_class, later_superclass, other_method, later_code, first_later, or_later, unless_empty, is_main_method}
+use Rattle.jm_linked.specs.Later.{later_part, later_main_superclass, later_constant_value, later_declared_field, later_method, first_later}
+use Rattle.jm_linked.specs.Links.{LinkedView, IsLinked, name_in_class, member_name}
 use Rattle.jm_linked.specs.declared.later.LaterPart.{LaterPart}
 use Rattle.jm_linked.specs.declared.later.LaterPart.TheVariants as later
 use Rattle.jm_linked.specs.Named.{named_states}
 use Rattle.jm_linked.proofs.BuiltIns.{AreOthers}
+use Rattle.jm_linked.proofs.Whole.{neither_later, whole_main}
 
 first_none : (a b : Option Refusal) → or_else a b ≡ None → a ≡ None
 first_none None b e = refl
@@ -107,31 +113,39 @@ pub class_is : (program : List ClassParts) → Loads program → (k : ℕ) (d : 
 unfolding class_named
 class_is program loads k d at = class_found [] program k d (distinct program loads) at
 
--- what has no part that cannot be run yet
-earlier : (a b : Option LaterPart) → or_later a b ≡ None → a ≡ None
-earlier None b e = refl
-earlier (Some r) b e = cc
+-- the class of the name of the first is the first
+first_alone : (c : ClassParts) (cs : List ClassParts) (k : ℕ) (d : ClassParts) → duplicates [] (c ∷ cs) ≡ None → slice_get (c ∷ cs) k ≡ Some d → d.name ≡ c.name → k ≡ 0
+first_alone c cs zero d e at same = refl
+first_alone c cs (suc k) d e at same =
+    let other : same_text c.name d.name ≡ false = (fresh (c ∷ []) cs k d (after [] c cs e) at).0 in
+    let bad : true ≡ false = sym (same_self c.name) ∙ ap (same_text c.name) (sym same) ∙ other in
+    cc
 
-rest : (a b : Option LaterPart) → or_later a b ≡ None → b ≡ None
-rest None b e = e
-rest (Some r) b e = cc
+found_first : (program : List ClassParts) (found : FoundMethod) (k : ℕ) (d : ClassParts) → duplicates [] program ≡ None → main_in program ≡ Some found
+    → slice_get program k ≡ Some d → d.name ≡ found.class.name → k ≡ 0
+found_first [] found k d e m at same = cc
+found_first (c ∷ cs) found k d e m at same = first_alone c cs k d e at (same ∙ by (method_in c.methods (codes "main") main_type) m)
+  where
+    by : (o : Option Method) → (elim o as (λ _. Option FoundMethod) [ None ↦ None | Some x ↦ Some (record { class = c; method = x }) ]) ≡ Some found
+        → found.class.name ≡ c.name
+    by None g = cc
+    by (Some x) g = let is : record { class = c; method = x } ≡ found = cc in ap (λ (f : FoundMethod). f.class.name) (sym is)
 
-each_later : {A : Type 0} (look : A → Option LaterPart) (xs : List A) (k : ℕ) (x : A) → first_later look xs ≡ None → slice_get xs k ≡ Some x → look x ≡ None
-each_later look [] k x e at = cc
-each_later look (y ∷ ys) zero x e at = let s : y ≡ x = cc in ap look (sym s) ∙ earlier (look y) (first_later look ys) e
-each_later look (y ∷ ys) (suc k) x e at = each_later look ys k x (rest (look y) (first_later look ys) e) at
+-- so is main's
+pub main_class : (l : LinkedView) (i : IsLinked l) → i.main.class ≡ 0
+main_class l i =
+    let links = i.methods l.main i.main i.main_is in
+    let named : name_of_method (record { class = links.class; method = links.method }) ≡ name_of_method i.found =
+    sym (ap (λ o. name_in_class o i.main.member) links.class_is ∙ ap (member_name links.class) links.method_is) ∙ i.main_name in
+    found_first l.program i.found i.main.class links.class (distinct l.program i.loads) i.found_is links.class_is (ap (λ (n : MethodName). n.class) named)
 
-empty : {A : Type 0} (part : LaterPart) (xs : List A) → unless_empty part xs ≡ None → xs ≡ []
-empty part [] e = refl
-empty part (x ∷ xs) e = cc
+-- the main class of a program in which nothing comes later
+pub record IsPlain (d : ClassParts) : Type 0 where
+  pub superclass : d.superclass ≡ Some object_class
+  pub constants : first_later later_declared_field d.fields ≡ None
+  pub no_initializer : (t : MethodDescriptor) → method_in d.methods (codes "<clinit>") t ≡ None
 
-class_later : (program : List ClassParts) → later_part program ≡ None → (k : ℕ) (d : ClassParts) → slice_get program k ≡ Some d → (b : Bool) × (later_class b d ≡ None)
-unfolding later_part
-class_later [] e k d at = cc
-class_later (c ∷ cs) e zero d at = let s : c ≡ d = cc in (true, ap (later_class true) (sym s) ∙ earlier (later_class true c) (first_later (later_class false) cs) e)
-class_later (c ∷ cs) e (suc k) d at = (false, each_later (later_class false) cs k d (rest (later_class true c) (first_later (later_class false) cs) e) at)
-
-super_is : (s : Option (List ℕ)) → later_superclass s ≡ None → s ≡ Some object_class
+super_is : (s : Option (List ℕ)) → later_main_superclass s ≡ None → s ≡ Some object_class
 super_is None e = cc
 super_is (Some name) e = by (same_text name object_class) refl
   where
@@ -139,46 +153,43 @@ super_is (Some name) e = by (same_text name object_class) refl
     by true t = ap Some (texts.same_text name object_class (sym t))
     by false t = let bad : Some later.Superclass ≡ None = sym (ap (λ b. elim b as (λ _. Option LaterPart) [ true ↦ None | false ↦ Some later.Superclass ]) t) ∙ e in cc
 
-is_main : (b : Bool) (m : Method) → other_method b m ≡ None → is_main_method m ≡ true
-is_main true m e = by (is_main_method m) refl
+-- a field that does not come later has no constant
+no_value : (o : Option Constant) → later_constant_value o ≡ None → o ≡ None
+no_value None e = refl
+no_value (Some c) e = cc
+
+pub no_constant : (f : Field) → later_declared_field f ≡ None → f.constant ≡ None
+no_constant f e = by (is_static f.flags) e
   where
-    by : (c : Bool) → is_main_method m ≡ c → is_main_method m ≡ true
-    by true t = t
-    by false t = let bad : Some later.Methods ≡ None = sym (ap (λ c. elim c as (λ _. Option LaterPart) [ true ↦ None | false ↦ Some later.Methods ]) t) ∙ e in cc
-is_main false m e = cc
+    by : (b : Bool) → (elim b as (λ _. Option LaterPart) [ true ↦ Some later.Fields | false ↦ later_constant_value f.constant ]) ≡ None → f.constant ≡ None
+    by true g = cc
+    by false g = no_value f.constant g
 
-first_of : (a b : Bool) → (a && b) ≡ true → a ≡ true
-first_of true b e = refl
-first_of false b e = cc
+-- a method that does not come later initializes no class
+initializes_none : (m : Method) → later_method m ≡ None → same_text m.name (codes "<clinit>") ≡ false
+initializes_none m e = by (same_text m.name (codes "<clinit>")) refl e
+  where
+    by : (b : Bool) → same_text m.name (codes "<clinit>") ≡ b → (elim b as (λ _. Option LaterPart) [
+      | true ↦ Some later.ClassInitializer
+      | false ↦ elim (is_synchronized m.flags) as (λ _. Option LaterPart) [ true ↦ Some later.Synchronized | false ↦ None ]
+    ]) ≡ None → same_text m.name (codes "<clinit>") ≡ false
+    by true t g = cc
+    by false t g = t
 
-no_clinit : (b : Bool) (ms : List Method) (t : MethodDescriptor) → first_later (other_method b) ms ≡ None → method_in ms (codes "<clinit>") t ≡ None
-no_clinit b [] t e = refl
-no_clinit b (m ∷ ms) t e =
-    let main = is_main b m (earlier (other_method b m) (first_later (other_method b) ms) e) in
-    let name : m.name ≡ codes "main" = texts.same_text m.name (codes "main") (sym (first_of (same_text m.name (codes "main")) (same_method_type m.descriptor _) main)) in
-    ap (λ n. elim (same_text n (codes "<clinit>") && same_method_type m.descriptor t) as (λ _. Option Method) [ true ↦ Some m | false ↦ method_in ms (codes "<clinit>") t ]) name
-    ∙ no_clinit b ms t (rest (other_method b m) (first_later (other_method b) ms) e)
+no_clinit : (ms : List Method) (t : MethodDescriptor) → first_later later_method ms ≡ None → method_in ms (codes "<clinit>") t ≡ None
+no_clinit [] t e = refl
+no_clinit (m ∷ ms) t e =
+    let parts = neither_later (later_method m) (first_later later_method ms) e in
+    ap (λ b. elim (b && same_method_type m.descriptor t) as (λ _. Option Method) [ true ↦ Some m | false ↦ method_in ms (codes "<clinit>") t ]) (initializes_none m parts.0)
+    ∙ no_clinit ms t parts.1
 
--- a class of a linked program
-pub record IsPlain (d : ClassParts) : Type 0 where
-  pub superclass : d.superclass ≡ Some object_class
-  pub interfaces : d.interfaces ≡ []
-  pub fields : d.fields ≡ []
-  pub no_initializer : (t : MethodDescriptor) → method_in d.methods (codes "<clinit>") t ≡ None
-
-pub plain_class : (program : List ClassParts) → later_part program ≡ None → (k : ℕ) (d : ClassParts) → slice_get program k ≡ Some d → IsPlain d
-plain_class program e k d at =
-    let f = class_later program e k d at in
-    let b = f.0 in
-    let o1 = or_later (unless_empty later.Interfaces d.interfaces) (or_later (unless_empty later.Fields d.fields) (or_later (first_later (other_method b) d.methods) (first_later (λ m. later_code m.code) d.methods))) in
-    let o2 = or_later (unless_empty later.Fields d.fields) (or_later (first_later (other_method b) d.methods) (first_later (λ m. later_code m.code) d.methods)) in
-    let o3 = or_later (first_later (other_method b) d.methods) (first_later (λ m. later_code m.code) d.methods) in
-    let e1 = rest (later_superclass d.superclass) o1 f.1 in
-    let e2 = rest (unless_empty later.Interfaces d.interfaces) o2 e1 in
-    let e3 = rest (unless_empty later.Fields d.fields) o3 e2 in
-    record {
-      superclass = super_is d.superclass (earlier (later_superclass d.superclass) o1 f.1);
-      interfaces = empty later.Interfaces d.interfaces (earlier (unless_empty later.Interfaces d.interfaces) o2 e1);
-      fields = empty later.Fields d.fields (earlier (unless_empty later.Fields d.fields) o3 e2);
-      no_initializer = λ t. no_clinit b d.methods t (earlier (first_later (other_method b) d.methods) (first_later (λ m. later_code m.code) d.methods) e3);
-    }
+pub plain_main : (program : List ClassParts) → later_part program ≡ None → (d : ClassParts) → slice_get program 0 ≡ Some d → IsPlain d
+plain_main [] e d at = cc
+plain_main (c ∷ cs) e d at =
+    let same : c ≡ d = cc in
+    let whole = whole_main c cs e in
+    subst IsPlain same (record {
+      superclass = super_is c.superclass whole.superclass;
+      constants = whole.fields;
+      no_initializer = λ t. no_clinit c.methods t whole.methods;
+    })

@@ -1,8 +1,9 @@
 -- Print streams in the model.
 use Rattle.std.proofs.Common.{◌≡◌, ℕ, zero, suc, ◌+◌, List, [], ◌∷◌, ◌++◌, Option, Some, None, Bool, true, false, refl, sym, ap, ◌∙◌, length, drop, arith}
-use Rattle.std.specs.Prelude.{map, slice_get, unwrap_or, ◌&&◌, nat_eq, not, option_to_list}
+use Rattle.std.specs.Prelude.{map, slice_get, unwrap_or, ◌&&◌, ◌||◌, nat_eq, not, option_to_list}
 use Rattle.std.specs.List.{list_all}
 use Rattle.std.specs.Cmp.Lexicographic as texts
+use Rattle.jm_program.specs.Flags.{is_interface}
 use Rattle.jm_program.specs.Names.{same_text}
 use Rattle.jm_program.specs.Descriptors.{base_letter}
 use Rattle.jm_program.specs.declared.class.ClassParts.{ClassParts}
@@ -17,11 +18,12 @@ use Rattle.jm_program.specs.declared.reference.MethodRef.{MethodRef}
 use Rattle.jm_builtins.specs.declared.built_in.BuiltIn.{BuiltIn}
 use Rattle.jm_builtins.specs.List.{the_builtins, print_stream}
 use Rattle.jm_world.specs.Types.{same_type, same_types, same_result, same_element, same_method_type}
-use Rattle.jm_world.specs.Classes.{class_named, class_among, built_in_named, height, as_class, print_stream_class, object_class}
+use Rattle.jm_world.specs.Classes.{class_named, class_among, built_in_named, height, as_class, print_stream_class, string_class, system_class, object_class}
 use Rattle.jm_world.specs.Hierarchy.{chain, up_from, is_subclass, is_below, holds_of_any, parents}
 use Rattle.jm_world.specs.Resolution.{select, instance_along}
-use Rattle.jm_world.specs.Loads.{Loads}
-use Rattle.jm_linked.specs.Later.{later_part, is_class_called, is_print, print_name, print_type, printed_type}
+use Rattle.jm_world.specs.Loads.{Refusal, Loads, refusal, or_else, when, first_of_all, wrong_kind, is_sealed, is_strange_interface, superclass_of_kind, superclass_refusal}
+use Rattle.jm_world.specs.Loads.{interface_of_kind, parents_refusal}
+use Rattle.jm_linked.specs.Later.{is_class_called, is_print, print_name, print_type, printed_type}
 use Rattle.jm_linked.specs.Links.{class_name_of}
 use Rattle.jm_linked.specs.declared.instruction.Printed.{Printed}
 use Rattle.jm_linked.specs.declared.instruction.Printed.TheVariants as printed
@@ -30,7 +32,6 @@ use Rattle.jm_linked.specs.declared.instruction.PrintMethod.TheVariants.{Print, 
 use Rattle.std.proofs.lemmas.Bool.{eqb-true}
 use Rattle.jm_linked.proofs.SystemOut.{left_true, right_true, class_is}
 use Rattle.jm_linked.proofs.BuiltIns.{AreOthers, others, built_in_class}
-use Rattle.jm_linked.proofs.Classes.{IsPlain, plain_class}
 
 -- the type of a print by its parts
 int_is : (b : BaseType) → nat_eq (base_letter b) (base_letter base.Int) ≡ true → b ≡ base.Int
@@ -171,17 +172,75 @@ the_parents : other_parents the_builtins ≡ true
 unfolding other_parents is_other
 the_parents = refl
 
-class_parents : (cs : List ClassParts) (name : List ℕ) → ((k : ℕ) (d : ClassParts) → slice_get cs k ≡ Some d → IsPlain d) → list_all is_other (parents (class_among cs name)) ≡ true
-unfolding is_other
-class_parents [] name h = built_in_parents the_builtins name the_parents
-class_parents (c ∷ cs) name h = by (same_text c.name name) refl (class_parents cs name (λ k d e. h (suc k) d e))
-  where
-    plain : parents (Some c) ≡ object_class ∷ []
-    plain = ap (λ s. option_to_list s ++ c.interfaces) (h 0 c refl).superclass ∙ ap (λ is. option_to_list (Some object_class) ++ is) (h 0 c refl).interfaces
+all_append : (xs ys : List (List ℕ)) → list_all is_other xs ≡ true → list_all is_other ys ≡ true → list_all is_other (xs ++ ys) ≡ true
+all_append [] ys e f = f
+all_append (x ∷ xs) ys e f = ap (λ b. b && list_all is_other (xs ++ ys)) (left_true (is_other x) (list_all is_other xs) e) ∙ all_append xs ys (right_true (is_other x) (list_all is_other xs) e) f
 
-    by : (b : Bool) → same_text c.name name ≡ b → list_all is_other (parents (class_among cs name)) ≡ true → list_all is_other (parents (elim b as (λ _. Option ClassParts) [ true ↦ Some c | false ↦ class_among cs name ])) ≡ true
-    by true t r = ap (list_all is_other) plain
-    by false t r = r
+-- no class of a program that loads extends it, since it is sealed, or implements it, since it is no interface
+refused_none : (a b : Option Refusal) → or_else a b ≡ None → (a ≡ None) × (b ≡ None)
+refused_none None b e = (refl, e)
+refused_none (Some r) b e = cc
+
+not_when : (b : Bool) (r : Refusal) → when b r ≡ None → b ≡ false
+not_when true r e = cc
+not_when false r e = refl
+
+neither_so : (a b : Bool) → (a || b) ≡ false → (a ≡ false) × (b ≡ false)
+neither_so true b e = cc
+neither_so false b e = (refl, e)
+
+super_other : (program : List ClassParts) (c : ClassParts) (o : Option (List ℕ)) → superclass_refusal program c o ≡ None → list_all is_other (option_to_list o) ≡ true
+unfolding is_other
+super_other program c None e = refl
+super_other program c (Some name) e = by (class_named program name) e
+  where
+    by : (o : Option ClassParts) → superclass_of_kind c name o ≡ None → list_all is_other (option_to_list (Some name)) ≡ true
+    by None g = cc
+    by (Some above) g =
+        let left = (neither_so (is_interface above.flags || is_sealed name) (is_strange_interface c name) (not_when _ (wrong_kind name) g)).0 in
+        let sealed = (neither_so (is_interface above.flags) (is_sealed name) left).1 in
+        let other = (neither_so (same_text name string_class || same_text name system_class) (same_text name print_stream_class) sealed).1 in
+        ap (λ b. not b && true) other
+
+interface_other : (program : List ClassParts) → Loads program → (name : List ℕ) → interface_of_kind name (class_named program name) ≡ None → is_other name ≡ true
+unfolding is_other
+interface_other program loads name e = by (same_text name print_stream_class) refl
+  where
+    by : (b : Bool) → same_text name print_stream_class ≡ b → not (same_text name print_stream_class) ≡ true
+    by false t = ap not t
+    by true t =
+        let is : name ≡ print_stream_class = texts.same_text name print_stream_class (sym t) in
+        let bad : Some (wrong_kind name) ≡ None =
+        sym (ap (interface_of_kind name) (ap (class_named program) is ∙ stream_is program loads)) ∙ e in
+        cc
+
+interfaces_other : (program : List ClassParts) → Loads program → (names : List (List ℕ))
+    → first_of_all (λ name. interface_of_kind name (class_named program name)) names ≡ None → list_all is_other names ≡ true
+interfaces_other program loads [] e = refl
+interfaces_other program loads (x ∷ xs) e =
+    let parts = refused_none (interface_of_kind x (class_named program x)) (first_of_all (λ name. interface_of_kind name (class_named program name)) xs) e in
+    ap (λ b. b && list_all is_other xs) (interface_other program loads x parts.0) ∙ interfaces_other program loads xs parts.1
+
+parents_other : (program : List ClassParts) → Loads program → (c : ClassParts) → parents_refusal program c ≡ None → list_all is_other (parents (Some c)) ≡ true
+parents_other program loads c e =
+    let parts = refused_none (superclass_refusal program c c.superclass) (first_of_all (λ name. interface_of_kind name (class_named program name)) c.interfaces) e in
+    all_append (option_to_list c.superclass) c.interfaces (super_other program c c.superclass parts.0) (interfaces_other program loads c.interfaces parts.1)
+
+class_parents : (program : List ClassParts) → Loads program → (cs : List ClassParts) (name : List ℕ) → first_of_all (parents_refusal program) cs ≡ None
+    → list_all is_other (parents (class_among cs name)) ≡ true
+class_parents program loads [] name e = built_in_parents the_builtins name the_parents
+class_parents program loads (c ∷ cs) name e =
+    let parts = refused_none (parents_refusal program c) (first_of_all (parents_refusal program) cs) e in
+    by (same_text c.name name) (parents_other program loads c parts.0) (class_parents program loads cs name parts.1)
+  where
+    by : (b : Bool) → list_all is_other (parents (Some c)) ≡ true → list_all is_other (parents (class_among cs name)) ≡ true
+        → list_all is_other (parents (elim b as (λ _. Option ClassParts) [ true ↦ Some c | false ↦ class_among cs name ])) ≡ true
+    by true h r = h
+    by false h r = r
+
+no_parents_refused : (program : List ClassParts) → Loads program → first_of_all (parents_refusal program) program ≡ None
+unfolding refusal
+no_parents_refused program loads = (refused_none _ _ (refused_none _ _ (refused_none _ _ loads).1).1).0
 
 none_holds : (test : List ℕ → Bool) → ((x : List ℕ) → same_text x print_stream_class ≡ false → test x ≡ false) → (xs : List (List ℕ)) → list_all is_other xs ≡ true → holds_of_any test xs ≡ false
 unfolding is_other
@@ -190,16 +249,17 @@ none_holds test h (x ∷ xs) e =
     ap (λ b. elim b as (λ _. Bool) [ true ↦ true | false ↦ holds_of_any test xs ]) (h x (not_true (same_text x print_stream_class) (left_true (is_other x) (list_all is_other xs) e)))
     ∙ none_holds test h xs (right_true (is_other x) (list_all is_other xs) e)
 
-not_below : (n : ℕ) (program : List ClassParts) → ((k : ℕ) (d : ClassParts) → slice_get program k ≡ Some d → IsPlain d) → (name : List ℕ) → same_text name print_stream_class ≡ false → is_below n program name print_stream_class ≡ false
+not_below : (n : ℕ) (program : List ClassParts) → Loads program → (name : List ℕ) → same_text name print_stream_class ≡ false → is_below n program name print_stream_class ≡ false
 unfolding class_named
-not_below zero program h name e = refl
-not_below (suc n) program h name e =
+not_below zero program loads name e = refl
+not_below (suc n) program loads name e =
     ap (λ b. elim b as (λ _. Bool) [ true ↦ true | false ↦ holds_of_any (λ parent. is_below n program parent print_stream_class) (parents (class_named program name)) ]) e
-    ∙ none_holds (λ parent. is_below n program parent print_stream_class) (λ x f. not_below n program h x f) (parents (class_named program name)) (class_parents program name h)
+    ∙ none_holds (λ parent. is_below n program parent print_stream_class) (λ x f. not_below n program loads x f) (parents (class_named program name))
+    (class_parents program loads program name (no_parents_refused program loads))
 
-pub no_stream : (program : List ClassParts) → later_part program ≡ None → (name : List ℕ) → same_text name print_stream_class ≡ false → is_subclass program name print_stream_class ≡ false
+pub no_stream : (program : List ClassParts) → Loads program → (name : List ℕ) → same_text name print_stream_class ≡ false → is_subclass program name print_stream_class ≡ false
 unfolding is_subclass
-no_stream program plain name e = not_below (height program) program (λ k d f. plain_class program plain k d f) name e
+no_stream program loads name e = not_below (height program) program loads name e
 
 -- the name of each other class
 others_are : (program : List ClassParts) → AreOthers print_stream_class program → list_all is_other (map (λ (c : ClassParts). c.name) program) ≡ true
@@ -212,10 +272,6 @@ unfolding is_other
 test_at [] n e = refl
 test_at (x ∷ xs) zero e = left_true (is_other x) (list_all is_other xs) e
 test_at (x ∷ xs) (suc n) e = test_at xs n (right_true (is_other x) (list_all is_other xs) e)
-
-all_append : (xs ys : List (List ℕ)) → list_all is_other xs ≡ true → list_all is_other ys ≡ true → list_all is_other (xs ++ ys) ≡ true
-all_append [] ys e f = f
-all_append (x ∷ xs) ys e f = ap (λ b. b && list_all is_other (xs ++ ys)) (left_true (is_other x) (list_all is_other xs) e) ∙ all_append xs ys (right_true (is_other x) (list_all is_other xs) e) f
 
 pub other_name : (program : List ClassParts) → Loads program → (n : ℕ) → nat_eq n 5 ≡ false → same_text (class_name_of program n) print_stream_class ≡ false
 unfolding class_name_of is_other

@@ -1,5 +1,5 @@
 -- What holds of a program in which nothing comes later.
-use Rattle.std.proofs.Common.{◌≡◌, ℕ, zero, suc, List, [], ◌∷◌, Option, Some, None, Bool, true, false, refl, sym, ap, ◌∙◌}
+use Rattle.std.proofs.Common.{◌≡◌, ℕ, zero, suc, List, [], ◌∷◌, Option, Some, None, Bool, true, false, refl, sym, ap, ◌∙◌, subst}
 use Rattle.std.specs.Prelude.{slice_get, is_some, ◌&&◌, codes}
 use Rattle.jm_program.specs.Names.{same_text}
 use Rattle.jm_program.specs.declared.class.ClassParts.{ClassParts}
@@ -7,7 +7,8 @@ use Rattle.jm_program.specs.declared.class.Method.{Method}
 use Rattle.jm_program.specs.declared.code.Code.{Code}
 use Rattle.jm_program.specs.declared.descriptor.FieldType.{FieldType}
 use Rattle.jm_world.specs.Types.{same_types, same_result, same_method_type}
-use Rattle.jm_world.specs.Loading.{main_type}
+use Rattle.jm_world.specs.Classes.{FoundMethod, MethodName, method_in}
+use Rattle.jm_world.specs.Loading.{main_in, main_type}
 use Rattle.jm_program.specs.declared.instruction.operation.FieldOp.{FieldOp}
 use Rattle.jm_program.specs.declared.instruction.operation.FieldOp.TheVariants.{GetStatic, PutStatic, GetField, PutField}
 use Rattle.jm_program.specs.declared.instruction.operation.InvokeOp.{InvokeOp}
@@ -18,11 +19,11 @@ use Rattle.jm_program.specs.declared.reference.MethodRef.{MethodRef}
 use Rattle.jm_linked.specs.declared.instruction.LinkedInstr.{LinkedInstr}
 use Rattle.jm_linked.specs.declared.instruction.LinkedInstr.TheVariants as linked
 use Rattle.jm_linked.specs.declared.instruction.PrintMethod.{PrintMethod}
-use Rattle.jm_linked.specs.Links.{LinksIn, prints, reads_system_out}
+use Rattle.jm_linked.specs.Links.{LinkedView, IsLinked, LinksIn, name_of_number, name_among, prints, reads_system_out}
 use Rattle.jm_linked.specs.declared.later.LaterPart.{LaterPart}
 use Rattle.jm_linked.specs.declared.later.LaterPart.TheVariants as later
 use Rattle.jm_linked.specs.Later.{print_among, print_methods, or_later, first_later, unless_empty, later_field, later_invoke, later_instruction, later_code}
-use Rattle.jm_linked.specs.Later.{is_main_method, later_superclass, other_method, later_class, later_part}
+use Rattle.jm_linked.specs.Later.{later_use, later_in_code, later_superclass, later_declared_field, later_method, later_class, later_part}
 
 -- neither of two comes later
 pub neither_later : (a b : Option LaterPart) → or_later a b ≡ None → (a ≡ None) × (b ≡ None)
@@ -41,75 +42,93 @@ nothing_later part (x ∷ xs) e = cc
 
 -- a class in which nothing comes later
 pub record IsWholeClass (main : Bool) (c : ClassParts) : Type 0 where
-  pub interfaces : c.interfaces ≡ []
-  pub fields : c.fields ≡ []
-  pub methods : first_later (other_method main) c.methods ≡ None
+  pub superclass : later_superclass main c.superclass ≡ None
+  pub fields : first_later later_declared_field c.fields ≡ None
+  pub methods : first_later later_method c.methods ≡ None
   pub codes : first_later (λ m. later_code m.code) c.methods ≡ None
 
 pub whole_class : (main : Bool) (c : ClassParts) → later_class main c ≡ None → IsWholeClass main c
 whole_class main c e =
-    let past_superclass = (neither_later (later_superclass c.superclass) _ e).1 in
-    let past_interfaces = neither_later (unless_empty later.Interfaces c.interfaces) _ past_superclass in
-    let past_fields = neither_later (unless_empty later.Fields c.fields) _ past_interfaces.1 in
-    let past_methods = neither_later (first_later (other_method main) c.methods) _ past_fields.1 in
-    record {
-      interfaces = nothing_later later.Interfaces c.interfaces past_interfaces.0;
-      fields = nothing_later later.Fields c.fields past_fields.0;
-      methods = past_methods.0;
-      codes = past_methods.1;
-    }
+    let past_superclass = neither_later (later_superclass main c.superclass) _ e in
+    let past_fields = neither_later (first_later later_declared_field c.fields) _ past_superclass.1 in
+    let past_methods = neither_later (first_later later_method c.methods) _ past_fields.1 in
+    record { superclass = past_superclass.0; fields = past_fields.0; methods = past_methods.0; codes = past_methods.1 }
+
+-- the main class, and each other one, of a program in which nothing comes later
+pub whole_main : (c : ClassParts) (cs : List ClassParts) → later_part (c ∷ cs) ≡ None → IsWholeClass true c
+unfolding later_part
+whole_main c cs e = whole_class true c (neither_later (later_class true c) (first_later (later_class false) cs) e).0
+
+pub whole_others : (c : ClassParts) (cs : List ClassParts) → later_part (c ∷ cs) ≡ None → first_later (later_class false) cs ≡ None
+unfolding later_part
+whole_others c cs e = (neither_later (later_class true c) (first_later (later_class false) cs) e).1
 
 pub whole_class_at : (program : List ClassParts) (n : ℕ) (c : ClassParts) → later_part program ≡ None → slice_get program n ≡ Some c
     → (main : Bool) × IsWholeClass main c
-unfolding later_part
 whole_class_at [] n c e at = cc
-whole_class_at (d ∷ ds) zero c e at =
-    let same : c ≡ d = cc in
-    (true, whole_class true c (ap (later_class true) same ∙ (neither_later (later_class true d) (first_later (later_class false) ds) e).0))
-whole_class_at (d ∷ ds) (suc n) c e at =
-    (false, whole_class false c (none_later (later_class false) ds n c (neither_later (later_class true d) (first_later (later_class false) ds) e).1 at))
+whole_class_at (d ∷ ds) zero c e at = let same : d ≡ c = cc in (true, subst (IsWholeClass true) same (whole_main d ds e))
+whole_class_at (d ∷ ds) (suc n) c e at = (false, whole_class false c (none_later (later_class false) ds n c (whole_others d ds e) at))
 
--- a method that does not come later is main
+-- main returns nothing
 both_hold : (a b : Bool) → (a && b) ≡ true → (a ≡ true) × (b ≡ true)
 both_hold true b e = (refl, e)
 both_hold false b e = cc
-
-main_alone : (main : Bool) (m : Method) → other_method main m ≡ None → is_main_method m ≡ true
-main_alone main m e = by (main && is_main_method m) refl e
-  where
-    by : (t : Bool) → (main && is_main_method m) ≡ t → (elim t as (λ _. Option LaterPart) [ true ↦ None | false ↦ Some later.Methods ]) ≡ None
-        → is_main_method m ≡ true
-    by true is g = (both_hold main (is_main_method m) is).1
-    by false is g = cc
 
 nothing_returned : (r : Option FieldType) → same_result r None ≡ true → r ≡ None
 nothing_returned None e = refl
 nothing_returned (Some t) e = cc
 
-main_returns_nothing : (m : Method) → is_main_method m ≡ true → m.descriptor.return_type ≡ None
-main_returns_nothing m e =
-    let type : same_method_type m.descriptor main_type ≡ true = (both_hold (same_text m.name (codes "main")) (same_method_type m.descriptor main_type) e).1 in
-    nothing_returned m.descriptor.return_type
-    (both_hold (same_types m.descriptor.parameters main_type.parameters) (same_result m.descriptor.return_type None) type).1
+found_returns_nothing : (ms : List Method) (name : List ℕ) (m : Method) → method_in ms name main_type ≡ Some m → m.descriptor.return_type ≡ None
+found_returns_nothing [] name m e = cc
+found_returns_nothing (x ∷ xs) name m e =
+    by (same_text x.name name && same_method_type x.descriptor main_type) refl e (found_returns_nothing xs name m)
+  where
+    by : (b : Bool) → (same_text x.name name && same_method_type x.descriptor main_type) ≡ b
+        → (elim b as (λ _. Option Method) [ true ↦ Some x | false ↦ method_in xs name main_type ]) ≡ Some m
+        → (method_in xs name main_type ≡ Some m → m.descriptor.return_type ≡ None) → m.descriptor.return_type ≡ None
+    by true t g next =
+        let same : x ≡ m = cc in
+        let type = (both_hold (same_text x.name name) (same_method_type x.descriptor main_type) t).1 in
+        ap (λ (y : Method). y.descriptor.return_type) (sym same)
+        ∙ nothing_returned x.descriptor.return_type
+        (both_hold (same_types x.descriptor.parameters main_type.parameters) (same_result x.descriptor.return_type None) type).1
+    by false t g next = next g
 
--- a method in which nothing comes later returns nothing and catches nothing
-pub record IsWhole (m : Method) (code : Code) : Type 0 where
-  pub result : m.descriptor.return_type ≡ None
-  pub instructions : first_later later_instruction code.instructions ≡ None
+main_returns_nothing : (program : List ClassParts) (found : FoundMethod) → main_in program ≡ Some found → found.method.descriptor.return_type ≡ None
+main_returns_nothing [] found e = cc
+main_returns_nothing (c ∷ cs) found e = by (method_in c.methods (codes "main") main_type) refl e
+  where
+    by : (o : Option Method) → method_in c.methods (codes "main") main_type ≡ o
+        → (elim o as (λ _. Option FoundMethod) [ None ↦ None | Some x ↦ Some (record { class = c; method = x }) ]) ≡ Some found
+        → found.method.descriptor.return_type ≡ None
+    by None t g = cc
+    by (Some x) t g =
+        let same : record { class = c; method = x } ≡ found = cc in
+        ap (λ (f : FoundMethod). f.method.descriptor.return_type) (sym same) ∙ found_returns_nothing c.methods (codes "main") x t
+
+pub main_result : (l : LinkedView) (i : IsLinked l) → (name_of_number l l.main).descriptor.return_type ≡ None
+unfolding name_of_number
+main_result l i =
+    ap (λ (n : MethodName). n.descriptor.return_type) (ap (name_among l.program) i.main_is ∙ i.main_name)
+    ∙ main_returns_nothing l.program i.found i.found_is
+
+-- a method in which nothing comes later catches nothing
+pub record IsWhole (code : Code) : Type 0 where
+  pub instructions : first_later later_in_code code.instructions ≡ None
   pub handlers : code.handlers ≡ []
 
 pub whole_method : (program : List ClassParts) (n k : ℕ) (c : ClassParts) (m : Method) (code : Code) → later_part program ≡ None
-    → slice_get program n ≡ Some c → slice_get c.methods k ≡ Some m → m.code ≡ Some code → IsWhole m code
+    → slice_get program n ≡ Some c → slice_get c.methods k ≡ Some m → m.code ≡ Some code → IsWhole code
 whole_method program n k c m code e class method is =
     let whole = whole_class_at program n c e class in
     let own : later_code m.code ≡ None = none_later (λ (x : Method). later_code x.code) c.methods k m whole.1.codes method in
     let whole_code : later_code (Some code) ≡ None = sym (ap later_code is) ∙ own in
-    let parts = neither_later (first_later later_instruction code.instructions) (unless_empty later.Handlers code.handlers) whole_code in
-    record {
-      result = main_returns_nothing m (main_alone whole.0 m (none_later (other_method whole.0) c.methods k m whole.1.methods method));
-      instructions = parts.0;
-      handlers = nothing_later later.Handlers code.handlers parts.1;
-    }
+    let parts = neither_later (first_later later_in_code code.instructions) (unless_empty later.Handlers code.handlers) whole_code in
+    record { instructions = parts.0; handlers = nothing_later later.Handlers code.handlers parts.1 }
+
+-- its instructions are such as can be run
+pub instruction_runs : {code : Code} → IsWhole code → (n : ℕ) (i : Instr) → slice_get code.instructions n ≡ Some i → later_instruction i ≡ None
+instruction_runs {code} w n i at = (neither_later (later_use i) (later_instruction i) (none_later later_in_code code.instructions n i w.instructions at)).1
 
 -- the linked instructions that the machine can run
 abbrev pub RunsToday : LinkedInstr → Type 0

@@ -1,8 +1,10 @@
 -- What the machine cannot run yet: the first such part of a program, by classes in order, in a class
--- its superclass, interfaces, fields, methods, then the instructions and the exception table of main.
+-- its superclass, fields, methods, then the instructions and the exception table of each method.
 use Rattle.std.specs.Prelude.{ℕ, List, [], ◌∷◌, Option, Some, None, Bool, true, false, ◌&&◌, codes}
+use Rattle.jm_program.specs.Flags.{is_static, is_synchronized}
 use Rattle.jm_program.specs.Names.{same_text}
 use Rattle.jm_program.specs.declared.class.ClassParts.{ClassParts}
+use Rattle.jm_program.specs.declared.class.Field.{Field}
 use Rattle.jm_program.specs.declared.class.Method.{Method}
 use Rattle.jm_program.specs.declared.code.Code.{Code}
 use Rattle.jm_program.specs.declared.constant.Constant.{Constant}
@@ -11,7 +13,8 @@ use Rattle.jm_program.specs.declared.descriptor.FieldType.{FieldType}
 use Rattle.jm_program.specs.declared.descriptor.MethodDescriptor.{MethodDescriptor}
 use Rattle.jm_program.specs.declared.descriptor.BaseType.{BaseType}
 use Rattle.jm_program.specs.declared.descriptor.BaseType.TheVariants as base
-use Rattle.jm_program.specs.declared.descriptor.ElementType.TheVariants.{Base}
+use Rattle.jm_program.specs.declared.descriptor.ElementType.{ElementType}
+use Rattle.jm_program.specs.declared.descriptor.ElementType.TheVariants.{Base, Class}
 use Rattle.jm_program.specs.declared.instruction.operation.FieldOp.{FieldOp}
 use Rattle.jm_program.specs.declared.instruction.operation.FieldOp.TheVariants.{GetStatic}
 use Rattle.jm_program.specs.declared.instruction.operation.InvokeOp.{InvokeOp}
@@ -23,7 +26,7 @@ use Rattle.jm_program.specs.declared.reference.ClassRef.TheVariants as named
 use Rattle.jm_program.specs.declared.reference.FieldRef.{FieldRef}
 use Rattle.jm_program.specs.declared.reference.MethodRef.{MethodRef}
 use Rattle.jm_world.specs.Types.{class_type, same_type, same_method_type}
-use Rattle.jm_world.specs.Classes.{object_class, system_class, print_stream_class}
+use Rattle.jm_world.specs.Classes.{object_class, system_class, print_stream_class, thread_class}
 use Rattle.jm_world.specs.Loading.{main_type}
 use Rattle.jm_linked.specs.declared.instruction.Printed.{Printed}
 use Rattle.jm_linked.specs.declared.instruction.Printed.TheVariants.{Int, Long, Char}
@@ -98,6 +101,31 @@ later_instruction (instr.Invoke op m) = later_invoke op m
 later_instruction (instr.New name) = Some later.New
 later_instruction (instr.Type op t) = Some (later.Type op)
 
+-- a use of a class whose objects are threads, or that starting one throws, by its name
+abbrev pub illegal_thread_state_class : List ℕ
+illegal_thread_state_class = codes "java/lang/IllegalThreadStateException"
+
+abbrev pub later_name : List ℕ → Option LaterPart
+later_name name = elim (same_text name thread_class) [
+  | true ↦ Some later.Thread
+  | false ↦ elim (same_text name illegal_thread_state_class) [ true ↦ Some later.IllegalThreadState | false ↦ None ]
+]
+
+abbrev pub later_element : ElementType → Option LaterPart
+later_element (Base b) = None
+later_element (Class name) = later_name name
+
+abbrev pub later_class_ref : ClassRef → Option LaterPart
+later_class_ref (named.Class name) = later_name name
+later_class_ref (named.Array t) = later_element t.element
+
+abbrev pub later_use : Instr → Option LaterPart
+later_use (instr.Field op f) = later_class_ref f.class
+later_use (instr.Invoke op m) = later_class_ref m.class
+later_use (instr.New name) = later_name name
+later_use (instr.Type op t) = later_class_ref t
+later_use _ = None
+
 -- the first part, or else the second
 abbrev pub or_later : Option LaterPart → Option LaterPart → Option LaterPart
 or_later (Some part) next = Some part
@@ -111,29 +139,52 @@ abbrev pub unless_empty : {A : Type 0} → LaterPart → List A → Option Later
 unless_empty part [] = None
 unless_empty part (x ∷ xs) = Some part
 
+-- an instruction that names such a class, or that cannot be run yet
+abbrev pub later_in_code : Instr → Option LaterPart
+later_in_code i = or_later (later_use i) (later_instruction i)
+
 abbrev pub later_code : Option Code → Option LaterPart
 later_code None = None
-later_code (Some code) = or_later (first_later later_instruction code.instructions) (unless_empty later.Handlers code.handlers)
+later_code (Some code) = or_later (first_later later_in_code code.instructions) (unless_empty later.Handlers code.handlers)
 
 -- main, by its name and type
 abbrev pub is_main_method : Method → Bool
 is_main_method m = same_text m.name (codes "main") && same_method_type m.descriptor main_type
 
-abbrev pub later_superclass : Option (List ℕ) → Option LaterPart
-later_superclass None = Some later.Superclass
-later_superclass (Some name) = elim (same_text name object_class) [ true ↦ None | false ↦ Some later.Superclass ]
+-- the superclass: java/lang/Object alone of the main class, any but such a class of another
+abbrev pub later_main_superclass : Option (List ℕ) → Option LaterPart
+later_main_superclass None = Some later.Superclass
+later_main_superclass (Some name) = elim (same_text name object_class) [ true ↦ None | false ↦ Some later.Superclass ]
 
--- a method other than the main class's main
-abbrev pub other_method : Bool → Method → Option LaterPart
-other_method main m = elim (main && is_main_method m) [ true ↦ None | false ↦ Some later.Methods ]
+abbrev pub later_other_superclass : Option (List ℕ) → Option LaterPart
+later_other_superclass None = None
+later_other_superclass (Some name) = later_name name
+
+abbrev pub later_superclass : Bool → Option (List ℕ) → Option LaterPart
+later_superclass true s = later_main_superclass s
+later_superclass false s = later_other_superclass s
+
+-- a static field, and a field with a ConstantValue (JVMS 4.7.2)
+abbrev pub later_constant_value : Option Constant → Option LaterPart
+later_constant_value None = None
+later_constant_value (Some c) = Some later.ConstantValue
+
+abbrev pub later_declared_field : Field → Option LaterPart
+later_declared_field f = elim (is_static f.flags) [ true ↦ Some later.Fields | false ↦ later_constant_value f.constant ]
+
+-- the initializer of a class (JVMS 2.9), and a method that is synchronized (JVMS 2.11.10)
+abbrev pub later_method : Method → Option LaterPart
+later_method m = elim (same_text m.name (codes "<clinit>")) [
+  | true ↦ Some later.ClassInitializer
+  | false ↦ elim (is_synchronized m.flags) [ true ↦ Some later.Synchronized | false ↦ None ]
+]
 
 abbrev pub later_class : Bool → ClassParts → Option LaterPart
 later_class main c =
-    or_later (later_superclass c.superclass)
-    (or_later (unless_empty later.Interfaces c.interfaces)
-    (or_later (unless_empty later.Fields c.fields)
-    (or_later (first_later (other_method main) c.methods)
-    (first_later (λ m. later_code m.code) c.methods))))
+    or_later (later_superclass main c.superclass)
+    (or_later (first_later later_declared_field c.fields)
+    (or_later (first_later later_method c.methods)
+    (first_later (λ m. later_code m.code) c.methods)))
 
 -- the first part of a program that cannot be run yet; the main class is the first
 unfoldable pub later_part : List ClassParts → Option LaterPart

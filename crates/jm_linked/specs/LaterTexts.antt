@@ -6,9 +6,12 @@ use Rattle.jm_linked.specs.declared.later.LaterPart.TheVariants as later
 
 unfoldable pub later_text : LaterPart → List ℕ
 later_text later.Superclass = codes "superclass"
-later_text later.Interfaces = codes "interfaces"
+later_text later.Thread = codes "java/lang/Thread"
+later_text later.IllegalThreadState = codes "java/lang/IllegalThreadStateException"
 later_text later.Fields = codes "fields"
-later_text later.Methods = codes "methods"
+later_text later.ConstantValue = codes "ConstantValue"
+later_text later.ClassInitializer = codes "<clinit>"
+later_text later.Synchronized = codes "synchronized"
 later_text later.Handlers = codes "handlers"
 later_text (later.Array op) = array_line op
 later_text later.Throw = codes "athrow"

@@ -10,12 +10,20 @@ use std::fmt::Display;
 /// A part of a program that the machine cannot run yet.
 #[derive(Clone, Copy, Debug)]
 pub enum LaterPart {
-    /// A superclass other than java/lang/Object.
+    /// A superclass of the main class other than java/lang/Object.
     Superclass,
-    Interfaces,
+    /// A use of java/lang/Thread.
+    Thread,
+    /// A use of java/lang/IllegalThreadStateException.
+    IllegalThreadState,
+    /// A static field.
     Fields,
-    /// A method other than main.
-    Methods,
+    /// A field with a `ConstantValue`.
+    ConstantValue,
+    /// `<clinit>`.
+    ClassInitializer,
+    /// A method that is synchronized.
+    Synchronized,
     /// An exception table that is not empty.
     Handlers,
     Array(ArrayOp),
@@ -31,7 +39,7 @@ pub enum LaterPart {
     Type(TypeOp),
 }
 
-/// The mnemonic of an instruction, or the name of the part.
+/// The mnemonic of an instruction, the name of a class, or that of the part.
 #[tactic(auto, unfolding(crate::specs::LaterTexts::later_text))]
 impl Display for LaterPart {
     ghost output = { λ part. Some (later_text part) };
@@ -39,9 +47,14 @@ impl Display for LaterPart {
     fn fmt<W: fmt::Write>(&self, f: &mut fmt::Formatter<W>) -> fmt::Result {
         match self {
             LaterPart::Superclass => f.write_str("superclass"),
-            LaterPart::Interfaces => f.write_str("interfaces"),
+            LaterPart::Thread => f.write_str("java/lang/Thread"),
+            LaterPart::IllegalThreadState => {
+                f.write_str("java/lang/IllegalThreadStateException")
+            }
             LaterPart::Fields => f.write_str("fields"),
-            LaterPart::Methods => f.write_str("methods"),
+            LaterPart::ConstantValue => f.write_str("ConstantValue"),
+            LaterPart::ClassInitializer => f.write_str("<clinit>"),
+            LaterPart::Synchronized => f.write_str("synchronized"),
             LaterPart::Handlers => f.write_str("handlers"),
             LaterPart::Array(op) => write!(f, "{op}"),
             LaterPart::Throw => f.write_str("athrow"),

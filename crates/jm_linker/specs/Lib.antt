@@ -1,7 +1,6 @@
 pub mod FaultTexts
 pub mod Answers
 pub mod BuiltInClasses
-pub mod LaterHead
 pub mod Walks
 pub mod Found
 pub mod Cycles

@@ -1,10 +1,12 @@
 // The parts of a program that the machine cannot run yet.
 
 ghost use Rattle.std.specs.Prelude.{◌≡◌, [], ◌∷◌, None, Some, cond, false};
-ghost use Rattle.jm_linked.specs.Later.{is_class_called, is_system_out, base_type, printed_type, print_name, print_parameters, is_print, print_among, print_methods, later_constant, later_field, later_invoke, later_instruction, or_later, first_later, unless_empty, later_code, is_main_method, later_superclass, other_method, later_class, later_part};
+ghost use Rattle.jm_linked.specs.Later.{is_class_called, is_system_out, base_type, printed_type, print_name, print_parameters, is_print, print_among, print_methods, later_constant, later_field, later_invoke, later_instruction};
+ghost use Rattle.jm_linked.specs.Later.{later_name, later_element, later_class_ref, later_use, later_in_code, first_later, later_code, is_main_method};
+ghost use Rattle.jm_linked.specs.Later.{later_main_superclass, later_other_superclass, later_superclass, later_constant_value, later_declared_field, later_method};
+ghost use Rattle.jm_linked.specs.Later.{later_class, later_part};
 ghost use Rattle.jm_program.specs.Names.{same_text};
 ghost use Rattle.jm_program.specs.declared.class.Method.{Method};
-ghost use Rattle.jm_linker.specs.LaterHead.{later_head};
 ghost use Rattle.jm_world.specs.Loading.{strings_type};
 ghost use Rattle.jm_world.specs.Classes.{system_class, print_stream_class};
 ghost use Rattle.jm_world.specs.Types.{class_type, same_type, same_types, same_result};
@@ -13,7 +15,7 @@ use crate::name::{is_print_stream, is_system};
 use crate::types::letter;
 use jm_linked::{LaterPart, PrintMethod, Printed};
 use jm_program::{
-    BaseType, Class, ClassParts, ClassRef, Code, Constant, ElementType, FieldOp, FieldRef,
+    AccessFlags, BaseType, Class, ClassParts, ClassRef, Code, Constant, ElementType, Field, FieldOp, FieldRef,
     FieldType, Instr, InvokeOp, Method, MethodDescriptor, MethodRef, Name,
 };
 
@@ -206,10 +208,56 @@ fn later_instruction(instruction: &Instr) -> Option<LaterPart>
     }
 }
 
+/// Whether it is java/lang/Thread, or the exception that starting one throws.
+fn later_name(name: &Name) -> Option<LaterPart>
+    ensures { result ≡ later_name name.now }
+{
+    if name.is_text(b"java/lang/Thread") {
+        Some(LaterPart::Thread)
+    } else if name.is_text(b"java/lang/IllegalThreadStateException") {
+        Some(LaterPart::IllegalThreadState)
+    } else {
+        None
+    }
+}
+
+fn later_element(element: &ElementType) -> Option<LaterPart>
+    ensures { result ≡ later_element element.now }
+{
+    match element {
+        ElementType::Base(_) => None,
+        ElementType::Class(name) => later_name(name),
+    }
+}
+
+fn later_class_ref(class: &ClassRef) -> Option<LaterPart>
+    ensures { result ≡ later_class_ref class.now }
+{
+    match class {
+        ClassRef::Class(name) => later_name(name),
+        ClassRef::Array(array) => later_element(&array.element),
+    }
+}
+
+fn later_use(instruction: &Instr) -> Option<LaterPart>
+    ensures { result ≡ later_use instruction.now }
+{
+    match instruction {
+        Instr::Field(_, field) => later_class_ref(&field.get().class),
+        Instr::Invoke(_, method) => later_class_ref(&method.get().class),
+        Instr::New(name) => later_name(name.get()),
+        Instr::Type(_, class) => later_class_ref(class.get()),
+        _ => None,
+    }
+}
+
 fn later_in_instructions(instructions: &[Instr]) -> Option<LaterPart>
-    ensures { result ≡ first_later later_instruction instructions.now }
+    ensures { result ≡ first_later later_in_code instructions.now }
 {
     for instruction in instructions {
+        if let Some(part) = later_use(instruction) {
+            return Some(part);
+        }
         if let Some(part) = later_instruction(instruction) {
             return Some(part);
         }
@@ -263,8 +311,8 @@ pub fn is_main_method(method: &Method) -> bool
         && returns_nothing(&method.descriptor)
 }
 
-fn later_superclass(superclass: &Option<Name>) -> Option<LaterPart>
-    ensures { result ≡ later_superclass superclass.now }
+fn later_main_superclass(superclass: &Option<Name>) -> Option<LaterPart>
+    ensures { result ≡ later_main_superclass superclass.now }
 {
     match superclass {
         None => Some(LaterPart::Superclass),
@@ -278,21 +326,72 @@ fn later_superclass(superclass: &Option<Name>) -> Option<LaterPart>
     }
 }
 
-fn other_method(main: bool, method: &Method) -> Option<LaterPart>
-    ensures { result ≡ other_method main method.now }
+fn later_other_superclass(superclass: &Option<Name>) -> Option<LaterPart>
+    ensures { result ≡ later_other_superclass superclass.now }
 {
-    if main && is_main_method(method) {
-        None
-    } else {
-        Some(LaterPart::Methods)
+    match superclass {
+        None => None,
+        Some(name) => later_name(name),
     }
 }
 
-fn later_in_methods(main: bool, methods: &[Method]) -> Option<LaterPart>
-    ensures { result ≡ first_later (other_method main) methods.now }
+fn later_superclass(main: bool, superclass: &Option<Name>) -> Option<LaterPart>
+    ensures { result ≡ later_superclass main superclass.now }
+{
+    if main {
+        later_main_superclass(superclass)
+    } else {
+        later_other_superclass(superclass)
+    }
+}
+
+fn later_constant_value(constant: &Option<Constant>) -> Option<LaterPart>
+    ensures { result ≡ later_constant_value constant.now }
+{
+    match constant {
+        None => None,
+        Some(_) => Some(LaterPart::ConstantValue),
+    }
+}
+
+fn later_declared_field(field: &Field) -> Option<LaterPart>
+    ensures { result ≡ later_declared_field field.now }
+{
+    if field.flags.has(AccessFlags::STATIC) {
+        Some(LaterPart::Fields)
+    } else {
+        later_constant_value(&field.constant)
+    }
+}
+
+fn later_in_fields(fields: &[Field]) -> Option<LaterPart>
+    ensures { result ≡ first_later later_declared_field fields.now }
+{
+    for field in fields {
+        if let Some(part) = later_declared_field(field) {
+            return Some(part);
+        }
+    }
+    None
+}
+
+fn later_method(method: &Method) -> Option<LaterPart>
+    ensures { result ≡ later_method method.now }
+{
+    if method.name.is_text(b"<clinit>") {
+        Some(LaterPart::ClassInitializer)
+    } else if method.flags.has(AccessFlags::SYNCHRONIZED) {
+        Some(LaterPart::Synchronized)
+    } else {
+        None
+    }
+}
+
+fn later_in_methods(methods: &[Method]) -> Option<LaterPart>
+    ensures { result ≡ first_later later_method methods.now }
 {
     for method in methods {
-        if let Some(part) = other_method(main, method) {
+        if let Some(part) = later_method(method) {
             return Some(part);
         }
     }
@@ -310,30 +409,16 @@ fn later_in_codes(methods: &[Method]) -> Option<LaterPart>
     None
 }
 
-// The first part of a class's head, its superclass, interfaces and fields.
-#[tactic(auto, using(crate::proofs::LaterLaws::unless_empty_tells))]
-fn later_in_head(class: &ClassParts) -> Option<LaterPart>
-    ensures { result ≡ later_head class.now }
-{
-    if let Some(part) = later_superclass(&class.superclass) {
-        return Some(part);
-    }
-    if let Some(part) = unless_empty(
-        LaterPart::Interfaces,
-        class.interfaces.as_slice().is_empty(),
-    ) {
-        return Some(part);
-    }
-    unless_empty(LaterPart::Fields, class.fields.as_slice().is_empty())
-}
-
 fn later_in_class(main: bool, class: &ClassParts) -> Option<LaterPart>
     ensures { result ≡ later_class main class.now }
 {
-    if let Some(part) = later_in_head(class) {
+    if let Some(part) = later_superclass(main, &class.superclass) {
         return Some(part);
     }
-    if let Some(part) = later_in_methods(main, class.methods.as_slice()) {
+    if let Some(part) = later_in_fields(class.fields.as_slice()) {
+        return Some(part);
+    }
+    if let Some(part) = later_in_methods(class.methods.as_slice()) {
         return Some(part);
     }
     later_in_codes(class.methods.as_slice())

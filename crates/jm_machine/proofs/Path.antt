@@ -1,25 +1,22 @@
--- What holds of a program that the machine can run: no class has a field or a literal.
+-- What holds of a program that the machine can run: it has no literal, and no static field of its own.
 use Rattle.std.proofs.Common.{◌≡◌, ℕ, List, [], ◌∷◌, ◌++◌, Option, Some, None, Bool, true, false, refl, ap, ◌∙◌}
-use Rattle.std.specs.List.{flat_map}
+use Rattle.std.specs.List.{filter, flat_map}
+use Rattle.jm_program.specs.Flags.{is_static}
 use Rattle.jm_program.specs.declared.class.ClassParts.{ClassParts}
+use Rattle.jm_program.specs.declared.class.Field.{Field}
 use Rattle.jm_program.specs.declared.class.Method.{Method}
 use Rattle.jm_program.specs.declared.code.Code.{Code}
 use Rattle.jm_program.specs.declared.constant.Constant.{Constant}
 use Rattle.jm_program.specs.declared.constant.Constant.TheVariants as constant
 use Rattle.jm_program.specs.declared.instruction.symbolic.Instr.{Instr}
 use Rattle.jm_program.specs.declared.instruction.symbolic.Instr.TheVariants as instr
-use Rattle.jm_world.specs.Loading.{texts_of_instruction, texts_of_method, texts_of_class, literal_texts, distinct_after, statics_of_class, text_of}
-use Rattle.jm_linked.specs.Later.{or_later, first_later, unless_empty, later_instruction, later_code, later_class, later_part, other_method, later_superclass, later_constant}
+use Rattle.jm_world.specs.Loading.{texts_of_field, texts_of_instruction, texts_of_method, texts_of_class, literal_texts, distinct_after, statics_of_class, text_of}
+use Rattle.jm_linked.specs.Later.{first_later, unless_empty, later_use, later_instruction, later_in_code, later_code, later_constant_value, later_declared_field}
+use Rattle.jm_linked.specs.Later.{later_class, later_part, later_constant}
 use Rattle.jm_linked.specs.declared.later.LaterPart.{LaterPart}
 use Rattle.jm_linked.specs.declared.later.LaterPart.TheVariants as later
-
-both_none : (a b : Option LaterPart) → or_later a b ≡ None → (a ≡ None) × (b ≡ None)
-both_none None b e = (refl, e)
-both_none (Some p) b e = cc
-
-is_empty : {A : Type 0} (part : LaterPart) (xs : List A) → unless_empty part xs ≡ None → xs ≡ []
-is_empty part [] e = refl
-is_empty part (x ∷ xs) e = cc
+use Rattle.jm_linked.proofs.Classes.{no_constant}
+use Rattle.jm_linked.proofs.Whole.{IsWholeClass, neither_later, whole_class, whole_main, whole_others}
 
 -- a constant that is no string brings no text
 no_constant : (c : Constant) → later_constant c ≡ None → text_of c ≡ []
@@ -39,11 +36,11 @@ no_text (instr.Invoke op m) e = refl
 no_text (instr.New name) e = refl
 no_text (instr.Type op t) e = refl
 
-no_texts : (is : List Instr) → first_later later_instruction is ≡ None → flat_map texts_of_instruction is ≡ []
+no_texts : (is : List Instr) → first_later later_in_code is ≡ None → flat_map texts_of_instruction is ≡ []
 no_texts [] e = refl
 no_texts (i ∷ is) e =
-    let p = both_none (later_instruction i) (first_later later_instruction is) e in
-    ap (λ xs. xs ++ flat_map texts_of_instruction is) (no_text i p.0) ∙ no_texts is p.1
+    let p = neither_later (later_in_code i) (first_later later_in_code is) e in
+    ap (λ xs. xs ++ flat_map texts_of_instruction is) (no_text i (neither_later (later_use i) (later_instruction i) p.0).1) ∙ no_texts is p.1
 
 code_texts : (o : Option Code) → List (List ℕ)
 code_texts o = elim o [ None ↦ [] | Some code ↦ flat_map texts_of_instruction code.instructions ]
@@ -51,57 +48,66 @@ code_texts o = elim o [ None ↦ [] | Some code ↦ flat_map texts_of_instructio
 no_code_texts : (o : Option Code) → later_code o ≡ None → code_texts o ≡ []
 unfolding code_texts
 no_code_texts None e = refl
-no_code_texts (Some code) e = no_texts code.instructions (both_none (first_later later_instruction code.instructions) (unless_empty later.Handlers code.handlers) e).0
+no_code_texts (Some code) e = no_texts code.instructions (neither_later (first_later later_in_code code.instructions) (unless_empty later.Handlers code.handlers) e).0
 
 no_method_texts : (ms : List Method) → first_later (λ m. later_code m.code) ms ≡ None → flat_map texts_of_method ms ≡ []
 unfolding code_texts
 no_method_texts [] e = refl
 no_method_texts (m ∷ ms) e =
-    let p = both_none (later_code m.code) (first_later (λ m. later_code m.code) ms) e in
+    let p = neither_later (later_code m.code) (first_later (λ m. later_code m.code) ms) e in
     ap (λ xs. xs ++ flat_map texts_of_method ms) (no_code_texts m.code p.0) ∙ no_method_texts ms p.1
 
+-- a field has no constant, so no text, and is not static
+field_text : (f : Field) → later_declared_field f ≡ None → texts_of_field f ≡ []
+field_text f e =
+    ap (λ o. elim o as (λ _. List (List ℕ)) [ None ↦ [] | Some c ↦ elim (is_static f.flags) as (λ _. List (List ℕ)) [ true ↦ text_of c | false ↦ [] ] ])
+    (no_constant f e)
+
+no_field_texts : (fs : List Field) → first_later later_declared_field fs ≡ None → flat_map texts_of_field fs ≡ []
+no_field_texts [] e = refl
+no_field_texts (f ∷ fs) e =
+    let p = neither_later (later_declared_field f) (first_later later_declared_field fs) e in
+    ap (λ xs. xs ++ flat_map texts_of_field fs) (field_text f p.0) ∙ no_field_texts fs p.1
+
+is_no_static : (f : Field) → later_declared_field f ≡ None → is_static f.flags ≡ false
+is_no_static f e = by (is_static f.flags) refl e
+  where
+    by : (b : Bool) → is_static f.flags ≡ b → (elim b as (λ _. Option LaterPart) [ true ↦ Some later.Fields | false ↦ later_constant_value f.constant ]) ≡ None
+        → is_static f.flags ≡ false
+    by true t g = cc
+    by false t g = t
+
+none_static : (fs : List Field) → first_later later_declared_field fs ≡ None → filter (λ f. is_static f.flags) fs ≡ []
+none_static [] e = refl
+none_static (f ∷ fs) e =
+    let p = neither_later (later_declared_field f) (first_later later_declared_field fs) e in
+    rw (is_no_static f p.0) (none_static fs p.1)
+
 -- what holds of each class
-record IsPlain (c : ClassParts) : Type 0 where
-  fields : c.fields ≡ []
-  texts : flat_map texts_of_method c.methods ≡ []
+plain_texts : (main : Bool) (c : ClassParts) → IsWholeClass main c → texts_of_class c ≡ []
+plain_texts main c w = ap (λ xs. xs ++ flat_map texts_of_method c.methods) (no_field_texts c.fields w.fields) ∙ no_method_texts c.methods w.codes
 
-plain_class : (main : Bool) (c : ClassParts) → later_class main c ≡ None → IsPlain c
-plain_class main c e =
-    let a = both_none (later_superclass c.superclass) (or_later (unless_empty later.Interfaces c.interfaces) (or_later (unless_empty later.Fields c.fields) (or_later (first_later (other_method main) c.methods) (first_later (λ m. later_code m.code) c.methods)))) e in
-    let b = both_none (unless_empty later.Interfaces c.interfaces) (or_later (unless_empty later.Fields c.fields) (or_later (first_later (other_method main) c.methods) (first_later (λ m. later_code m.code) c.methods))) a.1 in
-    let f = both_none (unless_empty later.Fields c.fields) (or_later (first_later (other_method main) c.methods) (first_later (λ m. later_code m.code) c.methods)) b.1 in
-    let m = both_none (first_later (other_method main) c.methods) (first_later (λ m. later_code m.code) c.methods) f.1 in
-    record { fields = is_empty later.Fields c.fields f.0; texts = no_method_texts c.methods m.1 }
+plain_statics : (main : Bool) (c : ClassParts) → IsWholeClass main c → statics_of_class c ≡ []
+plain_statics main c w = rw (none_static c.fields w.fields) refl
 
-plain_texts : (c : ClassParts) → IsPlain c → texts_of_class c ≡ []
-plain_texts c p = rw p.fields p.texts
+all_texts : (cs : List ClassParts) → first_later (later_class false) cs ≡ None → flat_map texts_of_class cs ≡ []
+all_texts [] e = refl
+all_texts (c ∷ cs) e =
+    let p = neither_later (later_class false c) (first_later (later_class false) cs) e in
+    ap (λ xs. xs ++ flat_map texts_of_class cs) (plain_texts false c (whole_class false c p.0)) ∙ all_texts cs p.1
 
-plain_statics : (c : ClassParts) → IsPlain c → statics_of_class c ≡ []
-plain_statics c p = rw p.fields refl
-
-all_texts : (main : Bool) (cs : List ClassParts) → first_later (later_class main) cs ≡ None → flat_map texts_of_class cs ≡ []
-all_texts main [] e = refl
-all_texts main (c ∷ cs) e =
-    let p = both_none (later_class main c) (first_later (later_class main) cs) e in
-    ap (λ xs. xs ++ flat_map texts_of_class cs) (plain_texts c (plain_class main c p.0)) ∙ all_texts main cs p.1
-
-all_statics : (main : Bool) (cs : List ClassParts) → first_later (later_class main) cs ≡ None → flat_map statics_of_class cs ≡ []
-all_statics main [] e = refl
-all_statics main (c ∷ cs) e =
-    let p = both_none (later_class main c) (first_later (later_class main) cs) e in
-    ap (λ xs. xs ++ flat_map statics_of_class cs) (plain_statics c (plain_class main c p.0)) ∙ all_statics main cs p.1
+all_statics : (cs : List ClassParts) → first_later (later_class false) cs ≡ None → flat_map statics_of_class cs ≡ []
+all_statics [] e = refl
+all_statics (c ∷ cs) e =
+    let p = neither_later (later_class false c) (first_later (later_class false) cs) e in
+    ap (λ xs. xs ++ flat_map statics_of_class cs) (plain_statics false c (whole_class false c p.0)) ∙ all_statics cs p.1
 
 -- a program without later parts has no literal and no static field of its own
 pub no_literals : (program : List ClassParts) → later_part program ≡ None → literal_texts program ≡ []
-unfolding later_part
 no_literals [] e = refl
 no_literals (c ∷ cs) e =
-    let p = both_none (later_class true c) (first_later (later_class false) cs) e in
-    ap (distinct_after []) (ap (λ xs. xs ++ flat_map texts_of_class cs) (plain_texts c (plain_class true c p.0)) ∙ all_texts false cs p.1)
+    ap (distinct_after []) (ap (λ xs. xs ++ flat_map texts_of_class cs) (plain_texts true c (whole_main c cs e)) ∙ all_texts cs (whole_others c cs e))
 
 pub no_statics : (program : List ClassParts) → later_part program ≡ None → flat_map statics_of_class program ≡ []
-unfolding later_part
 no_statics [] e = refl
-no_statics (c ∷ cs) e =
-    let p = both_none (later_class true c) (first_later (later_class false) cs) e in
-    ap (λ xs. xs ++ flat_map statics_of_class cs) (plain_statics c (plain_class true c p.0)) ∙ all_statics false cs p.1
+no_statics (c ∷ cs) e = ap (λ xs. xs ++ flat_map statics_of_class cs) (plain_statics true c (whole_main c cs e)) ∙ all_statics cs (whole_others c cs e)

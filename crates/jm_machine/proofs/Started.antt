@@ -24,6 +24,7 @@ use Rattle.jm_world.specs.declared.class_state.ClassState.TheVariants.{NotBegun,
 use Rattle.jm_world.specs.declared.stage.Stage.TheVariants.{Begin}
 use Rattle.jm_world.proofs.LoadsWellFormed.{runs_are_well_formed}
 use Rattle.jm_heap.specs.declared.class_id.ClassId.{ClassId}
+use Rattle.jm_linked.proofs.Classes.{main_class}
 use Rattle.jm_linked.specs.Later.{later_part}
 use Rattle.jm_linked.specs.Links.{LinkedView, IsLinked, MethodLinks, name_of_number, name_among, name_in_class, member_name, class_name_of}
 use Rattle.jm_linked.specs.declared.method.LinkedMethod.{LinkedMethod}
@@ -204,7 +205,7 @@ module _ (l : LinkedView) (i : IsLinked l) (none_later : later_part l.program �
     classes = ap length states_is ∙ length-replicate (length l.program) NotBegun;
     not_yet = record {
       program = none_later;
-      threads = (subst ThreadNotYet (sym first_held) (record { object = refl; monitors = (tt, (refl, tt)); initializers = (tt, tt) }), tt);
+      threads = (subst (ThreadNotYet l) (sym first_held) (record { object = refl; frames = (main_class l i, ((refl, refl), tt)); initializers = (tt, tt) }), tt);
       monitors = refl;
       failures = subst (AllByRecursion (λ s. s ≢ Failed)) (sym states_is) (none_failed (length l.program));
     };

@@ -83,7 +83,7 @@ impl<'a, H: Heap> WorldStatics<'a, H> {
         if index >= self.values.len() {
             return None;
         }
-        // a program in which nothing comes later has no fields
+        // a program in which nothing comes later has no static fields
         let value = self.values[index];
         let system = &self.linked.built_ins()[SYSTEM];
         let fields = system.fields.as_slice();

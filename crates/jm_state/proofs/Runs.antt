@@ -15,7 +15,7 @@ use Rattle.jm_linked.specs.Links.{LinkedView}
 use Rattle.jm_state.specs.Parts.{part_of_held, ending_part}
 use Rattle.jm_state.specs.Places.{with_method_holders, stack_frame_shape, rename_stack_frame, HeldThread, held_thread, held_thread_shape, held_monitor_shape}
 use Rattle.jm_state.specs.Places.{with_thread_holders, Holders, holders, holders_shape, erased, OnlyMoved, IsPutBack}
-use Rattle.jm_state.specs.Runnable.{FrameRuns, IsMethodFrame, HoldsNoMonitor, StandOnTop, ThreadRuns, ThreadNotYet, IsRunnable}
+use Rattle.jm_state.specs.Runnable.{FrameRuns, IsMethodFrame, FrameNotYet, StandOnTop, ThreadRuns, ThreadNotYet, IsRunnable}
 use Rattle.jm_state.specs.View.{StateView}
 use Rattle.jm_state.specs.declared.monitor.Monitor.{Monitor}
 use Rattle.jm_state.specs.declared.thread.Ending.{Ending}
@@ -80,9 +80,9 @@ frame_same : (l : LinkedView) (f : StackFrame) → FrameRuns l f ↔ FrameRuns l
 frame_same l (Method f) = (λ r. r, λ r. r)
 frame_same l (Initialization class stage) = (λ r. r, λ r. r)
 
-monitor_same : (f : StackFrame) → HoldsNoMonitor f ↔ HoldsNoMonitor (erased_frame f)
-monitor_same (Method f) = none_same f.monitor
-monitor_same (Initialization class stage) = (λ r. r, λ r. r)
+frame_not_yet : (l : LinkedView) (f : StackFrame) → FrameNotYet l f ↔ FrameNotYet l (erased_frame f)
+frame_not_yet l (Method f) = let free = none_same f.monitor in (λ r. (r.0, free.0 r.1), λ r. (r.0, free.1 r.1))
+frame_not_yet l (Initialization class stage) = (λ r. r, λ r. r)
 
 method_same : (f : StackFrame) → IsMethodFrame f ↔ IsMethodFrame (erased_frame f)
 method_same (Method f) = (λ r. r, λ r. r)
@@ -109,13 +109,13 @@ thread_same l t =
       λ r. record { frames = frames.1 r.frames; few = subst (λ n. n ≤ 512) long r.few },
     )
 
-not_yet_same : (t : HeldThread) → ThreadNotYet t ↔ ThreadNotYet (erase t)
-not_yet_same t =
+not_yet_same : (l : LinkedView) (t : HeldThread) → ThreadNotYet l t ↔ ThreadNotYet l (erase t)
+not_yet_same l t =
     let object = object_same t in
-    let monitors = all_mapped HoldsNoMonitor HoldsNoMonitor erased_frame monitor_same t.frames in
+    let frames = all_mapped (FrameNotYet l) (FrameNotYet l) erased_frame (frame_not_yet l) t.frames in
     let initializers = top_same t.pending t.frames in (
-      λ r. record { object = object.0 r.object; monitors = monitors.0 r.monitors; initializers = initializers.0 r.initializers },
-      λ r. record { object = object.1 r.object; monitors = monitors.1 r.monitors; initializers = initializers.1 r.initializers },
+      λ r. record { object = object.0 r.object; frames = frames.0 r.frames; initializers = initializers.0 r.initializers },
+      λ r. record { object = object.1 r.object; frames = frames.1 r.frames; initializers = initializers.1 r.initializers },
     )
 
 -- what erasing keeps holds of each of two lists of threads that are the same when erased
@@ -151,7 +151,7 @@ runs_alike {l} {old} {new} m r =
       classes = ap length m.classes ∙ r.classes;
       not_yet = record {
         program = r.not_yet.program;
-        threads = each_alike ThreadNotYet not_yet_same (map held_thread old.threads) (map held_thread new.threads) threads r.not_yet.threads;
+        threads = each_alike (ThreadNotYet l) (not_yet_same l) (map held_thread old.threads) (map held_thread new.threads) threads r.not_yet.threads;
         monitors = still_none (held_monitor_shape.rename (λ p. 0)) new.monitors (monitors ∙ ap (map (held_monitor_shape.rename (λ p. 0))) r.not_yet.monitors);
         failures = subst (AllByRecursion (λ s. s ≢ Failed)) (sym m.classes) r.not_yet.failures;
       };

@@ -22,9 +22,10 @@ pub record ThreadRuns (l : LinkedView) (t : HeldThread) : Type 0 where
   pub frames : AllByRecursion (FrameRuns l) t.frames
   pub few : length t.frames ≤ 512
 
-abbrev pub HoldsNoMonitor : StackFrame → Type 0
-HoldsNoMonitor (Method f) = f.monitor ≡ None
-HoldsNoMonitor (Initialization class stage) = Unit {0}
+-- of main, and of no monitor, as no invoke is made yet; of the main class, as no other is initialized
+abbrev pub FrameNotYet : LinkedView → StackFrame → Type 0
+FrameNotYet l (Method f) = (f.method ≡ l.main) × (f.monitor ≡ None)
+FrameNotYet l (Initialization class stage) = class ≡ 0
 
 abbrev pub IsMethodFrame : StackFrame → Type 0
 IsMethodFrame (Method f) = Unit {0}
@@ -37,18 +38,18 @@ StandOnTop pending [] = Unit {0}
 StandOnTop None (f ∷ fs) = AllByRecursion IsMethodFrame fs
 StandOnTop (Some k) (f ∷ fs) = AllByRecursion IsMethodFrame (f ∷ fs)
 
--- what no thread comes to while linking refuses the use of Thread, what takes a monitor, and
--- <clinit>
-pub record ThreadNotYet (t : HeldThread) : Type 0 where
+-- what no thread comes to while linking refuses the use of Thread, invokes, what initializes another
+-- class than main's, and <clinit>
+pub record ThreadNotYet (l : LinkedView) (t : HeldThread) : Type 0 where
   pub object : t.object ≡ None
-  pub monitors : AllByRecursion HoldsNoMonitor t.frames
+  pub frames : AllByRecursion (FrameNotYet l) t.frames
   pub initializers : StandOnTop t.pending t.frames
 
 -- and no state: a program in which nothing comes later is loaded, so that no monitor is held, and
 -- no <clinit> fails its class
 pub record NotYet (l : LinkedView) (s : StateView) : Type 0 where
   pub program : later_part l.program ≡ None
-  pub threads : AllByRecursion ThreadNotYet (map held_thread s.threads)
+  pub threads : AllByRecursion (ThreadNotYet l) (map held_thread s.threads)
   pub monitors : s.monitors ≡ []
   pub failures : AllByRecursion (λ state. state ≢ Failed) s.classes
 
