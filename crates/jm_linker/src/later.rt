@@ -15,8 +15,8 @@ use crate::name::{is_print_stream, is_system};
 use crate::types::letter;
 use jm_linked::{LaterPart, PrintMethod, Printed};
 use jm_program::{
-    AccessFlags, BaseType, Class, ClassParts, ClassRef, Code, Constant, ElementType, Field, FieldOp, FieldRef,
-    FieldType, Instr, InvokeOp, Method, MethodDescriptor, MethodRef, Name,
+    AccessFlags, BaseType, Class, ClassParts, ClassRef, Code, Constant, ElementType, Field,
+    FieldOp, FieldRef, FieldType, Instr, InvokeOp, Method, MethodDescriptor, MethodRef, Name,
 };
 
 fn is_system_ref(class: &ClassRef) -> bool

@@ -36,16 +36,32 @@ linked 1 <= main getstatic java/lang/System/out Ljava/io/PrintStream; / iconst_2
 # methods that are not found; run stands in Thread
 54 NoMethod(f) <= main invokestatic Main/f()V
 55 WrongKind(java/lang/Cloneable) <= main invokevirtual java/lang/Cloneable/f()V
-16 Later(invokevirtual) <= main invokevirtual java/lang/Thread/run()V
+16 Later(java/lang/Thread) <= main invokevirtual java/lang/Thread/run()V
 # constructors are invoked by invokespecial alone
 55 WrongKind(<init>) <= main invokevirtual Main/<init>()V
 54 NoMethod(<init>) <= main invokespecial Main/<init>()V
 # instructions that come later
 16 Later(new) <= main new java/lang/Object
 16 Later(athrow) <= main athrow
-# classes that come later
-16 Later(methods) <= main & .class public A / .super java/lang/Object / .method public f()V / return / .end method
-16 Later(superclass) <= main & .class public A / .super Main / .implements java/lang/Cloneable
+16 Later(athrow) <= main & .class public A / .super java/lang/Object / .method public f()V / aload_0 / athrow / .end method
+# threads come later, by the names of their classes
+16 Later(java/lang/Thread) <= main new java/lang/Thread
+16 Later(java/lang/Thread) <= main aconst_null / instanceof [Ljava/lang/Thread;
+16 Later(java/lang/Thread) <= main & .class public A / .super java/lang/Thread
+16 Later(java/lang/IllegalThreadStateException) <= main & .class public A / .super java/lang/IllegalThreadStateException
+# a main class below another class, initializers, constants, monitors and handlers come later
+16 Later(superclass) <= .class public Main / .super A / .method public static main([Ljava/lang/String;)V / return / .end method & .class A / .super java/lang/Object
+16 Later(<clinit>) <= main & .class public A / .super java/lang/Object / .method static <clinit>()V / return / .end method
+16 Later(ConstantValue) <= main & .class public A / .super java/lang/Object / .field static x I = 1
+16 Later(synchronized) <= main & .class public A / .super java/lang/Object / .method public synchronized f()V / return / .end method
+16 Later(handlers) <= main A: / nop / B: / .catch all from A to B using A
+# several classes, with interfaces, fields and methods of all kinds
+linked 2 <= main & .class public A / .super java/lang/Object / .method public f()V / return / .end method
+linked 1 <= main & .class public A / .super Main / .implements java/lang/Cloneable
+linked 1 <= main & .class public A / .super java/lang/Object / .field x I / .field private y [J / .field z LA;
+linked 1 <= main & .class public abstract A / .super java/lang/Object / .implements I / .method public abstract g()J / .end method & .interface I / .super java/lang/Object / .method public abstract f(I)I / .end method
+linked 3 <= main & .class public B / .super A / .method public f(I)I / iload_1 / ireturn / .end method & .class public A / .super java/lang/Object / .method static f(J)J / .limit stack 2 / .limit locals 2 / lload_0 / lreturn / .end method
+linked 1 <= main & .class public A / .super java/lang/Exception / .field static x I / .field static y Ljava/lang/Thread;
 ";
 
 const HEAD: &str = ".class public Main
@@ -108,6 +124,6 @@ fn programs_link_as_their_rows_say(rt: HostRuntime) -> Result<(), Fail> {
             rows = rows.saturating_add(1);
         }
     }
-    assert!(rt; rows == 25);
+    assert!(rt; rows == 39);
     Ok(())
 }
