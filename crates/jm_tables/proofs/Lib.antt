@@ -1,3 +1,4 @@
+mod ExtentLaws
 mod HierarchyLaws
 mod MethodLaws
 mod PlacingLaws

@@ -8,10 +8,14 @@
 //! `jm_radix`, `jm_program`, `jm_builtins`, `jm_values` and `jm_world`.
 #![tactic(auto)]
 
+mod extent;
 mod hierarchy;
 mod inheritance;
+mod layout;
 mod method_table;
 
+pub use extent::DeclaredFields;
 pub use hierarchy::Hierarchy;
 pub use inheritance::{Declared, Inheritance};
+pub use layout::{FieldNumber, FieldSlot, Layout};
 pub use method_table::MethodTable;
