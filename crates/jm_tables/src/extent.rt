@@ -16,7 +16,7 @@ pub struct DeclaredFields<'a> {
 }
 
 /// How many fields an instance has: inherited ones, and in all.
-#[derive(Debug, Clone, Copy, PartialEq, Eq)]
+#[derive(Clone, Copy)]
 pub struct Extent {
     pub inherited: u32,
     pub size: u32,

@@ -11,7 +11,7 @@ use std::alloc::{AllocError, Global};
 use std::marker::Model;
 
 /// Where a field stands.
-#[derive(Debug, Clone, Copy, PartialEq, Eq)]
+#[derive(Clone, Copy)]
 pub enum FieldSlot {
     /// At this place in each instance, from 0.
     Instance(u32),
@@ -20,14 +20,14 @@ pub enum FieldSlot {
 }
 
 /// A field by its class's number and its own among the fields that the class declares.
-#[derive(Debug, Clone, Copy, PartialEq, Eq)]
+#[derive(Clone, Copy)]
 pub struct FieldNumber {
     pub class: u32,
     pub field: u32,
 }
 
 /// What the layout has of a class.
-#[derive(Debug, Drop)]
+#[derive(Drop)]
 pub struct ClassLayout {
     /// How many fields an instance has, inherited ones included.
     size: u32,
