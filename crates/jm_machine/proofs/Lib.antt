@@ -3,6 +3,7 @@ pub mod Folds
 pub mod Path
 pub mod MainMethod
 pub mod FirstObjects
+pub mod StaticFields
 pub mod Started
 pub mod FirstFrames
 pub mod ClassNumbers

@@ -38,7 +38,9 @@ use Rattle.jm_state.specs.declared.thread.Ending.TheVariants.{Running}
 use Rattle.jm_machine.specs.Start.{HasFirst, stream, arguments, first_frames}
 use Rattle.jm_machine.proofs.FirstObjects.{named}
 use Rattle.jm_machine.proofs.MainMethod.{main_is}
-use Rattle.jm_machine.proofs.Path.{no_literals, no_statics}
+use Rattle.jm_machine.proofs.Path.{no_literals}
+use Rattle.jm_machine.proofs.StaticFields.{first_named, first_refs, first_length}
+use Rattle.jm_machine.specs.StaticFields.{static_values}
 use Rattle.jm_world.specs.Types.{class_type, instance_of}
 
 -- local variables that are not set have no references
@@ -104,15 +106,6 @@ module _ (l : LinkedView) (linked : IsLinked l) where
   frames_are f array e =
       (λ i. initialization_frame (class_named_is i) Begin ∷ method_frame (number_named i) (activation_is f array e i) None ∷ []) ∙ sym model_frames_are
 
--- the one static field
-statics_are : (f : ℕ → ℕ) (out : ℕ) (ss : List Static) → ss ≡ [] → f out ≡ 0 → (list_shape static_shape).rename f (named_statics (record { field = out_field; value = Ref 0 } ∷ ss) (Ref out ∷ [])) ≡ record { field = out_field; value = Ref 0 } ∷ ss
-statics_are f out [] e n = ap (λ (k : ℕ). record { field = out_field; value = Ref k } ∷ []) n
-statics_are f out (s ∷ ss) e n = cc
-
-static_refs : (out : ℕ) (ss : List Static) → ss ≡ [] → (list_shape static_shape).refs (named_statics (record { field = out_field; value = Ref 0 } ∷ ss) (Ref out ∷ [])) ≡ out ∷ []
-static_refs out [] e = refl
-static_refs out (s ∷ ss) e = cc
-
 -- the objects that are reached are the first ones
 objects_are : (program : List ClassParts) (old c : Content ClassId) (out array : ℕ) → HasFirst old c out array → (rest : List Object) → (k : ℕ) → k < 2
     → option_map (as_named (named_type program)) (object_at c k) ≡ slice_get (record { type = instance_of print_stream_class; values = [] } ∷ new_array (class_type string_class) 0 ∷ rest) k
@@ -124,8 +117,8 @@ heap_length : (program : List ClassParts) → literal_texts program ≡ [] → l
 heap_length program e = ap (λ ts. suc (suc (length (objects_from 2 ts)))) e
 
 -- the state from which a run begins
-abbrev pub first_view : ℕ → held.Thread → List ClassState → StateView
-first_view out t states = record { threads = t ∷ []; live = 1; statics = Ref out ∷ []; classes = states; literals = []; monitors = []; output = []; stop = None }
+abbrev pub first_view : List ClassParts → ℕ → held.Thread → List ClassState → StateView
+first_view program out t states = record { threads = t ∷ []; live = 1; statics = Ref out ∷ static_values program; classes = states; literals = []; monitors = []; output = []; stop = None }
 
 -- main's thread, with these frames and nothing else
 pub record IsFirst (l : LinkedView) (t : held.Thread) (array : ℕ) : Type 0 where
@@ -151,11 +144,11 @@ module _ (l : LinkedView) (i : IsLinked l) (none_later : later_part l.program �
   thread_refs : refs_thread (thread_part l t) ≡ array ∷ []
   thread_refs = ap (λ x. refs_thread (part_of_held l x)) first_held ∙ rw (unset_refs (i.main.max_locals - 1)) refl
 
-  places_are : (c : Content ClassId) (states : List ClassState) → places (parts l c (first_view out t states)) ≡ array ∷ out ∷ []
+  places_are : (c : Content ClassId) (states : List ClassState) → places (parts l c (first_view l.program out t states)) ≡ array ∷ out ∷ []
   unfolding parts
   places_are c states =
-      ap (λ xs. ((xs ++ []) ++ (list_shape static_shape).refs (named_statics (first_statics l.program) (Ref out ∷ []))) ++ [] ++ (list_shape literal_shape).refs (named_literals (literal_texts l.program) [])) thread_refs
-      ∙ ap (λ xs. ((array ∷ []) ++ xs) ++ [] ++ (list_shape literal_shape).refs (named_literals (literal_texts l.program) [])) (static_refs out (flat_map statics_of_class l.program) (no_statics l.program none_later))
+      ap (λ xs. ((xs ++ []) ++ (list_shape static_shape).refs (named_statics (first_statics l.program) (Ref out ∷ static_values l.program))) ++ [] ++ (list_shape literal_shape).refs (named_literals (literal_texts l.program) [])) thread_refs
+      ∙ ap (λ xs. ((array ∷ []) ++ xs) ++ [] ++ (list_shape literal_shape).refs (named_literals (literal_texts l.program) [])) (first_refs l.program out)
       ∙ ap (λ ls. ((array ∷ []) ++ (out ∷ [])) ++ [] ++ (list_shape literal_shape).refs ls) (no_named (literal_texts l.program))
 
   both_resident : (c : Content ClassId) → serial_at c array ≡ Some 1 → serial_at c out ≡ Some 0 → AllResident c (array ∷ out ∷ [])
@@ -164,7 +157,7 @@ module _ (l : LinkedView) (i : IsLinked l) (none_later : later_part l.program �
   both_resident c a o p (inr (inr e)) = absurd e
 
   -- it is that of the loaded world
-  pub started : (old c : Content ClassId) (states : List ClassState) → HasFirst old c out array → states ≡ replicate (length l.program) NotBegun → Matches (parts l c (first_view out t states)) (loaded_world l.program old.limit)
+  pub started : (old c : Content ClassId) (states : List ClassState) → HasFirst old c out array → states ≡ replicate (length l.program) NotBegun → Matches (parts l c (first_view l.program out t states)) (loaded_world l.program old.limit)
   unfolding parts loaded_world
   started old c states first states_is =
       let none = no_literals l.program none_later in
@@ -180,7 +173,7 @@ module _ (l : LinkedView) (i : IsLinked l) (none_later : later_part l.program �
         bound = bounded;
         objects = λ k r. let below : k < length (first_objects l.program) = bounded k r in objects_are l.program old c out array first (objects_from 2 (literal_texts l.program)) k (omega (arith, below, long));
         threads = ap (λ x. x ∷ []) (thread_is (name_of c) at_array);
-        statics = statics_are (name_of c) out (flat_map statics_of_class l.program) (no_statics l.program none_later) at_out;
+        statics = first_named l.program out (name_of c) at_out;
         monitors = refl;
         literals = ap ((list_shape literal_shape).rename (name_of c)) (no_named (literal_texts l.program)) ∙ ap (literals_from 2) (sym none);
         program = refl;
@@ -190,7 +183,7 @@ module _ (l : LinkedView) (i : IsLinked l) (none_later : later_part l.program �
       }
 
   -- and it keeps to what every state of a run keeps to
-  pub starts : (states : List ClassState) → states ≡ replicate (length l.program) NotBegun → IsRunnable l (first_view out t states)
+  pub starts : (states : List ClassState) → states ≡ replicate (length l.program) NotBegun → IsRunnable l (first_view l.program out t states)
   starts states states_is = record {
     threads = (
       subst (ThreadRuns l) (sym first_held) (record {
@@ -200,7 +193,7 @@ module _ (l : LinkedView) (i : IsLinked l) (none_later : later_part l.program �
       tt,
     );
     live = ap (λ e. elim (is_running (ending_part l.program e)) as (λ v. ℕ) [ true ↦ 0 + 1 | false ↦ 0 ]) (sym h.ending);
-    statics = ap (λ ss. suc (length ss)) (sym (no_statics l.program none_later));
+    statics = first_length l.program out;
     literals = ap length (sym (no_literals l.program none_later));
     classes = ap length states_is ∙ length-replicate (length l.program) NotBegun;
     not_yet = record {

@@ -1,7 +1,7 @@
 -- What readers tell beside what the world has.
-use Rattle.std.proofs.Common.{None, ◌≡◌, ℕ, zero, suc, ◌<◌, List, [], ◌∷◌, Some, refl, sym, ap, ◌∙◌, subst, length, get_or, arith}
-use Rattle.std.specs.Prelude.{slice_get}
-use Rattle.std.proofs.lemmas.Option.{slice_get_within}
+use Rattle.std.proofs.Common.{None, ◌≡◌, ℕ, zero, suc, ◌<◌, ◌≤◌, List, [], ◌∷◌, Some, refl, sym, ap, ◌∙◌, subst, length, get_or, arith}
+use Rattle.std.specs.Prelude.{map, slice_get}
+use Rattle.std.proofs.lemmas.Option.{slice_get_within, slice_get_past}
 use Rattle.std.proofs.lemmas.List.{length-map}
 use Rattle.jm_program.specs.declared.class.ClassParts.{ClassParts}
 use Rattle.jm_program.specs.declared.class.Field.{Field}
@@ -16,11 +16,11 @@ use Rattle.jm_world.specs.Classes.{name_of_method, method_named}
 use Rattle.jm_values.specs.Content.{Content, IsSound, AllResident, HasValue, serial_at, object_at, name_of}
 use Rattle.jm_world.specs.Loading.{first_statics, out_field}
 use Rattle.jm_world.specs.Matches.{as_named}
+use Rattle.jm_world.specs.Objects.{FieldName}
 use Rattle.jm_values.specs.Objects.{ObjectOf}
 use Rattle.jm_world.specs.Renaming.{static_shape}
 use Rattle.jm_world.specs.World.{Static}
 use Rattle.jm_heap.specs.declared.class_id.ClassId.{ClassId}
-use Rattle.jm_linked.specs.Later.{later_part}
 use Rattle.jm_linked.specs.Links.{LinkedView, IsLinked, MethodLinks, name_of_number, name_among, name_in_class, member_name}
 use Rattle.jm_linked.specs.declared.method.LinkedMethod.{LinkedMethod}
 use Rattle.jm_linked.specs.Named.{named_statics}
@@ -28,7 +28,7 @@ use Rattle.jm_state.specs.Parts.{named_type, program_class_name, name_in_program
 use Rattle.jm_values.proofs.Marking.{object_there}
 use Rattle.jm_values.proofs.SoundContents.{name_is}
 use Rattle.jm_machine.specs.Seen.{object_or_none, object_seen, statics_seen}
-use Rattle.jm_machine.proofs.Path.{no_statics}
+use Rattle.jm_machine.proofs.StaticFields.{static_read}
 use Rattle.jm_machine.proofs.Parted.{among_element}
 
 -- the method of a number
@@ -82,27 +82,23 @@ named_length (s ∷ ss) (v ∷ vs) e = ap suc (named_length ss vs (omega arith))
 pub statics_length : (l : LinkedView) (c : Content ClassId) (vs : List Value) → length vs ≡ length (first_statics l.program) → length (statics_seen l c vs) ≡ length vs
 statics_length l c vs e = length-map (named_statics (first_statics l.program) vs) (static_shape.rename (name_of c)) ∙ named_length (first_statics l.program) vs e
 
-one_static : (f : ℕ → ℕ) (ss : List Static) (vs : List Value) (i : ℕ) (v : Value) → ss ≡ record { field = out_field; value = Ref 0 } ∷ [] → length vs ≡ length ss → slice_get vs i ≡ Some v → slice_get ((list_shape static_shape).rename f (named_statics ss vs)) i ≡ Some (record { field = out_field; value = rename f v })
-one_static f ss vs i v e long g =
-    let few : length vs ≡ 1 = long ∙ ap length e in
-    ap (λ xs. slice_get ((list_shape static_shape).rename f (named_statics xs vs)) i) e ∙ by vs i few g
-  where
-    by : (vs : List Value) (i : ℕ) → length vs ≡ 1 → slice_get vs i ≡ Some v → slice_get ((list_shape static_shape).rename f (named_statics (record { field = out_field; value = Ref 0 } ∷ []) vs)) i ≡ Some (record { field = out_field; value = rename f v })
-    by [] i few g = cc
-    by (x ∷ []) zero few g = let h : x ≡ v = cc in ap (λ (y : Value). Some (record { field = out_field; value = rename f y })) h
-    by (x ∷ []) (suc i) few g = cc
-    by (x ∷ y ∷ vs) i few g = absurd (omega arith)
-
--- the static field is System.out
-module _ (l : LinkedView) (none_later : later_part l.program ≡ None) (c : Content ClassId) (vs : List Value) (long : length vs ≡ length (first_statics l.program)) (i : ℕ) (v : Value) (g : slice_get vs i ≡ Some v) where
+-- a static field that is read, by its number
+module _ (l : LinkedView) (c : Content ClassId) (vs : List Value) (i : ℕ) (v : Value) (g : slice_get vs i ≡ Some v) where
   pub static_resident : AllResident c (stack_shape.refs vs) → AllResident c (refs v)
   static_resident all = λ p a. all p (among_element value_shape vs i v p g a)
 
-  pub static_is : slice_get (statics_seen l c vs) i ≡ Some (record { field = out_field; value = rename (name_of c) v })
-  static_is = one_static (name_of c) (first_statics l.program) vs i v (ap (λ ss. record { field = out_field; value = Ref 0 } ∷ ss) (no_statics l.program none_later)) long g
+  pub static_is : (n : FieldName) → slice_get (map (λ (s : Static). s.field) (first_statics l.program)) i ≡ Some n
+      → slice_get (statics_seen l c vs) i ≡ Some (record { field = n; value = rename (name_of c) v })
+  static_is n e = static_read (name_of c) (first_statics l.program) vs i n v e g
 
-pub out_is : (bs : List BuiltIn) (b : BuiltIn) (fs : List Field) (f : Field) → bs ≡ the_builtins → b ≡ get_or bs 4 b → fs ≡ b.fields → f ≡ get_or fs 0 f → out_field ≡ record { class = b.name; name = f.name; type = f.descriptor }
-out_is bs b fs f e g s h =
-    let system_is : b ≡ system = g ∙ ap (λ xs. get_or xs 4 b) e in
-    let field_is : f ≡ get_or system.fields 0 f = h ∙ ap (λ xs. get_or xs 0 f) (s ∙ ap (λ (x : BuiltIn). x.fields) system_is) in
-    λ i. record { class = (sym system_is i).name; name = (sym field_is i).name; type = (sym field_is i).descriptor }
+past_all : {A : Type 0} (xs : List A) (i : ℕ) → slice_get xs i ≡ None → length xs ≤ i
+past_all [] i e = omega arith
+past_all (x ∷ xs) zero e = cc
+past_all (x ∷ xs) (suc i) e = let rest = past_all xs i e in omega arith
+
+pub none_past : (l : LinkedView) (c : Content ClassId) (vs : List Value) (i : ℕ) → length vs ≡ length (first_statics l.program)
+    → slice_get (map (λ (s : Static). s.field) (first_statics l.program)) i ≡ None → slice_get (statics_seen l c vs) i ≡ None
+none_past l c vs i long e =
+    let past = past_all (map (λ (s : Static). s.field) (first_statics l.program)) i e in
+    slice_get_past (statics_seen l c vs) i
+    (omega (arith, past, long, length-map (first_statics l.program) (λ (s : Static). s.field), statics_length l c vs long))

@@ -2,6 +2,7 @@ pub mod View
 pub mod Collected
 pub mod Threads
 pub mod Answered
+pub mod StaticFields
 pub mod Start
 pub mod MethodFrames
 pub mod Seen

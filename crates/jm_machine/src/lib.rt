@@ -18,6 +18,7 @@ mod load;
 mod machine;
 mod monitor;
 mod object;
+mod static_fields;
 mod statics;
 mod thread;
 mod value;

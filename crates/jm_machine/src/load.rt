@@ -11,6 +11,7 @@ ghost use Rattle.jm_world.specs.declared.class_state.ClassState.TheVariants.{Not
 ghost use Rattle.jm_world.specs.Matches.{Matches};
 
 use crate::fault::OutOfMemory;
+use crate::static_fields::first_values;
 use jm_builtins::BuiltInClass;
 use jm_frames::Frame;
 use jm_heap::{Component, Element, Heap, HeapFault, Roots, Shape};
@@ -126,7 +127,7 @@ pub(crate) fn make_first_state<H: Heap + Drop>(
     ensures loaded { IfOk result (λ state. Matches (state_parts H.content linked.now state) (loaded_world linked.now.program (H.content heap).limit)) }
     ensures runs { IfOk result (λ state. StateRuns linked.now state) }
 {
-    let count = linked.classes().len();
+    let program = linked.classes();
     let first = make_first_objects(alloc, &mut heap)?;
     let frames = make_first_frames(alloc, linked, first.arguments)?;
     let mut threads = Vec::with_capacity(alloc, 1)?;
@@ -136,9 +137,8 @@ pub(crate) fn make_first_state<H: Heap + Drop>(
         pending: None,
         ending: Ending::Running,
     });
-    let mut statics = Vec::with_capacity(alloc, 1)?;
-    statics.push_reserved(Value::Ref(first.out));
-    let classes = not_begun(alloc, count)?;
+    let statics = first_values(alloc, program, first.out)?;
+    let classes = not_begun(alloc, program.len())?;
     Ok(State {
         heap,
         threads,

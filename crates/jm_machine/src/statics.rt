@@ -3,20 +3,17 @@
 ghost use Rattle.std.specs.Prelude.{◌≡◌, None, length, option_map, slice_get};
 ghost use Rattle.jm_values.specs.Rename.{stack_shape};
 ghost use Rattle.jm_values.specs.Content.{AllResident};
-ghost use Rattle.jm_linked.specs.Later.{later_part};
 ghost use Rattle.jm_world.specs.Loading.{first_statics};
 ghost use Rattle.jm_machine.specs.Readers.{model_static};
 ghost use Rattle.jm_machine.specs.Seen.{statics_seen};
 
+use crate::static_fields::static_numbered;
 use crate::value::{WorldValue, world_value};
-use jm_builtins::BuiltInClass;
 use jm_heap::Heap;
 use jm_linked::Linked;
 use jm_program::{FieldType, Name};
 use jm_values::Value;
 use std::marker::Model;
-
-const SYSTEM: usize = BuiltInClass::System as usize;
 
 /// A static field and its value.
 #[derive(Clone, Copy)]
@@ -38,26 +35,23 @@ pub struct WorldStatics<'a, H: Heap> {
 }
 
 impl<'a, H: Heap> Model for WorldStatics<'a, H> {
-    ghost use Rattle.std.specs.Prelude.{◌≡◌, None, List, length};
+    ghost use Rattle.std.specs.Prelude.{◌≡◌, List, length};
     ghost use Rattle.jm_values.specs.Rename.{stack_shape};
     ghost use Rattle.jm_values.specs.Content.{AllResident};
     ghost use Rattle.jm_world.specs.Loading.{first_statics};
     ghost use Rattle.jm_world.specs.World.{Static};
-    ghost use Rattle.jm_linked.specs.Later.{later_part};
     ghost use Rattle.jm_machine.specs.Seen.{statics_seen};
 
     ghost Value = { List Static };
 
     ghost view = { λ s. statics_seen s.linked.now (H.content s.heap.now) s.values.now };
 
-    ghost invariant = { λ s. (length s.values.now ≡ length (first_statics s.linked.now.program)) × AllResident (H.content s.heap.now) (stack_shape.refs s.values.now)
-        × (later_part s.linked.now.program ≡ None) };
+    ghost invariant = { λ s. (length s.values.now ≡ length (first_statics s.linked.now.program)) × AllResident (H.content s.heap.now) (stack_shape.refs s.values.now) };
 }
 
 impl<'a, H: Heap> WorldStatics<'a, H> {
     // The static fields with these values, whose references are places in the heap.
     pub(crate) fn new(heap: &'a H, linked: &'a Linked, values: &'a [Value]) -> WorldStatics<'a, H>
-        requires not_later { later_part linked.now.program ≡ None }
         requires many { length values.now ≡ length (first_statics linked.now.program) }
         requires resident { AllResident (H.content heap.now) (stack_shape.refs values.now) }
         ensures { result ≡ statics_seen linked.now (H.content heap.now) values.now }
@@ -83,15 +77,14 @@ impl<'a, H: Heap> WorldStatics<'a, H> {
         if index >= self.values.len() {
             return None;
         }
-        // a program in which nothing comes later has no static fields
+        let Some(found) = static_numbered(self.linked, index) else {
+            return None;
+        };
         let value = self.values[index];
-        let system = &self.linked.built_ins()[SYSTEM];
-        let fields = system.fields.as_slice();
-        let out = &fields[0];
         Some(WorldStatic {
-            class: &system.name,
-            name: &out.name,
-            descriptor: &out.descriptor,
+            class: found.class,
+            name: &found.field.name,
+            descriptor: &found.field.descriptor,
             value: world_value(self.heap, value),
         })
     }

@@ -1,4 +1,4 @@
-use Rattle.std.proofs.Common.{refl, [], None, sym, subst}
+use Rattle.std.proofs.Common.{refl, [], ◌∷◌, None, sym, ap, ◌∙◌, subst}
 use Rattle.jm_values.specs.declared.value.Value.TheVariants.{Ref}
 use Rattle.jm_world.specs.Loading.{loaded_world}
 use Rattle.jm_world.specs.Matches.{Matches}
@@ -6,6 +6,7 @@ use Rattle.jm_state.specs.Parts.{parts}
 use Rattle.jm_state.specs.Runnable.{IsRunnable}
 use Rattle.jm_state.specs.declared.thread.Ending.TheVariants.{Running}
 use Rattle.jm_state.specs.declared.thread.Thread as held
+use Rattle.jm_machine.specs.StaticFields.{static_values}
 use Rattle.jm_machine.proofs.Folds.{pushed}
 use Rattle.jm_machine.proofs.Started.{started, starts, has_room, counted}
 use Rattle.jm_machine.proofs.load.make_first_state.Goals as goal
@@ -19,12 +20,12 @@ returns-clause-loaded g c =
     let first = c.in_ok-first.first in
     let t : held.Thread = record { object = None; frames = c.in_ok-frames.frames; pending = None; ending = Running } in
     let threads = pushed c.in_ok-threads.threads.items c.push_reserved.new.self.items [] t c.push_reserved.ensures.items c.in_ok-threads.ensures.items in
-    let statics = pushed c.in_ok-statics.statics.items c.push_reserved-2.new.self.items [] (Ref first.out) c.push_reserved-2.ensures.items c.in_ok-statics.ensures.items in
+    let statics = c.in_ok-statics.ensures ∙ ap (λ cs. Ref first.out ∷ static_values cs) c.classes-program.ensures.classes in
     let states = c.in_ok-classes.classes.items in
     subst (λ v. Matches (parts l (g.H.Heap.content c.make_first_objects.new.heap) v) (loaded_world l.program (g.H.Heap.content c.args.heap).limit))
     (λ j. record { threads = sym threads j; live = 1; statics = sym statics j; classes = states; literals = sym c.new.ensures.items j; monitors = sym c.new-2.ensures.items j; output = sym c.new-3.ensures.items j; stop = None })
-    (started l c.classes-count.ensures.linked c.requires.not_later first.out first.arguments t (record { object = refl; frames = c.in_ok-frames.ensures; pending = refl; ending = refl }) _ _ states c.in_ok-first.ensures
-    (counted c.classes-count.result.now l.program states c.in_ok-classes.ensures c.classes-count.ensures.classes))
+    (started l c.classes-program.ensures.linked c.requires.not_later first.out first.arguments t (record { object = refl; frames = c.in_ok-frames.ensures; pending = refl; ending = refl }) _ _ states c.in_ok-first.ensures
+    (counted c.classes-program.result.now l.program states c.in_ok-classes.ensures c.classes-program.ensures.classes))
 
 pub returns-clause-runs : goal.returns-clause-runs
 returns-clause-runs g c =
@@ -32,9 +33,9 @@ returns-clause-runs g c =
     let first = c.in_ok-first.first in
     let t : held.Thread = record { object = None; frames = c.in_ok-frames.frames; pending = None; ending = Running } in
     let threads = pushed c.in_ok-threads.threads.items c.push_reserved.new.self.items [] t c.push_reserved.ensures.items c.in_ok-threads.ensures.items in
-    let statics = pushed c.in_ok-statics.statics.items c.push_reserved-2.new.self.items [] (Ref first.out) c.push_reserved-2.ensures.items c.in_ok-statics.ensures.items in
+    let statics = c.in_ok-statics.ensures ∙ ap (λ cs. Ref first.out ∷ static_values cs) c.classes-program.ensures.classes in
     let states = c.in_ok-classes.classes.items in
     subst (IsRunnable l)
     (λ j. record { threads = sym threads j; live = 1; statics = sym statics j; classes = states; literals = sym c.new.ensures.items j; monitors = sym c.new-2.ensures.items j; output = sym c.new-3.ensures.items j; stop = None })
-    (starts l c.classes-count.ensures.linked c.requires.not_later first.out first.arguments t (record { object = refl; frames = c.in_ok-frames.ensures; pending = refl; ending = refl }) states
-    (counted c.classes-count.result.now l.program states c.in_ok-classes.ensures c.classes-count.ensures.classes))
+    (starts l c.classes-program.ensures.linked c.requires.not_later first.out first.arguments t (record { object = refl; frames = c.in_ok-frames.ensures; pending = refl; ending = refl }) states
+    (counted c.classes-program.result.now l.program states c.in_ok-classes.ensures c.classes-program.ensures.classes))

@@ -7,9 +7,6 @@ use Rattle.jm_machine.specs.View.{MatchesWorld}
 use Rattle.jm_machine.proofs.Reading.{statics_read, statics_resident}
 use Rattle.jm_machine.proofs.machine.Machine.statics.Goals as goal
 
-pub new-requires-clause-not_later : goal.new-requires-clause-not_later
-new-requires-clause-not_later g c = c.self.invariant.runs.not_yet.program
-
 pub new-requires-clause-resident : goal.new-requires-clause-resident
 new-requires-clause-resident g c =
     let s = c.self.inside.state in
