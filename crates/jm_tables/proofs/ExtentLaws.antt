@@ -33,9 +33,10 @@ extent_more (suc n) classes class e h = (h.0, h.1, h.2, by (λ s above i. extent
 with_own : (d : DeclaredFields) (o : Option ℕ) (e : Extent) → option_map (λ k. let it : Extent = record { inherited = k; size = k + own_count d.fields.now } in it) o ≡ Some e
     → (o ≡ Some e.inherited) × (e.size ≡ e.inherited + own_count d.fields.now)
 with_own d None e h = cc
-with_own d (Some k) e h = let same : ◌≡◌ {A = Extent} (record { inherited = k; size = k + own_count d.fields.now }) e = cc in
-    (ap (λ (x : Extent). Some x.inherited) same,
-    sym (ap (λ (x : Extent). x.size) same) ∙ ap (λ (x : Extent). x.inherited + own_count d.fields.now) same)
+with_own d (Some k) e h = let same : ◌≡◌ {A = Extent} (record { inherited = k; size = k + own_count d.fields.now }) e = cc in (
+  ap (λ (x : Extent). Some x.inherited) same,
+  sym (ap (λ (x : Extent). x.size) same) ∙ ap (λ (x : Extent). x.inherited + own_count d.fields.now) same,
+)
 
 above_known : (n : ℕ) (classes : List DeclaredFields) (extents : List (Option Extent)) (s : ℕ) (o : Option Extent) (k : ℕ)
     → ((e : Extent) → o ≡ Some e → IsExtent n classes s e) → option_map (λ (above : Extent). above.size) o ≡ Some k

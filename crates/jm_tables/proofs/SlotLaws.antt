@@ -32,8 +32,10 @@ slots_push place number (g ∷ fs) f =
         → slots_from (place + 1) number (fs ++ f ∷ []) ≡ slots_from (place + 1) number fs ++ slot_behind (place + 1) number fs t ∷ []
         → (elim s as (λ _. List FieldSlot) [ true ↦ Static number ∷ slots_from place (number + 1) (fs ++ f ∷ []) | false ↦ Instance place ∷ slots_from (place + 1) number (fs ++ f ∷ []) ])
         ≡ (elim s as (λ _. List FieldSlot) [ true ↦ Static number ∷ slots_from place (number + 1) fs | false ↦ Instance place ∷ slots_from (place + 1) number fs ])
-        ++ (elim t as (λ _. FieldSlot) [ true ↦ Static (number + length (cond s (g ∷ filter (λ f. is_static f.flags) fs) (filter (λ f. is_static f.flags) fs)))
-        | false ↦ Instance (place + length (cond (not s) (g ∷ filter (λ f. not (is_static f.flags)) fs) (filter (λ f. not (is_static f.flags)) fs))) ]) ∷ []
+        ++ (elim t as (λ _. FieldSlot) [
+          | true ↦ Static (number + length (cond s (g ∷ filter (λ f. is_static f.flags) fs) (filter (λ f. is_static f.flags) fs)))
+          | false ↦ Instance (place + length (cond (not s) (g ∷ filter (λ f. not (is_static f.flags)) fs) (filter (λ f. not (is_static f.flags)) fs)))
+        ]) ∷ []
     by true true e h =
         let more : number + 1 + length (filter (λ f. is_static f.flags) fs) ≡ number + suc (length (filter (λ f. is_static f.flags) fs)) = omega arith in
         ap (λ xs. Static number ∷ xs) (e ∙ ap (λ n. slots_from place (number + 1) fs ++ Static n ∷ []) more)
@@ -170,9 +172,10 @@ slot_found place number (g ∷ fs) (suc i) f e =
     by : (s t : Bool) → slice_get (slots_from place (number + 1) fs) i ≡ Some (slot_behind place (number + 1) (take i fs) t)
         → slice_get (slots_from (place + 1) number fs) i ≡ Some (slot_behind (place + 1) number (take i fs) t)
         → slice_get (elim s as (λ _. List FieldSlot) [ true ↦ Static number ∷ slots_from place (number + 1) fs | false ↦ Instance place ∷ slots_from (place + 1) number fs ]) (suc i)
-        ≡ Some (elim t as (λ _. FieldSlot)
-        [ true ↦ Static (number + length (cond s (g ∷ filter (λ f. is_static f.flags) (take i fs)) (filter (λ f. is_static f.flags) (take i fs))))
-        | false ↦ Instance (place + length (cond (not s) (g ∷ filter (λ f. not (is_static f.flags)) (take i fs)) (filter (λ f. not (is_static f.flags)) (take i fs)))) ])
+        ≡ Some (elim t as (λ _. FieldSlot) [
+          | true ↦ Static (number + length (cond s (g ∷ filter (λ f. is_static f.flags) (take i fs)) (filter (λ f. is_static f.flags) (take i fs))))
+          | false ↦ Instance (place + length (cond (not s) (g ∷ filter (λ f. not (is_static f.flags)) (take i fs)) (filter (λ f. not (is_static f.flags)) (take i fs))))
+        ])
     by true true e h =
         let more : number + 1 + length (filter (λ f. is_static f.flags) (take i fs)) ≡ number + suc (length (filter (λ f. is_static f.flags) (take i fs))) = omega arith in
         e ∙ ap (λ n. Some (Static n)) more

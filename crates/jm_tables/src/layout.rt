@@ -107,7 +107,13 @@ fn lay_out(
         let Some(extent) = extent_at(extents, class) else {
             return Ok(None);
         };
-        let slots = slots_of(alloc, &mut statics, class, extent.inherited, declared.fields)?;
+        let slots = slots_of(
+            alloc,
+            &mut statics,
+            class,
+            extent.inherited,
+            declared.fields,
+        )?;
         rows.push(ClassLayout {
             size: extent.size,
             slots,

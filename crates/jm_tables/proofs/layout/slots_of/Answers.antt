@@ -10,14 +10,14 @@ pub loop-index-preserved : goal.loop-index-preserved
 loop-index-preserved c =
     elim c.if-has.branch [
       | then-has+in-Ok-Ok+in_ok-push+in_ok-push-2 w ↦
-        are_slots _ _ _ _ _ _ _ _ _ _ _
+          are_slots _ _ _ _ _ _ _ _ _ _ _
           (ap (λ (v : Vec FieldSlot Global). v.items) w.slots-is ∙ w.in_ok-push.ensures.items)
           (ap (λ (v : Vec FieldNumber Global). v.items) w.statics-is ∙ w.in_ok-push-2.ensures.items)
           w.place-is
           (static_more _ _ _ _ _ _ _ _ c.index-fields-index.result _ _ c.loop-index-test.true c.index-fields-index.is (sym w.if-has.ensures) c.loop-index.invariant
           (w.in-Ok-Ok.ensures.1 ∙ w.len.ensures ∙ c.loop-index.statics.ok.0) w.in-Ok-Ok.ensures'.1)
       | else-has+in_ok-push-3+in_ok-place w ↦
-        are_slots _ _ _ _ _ _ _ _ _ _ _
+          are_slots _ _ _ _ _ _ _ _ _ _ _
           (ap (λ (v : Vec FieldSlot Global). v.items) w.slots-is ∙ w.in_ok-push-3.ensures.items)
           (ap (λ (v : Vec FieldNumber Global). v.items) w.statics-is)
           w.place-is
