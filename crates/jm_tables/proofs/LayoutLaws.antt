@@ -1,11 +1,12 @@
 -- What is laid out is what the model says.
-use Rattle.std.proofs.Common.{◌≡◌, ℕ, zero, suc, ◌+◌, ◌<◌, ◌≤◌, List, [], ◌∷◌, ◌++◌, Option, Some, None, Bool, true, false, length, take, drop, reverse, map, not, get_or}
+use Rattle.std.proofs.Common.{◌≡◌, ℕ, zero, suc, ◌+◌, ◌<◌, ◌≤◌, ◌⊎◌, inl, inr, List, [], ◌∷◌, ◌++◌, Option, Some, None, Bool, true, false, length, take, drop, reverse, map, not, get_or}
 use Rattle.std.proofs.Common.{refl, sym, ◌∙◌, ap, subst, arith, slice_get, append-nil, length-append, nat_eq, eqb-true, take_all}
 use Rattle.std.specs.Prelude.{option_map}
+use Rattle.std.proofs.lemmas.Bool.{cases_lt}
 use Rattle.std.specs.List.{filter, flat_map}
 use Rattle.std.proofs.lemmas.List.{map-append, length-map}
 use Rattle.std.proofs.lemmas.List.Concat.{flat_map-append}
-use Rattle.std.proofs.lemmas.Option.{slice_get_within}
+use Rattle.std.proofs.lemmas.Option.{slice_get_within, slice_get_past, same_Some}
 use Rattle.jm_program.specs.Names.{same_text}
 use Rattle.jm_program.specs.Flags.{is_static}
 use Rattle.jm_program.specs.declared.class.ClassParts.{ClassParts}
@@ -27,6 +28,7 @@ use Rattle.jm_tables.specs.Extents.{own_count, IsExtent, AreExtents}
 use Rattle.jm_tables.specs.Layouts.{LayoutView, DeclaresFields, AreFields, IsFieldNumber, IsLaidOut, IsLayout, IsRow, StandsInChain, classes_of, slot_at, size_at, slots_from, static_fields, statics_among, statics_of}
 use Rattle.jm_tables.specs.Numbering.{name_of}
 use Rattle.jm_tables.proofs.ExtentLaws.{extent_more}
+use Rattle.jm_tables.proofs.ListedLaws.{listed_at, listed_found, slots_long}
 use Rattle.jm_tables.proofs.PlaceLaws.{text_of_same, fields_down, fields_are, as_many_names, place_right, place_up, AreOthers, not_in_others, named_field, own_place, static_names, static_place}
 use Rattle.jm_tables.proofs.SlotLaws.{slot_behind, slot_found, statics_counted}
 
@@ -291,6 +293,47 @@ module _ (program : List ClassParts) (names : List (List ℕ)) (classes : List D
         let p = are.each class row.declared row.declared_is in
         ap (λ fs. slice_get fs i) (p.fields ∙ ap (λ (c : ClassParts). c.fields) (sym (class_at class row.declared row.declared_is found.class at.class_is))) ∙ at.field_is
 
+    slot_listed : (class i n : ℕ) → slot_at layout class i ≡ Some (Static n) → slice_get layout.statics n ≡ Some (record { class = class; field = i })
+    slot_listed class i n e = by (cases_lt class (length classes)) e
+      where
+        of_slot : (place number : ℕ) (fs : List Field) (b : Bool) → slot_behind place number fs b ≡ Static n
+            → (b ≡ true) × (number + length (filter (λ f. is_static f.flags) fs) ≡ n)
+        of_slot place number fs true h = (refl, (let same : Static (number + length (filter (λ f. is_static f.flags) fs)) ≡ Static n = h in cc))
+        of_slot place number fs false h = cc
+
+        by : (class < length classes) ⊎ (length classes ≤ class) → slot_at layout class i ≡ Some (Static n)
+            → slice_get layout.statics n ≡ Some (record { class = class; field = i })
+        by (inl less) e =
+            let row = laid.rows class less in
+            let slots = slots_from row.extent.inherited (length (statics_of 0 (take class classes))) row.declared.fields.now in
+            let at : slice_get slots i ≡ Some (Static n) = sym (ap (λ o. elim o as (λ _. Option FieldSlot) [ None ↦ None | Some c ↦ slice_get c.slots i ]) row.row) ∙ e in
+            let f = there row.declared.fields.now i (omega (arith, slice_get_within slots i (Static n) at,
+            slots_long row.extent.inherited (length (statics_of 0 (take class classes))) row.declared.fields.now)) in
+            let found = slot_found row.extent.inherited (length (statics_of 0 (take class classes))) row.declared.fields.now i f.0 f.1 in
+            let same : slot_behind row.extent.inherited (length (statics_of 0 (take class classes))) (take i row.declared.fields.now) (is_static f.0.flags) ≡ Static n =
+            same_Some _ _ (sym found ∙ at) in
+            let parts = of_slot row.extent.inherited (length (statics_of 0 (take class classes))) (take i row.declared.fields.now) (is_static f.0.flags) same in
+            ap (λ xs. slice_get xs n) laid.statics ∙ ap (slice_get (statics_of 0 classes)) (sym parts.1)
+            ∙ listed_at 0 classes class row.declared i f.0 row.declared_is f.1 parts.0
+            ∙ (let zero_is : 0 + class ≡ class = omega arith in ap (λ k. Some (record { class = k; field = i })) zero_is)
+        by (inr past) e =
+            let none : slice_get layout.classes class ≡ None = slice_get_past layout.classes class (omega (arith, past, laid.many)) in
+            let no_slot : None ≡ Some (Static n) = sym (ap (λ o. elim o as (λ _. Option FieldSlot) [ None ↦ None | Some c ↦ slice_get c.slots i ]) none) ∙ e in cc
+
+    listed_slot : (class i n : ℕ) → slice_get layout.statics n ≡ Some (record { class = class; field = i }) → slot_at layout class i ≡ Some (Static n)
+    listed_slot class i n e =
+        let a = listed_found 0 classes n (record { class = class; field = i }) (sym (ap (λ xs. slice_get xs n) laid.statics) ∙ e) in
+        let at : a.k ≡ class = (let h = a.class_is in omega (arith, h)) in
+        let is : slice_get classes class ≡ Some a.declared = ap (slice_get classes) (sym at) ∙ a.declared_is in
+        let less : class < length classes = slice_get_within classes class a.declared is in
+        let row = laid.rows class less in
+        let same : a.declared ≡ row.declared = same_Some _ _ (sym is ∙ row.declared_is) in
+        slot_known class i less a.field (ap (λ (d : DeclaredFields). slice_get d.fields.now i) (sym same) ∙ a.field_is)
+        ∙ ap (λ b. Some (slot_behind row.extent.inherited (length (statics_of 0 (take class classes))) (take i row.declared.fields.now) b)) a.static
+        ∙ ap (λ m. Some (Static m))
+        (sym (a.number ∙ ap (λ k. length (statics_of 0 (take k classes)) + length (filter (λ f. is_static f.flags) (take i a.declared.fields.now))) at
+        ∙ ap (λ (d : DeclaredFields). length (statics_of 0 (take class classes)) + length (filter (λ f. is_static f.flags) (take i d.fields.now))) same))
+
     pub is_layout : IsLayout program names layout
     is_layout = record {
       sizes = λ class small.
@@ -326,4 +369,5 @@ module _ (program : List ClassParts) (names : List (List ℕ)) (classes : List D
           ∙ ap (λ b. Some (slot_behind row.extent.inherited (length (statics_of 0 (take class classes))) (take i row.declared.fields.now) b)) static
           ∙ ap (option_map Static) (sym (ap (λ c. place_of_field (static_fields program) (named_field c found.field)) same
           ∙ place_among_statics class row.declared row.declared_is i found.field at_row static));
+      listed = λ class i n. (slot_listed class i n, listed_slot class i n);
     }

@@ -1,6 +1,7 @@
 mod ExtentLaws
 mod HierarchyLaws
 mod LayoutLaws
+mod ListedLaws
 mod MethodLaws
 mod PlaceLaws
 mod PlacingLaws

@@ -1,5 +1,5 @@
 -- Where the fields of a program's classes stand (JVMS 2.5.3, 2.7, 5.5).
-use Rattle.std.specs.Prelude.{◌≡◌, ℕ, zero, suc, ◌+◌, ◌<◌, List, [], ◌∷◌, ◌++◌, map, Option, Some, None, IfSome, true, false, length, not, option_map, slice_get, slice_index_or, take}
+use Rattle.std.specs.Prelude.{◌≡◌, ◌↔◌, ℕ, zero, suc, ◌+◌, ◌<◌, List, [], ◌∷◌, ◌++◌, map, Option, Some, None, IfSome, true, false, length, not, option_map, slice_get, slice_index_or, take}
 use Rattle.std.specs.List.{filter}
 use Rattle.jm_program.specs.Flags.{is_static}
 use Rattle.jm_program.specs.declared.class.ClassParts.{ClassParts}
@@ -112,3 +112,5 @@ pub record IsLayout (program : List ClassParts) (names : List (List ℕ)) (layou
   -- of a static field
   pub numbers : (class field : ℕ) (found : FoundField) → IsFieldNumber program class field found → is_static found.field.flags ≡ true
       → slot_at layout class field ≡ option_map Static (place_of_field (static_fields program) (name_of_field found))
+  -- of which each stands in the list of static fields under its number, and no others
+  pub listed : (class field n : ℕ) → slot_at layout class field ≡ Some (Static n) ↔ slice_get layout.statics n ≡ Some (record { class = class; field = field })
