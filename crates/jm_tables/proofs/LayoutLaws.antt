@@ -37,7 +37,7 @@ short_drop zero cs = omega arith
 short_drop (suc k) [] = omega arith
 short_drop (suc k) (c ∷ cs) = omega (arith, short_drop k cs)
 
-there : {A : Type 0} → (xs : List A) (n : ℕ) → n < length xs → (x : A) × (slice_get xs n ≡ Some x)
+pub there : {A : Type 0} → (xs : List A) (n : ℕ) → n < length xs → (x : A) × (slice_get xs n ≡ Some x)
 there [] n h = absurd (omega (arith, h))
 there (x ∷ xs) zero h = (x, refl)
 there (x ∷ xs) (suc n) h = there xs n (omega (arith, h))
@@ -70,10 +70,10 @@ static_fields_are program =
 
 module _ (program : List ClassParts) (names : List (List ℕ)) (classes : List DeclaredFields) (are : AreFields program names classes) where
   -- the classes from a class up, over at most so many
-  abbrev up : ℕ → ℕ → List ClassParts
+  abbrev pub up : ℕ → ℕ → List ClassParts
   up n class = up_from n program (name_of names class)
 
-  abbrev rest : ℕ → Option ℕ → List ClassParts
+  abbrev pub rest : ℕ → Option ℕ → List ClassParts
   rest n None = []
   rest n (Some s) = up n s
 
@@ -87,7 +87,7 @@ module _ (program : List ClassParts) (names : List (List ℕ)) (classes : List D
   above_of n None inherited h = h
   above_of n (Some s) inherited h = h
 
-  up_one : (n class : ℕ) (d : DeclaredFields) (is : slice_get classes class ≡ Some d)
+  pub up_one : (n class : ℕ) (d : DeclaredFields) (is : slice_get classes class ≡ Some d)
       → up (suc n) class ≡ (are.each class d is).parts ∷ rest n d.superclass
   up_one n class d is =
       let p = are.each class d is in
@@ -200,7 +200,7 @@ module _ (program : List ClassParts) (names : List (List ℕ)) (classes : List D
       ∙ ap (λ k. Some (k + own_count (take i d.fields.now))) count
 
   -- the classes by number, with their names
-  class_at : (class : ℕ) (d : DeclaredFields) (is : slice_get classes class ≡ Some d) (c : ClassParts) → slice_get (classes_of program) class ≡ Some c
+  pub class_at : (class : ℕ) (d : DeclaredFields) (is : slice_get classes class ≡ Some d) (c : ClassParts) → slice_get (classes_of program) class ≡ Some c
       → c ≡ (are.each class d is).parts
   class_at class d is c at = let p = are.each class d is in let same : Some c ≡ Some p.parts = sym at ∙ p.numbered in cc
 
@@ -224,7 +224,7 @@ module _ (program : List ClassParts) (names : List (List ℕ)) (classes : List D
       = omega (arith, own, later) in sum)
       ∙ sym (length-append (static_names c) (flat_map static_names (take k cs)))
 
-  class_within : (class : ℕ) (c : ClassParts) → slice_get (classes_of program) class ≡ Some c → class < length classes
+  pub class_within : (class : ℕ) (c : ClassParts) → slice_get (classes_of program) class ≡ Some c → class < length classes
   class_within class c at =
       let long = length-append (map as_class the_builtins) program in
       let many = length-map the_builtins as_class in
@@ -307,8 +307,11 @@ module _ (program : List ClassParts) (names : List (List ℕ)) (classes : List D
             let row = laid.rows class less in
             let slots = slots_from row.extent.inherited (length (statics_of 0 (take class classes))) row.declared.fields.now in
             let at : slice_get slots i ≡ Some (Static n) = sym (ap (λ o. elim o as (λ _. Option FieldSlot) [ None ↦ None | Some c ↦ slice_get c.slots i ]) row.row) ∙ e in
-            let f = there row.declared.fields.now i (omega (arith, slice_get_within slots i (Static n) at,
-            slots_long row.extent.inherited (length (statics_of 0 (take class classes))) row.declared.fields.now)) in
+            let f = there row.declared.fields.now i (omega (
+              arith,
+              slice_get_within slots i (Static n) at,
+              slots_long row.extent.inherited (length (statics_of 0 (take class classes))) row.declared.fields.now,
+            )) in
             let found = slot_found row.extent.inherited (length (statics_of 0 (take class classes))) row.declared.fields.now i f.0 f.1 in
             let same : slot_behind row.extent.inherited (length (statics_of 0 (take class classes))) (take i row.declared.fields.now) (is_static f.0.flags) ≡ Static n =
             same_Some _ _ (sym found ∙ at) in

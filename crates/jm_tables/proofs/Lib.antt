@@ -1,5 +1,7 @@
+mod ChainLaws
 mod ExtentLaws
 mod HierarchyLaws
+mod InstanceLaws
 mod LayoutLaws
 mod ListedLaws
 mod MethodLaws

@@ -31,8 +31,10 @@ among_at class k [] i f e t = cc
 among_at class k (g ∷ fs) zero f e t =
     let same : g ≡ f = (let some : Some g ≡ Some f = e in cc) in
     let first : k ≡ k + 0 = omega arith in
-    ap (λ b. slice_get (elim b as (λ _. List FieldNumber) [ true ↦ record { class = class; field = k } ∷ statics_among class (k + 1) fs
-    | false ↦ statics_among class (k + 1) fs ]) 0) (ap (λ (x : Field). is_static x.flags) same ∙ t)
+    ap (λ b. slice_get (elim b as (λ _. List FieldNumber) [
+      | true ↦ record { class = class; field = k } ∷ statics_among class (k + 1) fs
+      | false ↦ statics_among class (k + 1) fs
+    ]) 0) (ap (λ (x : Field). is_static x.flags) same ∙ t)
     ∙ ap (λ n. Some (record { class = class; field = n })) first
 among_at class k (g ∷ fs) (suc i) f e t =
     by (is_static g.flags) (among_at class (k + 1) fs i f e t ∙ (let next : k + 1 + i ≡ k + suc i = omega arith in ap (λ n. Some (record { class = class; field = n })) next))

@@ -46,7 +46,7 @@ as_many_names c [] = refl
 as_many_names c (f ∷ fs) = ap suc (as_many_names c fs)
 
 -- one further
-abbrev further : Option ℕ → Option ℕ
+abbrev pub further : Option ℕ → Option ℕ
 further o = elim o as (λ _. Option ℕ) [ None ↦ None | Some i ↦ Some (i + 1) ]
 
 pub place_left : (xs ys : List FieldName) (g : FieldName) (k : ℕ) → place_of_field xs g ≡ Some k → place_of_field (xs ++ ys) g ≡ Some k
@@ -121,7 +121,7 @@ place_up cs zero g p e = e
 place_up [] (suc k) g p e = e
 place_up (c ∷ cs) (suc k) g p e = place_left (fields_down cs) (own_instance_fields c) g p (place_up cs k g p e)
 
-same_type_refl : (t : FieldType) → same_type t t ≡ true
+pub same_type_refl : (t : FieldType) → same_type t t ≡ true
 same_type_refl t = both (nat_eq t.dimensions t.dimensions) (same_element t.element t.element) (nat_eq_equiv.refl t.dimensions) (of t.element)
   where
     of : (e : ElementType) → same_element e e ≡ true
@@ -156,13 +156,21 @@ apart_from seen (g ∷ fs) (suc i) f none e =
     later true h = cc
     later false h = h
 
-first_apart : (seen fs : List Field) (g : Field) (i : ℕ) (f : Field) → duplicate_fields (g ∷ seen) fs ≡ None → slice_get fs i ≡ Some f
+pub first_apart : (seen fs : List Field) (g : Field) (i : ℕ) (f : Field) → duplicate_fields (g ∷ seen) fs ≡ None → slice_get fs i ≡ Some f
     → (same_text g.name f.name && same_type g.descriptor f.descriptor) ≡ false
 first_apart seen fs g i f none e = by (same_text g.name f.name && same_type g.descriptor f.descriptor) (apart_from (g ∷ seen) fs i f none e)
   where
     by : (t : Bool) → is_some (elim t as (λ _. Option Field) [ true ↦ Some g | false ↦ field_in seen f.name f.descriptor ]) ≡ false → t ≡ false
     by true h = cc
     by false h = refl
+
+-- and none among the rest
+pub rest_apart : (seen : List Field) (g : Field) (fs : List Field) → duplicate_fields seen (g ∷ fs) ≡ None → duplicate_fields (g ∷ seen) fs ≡ None
+rest_apart seen g fs none = by (is_some (field_in seen g.name g.descriptor)) none
+  where
+    by : (t : Bool) → or_else (when t (duplicate_member g.name)) (duplicate_fields (g ∷ seen) fs) ≡ None → duplicate_fields (g ∷ seen) fs ≡ None
+    by true n = cc
+    by false n = n
 
 abbrev pub named_field : ClassParts → Field → FieldName
 named_field c f = record { class = c.name; name = f.name; type = f.descriptor }

@@ -1,13 +1,14 @@
 -- Where the fields of a program's classes stand (JVMS 2.5.3, 2.7, 5.5).
-use Rattle.std.specs.Prelude.{◌≡◌, ◌↔◌, ℕ, zero, suc, ◌+◌, ◌<◌, List, [], ◌∷◌, ◌++◌, map, Option, Some, None, IfSome, true, false, length, not, option_map, slice_get, slice_index_or, take}
+use Rattle.std.specs.Prelude.{◌≡◌, ◌↔◌, ◌⊎◌, ℕ, zero, suc, ◌+◌, ◌<◌, List, [], ◌∷◌, ◌++◌, map, Option, Some, None, IfSome, true, false, length, not, option_map, slice_get, slice_index_or, take}
 use Rattle.std.specs.List.{filter}
 use Rattle.jm_program.specs.Flags.{is_static}
+use Rattle.jm_program.specs.Names.{same_text}
 use Rattle.jm_program.specs.declared.class.ClassParts.{ClassParts}
 use Rattle.jm_program.specs.declared.class.Field.{Field}
 use Rattle.jm_builtins.specs.List.{the_builtins}
 use Rattle.jm_world.specs.Classes.{FoundField, as_class, class_named}
 use Rattle.jm_world.specs.Fields.{name_of_field}
-use Rattle.jm_world.specs.Hierarchy.{chain}
+use Rattle.jm_world.specs.Hierarchy.{chain, holds_of_any, is_subclass}
 use Rattle.jm_world.specs.Loading.{first_statics}
 use Rattle.jm_world.specs.Loads.{duplicate_fields}
 use Rattle.jm_world.specs.Objects.{FieldName, instance_fields, place_of_field}
@@ -101,6 +102,11 @@ pub record IsFieldNumber (program : List ClassParts) (class field : ℕ) (found 
 -- a class stands in the chain of another: it is the other or one of its superclasses
 abbrev pub StandsInChain : List ClassParts → List ℕ → ClassParts → Type 0
 StandsInChain program below c = (k : ℕ) × (slice_get (chain program below) k ≡ Some c)
+
+-- a class of the chain is the other one, or names an interface that has it above itself
+abbrev pub IsAlong : List ClassParts → List ℕ → List ℕ → Type 0
+IsAlong program name above = (k : ℕ) × (c : ClassParts) × (slice_get (chain program name) k ≡ Some c)
+    × ((same_text c.name above ≡ true) ⊎ (holds_of_any (λ i. is_subclass program i above) c.interfaces ≡ true))
 
 -- a layout has the model's sizes, places and numbers
 pub record IsLayout (program : List ClassParts) (names : List (List ℕ)) (layout : LayoutView) : Type 0 where

@@ -11,11 +11,13 @@
 mod extent;
 mod hierarchy;
 mod inheritance;
+mod laws;
 mod layout;
 mod method_table;
 
 pub use extent::DeclaredFields;
 pub use hierarchy::Hierarchy;
 pub use inheritance::{Declared, Inheritance};
+pub use laws::{above_along_the_chain, one_field_a_place, statics_by_number};
 pub use layout::{FieldNumber, FieldSlot, Layout};
 pub use method_table::MethodTable;
