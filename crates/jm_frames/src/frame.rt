@@ -139,6 +139,27 @@ impl Frame {
         Ok(())
     }
 
+    /// Pops so many operands, or all where there are fewer.
+    #[inline]
+    pub fn drop_operands(&mut self, count: usize)
+        ensures { self.new ≡ with_stack self.old (drop count self.old.activation.stack) }
+    {
+        for _popped in 0..count {
+            let _ = self.pop();
+        }
+    }
+
+    /// Puts an operand in the place of so many that are on top, where `max_stack` has room for it
+    /// (JVMS 2.6.2).
+    #[inline]
+    pub fn replace(&mut self, count: usize, value: Value)
+        requires { units (value ∷ drop count self.old.activation.stack) ≤ self.old.activation.max_stack }
+        ensures { self.new ≡ with_stack self.old (value ∷ drop count self.old.activation.stack) }
+    {
+        self.drop_operands(count);
+        self.put(value);
+    }
+
     /// Whether `max_stack` has room for so many more units (JVMS 2.6.2).
     #[inline]
     pub fn has_room(&self, more: usize) -> bool
