@@ -9,6 +9,10 @@ pub mod Thrown
 pub mod Ended
 pub mod PlainRow
 pub mod PushRow
+pub mod Replaced
+pub mod OnTop
+pub mod MadeOnTop
+pub mod ArrayRows
 pub mod ReturnRow
 pub mod Arguments
 pub mod PrintRow

@@ -25,6 +25,7 @@ module _ {H : Type 0} {content : H → Content ClassId} {at : At} {old : State H
     pub object_is : object_at (content old.heap) serial ≡ Some object
     pub in_world : (w : World) → Matches (parts_at content at old) w
         → slice_get w.heap (name_of (content old.heap) place) ≡ Some (as_named (named_type at.linked.now.program) object)
+    pub reached : (w : World) → Matches (parts_at content at old) w → Reach (slice_get w.heap) (roots w) (name_of (content old.heap) place)
 
   pub object_of : (place : ℕ) → Among place (places (parts_at content at old)) → IsObject place
   unfolding parts
@@ -33,15 +34,16 @@ module _ {H : Type 0} {content : H → Content ClassId} {at : At} {old : State H
       let named = as_named (named_type at.linked.now.program) in
       let k = h.beside.matches.resident place inside in
       let o = object_of_place c place k.0 k.1 in
+      let stands : (w : World) → Matches (parts_at content at old) w → Reach (slice_get w.heap) (roots w) (name_of c place) = λ w m.
+      (place_stands (parts_at content at old) w m (Reach (slice_get w.heap) (roots w)) (reach_shared (parts_at content at old) w m) place inside).1 in
       record {
         serial = k.0;
         object = o.0;
         serial_is = k.1;
         object_is = o.1;
+        reached = stands;
         in_world = λ w m.
-            let reached =
-            (place_stands (parts_at content at old) w m (Reach (slice_get w.heap) (roots w)) (reach_shared (parts_at content at old) w m) place inside).1 in
-            sym (m.objects (name_of c place) reached)
+            sym (m.objects (name_of c place) (stands w m))
             ∙ ap (λ j. option_map named (object_at c j)) (name_is c place k.0 k.1)
             ∙ ap (option_map named) o.1;
       }

@@ -6,3 +6,5 @@ pub mod Pushing
 pub mod Returned
 pub mod Printing
 pub mod Tops
+pub mod TopObject
+pub mod ArrayRows

@@ -16,6 +16,7 @@
 //! `jm_ops` and `jm_heap`'s trait.
 #![tactic(auto)]
 
+mod arrays;
 mod at;
 mod built_in_methods;
 mod class_number;
@@ -31,6 +32,7 @@ mod stepping;
 mod text;
 mod throwing;
 mod top_frame;
+mod top_object;
 mod unwinding;
 
 pub use stages::{init_stage, unwind_stage};

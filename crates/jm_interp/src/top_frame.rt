@@ -1,12 +1,16 @@
 // The top frame of a thread, where a method runs.
 
-ghost use Rattle.std.specs.Prelude.{◌≡◌};
+ghost use Rattle.std.specs.Prelude.{◌≡◌, ◌+◌, ◌<◌, ◌≤◌, ◌^◌, ◌∷◌, List, drop};
+ghost use Rattle.jm_frames.specs.FrameView.{FrameView, with_stack, gone_to};
 ghost use Rattle.jm_frames.specs.Made.{outcome};
 ghost use Rattle.jm_ops.specs.Flows.{flow_outcome};
 ghost use Rattle.jm_ops.specs.SingleFrame.{IsOrdered};
+ghost use Rattle.jm_values.specs.Activation.{units};
 ghost use Rattle.jm_values.specs.Constants.{push_constant};
 ghost use Rattle.jm_values.specs.PlainRows.{row_plain};
-ghost use Rattle.jm_interp.specs.Standing.{RunsMethod, MayGoOn, InAnyMethod};
+ghost use Rattle.jm_state.specs.declared.thread.StackFrame.{StackFrame};
+ghost use Rattle.jm_state.specs.declared.thread.StackFrame.TheVariants.{Method};
+ghost use Rattle.jm_interp.specs.Standing.{ThreadRest, Stands, RunsMethod, MayGoOn, InAnyMethod};
 ghost use Rattle.jm_interp.specs.Stepped.{IsStepped};
 
 use jm_frames::Frame;
@@ -63,6 +67,27 @@ pub(crate) fn push_top(thread: &mut Thread, value: Value) -> Result<(), TagFault
             }
             Err(fault) => Err(fault),
         },
+        StackFrame::Initialization { class: _, stage: _ } => unreachable!(),
+    }
+}
+
+/// Puts a value in the place of so many operands on top of the top frame, where `max_stack` has room
+/// for it, and goes on.
+#[inline]
+pub(crate) fn replace_top(thread: &mut Thread, count: usize, value: Value)
+    requires { (f : FrameView) × (below : List StackFrame) × (r : ThreadRest) × Stands thread.old (Method f ∷ below) r × (f.activation.at + 1 < 2 ^ 64)
+        × (units (value ∷ drop count f.activation.stack) ≤ f.activation.max_stack) }
+    ensures { InAnyMethod thread.old (λ f below.
+        Stands thread.new (Method (gone_to (with_stack f (value ∷ drop count f.activation.stack)) (f.activation.at + 1)) ∷ below)) }
+{
+    let Some(top) = thread.frames.last_mut() else {
+        unreachable!();
+    };
+    match top {
+        StackFrame::Method(frame) => {
+            frame.replace(count, value);
+            frame.go_on();
+        }
         StackFrame::Initialization { class: _, stage: _ } => unreachable!(),
     }
 }

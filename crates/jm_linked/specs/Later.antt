@@ -15,6 +15,8 @@ use Rattle.jm_program.specs.declared.descriptor.BaseType.{BaseType}
 use Rattle.jm_program.specs.declared.descriptor.BaseType.TheVariants as base
 use Rattle.jm_program.specs.declared.descriptor.ElementType.{ElementType}
 use Rattle.jm_program.specs.declared.descriptor.ElementType.TheVariants.{Base, Class}
+use Rattle.jm_program.specs.declared.instruction.operation.ArrayOp.{ArrayOp}
+use Rattle.jm_program.specs.declared.instruction.operation.ArrayOp.TheVariants.{Store}
 use Rattle.jm_program.specs.declared.instruction.operation.FieldOp.{FieldOp}
 use Rattle.jm_program.specs.declared.instruction.operation.FieldOp.TheVariants.{GetStatic}
 use Rattle.jm_program.specs.declared.instruction.operation.InvokeOp.{InvokeOp}
@@ -80,6 +82,11 @@ later_constant (constant.Int n) = None
 later_constant (constant.Long n) = None
 later_constant (constant.String units) = Some later.StringConstant
 
+-- the stores into arrays
+abbrev pub later_array : ArrayOp → Option LaterPart
+later_array (Store kind) = Some (later.Array (Store kind))
+later_array _ = None
+
 abbrev pub later_field : FieldOp → FieldRef → Option LaterPart
 later_field GetStatic f = elim (is_system_out f) [ true ↦ None | false ↦ Some (later.Field GetStatic) ]
 later_field op f = Some (later.Field op)
@@ -91,7 +98,7 @@ later_invoke op m = Some (later.Invoke op)
 -- an instruction that cannot be run yet
 abbrev pub later_instruction : Instr → Option LaterPart
 later_instruction (instr.Plain op) = None
-later_instruction (instr.Array op) = Some (later.Array op)
+later_instruction (instr.Array op) = later_array op
 later_instruction (instr.Return op) = None
 later_instruction instr.Throw = Some later.Throw
 later_instruction (instr.Monitor op) = Some (later.Monitor op)

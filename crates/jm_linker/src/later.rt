@@ -1,7 +1,7 @@
 // The parts of a program that the machine cannot run yet.
 
 ghost use Rattle.std.specs.Prelude.{◌≡◌, [], ◌∷◌, None, Some, cond, false};
-ghost use Rattle.jm_linked.specs.Later.{is_class_called, is_system_out, base_type, printed_type, print_name, print_parameters, is_print, print_among, print_methods, later_constant, later_field, later_invoke, later_instruction};
+ghost use Rattle.jm_linked.specs.Later.{is_class_called, is_system_out, base_type, printed_type, print_name, print_parameters, is_print, print_among, print_methods, later_constant, later_array, later_field, later_invoke, later_instruction};
 ghost use Rattle.jm_linked.specs.Later.{later_name, later_element, later_class_ref, later_use, later_in_code, first_later, later_code, is_main_method};
 ghost use Rattle.jm_linked.specs.Later.{later_main_superclass, later_other_superclass, later_superclass, later_constant_value, later_declared_field, later_method};
 ghost use Rattle.jm_linked.specs.Later.{later_class, later_part};
@@ -15,8 +15,9 @@ use crate::name::{is_print_stream, is_system};
 use crate::types::letter;
 use jm_linked::{LaterPart, PrintMethod, Printed};
 use jm_program::{
-    AccessFlags, BaseType, Class, ClassParts, ClassRef, Code, Constant, ElementType, Field,
-    FieldOp, FieldRef, FieldType, Instr, InvokeOp, Method, MethodDescriptor, MethodRef, Name,
+    AccessFlags, ArrayOp, BaseType, Class, ClassParts, ClassRef, Code, Constant, ElementType,
+    Field, FieldOp, FieldRef, FieldType, Instr, InvokeOp, Method, MethodDescriptor, MethodRef,
+    Name,
 };
 
 fn is_system_ref(class: &ClassRef) -> bool
@@ -165,6 +166,15 @@ fn later_constant(constant: &Constant) -> Option<LaterPart>
     }
 }
 
+fn later_array(op: ArrayOp) -> Option<LaterPart>
+    ensures { result ≡ later_array op }
+{
+    match op {
+        ArrayOp::Store(_) => Some(LaterPart::Array(op)),
+        _ => None,
+    }
+}
+
 fn later_field(op: FieldOp, field: &FieldRef) -> Option<LaterPart>
     ensures { result ≡ later_field op field.now }
 {
@@ -197,7 +207,7 @@ fn later_instruction(instruction: &Instr) -> Option<LaterPart>
 {
     match instruction {
         Instr::Plain(_) | Instr::Return(_) => None,
-        Instr::Array(op) => Some(LaterPart::Array(*op)),
+        Instr::Array(op) => later_array(*op),
         Instr::Throw => Some(LaterPart::Throw),
         Instr::Monitor(op) => Some(LaterPart::Monitor(*op)),
         Instr::Constant(constant) => later_constant(constant),
