@@ -1,5 +1,6 @@
 -- Texts by number, with one more text.
-use Rattle.std.proofs.Common.{◌≡◌, ℕ, zero, suc, ◌+◌, ◌<◌, ◌⊎◌, inl, inr, Bool, true, false, cond, ◌&&◌, List, [], ◌∷◌, ◌++◌, Option, Some, None, length, get_or, take}
+use Rattle.std.proofs.Common.{◌≡◌, ℕ, zero, suc, ◌+◌, ◌<◌, ◌⊎◌, inl, inr, Bool, true, false, cond, ◌&&◌, List, [], ◌∷◌, ◌++◌, Option, Some, None, length}
+use Rattle.std.proofs.Common.{get_or, take}
 use Rattle.std.proofs.Common.{refl, sym, ap, subst, ◌∙◌, arith, slice_get, append_assoc, append-nil, nat_eq, eq-eqb, eqb-true}
 use Rattle.std.specs.Prelude.{is_some}
 use Rattle.std.specs.List.{flat_map}
@@ -42,7 +43,8 @@ there_by_number (x ∷ ts) t = by (same_text x t) (there_by_number ts t)
     shifted (Some n) = refl
 
     by : (b : Bool) → has_text t ts ≡ is_some (number_of_text ts t)
-        → (elim b as (λ _. Bool) [ true ↦ true | false ↦ has_text t ts ]) ≡ is_some (elim b as (λ _. Option ℕ) [ true ↦ Some 0 | false ↦ next (number_of_text ts t) ])
+        → (elim b as (λ _. Bool) [ true ↦ true | false ↦ has_text t ts ])
+        ≡ is_some (elim b as (λ _. Option ℕ) [ true ↦ Some 0 | false ↦ next (number_of_text ts t) ])
     by true e = refl
     by false e = e ∙ shifted (number_of_text ts t)
 
@@ -88,7 +90,8 @@ numbers_more ts new t key n old now same at more absent updates h = λ q.
     kept None = refl
     kept (Some k) = refl
 
-    by : (q : Bor (List ℕ)) (b : Bool) → same_text t q.now ≡ b → get by_units now q ≡ first (number_of_text ts q.now) (cond (same_text t q.now) (Some (length ts)) None)
+    by : (q : Bor (List ℕ)) (b : Bool) → same_text t q.now ≡ b
+        → get by_units now q ≡ first (number_of_text ts q.now) (cond (same_text t q.now) (Some (length ts)) None)
     by q true e =
         let none : number_of_text ts q.now ≡ None = ap (number_of_text ts) (sym (text_of_same t q.now e)) ∙ absent_here in
         updates q ∙ ap (λ b. cond b (Some n) (get by_units old q)) (tied q ∙ e) ∙ ap Some at
@@ -183,12 +186,13 @@ apart_more ts t apart = by (has_text t ts) (there_by_number ts t)
   where
     by : (b : Bool) → b ≡ is_some (number_of_text ts t) → AreApart (elim b as (λ _. List (List ℕ)) [ true ↦ ts | false ↦ ts ++ t ∷ [] ])
     by true e = apart
-    by false e = λ n q at. number_push ts t q ∙ elim (last_or_before ts t q n at) as (λ _. first (number_of_text ts q) (cond (same_text t q) (Some (length ts)) None) ≡ Some n) [
-      | inl h ↦ ap (λ o. first o (cond (same_text t q) (Some (length ts)) None)) (apart n q h)
-      | inr h ↦ ap (λ x. first (number_of_text ts x) (cond (same_text t x) (Some (length ts)) None)) (sym h.1)
-          ∙ ap (λ o. first o (cond (same_text t t) (Some (length ts)) None)) (none_of (number_of_text ts t) (sym e))
-          ∙ ap (λ b. cond b (Some (length ts)) None) (nat_list_eq_equiv.refl t) ∙ ap Some (sym h.0)
-    ]
+    by false e = λ n q at. number_push ts t q ∙ elim (last_or_before ts t q n at) as (λ _. first (number_of_text ts q) (cond (same_text t q) (Some
+        (length ts)) None) ≡ Some n) [
+          | inl h ↦ ap (λ o. first o (cond (same_text t q) (Some (length ts)) None)) (apart n q h)
+          | inr h ↦ ap (λ x. first (number_of_text ts x) (cond (same_text t x) (Some (length ts)) None)) (sym h.1)
+              ∙ ap (λ o. first o (cond (same_text t t) (Some (length ts)) None)) (none_of (number_of_text ts t) (sym e))
+              ∙ ap (λ b. cond b (Some (length ts)) None) (nat_list_eq_equiv.refl t) ∙ ap Some (sym h.0)
+        ]
 
 all_apart : (ts xs : List (List ℕ)) → AreApart ts → AreApart (with_texts ts xs)
 all_apart ts [] apart = apart

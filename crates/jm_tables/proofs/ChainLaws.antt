@@ -11,18 +11,21 @@ use Rattle.jm_tables.specs.Layouts.{AreFields, IsAlong}
 use Rattle.jm_tables.specs.Numbering.{name_of}
 use Rattle.jm_tables.proofs.LayoutLaws.{there, up_one, rest}
 
-any_more : (test more : List ℕ → Bool) → ((x : List ℕ) → test x ≡ true → more x ≡ true) → (xs : List (List ℕ)) → holds_of_any test xs ≡ true → holds_of_any more xs ≡ true
+any_more : (test more : List ℕ → Bool) → ((x : List ℕ) → test x ≡ true → more x ≡ true) → (xs : List (List ℕ)) → holds_of_any test xs ≡ true
+    → holds_of_any more xs ≡ true
 any_more test more h [] e = cc
 any_more test more h (x ∷ xs) e = by (test x) (more x) (h x) (any_more test more h xs) e
   where
     by : (s t : Bool) → (s ≡ true → t ≡ true) → (holds_of_any test xs ≡ true → holds_of_any more xs ≡ true)
-        → (elim s as (λ _. Bool) [ true ↦ true | false ↦ holds_of_any test xs ]) ≡ true → (elim t as (λ _. Bool) [ true ↦ true | false ↦ holds_of_any more xs ]) ≡ true
+        → (elim s as (λ _. Bool) [ true ↦ true | false ↦ holds_of_any test xs ]) ≡ true
+        → (elim t as (λ _. Bool) [ true ↦ true | false ↦ holds_of_any more xs ]) ≡ true
     by s true k later e = refl
     by false false k later e = later e
     by true false k later e = let no : false ≡ true = k refl in cc
 
 -- more steps up find what fewer find
-below_more_steps : (program : List ClassParts) (n m : ℕ) (name above : List ℕ) → n ≤ m → is_below n program name above ≡ true → is_below m program name above ≡ true
+below_more_steps : (program : List ClassParts) (n m : ℕ) (name above : List ℕ) → n ≤ m → is_below n program name above ≡ true
+    → is_below m program name above ≡ true
 below_more_steps program zero m name above l e = cc
 below_more_steps program (suc n) zero name above l e = absurd (omega (arith, l))
 below_more_steps program (suc n) (suc m) name above l e =
@@ -31,7 +34,8 @@ below_more_steps program (suc n) (suc m) name above l e =
     (parents (class_named program name))) e
   where
     by : (t : Bool)
-        → (holds_of_any (λ p. is_below n program p above) (parents (class_named program name)) ≡ true → holds_of_any (λ p. is_below m program p above) (parents (class_named program name)) ≡ true)
+        → (holds_of_any (λ p. is_below n program p above) (parents (class_named program name)) ≡ true
+        → holds_of_any (λ p. is_below m program p above) (parents (class_named program name)) ≡ true)
         → (elim t as (λ _. Bool) [ true ↦ true | false ↦ holds_of_any (λ p. is_below n program p above) (parents (class_named program name)) ]) ≡ true
         → (elim t as (λ _. Bool) [ true ↦ true | false ↦ holds_of_any (λ p. is_below m program p above) (parents (class_named program name)) ]) ≡ true
     by true h e = refl
@@ -42,7 +46,8 @@ module _ (program : List ClassParts) (names : List (List ℕ)) (classes : List D
   Along cs = (k : ℕ) × (c : ClassParts) × (slice_get cs k ≡ Some c)
       × ((same_text c.name above ≡ true) ⊎ (holds_of_any (λ i. is_subclass program i above) c.interfaces ≡ true))
 
-  along : (n class : ℕ) → n ≤ height program → class < length names → is_below n program (name_of names class) above ≡ true → Along (up_from n program (name_of names class))
+  along : (n class : ℕ) → n ≤ height program → class < length names → is_below n program (name_of names class) above ≡ true
+      → Along (up_from n program (name_of names class))
   unfolding is_subclass
   along zero class l less e = cc
   along (suc n) class l less e =
@@ -50,7 +55,10 @@ module _ (program : List ClassParts) (names : List (List ℕ)) (classes : List D
       let p = are.each class d.0 d.1 in
       subst Along (sym (up_one program names classes are n class d.0 d.1))
       (by p.parts p.name d.0.superclass (λ s within h. along n s (omega (arith, l)) within h) p.within (same_text (name_of names class) above) refl
-      (sym (ap (λ o. elim (same_text (name_of names class) above) as (λ _. Bool) [ true ↦ true | false ↦ holds_of_any (λ q. is_below n program q above) (parents o) ]) p.named
+      (sym (ap (λ o. elim (same_text (name_of names class) above) as (λ _. Bool) [
+        | true ↦ true
+        | false ↦ holds_of_any (λ q. is_below n program q above) (parents o)
+      ]) p.named
       ∙ ap (λ o. elim (same_text (name_of names class) above) as (λ _. Bool)
       [ true ↦ true | false ↦ holds_of_any (λ q. is_below n program q above) (option_to_list o ++ p.parts.interfaces) ]) (sym p.superclass)) ∙ e))
     where
@@ -66,7 +74,11 @@ module _ (program : List ClassParts) (names : List (List ℕ)) (classes : List D
       by : (c : ClassParts) → c.name ≡ name_of names class → (s : Option ℕ)
           → ((k : ℕ) → k < length names → is_below n program (name_of names k) above ≡ true → Along (up_from n program (name_of names k)))
           → IfSome s (λ k. k < length names) → (t : Bool) → same_text (name_of names class) above ≡ t
-          → (elim t as (λ _. Bool) [ true ↦ true | false ↦ holds_of_any (λ q. is_below n program q above) (option_to_list (option_map (name_of names) s) ++ c.interfaces) ]) ≡ true
+          → (elim t as (λ _. Bool) [
+            | true ↦ true
+            | false ↦ holds_of_any (λ q. is_below n program q above) (option_to_list (option_map
+                (name_of names) s) ++ c.interfaces)
+          ]) ≡ true
           → Along (c ∷ rest program names classes are n s)
       by c name s later within true t e = (0, c, refl, inl (ap (λ m. same_text m above) name ∙ t))
       by c name None later within false t e = interface c [] e

@@ -30,7 +30,8 @@ extent_more (suc n) classes class e h = (h.0, h.1, h.2, by (λ s above i. extent
     by more (Some s) i = (i.0, more s i.0 i.1, i.2)
 
 -- what comes to what is inherited
-with_own : (d : DeclaredFields) (o : Option ℕ) (e : Extent) → option_map (λ k. let it : Extent = record { inherited = k; size = k + own_count d.fields.now } in it) o ≡ Some e
+with_own : (d : DeclaredFields) (o : Option ℕ) (e : Extent)
+    → option_map (λ k. let it : Extent = record { inherited = k; size = k + own_count d.fields.now } in it) o ≡ Some e
     → (o ≡ Some e.inherited) × (e.size ≡ e.inherited + own_count d.fields.now)
 with_own d None e h = cc
 with_own d (Some k) e h = let same : ◌≡◌ {A = Extent} (record { inherited = k; size = k + own_count d.fields.now }) e = cc in (
@@ -72,10 +73,12 @@ extents_more i classes extents class d e long known is found = λ k x at. by k x
     by : (k : ℕ) (x : Extent) → get_or (set extents class (Some e)) k None ≡ Some x → (t : Bool) → nat_eq k class ≡ t → IsExtent (i + 1) classes k x
     by k x at true is_class =
         let same : k ≡ class = eqb-true k class is_class in
-        let here : Some e ≡ Some x = sym (get_or-set_same extents class (Some e) None within) ∙ ap (λ j. get_or (set extents class (Some e)) j None) (sym same) ∙ at in
+        let here : Some e ≡ Some x = sym (get_or-set_same extents class (Some e) None within)
+        ∙ ap (λ j. get_or (set extents class (Some e)) j None) (sym same) ∙ at in
         let it : e ≡ x = cc in
         subst (λ n. IsExtent n classes k x) (sym next)
-        (subst (λ j. IsExtent (suc i) classes j x) (sym same) (subst (IsExtent (suc i) classes class) it (extent_found i classes extents class d e known is found)))
+        (subst (λ j. IsExtent (suc i) classes j x) (sym same) (subst (IsExtent (suc i) classes class) it
+        (extent_found i classes extents class d e known is found)))
     by k x at false is_other =
         let ne : k ≢ class = λ same. let t = eq-eqb k class same in cc in
         subst (λ n. IsExtent n classes k x) (sym next)

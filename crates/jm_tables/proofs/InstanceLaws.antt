@@ -74,7 +74,8 @@ one_name (g ∷ gs) x y p e h = by (λ q a b. one_name gs x y q a b) (same_field
     deeper None f = cc
     deeper (Some k) f = (k, refl, (let some : Some (k + 1) ≡ Some p = f in cc))
 
-    by : ((q : ℕ) → place_of_field gs x ≡ Some q → place_of_field gs y ≡ Some q → IsSame x y) → (s : Bool) → same_field g x ≡ s → (t : Bool) → same_field g y ≡ t
+    by : ((q : ℕ) → place_of_field gs x ≡ Some q → place_of_field gs y ≡ Some q → IsSame x y) → (s : Bool) → same_field g x ≡ s → (t : Bool)
+        → same_field g y ≡ t
         → (elim s as (λ _. Option ℕ) [ true ↦ Some 0 | false ↦ further (place_of_field gs x) ]) ≡ Some p
         → (elim t as (λ _. Option ℕ) [ true ↦ Some 0 | false ↦ further (place_of_field gs y) ]) ≡ Some p → IsSame x y
     by later true a true b e h =
@@ -118,7 +119,8 @@ one_index seen (x ∷ fs) (suc i) (suc j) f g none e h n t = ap suc (one_index (
 module _ (program : List ClassParts) (names : List (List ℕ)) (classes : List DeclaredFields) (layout : LayoutView) (are : AreFields program names classes)
     (is : IsLayout program names layout) where
   -- the place of an instance field in the model
-  model_place : (a i below place : ℕ) (f : FoundField) → IsFieldNumber program a i f → below < length names → StandsInChain program (name_of names below) f.class
+  model_place : (a i below place : ℕ) (f : FoundField) → IsFieldNumber program a i f → below < length names
+      → StandsInChain program (name_of names below) f.class
       → slot_at layout a i ≡ Some (Instance place) → place_of_field (instance_fields program (name_of names below)) (name_of_field f) ≡ Some place
   model_place a i below place f at small stands e = by (is_static f.field.flags) refl
     where
@@ -132,7 +134,8 @@ module _ (program : List ClassParts) (names : List (List ℕ)) (classes : List D
 
       by : (t : Bool) → is_static f.field.flags ≡ t → place_of_field (instance_fields program (name_of names below)) (name_of_field f) ≡ Some place
       by true t = absurd (static (place_of_field (static_fields program) (name_of_field f)) (sym (is.numbers a i f at t) ∙ e))
-      by false t = instance (place_of_field (instance_fields program (name_of names below)) (name_of_field f)) (sym (is.places a i below f at t small stands) ∙ e)
+      by false t = instance (place_of_field (instance_fields program (name_of names below)) (name_of_field f)) (sym (is.places a i below f at t small stands)
+          ∙ e)
 
   pub one_place : (a i b j below place : ℕ) (f g : FoundField) → IsFieldNumber program a i f → IsFieldNumber program b j g → below < length names
       → StandsInChain program (name_of names below) f.class → StandsInChain program (name_of names below) g.class

@@ -1,5 +1,6 @@
 -- What is laid out is what the model says.
-use Rattle.std.proofs.Common.{◌≡◌, ℕ, zero, suc, ◌+◌, ◌<◌, ◌≤◌, ◌⊎◌, inl, inr, List, [], ◌∷◌, ◌++◌, Option, Some, None, Bool, true, false, length, take, drop, reverse, map, not, get_or}
+use Rattle.std.proofs.Common.{◌≡◌, ℕ, zero, suc, ◌+◌, ◌<◌, ◌≤◌, ◌⊎◌, inl, inr, List, [], ◌∷◌, ◌++◌, Option, Some, None, Bool, true, false, length, take, drop}
+use Rattle.std.proofs.Common.{reverse, map, not, get_or}
 use Rattle.std.proofs.Common.{refl, sym, ◌∙◌, ap, subst, arith, slice_get, append-nil, length-append, nat_eq, eqb-true, take_all}
 use Rattle.std.specs.Prelude.{option_map}
 use Rattle.std.proofs.lemmas.Bool.{cases_lt}
@@ -25,11 +26,13 @@ use Rattle.jm_tables.specs.declared.layout.ClassLayout.{ClassLayout}
 use Rattle.jm_tables.specs.declared.layout.FieldSlot.{FieldSlot}
 use Rattle.jm_tables.specs.declared.layout.FieldSlot.TheVariants.{Instance, Static}
 use Rattle.jm_tables.specs.Extents.{own_count, IsExtent, AreExtents}
-use Rattle.jm_tables.specs.Layouts.{LayoutView, DeclaresFields, AreFields, IsFieldNumber, IsLaidOut, IsLayout, IsRow, StandsInChain, classes_of, slot_at, size_at, slots_from, static_fields, statics_among, statics_of}
+use Rattle.jm_tables.specs.Layouts.{LayoutView, DeclaresFields, AreFields, IsFieldNumber, IsLaidOut, IsLayout, IsRow, StandsInChain, classes_of, slot_at}
+use Rattle.jm_tables.specs.Layouts.{size_at, slots_from, static_fields, statics_among, statics_of}
 use Rattle.jm_tables.specs.Numbering.{name_of}
 use Rattle.jm_tables.proofs.ExtentLaws.{extent_more}
 use Rattle.jm_tables.proofs.ListedLaws.{listed_at, listed_found, slots_long}
-use Rattle.jm_tables.proofs.PlaceLaws.{text_of_same, fields_down, fields_are, as_many_names, place_right, place_up, AreOthers, not_in_others, named_field, own_place, static_names, static_place}
+use Rattle.jm_tables.proofs.PlaceLaws.{text_of_same, fields_down, fields_are, as_many_names, place_right, place_up, AreOthers, not_in_others, named_field}
+use Rattle.jm_tables.proofs.PlaceLaws.{own_place, static_names, static_place}
 use Rattle.jm_tables.proofs.SlotLaws.{slot_behind, slot_found, statics_counted}
 
 pub short_drop : (k : ℕ) (cs : List ClassParts) → length (drop k cs) ≤ length cs
@@ -49,7 +52,8 @@ among_first (x ∷ cs) (suc k) zero c e = (omega arith, e)
 among_first (x ∷ cs) (suc k) (suc j) c e = let h = among_first cs k j c e in (omega (arith, h.0), h.1)
 
 -- the statics of the model's first world are the static fields of all classes
-statics_named : (xs : List FieldName) → map (λ (s : Static_). s.field) (map (λ (f : FieldName). let it : Static_ = record { field = f; value = default_value f.type } in it) xs) ≡ xs
+statics_named : (xs : List FieldName) → map (λ (s : Static_). s.field) (map (λ
+    (f : FieldName). let it : Static_ = record { field = f; value = default_value f.type } in it) xs) ≡ xs
 statics_named [] = refl
 statics_named (x ∷ xs) = ap (λ ys. x ∷ ys) (statics_named xs)
 
@@ -83,7 +87,8 @@ module _ (program : List ClassParts) (names : List (List ℕ)) (classes : List D
   Above n (Some s) inherited = (above : Extent) × IsExtent n classes s above × (inherited ≡ above.size)
 
   above_of : (n : ℕ) (s : Option ℕ) (inherited : ℕ)
-      → (elim s as (λ _. Type 0) [ None ↦ inherited ≡ 0 | Some s ↦ (above : Extent) × IsExtent n classes s above × (inherited ≡ above.size) ]) → Above n s inherited
+      → (elim s as (λ _. Type 0) [ None ↦ inherited ≡ 0 | Some s ↦ (above : Extent) × IsExtent n classes s above × (inherited ≡ above.size) ])
+      → Above n s inherited
   above_of n None inherited h = h
   above_of n (Some s) inherited h = h
 
@@ -96,7 +101,10 @@ module _ (program : List ClassParts) (names : List (List ℕ)) (classes : List D
       ∙ ap (λ o. elim o as (λ _. List ClassParts) [ None ↦ p.parts ∷ [] | Some s ↦ p.parts ∷ up_from n program s ]) (sym p.superclass)
       ∙ by p.parts d.superclass
     where
-      by : (c : ClassParts) (s : Option ℕ) → (elim (option_map (name_of names) s) as (λ _. List ClassParts) [ None ↦ c ∷ [] | Some s ↦ c ∷ up_from n program s ]) ≡ c ∷ rest n s
+      by : (c : ClassParts) (s : Option ℕ) → (elim (option_map (name_of names) s) as (λ _. List ClassParts) [
+        | None ↦ c ∷ []
+        | Some s ↦ c ∷ up_from n program s
+      ]) ≡ c ∷ rest n s
       by c None = refl
       by c (Some s) = refl
 
@@ -132,7 +140,8 @@ module _ (program : List ClassParts) (names : List (List ℕ)) (classes : List D
       let own : length (own_instance_fields p.parts) ≡ own_count h.0.fields.now = as_many_names p.parts (filter (λ f. not (is_static f.flags)) p.parts.fields)
       ∙ ap own_count (sym p.fields) in
       ap (λ cs. length (fields_down cs)) (up_one n class h.0 h.1) ∙ length-append (fields_down (rest n h.0.superclass)) (own_instance_fields p.parts)
-      ∙ (let size = h.2 in let sum : length (fields_down (rest n h.0.superclass)) + length (own_instance_fields p.parts) ≡ e.size = omega (arith, above, own, size) in sum)
+      ∙ (let size = h.2 in let sum : length (fields_down (rest n h.0.superclass)) + length (own_instance_fields p.parts)
+      ≡ e.size = omega (arith, above, own, size) in sum)
 
   -- where a class stands in a chain, its own chain begins
   chain_from : (n m class : ℕ) (e : Extent) → IsExtent n classes class e → n ≤ m → (k : ℕ) (c : ClassParts) → slice_get (up m class) k ≡ Some c
@@ -181,7 +190,8 @@ module _ (program : List ClassParts) (names : List (List ℕ)) (classes : List D
           absurd (omega (arith, long, short_drop k (rest n d.superclass)))
 
   -- the place of an instance field in the instances of its class
-  place_in_own : (n class : ℕ) (e : Extent) (h : IsExtent (suc n) classes class e) (d : DeclaredFields) (is : slice_get classes class ≡ Some d) (i : ℕ) (f : Field)
+  place_in_own : (n class : ℕ) (e : Extent) (h : IsExtent (suc n) classes class e) (d : DeclaredFields) (is : slice_get classes class
+      ≡ Some d) (i : ℕ) (f : Field)
       → slice_get d.fields.now i ≡ Some f → is_static f.flags ≡ false
       → place_of_field (fields_down (up (suc n) class)) (named_field (are.each class d is).parts f) ≡ Some (e.inherited + own_count (take i d.fields.now))
   unfolding IsExtent
@@ -190,7 +200,8 @@ module _ (program : List ClassParts) (names : List (List ℕ)) (classes : List D
       let same : h.0 ≡ d = (let some : Some h.0 ≡ Some d = sym h.1 ∙ is in cc) in
       let above : Above n d.superclass e.inherited = subst (λ (x : DeclaredFields). Above n x.superclass e.inherited) same
       (above_of n h.0.superclass e.inherited h.3) in
-      let count : length (fields_down (rest n d.superclass)) ≡ e.inherited = inherited_fields n d.superclass e.inherited (λ k x a. fields_counted n k x a) above in
+      let count : length (fields_down (rest n d.superclass))
+      ≡ e.inherited = inherited_fields n d.superclass e.inherited (λ k x a. fields_counted n k x a) above in
       let others : AreOthers (rest n d.superclass) p.parts.name = subst (AreOthers (rest n d.superclass)) (sym p.name) (others_above n class e h d is) in
       ap (λ cs. place_of_field (fields_down cs) (named_field p.parts f)) (up_one n class d is)
       ∙ place_right (fields_down (rest n d.superclass)) (own_instance_fields p.parts) (named_field p.parts f) (own_count (take i d.fields.now))
@@ -220,7 +231,8 @@ module _ (program : List ClassParts) (names : List (List ℕ)) (classes : List D
       let later : length (statics_of (b + 1) (take k ds)) ≡ length (flat_map static_names (take k cs)) =
       counted ds cs (b + 1) k (λ j x e. each (suc j) x e) (omega (arith, l)) in
       length-append (statics_among b 0 d.fields.now) (statics_of (b + 1) (take k ds))
-      ∙ (let sum : length (statics_among b 0 d.fields.now) + length (statics_of (b + 1) (take k ds)) ≡ length (static_names c) + length (flat_map static_names (take k cs))
+      ∙ (let sum : length (statics_among b 0 d.fields.now) + length (statics_of (b + 1) (take k ds))
+      ≡ length (static_names c) + length (flat_map static_names (take k cs))
       = omega (arith, own, later) in sum)
       ∙ sym (length-append (static_names c) (flat_map static_names (take k cs)))
 
@@ -231,7 +243,8 @@ module _ (program : List ClassParts) (names : List (List ℕ)) (classes : List D
       omega (arith, are.many, are.named.many, long, many, slice_get_within (classes_of program) class c at)
 
   -- the classes of earlier numbers have other names
-  others_before : (class : ℕ) (d : DeclaredFields) (is : slice_get classes class ≡ Some d) → AreOthers (take class (classes_of program)) (are.each class d is).parts.name
+  others_before : (class : ℕ) (d : DeclaredFields) (is : slice_get classes class ≡ Some d)
+      → AreOthers (take class (classes_of program)) (are.each class d is).parts.name
   others_before class d is = λ j c at.
       let first = among_first (classes_of program) class j c at in
       let less : j < class = first.0 in
@@ -245,7 +258,8 @@ module _ (program : List ClassParts) (names : List (List ℕ)) (classes : List D
       by j less true e = let same = eqb-true j class e in absurd (omega (arith, less, same))
       by j less false e = refl
 
-  fields_of_classes : (j : ℕ) (d : DeclaredFields) → slice_get classes j ≡ Some d → (c : ClassParts) × (slice_get (classes_of program) j ≡ Some c) × (d.fields.now ≡ c.fields)
+  fields_of_classes : (j : ℕ) (d : DeclaredFields) → slice_get classes j ≡ Some d
+      → (c : ClassParts) × (slice_get (classes_of program) j ≡ Some c) × (d.fields.now ≡ c.fields)
   fields_of_classes j d is = let p = are.each j d is in (p.parts, p.numbered, p.fields)
 
   -- the number of a static field
@@ -273,7 +287,8 @@ module _ (program : List ClassParts) (names : List (List ℕ)) (classes : List D
   unfolding chain
   in_chain class k c at = ap (λ n. slice_get (up_from n program (name_of names class)) k) (are.many ∙ are.named.many) ∙ at
 
-  module _ (extents : List (Option Extent)) (layout : LayoutView) (known : AreExtents (length classes) classes extents) (laid : IsLaidOut classes extents layout) where
+  module _ (extents : List (Option Extent)) (layout : LayoutView) (known : AreExtents (length classes) classes extents)
+      (laid : IsLaidOut classes extents layout) where
     extent_known : (class : ℕ) (less : class < length classes) → IsExtent (length classes) classes class (laid.rows class less).extent
     unfolding AreExtents
     extent_known class less = known class (laid.rows class less).extent (laid.rows class less).extent_is
@@ -291,7 +306,8 @@ module _ (program : List ClassParts) (names : List (List ℕ)) (classes : List D
     field_known class i less found at =
         let row = laid.rows class less in
         let p = are.each class row.declared row.declared_is in
-        ap (λ fs. slice_get fs i) (p.fields ∙ ap (λ (c : ClassParts). c.fields) (sym (class_at class row.declared row.declared_is found.class at.class_is))) ∙ at.field_is
+        ap (λ fs. slice_get fs i) (p.fields ∙ ap (λ (c : ClassParts). c.fields) (sym (class_at class row.declared row.declared_is found.class at.class_is)))
+        ∙ at.field_is
 
     slot_listed : (class i n : ℕ) → slot_at layout class i ≡ Some (Static n) → slice_get layout.statics n ≡ Some (record { class = class; field = i })
     slot_listed class i n e = by (cases_lt class (length classes)) e
@@ -306,14 +322,18 @@ module _ (program : List ClassParts) (names : List (List ℕ)) (classes : List D
         by (inl less) e =
             let row = laid.rows class less in
             let slots = slots_from row.extent.inherited (length (statics_of 0 (take class classes))) row.declared.fields.now in
-            let at : slice_get slots i ≡ Some (Static n) = sym (ap (λ o. elim o as (λ _. Option FieldSlot) [ None ↦ None | Some c ↦ slice_get c.slots i ]) row.row) ∙ e in
+            let at : slice_get slots i ≡ Some (Static n) = sym (ap (λ o. elim o as (λ _. Option FieldSlot) [
+              | None ↦ None
+              | Some c ↦ slice_get c.slots i
+            ]) row.row) ∙ e in
             let f = there row.declared.fields.now i (omega (
               arith,
               slice_get_within slots i (Static n) at,
               slots_long row.extent.inherited (length (statics_of 0 (take class classes))) row.declared.fields.now,
             )) in
             let found = slot_found row.extent.inherited (length (statics_of 0 (take class classes))) row.declared.fields.now i f.0 f.1 in
-            let same : slot_behind row.extent.inherited (length (statics_of 0 (take class classes))) (take i row.declared.fields.now) (is_static f.0.flags) ≡ Static n =
+            let same : slot_behind row.extent.inherited (length (statics_of 0 (take class classes))) (take i row.declared.fields.now) (is_static f.0.flags)
+            ≡ Static n =
             same_Some _ _ (sym found ∙ at) in
             let parts = of_slot row.extent.inherited (length (statics_of 0 (take class classes))) (take i row.declared.fields.now) (is_static f.0.flags) same in
             ap (λ xs. slice_get xs n) laid.statics ∙ ap (slice_get (statics_of 0 classes)) (sym parts.1)
@@ -321,7 +341,8 @@ module _ (program : List ClassParts) (names : List (List ℕ)) (classes : List D
             ∙ (let zero_is : 0 + class ≡ class = omega arith in ap (λ k. Some (record { class = k; field = i })) zero_is)
         by (inr past) e =
             let none : slice_get layout.classes class ≡ None = slice_get_past layout.classes class (omega (arith, past, laid.many)) in
-            let no_slot : None ≡ Some (Static n) = sym (ap (λ o. elim o as (λ _. Option FieldSlot) [ None ↦ None | Some c ↦ slice_get c.slots i ]) none) ∙ e in cc
+            let no_slot : None ≡ Some (Static n) = sym (ap (λ o. elim o as (λ _. Option FieldSlot) [ None ↦ None | Some c ↦ slice_get c.slots i ]) none)
+            ∙ e in cc
 
     listed_slot : (class i n : ℕ) → slice_get layout.statics n ≡ Some (record { class = class; field = i }) → slot_at layout class i ≡ Some (Static n)
     listed_slot class i n e =

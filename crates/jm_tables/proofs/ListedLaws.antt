@@ -1,5 +1,6 @@
 -- The list of static fields and their slots correspond.
-use Rattle.std.proofs.Common.{◌≡◌, ℕ, zero, suc, ◌+◌, ◌-◌, ◌<◌, ◌≤◌, ◌⊎◌, inl, inr, List, [], ◌∷◌, ◌++◌, Option, Some, None, Bool, true, false, cond, length, take}
+use Rattle.std.proofs.Common.{◌≡◌, ℕ, zero, suc, ◌+◌, ◌-◌, ◌<◌, ◌≤◌, ◌⊎◌, inl, inr, List, [], ◌∷◌, ◌++◌, Option, Some, None, Bool, true, false, cond, length}
+use Rattle.std.proofs.Common.{take}
 use Rattle.std.proofs.Common.{refl, sym, ◌∙◌, ap, subst, arith, slice_get, length-append}
 use Rattle.std.proofs.lemmas.Bool.{cases_lt}
 use Rattle.std.specs.List.{filter}
@@ -10,6 +11,7 @@ use Rattle.jm_tables.specs.declared.layout.FieldNumber.{FieldNumber}
 use Rattle.jm_tables.specs.declared.layout.FieldSlot.{FieldSlot}
 use Rattle.jm_tables.specs.declared.layout.FieldSlot.TheVariants.{Instance, Static}
 use Rattle.jm_tables.specs.Layouts.{slots_from, statics_among, statics_of}
+use Rattle.jm_tables.proofs.SlotLaws.{statics_counted}
 
 abbrev count : List Field → ℕ
 count fs = length (filter (λ f. is_static f.flags) fs)
@@ -37,23 +39,17 @@ among_at class k (g ∷ fs) zero f e t =
     ]) 0) (ap (λ (x : Field). is_static x.flags) same ∙ t)
     ∙ ap (λ n. Some (record { class = class; field = n })) first
 among_at class k (g ∷ fs) (suc i) f e t =
-    by (is_static g.flags) (among_at class (k + 1) fs i f e t ∙ (let next : k + 1 + i ≡ k + suc i = omega arith in ap (λ n. Some (record { class = class; field = n })) next))
+    by (is_static g.flags) (among_at class (k + 1) fs i f e t
+    ∙ (let next : k + 1 + i ≡ k + suc i = omega arith in ap (λ n. Some (record { class = class; field = n })) next))
   where
     by : (b : Bool) → slice_get (statics_among class (k + 1) fs) (count (take i fs)) ≡ Some (record { class = class; field = k + suc i })
-        → slice_get (elim b as (λ _. List FieldNumber) [ true ↦ record { class = class; field = k } ∷ statics_among class (k + 1) fs | false ↦ statics_among class (k + 1) fs ])
+        → slice_get (elim b as (λ _. List FieldNumber) [
+          | true ↦ record { class = class; field = k } ∷ statics_among class (k + 1) fs
+          | false ↦ statics_among class (k + 1) fs
+        ])
         (length (cond b (g ∷ filter (λ f. is_static f.flags) (take i fs)) (filter (λ f. is_static f.flags) (take i fs))))
         ≡ Some (record { class = class; field = k + suc i })
     by true h = h
-    by false h = h
-
-among_long : (class k : ℕ) (fs : List Field) → length (statics_among class k fs) ≡ count fs
-among_long class k [] = refl
-among_long class k (f ∷ fs) = by (is_static f.flags) (among_long class (k + 1) fs)
-  where
-    by : (b : Bool) → length (statics_among class (k + 1) fs) ≡ count fs
-        → length (elim b as (λ _. List FieldNumber) [ true ↦ record { class = class; field = k } ∷ statics_among class (k + 1) fs | false ↦ statics_among class (k + 1) fs ])
-        ≡ length (cond b (f ∷ filter (λ f. is_static f.flags) fs) (filter (λ f. is_static f.flags) fs))
-    by true h = ap suc h
     by false h = h
 
 count_within : (fs : List Field) (i : ℕ) (f : Field) → slice_get fs i ≡ Some f → is_static f.flags ≡ true → count (take i fs) < count fs
@@ -73,7 +69,8 @@ count_within (g ∷ fs) (suc i) f e t = by (is_static g.flags) (count_within fs 
     by true h = omega (arith, h)
     by false h = h
 
-pub listed_at : (b : ℕ) (ds : List DeclaredFields) (k : ℕ) (d : DeclaredFields) (i : ℕ) (f : Field) → slice_get ds k ≡ Some d → slice_get d.fields.now i ≡ Some f
+pub listed_at : (b : ℕ) (ds : List DeclaredFields) (k : ℕ) (d : DeclaredFields) (i : ℕ) (f : Field) → slice_get ds k ≡ Some d
+    → slice_get d.fields.now i ≡ Some f
     → is_static f.flags ≡ true
     → slice_get (statics_of b ds) (length (statics_of b (take k ds)) + count (take i d.fields.now)) ≡ Some (record { class = b + k; field = i })
 listed_at b [] k d i f e at t = cc
@@ -85,7 +82,7 @@ listed_at b (x ∷ ds) zero d i f e at t =
     let first : b ≡ b + 0 = omega arith in
     ap (slice_get (statics_among b 0 x.fields.now ++ statics_of (b + 1) ds)) start
     ∙ got_left (statics_among b 0 x.fields.now) (statics_of (b + 1) ds) (count (take i x.fields.now))
-    (omega (arith, among_long b 0 x.fields.now, count_within x.fields.now i f own t))
+    (omega (arith, statics_counted b 0 x.fields.now, count_within x.fields.now i f own t))
     ∙ among_at b 0 x.fields.now i f own t
     ∙ (let zero_is : 0 + i ≡ i = omega arith in ap (λ n. Some (record { class = b; field = n })) zero_is)
     ∙ ap (λ n. Some (record { class = n; field = i })) first
@@ -140,12 +137,16 @@ among_found class k (f ∷ fs) n m e = by (λ j h. among_found class (k + 1) fs 
             ∙ sym (ap (λ u. length (cond u (f ∷ filter (λ f. is_static f.flags) (take a.i fs)) (filter (λ f. is_static f.flags) (take a.i fs)))) t)
 
     by : ((j : ℕ) → slice_get (statics_among class (k + 1) fs) j ≡ Some m → IsAmong class (k + 1) fs j m) → (n : ℕ) → (b : Bool) → is_static f.flags ≡ b
-        → slice_get (elim b as (λ _. List FieldNumber) [ true ↦ record { class = class; field = k } ∷ statics_among class (k + 1) fs | false ↦ statics_among class (k + 1) fs ]) n
+        → slice_get (elim b as (λ _. List FieldNumber) [
+          | true ↦ record { class = class; field = k } ∷ statics_among class (k + 1) fs
+          | false ↦ statics_among class (k + 1) fs
+        ]) n
         ≡ Some m → IsAmong class k (f ∷ fs) n m
     by later n false t h = further false n n t (omega arith) (later n h)
     by later (suc n) true t h = further true (suc n) n t (omega arith) (later n h)
     by later zero true t h =
-        let same : ◌≡◌ {A = FieldNumber} (record { class = class; field = k }) m = (let some : ◌≡◌ {A = Option FieldNumber} (Some (record { class = class; field = k })) (Some m) = h in cc) in
+        let same : ◌≡◌ {A = FieldNumber} (record { class = class; field = k }) m = (let some : ◌≡◌ {A = Option FieldNumber} (Some
+        (record { class = class; field = k })) (Some m) = h in cc) in
         record {
           i = 0;
           class_is = sym (ap (λ (x : FieldNumber). x.class) same);
@@ -173,7 +174,8 @@ listed_found b (x ∷ ds) n m e = by (cases_lt n (length (statics_among b 0 x.fi
           field = a.field;
           field_is = ap (slice_get x.fields.now) (sym at) ∙ a.at;
           static = a.static;
-          number = a.number ∙ ap (λ i. count (take i x.fields.now)) at ∙ (let same : count (take m.field x.fields.now) ≡ 0 + count (take m.field x.fields.now) = omega arith in same);
+          number = a.number ∙ ap (λ i. count (take i x.fields.now)) at
+              ∙ (let same : count (take m.field x.fields.now) ≡ 0 + count (take m.field x.fields.now) = omega arith in same);
         }
     by (inr more) later =
         let whole : n ≡ length (statics_among b 0 x.fields.now) + (n - length (statics_among b 0 x.fields.now)) = omega (arith, more) in
@@ -196,7 +198,10 @@ slots_long place number [] = refl
 slots_long place number (f ∷ fs) = by (is_static f.flags) (slots_long place (number + 1) fs) (slots_long (place + 1) number fs)
   where
     by : (b : Bool) → length (slots_from place (number + 1) fs) ≡ length fs → length (slots_from (place + 1) number fs) ≡ length fs
-        → length (elim b as (λ _. List FieldSlot) [ true ↦ Static number ∷ slots_from place (number + 1) fs | false ↦ Instance place ∷ slots_from (place + 1) number fs ])
+        → length (elim b as (λ _. List FieldSlot) [
+          | true ↦ Static number ∷ slots_from place (number + 1) fs
+          | false ↦ Instance place ∷ slots_from (place + 1) number fs
+        ])
         ≡ suc (length fs)
     by true e h = ap suc e
     by false e h = ap suc h

@@ -1,5 +1,6 @@
 -- Places among field names, by classes.
-use Rattle.std.proofs.Common.{◌≡◌, ℕ, zero, suc, ◌+◌, ◌<◌, ◌≤◌, List, [], ◌∷◌, ◌++◌, Option, Some, None, Bool, true, false, cond, ◌&&◌, length, take, drop, reverse, not}
+use Rattle.std.proofs.Common.{◌≡◌, ℕ, zero, suc, ◌+◌, ◌<◌, ◌≤◌, List, [], ◌∷◌, ◌++◌, Option, Some, None, Bool, true, false, cond, ◌&&◌, length, take, drop}
+use Rattle.std.proofs.Common.{reverse, not}
 use Rattle.std.proofs.Common.{refl, sym, ◌∙◌, ap, subst, arith, slice_get, append_assoc, append-nil, length-append, nat_eq, eqb-true}
 use Rattle.std.proofs.lemmas.List.{reverse-append}
 use Rattle.std.specs.Prelude.{is_some}
@@ -98,7 +99,10 @@ other_class c [] g e = refl
 other_class c (f ∷ fs) g e = by (same_text f.name g.name) (same_text c.name g.class) e (other_class c fs g e)
   where
     by : (s t : Bool) → t ≡ false → place_of_field (field_names c fs) g ≡ None
-        → (elim (elim s as (λ _. Bool) [ true ↦ elim t as (λ _. Bool) [ true ↦ same_type f.descriptor g.type | false ↦ false ] | false ↦ false ]) as (λ _. Option ℕ)
+        → (elim (elim s as (λ _. Bool) [
+          | true ↦ elim t as (λ _. Bool) [ true ↦ same_type f.descriptor g.type | false ↦ false ]
+          | false ↦ false
+        ]) as (λ _. Option ℕ)
         [ true ↦ Some 0 | false ↦ further (place_of_field (field_names c fs) g) ]) ≡ None
     by s true n h = cc
     by true false n h = ap further h
@@ -183,7 +187,8 @@ own_place test c seen (g ∷ fs) zero f none e t =
     let same : g ≡ f = (let some : Some g ≡ Some f = e in cc) in
     ap (λ (x : Field). place_of_field (field_names c (filter test (x ∷ fs))) (named_field c f)) same
     ∙ ap (λ b. place_of_field (field_names c (cond b (f ∷ filter test fs) (filter test fs))) (named_field c f)) t
-    ∙ by (same_text f.name f.name) (same_text c.name c.name) (same_type f.descriptor f.descriptor) (nat_list_eq_equiv.refl f.name) (nat_list_eq_equiv.refl c.name)
+    ∙ by (same_text f.name f.name) (same_text c.name c.name) (same_type f.descriptor f.descriptor) (nat_list_eq_equiv.refl f.name)
+    (nat_list_eq_equiv.refl c.name)
     (same_type_refl f.descriptor)
   where
     by : (p q r : Bool) → p ≡ true → q ≡ true → r ≡ true
@@ -233,4 +238,8 @@ static_place (x ∷ cs) (suc k) c g p e others h =
     place_right (static_names x) (flat_map static_names cs) g _ (other_class x (filter (λ f. is_static f.flags) x.fields) g (others 0 x refl))
     (static_place cs k c g p e (λ j y at. others (suc j) y at) h)
     ∙ ap Some (let same : length (static_names x) + (length (flat_map static_names (take k cs)) + p)
-    ≡ length (static_names x ++ flat_map static_names (take k cs)) + p = omega (arith, length-append (static_names x) (flat_map static_names (take k cs))) in same)
+    ≡ length (static_names x ++ flat_map static_names (take k cs)) + p = omega (
+      arith,
+      length-append (static_names x) (flat_map static_names
+          (take k cs)),
+    ) in same)

@@ -30,8 +30,14 @@ slots_push place number (g ∷ fs) f =
   where
     by : (s t : Bool) → slots_from place (number + 1) (fs ++ f ∷ []) ≡ slots_from place (number + 1) fs ++ slot_behind place (number + 1) fs t ∷ []
         → slots_from (place + 1) number (fs ++ f ∷ []) ≡ slots_from (place + 1) number fs ++ slot_behind (place + 1) number fs t ∷ []
-        → (elim s as (λ _. List FieldSlot) [ true ↦ Static number ∷ slots_from place (number + 1) (fs ++ f ∷ []) | false ↦ Instance place ∷ slots_from (place + 1) number (fs ++ f ∷ []) ])
-        ≡ (elim s as (λ _. List FieldSlot) [ true ↦ Static number ∷ slots_from place (number + 1) fs | false ↦ Instance place ∷ slots_from (place + 1) number fs ])
+        → (elim s as (λ _. List FieldSlot) [
+          | true ↦ Static number ∷ slots_from place (number + 1) (fs ++ f ∷ [])
+          | false ↦ Instance place ∷ slots_from (place + 1) number (fs ++ f ∷ [])
+        ])
+        ≡ (elim s as (λ _. List FieldSlot) [
+          | true ↦ Static number ∷ slots_from place (number + 1) fs
+          | false ↦ Instance place ∷ slots_from (place + 1) number fs
+        ])
         ++ (elim t as (λ _. FieldSlot) [
           | true ↦ Static (number + length (cond s (g ∷ filter (λ f. is_static f.flags) fs) (filter (λ f. is_static f.flags) fs)))
           | false ↦ Instance (place + length (cond (not s) (g ∷ filter (λ f. not (is_static f.flags)) fs) (filter (λ f. not (is_static f.flags)) fs)))
@@ -42,7 +48,8 @@ slots_push place number (g ∷ fs) f =
     by true false e h = ap (λ xs. Static number ∷ xs) e
     by false true e h = ap (λ xs. Instance place ∷ xs) h
     by false false e h =
-        let more : place + 1 + length (filter (λ f. not (is_static f.flags)) fs) ≡ place + suc (length (filter (λ f. not (is_static f.flags)) fs)) = omega arith in
+        let more : place + 1 + length (filter (λ f. not (is_static f.flags)) fs)
+        ≡ place + suc (length (filter (λ f. not (is_static f.flags)) fs)) = omega arith in
         ap (λ xs. Instance place ∷ xs) (h ∙ ap (λ n. slots_from (place + 1) number fs ++ Instance n ∷ []) more)
 
 -- of the static fields the next
@@ -63,8 +70,14 @@ statics_push class k (g ∷ fs) f = by (is_static g.flags) (statics_push class (
     rest = cond (is_static f.flags) (record { class = class; field = k + 1 + length fs } ∷ []) []
 
     by : (s : Bool) → statics_among class (k + 1) (fs ++ f ∷ []) ≡ statics_among class (k + 1) fs ++ rest
-        → (elim s as (λ _. List FieldNumber) [ true ↦ record { class = class; field = k } ∷ statics_among class (k + 1) (fs ++ f ∷ []) | false ↦ statics_among class (k + 1) (fs ++ f ∷ []) ])
-        ≡ (elim s as (λ _. List FieldNumber) [ true ↦ record { class = class; field = k } ∷ statics_among class (k + 1) fs | false ↦ statics_among class (k + 1) fs ])
+        → (elim s as (λ _. List FieldNumber) [
+          | true ↦ record { class = class; field = k } ∷ statics_among class (k + 1) (fs ++ f ∷ [])
+          | false ↦ statics_among class (k + 1) (fs ++ f ∷ [])
+        ])
+        ≡ (elim s as (λ _. List FieldNumber) [
+          | true ↦ record { class = class; field = k } ∷ statics_among class (k + 1) fs
+          | false ↦ statics_among class (k + 1) fs
+        ])
         ++ cond (is_static f.flags) (record { class = class; field = k + suc (length fs) } ∷ []) []
     by true e = ap (λ (xs : List FieldNumber). record { class = class; field = k } ∷ xs)
         (e ∙ ap (λ n. statics_among class (k + 1) fs ++ cond (is_static f.flags) (record { class = class; field = n } ∷ []) []) next)
@@ -76,7 +89,10 @@ statics_counted class k [] = refl
 statics_counted class k (f ∷ fs) = by (is_static f.flags) (statics_counted class (k + 1) fs)
   where
     by : (s : Bool) → length (statics_among class (k + 1) fs) ≡ length (filter (λ f. is_static f.flags) fs)
-        → length (elim s as (λ _. List FieldNumber) [ true ↦ record { class = class; field = k } ∷ statics_among class (k + 1) fs | false ↦ statics_among class (k + 1) fs ])
+        → length (elim s as (λ _. List FieldNumber) [
+          | true ↦ record { class = class; field = k } ∷ statics_among class (k + 1) fs
+          | false ↦ statics_among class (k + 1) fs
+        ])
         ≡ length (cond s (f ∷ filter (λ f. is_static f.flags) fs) (filter (λ f. is_static f.flags) fs))
     by true e = ap suc e
     by false e = e
@@ -111,7 +127,8 @@ one_more place number class i fs f less is = record {
     at = omega (arith, length-take {A = Field})
 
 -- what stands after some fields
-pub record AreSlots (place class i : ℕ) (fs : List Field) (old : List FieldNumber) (slots : List FieldSlot) (statics : List FieldNumber) (next : ℕ) : Type 0 where
+pub record AreSlots (place class i : ℕ) (fs : List Field) (old : List FieldNumber) (slots : List FieldSlot) (statics : List FieldNumber)
+    (next : ℕ) : Type 0 where
   pub slots_are : slots ≡ slots_from place (length old) (take i fs)
   pub statics_are : statics ≡ old ++ statics_among class 0 (take i fs)
   pub next_is : next ≡ place + own_count (take i fs)
@@ -162,7 +179,10 @@ slot_found place number (g ∷ fs) zero f e =
     let same : g ≡ f = (let some : Some g ≡ Some f = e in cc) in
     by (is_static g.flags) ∙ ap (λ (x : Field). Some (slot_behind place number [] (is_static x.flags))) same
   where
-    by : (t : Bool) → slice_get (elim t as (λ _. List FieldSlot) [ true ↦ Static number ∷ slots_from place (number + 1) fs | false ↦ Instance place ∷ slots_from (place + 1) number fs ]) 0
+    by : (t : Bool) → slice_get (elim t as (λ _. List FieldSlot) [
+      | true ↦ Static number ∷ slots_from place (number + 1) fs
+      | false ↦ Instance place ∷ slots_from (place + 1) number fs
+    ]) 0
         ≡ Some (slot_behind place number [] t)
     by true = let same : number + 0 ≡ number = omega arith in ap (λ n. Some (Static n)) (sym same)
     by false = let same : place + 0 ≡ place = omega arith in ap (λ n. Some (Instance n)) (sym same)
@@ -171,16 +191,22 @@ slot_found place number (g ∷ fs) (suc i) f e =
   where
     by : (s t : Bool) → slice_get (slots_from place (number + 1) fs) i ≡ Some (slot_behind place (number + 1) (take i fs) t)
         → slice_get (slots_from (place + 1) number fs) i ≡ Some (slot_behind (place + 1) number (take i fs) t)
-        → slice_get (elim s as (λ _. List FieldSlot) [ true ↦ Static number ∷ slots_from place (number + 1) fs | false ↦ Instance place ∷ slots_from (place + 1) number fs ]) (suc i)
+        → slice_get (elim s as (λ _. List FieldSlot) [
+          | true ↦ Static number ∷ slots_from place (number + 1) fs
+          | false ↦ Instance place ∷ slots_from (place + 1) number fs
+        ]) (suc i)
         ≡ Some (elim t as (λ _. FieldSlot) [
           | true ↦ Static (number + length (cond s (g ∷ filter (λ f. is_static f.flags) (take i fs)) (filter (λ f. is_static f.flags) (take i fs))))
-          | false ↦ Instance (place + length (cond (not s) (g ∷ filter (λ f. not (is_static f.flags)) (take i fs)) (filter (λ f. not (is_static f.flags)) (take i fs))))
+          | false ↦ Instance (place + length (cond (not s) (g ∷ filter (λ f. not (is_static f.flags)) (take i fs)) (filter (λ f. not (is_static f.flags))
+              (take i fs))))
         ])
     by true true e h =
-        let more : number + 1 + length (filter (λ f. is_static f.flags) (take i fs)) ≡ number + suc (length (filter (λ f. is_static f.flags) (take i fs))) = omega arith in
+        let more : number + 1 + length (filter (λ f. is_static f.flags) (take i fs))
+        ≡ number + suc (length (filter (λ f. is_static f.flags) (take i fs))) = omega arith in
         e ∙ ap (λ n. Some (Static n)) more
     by true false e h = e
     by false true e h = h
     by false false e h =
-        let more : place + 1 + length (filter (λ f. not (is_static f.flags)) (take i fs)) ≡ place + suc (length (filter (λ f. not (is_static f.flags)) (take i fs))) = omega arith in
+        let more : place + 1 + length (filter (λ f. not (is_static f.flags)) (take i fs))
+        ≡ place + suc (length (filter (λ f. not (is_static f.flags)) (take i fs))) = omega arith in
         h ∙ ap (λ n. Some (Instance n)) more

@@ -36,4 +36,5 @@ AreExtents n classes extents = (class : ℕ) (e : Extent) → slice_index_or ext
 pub record IsTopDown (classes : List DeclaredFields) (order : List ℕ) : Type 0 where
   pub many : length order ≡ length classes
   pub all : (class : ℕ) → class < length classes → StandsBefore order (length order) class
-  pub after : (i class : ℕ) → slice_get order i ≡ Some class → (d : DeclaredFields) × (slice_get classes class ≡ Some d) × IfSome d.superclass (StandsBefore order i)
+  pub after : (i class : ℕ) → slice_get order i ≡ Some class
+      → (d : DeclaredFields) × (slice_get classes class ≡ Some d) × IfSome d.superclass (StandsBefore order i)

@@ -1,5 +1,6 @@
 -- Where the fields of a program's classes stand (JVMS 2.5.3, 2.7, 5.5).
-use Rattle.std.specs.Prelude.{◌≡◌, ◌↔◌, ◌⊎◌, ℕ, zero, suc, ◌+◌, ◌<◌, List, [], ◌∷◌, ◌++◌, map, Option, Some, None, IfSome, true, false, length, not, option_map, slice_get, slice_index_or, take}
+use Rattle.std.specs.Prelude.{◌≡◌, ◌↔◌, ◌⊎◌, ℕ, zero, suc, ◌+◌, ◌<◌, List, [], ◌∷◌, ◌++◌, map, Option, Some, None, IfSome, true, false, length, not, option_map}
+use Rattle.std.specs.Prelude.{slice_get, slice_index_or, take}
 use Rattle.std.specs.List.{filter}
 use Rattle.jm_program.specs.Flags.{is_static}
 use Rattle.jm_program.specs.Names.{same_text}

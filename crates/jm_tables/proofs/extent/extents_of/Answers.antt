@@ -26,7 +26,8 @@ loop-class-preserved c =
     let is : slice_get c.args.classes.now class ≡ Some c.in-Some.declared.now = got c.args.classes.now class c.in-Some.declared.now
     c.in-Some.ensures.lookup.3.0 c.in-Some.ensures.lookup.3.1 in
     let found : extent_over c.loop-class.extents.items c.in-Some.declared.now ≡ Some c.in-Some-2.extent =
-    ap (λ (extents : List (Option Extent)). extent_over extents c.in-Some.declared.now) (sym c.deref.ensures.value) ∙ sym c.in_ok-extent.ensures ∙ c.in-Some-2.is in
+    ap (λ (extents : List (Option Extent)). extent_over extents c.in-Some.declared.now) (sym c.deref.ensures.value) ∙ sym c.in_ok-extent.ensures
+    ∙ c.in-Some-2.is in
     record {
       long = length-set c.loop-class.extents.items class (Some c.in-Some-2.extent) ∙ c.loop-class.invariant.long;
       own = extents_more c.loop-class.class-index c.args.classes.now c.loop-class.extents.items class c.in-Some.declared.now c.in-Some-2.extent
@@ -56,6 +57,7 @@ returns-in_default-2-clause-made c = λ order.
     let stands : IfSome c.in-Some.declared.now.superclass (StandsBefore c.args.order.now c.loop-class.class-index) = subst
     (λ (d : DeclaredFields). IfSome d.superclass (StandsBefore c.args.order.now c.loop-class.class-index)) same after.2 in
     let none : extent_over c.loop-class.extents.items c.in-Some.declared.now ≡ None =
-    ap (λ (extents : List (Option Extent)). extent_over extents c.in-Some.declared.now) (sym c.deref.ensures.value) ∙ sym c.in_ok-extent.ensures ∙ c.in_default-2.is in
+    ap (λ (extents : List (Option Extent)). extent_over extents c.in-Some.declared.now) (sym c.deref.ensures.value) ∙ sym c.in_ok-extent.ensures
+    ∙ c.in_default-2.is in
     absurd (above_is_known c.loop-class.extents.items c.in-Some.declared.now
     (IfSome_then c.in-Some.declared.now.superclass stands (λ s before. c.loop-class.invariant.placed s before)) none)

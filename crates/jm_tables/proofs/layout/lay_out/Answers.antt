@@ -8,7 +8,8 @@ use Rattle.jm_tables.proofs.layout.lay_out.Goals as goal
 
 pub loop-declared-preserved : goal.loop-declared-preserved
 loop-declared-preserved c =
-    let class : c.in-Ok.class ≡ c.loop-declared.declared-index = c.in-Ok.ensures.1 ∙ c.len.ensures ∙ c.loop-declared.rows.ok.0 ∙ c.loop-declared.invariant.many in
+    let class : c.in-Ok.class ≡ c.loop-declared.declared-index = c.in-Ok.ensures.1 ∙ c.len.ensures ∙ c.loop-declared.rows.ok.0
+    ∙ c.loop-declared.invariant.many in
     record {
       many = ap (λ (rows : List ClassLayout). length rows) c.in_ok-push.ensures.items ∙ length-append c.loop-declared.rows.items _
           ∙ ap (λ n. n + 1) c.loop-declared.invariant.many;
@@ -22,5 +23,6 @@ loop-declared-preserved c =
           c.loop-declared.invariant.rows);
       statics = c.in_ok-slots.ensures.statics
           ∙ ap (λ (xs : List FieldNumber). xs ++ statics_among c.in-Ok.class 0 c.declared-item.result.fields.now) c.loop-declared.invariant.statics
-          ∙ sym (statics_more c.args.classes.now c.loop-declared.declared-index c.in-Ok.class c.declared-item.result c.loop-declared-test.true c.declared-item.is class);
+          ∙ sym (statics_more c.args.classes.now c.loop-declared.declared-index c.in-Ok.class c.declared-item.result c.loop-declared-test.true
+          c.declared-item.is class);
     }

@@ -8,13 +8,15 @@ use Rattle.jm_literals.proofs.gathering.Gathering.add.Goals as goal
 pub returns-then-contains_key-clause-texts : goal.returns-then-contains_key-clause-texts
 returns-then-contains_key-clause-texts c =
     text_there c.args.self.now.texts.items c.args.text.now
-    (sym (c.if-contains_key.ensures ∙ ap is_some (c.requires c.as_slice-units.result ∙ ap (number_of_text c.args.self.now.texts.items) c.as_slice-units.ensures)))
+    (sym (c.if-contains_key.ensures ∙ ap is_some (c.requires c.as_slice-units.result
+    ∙ ap (number_of_text c.args.self.now.texts.items) c.as_slice-units.ensures)))
 
 pub returns-clause-texts : goal.returns-clause-texts
 returns-clause-texts c =
     c.in_ok-push.ensures.items ∙ ap (λ t. c.args.self.now.texts.items ++ t ∷ []) c.in_ok-share.ensures
     ∙ text_new c.args.self.now.texts.items c.args.text.now
-    (sym (c.if-contains_key.ensures ∙ ap is_some (c.requires c.as_slice-units.result ∙ ap (number_of_text c.args.self.now.texts.items) c.as_slice-units.ensures)))
+    (sym (c.if-contains_key.ensures ∙ ap is_some (c.requires c.as_slice-units.result
+    ∙ ap (number_of_text c.args.self.now.texts.items) c.as_slice-units.ensures)))
 
 pub returns-clause-numbers : goal.returns-clause-numbers
 returns-clause-numbers c =

@@ -13,9 +13,11 @@ pub returns-clause-texts : goal.returns-clause-texts
 returns-clause-texts c =
     subst (λ (ts : List (List ℕ)). OnOk c.add_methods.result (c.add_methods.new.self.texts.items ≡ ts))
     (ap (λ (ts : List (List ℕ)). with_texts ts (flat_map texts_of_method c.as_slice-2.result.now)) c.in_ok-add_fields.ensures.texts
-    ∙ ap (λ (ms : List Method). with_texts (with_texts c.args.self.now.texts.items (flat_map texts_of_field c.as_slice.result.now)) (flat_map texts_of_method ms))
+    ∙ ap (λ (ms : List Method). with_texts (with_texts c.args.self.now.texts.items (flat_map texts_of_field c.as_slice.result.now))
+    (flat_map texts_of_method ms))
     c.as_slice-2.ensures
-    ∙ ap (λ (fs : List Field). with_texts (with_texts c.args.self.now.texts.items (flat_map texts_of_field fs)) (flat_map texts_of_method c.args.class.now.methods))
+    ∙ ap (λ (fs : List Field). with_texts (with_texts c.args.self.now.texts.items (flat_map texts_of_field fs))
+    (flat_map texts_of_method c.args.class.now.methods))
     c.as_slice.ensures
     ∙ sym (texts_append c.args.self.now.texts.items (flat_map texts_of_field c.args.class.now.fields) (flat_map texts_of_method c.args.class.now.methods)))
     c.add_methods.ensures.texts

@@ -9,6 +9,7 @@ pub loop-instruction-preserved : goal.loop-instruction-preserved
 loop-instruction-preserved c = record {
   texts = c.in_ok-add_instruction.ensures.texts
       ∙ ap (λ (ts : List (List ℕ)). with_texts ts (texts_of_instruction c.instruction-item.result)) c.loop-instruction.invariant.texts
-      ∙ sym (texts_more texts_of_instruction c.args.self.now.texts.items c.args.instructions.now c.loop-instruction.instruction-index c.instruction-item.result c.loop-instruction-test.true c.instruction-item.is);
+      ∙ sym (texts_more texts_of_instruction c.args.self.now.texts.items c.args.instructions.now c.loop-instruction.instruction-index c.instruction-item.result
+      c.loop-instruction-test.true c.instruction-item.is);
   numbers = c.in_ok-add_instruction.ensures.numbers;
 }

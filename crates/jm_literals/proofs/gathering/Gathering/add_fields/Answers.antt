@@ -9,6 +9,7 @@ pub loop-field-preserved : goal.loop-field-preserved
 loop-field-preserved c = record {
   texts = c.in_ok-add_field.ensures.texts
       ∙ ap (λ (ts : List (List ℕ)). with_texts ts (texts_of_field c.field-item.result)) c.loop-field.invariant.texts
-      ∙ sym (texts_more texts_of_field c.args.self.now.texts.items c.args.fields.now c.loop-field.field-index c.field-item.result c.loop-field-test.true c.field-item.is);
+      ∙ sym (texts_more texts_of_field c.args.self.now.texts.items c.args.fields.now c.loop-field.field-index c.field-item.result c.loop-field-test.true
+      c.field-item.is);
   numbers = c.in_ok-add_field.ensures.numbers;
 }
