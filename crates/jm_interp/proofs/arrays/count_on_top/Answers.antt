@@ -18,7 +18,8 @@ pub returns-in-Some : goal.returns-in-Some
 returns-in-Some g c t h =
     let e = found_int h.method 0 c.index.ensures c.in_ok-count.ensures.value in
     let fits : SFits w32 c.in_ok-count.count = search rules in
-    counts h e (c.length_in.ensures ∙ ap length_in (to_z-of_z fits)) c.in-Some.is (room_of_int c.index.ensures c.in_ok-count.ensures.room c.in_ok-count.ensures.value Null refl)
+    counts h e (c.length_in.ensures ∙ ap length_in (to_z-of_z fits)) c.in-Some.is
+    (room_of_int c.index.ensures c.in_ok-count.ensures.room c.in_ok-count.ensures.value Null refl)
 
 pub returns-in-None : goal.returns-in-None
 returns-in-None g c t h =
