@@ -8,7 +8,7 @@ use Rattle.jm_program.specs.declared.class.Field.{Field}
 use Rattle.jm_program.specs.declared.class.Method.{Method}
 use Rattle.jm_program.specs.declared.constant.Constant.{Constant}
 use Rattle.jm_program.specs.declared.descriptor.MethodDescriptor.{MethodDescriptor}
-use Rattle.jm_program.specs.Flags.{is_static, is_synchronized}
+use Rattle.jm_program.specs.Flags.{is_synchronized}
 use Rattle.jm_world.specs.Classes.{FoundMethod, MethodName, name_of_method, class_among, class_named, method_in, object_class}
 use Rattle.jm_world.specs.Loading.{main_in, main_type}
 use Rattle.jm_world.specs.Loads.{Loads, Refusal, refusal, duplicates, is_named_among, or_else, when, duplicate_class}
@@ -114,7 +114,8 @@ unfolding class_named
 class_is program loads k d at = class_found [] program k d (distinct program loads) at
 
 -- the class of the name of the first is the first
-first_alone : (c : ClassParts) (cs : List ClassParts) (k : ℕ) (d : ClassParts) → duplicates [] (c ∷ cs) ≡ None → slice_get (c ∷ cs) k ≡ Some d → d.name ≡ c.name → k ≡ 0
+first_alone : (c : ClassParts) (cs : List ClassParts) (k : ℕ) (d : ClassParts) → duplicates [] (c ∷ cs) ≡ None → slice_get (c ∷ cs) k ≡ Some d
+    → d.name ≡ c.name → k ≡ 0
 first_alone c cs zero d e at same = refl
 first_alone c cs (suc k) d e at same =
     let other : same_text c.name d.name ≡ false = (fresh (c ∷ []) cs k d (after [] c cs e) at).0 in
@@ -154,16 +155,12 @@ super_is (Some name) e = by (same_text name object_class) refl
     by false t = let bad : Some later.Superclass ≡ None = sym (ap (λ b. elim b as (λ _. Option LaterPart) [ true ↦ None | false ↦ Some later.Superclass ]) t) ∙ e in cc
 
 -- a field that does not come later has no constant
-no_value : (o : Option Constant) → later_constant_value o ≡ None → o ≡ None
-no_value None e = refl
-no_value (Some c) e = cc
-
 pub no_constant : (f : Field) → later_declared_field f ≡ None → f.constant ≡ None
-no_constant f e = by (is_static f.flags) e
+no_constant f e = by f.constant e
   where
-    by : (b : Bool) → (elim b as (λ _. Option LaterPart) [ true ↦ Some later.Fields | false ↦ later_constant_value f.constant ]) ≡ None → f.constant ≡ None
-    by true g = cc
-    by false g = no_value f.constant g
+    by : (o : Option Constant) → later_constant_value o ≡ None → o ≡ None
+    by None g = refl
+    by (Some c) g = cc
 
 -- a method that does not come later initializes no class
 initializes_none : (m : Method) → later_method m ≡ None → same_text m.name (codes "<clinit>") ≡ false
@@ -180,7 +177,8 @@ no_clinit : (ms : List Method) (t : MethodDescriptor) → first_later later_meth
 no_clinit [] t e = refl
 no_clinit (m ∷ ms) t e =
     let parts = neither_later (later_method m) (first_later later_method ms) e in
-    ap (λ b. elim (b && same_method_type m.descriptor t) as (λ _. Option Method) [ true ↦ Some m | false ↦ method_in ms (codes "<clinit>") t ]) (initializes_none m parts.0)
+    ap (λ b. elim (b && same_method_type m.descriptor t) as (λ _. Option Method) [ true ↦ Some m | false ↦ method_in ms (codes "<clinit>") t ])
+    (initializes_none m parts.0)
     ∙ no_clinit ms t parts.1
 
 pub plain_main : (program : List ClassParts) → later_part program ≡ None → (d : ClassParts) → slice_get program 0 ≡ Some d → IsPlain d

@@ -21,8 +21,8 @@ use Rattle.jm_world.specs.Types.{same_type, same_types, same_result, same_elemen
 use Rattle.jm_world.specs.Classes.{class_named, class_among, built_in_named, height, as_class, print_stream_class, string_class, system_class, object_class}
 use Rattle.jm_world.specs.Hierarchy.{chain, up_from, is_subclass, is_below, holds_of_any, parents}
 use Rattle.jm_world.specs.Resolution.{select, instance_along}
-use Rattle.jm_world.specs.Loads.{Refusal, Loads, refusal, or_else, when, first_of_all, wrong_kind, is_sealed, is_strange_interface, superclass_of_kind, superclass_refusal}
-use Rattle.jm_world.specs.Loads.{interface_of_kind, parents_refusal}
+use Rattle.jm_world.specs.Loads.{Refusal, Loads, refusal, or_else, when, first_of_all, wrong_kind, is_sealed, is_strange_interface}
+use Rattle.jm_world.specs.Loads.{superclass_of_kind, superclass_refusal, interface_of_kind, parents_refusal}
 use Rattle.jm_linked.specs.Later.{is_class_called, is_print, print_name, print_type, printed_type}
 use Rattle.jm_linked.specs.Links.{class_name_of}
 use Rattle.jm_linked.specs.declared.instruction.Printed.{Printed}
@@ -174,7 +174,9 @@ the_parents = refl
 
 all_append : (xs ys : List (List ℕ)) → list_all is_other xs ≡ true → list_all is_other ys ≡ true → list_all is_other (xs ++ ys) ≡ true
 all_append [] ys e f = f
-all_append (x ∷ xs) ys e f = ap (λ b. b && list_all is_other (xs ++ ys)) (left_true (is_other x) (list_all is_other xs) e) ∙ all_append xs ys (right_true (is_other x) (list_all is_other xs) e) f
+all_append (x ∷ xs) ys e f =
+    ap (λ b. b && list_all is_other (xs ++ ys)) (left_true (is_other x) (list_all is_other xs) e)
+    ∙ all_append xs ys (right_true (is_other x) (list_all is_other xs) e) f
 
 -- no class of a program that loads extends it, since it is sealed, or implements it, since it is no interface
 refused_none : (a b : Option Refusal) → or_else a b ≡ None → (a ≡ None) × (b ≡ None)
@@ -189,7 +191,8 @@ neither_so : (a b : Bool) → (a || b) ≡ false → (a ≡ false) × (b ≡ fal
 neither_so true b e = cc
 neither_so false b e = (refl, e)
 
-super_other : (program : List ClassParts) (c : ClassParts) (o : Option (List ℕ)) → superclass_refusal program c o ≡ None → list_all is_other (option_to_list o) ≡ true
+super_other : (program : List ClassParts) (c : ClassParts) (o : Option (List ℕ)) → superclass_refusal program c o ≡ None
+    → list_all is_other (option_to_list o) ≡ true
 unfolding is_other
 super_other program c None e = refl
 super_other program c (Some name) e = by (class_named program name) e
@@ -202,7 +205,8 @@ super_other program c (Some name) e = by (class_named program name) e
         let other = (neither_so (same_text name string_class || same_text name system_class) (same_text name print_stream_class) sealed).1 in
         ap (λ b. not b && true) other
 
-interface_other : (program : List ClassParts) → Loads program → (name : List ℕ) → interface_of_kind name (class_named program name) ≡ None → is_other name ≡ true
+interface_other : (program : List ClassParts) → Loads program → (name : List ℕ) → interface_of_kind name (class_named program name) ≡ None
+    → is_other name ≡ true
 unfolding is_other
 interface_other program loads name e = by (same_text name print_stream_class) refl
   where
@@ -223,7 +227,8 @@ interfaces_other program loads (x ∷ xs) e =
 
 parents_other : (program : List ClassParts) → Loads program → (c : ClassParts) → parents_refusal program c ≡ None → list_all is_other (parents (Some c)) ≡ true
 parents_other program loads c e =
-    let parts = refused_none (superclass_refusal program c c.superclass) (first_of_all (λ name. interface_of_kind name (class_named program name)) c.interfaces) e in
+    let parts =
+    refused_none (superclass_refusal program c c.superclass) (first_of_all (λ name. interface_of_kind name (class_named program name)) c.interfaces) e in
     all_append (option_to_list c.superclass) c.interfaces (super_other program c c.superclass parts.0) (interfaces_other program loads c.interfaces parts.1)
 
 class_parents : (program : List ClassParts) → Loads program → (cs : List ClassParts) (name : List ℕ) → first_of_all (parents_refusal program) cs ≡ None
@@ -249,7 +254,8 @@ none_holds test h (x ∷ xs) e =
     ap (λ b. elim b as (λ _. Bool) [ true ↦ true | false ↦ holds_of_any test xs ]) (h x (not_true (same_text x print_stream_class) (left_true (is_other x) (list_all is_other xs) e)))
     ∙ none_holds test h xs (right_true (is_other x) (list_all is_other xs) e)
 
-not_below : (n : ℕ) (program : List ClassParts) → Loads program → (name : List ℕ) → same_text name print_stream_class ≡ false → is_below n program name print_stream_class ≡ false
+not_below : (n : ℕ) (program : List ClassParts) → Loads program → (name : List ℕ) → same_text name print_stream_class ≡ false
+    → is_below n program name print_stream_class ≡ false
 unfolding class_named
 not_below zero program loads name e = refl
 not_below (suc n) program loads name e =
@@ -257,7 +263,8 @@ not_below (suc n) program loads name e =
     ∙ none_holds (λ parent. is_below n program parent print_stream_class) (λ x f. not_below n program loads x f) (parents (class_named program name))
     (class_parents program loads program name (no_parents_refused program loads))
 
-pub no_stream : (program : List ClassParts) → Loads program → (name : List ℕ) → same_text name print_stream_class ≡ false → is_subclass program name print_stream_class ≡ false
+pub no_stream : (program : List ClassParts) → Loads program → (name : List ℕ) → same_text name print_stream_class ≡ false
+    → is_subclass program name print_stream_class ≡ false
 unfolding is_subclass
 no_stream program loads name e = not_below (height program) program loads name e
 

@@ -1,7 +1,7 @@
 -- What the machine cannot run yet: the first such part of a program, by classes in order, in a class
 -- its superclass, fields, methods, then the instructions and the exception table of each method.
 use Rattle.std.specs.Prelude.{ℕ, List, [], ◌∷◌, Option, Some, None, Bool, true, false, ◌&&◌, codes}
-use Rattle.jm_program.specs.Flags.{is_static, is_synchronized}
+use Rattle.jm_program.specs.Flags.{is_synchronized}
 use Rattle.jm_program.specs.Names.{same_text}
 use Rattle.jm_program.specs.declared.class.ClassParts.{ClassParts}
 use Rattle.jm_program.specs.declared.class.Field.{Field}
@@ -171,13 +171,13 @@ abbrev pub later_superclass : Bool → Option (List ℕ) → Option LaterPart
 later_superclass true s = later_main_superclass s
 later_superclass false s = later_other_superclass s
 
--- a static field, and a field with a ConstantValue (JVMS 4.7.2)
+-- a field with a ConstantValue (JVMS 4.7.2)
 abbrev pub later_constant_value : Option Constant → Option LaterPart
 later_constant_value None = None
 later_constant_value (Some c) = Some later.ConstantValue
 
 abbrev pub later_declared_field : Field → Option LaterPart
-later_declared_field f = elim (is_static f.flags) [ true ↦ Some later.Fields | false ↦ later_constant_value f.constant ]
+later_declared_field f = later_constant_value f.constant
 
 -- the initializer of a class (JVMS 2.9), and a method that is synchronized (JVMS 2.11.10)
 abbrev pub later_method : Method → Option LaterPart

@@ -8,7 +8,6 @@ unfoldable pub later_text : LaterPart → List ℕ
 later_text later.Superclass = codes "superclass"
 later_text later.Thread = codes "java/lang/Thread"
 later_text later.IllegalThreadState = codes "java/lang/IllegalThreadStateException"
-later_text later.Fields = codes "fields"
 later_text later.ConstantValue = codes "ConstantValue"
 later_text later.ClassInitializer = codes "<clinit>"
 later_text later.Synchronized = codes "synchronized"

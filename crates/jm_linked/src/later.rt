@@ -16,8 +16,6 @@ pub enum LaterPart {
     Thread,
     /// A use of java/lang/IllegalThreadStateException.
     IllegalThreadState,
-    /// A static field.
-    Fields,
     /// A field with a `ConstantValue`.
     ConstantValue,
     /// `<clinit>`.
@@ -51,7 +49,6 @@ impl Display for LaterPart {
             LaterPart::IllegalThreadState => {
                 f.write_str("java/lang/IllegalThreadStateException")
             }
-            LaterPart::Fields => f.write_str("fields"),
             LaterPart::ConstantValue => f.write_str("ConstantValue"),
             LaterPart::ClassInitializer => f.write_str("<clinit>"),
             LaterPart::Synchronized => f.write_str("synchronized"),

@@ -1,9 +1,10 @@
 // The parts of a program that the machine cannot run yet.
 
 ghost use Rattle.std.specs.Prelude.{◌≡◌, [], ◌∷◌, None, Some, cond, false};
-ghost use Rattle.jm_linked.specs.Later.{is_class_called, is_system_out, base_type, printed_type, print_name, print_parameters, is_print, print_among, print_methods, later_constant, later_array, later_field, later_invoke, later_instruction};
-ghost use Rattle.jm_linked.specs.Later.{later_name, later_element, later_class_ref, later_use, later_in_code, first_later, later_code, is_main_method};
-ghost use Rattle.jm_linked.specs.Later.{later_main_superclass, later_other_superclass, later_superclass, later_constant_value, later_declared_field, later_method};
+ghost use Rattle.jm_linked.specs.Later.{is_class_called, is_system_out, base_type, printed_type, print_name, print_parameters, is_print, print_among};
+ghost use Rattle.jm_linked.specs.Later.{print_methods, later_constant, later_array, later_field, later_invoke, later_instruction, later_name, later_element};
+ghost use Rattle.jm_linked.specs.Later.{later_class_ref, later_use, later_in_code, first_later, later_code, is_main_method, later_main_superclass};
+ghost use Rattle.jm_linked.specs.Later.{later_other_superclass, later_superclass, later_constant_value, later_declared_field, later_method};
 ghost use Rattle.jm_linked.specs.Later.{later_class, later_part};
 ghost use Rattle.jm_program.specs.Names.{same_text};
 ghost use Rattle.jm_program.specs.declared.class.Method.{Method};
@@ -367,11 +368,7 @@ fn later_constant_value(constant: &Option<Constant>) -> Option<LaterPart>
 fn later_declared_field(field: &Field) -> Option<LaterPart>
     ensures { result ≡ later_declared_field field.now }
 {
-    if field.flags.has(AccessFlags::STATIC) {
-        Some(LaterPart::Fields)
-    } else {
-        later_constant_value(&field.constant)
-    }
+    later_constant_value(&field.constant)
 }
 
 fn later_in_fields(fields: &[Field]) -> Option<LaterPart>

@@ -48,7 +48,8 @@ code_texts o = elim o [ None ↦ [] | Some code ↦ flat_map texts_of_instructio
 no_code_texts : (o : Option Code) → later_code o ≡ None → code_texts o ≡ []
 unfolding code_texts
 no_code_texts None e = refl
-no_code_texts (Some code) e = no_texts code.instructions (neither_later (first_later later_in_code code.instructions) (unless_empty later.Handlers code.handlers) e).0
+no_code_texts (Some code) e =
+    no_texts code.instructions (neither_later (first_later later_in_code code.instructions) (unless_empty later.Handlers code.handlers) e).0
 
 no_method_texts : (ms : List Method) → first_later (λ m. later_code m.code) ms ≡ None → flat_map texts_of_method ms ≡ []
 unfolding code_texts

@@ -118,7 +118,16 @@ heap_length program e = ap (λ ts. suc (suc (length (objects_from 2 ts)))) e
 
 -- the state from which a run begins
 abbrev pub first_view : List ClassParts → ℕ → held.Thread → List ClassState → StateView
-first_view program out t states = record { threads = t ∷ []; live = 1; statics = Ref out ∷ static_values program; classes = states; literals = []; monitors = []; output = []; stop = None }
+first_view program out t states = record {
+  threads = t ∷ [];
+  live = 1;
+  statics = Ref out ∷ static_values program;
+  classes = states;
+  literals = [];
+  monitors = [];
+  output = [];
+  stop = None;
+}
 
 -- main's thread, with these frames and nothing else
 pub record IsFirst (l : LinkedView) (t : held.Thread) (array : ℕ) : Type 0 where
@@ -157,7 +166,8 @@ module _ (l : LinkedView) (i : IsLinked l) (none_later : later_part l.program �
   both_resident c a o p (inr (inr e)) = absurd e
 
   -- it is that of the loaded world
-  pub started : (old c : Content ClassId) (states : List ClassState) → HasFirst old c out array → states ≡ replicate (length l.program) NotBegun → Matches (parts l c (first_view l.program out t states)) (loaded_world l.program old.limit)
+  pub started : (old c : Content ClassId) (states : List ClassState) → HasFirst old c out array → states ≡ replicate (length l.program) NotBegun
+      → Matches (parts l c (first_view l.program out t states)) (loaded_world l.program old.limit)
   unfolding parts loaded_world
   started old c states first states_is =
       let none = no_literals l.program none_later in
@@ -198,7 +208,10 @@ module _ (l : LinkedView) (i : IsLinked l) (none_later : later_part l.program �
     classes = ap length states_is ∙ length-replicate (length l.program) NotBegun;
     not_yet = record {
       program = none_later;
-      threads = (subst (ThreadNotYet l) (sym first_held) (record { object = refl; frames = (main_class l i, ((refl, refl), tt)); initializers = (tt, tt) }), tt);
+      threads = (
+        subst (ThreadNotYet l) (sym first_held) (record { object = refl; frames = (main_class l i, ((refl, refl), tt)); initializers = (tt, tt) }),
+        tt,
+      );
       monitors = refl;
       failures = subst (AllByRecursion (λ s. s ≢ Failed)) (sym states_is) (none_failed (length l.program));
     };

@@ -28,7 +28,8 @@ class_names : (ns : List FieldName) → map (λ (s : Static). s.field) (map begi
 class_names [] = refl
 class_names (n ∷ ns) = ap (λ xs. n ∷ xs) (class_names ns)
 
-class_values : (c : ClassParts) (fs : List Field) → map (λ (s : Static). s.value) (map begins (field_names c fs)) ≡ map (λ (f : Field). default_value f.descriptor) fs
+class_values : (c : ClassParts) (fs : List Field)
+    → map (λ (s : Static). s.value) (map begins (field_names c fs)) ≡ map (λ (f : Field). default_value f.descriptor) fs
 class_values c [] = refl
 class_values c (f ∷ fs) = ap (λ xs. default_value f.descriptor ∷ xs) (class_values c fs)
 
@@ -85,7 +86,8 @@ module _ (program : List ClassParts) (out : ℕ) where
   first_named f e =
       (λ i. (let x : Static = record { field = out_field; value = Ref (e i) } in x)
       ∷ (list_shape static_shape).rename f (named_statics (flat_map statics_of_class program) (sym (values_are program) i)))
-      ∙ ap (λ ss. (let x : Static = record { field = out_field; value = Ref 0 } in x) ∷ ss) (renamed_same f (flat_map statics_of_class program) (statics_free program))
+      ∙ ap (λ ss. (let x : Static = record { field = out_field; value = Ref 0 } in x) ∷ ss)
+      (renamed_same f (flat_map statics_of_class program) (statics_free program))
 
   pub first_refs : (list_shape static_shape).refs (named_statics (first_statics program) first) ≡ out ∷ []
   first_refs =

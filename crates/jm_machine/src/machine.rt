@@ -52,8 +52,9 @@ impl<H: Heap + Drop> Machine<H> {
     ghost use Rattle.jm_machine.specs.Start.{IsEmpty, Loaded};
 
     /// The machine from which a run of a linked program begins in which nothing comes later (what
-    /// `jm_linker::link` answers is so), over an empty heap whose next serial is 0: `System.out` and the empty array that main is given are made, main's frame
-    /// stands below the initialization of its class (JVMS 5.2), and no class of the program is
+    /// `jm_linker::link` answers is so), over an empty heap whose next serial is 0: `System.out` and
+    /// the empty array that main is given are made, each other static field is zero or null, main's
+    /// frame stands below the initialization of its class (JVMS 5.2), and no class of the program is
     /// begun. `HeapTooSmall`: exactly where the first objects pass the heap's limit. What it took
     /// is dropped after a refusal.
     pub fn load(alloc: Global, linked: Linked, heap: H) -> Result<Machine<H>, LoadFault>

@@ -60,7 +60,7 @@ linked 2 <= main & .class public A / .super java/lang/Object / .method public f(
 linked 1 <= main & .class public A / .super Main / .implements java/lang/Cloneable
 linked 1 <= main & .class public A / .super java/lang/Object / .field x I / .field private y [J / .field z LA;
 linked 1 <= main & .class public abstract A / .super java/lang/Object / .implements I / .method public abstract g()J / .end method & .interface I / .super java/lang/Object / .method public abstract f(I)I / .end method
-linked 3 <= main & .class public B / .super A / .method public f(I)I / iload_1 / ireturn / .end method & .class public A / .super java/lang/Object / .method static f(J)J / .limit stack 2 / .limit locals 2 / lload_0 / lreturn / .end method
+linked 3 <= main & .class public B / .super A / .method public f(I)I / .limit locals 2 / iload_1 / ireturn / .end method & .class public A / .super java/lang/Object / .method static f(J)J / .limit stack 2 / .limit locals 2 / lload_0 / lreturn / .end method
 linked 1 <= main & .class public A / .super java/lang/Exception / .field static x I / .field static y Ljava/lang/Thread;
 ";
 

@@ -89,6 +89,12 @@ run | sum.j & A.j | @sum text & @empty A | t 1 x 9~ | 5~ | - | 0
 run | sum.j & A.j & B.j | @sum text & @empty A & @empty B | t 1 x 9~ | 5~ | - | 0
 run | sum.j & B.j & A.j | @sum text & @empty B & @empty A | t 1 x 9~ | 5~ | - | 0
 run | Main.class & A.j | @class by zero & @empty A | t 1 x 7~ | - | jm: thread 1 ended by java/lang/ArithmeticException~ | 3
+# a class, an interface, fields and methods stand beside main
+run | sum.j & A.j | @sum text & .class A~.super Main~.implements java/lang/Cloneable~.field x J~.field static y [I~.method f(I)I~.limit locals 2~iload_1~ireturn~.end method~ | t 1 x 9~ | 5~ | - | 0
+run | sum.j & A.j & I.j | @sum text & .class abstract A~.super java/lang/Object~.implements I~ & .interface I~.super java/lang/Object~.method public abstract g()J~.end method~ | t 1 x 9~minor~full~ | 5~ | - | 0
+run | Main.j | .class Main~.super java/lang/Object~.field static x J~.field y LMain;~.method static f()V~return~.end method~.method static main([Ljava/lang/String;)V~.limit stack 2~getstatic java/lang/System/out Ljava/io/PrintStream;~bipush 7~invokevirtual java/io/PrintStream/println(I)V~return~.end method~ | t 1 x 3~full~t 1 x 4~ | 7~ | - | 0
+# what comes later, in a class beside main
+run | sum.j & A.j | @sum text & .class A~.super java/lang/Thread~ | ? | - | jm: 16 Later(java/lang/Thread)~ | 4
 # the first file's class is the main class
 run | A.j & Main.class | @empty A & @class sum | t 1 x 9~ | - | jm: 56 NoMain~ | 4
 run | A.j & sum.j & B.j | @empty A & @sum text & @empty B | t 1 x 9~ | - | jm: 56 NoMain~ | 4
@@ -261,7 +267,7 @@ fn program_files_are_known_by_their_names(rt: HostRuntime) -> Result<(), Fail> {
 
 #[test]
 fn several_files_are_one_program(rt: HostRuntime) -> Result<(), Fail> {
-    check_rows(&rt, rt.alloc(), SEVERAL_FILES, 24)
+    check_rows(&rt, rt.alloc(), SEVERAL_FILES, 28)
 }
 
 #[test]
