@@ -4,12 +4,55 @@
 use crate::class_file::{BY_ZERO, SUM};
 use crate::machine::runs::{STEP, loaded};
 use jm_heap::PlainHeap;
+use jm_jasmin::assemble;
+use jm_linker::link;
 use jm_machine::{
     ElementKind, Machine, MethodFrame, ObjectKind, OutOfMemory, WorldFrame, WorldObject, WorldValue,
 };
 use jm_program::is_text;
 use jm_world::Stage;
+use std::alloc::Global;
 use std::test::Fail;
+
+// Two classes, each with static fields.
+const MAIN: &str = ".class Main
+.super java/lang/Object
+.field static x J
+.field y I
+.method static main([Ljava/lang/String;)V
+return
+.end method
+";
+
+const OTHER: &str = ".class A
+.super Main
+.field static y [I
+.field z Z
+.field static z C
+";
+
+// The machine from which the run of a program of two texts begins.
+fn loaded_texts(alloc: Global, main: &str, other: &str) -> Result<Machine<PlainHeap>, Fail> {
+    let classes = vec![in alloc; assemble(alloc, main)?, assemble(alloc, other)?]?;
+    let linked = link(alloc, classes)?;
+    Ok(Machine::load(alloc, linked, PlainHeap::new(alloc, 65536))?)
+}
+
+// The static field of a number has this class, name and value.
+fn has_static(
+    machine: &Machine<PlainHeap>,
+    number: usize,
+    class: &[u8],
+    name: &[u8],
+    value: WorldValue,
+) -> bool {
+    match machine.statics().get(number) {
+        Some(field) => {
+            field.class.is_text(class) && field.name.is_text(name) && field.value == value
+        }
+        None => false,
+    }
+}
 
 fn begins_main(machine: &Machine<PlainHeap>) -> bool {
     match machine.frame(1, 0) {
@@ -111,6 +154,16 @@ fn frames_and_statics_are_told(rt: HostRuntime) -> Result<(), Fail> {
     let _ = machine.run(&[STEP; 6])?;
     assert!(rt; is_at_sum(&machine));
     assert!(rt; has_system_out(&machine));
+    Ok(())
+}
+
+#[test]
+fn static_fields_begin_with_zero_or_null(rt: HostRuntime) -> Result<(), Fail> {
+    let machine = loaded_texts(rt.alloc(), MAIN, OTHER)?;
+    assert!(rt; has_static(&machine, 1, b"Main", b"x", WorldValue::Long(0)));
+    assert!(rt; has_static(&machine, 2, b"A", b"y", WorldValue::Null));
+    assert!(rt; has_static(&machine, 3, b"A", b"z", WorldValue::Int(0)));
+    assert!(rt; machine.statics().get(4).is_none());
     Ok(())
 }
 
