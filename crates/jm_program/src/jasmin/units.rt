@@ -119,7 +119,11 @@ fn write_step<W: fmt::Write>(
 fn waits(unit: u16) -> Option<u16>
     ensures { result ≡ waits unit }
 {
-    if is_high_surrogate(unit) { Some(unit) } else { None }
+    if is_high_surrogate(unit) {
+        Some(unit)
+    } else {
+        None
+    }
 }
 
 /// Writes code units as they stand in such a place.
