@@ -179,7 +179,7 @@ pub runs_today : (program : List ClassParts) (x : LinkedInstr) (i : Instr) → L
 runs_today program (linked.Plain op) i h e = tt
 runs_today program (linked.Int n) i h e = tt
 runs_today program (linked.Long n) i h e = tt
-runs_today program linked.Literal i h e = let bad : Some later.StringConstant ≡ None = sym (ap later_instruction h.1) ∙ e in cc
+runs_today program (linked.Literal n) i h e = let bad : Some later.StringConstant ≡ None = sym (ap later_instruction h.1) ∙ e in cc
 runs_today program (linked.Return op) i h e = tt
 runs_today program (linked.Array op) i h e = array_later op (sym (ap later_instruction h) ∙ e)
 runs_today program linked.Throw i h e = let bad : Some later.Throw ≡ None = sym (ap later_instruction h) ∙ e in cc

@@ -24,7 +24,7 @@ use Rattle.jm_builtins.specs.List.{the_builtins}
 use Rattle.jm_builtins.specs.Numbers.{built_in_names}
 use Rattle.jm_world.specs.Classes.{FoundField, FoundMethod, MethodName, as_class, name_of_method, method_named}
 use Rattle.jm_world.specs.Fields.{resolved_field}
-use Rattle.jm_world.specs.Loading.{main_in}
+use Rattle.jm_world.specs.Loading.{literal_texts, main_in}
 use Rattle.jm_world.specs.Loads.{Loads}
 use Rattle.jm_world.specs.Resolution.{resolve_method}
 use Rattle.jm_world.specs.Types.{type_of_ref}
@@ -40,10 +40,11 @@ use Rattle.jm_linked.specs.declared.instruction.MemberNumber.{MemberNumber}
 use Rattle.jm_linked.specs.declared.method.LinkedHandler.{LinkedHandler}
 use Rattle.jm_linked.specs.declared.method.LinkedMethod.{LinkedMethod}
 
--- the classes, the methods with code, by number, and the number of main
+-- the classes, the methods with code and the texts of literals, by number, and the number of main
 pub record LinkedView : Type 0 where
   pub program : List ClassParts
   pub methods : List LinkedMethod
+  pub literals : List (List ℕ)
   pub main : ℕ
 
 -- the names of classes by number: the built-in ones first
@@ -115,7 +116,7 @@ abbrev pub LinksIn : List ClassParts → LinkedInstr → Instr → Type 0
 LinksIn program (linked.Plain op) i = i ≡ instr.Plain op
 LinksIn program (linked.Int n) i = i ≡ instr.Constant (constant.Int n)
 LinksIn program (linked.Long n) i = i ≡ instr.Constant (constant.Long n)
-LinksIn program linked.Literal i = (units : List ℕ) × (i ≡ instr.Constant (constant.String units))
+LinksIn program (linked.Literal n) i = (units : List ℕ) × (i ≡ instr.Constant (constant.String units)) × (slice_get (literal_texts program) n ≡ Some units)
 LinksIn program (linked.Return op) i = i ≡ instr.Return op
 LinksIn program (linked.Array op) i = i ≡ instr.Array op
 LinksIn program linked.Throw i = i ≡ instr.Throw
@@ -203,6 +204,8 @@ pub record IsLinked (l : LinkedView) : Type 0 where
   -- the methods are all that have code, in the order of the classes and of the methods of each
   pub methods : (n : ℕ) (m : LinkedMethod) → slice_get l.methods n ≡ Some m → MethodLinks l m
   pub all : map place_of l.methods ≡ coded_from 0 l.program
+  -- the literals are in the model's order, equal ones once (JVMS 5.1)
+  pub literals : l.literals ≡ literal_texts l.program
   -- main is the first class's
   pub main : LinkedMethod
   pub main_is : slice_get l.methods l.main ≡ Some main

@@ -60,8 +60,8 @@ pub enum LinkedInstr {
     Int(i32),
     /// `ldc2_w` of a long.
     Long(i64),
-    /// `ldc` of a string.
-    Literal,
+    /// `ldc` of a string, by its number among the program's literals.
+    Literal(u32),
     Return(ReturnOp),
     Array(ArrayOp),
     /// `athrow`.

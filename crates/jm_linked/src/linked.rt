@@ -6,7 +6,7 @@ ghost use Rattle.jm_linked.specs.Links.{LinkedView, IsLinked};
 
 use crate::method::LinkedMethod;
 use jm_builtins::BuiltIn;
-use jm_program::{Class, Sequence};
+use jm_program::{Class, Sequence, Shared};
 use std::marker::Model;
 
 /// A program that loads, with its names resolved.
@@ -15,6 +15,7 @@ pub struct Linked {
     classes: Sequence<Class>,
     built_ins: Sequence<BuiltIn>,
     methods: Sequence<LinkedMethod>,
+    literals: Sequence<Shared<Sequence<u16>>>,
     main: u32,
 }
 
@@ -25,9 +26,10 @@ impl Model for Linked {
 
     ghost Value = { LinkedView };
 
-    ghost view = { λ l. record { program = l.classes; methods = l.methods; main = l.main } };
+    ghost view = { λ l. record { program = l.classes; methods = l.methods; literals = l.literals; main = l.main } };
 
-    ghost invariant = { λ l. (l.built_ins ≡ the_builtins) × IsLinked (record { program = l.classes; methods = l.methods; main = l.main }) };
+    ghost invariant = { λ l. (l.built_ins ≡ the_builtins)
+        × IsLinked (record { program = l.classes; methods = l.methods; literals = l.literals; main = l.main }) };
 }
 
 impl Linked {
@@ -36,16 +38,18 @@ impl Linked {
         classes: Sequence<Class>,
         built_ins: Sequence<BuiltIn>,
         methods: Sequence<LinkedMethod>,
+        literals: Sequence<Shared<Sequence<u16>>>,
         main: u32,
     ) -> Linked
         requires built_in { built_ins ≡ the_builtins }
-        requires linked { IsLinked (record { program = classes; methods = methods; main = main }) }
-        ensures { result ≡ record { program = classes; methods = methods; main = main } }
+        requires linked { IsLinked (record { program = classes; methods = methods; literals = literals; main = main }) }
+        ensures { result ≡ record { program = classes; methods = methods; literals = literals; main = main } }
     {
         Linked {
             classes,
             built_ins,
             methods,
+            literals,
             main,
         }
     }
@@ -70,6 +74,16 @@ impl Linked {
         ensures { result ≡ self.now.main }
     {
         self.main
+    }
+
+    /// The texts of the string literals, in UTF-16 code units, by number: in the order of the
+    /// classes, of a class's constant fields and then its methods, and of their instructions; equal
+    /// ones once, where the first one stands.
+    #[inline]
+    pub fn literals(&self) -> &[Shared<Sequence<u16>>]
+        ensures { result.now ≡ self.now.literals }
+    {
+        self.literals.as_slice()
     }
 
     /// The methods with code, in the order of the classes and of the methods of each.

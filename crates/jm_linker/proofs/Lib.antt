@@ -15,3 +15,4 @@ pub mod RankLaws
 pub mod NumberedLaws
 pub mod FoundNumberLaws
 pub mod MethodLaws
+pub mod LiteralLaws

@@ -17,7 +17,7 @@ use Rattle.jm_program.specs.declared.code.Code.{Code}
 use Rattle.jm_program.specs.declared.descriptor.MethodDescriptor.{MethodDescriptor}
 use Rattle.jm_world.specs.Types.{same_method_type}
 use Rattle.jm_world.specs.Classes.{FoundMethod, method_in, method_of_class, method_named, name_of_method}
-use Rattle.jm_world.specs.Loading.{main_type, main_in}
+use Rattle.jm_world.specs.Loading.{literal_texts, main_type, main_in}
 use Rattle.jm_world.specs.Loads.{Loads, Refusal, refusal, is_main, or_else, when, first_of_all, duplicates, duplicate_members, duplicate_member}
 use Rattle.jm_world.specs.Loads.{duplicate_fields, duplicate_methods}
 use Rattle.jm_linked.specs.Later.{is_main_method}
@@ -155,15 +155,17 @@ placed ms n class member e = by (slice_get ms n) refl (sym (slice_get-map place_
         let same : (m.class, m.member) ≡ (class, member) = cc in
         record { method = m; at = is; class_is = ap (λ (p : ℕ × ℕ). p.0) same; member_is = ap (λ (p : ℕ × ℕ). p.1) same }
 
-pub is_linked : (program : List ClassParts) (methods : List LinkedMethod) (main : ℕ) → Loads program → map place_of methods ≡ coded_from 0 program
-    → AllByRecursion (LinksAlone program) methods → NumbersMain program main → IsLinked (record { program = program; methods = methods; main = main })
-is_linked program methods main loads places linked n =
-    let l : LinkedView = record { program = program; methods = methods; main = main } in
+pub is_linked : (program : List ClassParts) (methods : List LinkedMethod) (literals : List (List ℕ)) (main : ℕ) → Loads program
+    → map place_of methods ≡ coded_from 0 program → AllByRecursion (LinksAlone program) methods → literals ≡ literal_texts program → NumbersMain program main
+    → IsLinked (record { program = program; methods = methods; literals = literals; main = main })
+is_linked program methods literals main loads places linked texts n =
+    let l : LinkedView = record { program = program; methods = methods; literals = literals; main = main } in
     let p = placed methods main 0 n.member (ap (λ ps. slice_get ps main) places ∙ n.place) in
     record {
       loads = loads;
       methods = λ k m at. method_links l loads m (each_at (LinksAlone program) methods k m linked at);
       all = places;
+      literals = texts;
       main = p.method;
       main_is = p.at;
       found = n.found;

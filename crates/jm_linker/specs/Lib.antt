@@ -11,3 +11,4 @@ pub mod Ranks
 pub mod NumberedClasses
 pub mod FoundNumbers
 pub mod LinkedMethods
+pub mod Literals

@@ -5,7 +5,9 @@ ghost use Rattle.std.specs.List.{list_any};
 ghost use Rattle.jm_program.specs.Names.{same_text};
 ghost use Rattle.jm_program.specs.declared.class.ClassParts.{ClassParts};
 ghost use Rattle.jm_world.specs.Classes.{as_class, class_named, height};
+ghost use Rattle.jm_world.specs.Loading.{literal_texts};
 ghost use Rattle.jm_world.specs.Loads.{duplicate_members, first_of_all};
+ghost use Rattle.jm_literals.specs.Texts.{number_of_text};
 ghost use Rattle.jm_linker.specs.Answers.{Answers, IsOutOfMemory};
 ghost use Rattle.jm_linker.specs.BuiltInClasses.{built_in_classes, class_in, is_built_in_name, number_from};
 ghost use Rattle.jm_linker.specs.NumberedClasses.{IsNumberOf};
@@ -15,7 +17,8 @@ use crate::fault::LinkFault;
 use crate::members::{Members, members_of_classes, members_of_program};
 use crate::name::is_same;
 use jm_builtins::{BuiltIn, builtins};
-use jm_program::{Class, ClassParts, Name, Version};
+use jm_literals::Literals;
+use jm_program::{Class, ClassParts, Name, Sequence, Shared, Version};
 use std::alloc::{AllocError, Global};
 use std::collections::BTreeMap;
 
@@ -29,16 +32,19 @@ pub struct Names<'a> {
     ghost numbered: { HasNumbers numbers program.now },
 }
 
-/// The classes of a program, and beside them the built-in ones, each with its members.
+/// The classes of a program, and beside them the built-in ones, each with its members, and the
+/// program's string literals.
 #[derive(Drop)]
 pub struct Classes<'a> {
     pub program: &'a [Class],
     members: Vec<Members<'a>>,
     pub built_ins: Vec<Members<'a>>,
     numbers: BTreeMap<&'a [u16], usize>,
+    literals: Literals<'a>,
     ghost tabled: { map (λ m. m.class.now) members.items ≡ program.now },
     ghost complete: { map (λ m. m.class.now) built_ins.items ≡ built_in_classes },
     ghost numbered: { HasNumbers numbers program.now },
+    ghost gathered: { literals ≡ literal_texts program.now },
 }
 
 // The numbers of a program's classes by name: of classes of one name the first one's.
@@ -207,11 +213,13 @@ impl<'a> Classes<'a> {
         } = names;
         let members = members_of_program(alloc, program)?;
         let built_ins = members_of_built_ins(alloc, built_ins)?;
+        let literals = Literals::of(alloc, program)?;
         Ok(Classes {
             program,
             members,
             built_ins,
             numbers,
+            literals,
         })
     }
 
@@ -221,6 +229,20 @@ impl<'a> Classes<'a> {
         ensures { result ≡ height self.now.program.now }
     {
         self.program.len() + self.built_ins.as_slice().len()
+    }
+
+    /// The number of a text among the program's literals, from 0, if it is one.
+    pub fn literal(&self, text: &'a [u16]) -> Option<u32>
+        ensures { result ≡ number_of_text (literal_texts self.now.program.now) text.now }
+    {
+        self.literals.number(text)
+    }
+
+    /// The texts of the program's literals, by number, moved out.
+    pub fn into_literals(self) -> Vec<Shared<Sequence<u16>>>
+        ensures { result.items ≡ literal_texts self.entry.program.now }
+    {
+        self.literals.into_texts()
     }
 
     /// The number of the program's first class of the name.

@@ -1,16 +1,18 @@
 // The methods with code, with their names resolved.
 
 ghost use Rattle.std.specs.Prelude.{◌≡◌, List, IfOk, MatchOption, OnOk, Some, None, false, true, map, option_map, slice_get};
-ghost use Rattle.std.specs.List.{AllByRecursion};
+ghost use Rattle.std.specs.List.{AllByRecursion, flat_map};
 ghost use Rattle.jm_program.specs.declared.class.ClassParts.{ClassParts};
 ghost use Rattle.jm_program.specs.declared.instruction.operation.InvokeOp.TheVariants.{Virtual};
 ghost use Rattle.jm_program.specs.declared.instruction.symbolic.Instr.TheVariants as instr;
+ghost use Rattle.jm_world.specs.Loading.{text_of, texts_of_instruction};
 ghost use Rattle.jm_world.specs.Loads.{instruction_refusal, catch_refusal, method_code_refusal, first_of_all, or_else};
 ghost use Rattle.jm_linked.specs.Kinds.{kind_of};
 ghost use Rattle.jm_linked.specs.Later.{is_print};
 ghost use Rattle.jm_linked.specs.Links.{LinksIn, AllLinkIn, coded_from, place_of, prints, reads_system_out};
 ghost use Rattle.jm_linker.specs.Answers.{Answers};
 ghost use Rattle.jm_linker.specs.LinkedMethods.{LinksCode, LinksAlone, LinksClass};
+ghost use Rattle.jm_linker.specs.Literals.{AreLiterals};
 
 use crate::classes::Classes;
 use crate::fault::LinkFault;
@@ -24,13 +26,17 @@ use jm_program::{
 };
 use std::alloc::Global;
 
-fn link_constant(constant: &Constant) -> LinkedInstr
-    ensures { (program : List ClassParts) → LinksIn program result (instr.Constant constant.now) }
+fn link_constant<'a>(classes: &Classes<'a>, constant: &'a Constant) -> LinkedInstr
+    requires { AreLiterals classes.now.program.now (text_of constant.now) }
+    ensures { LinksIn classes.now.program.now result (instr.Constant constant.now) }
 {
     match constant {
         Constant::Int(number) => LinkedInstr::Int(*number),
         Constant::Long(number) => LinkedInstr::Long(*number),
-        Constant::String(_) => LinkedInstr::Literal,
+        Constant::String(text) => match classes.literal(text.as_slice()) {
+            Some(number) => LinkedInstr::Literal(number),
+            None => unreachable!(),
+        },
     }
 }
 
@@ -91,6 +97,7 @@ fn link_instruction<'a>(
     classes: &Classes<'a>,
     instruction: &'a Instr,
 ) -> Result<LinkedInstr, LinkFault>
+    requires { AreLiterals classes.now.program.now (texts_of_instruction instruction.now) }
     ensures refusal { Answers result (instruction_refusal classes.now.program.now instruction.now) }
     ensures linked { IfOk result (λ linked. LinksIn classes.now.program.now linked instruction.now) }
 {
@@ -100,7 +107,7 @@ fn link_instruction<'a>(
         Instr::Return(op) => Ok(LinkedInstr::Return(*op)),
         Instr::Throw => Ok(LinkedInstr::Throw),
         Instr::Monitor(op) => Ok(LinkedInstr::Monitor(*op)),
-        Instr::Constant(constant) => Ok(link_constant(constant)),
+        Instr::Constant(constant) => Ok(link_constant(classes, constant)),
         Instr::Field(op, field) => link_field_use(alloc, classes, *op, field.get()),
         Instr::Invoke(op, method) => link_invoke(alloc, classes, *op, method.get()),
         Instr::New(name) => Ok(LinkedInstr::New(link_new(alloc, classes, name.get())?)),
@@ -116,6 +123,7 @@ fn link_instructions<'a>(
     classes: &Classes<'a>,
     instructions: &'a [Instr],
 ) -> Result<Sequence<LinkedInstr>, LinkFault>
+    requires { AreLiterals classes.now.program.now (flat_map texts_of_instruction instructions.now) }
     ensures refusal { Answers result (first_of_all (instruction_refusal classes.now.program.now) instructions.now) }
     ensures linked { IfOk result (λ linked. AllLinkIn classes.now.program.now linked instructions.now) }
 {
@@ -145,6 +153,7 @@ fn link_code<'a>(
     descriptor: &MethodDescriptor,
     code: &'a Code,
 ) -> Result<LinkedMethod, LinkFault>
+    requires { AreLiterals classes.now.program.now (flat_map texts_of_instruction code.now.instructions) }
     ensures refusal { Answers result (or_else (first_of_all (instruction_refusal classes.now.program.now) code.now.instructions)
         (first_of_all (catch_refusal classes.now.program.now) code.now.handlers)) }
     ensures linked { IfOk result (LinksCode classes.now.program.now class member descriptor.now code.now) }

@@ -2,6 +2,7 @@
 
 ghost use Rattle.std.specs.Prelude.{◌≡◌, None, IfOk, MatchResult, map};
 ghost use Rattle.std.specs.List.{AllByRecursion};
+ghost use Rattle.jm_world.specs.Loading.{literal_texts};
 ghost use Rattle.jm_world.specs.Loads.{refusal, parents_refusal, first_of_all};
 ghost use Rattle.jm_linked.specs.Later.{later_part};
 ghost use Rattle.jm_linked.specs.Links.{coded_from, place_of};
@@ -19,7 +20,7 @@ use crate::main_method::{check_main, main_among_coded};
 use crate::parents::check_parents;
 use jm_builtins::builtins;
 use jm_linked::{Linked, LinkedMethod};
-use jm_program::{Class, Sequence};
+use jm_program::{Class, Sequence, Shared};
 use std::alloc::Global;
 
 fn check_all_parents<'a>(alloc: Global, classes: &Classes<'a>) -> Result<(), LinkFault>
@@ -31,39 +32,48 @@ fn check_all_parents<'a>(alloc: Global, classes: &Classes<'a>) -> Result<(), Lin
     Ok(())
 }
 
-// The methods with code of a program that loads, or the first reason why it does not, in the order in
-// which the reasons are looked for.
+// What is made of a program's classes.
+#[derive(Drop)]
+struct LinkedParts {
+    methods: Vec<LinkedMethod>,
+    literals: Vec<Shared<Sequence<u16>>>,
+}
+
+// The methods with code and the literals of a program that loads, or the first reason why it does not,
+// in the order in which the reasons are looked for.
 #[tactic(auto, using(crate::proofs::Reasons::first_says), unfolding(jm_world::specs::Loads::refusal))]
-fn link_methods(alloc: Global, names: Names) -> Result<Vec<LinkedMethod>, LinkFault>
+fn link_methods(alloc: Global, names: Names) -> Result<LinkedParts, LinkFault>
     ensures refusal { Answers result (refusal names.entry.program.now) }
-    ensures places { IfOk result (λ methods. map place_of methods.items ≡ coded_from 0 names.entry.program.now) }
-    ensures linked { IfOk result (λ methods. AllByRecursion (LinksAlone names.entry.program.now) methods.items) }
+    ensures places { IfOk result (λ parts. map place_of parts.methods.items ≡ coded_from 0 names.entry.program.now) }
+    ensures linked { IfOk result (λ parts. AllByRecursion (LinksAlone names.entry.program.now) parts.methods.items) }
+    ensures literals { IfOk result (λ parts. parts.literals.items ≡ literal_texts names.entry.program.now) }
 {
     no_duplicate_classes(alloc, &names)?;
     let classes = Classes::of(alloc, names)?;
     check_all_parents(alloc, &classes)?;
     check_cycles(alloc, &classes)?;
     check_main(classes.program)?;
-    link_classes(alloc, &classes)
+    let methods = link_classes(alloc, &classes)?;
+    let literals = classes.into_literals();
+    Ok(LinkedParts { methods, literals })
 }
 
-// The linked program of classes that load and their methods with code.
-fn linked_of(
-    alloc: Global,
-    classes: Vec<Class>,
-    methods: Vec<LinkedMethod>,
-) -> Result<Linked, LinkFault>
+// The linked program of classes that load and of what is made of them.
+fn linked_of(alloc: Global, classes: Vec<Class>, parts: LinkedParts) -> Result<Linked, LinkFault>
     requires loads { refusal classes.items ≡ None }
-    requires places { map place_of methods.items ≡ coded_from 0 classes.items }
-    requires linked { AllByRecursion (LinksAlone classes.items) methods.items }
+    requires places { map place_of parts.methods.items ≡ coded_from 0 classes.items }
+    requires linked { AllByRecursion (LinksAlone classes.items) parts.methods.items }
+    requires literals { parts.literals.items ≡ literal_texts classes.items }
     ensures { MatchResult result (λ l. l.program ≡ classes.items) (λ fault. IsOutOfMemory fault) }
 {
     let main = main_among_coded(&classes)?;
     let built_ins = builtins(alloc)?;
+    let LinkedParts { methods, literals } = parts;
     Ok(Linked::new(
         Sequence::new(classes),
         built_ins,
         Sequence::new(methods),
+        Sequence::new(literals),
         main,
     ))
 }
@@ -79,8 +89,8 @@ pub fn link(alloc: Global, classes: Vec<Class>) -> Result<Linked, LinkFault>
     ensures { MatchResult result (λ l. (refusal classes.items ≡ None) × (later_part classes.items ≡ None) × (l.program ≡ classes.items)) (Faults classes.items) }
 {
     let built_ins = classes_of_built_ins(alloc)?;
-    let methods = link_methods(alloc, Names::of(alloc, &classes, &built_ins)?)?;
-    let linked = linked_of(alloc, classes, methods)?;
+    let parts = link_methods(alloc, Names::of(alloc, &classes, &built_ins)?)?;
+    let linked = linked_of(alloc, classes, parts)?;
     match later_part(linked.classes()) {
         Some(part) => Err(LinkFault::Later(part)),
         None => Ok(linked),

@@ -1,11 +1,20 @@
 -- A method without code, and one more with code.
-use Rattle.std.proofs.Common.{◌≡◌, Option, Some, None, sym, ap, ◌∙◌, arith}
+use Rattle.std.proofs.Common.{◌≡◌, Option, Some, None, length, slice_get, refl, sym, ap, ◌∙◌, arith}
+use Rattle.std.proofs.lemmas.Option.{slice_get_read}
 use Rattle.jm_program.specs.declared.class.ClassParts.{ClassParts}
 use Rattle.jm_program.specs.declared.code.Code.{Code}
 use Rattle.jm_world.specs.Loads.{Refusal, method_code_refusal, instruction_refusal, catch_refusal, first_of_all, or_else}
+use Rattle.jm_linker.proofs.LiteralLaws.{code_literals}
 use Rattle.jm_linker.proofs.MethodLaws.{so_far_more, so_far_past}
 use Rattle.jm_linker.proofs.Reasons.{first_after}
 use Rattle.jm_linker.proofs.code.link_class.Goals as goal
+
+pub link_code-requires : goal.link_code-requires
+link_code-requires c =
+    code_literals c.args.classes.now.program.now c.args.number c.loop-index.index c.parts-parts.result.now c.index-methods-index.result c.in-Some.code
+    (c.requires ∙ ap Some (sym c.parts-parts.ensures.parts))
+    (ap (λ ms. slice_get ms c.loop-index.index) (sym c.as_slice-methods.ensures) ∙ slice_get_read c.as_slice-methods.result.now
+    (length c.as_slice-methods.result.now) c.loop-index.index c.index-methods-index.result refl (omega arith) c.index-methods-index.is) c.in-Some.is
 
 pub loop-index-preserved-in_default : goal.loop-index-preserved-in_default
 loop-index-preserved-in_default c =

@@ -1,9 +1,17 @@
 -- One more instruction.
-use Rattle.std.proofs.Common.{arith}
+use Rattle.std.proofs.Common.{length, refl, arith}
+use Rattle.std.proofs.lemmas.Option.{slice_get_read}
 use Rattle.jm_world.specs.Loads.{instruction_refusal}
 use Rattle.jm_linker.proofs.CodeLaws.{linked_more}
+use Rattle.jm_linker.proofs.LiteralLaws.{instruction_literals}
 use Rattle.jm_linker.proofs.Reasons.{first_after}
 use Rattle.jm_linker.proofs.code.link_instructions.Goals as goal
+
+pub link_instruction-requires : goal.link_instruction-requires
+link_instruction-requires c =
+    instruction_literals c.args.classes.now.program.now c.args.instructions.now c.loop-instruction.instruction-index c.instruction-item.result c.requires
+    (slice_get_read c.args.instructions.now (length c.args.instructions.now) c.loop-instruction.instruction-index c.instruction-item.result refl (omega arith)
+    c.instruction-item.is)
 
 pub loop-instruction-preserved : goal.loop-instruction-preserved
 loop-instruction-preserved c =
