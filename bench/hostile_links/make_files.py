@@ -1,6 +1,6 @@
 #!/usr/bin/env python3
 """make_files.py FOLDER: writes a folder of class files (JVMS 4) a shape, each of which makes work for linking:
-many members, many references to one of them, long chains, cycles and diamonds of classes. The first
+many members, many references to one of them, many literals, long chains, cycles and diamonds of classes. The first
 file by name is the main class."""
 import pathlib
 import struct
@@ -9,8 +9,8 @@ import sys
 sys.path.insert(0, str(pathlib.Path(__file__).parent.parent / "large_classes"))
 from make_classes import Pool
 
-PUBLIC_STATIC, PUBLIC_CLASS, INTERFACE = 9, 0x21, 0x601
-RETURN, GETSTATIC, INVOKESTATIC, INVOKEVIRTUAL = b"\xb1", 0xB2, 0xB8, 0xB6
+PUBLIC, PUBLIC_STATIC, PUBLIC_ABSTRACT, PUBLIC_CLASS, ABSTRACT_CLASS, INTERFACE = 1, 9, 0x401, 0x21, 0x421, 0x601
+RETURN, LDC_W, POP, GETSTATIC, GETFIELD, INVOKESTATIC, INVOKEVIRTUAL = b"\xb1", 0x13, 0x57, 0xB2, 0xB4, 0xB8, 0xB6
 MAIN = ("main", "([Ljava/lang/String;)V")
 LONGEST = 65533 // 3 * 3
 MANY = 65535
@@ -23,8 +23,12 @@ def method(pool, name, descriptor, code=RETURN):
     return head + struct.pack(">HI", pool.text("Code"), len(body)) + body
 
 
-def field(pool, name, descriptor):
-    return struct.pack(">HHHH", PUBLIC_STATIC, pool.text(name), pool.text(descriptor), 0)
+def abstract_method(pool, name, descriptor):
+    return struct.pack(">HHHH", PUBLIC_ABSTRACT, pool.text(name), pool.text(descriptor), 0)
+
+
+def field(pool, name, descriptor, flags=PUBLIC_STATIC):
+    return struct.pack(">HHHH", flags, pool.text(name), pool.text(descriptor), 0)
 
 
 def class_file(name, above="java/lang/Object", interfaces=(), flags=PUBLIC_CLASS, members=lambda pool: ([], [])):
@@ -100,7 +104,47 @@ def diamonds(first_above):
             yield class_file(f"{side}{level}", interfaces=above, flags=INTERFACE)
 
 
+def literals():
+    """60,000 string literals in three classes, each pushed twice."""
+    for file in range(3):
+        def members(pool):
+            texts = [f"literal {n}" for n in range(20000 * file, 20000 * (file + 1))]
+            pushes = [struct.pack(">BHB", LDC_W, pool.string(text), POP) for text in texts + texts]
+            codes = [b"".join(pushes[n:n + 16000]) + RETURN for n in range(0, len(pushes), 16000)]
+            return [], [method(pool, *MAIN)] + [method(pool, f"m{n}", "()V", code) for n, code in enumerate(codes)]
+
+        yield class_file("ABC"[file], members=members)
+
+
+def inherited_fields():
+    """A class that inherits 10,000 fields, of each of which there is a use."""
+    def all_used(pool):
+        places = [pool.member(9, "C", f"f{n}", "I") for n in range(10000)]
+        return [], [method(pool, *MAIN, b"".join(struct.pack(">BH", GETFIELD, place) for place in places) + RETURN)]
+
+    yield class_file("A", members=all_used)
+    yield class_file("B", members=lambda pool: ([field(pool, f"f{n}", "I", PUBLIC) for n in range(10000)], []))
+    yield class_file("C", above="B")
+
+
+def many_interfaces():
+    """2,000 interfaces of one method each, and a class that implements them all; each method is invoked on it."""
+    count = 2000
+
+    def all_invoked(pool):
+        places = [pool.member(10, "B", f"m{n}", "()V") for n in range(count)]
+        return [], [method(pool, *MAIN, b"".join(struct.pack(">BH", INVOKEVIRTUAL, place) for place in places) + RETURN)]
+
+    yield class_file("A", members=all_invoked)
+    yield class_file("B", interfaces=[f"I{n}" for n in range(count)], flags=ABSTRACT_CLASS)
+    for n in range(count):
+        yield class_file(f"I{n}", flags=INTERFACE, members=lambda pool, n=n: ([], [abstract_method(pool, f"m{n}", "()V")]))
+
+
 SHAPES = {
+    "literals": literals,
+    "inherited fields": inherited_fields,
+    "many interfaces": many_interfaces,
     "many calls": lambda: [class_file("A", members=many_calls)],
     "many fields": lambda: [class_file("A", members=many_fields)],
     "many methods": lambda: [class_file("A", members=many_methods)],

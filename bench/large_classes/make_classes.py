@@ -10,7 +10,7 @@ class Pool:
     """A constant pool, each entry once."""
 
     def __init__(self):
-        self.places, self.written, self.next = {}, b"", 1
+        self.places, self.written, self.next = {}, bytearray(), 1
 
     def put(self, entry):
         if entry not in self.places:
