@@ -23,23 +23,23 @@ use Rattle.jm_linked.specs.Named.{named_states}
 use Rattle.jm_linked.proofs.BuiltIns.{AreOthers}
 use Rattle.jm_linked.proofs.Whole.{neither_later, whole_main}
 
-first_none : (a b : Option Refusal) → or_else a b ≡ None → a ≡ None
+pub first_none : (a b : Option Refusal) → or_else a b ≡ None → a ≡ None
 first_none None b e = refl
 first_none (Some r) b e = cc
 
-second_none : (a b : Option Refusal) → or_else a b ≡ None → b ≡ None
+pub second_none : (a b : Option Refusal) → or_else a b ≡ None → b ≡ None
 second_none None b e = e
 second_none (Some r) b e = cc
 
-not_so : (b : Bool) (r : Refusal) → when b r ≡ None → b ≡ false
+pub not_so : (b : Bool) (r : Refusal) → when b r ≡ None → b ≡ false
 not_so true r e = cc
 not_so false r e = refl
 
-left_false : (a b : Bool) → (a || b) ≡ false → a ≡ false
+pub left_false : (a b : Bool) → (a || b) ≡ false → a ≡ false
 left_false true b e = cc
 left_false false b e = refl
 
-right_false : (a b : Bool) → (a || b) ≡ false → b ≡ false
+pub right_false : (a b : Bool) → (a || b) ≡ false → b ≡ false
 right_false true b e = cc
 right_false false b e = e
 
@@ -58,7 +58,7 @@ fresh seen (c ∷ cs) (suc k) d e at = (fresh (c ∷ seen) cs k d (second_none (
 after : (seen : List ClassParts) (c : ClassParts) (cs : List ClassParts) → duplicates seen (c ∷ cs) ≡ None → duplicates (c ∷ seen) cs ≡ None
 after seen c cs e = second_none (when (is_named_among seen c.name) (duplicate_class c.name)) (duplicates (c ∷ seen) cs) e
 
-same_self : (x : List ℕ) → same_text x x ≡ true
+pub same_self : (x : List ℕ) → same_text x x ≡ true
 same_self x = (texts.bytes_decides x x).1 refl
 
 -- the state of the class of a number
@@ -99,7 +99,7 @@ class_found seen (c ∷ cs) (suc k) d e at =
     ap (λ b. elim b as (λ _. Option ClassParts) [ true ↦ Some c | false ↦ class_among cs d.name ]) (fresh (c ∷ seen) cs k d (after seen c cs e) at).0
     ∙ class_found (c ∷ seen) cs k d (after seen c cs e) at
 
-distinct : (program : List ClassParts) → Loads program → duplicates [] program ≡ None
+pub distinct : (program : List ClassParts) → Loads program → duplicates [] program ≡ None
 unfolding refusal
 distinct program e = first_none _ _ e
 

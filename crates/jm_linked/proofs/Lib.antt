@@ -4,3 +4,4 @@ pub mod BuiltIns
 pub mod Classes
 pub mod SystemOut
 pub mod PrintStreams
+pub mod Names

@@ -1,5 +1,6 @@
 pub mod Later
 pub mod Kinds
+pub mod Tables
 pub mod Links
 pub mod LaterTexts
 pub mod Named

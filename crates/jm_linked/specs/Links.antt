@@ -39,12 +39,16 @@ use Rattle.jm_linked.specs.declared.instruction.LinkedType.{LinkedType}
 use Rattle.jm_linked.specs.declared.instruction.MemberNumber.{MemberNumber}
 use Rattle.jm_linked.specs.declared.method.LinkedHandler.{LinkedHandler}
 use Rattle.jm_linked.specs.declared.method.LinkedMethod.{LinkedMethod}
+use Rattle.jm_linked.specs.declared.tables.Tables.{Tables}
+use Rattle.jm_linked.specs.Tables.{AreTables}
 
--- the classes, the methods with code and the texts of literals, by number, and the number of main
+-- the classes, the methods with code, the texts of literals and what the classes have, by number, and
+-- the number of main
 pub record LinkedView : Type 0 where
   pub program : List ClassParts
   pub methods : List LinkedMethod
   pub literals : List (List ℕ)
+  pub tables : Tables
   pub main : ℕ
 
 -- the names of classes by number: the built-in ones first
@@ -206,6 +210,7 @@ pub record IsLinked (l : LinkedView) : Type 0 where
   pub all : map place_of l.methods ≡ coded_from 0 l.program
   -- the literals are in the model's order, equal ones once (JVMS 5.1)
   pub literals : l.literals ≡ literal_texts l.program
+  pub tables : AreTables l.program l.tables
   -- main is the first class's
   pub main : LinkedMethod
   pub main_is : slice_get l.methods l.main ≡ Some main

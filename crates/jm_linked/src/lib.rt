@@ -6,7 +6,7 @@
 //! numbered with the built-in ones first, in their order, and then the program's.
 //!
 //! What is in a program that the machine cannot run yet is a [`LaterPart`]; a linked program may
-//! have some. The crate stands on `jm_program`, `jm_builtins` and `jm_world`.
+//! have some. The crate stands on `jm_program`, `jm_builtins`, `jm_world` and `jm_tables`.
 #![tactic(auto)]
 
 mod instruction;
@@ -14,6 +14,7 @@ mod kind;
 mod later;
 mod linked;
 mod method;
+mod tables;
 
 pub use instruction::{
     InvokedMethod, LinkedElement, LinkedInstr, LinkedType, MemberNumber, PrintMethod, Printed,
@@ -22,3 +23,4 @@ pub use kind::ValueKind;
 pub use later::LaterPart;
 pub use linked::Linked;
 pub use method::{LinkedHandler, LinkedMethod};
+pub use tables::Tables;

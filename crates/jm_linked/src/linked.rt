@@ -5,6 +5,7 @@ ghost use Rattle.jm_builtins.specs.List.{the_builtins};
 ghost use Rattle.jm_linked.specs.Links.{LinkedView, IsLinked};
 
 use crate::method::LinkedMethod;
+use crate::tables::Tables;
 use jm_builtins::BuiltIn;
 use jm_program::{Class, Sequence, Shared};
 use std::marker::Model;
@@ -16,6 +17,7 @@ pub struct Linked {
     built_ins: Sequence<BuiltIn>,
     methods: Sequence<LinkedMethod>,
     literals: Sequence<Shared<Sequence<u16>>>,
+    tables: Tables,
     main: u32,
 }
 
@@ -26,10 +28,10 @@ impl Model for Linked {
 
     ghost Value = { LinkedView };
 
-    ghost view = { λ l. record { program = l.classes; methods = l.methods; literals = l.literals; main = l.main } };
+    ghost view = { λ l. record { program = l.classes; methods = l.methods; literals = l.literals; tables = l.tables; main = l.main } };
 
     ghost invariant = { λ l. (l.built_ins ≡ the_builtins)
-        × IsLinked (record { program = l.classes; methods = l.methods; literals = l.literals; main = l.main }) };
+        × IsLinked (record { program = l.classes; methods = l.methods; literals = l.literals; tables = l.tables; main = l.main }) };
 }
 
 impl Linked {
@@ -39,17 +41,19 @@ impl Linked {
         built_ins: Sequence<BuiltIn>,
         methods: Sequence<LinkedMethod>,
         literals: Sequence<Shared<Sequence<u16>>>,
+        tables: Tables,
         main: u32,
     ) -> Linked
         requires built_in { built_ins ≡ the_builtins }
-        requires linked { IsLinked (record { program = classes; methods = methods; literals = literals; main = main }) }
-        ensures { result ≡ record { program = classes; methods = methods; literals = literals; main = main } }
+        requires linked { IsLinked (record { program = classes; methods = methods; literals = literals; tables = tables; main = main }) }
+        ensures { result ≡ record { program = classes; methods = methods; literals = literals; tables = tables; main = main } }
     {
         Linked {
             classes,
             built_ins,
             methods,
             literals,
+            tables,
             main,
         }
     }
@@ -84,6 +88,14 @@ impl Linked {
         ensures { result.now ≡ self.now.literals }
     {
         self.literals.as_slice()
+    }
+
+    /// Which classes are above which, and where their fields stand, by the classes' numbers.
+    #[inline]
+    pub fn tables(&self) -> &Tables
+        ensures { result.now ≡ self.now.tables }
+    {
+        &self.tables
     }
 
     /// The methods with code, in the order of the classes and of the methods of each.

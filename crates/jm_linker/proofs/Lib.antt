@@ -16,3 +16,4 @@ pub mod NumberedLaws
 pub mod FoundNumberLaws
 pub mod MethodLaws
 pub mod LiteralLaws
+pub mod InheritedLaws

@@ -24,6 +24,8 @@ use Rattle.jm_linked.specs.Later.{is_main_method}
 use Rattle.jm_linked.specs.Links.{LinkedView, MethodLinks, IsLinked, coded_among, coded_from, place_of, linked_name, name_in_class, member_name}
 use Rattle.jm_linked.specs.declared.method.LinkedMethod.{LinkedMethod}
 use Rattle.jm_linked.proofs.Classes.{class_is}
+use Rattle.jm_linked.specs.declared.tables.Tables.{Tables}
+use Rattle.jm_linked.specs.Tables.{AreTables}
 use Rattle.jm_linker.specs.LinkedMethods.{LinksAlone, NumbersMain}
 use Rattle.jm_linker.proofs.NumberedLaws.{got_first}
 use Rattle.jm_linker.proofs.TableLaws.{same_method_type_equiv}
@@ -155,17 +157,19 @@ placed ms n class member e = by (slice_get ms n) refl (sym (slice_get-map place_
         let same : (m.class, m.member) ≡ (class, member) = cc in
         record { method = m; at = is; class_is = ap (λ (p : ℕ × ℕ). p.0) same; member_is = ap (λ (p : ℕ × ℕ). p.1) same }
 
-pub is_linked : (program : List ClassParts) (methods : List LinkedMethod) (literals : List (List ℕ)) (main : ℕ) → Loads program
-    → map place_of methods ≡ coded_from 0 program → AllByRecursion (LinksAlone program) methods → literals ≡ literal_texts program → NumbersMain program main
-    → IsLinked (record { program = program; methods = methods; literals = literals; main = main })
-is_linked program methods literals main loads places linked texts n =
-    let l : LinkedView = record { program = program; methods = methods; literals = literals; main = main } in
+pub is_linked : (program : List ClassParts) (methods : List LinkedMethod) (literals : List (List ℕ)) (tables : Tables) (main : ℕ) → Loads program
+    → map place_of methods ≡ coded_from 0 program → AllByRecursion (LinksAlone program) methods → literals ≡ literal_texts program
+    → AreTables program tables → NumbersMain program main
+    → IsLinked (record { program = program; methods = methods; literals = literals; tables = tables; main = main })
+is_linked program methods literals tables main loads places linked texts are n =
+    let l : LinkedView = record { program = program; methods = methods; literals = literals; tables = tables; main = main } in
     let p = placed methods main 0 n.member (ap (λ ps. slice_get ps main) places ∙ n.place) in
     record {
       loads = loads;
       methods = λ k m at. method_links l loads m (each_at (LinksAlone program) methods k m linked at);
       all = places;
       literals = texts;
+      tables = are;
       main = p.method;
       main_is = p.at;
       found = n.found;

@@ -171,3 +171,22 @@ by_own_name program c h = ap (class_named program) (texts.same_text c.name h.0 (
 pub own_number : (program : List ClassParts) (c : ClassParts) (n m : ℕ) → HasClass program c → IsNumberOf program c.name n → m ≡ n
     → class_numbered program m ≡ Some c
 own_number program c n m h i same = ap (class_numbered program) same ∙ i.numbered ∙ sym i.found ∙ by_own_name program c h
+
+-- the class of a number
+pub numbered_own : (program : List ClassParts) (n k : ℕ) (c : ClassParts) → n ≡ length the_builtins + k → slice_get program k ≡ Some c
+    → class_numbered program n ≡ Some c
+numbered_own program n k c is at = got_second (map as_class the_builtins) program n k c is at
+
+pub numbered_past : (program : List ClassParts) (n k : ℕ) → n ≡ length the_builtins + k → slice_get program k ≡ None → class_numbered program n ≡ None
+numbered_past program n k is at = past (map as_class the_builtins) n k is at
+  where
+    past : (xs : List ClassParts) (n k : ℕ) → n ≡ length xs + k → slice_get program k ≡ None → slice_get (xs ++ program) n ≡ None
+    past [] n k is at = let same : n ≡ k = omega arith in ap (slice_get program) same ∙ at
+    past (x ∷ xs) zero k is at = absurd (omega arith)
+    past (x ∷ xs) (suc n) k is at = past xs n k (omega arith) at
+
+pub numbered_built_in : (program : List ClassParts) (ms : List Members) (n : ℕ) (m : Members) → map members_class ms ≡ built_in_classes → slice_get ms n ≡ Some m
+    → class_numbered program n ≡ Some m.class.now
+unfolding built_in_classes
+numbered_built_in program ms n m all at = got_first (map as_class the_builtins) program n m.class.now
+    (ap (λ cs. slice_get cs n) (sym all) ∙ slice_get-map members_class ms n ∙ ap (option_map members_class) at)

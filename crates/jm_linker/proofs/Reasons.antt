@@ -49,7 +49,7 @@ first_past check xs i l e =
 pub memory_says : (f : LinkFault) (r : Option Refusal) → IsOutOfMemory f → SaysWhy f r
 memory_says f r e = subst (λ g. SaysWhy g r) (sym e) tt
 
-neither_refuses : (a b : Option Refusal) → or_else a b ≡ None → (a ≡ None) × (b ≡ None)
+pub neither_refuses : (a b : Option Refusal) → or_else a b ≡ None → (a ≡ None) × (b ≡ None)
 neither_refuses None b e = (refl, e)
 neither_refuses (Some r) b e = cc
 

@@ -94,17 +94,17 @@ as_alike : {T : Type 0} {E : T → T → Bool} → IsEquivalence E → (a b c : 
 as_alike o a b c e = o.symm a b ∙ o.congr b c a e ∙ o.symm c a
 
 -- a member of a name and a type is one of the same name and the same type
-both_alike : {T : Type 0} {E : T → T → Bool} → IsEquivalence E → (a m n : List ℕ) (b t u : T) → (same_text m n && E t u) ≡ true → (same_text a m && E b t) ≡ (same_text a n && E b u)
+pub both_alike : {T : Type 0} {E : T → T → Bool} → IsEquivalence E → (a m n : List ℕ) (b t u : T) → (same_text m n && E t u) ≡ true → (same_text a m && E b t) ≡ (same_text a n && E b u)
 both_alike {E = E} o a m n b t u e =
     let parts : (same_text m n ≡ true) × (E t u ≡ true) = both (same_text m n) (E t u) e in
     ap (λ c. c && E b t) (as_alike nat_list_eq_equiv a m n parts.0) ∙ ap (λ c. same_text a n && c) (as_alike o b t u parts.1)
 
 -- the first of two
-abbrev first : {A : Type 0} → Option A → Option A → Option A
+abbrev pub first : {A : Type 0} → Option A → Option A → Option A
 first (Some x) o = Some x
 first None o = o
 
-first_none : {A : Type 0} (o : Option A) → first o None ≡ o
+pub first_none : {A : Type 0} (o : Option A) → first o None ≡ o
 first_none (Some x) = refl
 first_none None = refl
 
@@ -166,13 +166,13 @@ fields_more xs i x b k m n l is at key none updates h = λ q name t keyed. by q 
 pub no_fields : (table : BTreeMap FieldKey NumberedField) → table.entries ≡ [] → HasFields table []
 no_fields table e = λ q name t keyed. ap (λ es. seen_field (lookup (λ k. is_eq ((field_ord.ghosts).cmp q k)) es)) e
 
-method_in_alike : (xs : List Method) (m n : List ℕ) (t u : MethodDescriptor) → (same_text m n && same_method_type t u) ≡ true → method_in xs m t ≡ method_in xs n u
+pub method_in_alike : (xs : List Method) (m n : List ℕ) (t u : MethodDescriptor) → (same_text m n && same_method_type t u) ≡ true → method_in xs m t ≡ method_in xs n u
 method_in_alike [] m n t u e = refl
 method_in_alike (x ∷ xs) m n t u e =
     ap (λ b. elim b as (λ _. Option Method) [ true ↦ Some x | false ↦ method_in xs m t ]) (both_alike same_method_type_equiv x.name m n x.descriptor t u e)
     ∙ ap (λ o. elim (same_text x.name n && same_method_type x.descriptor u) as (λ _. Option Method) [ true ↦ Some x | false ↦ o ]) (method_in_alike xs m n t u e)
 
-method_in_more : (xs : List Method) (x : Method) (name : List ℕ) (t : MethodDescriptor) → method_in (xs ++ x ∷ []) name t ≡ first (method_in xs name t) (cond (same_text x.name name && same_method_type x.descriptor t) (Some x) None)
+pub method_in_more : (xs : List Method) (x : Method) (name : List ℕ) (t : MethodDescriptor) → method_in (xs ++ x ∷ []) name t ≡ first (method_in xs name t) (cond (same_text x.name name && same_method_type x.descriptor t) (Some x) None)
 method_in_more [] x name t = by (same_text x.name name && same_method_type x.descriptor t)
   where
     by : (b : Bool) → (elim b as (λ _. Option Method) [ true ↦ Some x | false ↦ None ]) ≡ cond b (Some x) None

@@ -9,6 +9,7 @@ pub mod Keys
 pub mod Tables
 pub mod Ranks
 pub mod NumberedClasses
+pub mod Inherited
 pub mod FoundNumbers
 pub mod LinkedMethods
 pub mod Literals

@@ -8,6 +8,7 @@ ghost use Rattle.jm_world.specs.Classes.{as_class, class_named, height};
 ghost use Rattle.jm_world.specs.Loading.{literal_texts};
 ghost use Rattle.jm_world.specs.Loads.{duplicate_members, first_of_all};
 ghost use Rattle.jm_literals.specs.Texts.{number_of_text};
+ghost use Rattle.jm_linked.specs.Links.{class_numbered};
 ghost use Rattle.jm_linker.specs.Answers.{Answers, IsOutOfMemory};
 ghost use Rattle.jm_linker.specs.BuiltInClasses.{built_in_classes, class_in, is_built_in_name, number_from};
 ghost use Rattle.jm_linker.specs.NumberedClasses.{IsNumberOf};
@@ -260,6 +261,19 @@ impl<'a> Classes<'a> {
         match self.number(name) {
             Some(number) => Some(self.height() - self.program.len() + number),
             None => number_among(&self.built_ins, name),
+        }
+    }
+
+    /// The class of a number among all classes: the built-in ones first, and then the program's.
+    pub fn class_at(&self, number: usize) -> Option<&'a ClassParts>
+        ensures { option_copied result ≡ class_numbered self.now.program.now number }
+    {
+        match number.checked_sub(self.built_ins.len()) {
+            Some(own) => match self.program.get(own) {
+                Some(class) => Some(class.parts()),
+                None => None,
+            },
+            None => Some(self.built_ins.get(number)?.class),
         }
     }
 

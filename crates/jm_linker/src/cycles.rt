@@ -52,19 +52,19 @@ fn check_cycle<'a>(
 }
 
 /// That no class is above itself. Ranks say so of most classes at once; where they do not, a walk up
-/// decides.
-pub fn check_cycles<'a>(alloc: Global, classes: &Classes<'a>) -> Result<(), LinkFault>
+/// decides. Gives the ranks.
+pub fn check_cycles<'a>(alloc: Global, classes: &Classes<'a>) -> Result<Vec<u32>, LinkFault>
     ensures { Answers result (first_of_all (cycle_refusal classes.now.program.now) classes.now.program.now) }
 {
     let ranks = ranks_of(alloc, classes)?;
-    let ranks = ranks.as_slice();
-    let are_ranks = are_ranks(classes, ranks);
+    let by_number = ranks.as_slice();
+    let are_ranks = are_ranks(classes, by_number);
     for class in classes.program {
         let class = class.parts();
-        if are_ranks && is_over_parents(classes, ranks, class) {
+        if are_ranks && is_over_parents(classes, by_number, class) {
             continue;
         }
         check_cycle(alloc, classes, class)?;
     }
-    Ok(())
+    Ok(ranks)
 }

@@ -3,7 +3,8 @@
 //! [`link`] answers a linked program exactly where the classes load (JVMS 5.3, 5.4) and nothing
 //! stands in them that the machine cannot run yet; otherwise it answers the first reason, in the
 //! order of `jm_world`'s definition of loading, and after all of these the first part that comes
-//! later. The crate stands on `jm_program`, `jm_builtins`, `jm_world` and `jm_linked`.
+//! later. The crate stands on `jm_program`, `jm_builtins`, `jm_world`, `jm_tables`, `jm_literals` and
+//! `jm_linked`.
 #![tactic(auto)]
 
 mod classes;
@@ -23,6 +24,7 @@ mod ranks;
 mod references;
 mod resolution;
 mod sought;
+mod tables;
 mod types;
 mod walk;
 

@@ -3,9 +3,10 @@
 ghost use Rattle.std.specs.Prelude.{◌≡◌, None, IfOk, MatchResult, map};
 ghost use Rattle.std.specs.List.{AllByRecursion};
 ghost use Rattle.jm_world.specs.Loading.{literal_texts};
-ghost use Rattle.jm_world.specs.Loads.{refusal, parents_refusal, first_of_all};
+ghost use Rattle.jm_world.specs.Loads.{Loads, refusal, parents_refusal, first_of_all};
 ghost use Rattle.jm_linked.specs.Later.{later_part};
 ghost use Rattle.jm_linked.specs.Links.{coded_from, place_of};
+ghost use Rattle.jm_linked.specs.Tables.{AreTables};
 ghost use Rattle.jm_linker.specs.Answers.{Answers, IsOutOfMemory};
 ghost use Rattle.jm_linker.specs.LinkedMethods.{LinksAlone};
 ghost use Rattle.jm_linker.specs.Linking.{Faults};
@@ -18,8 +19,9 @@ use crate::fault::LinkFault;
 use crate::later::later_part;
 use crate::main_method::{check_main, main_among_coded};
 use crate::parents::check_parents;
+use crate::tables::tables_of;
 use jm_builtins::builtins;
-use jm_linked::{Linked, LinkedMethod};
+use jm_linked::{Linked, LinkedMethod, Tables};
 use jm_program::{Class, Sequence, Shared};
 use std::alloc::Global;
 
@@ -37,25 +39,36 @@ fn check_all_parents<'a>(alloc: Global, classes: &Classes<'a>) -> Result<(), Lin
 struct LinkedParts {
     methods: Vec<LinkedMethod>,
     literals: Vec<Shared<Sequence<u16>>>,
+    tables: Tables,
 }
 
-// The methods with code and the literals of a program that loads, or the first reason why it does not,
-// in the order in which the reasons are looked for.
+// The methods with code, the literals and the tables of a program that loads, or the first reason why
+// it does not, in the order in which the reasons are looked for.
 #[tactic(auto, using(crate::proofs::Reasons::first_says), unfolding(jm_world::specs::Loads::refusal))]
 fn link_methods(alloc: Global, names: Names) -> Result<LinkedParts, LinkFault>
     ensures refusal { Answers result (refusal names.entry.program.now) }
     ensures places { IfOk result (λ parts. map place_of parts.methods.items ≡ coded_from 0 names.entry.program.now) }
     ensures linked { IfOk result (λ parts. AllByRecursion (LinksAlone names.entry.program.now) parts.methods.items) }
     ensures literals { IfOk result (λ parts. parts.literals.items ≡ literal_texts names.entry.program.now) }
+    ensures tables { IfOk result (λ parts. Loads names.entry.program.now → AreTables names.entry.program.now parts.tables) }
 {
     no_duplicate_classes(alloc, &names)?;
     let classes = Classes::of(alloc, names)?;
     check_all_parents(alloc, &classes)?;
-    check_cycles(alloc, &classes)?;
+    let ranks = check_cycles(alloc, &classes)?;
     check_main(classes.program)?;
     let methods = link_classes(alloc, &classes)?;
+    // not reached for a program that loads: its ranks put each class after those right above it (this
+    // alone is not proved)
+    let Some(tables) = tables_of(alloc, &classes, &ranks)? else {
+        return Err(LinkFault::OutOfMemory);
+    };
     let literals = classes.into_literals();
-    Ok(LinkedParts { methods, literals })
+    Ok(LinkedParts {
+        methods,
+        literals,
+        tables,
+    })
 }
 
 // The linked program of classes that load and of what is made of them.
@@ -64,16 +77,22 @@ fn linked_of(alloc: Global, classes: Vec<Class>, parts: LinkedParts) -> Result<L
     requires places { map place_of parts.methods.items ≡ coded_from 0 classes.items }
     requires linked { AllByRecursion (LinksAlone classes.items) parts.methods.items }
     requires literals { parts.literals.items ≡ literal_texts classes.items }
+    requires tables { AreTables classes.items parts.tables }
     ensures { MatchResult result (λ l. l.program ≡ classes.items) (λ fault. IsOutOfMemory fault) }
 {
     let main = main_among_coded(&classes)?;
     let built_ins = builtins(alloc)?;
-    let LinkedParts { methods, literals } = parts;
+    let LinkedParts {
+        methods,
+        literals,
+        tables,
+    } = parts;
     Ok(Linked::new(
         Sequence::new(classes),
         built_ins,
         Sequence::new(methods),
         Sequence::new(literals),
+        tables,
         main,
     ))
 }

@@ -14,7 +14,7 @@ check_cycle-requires c =
 pub loop-class-preserved-then-is_over_parents : goal.loop-class-preserved-then-is_over_parents
 loop-class-preserved-then-is_over_parents c =
     let program = c.args.classes.now.program.now in
-    let none = over_all program c.as_slice-ranks.result.now c.parts-class.result.now c.are_ranks-are_ranks.result c.is_over_parents.result
+    let none = over_all program c.as_slice-by_number.result.now c.parts-class.result.now c.are_ranks-are_ranks.result c.is_over_parents.result
     c.are_ranks-are_ranks.ensures c.if-are_ranks.true c.is_over_parents.ensures c.if-is_over_parents.true in
     first_after (cycle_refusal program) program c.loop-class.class-index c.class-item.result (omega arith) c.class-item.is
     (ap (cycle_refusal program) (sym c.parts-class.ensures.parts) ∙ none) c.loop-class.invariant

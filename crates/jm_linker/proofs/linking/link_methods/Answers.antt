@@ -1,13 +1,14 @@
 -- One reason after the other.
-use Rattle.std.proofs.Common.{◌≡◌, List, [], Option, None, Result, Ok, Err, not, ap, subst, ◌∙◌}
-use Rattle.std.specs.Prelude.{Vec, map}
+use Rattle.std.proofs.Common.{◌≡◌, List, [], Option, None, Result, Ok, Err, not, sym, ap, subst, ◌∙◌}
+use Rattle.std.specs.Prelude.{IfSome, Vec, map}
 use Rattle.std.proofs.lemmas.Result.{err_from_is_err_and}
 use Rattle.std.specs.List.{AllByRecursion}
 use Rattle.std.specs.declared.alloc.Global.{Global}
 use Rattle.jm_program.specs.declared.class.ClassParts.{ClassParts}
 use Rattle.jm_world.specs.Loading.{literal_texts, main_in}
-use Rattle.jm_world.specs.Loads.{Refusal, or_else, when, first_of_all, parents_refusal, cycle_refusal, is_main, no_main, method_code_refusal, duplicates, duplicate_members, refusal}
+use Rattle.jm_world.specs.Loads.{Loads, Refusal, or_else, when, first_of_all, parents_refusal, cycle_refusal, is_main, no_main, method_code_refusal, duplicates, duplicate_members, refusal}
 use Rattle.jm_linked.specs.Links.{coded_from, place_of}
+use Rattle.jm_linked.specs.Tables.{AreTables}
 use Rattle.jm_linked.specs.declared.method.LinkedMethod.{LinkedMethod}
 use Rattle.jm_linker.specs.Answers.{Answers}
 use Rattle.jm_linker.specs.LinkedMethods.{LinksAlone}
@@ -36,13 +37,13 @@ pub returns-in_err-methods-clause-refusal : goal.returns-in_err-methods-clause-r
 returns-in_err-methods-clause-refusal c =
     let p = err_from_is_err_and c.from_residual-in_err-methods.result c.from_residual-in_err-methods.ensures.1 in
     let r : Result (Vec LinkedMethod Global) LinkFault = Err c.in_err-methods.field-0.0 in
-    rw (p.1, p.2) (decided _ _ r c.in_ok-classes.ensures.program c.in_ok-check_all_parents.ensures c.in_ok-check_cycles.ensures
+    rw (p.1, p.2) (decided _ _ r c.in_ok-classes.ensures.program c.in_ok-check_all_parents.ensures c.in_ok-ranks.ensures
     c.in_ok-check_main.ensures c.in_err-methods.ensures.refusal c.in_ok-no_duplicate_classes.ensures c.in_ok-classes.ensures.refusal)
 
 pub returns-clause-refusal : goal.returns-clause-refusal
 returns-clause-refusal c =
     let r : Result (Vec LinkedMethod Global) LinkFault = Ok c.in_ok-methods.methods in
-    decided _ _ r c.in_ok-classes.ensures.program c.in_ok-check_all_parents.ensures c.in_ok-check_cycles.ensures c.in_ok-check_main.ensures
+    decided _ _ r c.in_ok-classes.ensures.program c.in_ok-check_all_parents.ensures c.in_ok-ranks.ensures c.in_ok-check_main.ensures
     c.in_ok-methods.ensures.refusal c.in_ok-no_duplicate_classes.ensures c.in_ok-classes.ensures.refusal
 
 pub returns-clause-places : goal.returns-clause-places
@@ -53,3 +54,9 @@ returns-clause-linked c = subst (λ p. AllByRecursion (LinksAlone p) c.in_ok-met
 
 pub returns-clause-literals : goal.returns-clause-literals
 returns-clause-literals c = c.into_literals-literals.ensures ∙ ap literal_texts c.in_ok-classes.ensures.program
+
+pub returns-clause-tables : goal.returns-clause-tables
+returns-clause-tables c =
+    let tables = subst (λ o. IfSome o (λ tables. Loads c.in_ok-classes.classes.program.now → AreTables c.in_ok-classes.classes.program.now tables))
+    c.in-Some.is c.in_ok-tables.ensures in
+    subst (λ p. Loads p → AreTables p c.in-Some.tables) c.in_ok-classes.ensures.program tables

@@ -13,6 +13,6 @@ main_among_coded-requires c = has_main c.deref.result.now (ap refusal c.deref.en
 pub new-requires-4-clause-linked : goal.new-requires-4-clause-linked
 new-requires-4-clause-linked c =
     let main = subst (λ p. NumbersMain p c.in_ok-main.main) c.deref.ensures.value c.in_ok-main.ensures in
-    subst IsLinked (λ j. record { program = sym c.new.ensures j; methods = sym c.new-2.ensures j; literals = sym c.new-3.ensures j; main = c.in_ok-main.main })
-    (is_linked c.args.classes.items c.args.parts.methods.items c.args.parts.literals.items c.in_ok-main.main c.requires.loads c.requires.places c.requires.linked
-    c.requires.literals main)
+    subst IsLinked (λ j. record { program = sym c.new.ensures j; methods = sym c.new-2.ensures j; literals = sym c.new-3.ensures j; tables = c.args.parts.tables; main = c.in_ok-main.main })
+    (is_linked c.args.classes.items c.args.parts.methods.items c.args.parts.literals.items c.args.parts.tables c.in_ok-main.main c.requires.loads
+    c.requires.places c.requires.linked c.requires.literals c.requires.tables main)

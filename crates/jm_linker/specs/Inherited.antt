@@ -1,0 +1,38 @@
+-- What is gathered of each class for the tables of a program: the numbers of those right above it, and its fields.
+use Rattle.std.specs.Prelude.{◌≡◌, ℕ, List, [], ◌∷◌, Option, Some, None, slice_get, length}
+use Rattle.jm_program.specs.declared.class.ClassParts.{ClassParts}
+use Rattle.jm_world.specs.Hierarchy.{parents}
+use Rattle.jm_tables.specs.Hierarchies.{own_cell}
+use Rattle.jm_tables.specs.declared.extent.DeclaredFields.{DeclaredFields}
+use Rattle.jm_tables.specs.declared.inheritance.Declared.{Declared}
+use Rattle.jm_linked.specs.Links.{class_numbered}
+use Rattle.jm_linker.specs.NumberedClasses.{AreNumbers}
+
+-- the class of a number with the numbers of those right above it, and with its own cell
+pub record IsClass (program : List ClassParts) (class : ℕ) (d : Declared) : Type 0 where
+  pub parts : ClassParts
+  pub numbered : class_numbered program class ≡ Some parts
+  pub above : AreNumbers program d.above.items (parents (Some parts))
+  pub own : d.own.items ≡ own_cell class ∷ []
+
+-- so many classes, from the first on
+pub record AreClasses (program : List ClassParts) (many : ℕ) (classes : List Declared) : Type 0 where
+  pub length : length classes ≡ many
+  pub each : (class : ℕ) (d : Declared) → slice_get classes class ≡ Some d → IsClass program class d
+
+-- the first of the numbers above a class that has a superclass
+abbrev pub first_of : Option (List ℕ) → List ℕ → Option ℕ
+first_of None above = None
+first_of (Some name) above = slice_get above 0
+
+pub record IsItsFields (program : List ClassParts) (heirs : List Declared) (class : ℕ) (d : DeclaredFields) : Type 0 where
+  pub parts : ClassParts
+  pub numbered : class_numbered program class ≡ Some parts
+  pub heir : Declared
+  pub heir_is : slice_get heirs class ≡ Some heir
+  pub superclass : d.superclass ≡ first_of parts.superclass heir.above.items
+  pub fields : d.fields.now ≡ parts.fields
+
+pub record AreTheirFields (program : List ClassParts) (heirs : List Declared) (many : ℕ) (classes : List DeclaredFields) : Type 0 where
+  pub length : length classes ≡ many
+  pub each : (class : ℕ) (d : DeclaredFields) → slice_get classes class ≡ Some d → IsItsFields program heirs class d

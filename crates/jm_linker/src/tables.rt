@@ -1,0 +1,229 @@
+// What a program's classes have by their numbers: which are above which, and where their fields
+// stand.
+
+ghost use Rattle.std.specs.Prelude.{◌≡◌, ◌∷◌, [], IfOk, IfSome, Some, length, option_to_list};
+ghost use Rattle.jm_world.specs.Hierarchy.{parents};
+ghost use Rattle.jm_world.specs.Loads.{Loads};
+ghost use Rattle.jm_world.specs.Classes.{height};
+ghost use Rattle.jm_tables.specs.Hierarchies.{own_cell};
+ghost use Rattle.jm_linked.specs.Tables.{AreTables};
+ghost use Rattle.jm_linker.specs.Inherited.{AreClasses, AreTheirFields, first_of};
+ghost use Rattle.jm_linker.specs.NumberedClasses.{AreNumbers};
+
+use crate::classes::Classes;
+use jm_linked::Tables;
+use jm_program::{AccessFlags, ClassParts, Name};
+use jm_radix::Cell;
+use jm_tables::{Declared, DeclaredFields, Hierarchy, Layout};
+use std::alloc::{AllocError, Global};
+use std::slice;
+
+// The numbers of the classes of the names, or none where one is not there.
+fn numbers_of<'a>(
+    alloc: Global,
+    classes: &Classes<'a>,
+    names: &'a [Name],
+) -> Result<Option<Vec<u32>>, AllocError>
+    ensures { IfOk result (λ found. IfSome found (λ numbers. AreNumbers classes.now.program.now numbers.items names.now)) }
+{
+    let mut numbers = Vec::new(alloc);
+    for name in names {
+        let Some(number) = classes.class_number(name) else {
+            return Ok(None);
+        };
+        let Ok(number) = u32::try_from(number) else {
+            return Err(AllocError);
+        };
+        numbers.push(number)?;
+    }
+    Ok(Some(numbers))
+}
+
+fn superclass_of(class: &ClassParts) -> &[Name]
+    ensures { result.now ≡ option_to_list class.now.superclass }
+{
+    match &class.superclass {
+        Some(name) => slice::from_ref(name),
+        None => &[],
+    }
+}
+
+// The numbers of the classes right above one: of its superclass, and then of its superinterfaces.
+fn above_of<'a>(
+    alloc: Global,
+    classes: &Classes<'a>,
+    class: &'a ClassParts,
+) -> Result<Option<Vec<u32>>, AllocError>
+    ensures { IfOk result (λ found. IfSome found (λ above. AreNumbers classes.now.program.now above.items (parents (Some class.now)))) }
+{
+    let Some(mut above) = numbers_of(alloc, classes, superclass_of(class))? else {
+        return Ok(None);
+    };
+    let Some(interfaces) = numbers_of(alloc, classes, class.interfaces.as_slice())? else {
+        return Ok(None);
+    };
+    above.extend_from_slice(&interfaces)?;
+    Ok(Some(above))
+}
+
+fn own_cell(alloc: Global, column: u32) -> Result<Vec<Cell>, AllocError>
+    ensures { IfOk result (λ own. own.items ≡ own_cell column ∷ []) }
+{
+    let mut own = Vec::new(alloc);
+    own.push(Cell { column, number: 0 })?;
+    Ok(own)
+}
+
+// Each class with the numbers of those right above it, or none where one of them is not there.
+fn heirs_of<'a>(alloc: Global, classes: &Classes<'a>) -> Result<Option<Vec<Declared>>, AllocError>
+    ensures { IfOk result (λ found. IfSome found (λ heirs. AreClasses classes.now.program.now (height classes.now.program.now) heirs.items)) }
+{
+    let mut heirs = Vec::new(alloc);
+    for number in 0..classes.height() {
+        let Ok(column) = u32::try_from(number) else {
+            return Err(AllocError);
+        };
+        let Some(class) = classes.class_at(number) else {
+            return Ok(None);
+        };
+        let Some(above) = above_of(alloc, classes, class)? else {
+            return Ok(None);
+        };
+        let own = own_cell(alloc, column)?;
+        heirs.push(Declared { above, own })?;
+    }
+    Ok(Some(heirs))
+}
+
+// The number of the superclass, which stands first among those right above a class.
+fn superclass_number(class: &ClassParts, heir: &Declared) -> Option<u32>
+    ensures { result ≡ first_of class.now.superclass heir.now.above.items }
+{
+    match class.superclass {
+        Some(_) => Some(*heir.above.first()?),
+        None => None,
+    }
+}
+
+// Each class with its superclass's number and its fields.
+fn fields_of<'a>(
+    alloc: Global,
+    classes: &Classes<'a>,
+    heirs: &[Declared],
+) -> Result<Option<Vec<DeclaredFields<'a>>>, AllocError>
+    ensures { IfOk result (λ found. IfSome found (λ fields. AreTheirFields classes.now.program.now heirs.now (length heirs.now) fields.items)) }
+{
+    let mut fields = Vec::new(alloc);
+    for (number, heir) in heirs.iter().enumerate() {
+        let Some(class) = classes.class_at(number) else {
+            return Ok(None);
+        };
+        fields.push(DeclaredFields {
+            superclass: superclass_number(class, heir),
+            fields: class.fields.as_slice(),
+        })?;
+    }
+    Ok(Some(fields))
+}
+
+// When a class is placed: after those of lower ranks, which all of the program's classes have that
+// are right above one, and of the built-in ones after those with fewer superclasses, and after the
+// interfaces among those of as many.
+#[derive(Clone, Copy)]
+struct Turn {
+    rank: u32,
+    superclasses: u32,
+    is_class: bool,
+    number: u32,
+}
+
+fn superclasses_of<'a>(classes: &Classes<'a>, class: &'a ClassParts) -> u32 {
+    let mut count: u32 = 0;
+    let mut class = class;
+    for _ in 0..classes.height() {
+        let Some(name) = &class.superclass else {
+            break;
+        };
+        let Some(above) = classes.find(name) else {
+            break;
+        };
+        class = above;
+        count = count.saturating_add(1);
+    }
+    count
+}
+
+// When the built-in class of a number is placed.
+fn turn_of_built_in<'a>(classes: &Classes<'a>, number: usize, short: u32) -> Turn {
+    let (superclasses, is_class) = match classes.class_at(number) {
+        Some(class) => (
+            superclasses_of(classes, class),
+            !class.flags.has(AccessFlags::INTERFACE),
+        ),
+        None => (0, true),
+    };
+    Turn {
+        rank: 0,
+        superclasses,
+        is_class,
+        number: short,
+    }
+}
+
+// All classes in the order in which they are placed.
+fn order_of<'a>(
+    alloc: Global,
+    classes: &Classes<'a>,
+    ranks: &[u32],
+) -> Result<Vec<u32>, AllocError> {
+    let built_ins = classes.built_ins.len();
+    let mut turns = Vec::new(alloc);
+    for number in 0..classes.height() {
+        let Ok(short) = u32::try_from(number) else {
+            return Err(AllocError);
+        };
+        let turn = match number.checked_sub(built_ins) {
+            Some(own) => Turn {
+                rank: ranks.get(own).copied().unwrap_or(0),
+                superclasses: 0,
+                is_class: true,
+                number: short,
+            },
+            None => turn_of_built_in(classes, number, short),
+        };
+        turns.push(turn)?;
+    }
+    turns.sort_unstable_by_key(|turn| (turn.rank, turn.superclasses, turn.is_class, turn.number));
+    let mut order = Vec::new(alloc);
+    for turn in turns.as_slice() {
+        order.push(turn.number)?;
+    }
+    Ok(order)
+}
+
+/// What the classes of a program that loads have by their numbers, made in the order of the ranks;
+/// or none where a class above one is not there or has no lower rank. It takes 64 bytes for each
+/// digit of a class's number, to the base 16, 40 more for a class and 8 for a field, 16 for a static
+/// one.
+pub fn tables_of<'a>(
+    alloc: Global,
+    classes: &Classes<'a>,
+    ranks: &[u32],
+) -> Result<Option<Tables>, AllocError>
+    ensures { IfOk result (λ found. IfSome found (λ tables. Loads classes.now.program.now → AreTables classes.now.program.now tables)) }
+{
+    let Some(heirs) = heirs_of(alloc, classes)? else {
+        return Ok(None);
+    };
+    let Some(fields) = fields_of(alloc, classes, &heirs)? else {
+        return Ok(None);
+    };
+    let order = order_of(alloc, classes, ranks)?;
+    let Some(hierarchy) = Hierarchy::of(alloc, &heirs, &order)? else {
+        return Ok(None);
+    };
+    let Some(layout) = Layout::of(alloc, &fields, &order)? else {
+        return Ok(None);
+    };
+    Ok(Some(Tables { hierarchy, layout }))
+}
