@@ -58,8 +58,8 @@ fn link_methods(alloc: Global, names: Names) -> Result<LinkedParts, LinkFault>
     let ranks = check_cycles(alloc, &classes)?;
     check_main(classes.program)?;
     let methods = link_classes(alloc, &classes)?;
-    // not reached for a program that loads: its ranks put each class after those right above it (this
-    // alone is not proved)
+    // not reached for a program that loads: all classes above others are there, and its ranks put each
+    // class after those right above it (neither is proved here)
     let Some(tables) = tables_of(alloc, &classes, &ranks)? else {
         return Err(LinkFault::OutOfMemory);
     };
