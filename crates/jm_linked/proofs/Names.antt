@@ -1,7 +1,7 @@
 -- The names of a program's classes: no two classes have one, and each is found under its own.
 use Rattle.std.proofs.Common.{◌≡◌, ℕ, zero, suc, ◌+◌, ◌<◌, ◌⊎◌, inl, inr, List, [], ◌∷◌, ◌++◌, Option, Some, None, Bool, true, false, not, length}
 use Rattle.std.proofs.Common.{refl, sym, ap, ◌∙◌, subst, arith, eq-eqb, eqb-true}
-use Rattle.std.specs.Prelude.{map, nat_eq, slice_get, slice_index_or, is_some, ◌&&◌, ◌||◌}
+use Rattle.std.specs.Prelude.{map, nat_eq, slice_get, slice_index_or, is_some, ◌&&◌}
 use Rattle.std.specs.List.{AllByRecursion}
 use Rattle.std.specs.Cmp.Lexicographic as texts
 use Rattle.jm_program.specs.Names.{same_text}
@@ -10,7 +10,7 @@ use Rattle.jm_builtins.specs.List.{the_builtins}
 use Rattle.jm_builtins.specs.Numbers.{built_in_names}
 use Rattle.jm_builtins.specs.declared.built_in.BuiltIn.{BuiltIn}
 use Rattle.jm_world.specs.Classes.{as_class, built_in_named, class_named}
-use Rattle.jm_world.specs.Loads.{Refusal, Loads, refusal, duplicates, duplicate_class, is_named_among, or_else, when}
+use Rattle.jm_world.specs.Loads.{Loads, duplicates, duplicate_class, is_named_among, when}
 use Rattle.jm_tables.specs.Numbering.{AreNames, name_of}
 use Rattle.jm_linked.specs.Links.{class_numbered}
 use Rattle.jm_linked.specs.Tables.{all_names}

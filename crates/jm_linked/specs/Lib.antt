@@ -1,5 +1,6 @@
 pub mod Later
 pub mod Kinds
+pub mod Methods
 pub mod Tables
 pub mod Links
 pub mod LaterTexts

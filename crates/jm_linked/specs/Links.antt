@@ -30,6 +30,7 @@ use Rattle.jm_world.specs.Resolution.{resolve_method}
 use Rattle.jm_world.specs.Types.{type_of_ref}
 use Rattle.jm_linked.specs.Kinds.{kind_of}
 use Rattle.jm_linked.specs.Later.{is_system_out, is_print, print_among, print_methods}
+use Rattle.jm_linked.specs.Methods.{selector_of}
 use Rattle.jm_linked.specs.declared.instruction.InvokedMethod.{InvokedMethod}
 use Rattle.jm_linked.specs.declared.instruction.LinkedElement.{LinkedElement}
 use Rattle.jm_linked.specs.declared.instruction.LinkedElement.TheVariants as element
@@ -113,6 +114,7 @@ pub record InvokeLinks (program : List ClassParts) (op : InvokeOp) (n : InvokedM
   pub found : FoundMethod
   pub resolved : resolve_method program name method.name method.descriptor ≡ Some found
   pub numbered : IsMethodOf program n.found found
+  pub selected : selector_of program method.name method.descriptor ≡ Some n.selector
 
 -- the symbolic instruction is the linked one with names in the place of what the linked program
 -- numbers (JVMS 5.4.3)

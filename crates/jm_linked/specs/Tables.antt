@@ -1,20 +1,32 @@
--- What a program's classes have, by their numbers (JVMS 2.4, 2.5.3, 2.7, 5.3.5, 5.5).
-use Rattle.std.specs.Prelude.{◌≡◌, ℕ, ◌<◌, List, ◌++◌, map, length}
+-- What a program's classes have, by their numbers (JVMS 2.4, 2.5.3, 2.7, 5.3.5, 5.4.5, 5.5).
+use Rattle.std.specs.Prelude.{◌≡◌, ℕ, ◌<◌, List, ◌++◌, map, length, Option, Some}
 use Rattle.jm_program.specs.declared.class.ClassParts.{ClassParts}
+use Rattle.jm_program.specs.declared.descriptor.MethodDescriptor.{MethodDescriptor}
 use Rattle.jm_builtins.specs.Numbers.{built_in_names}
 use Rattle.jm_world.specs.Hierarchy.{is_subclass}
+use Rattle.jm_world.specs.Resolution.{select}
+use Rattle.jm_radix.specs.Tables.{row_at}
 use Rattle.jm_tables.specs.Hierarchies.{is_above}
 use Rattle.jm_tables.specs.Layouts.{IsLayout}
+use Rattle.jm_tables.specs.MethodTables.{IsNumberOf}
 use Rattle.jm_tables.specs.Numbering.{name_of}
+use Rattle.jm_linked.specs.Methods.{all_methods, selector_of}
 use Rattle.jm_linked.specs.declared.tables.Tables.{Tables}
 
 -- the names of all classes by number: the built-in ones first
 unfoldable pub all_names : List ClassParts → List (List ℕ)
 all_names program = built_in_names ++ map (λ c. c.name) program
 
--- one class is another or has it above itself just where the model says so, and the fields have the
--- model's places and numbers
+-- for each class and selector stands the number of the method that the model selects, if it selects one
+abbrev pub AreSelected : List ClassParts → List (List (Option ℕ)) → Type 0
+AreSelected program table = (name : List ℕ) (t : MethodDescriptor) (selector class : ℕ) → selector_of program name t ≡ Some selector
+    → class < length (all_names program)
+    → IsNumberOf (all_methods program) (row_at table class selector) (select program (name_of (all_names program) class) name t)
+
+-- one class is another or has it above itself just where the model says so, the fields have the
+-- model's places and numbers, and the model's methods are selected
 pub record AreTables (program : List ClassParts) (tables : Tables) : Type 0 where
   pub hierarchy : (class above : ℕ) → class < length (all_names program) → above < length (all_names program)
       → is_above tables.hierarchy class above ≡ is_subclass program (name_of (all_names program) class) (name_of (all_names program) above)
   pub layout : IsLayout program (all_names program) tables.layout
+  pub selected : AreSelected program tables.selected

@@ -35,6 +35,8 @@ pub struct InvokedMethod {
     pub named: u32,
     /// The method that its name and type mean there (JVMS 5.4.3.3, 5.4.3.4).
     pub found: MemberNumber,
+    /// The selector of its name and type: a column of the table of the methods that are selected.
+    pub selector: u32,
 }
 
 /// A type that is no array, a class by its number among all classes.

@@ -90,7 +90,8 @@ impl Linked {
         self.literals.as_slice()
     }
 
-    /// Which classes are above which, and where their fields stand, by the classes' numbers.
+    /// Which classes are above which, where their fields stand and which of their methods are
+    /// selected, by the classes' numbers.
     #[inline]
     pub fn tables(&self) -> &Tables
         ensures { result.now ≡ self.now.tables }

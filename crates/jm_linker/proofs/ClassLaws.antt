@@ -43,7 +43,7 @@ copied_some (Some x) = refl
 pub built_in_told : (o : Option (Bor ClassParts)) (cs : List ClassParts) (name : List ℕ) → cs ≡ built_in_classes → option_copied o ≡ class_in cs name → is_some o ≡ is_built_in_name name
 built_in_told o cs name all found = copied_some o ∙ ap is_some (found ∙ ap (λ ds. class_in ds name) all) ∙ built_in_name name
 
-length_map : {A B : Type 0} (f : A → B) (xs : List A) → length (map f xs) ≡ length xs
+pub length_map : {A B : Type 0} (f : A → B) (xs : List A) → length (map f xs) ≡ length xs
 length_map f [] = refl
 length_map f (x ∷ xs) = ap (λ n. suc n) (length_map f xs)
 

@@ -1,11 +1,10 @@
 -- What is gathered of each class for the tables of a program.
-use Rattle.std.proofs.Common.{◌≡◌, ℕ, zero, suc, ◌+◌, ◌<◌, ◌≤◌, List, [], ◌∷◌, ◌++◌, Option, Some, None, length, length-append, refl, sym, ap, ◌∙◌, subst, arith}
+use Rattle.std.proofs.Common.{◌≡◌, ℕ, zero, suc, ◌+◌, ◌<◌, List, [], ◌∷◌, ◌++◌, Option, Some, None, length, length-append, refl, sym, ap, ◌∙◌, subst, arith}
 use Rattle.std.proofs.lemmas.List.Elements.{All-nil, All-push, All-append}
 use Rattle.std.specs.Prelude.{map, option_map, option_to_list, slice_get, slice_index_or, IfSome}
 use Rattle.std.specs.List.{All}
 use Rattle.jm_program.specs.declared.class.ClassParts.{ClassParts}
-use Rattle.jm_builtins.specs.List.{the_builtins}
-use Rattle.jm_world.specs.Classes.{as_class, class_named, height}
+use Rattle.jm_world.specs.Classes.{class_named, height}
 use Rattle.jm_world.specs.Hierarchy.{parents}
 use Rattle.jm_world.specs.Loads.{Loads, Refusal, duplicates, duplicate_fields, duplicate_members, duplicate_methods, first_of_all, or_else, refusal}
 use Rattle.jm_radix.specs.Tables.{IsCellOf}
@@ -21,6 +20,7 @@ use Rattle.jm_linker.specs.BuiltInClasses.{built_in_classes}
 use Rattle.jm_linker.specs.Inherited.{IsClass, AreClasses, IsItsFields, AreTheirFields, first_of}
 use Rattle.jm_linker.specs.NumberedClasses.{AreNumbers, IsNumberOf}
 use Rattle.jm_linker.proofs.ClassLaws.{built_ins_once}
+use Rattle.jm_linker.proofs.MainLaws.{none_at}
 use Rattle.jm_linker.proofs.Reasons.{neither_refuses}
 
 at_is : (xs : List (List ℕ)) (n : ℕ) (x : List ℕ) → slice_get xs n ≡ Some x → (slice_index_or xs n [] ≡ x) × (n < length xs)
@@ -96,7 +96,7 @@ are_heirs program ds loads are =
         }
 
 -- their fields
-top_is : (f : ℕ → List ℕ) (s : Option (List ℕ)) (interfaces : List (List ℕ)) (above : List ℕ) → map f above ≡ option_to_list s ++ interfaces
+pub top_is : (f : ℕ → List ℕ) (s : Option (List ℕ)) (interfaces : List (List ℕ)) (above : List ℕ) → map f above ≡ option_to_list s ++ interfaces
     → option_map f (first_of s above) ≡ s
 top_is f None interfaces above e = refl
 top_is f (Some name) interfaces [] e = cc
@@ -107,25 +107,21 @@ top_within bound None above h = tt
 top_within bound (Some name) [] h = tt
 top_within bound (Some name) (n ∷ ns) h = h 0 n (omega arith)
 
-none_at : {A : Type 0} (check : A → Option Refusal) (xs : List A) (n : ℕ) (x : A) → first_of_all check xs ≡ None → slice_get xs n ≡ Some x → check x ≡ None
-none_at check [] n x e at = cc
-none_at check (y ∷ ys) zero x e at = let same : y ≡ x = cc in ap check (sym same) ∙ (neither_refuses (check y) (first_of_all check ys) e).0
-none_at check (y ∷ ys) (suc n) x e at = none_at check ys n x (neither_refuses (check y) (first_of_all check ys) e).1 at
-
 none_of_both : {A : Type 0} (check : A → Option Refusal) (xs ys : List A) → first_of_all check xs ≡ None → first_of_all check ys ≡ None → first_of_all check (xs ++ ys) ≡ None
 none_of_both check [] ys e g = g
 none_of_both check (x ∷ xs) ys e g =
     let parts = neither_refuses (check x) (first_of_all check xs) e in
     ap (λ o. or_else o (first_of_all check (xs ++ ys))) parts.0 ∙ none_of_both check xs ys parts.1 g
 
--- no field stands twice in a class of a program that loads
-apart_numbered : (program : List ClassParts) → Loads program → (n : ℕ) (c : ClassParts) → class_numbered program n ≡ Some c → duplicate_fields [] c.fields ≡ None
+-- no member stands twice in a class of a program that loads
+pub once_numbered : (program : List ClassParts) → Loads program → (n : ℕ) (c : ClassParts) → class_numbered program n ≡ Some c
+    → (duplicate_fields [] c.fields ≡ None) × (duplicate_methods [] c.methods ≡ None)
 unfolding refusal built_in_classes
-apart_numbered program loads n c at =
+once_numbered program loads n c at =
     let members = (neither_refuses (duplicates [] program) _ loads).1 in
     let own = (neither_refuses (first_of_all duplicate_members program) _ members).0 in
     let all = none_of_both duplicate_members built_in_classes program built_ins_once own in
-    (neither_refuses (duplicate_fields [] c.fields) (duplicate_methods [] c.methods) (none_at duplicate_members (built_in_classes ++ program) n c all at)).0
+    neither_refuses (duplicate_fields [] c.fields) (duplicate_methods [] c.methods) (none_at duplicate_members (built_in_classes ++ program) n c all at)
 
 pub are_fields : (program : List ClassParts) (hs : List Declared) (ds : List DeclaredFields) → Loads program → AreClasses program (height program) hs
     → AreTheirFields program hs (length hs) ds → AreFields program (all_names program) ds
@@ -153,7 +149,7 @@ are_fields program hs ds loads heirs are =
           within = subst (λ o. IfSome o (λ s. s < length (all_names program))) (sym is.superclass)
               (top_within (length (all_names program)) is.parts.superclass is.heir.above.items heir.above.within);
           fields = is.fields;
-          apart = apart_numbered program loads n is.parts is.numbered;
+          apart = (once_numbered program loads n is.parts is.numbered).0;
         }
 
 pub no_fields : (program : List ClassParts) (hs : List Declared) → AreTheirFields program hs 0 []
@@ -166,7 +162,7 @@ fields_more program hs n ds d are is = record {
   each = each_more (IsItsFields program hs) ds d are.each (subst (λ k. IsItsFields program hs k d) (sym are.length) is);
 }
 
-got : (ds : List Declared) (k : ℕ) (d : Declared) → k < length ds → slice_get ds k ≡ Some (slice_index_or ds k d)
+pub got : (ds : List Declared) (k : ℕ) (d : Declared) → k < length ds → slice_get ds k ≡ Some (slice_index_or ds k d)
 got [] k d within = absurd (omega arith)
 got (x ∷ xs) zero d within = refl
 got (x ∷ xs) (suc k) d within = got xs k d (omega arith)

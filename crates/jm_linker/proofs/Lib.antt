@@ -16,4 +16,6 @@ pub mod NumberedLaws
 pub mod FoundNumberLaws
 pub mod MethodLaws
 pub mod LiteralLaws
+pub mod SelectorLaws
 pub mod InheritedLaws
+pub mod SelectedLaws

@@ -14,20 +14,20 @@ use Rattle.jm_program.specs.Instructions.{instr_fits}
 use Rattle.jm_program.specs.declared.class.ClassParts.{ClassParts}
 use Rattle.jm_program.specs.declared.class.Method.{Method}
 use Rattle.jm_program.specs.declared.code.Code.{Code}
-use Rattle.jm_program.specs.declared.descriptor.MethodDescriptor.{MethodDescriptor}
 use Rattle.jm_world.specs.Types.{same_method_type}
 use Rattle.jm_world.specs.Classes.{FoundMethod, method_in, method_of_class, method_named, name_of_method}
 use Rattle.jm_world.specs.Loading.{literal_texts, main_type, main_in}
-use Rattle.jm_world.specs.Loads.{Loads, Refusal, refusal, is_main, or_else, when, first_of_all, duplicates, duplicate_members, duplicate_member}
+use Rattle.jm_world.specs.Loads.{Loads, Refusal, refusal, is_main, when, first_of_all, duplicates, duplicate_members, duplicate_member}
 use Rattle.jm_world.specs.Loads.{duplicate_fields, duplicate_methods}
 use Rattle.jm_linked.specs.Later.{is_main_method}
-use Rattle.jm_linked.specs.Links.{LinkedView, MethodLinks, IsLinked, coded_among, coded_from, place_of, linked_name, name_in_class, member_name}
+use Rattle.jm_linked.specs.Links.{LinkedView, MethodLinks, IsLinked, coded_among, coded_from, place_of, name_in_class, member_name}
 use Rattle.jm_linked.specs.declared.method.LinkedMethod.{LinkedMethod}
 use Rattle.jm_linked.proofs.Classes.{class_is}
 use Rattle.jm_linked.specs.declared.tables.Tables.{Tables}
 use Rattle.jm_linked.specs.Tables.{AreTables}
 use Rattle.jm_linker.specs.LinkedMethods.{LinksAlone, NumbersMain}
 use Rattle.jm_linker.proofs.NumberedLaws.{got_first}
+use Rattle.jm_linker.proofs.Reasons.{neither_refuses}
 use Rattle.jm_linker.proofs.TableLaws.{same_method_type_equiv}
 
 -- the method at a place, after others that are not main
@@ -60,10 +60,6 @@ instructions_fit c i m code fits at is =
     (both _ _ (both _ _ (both _ _ good).0).0).1
 
 -- a method of a class that loads is found by its name and type
-neither_refuses : (a b : Option Refusal) → or_else a b ≡ None → (a ≡ None) × (b ≡ None)
-neither_refuses None b e = (refl, e)
-neither_refuses (Some r) b e = cc
-
 not_so : (b : Bool) (r : Refusal) → when b r ≡ None → b ≡ false
 not_so true r e = cc
 not_so false r e = refl
@@ -84,7 +80,7 @@ new_method seen (x ∷ xs) (suc k) m e at =
     (passed_over (same_text x.name m.name && same_method_type x.descriptor m.descriptor) x (method_in seen m.name m.descriptor)
     (new_method (x ∷ seen) xs k m (neither_refuses _ _ e).1 at)).1
 
-same_itself : (m : Method) → (same_text m.name m.name && same_method_type m.descriptor m.descriptor) ≡ true
+pub same_itself : (m : Method) → (same_text m.name m.name && same_method_type m.descriptor m.descriptor) ≡ true
 same_itself m = ap (λ b. b && same_method_type m.descriptor m.descriptor) (nat_list_eq_equiv.refl m.name) ∙ same_method_type_equiv.refl m.descriptor
 
 method_again : (seen ms : List Method) (k : ℕ) (m : Method) → duplicate_methods seen ms ≡ None → slice_get ms k ≡ Some m
@@ -100,7 +96,18 @@ method_again seen (x ∷ xs) (suc k) m e at =
     (x ∷ seen) xs k m rest at)).0 in
     ap (λ b. elim b as (λ _. Option Method) [ true ↦ Some x | false ↦ method_in xs m.name m.descriptor ]) other ∙ method_again (x ∷ seen) xs k m rest at
 
-none_at : {A : Type 0} (check : A → Option Refusal) (xs : List A) (k : ℕ) (x : A) → first_of_all check xs ≡ None → slice_get xs k ≡ Some x → check x ≡ None
+-- no method before it has its name and type
+pub none_before : (seen ms : List Method) (k : ℕ) (m : Method) → duplicate_methods seen ms ≡ None → slice_get ms k ≡ Some m
+    → method_in (take k ms) m.name m.descriptor ≡ None
+none_before seen [] k m e at = cc
+none_before seen (x ∷ xs) zero m e at = refl
+none_before seen (x ∷ xs) (suc k) m e at =
+    let rest = (neither_refuses _ _ e).1 in
+    let other = (passed_over (same_text x.name m.name && same_method_type x.descriptor m.descriptor) x (method_in seen m.name m.descriptor) (new_method
+    (x ∷ seen) xs k m rest at)).0 in
+    ap (λ b. elim b as (λ _. Option Method) [ true ↦ Some x | false ↦ method_in (take k xs) m.name m.descriptor ]) other ∙ none_before (x ∷ seen) xs k m rest at
+
+pub none_at : {A : Type 0} (check : A → Option Refusal) (xs : List A) (k : ℕ) (x : A) → first_of_all check xs ≡ None → slice_get xs k ≡ Some x → check x ≡ None
 none_at check [] k x e at = cc
 none_at check (y ∷ ys) zero x e at = let same : y ≡ x = cc in ap check (sym same) ∙ (neither_refuses (check y) (first_of_all check ys) e).0
 none_at check (y ∷ ys) (suc k) x e at = none_at check ys k x (neither_refuses (check y) (first_of_all check ys) e).1 at

@@ -10,7 +10,7 @@ use Rattle.jm_program.specs.declared.class.ClassParts.{ClassParts}
 use Rattle.jm_builtins.specs.List.{the_builtins}
 use Rattle.jm_builtins.specs.declared.built_in.BuiltIn.{BuiltIn}
 use Rattle.jm_world.specs.Classes.{as_class, class_named}
-use Rattle.jm_linked.specs.Links.{class_numbered, class_names}
+use Rattle.jm_linked.specs.Links.{class_numbered}
 use Rattle.jm_linker.specs.BuiltInClasses.{built_in_classes, class_in, number_from}
 use Rattle.jm_linker.specs.declared.members.Members.{Members}
 use Rattle.jm_linker.specs.NumberedClasses.{IsNumberOf, HasClass}

@@ -7,6 +7,7 @@ use Rattle.jm_world.specs.Classes.{FoundField, FoundMethod}
 use Rattle.jm_world.specs.Loads.{Refusal, class_refusal}
 use Rattle.jm_world.specs.Resolution.{resolve_method}
 use Rattle.jm_linked.specs.Links.{IsFieldOf, IsMethodOf, NamesClass}
+use Rattle.jm_linked.specs.Methods.{selector_of}
 use Rattle.jm_linked.specs.declared.instruction.InvokedMethod.{InvokedMethod}
 use Rattle.jm_linked.specs.declared.instruction.MemberNumber.{MemberNumber}
 use Rattle.jm_linker.specs.declared.references.FoundMember.{FoundMember}
@@ -41,6 +42,7 @@ pub record Invokes (program : List ClassParts) (m : MethodRef) (n : InvokedMetho
   pub class : m.class ≡ named.Class name
   pub named : NamesClass program n.named name
   pub method : NumbersMethod program (resolve_method program name m.name m.descriptor) n.found
+  pub selected : selector_of program m.name m.descriptor ≡ Some n.selector
 
 -- of a row of an exception table, by its catch type
 abbrev pub catch_type_refusal : List ClassParts → Option (List ℕ) → Option Refusal

@@ -10,6 +10,7 @@ pub mod Tables
 pub mod Ranks
 pub mod NumberedClasses
 pub mod Inherited
+pub mod Selectors
 pub mod FoundNumbers
 pub mod LinkedMethods
 pub mod Literals

@@ -1,5 +1,5 @@
 -- The linked methods beside the program's, before it is known that the program loads.
-use Rattle.std.specs.Prelude.{◌≡◌, ℕ, List, ◌++◌, Option, Some, map, option_map, slice_get}
+use Rattle.std.specs.Prelude.{◌≡◌, ℕ, List, ◌++◌, Some, map, option_map, slice_get}
 use Rattle.std.specs.List.{AllByRecursion}
 use Rattle.jm_program.specs.Fits.{Fits}
 use Rattle.jm_program.specs.declared.class.ClassParts.{ClassParts}

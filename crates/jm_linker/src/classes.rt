@@ -1,22 +1,28 @@
 // The classes of a program and the built-in ones, found by name.
 
-ghost use Rattle.std.specs.Prelude.{◌≡◌, ◌<◌, IfOk, MatchOption, MatchResult, None, List, Some, length, map, option_copied, option_map, slice_get, take};
+ghost use Rattle.std.specs.Prelude.{◌≡◌, ◌<◌, ℕ, IfOk, MatchOption, MatchResult, None, List, Some, length, map, option_copied, option_map, slice_get, take};
 ghost use Rattle.std.specs.List.{list_any};
 ghost use Rattle.jm_program.specs.Names.{same_text};
 ghost use Rattle.jm_program.specs.declared.class.ClassParts.{ClassParts};
+ghost use Rattle.jm_program.specs.declared.descriptor.MethodDescriptor.{MethodDescriptor};
 ghost use Rattle.jm_world.specs.Classes.{as_class, class_named, height};
 ghost use Rattle.jm_world.specs.Loading.{literal_texts};
 ghost use Rattle.jm_world.specs.Loads.{duplicate_members, first_of_all};
 ghost use Rattle.jm_literals.specs.Texts.{number_of_text};
 ghost use Rattle.jm_linked.specs.Links.{class_numbered};
+ghost use Rattle.jm_linked.specs.Methods.{all_methods, selector_of};
 ghost use Rattle.jm_linker.specs.Answers.{Answers, IsOutOfMemory};
 ghost use Rattle.jm_linker.specs.BuiltInClasses.{built_in_classes, class_in, is_built_in_name, number_from};
+ghost use Rattle.jm_linker.specs.Keys.{IsMethodKey};
 ghost use Rattle.jm_linker.specs.NumberedClasses.{IsNumberOf};
+ghost use Rattle.jm_linker.specs.Selectors.{HasFirst, found_methods};
 ghost use Rattle.jm_linker.specs.Tables.{HasNumbers};
 
 use crate::fault::LinkFault;
+use crate::key::MethodKey;
 use crate::members::{Members, members_of_classes, members_of_program};
 use crate::name::is_same;
+use crate::selectors::{ClassMethod, methods_of_all, selectors_of};
 use jm_builtins::{BuiltIn, builtins};
 use jm_literals::Literals;
 use jm_program::{Class, ClassParts, Name, Sequence, Shared, Version};
@@ -34,7 +40,7 @@ pub struct Names<'a> {
 }
 
 /// The classes of a program, and beside them the built-in ones, each with its members, and the
-/// program's string literals.
+/// program's string literals and selectors.
 #[derive(Drop)]
 pub struct Classes<'a> {
     pub program: &'a [Class],
@@ -42,10 +48,14 @@ pub struct Classes<'a> {
     pub built_ins: Vec<Members<'a>>,
     numbers: BTreeMap<&'a [u16], usize>,
     literals: Literals<'a>,
+    selectors: BTreeMap<MethodKey<'a>, u32>,
+    methods: usize,
     ghost tabled: { map (λ m. m.class.now) members.items ≡ program.now },
     ghost complete: { map (λ m. m.class.now) built_ins.items ≡ built_in_classes },
     ghost numbered: { HasNumbers numbers program.now },
     ghost gathered: { literals ≡ literal_texts program.now },
+    ghost selected: { HasFirst 0 selectors (all_methods program.now) },
+    ghost counted: { methods ≡ length (all_methods program.now) },
 }
 
 // The numbers of a program's classes by name: of classes of one name the first one's.
@@ -215,12 +225,15 @@ impl<'a> Classes<'a> {
         let members = members_of_program(alloc, program)?;
         let built_ins = members_of_built_ins(alloc, built_ins)?;
         let literals = Literals::of(alloc, program)?;
+        let methods = methods_of_all(alloc, &built_ins, program)?;
         Ok(Classes {
             program,
             members,
-            built_ins,
             numbers,
             literals,
+            selectors: selectors_of(alloc, &methods)?,
+            methods: methods.len(),
+            built_ins,
         })
     }
 
@@ -230,6 +243,21 @@ impl<'a> Classes<'a> {
         ensures { result ≡ height self.now.program.now }
     {
         self.program.len() + self.built_ins.as_slice().len()
+    }
+
+    /// How many methods all classes have, the built-in ones too.
+    pub fn method_count(&self) -> usize
+        ensures { result ≡ length (all_methods self.now.program.now) }
+    {
+        self.methods
+    }
+
+    /// The selector of a name and a type: the number, among the methods of all classes, of the first
+    /// that has both, if one has.
+    pub fn selector(&self, key: &MethodKey<'a>) -> Option<u32>
+        ensures { (name : List ℕ) (t : MethodDescriptor) → IsMethodKey key.now name t → result ≡ selector_of self.now.program.now name t }
+    {
+        self.selectors.get(key).copied()
     }
 
     /// The number of a text among the program's literals, from 0, if it is one.

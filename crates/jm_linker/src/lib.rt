@@ -23,6 +23,8 @@ mod parents;
 mod ranks;
 mod references;
 mod resolution;
+mod selected;
+mod selectors;
 mod sought;
 mod tables;
 mod types;

@@ -1,6 +1,6 @@
 // The superclasses and superinterfaces of classes (JVMS 5.3.5).
 
-ghost use Rattle.std.specs.Prelude.{◌≡◌, Some};
+ghost use Rattle.std.specs.Prelude.{◌≡◌, Some, option_to_list};
 ghost use Rattle.jm_program.specs.declared.class.ClassParts.{ClassParts};
 ghost use Rattle.jm_world.specs.Classes.{class_named};
 ghost use Rattle.jm_world.specs.Loads.{is_strange_interface, superclass_refusal, interface_of_kind, parents_refusal, first_of_all};
@@ -11,6 +11,17 @@ use crate::fault::{LinkFault, no_class, wrong_kind};
 use crate::name::is_sealed;
 use jm_program::{AccessFlags, ClassParts, Name};
 use std::alloc::Global;
+use std::slice;
+
+/// The superclass's name, if there is one, as a list.
+pub fn superclass_of(class: &ClassParts) -> &[Name]
+    ensures { result.now ≡ option_to_list class.now.superclass }
+{
+    match &class.superclass {
+        Some(name) => slice::from_ref(name),
+        None => &[],
+    }
+}
 
 // Whether it is an interface, and its superclass another one than java/lang/Object (JVMS 4.1).
 fn is_strange_interface(class: &ClassParts, superclass: &Name) -> bool

@@ -8,6 +8,7 @@ ghost use Rattle.jm_linker.specs.BuiltInClasses.{built_in_classes};
 
 use crate::classes::Classes;
 use crate::members::Members;
+use crate::parents::superclass_of;
 use jm_program::{Class, ClassParts, Name};
 use std::alloc::{AllocError, Global};
 use std::slice;
@@ -22,13 +23,9 @@ struct Pending<'a> {
 
 impl<'a> Pending<'a> {
     fn of(number: usize, class: &'a ClassParts) -> Pending<'a> {
-        let superclass = match &class.superclass {
-            Some(name) => slice::from_ref(name),
-            None => &[],
-        };
         Pending {
             number,
-            superclass,
+            superclass: superclass_of(class),
             interfaces: class.interfaces.as_slice(),
         }
     }

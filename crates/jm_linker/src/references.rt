@@ -8,6 +8,7 @@ ghost use Rattle.jm_world.specs.Loads.{class_refusal, element_refusal, ref_refus
 ghost use Rattle.jm_world.specs.Resolution.{resolve_field, resolve_method};
 ghost use Rattle.jm_world.specs.Types.{type_of_ref};
 ghost use Rattle.jm_linked.specs.Links.{NamesClass, NamesElement, NamesType, class_name_of, class_numbered, handler_in};
+ghost use Rattle.jm_linked.specs.Methods.{selector_of};
 ghost use Rattle.jm_linker.specs.Answers.{Answers, IsOutOfMemory};
 ghost use Rattle.jm_linker.specs.Found.{found_field, found_method};
 ghost use Rattle.jm_linker.specs.FoundNumbers.{FindsField, FindsMethod, NumbersField, NumbersMethod, Invokes, catch_type_refusal};
@@ -301,16 +302,28 @@ fn resolve_method<'a>(
     alloc: Global,
     classes: &Classes<'a>,
     op: InvokeOp,
-    method: &'a MethodRef,
+    sought: &SoughtMethod<'a>,
     name: &'a Name,
 ) -> Result<MemberNumber, LinkFault>
-    ensures refusal { Answers result (found_method_refusal op method.now.name (resolve_method classes.now.program.now name.now method.now.name method.now.descriptor)) }
-    ensures found { IfOk result (NumbersMethod classes.now.program.now (resolve_method classes.now.program.now name.now method.now.name method.now.descriptor)) }
+    ensures refusal { Answers result (found_method_refusal op sought.now.method.now.name
+        (resolve_method classes.now.program.now name.now sought.now.method.now.name sought.now.method.now.descriptor)) }
+    ensures found { IfOk result (NumbersMethod classes.now.program.now
+        (resolve_method classes.now.program.now name.now sought.now.method.now.name sought.now.method.now.descriptor)) }
 {
-    let sought = SoughtMethod::of(alloc, method)?;
-    let class = find_method_class(alloc, classes, &sought, name)?;
-    let found = check_found_method(alloc, op, &sought, class)?;
+    let class = find_method_class(alloc, classes, sought, name)?;
+    let found = check_found_method(alloc, op, sought, class)?;
     member_number(classes, found.class, found.number)
+}
+
+// The selector of a method's name and type, which some class declares.
+fn known_selector<'a>(classes: &Classes<'a>, sought: &SoughtMethod<'a>) -> u32
+    requires { IsTrue (is_some (selector_of classes.now.program.now sought.now.method.now.name sought.now.method.now.descriptor)) }
+    ensures { selector_of classes.now.program.now sought.now.method.now.name sought.now.method.now.descriptor ≡ Some result }
+{
+    let Some(selector) = classes.selector(&sought.key) else {
+        unreachable!()
+    };
+    selector
 }
 
 // The invoked method of a class by its name.
@@ -328,10 +341,12 @@ fn link_method_of<'a>(
 {
     let receiver = find_receiver(alloc, classes, op, name)?;
     check_init(alloc, op, &method.name)?;
-    let found = resolve_method(alloc, classes, op, method, name)?;
+    let sought = SoughtMethod::of(alloc, method)?;
+    let found = resolve_method(alloc, classes, op, &sought, name)?;
     Ok(InvokedMethod {
         named: receiver,
         found,
+        selector: known_selector(classes, &sought),
     })
 }
 

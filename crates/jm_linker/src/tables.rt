@@ -1,5 +1,5 @@
-// What a program's classes have by their numbers: which are above which, and where their fields
-// stand.
+// What a program's classes have by their numbers: which are above which, where their fields stand,
+// and which methods are selected for them.
 
 ghost use Rattle.std.specs.Prelude.{◌≡◌, ◌∷◌, [], IfOk, IfSome, Some, length, option_to_list};
 ghost use Rattle.jm_world.specs.Hierarchy.{parents};
@@ -11,12 +11,13 @@ ghost use Rattle.jm_linker.specs.Inherited.{AreClasses, AreTheirFields, first_of
 ghost use Rattle.jm_linker.specs.NumberedClasses.{AreNumbers};
 
 use crate::classes::Classes;
+use crate::parents::superclass_of;
+use crate::selected::selected_of;
 use jm_linked::Tables;
 use jm_program::{AccessFlags, ClassParts, Name};
 use jm_radix::Cell;
 use jm_tables::{Declared, DeclaredFields, Hierarchy, Layout};
 use std::alloc::{AllocError, Global};
-use std::slice;
 
 // The numbers of the classes of the names, or none where one is not there.
 fn numbers_of<'a>(
@@ -37,15 +38,6 @@ fn numbers_of<'a>(
         numbers.push(number)?;
     }
     Ok(Some(numbers))
-}
-
-fn superclass_of(class: &ClassParts) -> &[Name]
-    ensures { result.now ≡ option_to_list class.now.superclass }
-{
-    match &class.superclass {
-        Some(name) => slice::from_ref(name),
-        None => &[],
-    }
 }
 
 // The numbers of the classes right above one: of its superclass, and then of its superinterfaces.
@@ -95,8 +87,8 @@ fn heirs_of<'a>(alloc: Global, classes: &Classes<'a>) -> Result<Option<Vec<Decla
     Ok(Some(heirs))
 }
 
-// The number of the superclass, which stands first among those right above a class.
-fn superclass_number(class: &ClassParts, heir: &Declared) -> Option<u32>
+/// The number of the superclass, which stands first among those right above a class.
+pub fn superclass_number(class: &ClassParts, heir: &Declared) -> Option<u32>
     ensures { result ≡ first_of class.now.superclass heir.now.above.items }
 {
     match class.superclass {
@@ -225,5 +217,12 @@ pub fn tables_of<'a>(
     let Some(layout) = Layout::of(alloc, &fields, &order)? else {
         return Ok(None);
     };
-    Ok(Some(Tables { hierarchy, layout }))
+    let Some(selected) = selected_of(alloc, classes, &heirs, &order)? else {
+        return Ok(None);
+    };
+    Ok(Some(Tables {
+        hierarchy,
+        layout,
+        selected,
+    }))
 }

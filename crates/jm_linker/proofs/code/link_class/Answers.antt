@@ -1,8 +1,6 @@
 -- A method without code, and one more with code.
-use Rattle.std.proofs.Common.{◌≡◌, Option, Some, None, length, slice_get, refl, sym, ap, ◌∙◌, arith}
+use Rattle.std.proofs.Common.{Option, Some, None, length, slice_get, refl, sym, ap, ◌∙◌, arith}
 use Rattle.std.proofs.lemmas.Option.{slice_get_read}
-use Rattle.jm_program.specs.declared.class.ClassParts.{ClassParts}
-use Rattle.jm_program.specs.declared.code.Code.{Code}
 use Rattle.jm_world.specs.Loads.{Refusal, method_code_refusal, instruction_refusal, catch_refusal, first_of_all, or_else}
 use Rattle.jm_linker.proofs.LiteralLaws.{code_literals}
 use Rattle.jm_linker.proofs.MethodLaws.{so_far_more, so_far_past}

@@ -1,5 +1,5 @@
 -- A literal has its number.
-use Rattle.std.proofs.Common.{◌≡◌, Some, None, sym, ap, subst, ◌∙◌}
+use Rattle.std.proofs.Common.{sym, ap, subst, ◌∙◌}
 use Rattle.jm_program.specs.declared.instruction.symbolic.Instr.TheVariants as instr
 use Rattle.jm_world.specs.Loading.{literal_texts, text_of}
 use Rattle.jm_literals.specs.Texts.{number_of_text}

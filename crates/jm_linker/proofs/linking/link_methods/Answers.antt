@@ -1,5 +1,5 @@
 -- One reason after the other.
-use Rattle.std.proofs.Common.{◌≡◌, List, [], Option, None, Result, Ok, Err, not, sym, ap, subst, ◌∙◌}
+use Rattle.std.proofs.Common.{◌≡◌, List, [], Option, None, Result, Ok, Err, not, ap, subst, ◌∙◌}
 use Rattle.std.specs.Prelude.{IfSome, Vec, map}
 use Rattle.std.proofs.lemmas.Result.{err_from_is_err_and}
 use Rattle.std.specs.List.{AllByRecursion}

@@ -1,13 +1,13 @@
 -- The tables of what was gathered.
-use Rattle.std.proofs.Common.{◌≡◌, ℕ, ◌<◌, length, sym, ap, subst, ◌∙◌}
+use Rattle.std.proofs.Common.{◌≡◌, ℕ, ◌<◌, length, sym, subst, ◌∙◌}
 use Rattle.std.specs.Prelude.{IfSome}
-use Rattle.jm_program.specs.declared.class.ClassParts.{ClassParts}
 use Rattle.jm_world.specs.Classes.{height}
 use Rattle.jm_world.specs.Hierarchy.{is_subclass}
 use Rattle.jm_tables.specs.Hierarchies.{is_above}
 use Rattle.jm_tables.specs.Layouts.{IsLayout}
 use Rattle.jm_tables.specs.Numbering.{name_of}
-use Rattle.jm_linked.specs.Tables.{all_names}
+use Rattle.jm_world.specs.Loads.{Loads}
+use Rattle.jm_linked.specs.Tables.{AreSelected, all_names}
 use Rattle.jm_linker.specs.Inherited.{AreClasses, AreTheirFields}
 use Rattle.jm_linker.proofs.InheritedLaws.{are_heirs, are_fields, own_cells}
 use Rattle.jm_linker.proofs.tables.tables_of.Goals as goal
@@ -35,4 +35,6 @@ returns c =
           c.in-Some-3.is (c.in_ok-hierarchy.ensures.above_them program names (are_heirs program heirs loads gathered));
       layout = subst (λ o. IfSome o (λ layout. IsLayout program names layout))
           c.in-Some-4.is (c.in_ok-layout.ensures.laid_out program names (are_fields program heirs c.deref-4.result.now loads gathered fields));
+      selected = subst (λ o. IfSome o (λ selected. Loads program → AreClasses program (height program) c.deref-6.result.now → AreSelected program selected))
+          c.in-Some-5.is c.in_ok-selected.ensures loads (subst (AreClasses program (height program)) (sym c.deref-6.ensures.value) are);
     }

@@ -1,8 +1,7 @@
 -- A class of the program, behind the built-in ones, and a built-in one.
-use Rattle.std.proofs.Common.{◌≡◌, ◌+◌, Some, None, length, refl, sym, ap, ◌∙◌, arith}
+use Rattle.std.proofs.Common.{Some, length, refl, sym, ap, ◌∙◌, arith}
 use Rattle.std.proofs.lemmas.Option.{slice_get_read, slice_get_past}
 use Rattle.std.specs.Prelude.{slice_get}
-use Rattle.jm_builtins.specs.List.{the_builtins}
 use Rattle.jm_linker.proofs.ClassLaws.{many_built_ins}
 use Rattle.jm_linker.proofs.NumberedLaws.{numbered_own, numbered_past, numbered_built_in}
 use Rattle.jm_linker.proofs.classes.Classes.class_at.Goals as goal

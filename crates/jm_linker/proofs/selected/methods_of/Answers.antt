@@ -1,0 +1,40 @@
+-- The methods of one more class.
+use Rattle.std.proofs.Common.{◌≡◌, ◌+◌, length, refl, sym, ap, subst, ◌∙◌, arith}
+use Rattle.std.proofs.lemmas.Option.{slice_get_read}
+use Rattle.std.specs.Prelude.{option_to_list}
+use Rattle.jm_linker.specs.Selectors.{AreTheirMethods}
+use Rattle.jm_linker.proofs.SelectedLaws.{methods_more, no_methods, none_so_far, one_class_on, they_stand}
+use Rattle.jm_linker.proofs.selected.methods_of.Goals as goal
+
+pub loop-number-init : goal.loop-number-init
+loop-number-init c = (
+  none_so_far c.args.classes.now.program.now,
+  subst (AreTheirMethods c.args.classes.now.program.now c.args.heirs.now 0) (sym c.new-methods.ensures.items)
+      (no_methods c.args.classes.now.program.now c.args.heirs.now),
+)
+
+pub own_methods-requires : goal.own_methods-requires
+own_methods-requires c =
+    they_stand c.args.classes.now.program.now c.loop-number.number c.loop-number.before c.in-Some.class.now (sym c.in-Some.ensures) c.loop-number.invariant.0
+
+pub loop-number-preserved : goal.loop-number-preserved
+loop-number-preserved c =
+    let program = c.args.classes.now.program.now in
+    let heirs = c.args.heirs.now in
+    let i = c.loop-number.number in
+    let class = c.in-Some.class.now in
+    let heir = c.index-heirs-number.result in
+    let own = ap length c.as_slice.ensures in
+    let total = c.in-Some-checked_add.ensures in
+    let sum : c.in-Some-checked_add.next ≡ c.loop-number.before + length class.methods = omega (arith, own, total.0, total.1) in (
+      one_class_on program i c.loop-number.before c.in-Some-checked_add.next class (sym c.in-Some.ensures) c.loop-number.invariant.0 sum,
+      subst (AreTheirMethods program heirs (i + 1)) (sym c.in_ok-push.ensures.items)
+          (methods_more program heirs i c.loop-number.methods.items _ c.loop-number.invariant.1 (record {
+            parts = class;
+            numbered = sym c.in-Some.ensures;
+            heir = heir;
+            heir_is = slice_get_read heirs (length heirs) i heir refl (omega arith) c.index-heirs-number.is;
+            superclass = c.in_ok-above.ensures ∙ ap option_to_list c.superclass_number.ensures;
+            own = c.in_ok-own.ensures;
+          })),
+    )
