@@ -5,3 +5,4 @@ pub mod Classes
 pub mod SystemOut
 pub mod PrintStreams
 pub mod Names
+pub mod Coded

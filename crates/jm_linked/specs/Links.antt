@@ -30,7 +30,7 @@ use Rattle.jm_world.specs.Resolution.{resolve_method}
 use Rattle.jm_world.specs.Types.{type_of_ref}
 use Rattle.jm_linked.specs.Kinds.{kind_of}
 use Rattle.jm_linked.specs.Later.{is_system_out, is_print, print_among, print_methods}
-use Rattle.jm_linked.specs.Methods.{selector_of}
+use Rattle.jm_linked.specs.Methods.{all_methods, selector_of}
 use Rattle.jm_linked.specs.declared.instruction.InvokedMethod.{InvokedMethod}
 use Rattle.jm_linked.specs.declared.instruction.LinkedElement.{LinkedElement}
 use Rattle.jm_linked.specs.declared.instruction.LinkedElement.TheVariants as element
@@ -40,6 +40,8 @@ use Rattle.jm_linked.specs.declared.instruction.LinkedType.{LinkedType}
 use Rattle.jm_linked.specs.declared.instruction.MemberNumber.{MemberNumber}
 use Rattle.jm_linked.specs.declared.method.LinkedHandler.{LinkedHandler}
 use Rattle.jm_linked.specs.declared.method.LinkedMethod.{LinkedMethod}
+use Rattle.jm_linked.specs.declared.method.Selected.{Selected}
+use Rattle.jm_linked.specs.declared.method.Selected.TheVariants.{Nothing, WithoutCode, Coded}
 use Rattle.jm_linked.specs.declared.tables.Tables.{Tables}
 use Rattle.jm_linked.specs.Tables.{AreTables}
 
@@ -219,3 +221,11 @@ pub record IsLinked (l : LinkedView) : Type 0 where
   pub found : FoundMethod
   pub found_is : main_in l.program ≡ Some found
   pub main_name : linked_name l.program main ≡ name_of_method found
+
+-- what is found where a method of a class is to be selected: nothing; a method without code, by its
+-- number among the methods of all classes; or one with code, by its number among these
+abbrev pub IsSelected : LinkedView → Option FoundMethod → Selected → Type 0
+IsSelected l None Nothing = Unit {0}
+IsSelected l (Some found) (WithoutCode n) = (found.method.code ≡ None) × (slice_get (all_methods l.program) n ≡ Some found)
+IsSelected l (Some found) (Coded k) = (is_some found.method.code ≡ true) × (m : LinkedMethod) × (slice_get l.methods k ≡ Some m) × (linked_name l.program m ≡ name_of_method found)
+IsSelected l _ _ = ⊥

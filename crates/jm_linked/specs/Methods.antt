@@ -1,5 +1,5 @@
 -- The methods of all classes by number, and the numbers of names and types (JVMS 5.4.5, 6.5 invokevirtual).
-use Rattle.std.specs.Prelude.{ℕ, ◌+◌, List, [], ◌∷◌, ◌++◌, map, Option, Some, None, true, false, ◌&&◌}
+use Rattle.std.specs.Prelude.{ℕ, suc, ◌+◌, List, [], ◌∷◌, ◌++◌, map, Option, Some, None, true, false, ◌&&◌}
 use Rattle.jm_program.specs.Names.{same_text}
 use Rattle.jm_program.specs.declared.class.ClassParts.{ClassParts}
 use Rattle.jm_program.specs.declared.class.Method.{Method}
@@ -28,3 +28,11 @@ first_named k (f ∷ fs) name t = elim (same_text f.method.name name && same_met
 -- a selector stands for a name and a type: it is the number of the first method that has both
 unfoldable pub selector_of : List ClassParts → List ℕ → MethodDescriptor → Option ℕ
 selector_of program name t = first_named 0 (all_methods program) name t
+
+-- of each method its number among those with code, counted from a number, if it has code
+abbrev pub numbered_codes : ℕ → List FoundMethod → List (Option ℕ)
+numbered_codes k [] = []
+numbered_codes k (f ∷ fs) = elim f.method.code [ None ↦ None ∷ numbered_codes k fs | Some code ↦ Some k ∷ numbered_codes (suc k) fs ]
+
+unfoldable pub code_numbers : List ClassParts → List (Option ℕ)
+code_numbers program = numbered_codes 0 (all_methods program)

@@ -10,7 +10,7 @@ use Rattle.jm_tables.specs.Hierarchies.{is_above}
 use Rattle.jm_tables.specs.Layouts.{IsLayout}
 use Rattle.jm_tables.specs.MethodTables.{IsNumberOf}
 use Rattle.jm_tables.specs.Numbering.{name_of}
-use Rattle.jm_linked.specs.Methods.{all_methods, selector_of}
+use Rattle.jm_linked.specs.Methods.{all_methods, code_numbers, selector_of}
 use Rattle.jm_linked.specs.declared.tables.Tables.{Tables}
 
 -- the names of all classes by number: the built-in ones first
@@ -24,9 +24,11 @@ AreSelected program table = (name : List ℕ) (t : MethodDescriptor) (selector c
     → IsNumberOf (all_methods program) (row_at table class selector) (select program (name_of (all_names program) class) name t)
 
 -- one class is another or has it above itself just where the model says so, the fields have the
--- model's places and numbers, and the model's methods are selected
+-- model's places and numbers, the model's methods are selected, and those with code have numbers in
+-- their order
 pub record AreTables (program : List ClassParts) (tables : Tables) : Type 0 where
   pub hierarchy : (class above : ℕ) → class < length (all_names program) → above < length (all_names program)
       → is_above tables.hierarchy class above ≡ is_subclass program (name_of (all_names program) class) (name_of (all_names program) above)
   pub layout : IsLayout program (all_names program) tables.layout
   pub selected : AreSelected program tables.selected
+  pub codes : tables.codes ≡ code_numbers program

@@ -22,5 +22,5 @@ pub use instruction::{
 pub use kind::ValueKind;
 pub use later::LaterPart;
 pub use linked::Linked;
-pub use method::{LinkedHandler, LinkedMethod};
+pub use method::{LinkedHandler, LinkedMethod, Selected};
 pub use tables::Tables;

@@ -1,10 +1,15 @@
 // A program whose names are resolved.
 
-ghost use Rattle.std.specs.Prelude.{◌≡◌, ◌<◌, ◌^◌, ◌+◌, slice_get, Some, IfSome};
+ghost use Rattle.std.specs.Prelude.{◌≡◌, ◌<◌, List, ℕ, Some, None, length, slice_index_or};
+ghost use Rattle.jm_program.specs.declared.descriptor.MethodDescriptor.{MethodDescriptor};
 ghost use Rattle.jm_builtins.specs.List.{the_builtins};
-ghost use Rattle.jm_linked.specs.Links.{LinkedView, IsLinked};
+ghost use Rattle.jm_world.specs.Resolution.{select};
+ghost use Rattle.jm_tables.specs.Numbering.{name_of};
+ghost use Rattle.jm_linked.specs.Links.{LinkedView, IsLinked, IsSelected};
+ghost use Rattle.jm_linked.specs.Methods.{selector_of};
+ghost use Rattle.jm_linked.specs.Tables.{all_names};
 
-use crate::method::LinkedMethod;
+use crate::method::{LinkedMethod, Selected};
 use crate::tables::Tables;
 use jm_builtins::BuiltIn;
 use jm_program::{Class, Sequence, Shared};
@@ -32,6 +37,15 @@ impl Model for Linked {
 
     ghost invariant = { λ l. (l.built_ins ≡ the_builtins)
         × IsLinked (record { program = l.classes; methods = l.methods; literals = l.literals; tables = l.tables; main = l.main }) };
+}
+
+fn code_of(codes: &[Option<u32>], method: u32) -> Option<u32>
+    ensures { result ≡ slice_index_or codes.now method None }
+{
+    match codes.get(method as usize) {
+        Some(code) => *code,
+        None => None,
+    }
 }
 
 impl Linked {
@@ -97,6 +111,23 @@ impl Linked {
         ensures { result.now ≡ self.now.tables }
     {
         &self.tables
+    }
+
+    /// What invokevirtual and invokeinterface find for an object of a class, by the class's number and
+    /// the selector of the method's name and type: the first method from the class up that has both and
+    /// is neither static nor private (JVMS 6.5 invokevirtual).
+    #[inline]
+    pub fn select(&self, class: u32, selector: u32) -> Selected
+        ensures { (name : List ℕ) (t : MethodDescriptor) → selector_of self.now.program name t ≡ Some selector → class < length (all_names self.now.program)
+            → IsSelected self.now (select self.now.program (name_of (all_names self.now.program) class) name t) result }
+    {
+        let Some(method) = self.tables.selected.select(class, selector) else {
+            return Selected::Nothing;
+        };
+        match code_of(self.tables.codes.as_slice(), method) {
+            Some(code) => Selected::Coded(code),
+            None => Selected::WithoutCode(method),
+        }
     }
 
     /// The methods with code, in the order of the classes and of the methods of each.

@@ -20,6 +20,18 @@ pub struct LinkedMethod {
     pub handlers: Sequence<LinkedHandler>,
 }
 
+/// What invokevirtual and invokeinterface find for an object (JVMS 6.5 invokevirtual).
+#[derive(Clone, Copy)]
+pub enum Selected {
+    /// No method.
+    Nothing,
+    /// A method without code, an abstract one or a built-in class's, by its number among the methods of
+    /// all classes.
+    WithoutCode(u32),
+    /// A method with code, by its number among those with code.
+    Coded(u32),
+}
+
 /// A row of the exception table (JVMS 4.7.3). The range goes from `start`, included, to `end`,
 /// excluded.
 #[derive(Clone, Copy)]

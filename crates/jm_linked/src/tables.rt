@@ -1,5 +1,6 @@
 // What a program's classes have, by their numbers.
 
+use jm_program::Sequence;
 use jm_tables::{Hierarchy, Layout, MethodTable};
 
 /// What a program's classes have, by their numbers.
@@ -13,4 +14,7 @@ pub struct Tables {
     /// name and a type, and a method's number is that among the methods of all classes, those of the
     /// built-in ones first, of each as declared (JVMS 5.4.5, 6.5 invokevirtual).
     pub selected: MethodTable,
+    /// Of each method, by its number among those of all classes, its number among those with code,
+    /// or none if it has no code.
+    pub codes: Sequence<Option<u32>>,
 }

@@ -1,11 +1,11 @@
 -- The first class's main, and methods by their numbers.
 use Rattle.std.proofs.Common.{◌≡◌, ℕ, ◌+◌, ◌<◌, zero, suc, Bool, true, false, ◌&&◌, List, [], ◌∷◌, ◌++◌, Option, Some, None, length, get_or, drop}
 use Rattle.std.proofs.Common.{take, refl, sym, ap, subst, ◌∙◌, codes, arith}
-use Rattle.std.specs.Prelude.{slice_get, is_some, map, option_map}
+use Rattle.std.specs.Prelude.{slice_get, is_some, map}
 use Rattle.std.specs.List.{AllByRecursion, list_all}
 use Rattle.std.proofs.lemmas.Cmp.{nat_list_eq_equiv}
 use Rattle.std.proofs.lemmas.List.{drop_more}
-use Rattle.std.proofs.lemmas.Option.{slice_get_read, slice_get-map}
+use Rattle.std.proofs.lemmas.Option.{slice_get_read}
 use Rattle.jm_program.specs.Names.{same_text}
 use Rattle.jm_program.specs.Flags.{is_interface, is_static}
 use Rattle.jm_program.specs.Fits.{Fits, method_fits, body_fits, method_slots}
@@ -20,9 +20,10 @@ use Rattle.jm_world.specs.Loading.{literal_texts, main_type, main_in}
 use Rattle.jm_world.specs.Loads.{Loads, Refusal, refusal, is_main, when, first_of_all, duplicates, duplicate_members, duplicate_member}
 use Rattle.jm_world.specs.Loads.{duplicate_fields, duplicate_methods}
 use Rattle.jm_linked.specs.Later.{is_main_method}
-use Rattle.jm_linked.specs.Links.{LinkedView, MethodLinks, IsLinked, coded_among, coded_from, place_of, name_in_class, member_name}
+use Rattle.jm_linked.specs.Links.{LinkedView, MethodLinks, IsLinked, coded_among, coded_from, place_of}
 use Rattle.jm_linked.specs.declared.method.LinkedMethod.{LinkedMethod}
 use Rattle.jm_linked.proofs.Classes.{class_is}
+use Rattle.jm_linked.proofs.Coded.{placed, placed_name}
 use Rattle.jm_linked.specs.declared.tables.Tables.{Tables}
 use Rattle.jm_linked.specs.Tables.{AreTables}
 use Rattle.jm_linker.specs.LinkedMethods.{LinksAlone, NumbersMain}
@@ -148,22 +149,6 @@ each_at P [] n x a at = cc
 each_at P (y ∷ ys) zero x a at = let same : y ≡ x = cc in subst P same a.0
 each_at P (y ∷ ys) (suc n) x a at = each_at P ys n x a.1 at
 
--- the linked method that stands at a place
-record IsPlaced (ms : List LinkedMethod) (n class member : ℕ) : Type 0 where
-  method : LinkedMethod
-  at : slice_get ms n ≡ Some method
-  class_is : method.class ≡ class
-  member_is : method.member ≡ member
-
-placed : (ms : List LinkedMethod) (n class member : ℕ) → slice_get (map place_of ms) n ≡ Some (class, member) → IsPlaced ms n class member
-placed ms n class member e = by (slice_get ms n) refl (sym (slice_get-map place_of ms n) ∙ e)
-  where
-    by : (o : Option LinkedMethod) → slice_get ms n ≡ o → option_map place_of o ≡ Some (class, member) → IsPlaced ms n class member
-    by None is g = cc
-    by (Some m) is g =
-        let same : (m.class, m.member) ≡ (class, member) = cc in
-        record { method = m; at = is; class_is = ap (λ (p : ℕ × ℕ). p.0) same; member_is = ap (λ (p : ℕ × ℕ). p.1) same }
-
 pub is_linked : (program : List ClassParts) (methods : List LinkedMethod) (literals : List (List ℕ)) (tables : Tables) (main : ℕ) → Loads program
     → map place_of methods ≡ coded_from 0 program → AllByRecursion (LinksAlone program) methods → literals ≡ literal_texts program
     → AreTables program tables → NumbersMain program main
@@ -181,11 +166,7 @@ is_linked program methods literals tables main loads places linked texts are n =
       main_is = p.at;
       found = n.found;
       found_is = n.found_is;
-      main_name =
-          ap (λ k. name_in_class (slice_get program k) p.method.member) p.class_is
-          ∙ ap (λ j. name_in_class (slice_get program 0) j) p.member_is
-          ∙ ap (λ o. name_in_class o n.member) n.class_is
-          ∙ ap (member_name n.found.class) n.method_is;
+      main_name = placed_name program methods main 0 n.member n.found p n.class_is n.method_is;
     }
 
 -- the place of a method with code, behind those before it

@@ -18,6 +18,7 @@ use Rattle.jm_radix.specs.declared.table.Cell.{Cell}
 use Rattle.jm_radix.specs.Tables.{Row, empty_row, with_cells, with_number}
 use Rattle.jm_tables.specs.MethodTables.{IsNumberOf, found_in}
 use Rattle.jm_linked.specs.Methods.{all_methods, first_named, methods_in, methods_of, selector_of}
+use Rattle.jm_linked.proofs.Coded.{methods_both}
 use Rattle.jm_linker.specs.Keys.{IsMethodKey}
 use Rattle.jm_linker.specs.Selectors.{AreOwn, HasFirst, found_methods}
 use Rattle.jm_linker.specs.contracts.key.MethodKeyOrd.TheImpl as method_ord
@@ -183,10 +184,6 @@ own_more program c ms m cells column number counted selected there new own = λ 
 pub methods_more : (c : ClassParts) (ms : List Method) (m : Method) → methods_of c (ms ++ m ∷ []) ≡ methods_of c ms ++ record { class = c; method = m } ∷ []
 methods_more c [] m = refl
 methods_more c (x ∷ xs) m = ap (λ l. record { class = c; method = x } ∷ l) (methods_more c xs m)
-
-pub methods_both : (xs ys : List ClassParts) → methods_in (xs ++ ys) ≡ methods_in xs ++ methods_in ys
-methods_both [] ys = refl
-methods_both (c ∷ cs) ys = ap (λ l. methods_of c c.methods ++ l) (methods_both cs ys) ∙ sym (append_assoc (methods_of c c.methods) (methods_in cs) (methods_in ys))
 
 -- one more method, in front of those in the table
 pub first_in_front : (ms : List ClassMethod) (i next n : ℕ) (x : ClassMethod) (k : MethodKey) (table new : BTreeMap MethodKey ℕ) → i < length ms → x ≡ get_or ms i x

@@ -9,6 +9,7 @@
 
 mod classes;
 mod code;
+mod codes;
 mod cycles;
 mod duplicates;
 mod fault;

@@ -6,15 +6,17 @@ ghost use Rattle.jm_world.specs.Hierarchy.{parents};
 ghost use Rattle.jm_world.specs.Loads.{Loads};
 ghost use Rattle.jm_world.specs.Classes.{height};
 ghost use Rattle.jm_tables.specs.Hierarchies.{own_cell};
-ghost use Rattle.jm_linked.specs.Tables.{AreTables};
+ghost use Rattle.jm_tables.specs.Layouts.{IsLayout};
+ghost use Rattle.jm_linked.specs.Tables.{AreTables, all_names};
 ghost use Rattle.jm_linker.specs.Inherited.{AreClasses, AreTheirFields, first_of};
 ghost use Rattle.jm_linker.specs.NumberedClasses.{AreNumbers};
 
 use crate::classes::Classes;
+use crate::codes::code_numbers;
 use crate::parents::superclass_of;
 use crate::selected::selected_of;
 use jm_linked::Tables;
-use jm_program::{AccessFlags, ClassParts, Name};
+use jm_program::{AccessFlags, ClassParts, Name, Sequence};
 use jm_radix::Cell;
 use jm_tables::{Declared, DeclaredFields, Hierarchy, Layout};
 use std::alloc::{AllocError, Global};
@@ -118,6 +120,25 @@ fn fields_of<'a>(
     Ok(Some(fields))
 }
 
+// Where the fields of the classes stand.
+fn layout_of<'a>(
+    alloc: Global,
+    classes: &Classes<'a>,
+    heirs: &[Declared],
+    order: &[u32],
+) -> Result<Option<Layout>, AllocError>
+    ensures { IfOk result (λ found. IfSome found (λ layout. Loads classes.now.program.now
+        → AreClasses classes.now.program.now (height classes.now.program.now) heirs.now → IsLayout classes.now.program.now (all_names classes.now.program.now) layout)) }
+{
+    let Some(fields) = fields_of(alloc, classes, heirs)? else {
+        return Ok(None);
+    };
+    let Some(layout) = Layout::of(alloc, &fields, order)? else {
+        return Ok(None);
+    };
+    Ok(Some(layout))
+}
+
 // When a class is placed: after those of lower ranks, which all of the program's classes have that
 // are right above one, and of the built-in ones after those with fewer superclasses, and after the
 // interfaces among those of as many.
@@ -207,22 +228,21 @@ pub fn tables_of<'a>(
     let Some(heirs) = heirs_of(alloc, classes)? else {
         return Ok(None);
     };
-    let Some(fields) = fields_of(alloc, classes, &heirs)? else {
-        return Ok(None);
-    };
     let order = order_of(alloc, classes, ranks)?;
     let Some(hierarchy) = Hierarchy::of(alloc, &heirs, &order)? else {
         return Ok(None);
     };
-    let Some(layout) = Layout::of(alloc, &fields, &order)? else {
+    let Some(layout) = layout_of(alloc, classes, &heirs, &order)? else {
         return Ok(None);
     };
     let Some(selected) = selected_of(alloc, classes, &heirs, &order)? else {
         return Ok(None);
     };
+    let codes = Sequence::new(code_numbers(alloc, classes)?);
     Ok(Some(Tables {
         hierarchy,
         layout,
         selected,
+        codes,
     }))
 }

@@ -3,38 +3,34 @@ use Rattle.std.proofs.Common.{◌≡◌, ℕ, ◌<◌, length, sym, subst, ◌�
 use Rattle.std.specs.Prelude.{IfSome}
 use Rattle.jm_world.specs.Classes.{height}
 use Rattle.jm_world.specs.Hierarchy.{is_subclass}
+use Rattle.jm_world.specs.Loads.{Loads}
 use Rattle.jm_tables.specs.Hierarchies.{is_above}
 use Rattle.jm_tables.specs.Layouts.{IsLayout}
 use Rattle.jm_tables.specs.Numbering.{name_of}
-use Rattle.jm_world.specs.Loads.{Loads}
 use Rattle.jm_linked.specs.Tables.{AreSelected, all_names}
-use Rattle.jm_linker.specs.Inherited.{AreClasses, AreTheirFields}
-use Rattle.jm_linker.proofs.InheritedLaws.{are_heirs, are_fields, own_cells}
+use Rattle.jm_linker.specs.Inherited.{AreClasses}
+use Rattle.jm_linker.proofs.InheritedLaws.{are_heirs, own_cells}
 use Rattle.jm_linker.proofs.tables.tables_of.Goals as goal
 
 pub of-requires : goal.of-requires
 of-requires c =
     let program = c.args.classes.now.program.now in
     let are = subst (λ o. IfSome o (λ heirs. AreClasses program (height program) heirs.items)) c.in-Some.is c.in_ok-heirs.ensures in
-    own_cells program (height program) c.deref-2.result.now (subst (AreClasses program (height program)) (sym c.deref-2.ensures.value) are)
+    own_cells program (height program) c.deref.result.now (subst (AreClasses program (height program)) (sym c.deref.ensures.value) are)
 
 pub returns : goal.returns
 returns c =
     let program = c.args.classes.now.program.now in
     let names = all_names program in
     let are = subst (λ o. IfSome o (λ heirs. AreClasses program (height program) heirs.items)) c.in-Some.is c.in_ok-heirs.ensures in
-    let heirs = c.deref-2.result.now in
-    let gathered = subst (AreClasses program (height program)) (sym c.deref-2.ensures.value) are in
-    let same = c.deref.ensures.value ∙ sym c.deref-2.ensures.value in
-    let own = subst (λ o. IfSome o (λ fields. AreTheirFields program c.deref.result.now (length c.deref.result.now) fields.items)) c.in-Some-2.is c.in_ok-fields.ensures in
-    let fields = subst (AreTheirFields program heirs (length heirs)) (sym c.deref-4.ensures.value)
-    (subst (λ hs. AreTheirFields program hs (length hs) c.in-Some-2.fields.items) same own) in
+    let gathered = subst (AreClasses program (height program)) (sym c.deref.ensures.value) are in
     λ loads. record {
       hierarchy = subst (λ o. IfSome o (λ h. (class above : ℕ) → class < length names → above < length names
           → is_above h class above ≡ is_subclass program (name_of names class) (name_of names above)))
-          c.in-Some-3.is (c.in_ok-hierarchy.ensures.above_them program names (are_heirs program heirs loads gathered));
-      layout = subst (λ o. IfSome o (λ layout. IsLayout program names layout))
-          c.in-Some-4.is (c.in_ok-layout.ensures.laid_out program names (are_fields program heirs c.deref-4.result.now loads gathered fields));
-      selected = subst (λ o. IfSome o (λ selected. Loads program → AreClasses program (height program) c.deref-6.result.now → AreSelected program selected))
-          c.in-Some-5.is c.in_ok-selected.ensures loads (subst (AreClasses program (height program)) (sym c.deref-6.ensures.value) are);
+          c.in-Some-2.is (c.in_ok-hierarchy.ensures.above_them program names (are_heirs program c.deref.result.now loads gathered));
+      layout = subst (λ o. IfSome o (λ layout. Loads program → AreClasses program (height program) c.deref-3.result.now → IsLayout program names layout))
+          c.in-Some-3.is c.in_ok-layout.ensures loads (subst (AreClasses program (height program)) (sym c.deref-3.ensures.value) are);
+      selected = subst (λ o. IfSome o (λ selected. Loads program → AreClasses program (height program) c.deref-5.result.now → AreSelected program selected))
+          c.in-Some-4.is c.in_ok-selected.ensures loads (subst (AreClasses program (height program)) (sym c.deref-5.ensures.value) are);
+      codes = c.new-codes.ensures ∙ c.in_ok-code_numbers.ensures;
     }
