@@ -3,6 +3,7 @@
 many members, many references to one of them, many literals, long chains, cycles and diamonds of classes. The first
 file by name is the main class."""
 import pathlib
+import random
 import struct
 import sys
 
@@ -87,6 +88,19 @@ def chain(top, members=with_main):
         yield class_file(f"A{n}", above, members=members if n == 0 else lambda pool: ([], []))
 
 
+def chain_of_members():
+    """60,001 classes, each the superclass of the one before it, and each with a field and a method of its own."""
+    def own(n):
+        def members(pool):
+            main = [method(pool, *MAIN)] if n == 0 else []
+            return [field(pool, f"f{n}", "I", PUBLIC)], main + [abstract_method(pool, f"m{n}", "()V")]
+        return members
+
+    for n in range(CLASSES):
+        above = f"A{n + 1}" if n + 1 < CLASSES else "java/lang/Object"
+        yield class_file(f"A{n}", above, flags=ABSTRACT_CLASS, members=own(n))
+
+
 def call_along(pool):
     """main invokes a method that no class of the chain has."""
     return [], [main_of(pool, INVOKESTATIC, pool.member(10, "A0", "m", "()V"))]
@@ -141,6 +155,17 @@ def many_interfaces():
         yield class_file(f"I{n}", flags=INTERFACE, members=lambda pool, n=n: ([], [abstract_method(pool, f"m{n}", "()V")]))
 
 
+def interfaces_above_interfaces():
+    """1,000 interfaces, each of which extends half of 1,000 others, no two of them the same half."""
+    yield class_file("A", members=with_main)
+    for n in range(1000):
+        halves = random.Random(n)
+        above = [f"U{k}" for k in range(1000) if halves.random() < 0.5]
+        yield class_file(f"L{n}", interfaces=above, flags=INTERFACE)
+    for k in range(1000):
+        yield class_file(f"U{k}", flags=INTERFACE)
+
+
 SHAPES = {
     "literals": literals,
     "inherited fields": inherited_fields,
@@ -148,6 +173,8 @@ SHAPES = {
     "many calls": lambda: [class_file("A", members=many_calls)],
     "many fields": lambda: [class_file("A", members=many_fields)],
     "many methods": lambda: [class_file("A", members=many_methods)],
+    "chain of members": chain_of_members,
+    "interfaces above interfaces": interfaces_above_interfaces,
     "chain": lambda: chain("java/lang/Object"),
     "call along a chain": lambda: chain("java/lang/Object", call_along),
     "cycle": lambda: chain("A0"),
