@@ -7,4 +7,5 @@ pub mod Returned
 pub mod Printing
 pub mod Tops
 pub mod TopObject
+pub mod Storing
 pub mod ArrayRows
