@@ -10,12 +10,9 @@ pub mod Ended
 pub mod PlainRow
 pub mod PushRow
 pub mod Replaced
-pub mod Stored
-pub mod StoredOnTop
 pub mod OnTop
 pub mod MadeOnTop
 pub mod ArrayRows
-pub mod ArrayStores
 pub mod ReturnRow
 pub mod Arguments
 pub mod PrintRow

@@ -7,5 +7,4 @@ pub mod Returned
 pub mod Printing
 pub mod Tops
 pub mod TopObject
-pub mod Storing
 pub mod ArrayRows

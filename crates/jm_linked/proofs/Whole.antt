@@ -9,9 +9,7 @@ use Rattle.jm_program.specs.declared.descriptor.FieldType.{FieldType}
 use Rattle.jm_world.specs.Types.{same_types, same_result, same_method_type}
 use Rattle.jm_world.specs.Classes.{FoundMethod, MethodName, method_in}
 use Rattle.jm_world.specs.Loading.{main_in, main_type}
-use Rattle.jm_program.specs.declared.instruction.operation.ArrayKind.TheVariants as kind
 use Rattle.jm_program.specs.declared.instruction.operation.ArrayOp.{ArrayOp}
-use Rattle.jm_world.specs.Arrays.{serves_references}
 use Rattle.jm_program.specs.declared.instruction.operation.ArrayOp.TheVariants.{Load, Store, New, Length}
 use Rattle.jm_program.specs.declared.instruction.operation.FieldOp.{FieldOp}
 use Rattle.jm_program.specs.declared.instruction.operation.FieldOp.TheVariants.{GetStatic, PutStatic, GetField, PutField}
@@ -136,7 +134,7 @@ instruction_runs {code} w n i at = (neither_later (later_use i) (later_instructi
 
 -- the linked instructions that the machine can run
 abbrev pub RunsArray : ArrayOp → Type 0
-RunsArray (Store k) = serves_references k ≡ false
+RunsArray (Store kind) = ⊥
 RunsArray _ = Unit {0}
 
 abbrev pub RunsToday : LinkedInstr → Type 0
@@ -151,12 +149,7 @@ RunsToday _ = ⊥
 
 array_later : (op : ArrayOp) → later_array op ≡ None → RunsArray op
 array_later (Load kind) e = tt
-array_later (Store kind.Int) e = refl
-array_later (Store kind.Long) e = refl
-array_later (Store kind.Byte) e = refl
-array_later (Store kind.Char) e = refl
-array_later (Store kind.Short) e = refl
-array_later (Store kind.Reference) e = cc
+array_later (Store kind) e = cc
 array_later (New element) e = tt
 array_later Length e = tt
 

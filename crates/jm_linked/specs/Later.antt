@@ -15,7 +15,6 @@ use Rattle.jm_program.specs.declared.descriptor.BaseType.{BaseType}
 use Rattle.jm_program.specs.declared.descriptor.BaseType.TheVariants as base
 use Rattle.jm_program.specs.declared.descriptor.ElementType.{ElementType}
 use Rattle.jm_program.specs.declared.descriptor.ElementType.TheVariants.{Base, Class}
-use Rattle.jm_program.specs.declared.instruction.operation.ArrayKind.TheVariants as kind
 use Rattle.jm_program.specs.declared.instruction.operation.ArrayOp.{ArrayOp}
 use Rattle.jm_program.specs.declared.instruction.operation.ArrayOp.TheVariants.{Store}
 use Rattle.jm_program.specs.declared.instruction.operation.FieldOp.{FieldOp}
@@ -83,9 +82,9 @@ later_constant (constant.Int n) = None
 later_constant (constant.Long n) = None
 later_constant (constant.String units) = Some later.StringConstant
 
--- the stores of references into arrays
+-- the stores into arrays
 abbrev pub later_array : ArrayOp → Option LaterPart
-later_array (Store kind.Reference) = Some (later.Array (Store kind.Reference))
+later_array (Store kind) = Some (later.Array (Store kind))
 later_array _ = None
 
 abbrev pub later_field : FieldOp → FieldRef → Option LaterPart

@@ -16,9 +16,9 @@ use crate::name::{is_print_stream, is_system};
 use crate::types::letter;
 use jm_linked::{LaterPart, PrintMethod, Printed};
 use jm_program::{
-    AccessFlags, ArrayKind, ArrayOp, BaseType, Class, ClassParts, ClassRef, Code, Constant,
-    ElementType, Field, FieldOp, FieldRef, FieldType, Instr, InvokeOp, Method, MethodDescriptor,
-    MethodRef, Name,
+    AccessFlags, ArrayOp, BaseType, Class, ClassParts, ClassRef, Code, Constant, ElementType,
+    Field, FieldOp, FieldRef, FieldType, Instr, InvokeOp, Method, MethodDescriptor, MethodRef,
+    Name,
 };
 
 fn is_system_ref(class: &ClassRef) -> bool
@@ -171,8 +171,7 @@ fn later_array(op: ArrayOp) -> Option<LaterPart>
     ensures { result ≡ later_array op }
 {
     match op {
-        ArrayOp::Store(ArrayKind::Reference) => Some(LaterPart::Array(op)),
-        ArrayOp::Store(_) => None,
+        ArrayOp::Store(_) => Some(LaterPart::Array(op)),
         _ => None,
     }
 }
