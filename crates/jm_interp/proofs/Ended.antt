@@ -78,9 +78,8 @@ module _ {H : Type 0} {content : H → Content ClassId} {at : At} {old : State H
             program = r.not_yet.program;
             threads =
                 all_set (ThreadNotYet at.linked.now) old.threads.items at.index t r.not_yet.threads
-                (subst (ThreadNotYet at.linked.now) (sym (held_is s)) (record { object = none; frames = tt; initializers = tt }));
+                (subst (ThreadNotYet at.linked.now) (sym (held_is s)) (record { object = none; frames = tt }));
             monitors = r.not_yet.monitors;
-            failures = r.not_yet.failures;
           };
         }
 

@@ -1,22 +1,23 @@
 -- Stages of initialization beside the model's.
-use Rattle.std.proofs.Common.{◌≡◌, ◌≢◌, ℕ, ◌+◌, ◌<◌, List, [], ◌∷◌, Option, Some, None, true, false, refl, sym, ap, ◌∙◌, subst, inl, inr, ◌⊎◌, length}
-use Rattle.std.proofs.Common.{drop, arith, length-set}
-use Rattle.std.specs.Prelude.{map, slice_get, slice_set, nat_eq}
+use Rattle.std.proofs.Common.{◌≡◌, ℕ, ◌+◌, ◌-◌, ◌<◌, ◌≤◌, List, [], ◌∷◌, Option, Some, None, Bool, true, false, refl, sym, ap, ◌∙◌, subst}
+use Rattle.std.proofs.Common.{inl, inr, ◌⊎◌, length, drop, arith, length-set}
+use Rattle.std.specs.Prelude.{map, slice_get, slice_set, nat_eq, nat_lt, codes, Result, Err}
 use Rattle.std.specs.List.{AllByRecursion}
 use Rattle.jm_program.specs.declared.class.ClassParts.{ClassParts}
 use Rattle.jm_program.specs.declared.class.Field.{Field}
 use Rattle.std.proofs.lemmas.Bool.{eq-eqb}
-use Rattle.std.proofs.lemmas.Bool.Decides.{eqb_tells}
+use Rattle.std.proofs.lemmas.List.{length-map}
+use Rattle.std.proofs.lemmas.Bool.Decides.{eqb_tells, nat_tests}
 use Rattle.jm_values.specs.Shape.{Among}
-use Rattle.jm_world.specs.Frames.{Frame, frames_shape, initialization_frame}
+use Rattle.jm_world.specs.Frames.{Frame, frames_shape, initialization_frame, rename_frame}
 use Rattle.jm_world.specs.Here.{with_frames, push_frame}
 use Rattle.jm_world.specs.Initialization.{initialize, begin, superclass_first, superclass_name, is_done, run_initializer, initializer_of, initializer_in}
 use Rattle.jm_world.specs.Initialization.{initializer_type, constants_of, with_constant, with_constants, at_stage, finish}
 use Rattle.jm_world.specs.Next as next
-use Rattle.jm_world.specs.Next.{Next, goes}
-use Rattle.jm_world.specs.Classes.{class_named, object_class}
+use Rattle.jm_world.specs.Next.{Next, goes, throw}
+use Rattle.jm_world.specs.Classes.{class_named}
 use Rattle.jm_world.specs.World.{World, Thread, Static, Literal, with_thread, with_state, state_of, state_in, set_state_in, held_shape, live_among}
-use Rattle.jm_values.specs.Content.{Content}
+use Rattle.jm_values.specs.Content.{Content, name_of}
 use Rattle.jm_world.specs.Matches.{Matches}
 use Rattle.jm_world.specs.Stepping.{step_thread}
 use Rattle.jm_world.specs.declared.class_state.ClassState.{ClassState}
@@ -28,29 +29,34 @@ use Rattle.jm_linked.specs.Later.{later_part, later_declared_field, first_later}
 use Rattle.jm_linked.specs.Links.{LinkedView, IsLinked}
 use Rattle.jm_linked.specs.Named.{named_states}
 use Rattle.jm_state.specs.Parts.{parts, frame_part, thread_part, program_class_name, name_in_program}
-use Rattle.jm_state.specs.Runnable.{IsMethodFrame, StandOnTop, ThreadRuns, ThreadNotYet}
+use Rattle.jm_state.specs.Runnable.{ThreadRuns, ThreadNotYet}
 use Rattle.jm_state.specs.Places.{held_thread}
 use Rattle.jm_state.specs.declared.state.State.{State}
 use Rattle.jm_state.specs.declared.thread.StackFrame.{StackFrame}
 use Rattle.jm_state.specs.declared.thread.StackFrame.TheVariants.{Initialization}
 use Rattle.jm_state.specs.declared.thread.Thread as held
-use Rattle.jm_values.proofs.Lists.{each_set, each_at}
+use Rattle.jm_values.proofs.Lists.{set_same}
 use Rattle.jm_linked.proofs.BuiltIns.{others}
 use Rattle.jm_linked.proofs.SystemOut.{not_listed}
-use Rattle.jm_linked.proofs.Classes.{IsPlain, plain_main, no_constant, state_is, states_set, class_is}
+use Rattle.jm_linked.proofs.Classes.{IsPlain, plain_class, no_constant, state_is, states_set, class_is}
 use Rattle.jm_linked.proofs.Whole.{neither_later}
 use Rattle.std.specs.Prelude.{slice_index_or, vec_len, Ok}
 use Rattle.jm_interp.specs.declared.at.At.{At}
 use Rattle.jm_interp.specs.At.{parts_at, HoldsAll, OnThread, Does, Steps}
+use Rattle.jm_interp.specs.Initializing.{IsOwnSuperclass}
 use Rattle.jm_interp.specs.Standing.{Stands, running}
-use Rattle.jm_interp.proofs.OnThread.{Leads, thread_as, model, does_as, blocks, held_frames, part_here, runs_with, ChangedTo, with_thread_at}
+use Rattle.jm_interp.proofs.OnThread.{Leads, thread_as, thread_there, model, read, does_as, blocks, held_frames, held_pending}
+use Rattle.jm_interp.proofs.OnThread.{part_here, runs_with, same_matches, ChangedTo, with_thread_at}
 use Rattle.jm_interp.proofs.OnThread as thread
 use Rattle.jm_values.proofs.Lists.{get_there, get_at}
-use Rattle.jm_interp.proofs.Threads.{part_refs, PartRuns, without_top, with_top}
+use Rattle.jm_interp.proofs.Threads.{part_refs, PartRuns, without_top, with_top, with_more, dropped_part, dropped_refs, count_is}
 use Rattle.jm_state.specs.Runnable.{StateRuns}
+use Rattle.jm_state.specs.declared.halt.Halt.{Halt}
+use Rattle.jm_state.specs.declared.halt.Halt.TheVariants.{OutOfMemory}
+use Rattle.jm_state.specs.declared.halt.StepEnd.{StepEnd}
 use Rattle.jm_state.specs.declared.halt.StepEnd.TheVariants as step_end
 
--- the main class, by its number
+-- a class of the program, by its number
 pub record HasClass (l : LinkedView) (class : ℕ) : Type 0 where
   pub class_of : ClassParts
   pub at : slice_get l.program class ≡ Some class_of
@@ -58,16 +64,16 @@ pub record HasClass (l : LinkedView) (class : ℕ) : Type 0 where
   pub is_named : class_named l.program class_of.name ≡ Some class_of
   pub plain : IsPlain class_of
 
-pub has_class : (l : LinkedView) → IsLinked l → later_part l.program ≡ None → (class : ℕ) → class < length l.program → class ≡ 0 → HasClass l class
+pub has_class : (l : LinkedView) → IsLinked l → later_part l.program ≡ None → (class : ℕ) → class < length l.program → HasClass l class
 unfolding program_class_name
-has_class l is none class lt first =
+has_class l is none class lt =
     let d = get_there l.program class lt in
     record {
       class_of = d.0;
       at = d.1;
       named = ap name_in_program d.1;
       is_named = class_is l.program is.loads class d.0 d.1;
-      plain = plain_main l.program none d.0 (ap (slice_get l.program) (sym first) ∙ d.1);
+      plain = plain_class l.program none class d.0 d.1;
     }
 
 -- no field of it has a constant
@@ -78,18 +84,9 @@ no_constants literals c (f ∷ fs) statics e =
     let parts = neither_later (later_declared_field f) (first_later later_declared_field fs) e in
     ap (λ o. with_constants literals c fs (with_constant literals c f o statics)) (no_constant f parts.0) ∙ no_constants literals c fs statics parts.1
 
--- the frames below an initialization may be left
-pub below_on_top : (fs : List StackFrame) → AllByRecursion IsMethodFrame fs → StandOnTop None fs
-below_on_top [] h = tt
-below_on_top (f ∷ fs) h = h.1
-
-pub dropped_runs : {l : LinkedView} {class : ℕ} {s : Stage} {below : List StackFrame} {o : Option ℕ}
-    → PartRuns l (Initialization class s ∷ below) (running o None) → PartRuns l below (running o None)
-dropped_runs {below = below} q = without_top q (below_on_top below q.not_yet.initializers)
-
 pub staged_runs : {l : LinkedView} {class : ℕ} {s s' : Stage} {below : List StackFrame} {o : Option ℕ}
     → PartRuns l (Initialization class s ∷ below) (running o None) → PartRuns l (Initialization class s' ∷ below) (running o None)
-staged_runs {class = class} {s = s} q = with_top {f = Initialization class s} q.runs.frames.0 q.not_yet.frames.0 q q.not_yet.initializers
+staged_runs {class = class} {s = s} q = with_top {f = Initialization class s} q.runs.frames.0 tt q
 
 differ : (a b : ℕ) → (a ≡ b → ⊥) → nat_eq a b ≡ false
 differ a b n = elim (eqb_tells a b) [ inl t ↦ absurd (n t.1) | inr t ↦ t.0 ]
@@ -97,52 +94,56 @@ differ a b n = elim (eqb_tells a b) [ inl t ↦ absurd (n t.1) | inr t ↦ t.0 ]
 alike : (a b : ℕ) → a ≡ b → nat_eq a b ≡ true
 alike a b e = eq-eqb a b e
 
-module _ {H : Type 0} {content : H → Content ClassId} {at : At} {old : State H} {class : ℕ} {s : Stage} {below : List StackFrame}
-    (h : OnThread content at old (Initialization class s ∷ below) None) where
+less : (a b : ℕ) → a < b → nat_lt a b ≡ true
+less a b lt = by (nat_lt a b) refl
+  where
+    by : (t : Bool) → nat_lt a b ≡ t → nat_lt a b ≡ true
+    by true e = e
+    by false e = absurd (grind (arith, nat_tests, e))
+
+not_less : (a b : ℕ) → b ≤ a → nat_lt a b ≡ false
+not_less a b le = by (nat_lt a b) refl
+  where
+    by : (t : Bool) → nat_lt a b ≡ t → nat_lt a b ≡ false
+    by false e = e
+    by true e = absurd (grind (arith, nat_tests, e))
+
+-- the top frame of a thread is dropped
+pub leaves : {H : Type 0} {content : H → Content ClassId} {at : At} {old : State H} {fs : List StackFrame} {p : Option ℕ} (h : OnThread content at old fs p)
+    {t : held.Thread} → Stands t (drop 1 fs) (running h.object p)
+    → Does content at old (Ok step_end.Done) (with_thread_at old at.index t) (λ w number x. goes (with_frames w number x (drop 1 x.frames)))
+leaves {at = at} {fs = fs} {p = p} h s' = thread.goes h s' (dropped_part fs (part_here h)) (λ q a. elim (part_refs at.linked.now (drop 1 fs) p q a) [
+  | inl z ↦ held_pending h q z
+  | inr z ↦ held_frames h q (dropped_refs at.linked.now fs q z)
+]) (λ w m. by w fs)
+  where
+    by : (w : World) (gs : List StackFrame) → goes (with_frames w (at.index + 1) (model h) (drop 1 (thread.lower h gs)))
+        ≡ goes (with_frames w (at.index + 1) (model h) (thread.lower h (drop 1 gs)))
+    by w [] = refl
+    by w (g ∷ gs) = refl
+
+-- a class of the program, where a thread stands
+module _ {H : Type 0} {content : H → Content ClassId} {at : At} {old : State H} {fs : List StackFrame} {p : Option ℕ} (h : OnThread content at old fs p)
+    (class : ℕ) (lt : class < length at.linked.now.program) where
   abbrev name : List ℕ
   name = program_class_name at.linked.now.program class
 
-  -- the frames below, in the model
-  abbrev lower : List Frame
-  lower = thread.lower h below
-
-  pub class_of : HasClass at.linked.now class
-  class_of = has_class at.linked.now h.beside.linked h.beside.runs.not_yet.program class (part_here h).runs.frames.0 (part_here h).not_yet.frames.0
+  pub class_there : HasClass at.linked.now class
+  class_there = has_class at.linked.now h.beside.linked h.beside.runs.not_yet.program class lt
 
   pub class_within : class < vec_len old.classes
-  class_within =
-      let n = old.classes.ok.0 in
-      let r = h.beside.runs.classes in
-      let f = (part_here h).runs.frames.0 in
-      omega arith
-
-  -- frames that hold the places of those below
-  inside : (fs : List StackFrame)
-      → ((q : ℕ) → Among q (frames_shape.refs (map (frame_part at.linked.now) fs)) → Among q (frames_shape.refs (map (frame_part at.linked.now) below)))
-      → HoldsAll content at old (held_shape.refs (None, map (frame_part at.linked.now) fs))
-  inside fs e q a = held_frames h q (elim (part_refs at.linked.now fs None q a) [ inl z ↦ absurd z | inr z ↦ e q z ])
-
-  -- the frame is dropped, or goes to another stage
-  pub dropped : {t : held.Thread} {rule : World → ℕ → Thread → Next} → Stands t below (running h.object None)
-      → Leads h rule (λ w. goes (with_frames w (at.index + 1) (model h) lower))
-      → Does content at old (Ok step_end.Done) (with_thread_at old at.index t) rule
-  dropped s' is = thread.goes h s' (dropped_runs (part_here h)) (inside below (λ q a. a)) is
-
-  pub staged : {t : held.Thread} {s' : Stage} {rule : World → ℕ → Thread → Next} → Stands t (Initialization class s' ∷ below) (running h.object None)
-      → Leads h rule (λ w. goes (at_stage w (at.index + 1) (model h) name s' lower))
-      → Does content at old (Ok step_end.Done) (with_thread_at old at.index t) rule
-  staged {t} {s'} is_so is = thread.goes h is_so (staged_runs (part_here h)) (inside (Initialization class s' ∷ below) (λ q a. a)) is
+  class_within = let n = old.classes.ok.0 in let r = h.beside.runs.classes in omega arith
 
   -- the model's class, and its state
-  class_here : (w : World) → Matches (parts_at content at old) w → class_named w.program name ≡ Some class_of.class_of
+  class_here : (w : World) → Matches (parts_at content at old) w → class_named w.program name ≡ Some class_there.class_of
   unfolding parts
-  class_here w m = ap (λ p. class_named p name) (sym m.program) ∙ ap (class_named at.linked.now.program) class_of.named ∙ class_of.is_named
+  class_here w m = ap (λ p. class_named p name) (sym m.program) ∙ ap (class_named at.linked.now.program) class_there.named ∙ class_there.is_named
 
   state_here : {st : ClassState} → slice_get old.classes.items class ≡ Some st → (w : World) → Matches (parts_at content at old) w → state_of w name ≡ st
   unfolding parts
   state_here {st} there w m =
       let l = at.linked.now in
-      let d = class_of in
+      let d = class_there in
       ap (λ ps. state_in ps name) (sym m.classes) ∙ ap (state_in (named_states l.program old.classes.items)) d.named
       ∙ state_is l.program h.beside.linked.loads old.classes.items class d.class_of st d.at there
 
@@ -151,15 +152,15 @@ module _ {H : Type 0} {content : H → Content ClassId} {at : At} {old : State H
   unfolding parts
   states_here st w m =
       let l = at.linked.now in
-      let d = class_of in
+      let d = class_there in
       sym (ap (λ ps. set_state_in ps name st) (sym m.classes) ∙ ap (λ n. set_state_in (named_states l.program old.classes.items) n st) d.named
       ∙ states_set l.program h.beside.linked.loads old.classes.items class d.class_of st d.at)
 
   -- a thread and the state of the class have changed
-  changes : {new : State H} {t : held.Thread} {fs : List StackFrame} {st : ClassState} {rule : World → ℕ → Thread → Next} → ChangedTo h new t
-      → new.classes.items ≡ slice_set old.classes.items class st → new.output.items ≡ old.output.items → StateRuns at.linked.now new
-      → Stands t fs (running h.object None) → HoldsAll content at old (held_shape.refs (None, map (frame_part at.linked.now) fs))
-      → Leads h rule (λ w. goes (with_thread (with_state w name st) (at.index + 1) (thread_as h fs (running h.object None))))
+  changes : {new : State H} {t : held.Thread} {gs : List StackFrame} {q : Option ℕ} {st : ClassState} {rule : World → ℕ → Thread → Next}
+      → ChangedTo h new t → new.classes.items ≡ slice_set old.classes.items class st → new.output.items ≡ old.output.items → StateRuns at.linked.now new
+      → Stands t gs (running h.object q) → HoldsAll content at old (held_shape.refs (q, map (frame_part at.linked.now) gs))
+      → Leads h rule (λ w. goes (with_thread (with_state w name st) (at.index + 1) (thread_as h gs (running h.object q))))
       → Does content at old (Ok step_end.Done) new rule
   unfolding parts
   changes {new} {st = st} same classes output runs s' within is =
@@ -167,11 +168,11 @@ module _ {H : Type 0} {content : H → Content ClassId} {at : At} {old : State H
       (λ w m. (ap (named_states at.linked.now.program) classes ∙ states_here st w m, output ∙ m.output)) is
 
   -- the state with another thread and state of the class runs on
-  class_runs : (new : State H) {t : held.Thread} {fs : List StackFrame} {st : ClassState} → st ≢ Failed → ChangedTo h new t
-      → new.classes.items ≡ slice_set old.classes.items class st → new.live ≡ old.live → Stands t fs (running h.object None)
-      → PartRuns at.linked.now fs (running h.object None) → StateRuns at.linked.now new
-  class_runs new {t} {fs} {st} sound same classes live s' q =
-      let r = runs_with h s' q in
+  class_runs : (new : State H) (st : ClassState) {t : held.Thread} {gs : List StackFrame} {q : Option ℕ} → ChangedTo h new t
+      → new.classes.items ≡ slice_set old.classes.items class st → new.live ≡ old.live → Stands t gs (running h.object q)
+      → PartRuns at.linked.now gs (running h.object q) → StateRuns at.linked.now new
+  class_runs new st {t} same classes live s' part =
+      let r = runs_with h s' part in
       record {
         threads = subst (λ ts. AllByRecursion (ThreadRuns at.linked.now) (map held_thread ts)) (sym same.threads) r.threads;
         live = live ∙ r.live ∙ ap (λ ts. live_among (map (thread_part at.linked.now) ts)) (sym same.threads);
@@ -182,77 +183,220 @@ module _ {H : Type 0} {content : H → Content ClassId} {at : At} {old : State H
           program = r.not_yet.program;
           threads = subst (λ ts. AllByRecursion (ThreadNotYet at.linked.now) (map held_thread ts)) (sym same.threads) r.not_yet.threads;
           monitors = same.monitors ∙ r.not_yet.monitors;
-          failures = subst (AllByRecursion (λ x. x ≢ Failed)) (sym classes) (each_set (λ x. x ≢ Failed) old.classes.items class st r.not_yet.failures sound);
         };
       }
 
+  -- the state of the class alone has changed
+  pub marked : {new : State H} {st : ClassState} → new.threads.items ≡ old.threads.items → new.statics.items ≡ old.statics.items
+      → new.literals.items ≡ old.literals.items → new.monitors.items ≡ old.monitors.items → new.heap ≡ old.heap → new.stop ≡ old.stop
+      → new.classes.items ≡ slice_set old.classes.items class st → new.live ≡ old.live → new.output.items ≡ old.output.items
+      → Does content at old (Ok step_end.Done) new (λ w number x. goes (with_state w name st))
+  marked {new} {st} threads statics literals monitors heap stop classes live output =
+      let same : ChangedTo h new h.stands.thread = record {
+        threads = threads ∙ sym (set_same old.threads.items at.index h.stands.thread h.stands.at);
+        statics = statics;
+        literals = literals;
+        monitors = monitors;
+        heap = heap;
+        stop = stop;
+      } in
+      changes same classes output (class_runs new st same classes live h.stands.stands (part_here h)) h.stands.stands
+      (λ q a. elim (part_refs at.linked.now fs p q a) [ inl z ↦ held_pending h q z | inr z ↦ held_frames h q z ]) (λ w m.
+      let n : at.index ≡ at.index + 1 - 1 = omega arith in
+      ap (λ ts. goes (record (with_state w name st) { threads = ts }))
+      (sym (set_same w.threads (at.index + 1 - 1) (model h) (subst (λ i. slice_get w.threads i ≡ Some (model h)) n (thread_there h w m)))))
+
+module _ {H : Type 0} {content : H → Content ClassId} {at : At} {old : State H} {class : ℕ} {s : Stage} {below : List StackFrame}
+    (h : OnThread content at old (Initialization class s ∷ below) None) where
+  abbrev called : List ℕ
+  called = program_class_name at.linked.now.program class
+
+  -- the frames below, in the model
+  abbrev lower : List Frame
+  lower = thread.lower h below
+
+  pub own : class < length at.linked.now.program
+  own = (part_here h).runs.frames.0
+
+  abbrev pub class_of : HasClass at.linked.now class
+  class_of = class_there h class own
+
+  -- frames that hold the places of those below
+  inside : (fs : List StackFrame)
+      → ((q : ℕ) → Among q (frames_shape.refs (map (frame_part at.linked.now) fs)) → Among q (frames_shape.refs (map (frame_part at.linked.now) below)))
+      → HoldsAll content at old (held_shape.refs (None, map (frame_part at.linked.now) fs))
+  inside fs e q a = held_frames h q (elim (part_refs at.linked.now fs None q a) [ inl z ↦ absurd z | inr z ↦ e q z ])
+
+  -- it goes to another stage
+  pub staged : {t : held.Thread} {s' : Stage} → Stands t (Initialization class s' ∷ below) (running h.object None)
+      → Does content at old (Ok step_end.Done) (with_thread_at old at.index t) (λ w number x. goes (at_stage w number x called s' (drop 1 x.frames)))
+  staged {t} {s'} is_so = thread.goes h is_so (staged_runs (part_here h)) (inside (Initialization class s' ∷ below) (λ q a. a)) (λ w m. refl)
+
   pub finished : {new : State H} {t : held.Thread} → ChangedTo h new t → new.classes.items ≡ slice_set old.classes.items class Done → new.live ≡ old.live
       → new.output.items ≡ old.output.items → Stands t below (running h.object None)
-      → Does content at old (Ok step_end.Done) new (λ w number x. finish w number x name (drop 1 x.frames))
+      → Does content at old (Ok step_end.Done) new (λ w number x. finish w number x called (drop 1 x.frames))
   finished {new} same classes live output s' =
-      changes same classes output (class_runs new (λ (f : Done ≡ Failed). cc) same classes live s' (dropped_runs (part_here h))) s' (inside below (λ q a. a))
+      changes h class own same classes output (class_runs h class own new Done same classes live s' (without_top (part_here h))) s' (inside below (λ q a. a))
       (λ w m. refl)
 
   -- what the model does at the stages
   pub begin_is : {st : ClassState} → s ≡ stage.Begin → slice_get old.classes.items class ≡ Some st
-      → Leads h step_thread (λ w. begin w (at.index + 1) (model h) name lower st)
+      → Leads h step_thread (λ w. begin w (at.index + 1) (model h) called lower st)
   begin_is {st} e there w m =
-      ap (λ z. initialize w (at.index + 1) (model h) name z lower) e
-      ∙ ap (begin w (at.index + 1) (model h) name lower) (state_here there w m)
-
-  superclass_is : s ≡ stage.Superclass → Leads h step_thread (λ w. goes (at_stage w (at.index + 1) (model h) name stage.Initializer lower))
-  unfolding parts
-  superclass_is e w m =
-      let l = at.linked.now in
-      let done : state_of w object_class ≡ Done =
-      ap (λ ps. state_in ps object_class) (sym m.classes)
-      ∙ not_listed object_class l.program old.classes.items (others l.program h.beside.linked.loads object_class refl) in
-      ap (λ z. initialize w (at.index + 1) (model h) name z lower) e
-      ∙ ap (λ o. superclass_first w (at.index + 1) (model h) name lower (superclass_name o)) (class_here w m)
-      ∙ ap (superclass_first w (at.index + 1) (model h) name lower) class_of.plain.superclass
-      ∙ ap (λ st. superclass_by st) done
-    where
-      superclass_by : ClassState → Next
-      superclass_by st = elim (is_done st) [
-        | true ↦ goes (at_stage w (at.index + 1) (model h) name stage.Initializer lower)
-        | false ↦ push_frame w (at.index + 1) (model h) (initialization_frame name stage.Initializer ∷ lower) (initialization_frame object_class stage.Begin)
-      ]
-
-  pub superclass_done : {t : held.Thread} → s ≡ stage.Superclass → Stands t (Initialization class stage.Initializer ∷ below) (running h.object None)
-      → Steps content at old (Ok step_end.Done) (with_thread_at old at.index t)
-  superclass_done e s' = staged s' (superclass_is e)
+      ap (λ z. initialize w (at.index + 1) (model h) called z lower) e
+      ∙ ap (begin w (at.index + 1) (model h) called lower) (state_here h class own there w m)
 
   pub initializer_done : {new : State H} → s ≡ stage.Initializer
-      → Does content at old (Ok step_end.Done) new (λ w number x. finish w number x name (drop 1 x.frames)) → Steps content at old (Ok step_end.Done) new
+      → Does content at old (Ok step_end.Done) new (λ w number x. finish w number x called (drop 1 x.frames)) → Steps content at old (Ok step_end.Done) new
   initializer_done e done = does_as h (λ w m. m) (λ w m.
-      ap (λ z. initialize w (at.index + 1) (model h) name z lower) e
-      ∙ ap (λ o. run_initializer w (at.index + 1) (model h) name lower (initializer_of o)) (class_here w m)
-      ∙ ap (λ o. run_initializer w (at.index + 1) (model h) name lower (initializer_in class_of.class_of o))
+      ap (λ z. initialize w (at.index + 1) (model h) called z lower) e
+      ∙ ap (λ o. run_initializer w (at.index + 1) (model h) called lower (initializer_of o)) (class_here h class own w m)
+      ∙ ap (λ o. run_initializer w (at.index + 1) (model h) called lower (initializer_in class_of.class_of o))
       (class_of.plain.no_initializer initializer_type)) done
 
-  pub end_done : {new : State H} → s ≡ stage.End → Does content at old (Ok step_end.Done) new (λ w number x. finish w number x name (drop 1 x.frames))
+  pub end_done : {new : State H} → s ≡ stage.End → Does content at old (Ok step_end.Done) new (λ w number x. finish w number x called (drop 1 x.frames))
       → Steps content at old (Ok step_end.Done) new
-  end_done e done = does_as h (λ w m. m) (λ w m. ap (λ z. initialize w (at.index + 1) (model h) name z lower) e) done
+  end_done e done = does_as h (λ w m. m) (λ w m. ap (λ z. initialize w (at.index + 1) (model h) called z lower) e) done
 
--- a class that is about to begin
-pub about_to_begin : {H : Type 0} {content : H → Content ClassId} {at : At} {old : State H} {class : ℕ} {s : Stage} {below : List StackFrame} → s ≡ stage.Begin
-    → OnThread content at old (Initialization class s ∷ below) None → OnThread content at old (Initialization class stage.Begin ∷ below) None
-about_to_begin {content =
-    content} {at = at} {old = old} {class = class} {below = below} e h = subst (λ z. OnThread content at old (Initialization class z ∷ below) None) e h
+  -- the superclass, by its state
+  superclass_by : List ℕ → World → ClassState → Next
+  superclass_by above w st = elim (is_done st) [
+    | true ↦ goes (at_stage w (at.index + 1) (model h) called stage.Initializer lower)
+    | false ↦ push_frame w (at.index + 1) (model h) (initialization_frame called stage.Initializer ∷ lower) (initialization_frame above stage.Begin)
+  ]
+
+  superclass_is : s ≡ stage.Superclass
+      → Leads h step_thread (λ w. superclass_first w (at.index + 1) (model h) called lower class_of.class_of.superclass)
+  superclass_is e w m =
+      ap (λ z. initialize w (at.index + 1) (model h) called z lower) e
+      ∙ ap (λ o. superclass_first w (at.index + 1) (model h) called lower (superclass_name o)) (class_here h class own w m)
+
+  -- none, or a built-in class
+  pub none_first : {new : State H} → s ≡ stage.Superclass → IsOwnSuperclass at.linked.now.program class_of.class_of.superclass None
+      → Does content at old (Ok step_end.Done) new (λ w number x. goes (at_stage w number x called stage.Initializer (drop 1 x.frames)))
+      → Steps content at old (Ok step_end.Done) new
+  unfolding parts superclass_by
+  none_first e none done = does_as h (λ w m. m) (λ w m. superclass_is e w m ∙ by w m class_of.class_of.superclass none) done
+    where
+      by : (w : World) → Matches (parts_at content at old) w → (o : Option (List ℕ)) → IsOwnSuperclass at.linked.now.program o None
+          → superclass_first w (at.index + 1) (model h) called lower o ≡ goes (at_stage w (at.index + 1) (model h) called stage.Initializer lower)
+      by w m None known = refl
+      by w m (Some above) known = ap (superclass_by above w) (ap (λ ps. state_in ps above) (sym m.classes)
+          ∙ not_listed above at.linked.now.program old.classes.items (others at.linked.now.program h.beside.linked.loads above known))
+
+  pub own_within : {n : ℕ} → IsOwnSuperclass at.linked.now.program class_of.class_of.superclass (Some n) → n < length at.linked.now.program
+  own_within {n} is = by class_of.class_of.superclass is
+    where
+      by : (o : Option (List ℕ)) → IsOwnSuperclass at.linked.now.program o (Some n) → n < length at.linked.now.program
+      by None known = absurd known
+      by (Some above) known = known.1
+
+  -- a class of the program
+  module _ (n : ℕ) {st : ClassState} (e : s ≡ stage.Superclass) (is : IsOwnSuperclass at.linked.now.program class_of.class_of.superclass (Some n))
+      (read_there : st ≡ slice_index_or old.classes.items n st) where
+    there : slice_get old.classes.items n ≡ Some st
+    there = let k = old.classes.ok.0 in let a = class_within h n (own_within is) in get_at old.classes.items n st (omega arith) read_there
+
+    own_is : Leads h step_thread (λ w. superclass_by (program_class_name at.linked.now.program n) w st)
+    unfolding superclass_by
+    own_is w m = superclass_is e w m ∙ by class_of.class_of.superclass is
+      where
+        by : (o : Option (List ℕ)) → IsOwnSuperclass at.linked.now.program o (Some n)
+            → superclass_first w (at.index + 1) (model h) called lower o ≡ superclass_by (program_class_name at.linked.now.program n) w st
+        by None known = absurd known
+        by (Some above) known =
+            ap (λ x. superclass_by x w (state_of w x)) known.0
+            ∙ ap (superclass_by (program_class_name at.linked.now.program n) w) (state_here h n known.1 there w m)
+
+    pub done_first : {new : State H} → st ≡ Done
+        → Does content at old (Ok step_end.Done) new (λ w number x. goes (at_stage w number x called stage.Initializer (drop 1 x.frames)))
+        → Steps content at old (Ok step_end.Done) new
+    unfolding superclass_by
+    done_first f done = does_as h (λ w m. m) (λ w m. own_is w m ∙ by w)
+        done
+      where
+        by : (w : World) → superclass_by (program_class_name at.linked.now.program n) w st
+            ≡ goes (at_stage w (at.index + 1) (model h) called stage.Initializer lower)
+        by w = ap (superclass_by (program_class_name at.linked.now.program n) w) f
+
+    pub own_first : {new : State H} {result : Result StepEnd Halt} → (st ≡ Done → ⊥)
+        → Does content at old result new (λ w number x. push_frame w number x (initialization_frame called stage.Initializer ∷ drop 1 x.frames)
+        (initialization_frame (program_class_name at.linked.now.program n) stage.Begin))
+        → Steps content at old result new
+    unfolding superclass_by
+    own_first f done = does_as h (λ w m. m) (λ w m. own_is w m ∙ by w st f)
+        done
+      where
+        by : (w : World) (x : ClassState) → (x ≡ Done → ⊥) → superclass_by (program_class_name at.linked.now.program n) w x ≡ push_frame w (at.index + 1)
+            (model h) (initialization_frame called stage.Initializer ∷ lower) (initialization_frame (program_class_name at.linked.now.program n) stage.Begin)
+        by w NotBegun g = refl
+        by w (InProgress owner) g = refl
+        by w Done g = absurd (g refl)
+        by w Failed g = refl
+
+  -- the superclass's frame is put on top, where there is room
+  module _ (above : ℕ) (lt : above < length at.linked.now.program) {d : held.Thread} {n : ℕ} (got : d ≡ slice_index_or old.threads.items at.index d)
+      (count : n ≡ vec_len d.frames) where
+    abbrev pushes : World → ℕ → Thread → Next
+    pushes w number x = push_frame w number x (initialization_frame called stage.Initializer ∷ drop 1 x.frames)
+        (initialization_frame (program_class_name at.linked.now.program above) stage.Begin)
+
+    depth : n ≡ length (initialization_frame called stage.Initializer ∷ lower)
+    depth =
+        let f = rename_frame (name_of (content old.heap)) in
+        let a : length lower ≡ length below = length-map (map (frame_part at.linked.now) below) f ∙ length-map below (frame_part at.linked.now) in
+        let b = count_is (read h got) count in
+        omega arith
+
+    by_depth : World → Bool → Next
+    by_depth w b = elim b [
+      | true ↦ goes (with_frames w (at.index + 1) (model h) (initialization_frame (program_class_name at.linked.now.program above) stage.Begin
+          ∷ initialization_frame called stage.Initializer ∷ lower))
+      | false ↦ throw w (at.index + 1) (model h) (codes "java/lang/StackOverflowError")
+    ]
+
+    pub too_deep : {new : State H} {result : Result StepEnd Halt} {error : List ℕ} → 512 ≤ n → error ≡ codes "java/lang/StackOverflowError"
+        → Does content at old result new (λ w number x. throw w number x error) → Does content at old result new pushes
+    unfolding by_depth
+    too_deep many named done = does_as h (λ w m. m) (λ w m.
+        let deep : 512 ≤ length (initialization_frame called stage.Initializer ∷ lower) = let a = depth in omega arith in
+        ap (by_depth w) (not_less (length (initialization_frame called stage.Initializer ∷ lower)) 512 deep)
+        ∙ ap (throw w (at.index + 1) (model h)) (sym named)) done
+
+    pub begun : {t : held.Thread} → n < 512
+        → Stands t (Initialization above stage.Begin ∷ Initialization class stage.Initializer ∷ below) (running h.object None)
+        → Does content at old (Ok step_end.Done) (with_thread_at old at.index t) pushes
+    unfolding by_depth
+    begun few s' =
+        let a = depth in
+        let b = count_is (read h got) count in
+        thread.goes h s' (with_more {g = Initialization above stage.Begin} lt tt (omega arith) (staged_runs (part_here h)))
+        (inside (Initialization above stage.Begin ∷ Initialization class stage.Initializer ∷ below) (λ q z. z)) (λ w m.
+        ap (by_depth w) (less (length (initialization_frame called stage.Initializer ∷ lower)) 512 (omega arith)))
+
+    pub not_begun : {t : held.Thread} → Stands t (Initialization class s ∷ below) (running h.object None)
+        → Does content at old (Err OutOfMemory) (with_thread_at old at.index t) pushes
+    not_begun s' = thread.does h (runs_with h s' (part_here h)) (λ w m. same_matches h s' w m)
+
+-- the stage by another word
+pub at_this : {H : Type 0} {content : H → Content ClassId} {at : At} {old : State H} {class : ℕ} {s z : Stage} {below : List StackFrame} → s ≡ z
+    → OnThread content at old (Initialization class s ∷ below) None → OnThread content at old (Initialization class z ∷ below) None
+at_this {content = content} {at = at} {old = old} {class = class} {below = below} e h =
+    subst (λ y. OnThread content at old (Initialization class y ∷ below) None) e h
 
 module _ {H : Type 0} {content : H → Content ClassId} {at : At} {old : State H} {class : ℕ} {below : List StackFrame}
     (h : OnThread content at old (Initialization class stage.Begin ∷ below) None) {st : ClassState}
     (there : st ≡ slice_index_or old.classes.items class st) where
   state_there : slice_get old.classes.items class ≡ Some st
-  state_there = let n = old.classes.ok.0 in let a = class_within h in get_at old.classes.items class st (omega arith) there
+  state_there = let n = old.classes.ok.0 in let a = class_within h class (own h) in get_at old.classes.items class st (omega arith) there
 
   -- it is done, or this thread's
   pub skips : (owner : ℕ) {new : State H} → (st ≡ Done) ⊎ ((st ≡ InProgress owner) × (owner ≡ at.index + 1))
       → Does content at old (Ok step_end.Done) new (λ w number x. goes (with_frames w number x (drop 1 x.frames))) → Steps content at old (Ok step_end.Done) new
-  skips owner (inl e) done = does_as h (λ w m. m) (λ w m. begin_is h refl state_there w m ∙ ap (begin w (at.index + 1) (model h) (name h) (lower h)) e) done
+  skips owner (inl e) done = does_as h (λ w m. m) (λ w m. begin_is h refl state_there w m ∙ ap (begin w (at.index + 1) (model h) (called h) (lower h)) e) done
   skips owner (inr e) done = does_as h (λ w m. m) (λ w m.
       begin_is h refl state_there w m
-      ∙ ap (begin w (at.index + 1) (model h) (name h) (lower h)) e.0
+      ∙ ap (begin w (at.index + 1) (model h) (called h) (lower h)) e.0
       ∙ ap (λ b. elim b as (λ _. Next) [ true ↦ goes (with_frames w (at.index + 1) (model h) (lower h)) | false ↦ next.blocks ])
       (alike owner (at.index + 1) e.1)) done
 
@@ -260,7 +404,7 @@ module _ {H : Type 0} {content : H → Content ClassId} {at : At} {old : State H
   pub waits : {owner : ℕ} → st ≡ InProgress owner → (owner ≡ at.index + 1 → ⊥) → Steps content at old (Ok step_end.Blocked) old
   waits {owner} e n = blocks h (λ w m.
       begin_is h refl state_there w m
-      ∙ ap (begin w (at.index + 1) (model h) (name h) (lower h)) e
+      ∙ ap (begin w (at.index + 1) (model h) (called h) (lower h)) e
       ∙ ap (λ b. elim b as (λ _. Next) [ true ↦ goes (with_frames w (at.index + 1) (model h) (lower h)) | false ↦ next.blocks ])
       (differ owner (at.index + 1) n))
 
@@ -270,17 +414,19 @@ module _ {H : Type 0} {content : H → Content ClassId} {at : At} {old : State H
       → Stands t (Initialization class stage.Superclass ∷ below) (running h.object None) → Steps content at old (Ok step_end.Done) new
   begins e {new} same classes live output s' =
       let q = staged_runs (part_here h) in
-      changes h same classes output (class_runs h new (λ (f : InProgress (at.index + 1) ≡ Failed). cc) same classes live s' q) s'
+      changes h class (own h) same classes output (class_runs h class (own h) new (InProgress (at.index + 1)) same classes live s' q) s'
       (inside h (Initialization class stage.Superclass ∷ below) (λ r a. a)) (λ w m.
-      let n = name h in
+      let n = called h in
       let d = class_of h in
       let constants : constants_of w (class_named w.program n) ≡ w.statics =
-      ap (constants_of w) (class_here h w m) ∙ no_constants w.literals d.class_of d.class_of.fields w.statics d.plain.constants in
+      ap (constants_of w) (class_here h class (own h) w m) ∙ no_constants w.literals d.class_of d.class_of.fields w.statics d.plain.constants in
       begin_is h refl state_there w m
       ∙ ap (begin w (at.index + 1) (model h) n (lower h)) e
       ∙ ap (λ v. goes
       (at_stage (record (with_state w n (InProgress (at.index + 1))) { statics = v }) (at.index + 1) (model h) n stage.Superclass (lower h))) constants)
 
-  -- none has failed
-  pub not_failed : st ≢ Failed
-  not_failed = each_at (λ x. x ≢ Failed) old.classes.items class st h.beside.runs.not_yet.failures state_there
+  -- it has failed
+  pub refuses : st ≡ Failed → {new : State H} {result : Result StepEnd Halt}
+      → Does content at old result new (λ w number x. throw w number (record x { frames = drop 1 x.frames }) (codes "java/lang/NoClassDefFoundError"))
+      → Steps content at old result new
+  refuses e done = does_as h (λ w m. m) (λ w m. begin_is h refl state_there w m ∙ ap (begin w (at.index + 1) (model h) (called h) (lower h)) e) done

@@ -1,5 +1,5 @@
 -- A value that is pushed, where it stands.
-use Rattle.std.proofs.Common.{◌≡◌, ℕ, ◌+◌, List, [], ◌∷◌, Some, refl, sym, ap, ◌∙◌, subst, inl, inr}
+use Rattle.std.proofs.Common.{◌≡◌, ℕ, ◌+◌, List, [], ◌∷◌, Some, None, refl, sym, ap, ◌∙◌, subst, inl, inr}
 use Rattle.std.specs.Prelude.{slice_get, Ok, Err}
 use Rattle.jm_program.specs.declared.class.ClassParts.{ClassParts}
 use Rattle.jm_frames.specs.Made.{outcome}
@@ -13,12 +13,14 @@ use Rattle.jm_values.proofs.NaturalSteps.{push_natural}
 use Rattle.jm_world.specs.Here.{Here, push}
 use Rattle.jm_world.proofs.Pushing.{push_is}
 use Rattle.jm_values.proofs.Pushing.{push_brings}
-use Rattle.jm_world.specs.Next.{Next}
-use Rattle.jm_world.specs.World.{World, Thread, Static, static_in, state_in, state_of}
+use Rattle.jm_world.specs.Next.{Next, faults}
+use Rattle.jm_values.specs.declared.fault.TagFault.TheVariants.{WrongKind}
+use Rattle.jm_values.specs.declared.value.Value.TheVariants.{Ref}
+use Rattle.jm_world.specs.World.{World, Thread, Static, literal_in, static_in, state_in, state_of}
 use Rattle.jm_values.specs.Content.{Content, name_of}
 use Rattle.jm_world.specs.Classes.{system_class}
 use Rattle.jm_world.specs.Loads.{Loads}
-use Rattle.jm_world.specs.Loading.{first_statics, out_field}
+use Rattle.jm_world.specs.Loading.{first_statics, literal_texts, out_field}
 use Rattle.jm_world.specs.Renaming.{static_shape}
 use Rattle.jm_world.specs.Stepping.{from_outcome, row, step_thread}
 use Rattle.jm_world.specs.declared.class_state.ClassState.TheVariants.{Done}
@@ -32,13 +34,14 @@ use Rattle.jm_state.specs.declared.halt.Halt.TheVariants.{Stopped}
 use Rattle.jm_state.specs.declared.halt.StepEnd.TheVariants as end
 use Rattle.jm_state.specs.declared.state.State.{State}
 use Rattle.jm_state.specs.declared.thread.Thread as held
-use Rattle.jm_interp.specs.Pushing.{Pushes, int, long, system_out}
+use Rattle.jm_interp.specs.Pushing.{Pushes, int, long, literal, system_out}
 use Rattle.jm_linked.proofs.BuiltIns.{others}
 use Rattle.jm_linked.proofs.SystemOut.{system_out_row, not_listed}
 use Rattle.std.specs.Prelude.{slice_index_or}
 use Rattle.jm_interp.specs.declared.at.At.{At}
 use Rattle.jm_interp.specs.At.{InMethod, Holds, StandsOn, Does, in_method}
 use Rattle.jm_interp.proofs.Here.{Leaves, place, row_is, top_held, done, goes_on, faults_there}
+use Rattle.jm_interp.proofs.LiteralRow.{literal_held, literal_is, text_found}
 use Rattle.jm_interp.proofs.OnThread.{Leads, model, with_thread_at, held_statics}
 
 -- the first static field is System.out
@@ -80,15 +83,16 @@ module _ {H : Type 0} {content : H → Content ClassId} {at : At} {old : State H
 -- the value of an instruction
 module _ {H : Type 0} {content : H → Content ClassId} {at : At} {old : State H} (v : Value) (li : LinkedInstr)
     (h : StandsOn content at old (Links at.linked.now li)) where
-  pub value_held : Pushes old.statics.items li v → Holds content at old v
+  pub value_held : Pushes old.statics.items old.literals.items li v → Holds content at old v
   value_held p = by p
     where
-      by : {i : LinkedInstr} {x : Value} → Pushes old.statics.items i x → Holds content at old x
+      by : {i : LinkedInstr} {x : Value} → Pushes old.statics.items old.literals.items i x → Holds content at old x
       by (int n x e) q m = absurd (subst (λ y. Among q (refs y)) e m)
       by (long n x e) q m = absurd (subst (λ y. Among q (refs y)) e m)
+      by (literal n p x e there) q m = literal_held h.method n p there q (subst (λ y. Among q (refs y)) e m)
       by (system_out x e) q m = held_statics h.method.on q (out_refs at.linked.now.program old.statics.items x q e m)
 
-  pub pushed_is : Pushes old.statics.items li v
+  pub pushed_is : Pushes old.statics.items old.literals.items li v
       → Leads h.method.on step_thread (λ w. pushes (name_of (content old.heap)) v w (at.index + 1) (model h.method.on))
   unfolding parts
   pushed_is p w m = row_is h w m ∙ by h.is p
@@ -99,10 +103,18 @@ module _ {H : Type 0} {content : H → Content ClassId} {at : At} {old : State H
       o : Here
       o = place h.method w
 
-      by : {i : LinkedInstr} {x : Value} → Links at.linked.now i h.instruction → Pushes old.statics.items i x
+      by : {i : LinkedInstr} {x : Value} → Links at.linked.now i h.instruction → Pushes old.statics.items old.literals.items i x
           → row o h.instruction ≡ push o (rename f x) o.frame.stack
       by k (int n x e) = ap (row o) k ∙ ap (λ y. push o (rename f y) o.frame.stack) (sym e)
       by k (long n x e) = ap (row o) k ∙ ap (λ y. push o (rename f y) o.frame.stack) (sym e)
+      by k (literal n p x e there) =
+          let l = at.linked.now in
+          let value : literal_in o.world.literals k.0 ≡ Some (f p) =
+          ap (λ ls. literal_in ls k.0) (sym m.literals)
+          ∙ literal_is f (literal_texts l.program) old.literals.items k.0 n p (text_found l.program n k.0 k.2) there in
+          ap (row o) k.1
+          ∙ ap (λ r. elim r as (λ _. Next) [ None ↦ faults WrongKind | Some s ↦ push o (Ref s) o.frame.stack ]) value
+          ∙ ap (λ y. push o (rename f y) o.frame.stack) (sym e)
       by k (system_out x e) =
           let l = at.linked.now in
           let is = h.method.on.beside.linked in

@@ -155,14 +155,19 @@ module _ {H : Type 0} {content : H → Content ClassId} {at : At} {old : State H
                 (parts_at content at old) w → step_thread w (at.index + 1) (model k) ≡ returned_to w (at.index + 1) (model k) None
                 (map (rename_frame (name_of (content old.heap))) (map (frame_part at.linked.now) (b ∷ below.rest)))) → Left
                 (Ok tt) t h.method.frame b below.rest (running k.object None) → Steps content at old (Ok Done) (with_thread_at old at.index t)
-            by (Initialization class stage) k is left = absurd (part_here k).not_yet.initializers.0
+            by (Initialization class stage) k is left =
+                thread.goes k left (without_top (part_here k)) (λ n a. elim (part_refs at.linked.now (Initialization class stage ∷ below.rest) None n a) [
+                  | inl z ↦ absurd z
+                  | inr z ↦ held_frames k n (among_right n (refs_frame (frame_part at.linked.now (Method h.method.frame)))
+                      (frames_shape.refs (map (frame_part at.linked.now) (Initialization class stage ∷ below.rest))) z)
+                ]) is
             by (Method u) k is left =
                 let f = name_of (content old.heap) in
                 let q = part_here k in
-                let r : PartRuns at.linked.now (Method u ∷ below.rest) (running k.object None) = without_top q q.not_yet.initializers.1 in
+                let r : PartRuns at.linked.now (Method u ∷ below.rest) (running k.object None) = without_top q in
                 let room : nat_le (units (map (rename f) u.activation.stack)) u.activation.max_stack ≡ true =
                 ap (λ n. nat_le n u.activation.max_stack) (units_renamed f u.activation.stack) ∙ left.0 in
-                thread.goes k left.1 (with_top {g = Method (gone_to u (u.activation.at + 1))} r.runs.frames.0 r.not_yet.frames.0 r r.not_yet.initializers)
+                thread.goes k left.1 (with_top {g = Method (gone_to u (u.activation.at + 1))} r.runs.frames.0 r.not_yet.frames.0 r)
                 (λ n a.
                 elim (part_refs at.linked.now (Method (gone_to u (u.activation.at + 1)) ∷ below.rest) None n a) [
                   | inl z ↦ absurd z

@@ -1,16 +1,16 @@
 -- A thread of a state, and the part of a machine that it is.
-use Rattle.std.proofs.Common.{◌≡◌, ℕ, ◌<◌, ◌≤◌, List, [], ◌∷◌, Option, Some, length, refl, sym, ap, ◌∙◌, subst, ◌⊎◌, arith}
+use Rattle.std.proofs.Common.{◌≡◌, ℕ, ◌<◌, ◌≤◌, List, [], ◌∷◌, Option, Some, drop, length, refl, sym, ap, ◌∙◌, subst, ◌⊎◌, arith}
 use Rattle.std.specs.Prelude.{map, slice_get, slice_set, vec_len}
 use Rattle.std.proofs.lemmas.List.{length-reverse}
 use Rattle.std.specs.List.{AllByRecursion}
 use Rattle.jm_values.specs.Shape.{Among}
 use Rattle.jm_values.proofs.Among.{among_left, among_right, among_split}
-use Rattle.jm_world.specs.Frames.{frames_shape, optional_number_shape}
+use Rattle.jm_world.specs.Frames.{frames_shape, optional_number_shape, refs_frame}
 use Rattle.jm_world.specs.World.{refs_thread, object_refs, held_shape}
 use Rattle.jm_linked.specs.Links.{LinkedView}
 use Rattle.jm_state.specs.Parts.{part_of_held, thread_part, frame_part, ending_part}
 use Rattle.jm_state.specs.Places.{HeldThread, held_thread}
-use Rattle.jm_state.specs.Runnable.{FrameRuns, FrameNotYet, StandOnTop, ThreadRuns, ThreadNotYet}
+use Rattle.jm_state.specs.Runnable.{FrameRuns, FrameNotYet, ThreadRuns, ThreadNotYet}
 use Rattle.jm_state.specs.declared.thread.StackFrame.{StackFrame}
 use Rattle.jm_state.specs.declared.thread.Thread as held
 use Rattle.jm_interp.specs.Standing.{ThreadRest, rest_of, running, Stands, held_as, part_of}
@@ -57,20 +57,42 @@ pub part_runs : {l : LinkedView} {t : held.Thread} {fs : List StackFrame} {r : T
     → ThreadNotYet l (held_thread t) → PartRuns l fs r
 part_runs {l} s runs yet = record { runs = subst (ThreadRuns l) (held_is s) runs; not_yet = subst (ThreadNotYet l) (held_is s) yet }
 
--- without its top frame, or with another on top
-pub without_top : {l : LinkedView} {f : StackFrame} {fs : List StackFrame} {o p q : Option ℕ} → PartRuns l (f ∷ fs) (running o p) → StandOnTop q fs
-    → PartRuns l fs (running o q)
-without_top r top = record {
+-- with another pending exception, without its top frame, with another on top, and with one more
+pub with_pending : {l : LinkedView} {fs : List StackFrame} {o p q : Option ℕ} → PartRuns l fs (running o p) → PartRuns l fs (running o q)
+with_pending r = record {
+  runs = record { frames = r.runs.frames; few = r.runs.few };
+  not_yet = record { object = r.not_yet.object; frames = r.not_yet.frames };
+}
+
+pub without_top : {l : LinkedView} {f : StackFrame} {fs : List StackFrame} {o p q : Option ℕ} → PartRuns l (f ∷ fs) (running o p) → PartRuns l fs (running o q)
+without_top r = record {
   runs = record { frames = r.runs.frames.1; few = let k = r.runs.few in omega arith };
-  not_yet = record { object = r.not_yet.object; frames = r.not_yet.frames.1; initializers = top };
+  not_yet = record { object = r.not_yet.object; frames = r.not_yet.frames.1 };
 }
 
 pub with_top : {l : LinkedView} {f g : StackFrame} {fs : List StackFrame} {o p q : Option ℕ} → FrameRuns l g → FrameNotYet l g
-    → PartRuns l (f ∷ fs) (running o p) → StandOnTop q (g ∷ fs) → PartRuns l (g ∷ fs) (running o q)
-with_top frame yet r top = record {
+    → PartRuns l (f ∷ fs) (running o p) → PartRuns l (g ∷ fs) (running o q)
+with_top frame yet r = record {
   runs = record { frames = (frame, r.runs.frames.1); few = let k = r.runs.few in omega arith };
-  not_yet = record { object = r.not_yet.object; frames = (yet, r.not_yet.frames.1); initializers = top };
+  not_yet = record { object = r.not_yet.object; frames = (yet, r.not_yet.frames.1) };
 }
+
+pub with_more : {l : LinkedView} {g : StackFrame} {fs : List StackFrame} {o p : Option ℕ} → FrameRuns l g → FrameNotYet l g → length fs < 512
+    → PartRuns l fs (running o p) → PartRuns l (g ∷ fs) (running o p)
+with_more frame yet few r = record {
+  runs = record { frames = (frame, r.runs.frames); few = omega arith };
+  not_yet = record { object = r.not_yet.object; frames = (yet, r.not_yet.frames) };
+}
+
+-- and with its top frame dropped, if it has one
+pub dropped_part : {l : LinkedView} (fs : List StackFrame) {o p : Option ℕ} → PartRuns l fs (running o p) → PartRuns l (drop 1 fs) (running o p)
+dropped_part [] r = r
+dropped_part (f ∷ fs) r = without_top r
+
+pub dropped_refs : (l : LinkedView) (fs : List StackFrame) (q : ℕ) → Among q (frames_shape.refs (map (frame_part l) (drop 1 fs)))
+    → Among q (frames_shape.refs (map (frame_part l) fs))
+dropped_refs l [] q a = a
+dropped_refs l (f ∷ fs) q a = among_right q (refs_frame (frame_part l f)) (frames_shape.refs (map (frame_part l) fs)) a
 
 -- of each of a list of threads with another in it, and of one of them
 pub all_set : (P : HeldThread → Type 0) (ts : List held.Thread) (i : ℕ) (t : held.Thread) → AllByRecursion P (map held_thread ts) → P (held_thread t)
@@ -93,7 +115,7 @@ pub record HasTwo (fs : List StackFrame) : Type 0 where
   pub is : fs ≡ top ∷ next ∷ rest
 
 module _ {t : held.Thread} {fs : List StackFrame} {r : ThreadRest} {n : ℕ} (s : Stands t fs r) (k : n ≡ vec_len t.frames) where
-  count_is : n ≡ length fs
+  pub count_is : n ≡ length fs
   count_is = k ∙ t.frames.ok.0 ∙ sym (length-reverse t.frames.items) ∙ ap length s.frames_are
 
   pub two_frames : 1 < n → HasTwo fs

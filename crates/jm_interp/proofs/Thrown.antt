@@ -2,12 +2,10 @@
 use Rattle.std.proofs.Common.{◌≡◌, ℕ, ◌+◌, ◌<◌, arith, List, [], ◌∷◌, ◌++◌, Option, Some, None, refl, sym, ap, ◌∙◌, subst, inl, inr, ◌⊎◌, length, reverse}
 use Rattle.std.proofs.Common.{length-append}
 use Rattle.std.specs.Prelude.{slice_get, slice_index_or, vec_len, map, option_map, Ok, Err}
-use Rattle.std.specs.List.{AllByRecursion}
 use Rattle.std.proofs.lemmas.List.{length-map}
 use Rattle.jm_values.specs.Rename.{stack_shape}
 use Rattle.jm_values.specs.Shape.{Among}
 use Rattle.jm_values.specs.Content.{Content, name_of, serial_at, object_at}
-use Rattle.jm_world.specs.Frames.{rename_frame}
 use Rattle.jm_world.specs.Matches.{Matches, as_named}
 use Rattle.jm_world.specs.Next.{Next, goes, throw, exception}
 use Rattle.jm_world.specs.Objects.{Object}
@@ -19,19 +17,17 @@ use Rattle.jm_world.specs.World.{World, Thread, roots, with_thread, refs_thread}
 use Rattle.jm_heap.specs.declared.class_id.ClassId.{ClassId}
 use Rattle.jm_linked.specs.Links.{LinkedView, class_name_of}
 use Rattle.jm_state.specs.Ends.{Ended, MadeOrNot, with_object}
-use Rattle.jm_state.specs.Parts.{parts, thread_part, frame_part, ending_part}
-use Rattle.jm_state.specs.Runnable.{IsMethodFrame, StandOnTop, StateRuns}
+use Rattle.jm_state.specs.Parts.{parts, thread_part, ending_part}
+use Rattle.jm_state.specs.Runnable.{StateRuns}
 use Rattle.jm_state.specs.declared.halt.Halt.{Halt}
 use Rattle.jm_state.specs.declared.halt.Halt.TheVariants.{Stopped, OutOfMemory}
 use Rattle.jm_state.specs.declared.halt.StepEnd.TheVariants.{Done}
 use Rattle.jm_state.specs.declared.state.State.{State}
 use Rattle.jm_state.specs.declared.thread.Ending as code
 use Rattle.jm_state.specs.declared.thread.Ending.TheVariants.{Running, Returned, EndedBy}
-use Rattle.jm_state.specs.declared.thread.StackFrame.{StackFrame}
-use Rattle.jm_state.specs.declared.thread.StackFrame.TheVariants.{Method, Initialization}
 use Rattle.jm_state.specs.declared.thread.Thread as held
 use Rattle.jm_interp.specs.declared.at.At.{At}
-use Rattle.jm_interp.specs.At.{parts_at, Beside, OnThread, HasMethods, InMethod, Does}
+use Rattle.jm_interp.specs.At.{parts_at, Beside, OnThread, OnFrames, InMethod, Does}
 use Rattle.jm_interp.specs.Standing.{ThreadRest, running, Stands, part_of}
 use Rattle.jm_values.proofs.Lists.{get_map, get_there, got_within}
 use Rattle.jm_values.proofs.SoundContents.{name_is}
@@ -39,9 +35,9 @@ use Rattle.jm_interp.proofs.OnThread.{model, thread_there, does, within, read, p
 use Rattle.jm_interp.proofs.OnThread.{with_thread_changed, same_rest, with_thread_at}
 use Rattle.jm_world.proofs.Changed as beside
 use Rattle.jm_world.proofs.Changed.{IsShared, place_stands}
-use Rattle.jm_interp.proofs.Threads.{object_or_held, part_refs}
+use Rattle.jm_interp.proofs.Threads.{object_or_held, part_refs, with_pending}
 
-none_named : (f : ℕ → ℕ) (p : Option ℕ) → option_map f p ≡ None → p ≡ None
+pub none_named : (f : ℕ → ℕ) (p : Option ℕ) → option_map f p ≡ None → p ≡ None
 none_named f None e = refl
 none_named f (Some k) e = cc
 
@@ -50,68 +46,53 @@ runs_named l Running h = refl
 runs_named l Returned h = cc
 runs_named l (EndedBy n) h = cc
 
--- frames that are seen as method frames are such
-methods_named : (l : LinkedView) (f g : ℕ → ℕ) (xs ys : List StackFrame)
-    → map (rename_frame f) (map (frame_part l) xs) ≡ map (rename_frame g) (map (frame_part l) ys) → AllByRecursion IsMethodFrame ys
-    → AllByRecursion IsMethodFrame xs
-methods_named l f g [] ys e h = tt
-methods_named l f g (x ∷ xs) [] e h = cc
-methods_named l f g (Method x ∷ xs) (y ∷ ys) e h =
-    let t : map (rename_frame f) (map (frame_part l) xs) ≡ map (rename_frame g) (map (frame_part l) ys) = cc in (tt, methods_named l f g xs ys t h.1)
-methods_named l f g (Initialization n s ∷ xs) (Method y ∷ ys) e h = cc
-methods_named l f g (Initialization n s ∷ xs) (Initialization m r ∷ ys) e h = absurd h.0
-
-all_on_top : (k : ℕ) (fs : List StackFrame) → AllByRecursion IsMethodFrame fs → StandOnTop (Some k) fs
-all_on_top k [] h = tt
-all_on_top k (f ∷ fs) h = h
-
 get_last : (xs : List Object) (o : Object) → slice_get (xs ++ o ∷ []) (length xs) ≡ Some o
 get_last [] o = refl
 get_last (x ∷ xs) o = get_last xs o
 
-module _ {H : Type 0} {content : H → Content ClassId} {at : At} {old : State H} (h : HasMethods content at old) where
-  -- so it has in a state beside a world with the same threads
-  pub still_has : {new : State H} {w : World} → StateRuns at.linked.now new → Matches (parts_at content at new) w → w.threads ≡ h.on.world.threads
-      → HasMethods content at new
-  unfolding parts
-  still_has {new} {w} runs m same =
-      let l = at.linked.now in
-      let i = at.index in
-      let part = thread_part l in
-      let f = name_of (content new.heap) in
-      let there : slice_get w.threads i ≡ Some (model h.on) = ap (λ xs. slice_get xs i) same ∙ thread_there h.on h.on.world h.on.beside.matches in
-      let long : length new.threads.items ≡ length w.threads =
-      sym (length-map new.threads.items part) ∙ sym (length-map (map part new.threads.items) (rename_thread f)) ∙ ap length m.threads in
-      let inside : i < length w.threads = got_within w.threads i (model h.on) there in
-      let t = get_there new.threads.items i (omega arith) in
-      let seen_here : slice_get w.threads i ≡ Some (rename_thread f (part t.0)) =
-      ap (λ xs. slice_get xs i) (sym m.threads)
-      ∙ get_map (rename_thread f) (map part new.threads.items) i (part t.0) (get_map part new.threads.items i t.0 t.1) in
-      let both : Some (rename_thread f (part t.0)) ≡ Some (model h.on) = sym seen_here ∙ there in
-      let seen : rename_thread f (part t.0) ≡ model h.on = cc in
-      record {
-        frames = reverse t.0.frames.items;
-        on = record {
-          world = w;
-          beside = record { linked = h.on.beside.linked; runs = runs; matches = m };
-          object = t.0.object;
-          stands = record {
-            thread = t.0;
-            at = t.1;
-            stands = record {
-              frames_are = refl;
-              rest_is =
-                  λ j. record {
-                    object = t.0.object;
-                    pending = none_named f t.0.pending
-                        (ap (λ (y : Thread). y.pending) seen) j;
-                    ending = runs_named l t.0.ending (ap (λ (y : Thread). y.ending) seen) j;
-                  };
-            };
+-- the thread of a state as a world beside the state has it
+pub record SeenAs {H : Type 0} (content : H → Content ClassId) (at : At) (s : State H) (x : Thread) : Type 0 where
+  pub here : OnFrames content at s
+  pub as_model : model here.on ≡ x
+
+pub seen_as : {H : Type 0} {content : H → Content ClassId} {at : At} {s : State H} {w : World} → Beside content at.linked.now s w → (x : Thread)
+    → slice_get w.threads at.index ≡ Some x → x.ending ≡ world.running → SeenAs content at s x
+unfolding parts
+seen_as {content = content} {at = at} {s = s} {w = w} beside x there live =
+    let l = at.linked.now in
+    let i = at.index in
+    let m = beside.matches in
+    let part = thread_part l in
+    let f = name_of (content s.heap) in
+    let long : length s.threads.items ≡ length w.threads =
+    sym (length-map s.threads.items part) ∙ sym (length-map (map part s.threads.items) (rename_thread f)) ∙ ap length m.threads in
+    let inside : i < length w.threads = got_within w.threads i x there in
+    let t = get_there s.threads.items i (omega arith) in
+    let seen_here : slice_get w.threads i ≡ Some (rename_thread f (part t.0)) =
+    ap (λ xs. slice_get xs i) (sym m.threads)
+    ∙ get_map (rename_thread f) (map part s.threads.items) i (part t.0) (get_map part s.threads.items i t.0 t.1) in
+    let both : Some (rename_thread f (part t.0)) ≡ Some x = sym seen_here ∙ there in
+    let seen : rename_thread f (part t.0) ≡ x = cc in
+    let on : OnThread content at s (reverse t.0.frames.items) t.0.pending = record {
+      world = w;
+      beside = beside;
+      object = t.0.object;
+      stands = record {
+        thread = t.0;
+        at = t.1;
+        stands = record {
+          frames_are = refl;
+          rest_is = λ j. record {
+            object = t.0.object;
+            pending = t.0.pending;
+            ending = runs_named l t.0.ending (ap (λ (y : Thread). y.ending) seen ∙ live) j;
           };
         };
-        methods = methods_named l f (name_of (content old.heap)) (reverse t.0.frames.items) h.frames (ap (λ (y : Thread). y.frames) seen) h.methods;
-      }
+      };
+    } in
+    let again : Some (model on) ≡ Some x = sym (thread_there on w m) ∙ there in
+    let is : model on ≡ x = cc in
+    record { here = record { frames = reverse t.0.frames.items; pending = t.0.pending; on = on }; as_model = is }
 
 -- the objects of a world that are reached, with a new one
 unfoldable pub IsKnown : World → Object → ℕ → Type 0
@@ -144,7 +125,7 @@ module _ {H : Type 0} (content : H → Content ClassId) (at : At) (new : State H
   new_stands q e = ((length w.heap, e), inr (name_is (content new.heap) q (length w.heap) e))
 
 -- the new exception is pending
-module _ {H : Type 0} {content : H → Content ClassId} {at : At} {mid : State H} (g : HasMethods content at mid) (place : ℕ) {d : held.Thread}
+module _ {H : Type 0} {content : H → Content ClassId} {at : At} {mid : State H} (g : OnFrames content at mid) (place : ℕ) {d : held.Thread}
     (got : d ≡ slice_index_or mid.threads.items at.index d) where
   abbrev pub pending_at : held.Thread
   pending_at = record d { pending = Some place }
@@ -158,12 +139,7 @@ module _ {H : Type 0} {content : H → Content ClassId} {at : At} {mid : State H
       }
 
   pub pending_runs : StateRuns at.linked.now (with_thread_at mid at.index pending_at)
-  pending_runs =
-      let q = part_here g.on in
-      runs_with g.on stands_pending (record {
-        runs = record { frames = q.runs.frames; few = q.runs.few };
-        not_yet = record { object = q.not_yet.object; frames = q.not_yet.frames; initializers = all_on_top place g.frames g.methods };
-      })
+  pending_runs = runs_with g.on stands_pending (with_pending (part_here g.on))
 
   pub pending_matches : (w : World) (class : List ℕ) (m : Matches (parts_at content at mid) (with_object w (exception class))) → serial_at
       (content mid.heap) place ≡ Some (length w.heap) → option_map (as_named (parts_at content at mid).named)
@@ -194,31 +170,27 @@ module _ {H : Type 0} {content : H → Content ClassId} {at : At} {mid : State H
       (with_thread_changed g.on pending_at) stands_pending stand))
 
 -- an exception of the class has been made, or none
-module _ {H : Type 0} {content : H → Content ClassId} {at : At} {old : State H} (mid : State H) (class : ℕ) (h : HasMethods content at old)
+module _ {H : Type 0} {content : H → Content ClassId} {at : At} {old : State H} (mid : State H) (class : ℕ) (h : OnFrames content at old)
     (runs : StateRuns at.linked.now mid) where
   module _ (place : ℕ) (made : (w : World) → Matches (parts_at content at old) w
       → MadeOrNot (Ok place) (parts_at content at mid) w (exception (class_name_of at.linked.now.program class))) where
     -- the thread of the state in which it was made
-    has_made : (w : World) → Matches (parts_at content at old) w → HasMethods content at mid
+    has_made : (w : World) → Matches (parts_at content at old) w → SeenAs content at mid (model h.on)
     has_made w m =
-        let beside : Beside content at.linked.now old w = record { linked = h.on.beside.linked; runs = h.on.beside.runs; matches = m } in
-        let on : OnThread content at old h.frames None = record { world = w; beside = beside; object = h.on.object; stands = h.on.stands } in
-        let there : HasMethods content at old = record { frames = h.frames; on = on; methods = h.methods } in
-        still_has there runs (made w m).1 refl
+        seen_as (record { linked = h.on.beside.linked; runs = runs; matches = (made w m).1 }) (model h.on) (thread_there h.on w m) refl
 
     pub made_within : at.index < vec_len mid.threads
-    made_within = within (has_made h.on.world h.on.beside.matches).on
+    made_within = within (has_made h.on.world h.on.beside.matches).here.on
 
     pub throws_made : {d : held.Thread} → d ≡ slice_index_or mid.threads.items at.index d → Does content at old (Ok Done)
         (with_thread_at mid at.index (record d { pending = Some place })) (λ w n t. throw w n t (class_name_of at.linked.now.program class))
     unfolding parts
-    throws_made {d} got = does h.on (pending_runs (has_made h.on.world h.on.beside.matches) place got) (λ w m.
+    throws_made {d} got = does h.on (pending_runs (has_made h.on.world h.on.beside.matches).here place got) (λ w m.
         let o = exception (class_name_of at.linked.now.program class) in
         let k = made w m in
-        let g = has_made w m in
+        let g = (has_made w m).here in
         let new = with_thread_at mid at.index (record d { pending = Some place }) in
-        let both : Some (model g.on) ≡ Some (model h.on) = sym (thread_there g.on (with_object w o) k.1) ∙ thread_there h.on w m in
-        let same : model g.on ≡ model h.on = cc in
+        let same : model g.on ≡ model h.on = (has_made w m).as_model in
         let go : World → ℕ → Next = λ after n. goes (with_thread after (at.index + 1) (record (model h.on) { pending = Some n })) in
         subst (Ended (Ok Done) (parts_at content at new) w) (sym (k.0 go))
         (subst
@@ -236,5 +208,5 @@ module _ {H : Type 0} {content : H → Content ClassId} {at : At} {old : State H
   throws_not {halt = OutOfMemory} made = does h.on runs (λ w m. made w m)
 
 -- a thread that is in a method
-pub in_methods : {H : Type 0} {content : H → Content ClassId} {at : At} {s : State H} → InMethod content at s → HasMethods content at s
-in_methods h = record { frames = _; on = h.on; methods = (tt, (part_here h.on).not_yet.initializers) }
+pub in_frames : {H : Type 0} {content : H → Content ClassId} {at : At} {s : State H} → InMethod content at s → OnFrames content at s
+in_frames h = record { frames = _; pending = None; on = h.on }

@@ -1,5 +1,6 @@
 pub mod At
 pub mod Ending
+pub mod Initializing
 pub mod Standing
 pub mod Stepped
 pub mod Pushing
@@ -7,4 +8,5 @@ pub mod Returned
 pub mod Printing
 pub mod Tops
 pub mod TopObject
+pub mod Storing
 pub mod ArrayRows

@@ -30,15 +30,16 @@ pub(crate) fn push<H: Heap>(at: At<'_>, state: &mut State<H>, value: Value) -> R
     }
 }
 
-/// Pushes the value of an instruction that pushes one: `ldc` of an int, `ldc2_w` of a long, or
-/// `getstatic` of System.out (JVMS 6.5).
+/// Pushes the value of an instruction that pushes one: `ldc` of an int or a string, `ldc2_w` of a
+/// long, or `getstatic` of System.out (JVMS 6.5).
 #[inline]
 pub(crate) fn push_value<H: Heap>(
     at: At<'_>,
     state: &mut State<H>,
     value: Value,
 ) -> Result<StepEnd, Halt>
-    requires { (li : LinkedInstr) × StandsOn H.content at state.old (Links at.linked.now li) × Pushes state.old.statics.items li value }
+    requires { (li : LinkedInstr) × StandsOn H.content at state.old (Links at.linked.now li)
+        × Pushes state.old.statics.items state.old.literals.items li value }
     ensures { Steps H.content at.entry state.old result state.new }
 {
     push(at, state, value)

@@ -1,23 +1,51 @@
 // The frames of a thread.
 
-ghost use Rattle.std.specs.Prelude.{◌≡◌, ◌+◌, ℕ, List, ◌∷◌};
+ghost use Rattle.std.specs.Prelude.{◌≡◌, ◌+◌, ℕ, List, ◌∷◌, Ok, drop};
 ghost use Rattle.jm_frames.specs.FrameView.{FrameView};
+ghost use Rattle.jm_world.specs.Here.{with_frames};
+ghost use Rattle.jm_world.specs.Next.{goes};
+ghost use Rattle.jm_state.specs.declared.halt.StepEnd.TheVariants.{Done};
 ghost use Rattle.jm_state.specs.declared.thread.StackFrame.{StackFrame};
 ghost use Rattle.jm_state.specs.declared.thread.StackFrame.TheVariants.{Method, Initialization};
+ghost use Rattle.jm_interp.specs.At.{OnFrames, Does};
+ghost use Rattle.jm_interp.specs.Initializing.{Began, class_on_top};
 ghost use Rattle.jm_interp.specs.Returned.{Left, pop_fault};
 ghost use Rattle.jm_interp.specs.Standing.{ThreadRest, Stands, HasTop, Topped, RunsMethod, InAnyMethod};
 
+use crate::at::At;
 use crate::top_frame::top_method;
-use jm_state::{Halt, StackFrame, Thread};
+use jm_heap::Heap;
+use jm_state::{Halt, StackFrame, State, Thread};
 use jm_values::TagFault;
 use jm_world::{Stage, Stop};
+use std::alloc::AllocError;
 
-/// Drops the top frame.
+/// Drops the top frame, if there is one.
 pub(crate) fn drop_top(thread: &mut Thread)
-    requires { HasTop thread.old }
-    ensures { Topped thread.old (λ f. Stands thread.new) }
+    ensures { (fs : List StackFrame) (r : ThreadRest) → Stands thread.old fs r → Stands thread.new (drop 1 fs) r }
 {
     let _top = thread.frames.pop();
+}
+
+/// A step that drops the top frame, if there is one.
+pub(crate) fn leave_frame<H: Heap>(at: At<'_>, state: &mut State<H>)
+    requires { OnFrames H.content at state.old }
+    ensures { Does H.content at.entry state.old (Ok Done) state.new (λ w number t. goes (with_frames w number t (drop 1 t.frames))) }
+{
+    drop_top(&mut state.threads[at.index]);
+}
+
+/// The class whose initialization's frame is on top; none where a method's is, and without a frame.
+pub(crate) fn class_on_top(thread: &Thread) -> Option<u32>
+    ensures { (fs : List StackFrame) (r : ThreadRest) → Stands thread.now fs r → result ≡ class_on_top fs }
+{
+    let Some(top) = thread.frames.last() else {
+        return None;
+    };
+    match top {
+        StackFrame::Method(_) => None,
+        StackFrame::Initialization { class, stage: _ } => Some(*class),
+    }
 }
 
 /// Goes to a stage of an initialization, whose frame is on top.
@@ -28,6 +56,26 @@ pub(crate) fn go_to_stage(thread: &mut Thread, class: u32, stage: Stage)
     if let Some(top) = thread.frames.last_mut() {
         *top = StackFrame::Initialization { class, stage };
     }
+}
+
+/// Begins the initialization of a class, `above`, on top of the top frame, which becomes that of an
+/// initialization at a stage. `AllocError`: the growth was refused, and the frames are as they were.
+pub(crate) fn begin_above(
+    thread: &mut Thread,
+    class: u32,
+    stage: Stage,
+    above: u32,
+) -> Result<(), AllocError>
+    requires { HasTop thread.old }
+    ensures { Topped thread.old (λ f below r. Began result thread.new class stage above f below r) }
+{
+    thread.frames.push(StackFrame::Initialization {
+        class: above,
+        stage: Stage::Begin,
+    })?;
+    let count = thread.frames.len();
+    thread.frames[count - 2] = StackFrame::Initialization { class, stage };
+    Ok(())
 }
 
 /// Returns to the frame below the top one, which moves on if a method runs in it. Its operands are

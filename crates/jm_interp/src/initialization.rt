@@ -1,26 +1,29 @@
 // The initialization of a class.
 
-ghost use Rattle.std.specs.Prelude.{◌+◌, ◌∷◌, ℕ, List, None, Ok, drop};
-ghost use Rattle.jm_world.specs.Here.{with_frames};
-ghost use Rattle.jm_world.specs.Initialization.{finish};
-ghost use Rattle.jm_world.specs.Next.{goes};
+ghost use Rattle.std.specs.Prelude.{◌+◌, ◌<◌, ◌∷◌, ℕ, List, None, Ok, drop, length, codes};
+ghost use Rattle.jm_world.specs.Frames.{initialization_frame};
+ghost use Rattle.jm_world.specs.Here.{push_frame};
+ghost use Rattle.jm_world.specs.Initialization.{at_stage, finish};
+ghost use Rattle.jm_world.specs.Next.{goes, throw};
 ghost use Rattle.jm_world.specs.declared.stage.Stage.{Stage};
-ghost use Rattle.jm_world.specs.declared.stage.Stage.TheVariants.{Begin};
+ghost use Rattle.jm_world.specs.declared.stage.Stage.TheVariants.{Begin, Superclass, Initializer};
 ghost use Rattle.jm_state.specs.Parts.{program_class_name};
 ghost use Rattle.jm_state.specs.declared.halt.StepEnd.TheVariants.{Done};
 ghost use Rattle.jm_state.specs.declared.thread.StackFrame.{StackFrame};
 ghost use Rattle.jm_state.specs.declared.thread.StackFrame.TheVariants.{Initialization};
-ghost use Rattle.jm_interp.specs.At.{OnThread, Does, Steps};
+ghost use Rattle.jm_interp.specs.At.{OnThread, OnFrames, Does, Steps};
 
 use crate::at::At;
-use crate::frames::{drop_top, go_to_stage};
+use crate::frames::{begin_above, drop_top, go_to_stage, leave_frame};
+use crate::superclass::{number_among_all, own_superclass};
+use crate::throwing::{leave_pending, throw};
+use jm_builtins::BuiltInClass;
 use jm_heap::Heap;
 use jm_state::{Halt, State, StepEnd};
 use jm_world::{ClassState, Stage};
 
-/// Makes one stage of the initialization whose frame is on top (JVMS 5.5). It is that of the main
-/// class, which has Object as its superclass, and that is initialized; no class has a `<clinit>` or
-/// a field with a constant.
+/// Makes one stage of the initialization whose frame is on top (JVMS 5.5), of any of the program's
+/// classes. No class that can run has a `<clinit>` or a field with a constant.
 pub(crate) fn initialize_top<H: Heap>(
     at: At<'_>,
     state: &mut State<H>,
@@ -32,10 +35,7 @@ pub(crate) fn initialize_top<H: Heap>(
 {
     match stage {
         Stage::Begin => begin(at, state, class),
-        Stage::Superclass => {
-            go_to_stage(&mut state.threads[at.index], class, Stage::Initializer);
-            Ok(StepEnd::Done)
-        }
+        Stage::Superclass => superclass_first(at, state, class),
         Stage::Initializer => {
             finish(at, state, class);
             Ok(StepEnd::Done)
@@ -57,30 +57,38 @@ fn finish<H: Heap>(at: At<'_>, state: &mut State<H>, class: u32)
     drop_top(&mut state.threads[at.index]);
 }
 
-// Drops the frame of a class that needs no initialization.
-fn skip<H: Heap>(at: At<'_>, state: &mut State<H>)
-    requires { (class : ℕ) × (stage : Stage) × (below : List StackFrame) × OnThread H.content at state.old (Initialization class stage ∷ below) None }
-    ensures { Does H.content at.entry state.old (Ok Done) state.new (λ w number t. goes (with_frames w number t (drop 1 t.frames))) }
+// Throws NoClassDefFoundError, and drops the frame of a class that failed. The exception is made
+// first: where it cannot be, nothing has changed.
+fn refuse_class<H: Heap>(at: At<'_>, state: &mut State<H>) -> Result<StepEnd, Halt>
+    requires { OnFrames H.content at state.old }
+    ensures { Does H.content at.entry state.old result state.new
+        (λ w number t. throw w number (record t { frames = drop 1 t.frames }) (codes "java/lang/NoClassDefFoundError")) }
 {
-    drop_top(&mut state.threads[at.index]);
+    match leave_pending(at, state, BuiltInClass::NoClassDefFoundError.number()) {
+        Ok(()) => {
+            leave_frame(at, state);
+            Ok(StepEnd::Done)
+        }
+        Err(halt) => Err(halt),
+    }
 }
 
-// Begins it: a class that is done, or in progress by this thread, needs none, and another thread's
-// progress is waited for.
+// Begins it: a class that is done, or in progress by this thread, needs none, another thread's
+// progress is waited for, and a class that failed cannot be used.
 fn begin<H: Heap>(at: At<'_>, state: &mut State<H>, class: u32) -> Result<StepEnd, Halt>
     requires { (below : List StackFrame) × OnThread H.content at state.old (Initialization class Begin ∷ below) None }
     ensures { Steps H.content at.entry state.old result state.new }
 {
     match state.classes[class as usize] {
         ClassState::Done => {
-            skip(at, state);
+            leave_frame(at, state);
             Ok(StepEnd::Done)
         }
         ClassState::InProgress(owner) => {
             if owner != at.index as u64 + 1 {
                 return Ok(StepEnd::Blocked);
             }
-            skip(at, state);
+            leave_frame(at, state);
             Ok(StepEnd::Done)
         }
         ClassState::NotBegun => {
@@ -88,6 +96,66 @@ fn begin<H: Heap>(at: At<'_>, state: &mut State<H>, class: u32) -> Result<StepEn
             go_to_stage(&mut state.threads[at.index], class, Stage::Superclass);
             Ok(StepEnd::Done)
         }
-        ClassState::Failed => unreachable!(),
+        ClassState::Failed => refuse_class(at, state),
+    }
+}
+
+// Goes on to the initializer of the class.
+fn to_initializer<H: Heap>(at: At<'_>, state: &mut State<H>, class: u32)
+    requires { (stage : Stage) × (below : List StackFrame) × OnThread H.content at state.old (Initialization class stage ∷ below) None }
+    ensures { Does H.content at.entry state.old (Ok Done) state.new
+        (λ w number t. goes (at_stage w number t (program_class_name at.entry.linked.now.program class) Initializer (drop 1 t.frames))) }
+{
+    go_to_stage(&mut state.threads[at.index], class, Stage::Initializer);
+}
+
+// Goes on to the initializer of the class, with the initialization of its superclass on top; with
+// 512 frames StackOverflowError is thrown instead, and the frame stays. OutOfMemory: the growth was
+// refused, and nothing has changed.
+fn begin_superclass<H: Heap>(
+    at: At<'_>,
+    state: &mut State<H>,
+    class: u32,
+    above: u32,
+) -> Result<StepEnd, Halt>
+    requires { (stage : Stage) × (below : List StackFrame) × OnThread H.content at state.old (Initialization class stage ∷ below) None
+        × (above < length at.linked.now.program) }
+    ensures { Does H.content at.entry state.old result state.new
+        (λ w number t. push_frame w number t (initialization_frame (program_class_name at.entry.linked.now.program class) Initializer ∷ drop 1 t.frames)
+        (initialization_frame (program_class_name at.entry.linked.now.program above) Begin)) }
+{
+    if state.threads[at.index].frames.len() >= 512 {
+        return throw(at, state, BuiltInClass::StackOverflowError.number());
+    }
+    match begin_above(
+        &mut state.threads[at.index],
+        class,
+        Stage::Initializer,
+        above,
+    ) {
+        Ok(()) => Ok(StepEnd::Done),
+        Err(_) => Err(Halt::OutOfMemory),
+    }
+}
+
+// The superclass is initialized first, if there is one that is not done: a built-in class always is.
+// OutOfMemory also past the end of numbers, to which no program that fits in memory comes.
+fn superclass_first<H: Heap>(at: At<'_>, state: &mut State<H>, class: u32) -> Result<StepEnd, Halt>
+    requires { (below : List StackFrame) × OnThread H.content at state.old (Initialization class Superclass ∷ below) None }
+    ensures { Steps H.content at.entry state.old result state.new }
+{
+    let Some(number) = number_among_all(at.linked, class) else {
+        return Err(Halt::OutOfMemory);
+    };
+    let Some(above) = own_superclass(at.linked, number) else {
+        to_initializer(at, state, class);
+        return Ok(StepEnd::Done);
+    };
+    match state.classes[above as usize] {
+        ClassState::Done => {
+            to_initializer(at, state, class);
+            Ok(StepEnd::Done)
+        }
+        _ => begin_superclass(at, state, class, above),
     }
 }

@@ -10,8 +10,8 @@
 //! `at` says where a step is made, and `specs/At` what it does: the words of all contracts. The files
 //! are named as the model's (`jm_world`): `stepping` chooses what is to be done; `plain`,
 //! `constants`, `returns` and `built_in_methods` are the instructions, `throwing`, `unwinding` and
-//! `ending` what exceptions and ends do, `initialization` the stages of a class, over the calls on
-//! one thread in `top_frame`, `frames` and `print_operands`. A plain instruction looks up its thread,
+//! `ending` what exceptions and ends do, `initialization` the stages of a class, with its `superclass`,
+//! over the calls on one thread in `top_frame`, `frames` and `print_operands`. A plain instruction looks up its thread,
 //! its top frame and its code, and takes no memory. The crate stands on `jm_state`, `jm_linked`,
 //! `jm_ops` and `jm_heap`'s trait.
 #![tactic(auto)]
@@ -29,6 +29,7 @@ mod print_operands;
 mod returns;
 mod stages;
 mod stepping;
+mod superclass;
 mod text;
 mod throwing;
 mod top_frame;

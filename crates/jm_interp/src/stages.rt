@@ -22,9 +22,11 @@ use jm_state::{Halt, State, StepEnd};
 use std::alloc::Global;
 
 /// Makes one stage of unwinding of a thread that runs and whose exception is pending, by the
-/// thread's number from 1 (JVMS 2.10, 3.12, 6.5 athrow): the top frame is dropped, and with the
-/// last one the thread ends by the exception. OutOfMemory: the state is beside the same world as
-/// before.
+/// thread's number from 1 (JVMS 2.10, 3.12, 5.5, 6.5 athrow): the top frame is dropped, and with the
+/// last one the thread ends by the exception. Where it is an initialization's, the class has failed,
+/// and an exception that is no Error gives its place to a new ExceptionInInitializerError. Stopped:
+/// that cannot be made. OutOfMemory: a growth was refused. Then the state is beside the same world
+/// as before.
 pub fn unwind_stage<H: Heap>(
     alloc: Global,
     linked: &Linked,
@@ -54,8 +56,10 @@ pub fn unwind_stage<H: Heap>(
 
 /// Makes one stage of the initialization of a class (JVMS 5.5) of a thread that runs, whose top
 /// frame is an initialization's, and which has no pending exception, by the thread's number from 1.
-/// Blocked: another thread initializes the class, and nothing changed. OutOfMemory: the state is
-/// beside the same world as before.
+/// Of any of the program's classes, whose superclass comes first; a class that failed throws
+/// NoClassDefFoundError. Blocked: another thread initializes the class, and nothing changed. Stopped:
+/// an exception cannot be made. OutOfMemory: a growth was refused. Then the state is beside the same
+/// world as before.
 pub fn init_stage<H: Heap>(
     alloc: Global,
     linked: &Linked,

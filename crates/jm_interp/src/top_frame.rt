@@ -91,3 +91,22 @@ pub(crate) fn replace_top(thread: &mut Thread, count: usize, value: Value)
         StackFrame::Initialization { class: _, stage: _ } => unreachable!(),
     }
 }
+
+/// Drops so many operands of the top frame, and goes on.
+#[inline]
+pub(crate) fn drop_top(thread: &mut Thread, count: usize)
+    requires { MayGoOn thread.old }
+    ensures { InAnyMethod thread.old (λ f below.
+        Stands thread.new (Method (gone_to (with_stack f (drop count f.activation.stack)) (f.activation.at + 1)) ∷ below)) }
+{
+    let Some(top) = thread.frames.last_mut() else {
+        unreachable!();
+    };
+    match top {
+        StackFrame::Method(frame) => {
+            frame.drop_operands(count);
+            frame.go_on();
+        }
+        StackFrame::Initialization { class: _, stage: _ } => unreachable!(),
+    }
+}

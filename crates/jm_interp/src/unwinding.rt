@@ -1,19 +1,28 @@
 // Unwinding.
 
-ghost use Rattle.std.specs.Prelude.{◌≡◌, List, Some, IfSome};
-ghost use Rattle.jm_world.specs.World.{ended_by};
-ghost use Rattle.jm_world.specs.Throwing.{class_name};
-ghost use Rattle.jm_state.specs.Parts.{ending_part, named_type};
+ghost use Rattle.std.specs.Prelude.{◌≡◌, ◌<◌, ◌+◌, ◌↔◌, List, Some, Ok, IfSome, IsTrue, drop, length, false, codes};
+ghost use Rattle.jm_builtins.specs.List.{the_builtins};
+ghost use Rattle.jm_world.specs.World.{ended_by, is_running, with_state};
+ghost use Rattle.jm_world.specs.Next.{goes};
+ghost use Rattle.jm_world.specs.Throwing.{class_name, unwound_anew};
+ghost use Rattle.jm_world.specs.declared.class_state.ClassState.TheVariants.{Failed};
+ghost use Rattle.jm_state.specs.Parts.{ending_part, named_type, program_class_name};
+ghost use Rattle.jm_state.specs.declared.halt.StepEnd.TheVariants.{Done};
 ghost use Rattle.jm_state.specs.declared.thread.StackFrame.{StackFrame};
-ghost use Rattle.jm_interp.specs.At.{OnThread, Steps};
+ghost use Rattle.jm_interp.specs.At.{OnThread, OnFrames, Does, Steps};
+ghost use Rattle.jm_interp.specs.Ending.{unwound_to};
+ghost use Rattle.jm_interp.specs.Initializing.{is_error};
 
 use crate::at::At;
 use crate::ending::end_thread;
-use crate::frames::drop_top;
+use crate::frames::{class_on_top, leave_frame};
+use crate::throwing::leave_pending;
+use jm_builtins::BuiltInClass;
 use jm_heap::{ClassId, Heap};
 use jm_linked::Linked;
 use jm_state::{Ending, Halt, State, StepEnd};
 use jm_values::Place;
+use jm_world::ClassState;
 
 // The end by an exception of a class. An array, which nothing throws, has no class: its number is
 // the one past the last class's, and there is none where numbers have come to their end.
@@ -33,8 +42,87 @@ fn ending_by(linked: &Linked, thrown: ClassId) -> Option<Ending>
     }
 }
 
-/// Makes one stage of unwinding (JVMS 2.10): no method that can run has an exception table, so the
-/// top frame is dropped, and with the last one the thread ends by the exception's class.
+// Whether a class has the number.
+fn is_numbered(linked: &Linked, class: u32) -> bool
+    ensures { IsTrue result ↔ (class < length the_builtins + length linked.now.program) }
+{
+    (class as usize) < linked.built_ins().len()
+        || class as usize - linked.built_ins().len() < linked.classes().len()
+}
+
+// Whether an object is an Error (JVMS 2.10), by its mark; none where no class has its number, as
+// every object's has.
+fn is_error(linked: &Linked, thrown: ClassId) -> Option<bool>
+    ensures { IfSome result (λ error. error ≡ is_error linked.now.program (named_type linked.now.program thrown)) }
+{
+    match thrown {
+        ClassId::Instance(class) => {
+            if !is_numbered(linked, class) {
+                return None;
+            }
+            Some(linked.is_subclass(class, BuiltInClass::Error.number()))
+        }
+        ClassId::Array(_) => Some(false),
+    }
+}
+
+// Drops the top frame, and with the last one the thread ends so.
+fn drop_frame<H: Heap>(at: At<'_>, state: &mut State<H>, ending: Ending)
+    requires { OnFrames H.content at state.old × (is_running (ending_part at.linked.now.program ending) ≡ false) }
+    ensures { Does H.content at.entry state.old (Ok Done) state.new
+        (λ w number t. unwound_to w number t (drop 1 t.frames) (ending_part at.entry.linked.now.program ending)) }
+{
+    if state.threads[at.index].frames.len() > 1 {
+        leave_frame(at, state);
+        return;
+    }
+    end_thread(at, state, ending);
+}
+
+// Marks a class as failed (JVMS 5.5).
+fn mark_failed<H: Heap>(at: At<'_>, state: &mut State<H>, class: u32)
+    requires { OnFrames H.content at state.old × (class < length at.linked.now.program) }
+    ensures { Does H.content at.entry state.old (Ok Done) state.new
+        (λ w number t. goes (with_state w (program_class_name at.entry.linked.now.program class) Failed)) }
+{
+    state.classes[class as usize] = ClassState::Failed;
+}
+
+// Drops the frame of the initialization of a class, which has failed; with the last frame the thread
+// ends so.
+fn fail<H: Heap>(at: At<'_>, state: &mut State<H>, class: u32, ending: Ending)
+    requires { OnFrames H.content at state.old × (class < length at.linked.now.program)
+        × (is_running (ending_part at.linked.now.program ending) ≡ false) }
+    ensures { Does H.content at.entry state.old (Ok Done) state.new
+        (λ w number t. unwound_to (with_state w (program_class_name at.entry.linked.now.program class) Failed) number t (drop 1 t.frames)
+        (ending_part at.entry.linked.now.program ending)) }
+{
+    mark_failed(at, state, class);
+    drop_frame(at, state, ending);
+}
+
+// The same with a new ExceptionInInitializerError in the place of the pending exception (JVMS 5.5). It
+// is made first: where it cannot be, nothing has changed.
+fn fail_anew<H: Heap>(at: At<'_>, state: &mut State<H>, class: u32) -> Result<StepEnd, Halt>
+    requires { OnFrames H.content at state.old × (class < length at.linked.now.program) }
+    ensures { Does H.content at.entry state.old result state.new
+        (λ w number t. unwound_anew w (with_state w (program_class_name at.entry.linked.now.program class) Failed) number t (drop 1 t.frames)
+        (codes "java/lang/ExceptionInInitializerError")) }
+{
+    let error = BuiltInClass::ExceptionInInitializerError.number();
+    match leave_pending(at, state, error) {
+        Ok(()) => {
+            fail(at, state, class, Ending::EndedBy(error));
+            Ok(StepEnd::Done)
+        }
+        Err(halt) => Err(halt),
+    }
+}
+
+/// Makes one stage of unwinding (JVMS 2.10, 5.5): no method that can run has an exception table, so
+/// the top frame is dropped, and with the last one the thread ends by the exception's class. Where
+/// the frame is an initialization's, its class has failed, and an exception that is no Error gives
+/// its place to a new ExceptionInInitializerError.
 pub(crate) fn unwind_top<H: Heap>(
     at: At<'_>,
     state: &mut State<H>,
@@ -43,15 +131,20 @@ pub(crate) fn unwind_top<H: Heap>(
     requires { (fs : List StackFrame) × OnThread H.content at state.old fs (Some place) }
     ensures { Steps H.content at.entry state.old result state.new }
 {
-    if state.threads[at.index].frames.len() > 1 {
-        drop_top(&mut state.threads[at.index]);
+    let thrown = state.heap.class_of(place);
+    let Some(ending) = ending_by(at.linked, thrown) else {
+        return Err(Halt::OutOfMemory);
+    };
+    let Some(class) = class_on_top(&state.threads[at.index]) else {
+        drop_frame(at, state, ending);
+        return Ok(StepEnd::Done);
+    };
+    let Some(error) = is_error(at.linked, thrown) else {
+        return Err(Halt::OutOfMemory);
+    };
+    if error {
+        fail(at, state, class, ending);
         return Ok(StepEnd::Done);
     }
-    match ending_by(at.linked, state.heap.class_of(place)) {
-        Some(ending) => {
-            end_thread(at, state, ending);
-            Ok(StepEnd::Done)
-        }
-        None => Err(Halt::OutOfMemory),
-    }
+    fail_anew(at, state, class)
 }

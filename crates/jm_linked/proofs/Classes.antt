@@ -9,19 +9,19 @@ use Rattle.jm_program.specs.declared.class.Method.{Method}
 use Rattle.jm_program.specs.declared.constant.Constant.{Constant}
 use Rattle.jm_program.specs.declared.descriptor.MethodDescriptor.{MethodDescriptor}
 use Rattle.jm_program.specs.Flags.{is_synchronized}
-use Rattle.jm_world.specs.Classes.{FoundMethod, MethodName, name_of_method, class_among, class_named, method_in, object_class}
+use Rattle.jm_world.specs.Classes.{FoundMethod, MethodName, name_of_method, class_among, class_named, method_in}
 use Rattle.jm_world.specs.Loading.{main_in, main_type}
 use Rattle.jm_world.specs.Loads.{Loads, Refusal, refusal, duplicates, is_named_among, or_else, when, duplicate_class}
 use Rattle.jm_world.specs.Types.{same_method_type}
 use Rattle.jm_world.specs.World.{Progress, state_in, set_state_in}
 use Rattle.jm_world.specs.declared.class_state.ClassState.{ClassState}
-use Rattle.jm_linked.specs.Later.{later_part, later_main_superclass, later_constant_value, later_declared_field, later_method, first_later}
+use Rattle.jm_linked.specs.Later.{later_part, later_constant_value, later_declared_field, later_method, first_later}
 use Rattle.jm_linked.specs.Links.{LinkedView, IsLinked, name_in_class, member_name}
 use Rattle.jm_linked.specs.declared.later.LaterPart.{LaterPart}
 use Rattle.jm_linked.specs.declared.later.LaterPart.TheVariants as later
 use Rattle.jm_linked.specs.Named.{named_states}
 use Rattle.jm_linked.proofs.BuiltIns.{AreOthers}
-use Rattle.jm_linked.proofs.Whole.{neither_later, whole_main}
+use Rattle.jm_linked.proofs.Whole.{neither_later, whole_class_at}
 
 pub first_none : (a b : Option Refusal) → or_else a b ≡ None → a ≡ None
 first_none None b e = refl
@@ -140,19 +140,10 @@ main_class l i =
     sym (ap (λ o. name_in_class o i.main.member) links.class_is ∙ ap (member_name links.class) links.method_is) ∙ i.main_name in
     found_first l.program i.found i.main.class links.class (distinct l.program i.loads) i.found_is links.class_is (ap (λ (n : MethodName). n.class) named)
 
--- the main class of a program in which nothing comes later
+-- a class of a program in which nothing comes later
 pub record IsPlain (d : ClassParts) : Type 0 where
-  pub superclass : d.superclass ≡ Some object_class
   pub constants : first_later later_declared_field d.fields ≡ None
   pub no_initializer : (t : MethodDescriptor) → method_in d.methods (codes "<clinit>") t ≡ None
-
-super_is : (s : Option (List ℕ)) → later_main_superclass s ≡ None → s ≡ Some object_class
-super_is None e = cc
-super_is (Some name) e = by (same_text name object_class) refl
-  where
-    by : (b : Bool) → same_text name object_class ≡ b → Some name ≡ Some object_class
-    by true t = ap Some (texts.same_text name object_class (sym t))
-    by false t = let bad : Some later.Superclass ≡ None = sym (ap (λ b. elim b as (λ _. Option LaterPart) [ true ↦ None | false ↦ Some later.Superclass ]) t) ∙ e in cc
 
 -- a field that does not come later has no constant
 pub no_constant : (f : Field) → later_declared_field f ≡ None → f.constant ≡ None
@@ -181,13 +172,7 @@ no_clinit (m ∷ ms) t e =
     (initializes_none m parts.0)
     ∙ no_clinit ms t parts.1
 
-pub plain_main : (program : List ClassParts) → later_part program ≡ None → (d : ClassParts) → slice_get program 0 ≡ Some d → IsPlain d
-plain_main [] e d at = cc
-plain_main (c ∷ cs) e d at =
-    let same : c ≡ d = cc in
-    let whole = whole_main c cs e in
-    subst IsPlain same (record {
-      superclass = super_is c.superclass whole.superclass;
-      constants = whole.fields;
-      no_initializer = λ t. no_clinit c.methods t whole.methods;
-    })
+pub plain_class : (program : List ClassParts) → later_part program ≡ None → (n : ℕ) (d : ClassParts) → slice_get program n ≡ Some d → IsPlain d
+plain_class program e n d at =
+    let whole = whole_class_at program n d e at in
+    record { constants = whole.fields; no_initializer = λ t. no_clinit d.methods t whole.methods }

@@ -6,3 +6,4 @@ pub mod SystemOut
 pub mod PrintStreams
 pub mod Names
 pub mod Coded
+pub mod HeldTypes

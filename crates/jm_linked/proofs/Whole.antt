@@ -1,5 +1,5 @@
 -- What holds of a program in which nothing comes later.
-use Rattle.std.proofs.Common.{◌≡◌, ℕ, zero, suc, List, [], ◌∷◌, Option, Some, None, Bool, true, false, refl, sym, ap, ◌∙◌, subst}
+use Rattle.std.proofs.Common.{◌≡◌, ℕ, zero, suc, List, [], ◌∷◌, Option, Some, None, Bool, true, false, refl, sym, ap, ◌∙◌}
 use Rattle.std.specs.Prelude.{slice_get, is_some, ◌&&◌, codes}
 use Rattle.jm_program.specs.Names.{same_text}
 use Rattle.jm_program.specs.declared.class.ClassParts.{ClassParts}
@@ -9,12 +9,16 @@ use Rattle.jm_program.specs.declared.descriptor.FieldType.{FieldType}
 use Rattle.jm_world.specs.Types.{same_types, same_result, same_method_type}
 use Rattle.jm_world.specs.Classes.{FoundMethod, MethodName, method_in}
 use Rattle.jm_world.specs.Loading.{main_in, main_type}
+use Rattle.jm_program.specs.declared.instruction.operation.ArrayKind.TheVariants as kind
 use Rattle.jm_program.specs.declared.instruction.operation.ArrayOp.{ArrayOp}
+use Rattle.jm_world.specs.Arrays.{serves_references}
 use Rattle.jm_program.specs.declared.instruction.operation.ArrayOp.TheVariants.{Load, Store, New, Length}
 use Rattle.jm_program.specs.declared.instruction.operation.FieldOp.{FieldOp}
 use Rattle.jm_program.specs.declared.instruction.operation.FieldOp.TheVariants.{GetStatic, PutStatic, GetField, PutField}
 use Rattle.jm_program.specs.declared.instruction.operation.InvokeOp.{InvokeOp}
 use Rattle.jm_program.specs.declared.instruction.operation.InvokeOp.TheVariants.{Virtual, Special, Static, Interface}
+use Rattle.jm_program.specs.declared.instruction.operation.TypeOp.{TypeOp}
+use Rattle.jm_program.specs.declared.instruction.operation.TypeOp.TheVariants.{NewArray, CheckCast, InstanceOf}
 use Rattle.jm_program.specs.declared.instruction.symbolic.Instr.{Instr}
 use Rattle.jm_program.specs.declared.reference.FieldRef.{FieldRef}
 use Rattle.jm_program.specs.declared.reference.MethodRef.{MethodRef}
@@ -24,7 +28,7 @@ use Rattle.jm_linked.specs.declared.instruction.PrintMethod.{PrintMethod}
 use Rattle.jm_linked.specs.Links.{LinkedView, IsLinked, LinksIn, name_of_number, name_among, prints, reads_system_out}
 use Rattle.jm_linked.specs.declared.later.LaterPart.{LaterPart}
 use Rattle.jm_linked.specs.declared.later.LaterPart.TheVariants as later
-use Rattle.jm_linked.specs.Later.{print_among, print_methods, or_later, first_later, unless_empty, later_array, later_field, later_invoke, later_instruction, later_code}
+use Rattle.jm_linked.specs.Later.{print_among, print_methods, or_later, first_later, unless_empty, later_array, later_type, later_field, later_invoke, later_instruction, later_code}
 use Rattle.jm_linked.specs.Later.{later_use, later_in_code, later_superclass, later_declared_field, later_method, later_class, later_part}
 
 -- neither of two comes later
@@ -43,33 +47,23 @@ nothing_later part [] e = refl
 nothing_later part (x ∷ xs) e = cc
 
 -- a class in which nothing comes later
-pub record IsWholeClass (main : Bool) (c : ClassParts) : Type 0 where
-  pub superclass : later_superclass main c.superclass ≡ None
+pub record IsWholeClass (c : ClassParts) : Type 0 where
+  pub superclass : later_superclass c.superclass ≡ None
   pub fields : first_later later_declared_field c.fields ≡ None
   pub methods : first_later later_method c.methods ≡ None
   pub codes : first_later (λ m. later_code m.code) c.methods ≡ None
 
-pub whole_class : (main : Bool) (c : ClassParts) → later_class main c ≡ None → IsWholeClass main c
-whole_class main c e =
-    let past_superclass = neither_later (later_superclass main c.superclass) _ e in
+pub whole_class : (c : ClassParts) → later_class c ≡ None → IsWholeClass c
+whole_class c e =
+    let past_superclass = neither_later (later_superclass c.superclass) _ e in
     let past_fields = neither_later (first_later later_declared_field c.fields) _ past_superclass.1 in
     let past_methods = neither_later (first_later later_method c.methods) _ past_fields.1 in
     record { superclass = past_superclass.0; fields = past_fields.0; methods = past_methods.0; codes = past_methods.1 }
 
--- the main class, and each other one, of a program in which nothing comes later
-pub whole_main : (c : ClassParts) (cs : List ClassParts) → later_part (c ∷ cs) ≡ None → IsWholeClass true c
+-- each class of a program in which nothing comes later
+pub whole_class_at : (program : List ClassParts) (n : ℕ) (c : ClassParts) → later_part program ≡ None → slice_get program n ≡ Some c → IsWholeClass c
 unfolding later_part
-whole_main c cs e = whole_class true c (neither_later (later_class true c) (first_later (later_class false) cs) e).0
-
-pub whole_others : (c : ClassParts) (cs : List ClassParts) → later_part (c ∷ cs) ≡ None → first_later (later_class false) cs ≡ None
-unfolding later_part
-whole_others c cs e = (neither_later (later_class true c) (first_later (later_class false) cs) e).1
-
-pub whole_class_at : (program : List ClassParts) (n : ℕ) (c : ClassParts) → later_part program ≡ None → slice_get program n ≡ Some c
-    → (main : Bool) × IsWholeClass main c
-whole_class_at [] n c e at = cc
-whole_class_at (d ∷ ds) zero c e at = let same : d ≡ c = cc in (true, subst (IsWholeClass true) same (whole_main d ds e))
-whole_class_at (d ∷ ds) (suc n) c e at = (false, whole_class false c (none_later (later_class false) ds n c (whole_others d ds e) at))
+whole_class_at program n c e at = whole_class c (none_later later_class program n c e at)
 
 -- main returns nothing
 both_hold : (a b : Bool) → (a && b) ≡ true → (a ≡ true) × (b ≡ true)
@@ -123,7 +117,7 @@ pub whole_method : (program : List ClassParts) (n k : ℕ) (c : ClassParts) (m :
     → slice_get program n ≡ Some c → slice_get c.methods k ≡ Some m → m.code ≡ Some code → IsWhole code
 whole_method program n k c m code e class method is =
     let whole = whole_class_at program n c e class in
-    let own : later_code m.code ≡ None = none_later (λ (x : Method). later_code x.code) c.methods k m whole.1.codes method in
+    let own : later_code m.code ≡ None = none_later (λ (x : Method). later_code x.code) c.methods k m whole.codes method in
     let whole_code : later_code (Some code) ≡ None = sym (ap later_code is) ∙ own in
     let parts = neither_later (first_later later_in_code code.instructions) (unless_empty later.Handlers code.handlers) whole_code in
     record { instructions = parts.0; handlers = nothing_later later.Handlers code.handlers parts.1 }
@@ -134,24 +128,40 @@ instruction_runs {code} w n i at = (neither_later (later_use i) (later_instructi
 
 -- the linked instructions that the machine can run
 abbrev pub RunsArray : ArrayOp → Type 0
-RunsArray (Store kind) = ⊥
+RunsArray (Store k) = serves_references k ≡ false
 RunsArray _ = Unit {0}
+
+abbrev pub RunsType : TypeOp → Type 0
+RunsType NewArray = Unit {0}
+RunsType _ = ⊥
 
 abbrev pub RunsToday : LinkedInstr → Type 0
 RunsToday (linked.Plain op) = Unit {0}
 RunsToday (linked.Int n) = Unit {0}
 RunsToday (linked.Long n) = Unit {0}
+RunsToday (linked.Literal n) = Unit {0}
 RunsToday (linked.Return op) = Unit {0}
 RunsToday (linked.Array op) = RunsArray op
+RunsToday (linked.Type op t) = RunsType op
 RunsToday linked.SystemOut = Unit {0}
 RunsToday (linked.Print p) = Unit {0}
 RunsToday _ = ⊥
 
 array_later : (op : ArrayOp) → later_array op ≡ None → RunsArray op
 array_later (Load kind) e = tt
-array_later (Store kind) e = cc
+array_later (Store kind.Int) e = refl
+array_later (Store kind.Long) e = refl
+array_later (Store kind.Byte) e = refl
+array_later (Store kind.Char) e = refl
+array_later (Store kind.Short) e = refl
+array_later (Store kind.Reference) e = cc
 array_later (New element) e = tt
 array_later Length e = tt
+
+type_later : (op : TypeOp) → later_type op ≡ None → RunsType op
+type_later NewArray e = tt
+type_later CheckCast e = cc
+type_later InstanceOf e = cc
 
 field_later : (op : FieldOp) (f : FieldRef) → reads_system_out op f ≡ false → later_field op f ≡ None → ⊥
 field_later GetStatic f other e = let bad : Some (later.Field GetStatic) ≡ None = sym (ap (λ b. elim b as
@@ -179,7 +189,7 @@ pub runs_today : (program : List ClassParts) (x : LinkedInstr) (i : Instr) → L
 runs_today program (linked.Plain op) i h e = tt
 runs_today program (linked.Int n) i h e = tt
 runs_today program (linked.Long n) i h e = tt
-runs_today program (linked.Literal n) i h e = let bad : Some later.StringConstant ≡ None = sym (ap later_instruction h.1) ∙ e in cc
+runs_today program (linked.Literal n) i h e = tt
 runs_today program (linked.Return op) i h e = tt
 runs_today program (linked.Array op) i h e = array_later op (sym (ap later_instruction h) ∙ e)
 runs_today program linked.Throw i h e = let bad : Some later.Throw ≡ None = sym (ap later_instruction h) ∙ e in cc
@@ -189,4 +199,4 @@ runs_today program (linked.Field op n) i h e = field_later op h.field h.other (s
 runs_today program (linked.Print p) i h e = tt
 runs_today program (linked.Invoke op n) i h e = invoke_later op h.method h.other (sym (ap later_instruction h.is) ∙ e)
 runs_today program (linked.New n) i h e = let bad : Some later.New ≡ None = sym (ap later_instruction h.1) ∙ e in cc
-runs_today program (linked.Type op t) i h e = let bad : Some (later.Type op) ≡ None = sym (ap later_instruction h.1) ∙ e in cc
+runs_today program (linked.Type op t) i h e = type_later op (sym (ap later_instruction h.1) ∙ e)

@@ -8,19 +8,21 @@ use Rattle.jm_program.specs.declared.class.Field.{Field}
 use Rattle.jm_program.specs.declared.class.Method.{Method}
 use Rattle.jm_program.specs.declared.code.Code.{Code}
 use Rattle.jm_program.specs.declared.constant.Constant.{Constant}
-use Rattle.jm_program.specs.declared.constant.Constant.TheVariants as constant
 use Rattle.jm_program.specs.declared.descriptor.FieldType.{FieldType}
 use Rattle.jm_program.specs.declared.descriptor.MethodDescriptor.{MethodDescriptor}
 use Rattle.jm_program.specs.declared.descriptor.BaseType.{BaseType}
 use Rattle.jm_program.specs.declared.descriptor.BaseType.TheVariants as base
 use Rattle.jm_program.specs.declared.descriptor.ElementType.{ElementType}
 use Rattle.jm_program.specs.declared.descriptor.ElementType.TheVariants.{Base, Class}
+use Rattle.jm_program.specs.declared.instruction.operation.ArrayKind.TheVariants as kind
 use Rattle.jm_program.specs.declared.instruction.operation.ArrayOp.{ArrayOp}
 use Rattle.jm_program.specs.declared.instruction.operation.ArrayOp.TheVariants.{Store}
 use Rattle.jm_program.specs.declared.instruction.operation.FieldOp.{FieldOp}
 use Rattle.jm_program.specs.declared.instruction.operation.FieldOp.TheVariants.{GetStatic}
 use Rattle.jm_program.specs.declared.instruction.operation.InvokeOp.{InvokeOp}
 use Rattle.jm_program.specs.declared.instruction.operation.InvokeOp.TheVariants.{Virtual}
+use Rattle.jm_program.specs.declared.instruction.operation.TypeOp.{TypeOp}
+use Rattle.jm_program.specs.declared.instruction.operation.TypeOp.TheVariants.{NewArray}
 use Rattle.jm_program.specs.declared.instruction.symbolic.Instr.{Instr}
 use Rattle.jm_program.specs.declared.instruction.symbolic.Instr.TheVariants as instr
 use Rattle.jm_program.specs.declared.reference.ClassRef.{ClassRef}
@@ -28,7 +30,7 @@ use Rattle.jm_program.specs.declared.reference.ClassRef.TheVariants as named
 use Rattle.jm_program.specs.declared.reference.FieldRef.{FieldRef}
 use Rattle.jm_program.specs.declared.reference.MethodRef.{MethodRef}
 use Rattle.jm_world.specs.Types.{class_type, same_type, same_method_type}
-use Rattle.jm_world.specs.Classes.{object_class, system_class, print_stream_class, thread_class}
+use Rattle.jm_world.specs.Classes.{system_class, print_stream_class, thread_class}
 use Rattle.jm_world.specs.Loading.{main_type}
 use Rattle.jm_linked.specs.declared.instruction.Printed.{Printed}
 use Rattle.jm_linked.specs.declared.instruction.Printed.TheVariants.{Int, Long, Char}
@@ -77,14 +79,9 @@ abbrev pub print_among : List PrintMethod → MethodRef → Option PrintMethod
 print_among [] m = None
 print_among (p ∷ ps) m = elim (is_print m p) [ true ↦ Some p | false ↦ print_among ps m ]
 
-abbrev pub later_constant : Constant → Option LaterPart
-later_constant (constant.Int n) = None
-later_constant (constant.Long n) = None
-later_constant (constant.String units) = Some later.StringConstant
-
--- the stores into arrays
+-- the stores of references into arrays
 abbrev pub later_array : ArrayOp → Option LaterPart
-later_array (Store kind) = Some (later.Array (Store kind))
+later_array (Store kind.Reference) = Some (later.Array (Store kind.Reference))
 later_array _ = None
 
 abbrev pub later_field : FieldOp → FieldRef → Option LaterPart
@@ -95,6 +92,11 @@ abbrev pub later_invoke : InvokeOp → MethodRef → Option LaterPart
 later_invoke Virtual m = elim (print_among print_methods m) [ Some p ↦ None | None ↦ Some (later.Invoke Virtual) ]
 later_invoke op m = Some (later.Invoke op)
 
+-- the uses of types but anewarray
+abbrev pub later_type : TypeOp → Option LaterPart
+later_type NewArray = None
+later_type op = Some (later.Type op)
+
 -- an instruction that cannot be run yet
 abbrev pub later_instruction : Instr → Option LaterPart
 later_instruction (instr.Plain op) = None
@@ -102,11 +104,11 @@ later_instruction (instr.Array op) = later_array op
 later_instruction (instr.Return op) = None
 later_instruction instr.Throw = Some later.Throw
 later_instruction (instr.Monitor op) = Some (later.Monitor op)
-later_instruction (instr.Constant c) = later_constant c
+later_instruction (instr.Constant c) = None
 later_instruction (instr.Field op f) = later_field op f
 later_instruction (instr.Invoke op m) = later_invoke op m
 later_instruction (instr.New name) = Some later.New
-later_instruction (instr.Type op t) = Some (later.Type op)
+later_instruction (instr.Type op t) = later_type op
 
 -- a use of a class whose objects are threads, or that starting one throws, by its name
 abbrev pub illegal_thread_state_class : List ℕ
@@ -158,18 +160,10 @@ later_code (Some code) = or_later (first_later later_in_code code.instructions) 
 abbrev pub is_main_method : Method → Bool
 is_main_method m = same_text m.name (codes "main") && same_method_type m.descriptor main_type
 
--- the superclass: java/lang/Object alone of the main class, any but such a class of another
-abbrev pub later_main_superclass : Option (List ℕ) → Option LaterPart
-later_main_superclass None = Some later.Superclass
-later_main_superclass (Some name) = elim (same_text name object_class) [ true ↦ None | false ↦ Some later.Superclass ]
-
-abbrev pub later_other_superclass : Option (List ℕ) → Option LaterPart
-later_other_superclass None = None
-later_other_superclass (Some name) = later_name name
-
-abbrev pub later_superclass : Bool → Option (List ℕ) → Option LaterPart
-later_superclass true s = later_main_superclass s
-later_superclass false s = later_other_superclass s
+-- the superclass: any but such a class
+abbrev pub later_superclass : Option (List ℕ) → Option LaterPart
+later_superclass None = None
+later_superclass (Some name) = later_name name
 
 -- a field with a ConstantValue (JVMS 4.7.2)
 abbrev pub later_constant_value : Option Constant → Option LaterPart
@@ -186,14 +180,13 @@ later_method m = elim (same_text m.name (codes "<clinit>")) [
   | false ↦ elim (is_synchronized m.flags) [ true ↦ Some later.Synchronized | false ↦ None ]
 ]
 
-abbrev pub later_class : Bool → ClassParts → Option LaterPart
-later_class main c =
-    or_later (later_superclass main c.superclass)
+abbrev pub later_class : ClassParts → Option LaterPart
+later_class c =
+    or_later (later_superclass c.superclass)
     (or_later (first_later later_declared_field c.fields)
     (or_later (first_later later_method c.methods)
     (first_later (λ m. later_code m.code) c.methods)))
 
--- the first part of a program that cannot be run yet; the main class is the first
+-- the first part of a program that cannot be run yet
 unfoldable pub later_part : List ClassParts → Option LaterPart
-later_part [] = None
-later_part (c ∷ cs) = or_later (later_class true c) (first_later (later_class false) cs)
+later_part program = first_later later_class program

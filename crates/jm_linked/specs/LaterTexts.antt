@@ -5,7 +5,6 @@ use Rattle.jm_linked.specs.declared.later.LaterPart.{LaterPart}
 use Rattle.jm_linked.specs.declared.later.LaterPart.TheVariants as later
 
 unfoldable pub later_text : LaterPart → List ℕ
-later_text later.Superclass = codes "superclass"
 later_text later.Thread = codes "java/lang/Thread"
 later_text later.IllegalThreadState = codes "java/lang/IllegalThreadStateException"
 later_text later.ConstantValue = codes "ConstantValue"
@@ -15,7 +14,6 @@ later_text later.Handlers = codes "handlers"
 later_text (later.Array op) = array_line op
 later_text later.Throw = codes "athrow"
 later_text (later.Monitor op) = monitor_mnemonic op
-later_text later.StringConstant = codes "ldc"
 later_text (later.Field op) = field_mnemonic op
 later_text (later.Invoke op) = invoke_mnemonic op
 later_text later.New = codes "new"

@@ -10,8 +10,6 @@ use std::fmt::Display;
 /// A part of a program that the machine cannot run yet.
 #[derive(Clone, Copy, Debug)]
 pub enum LaterPart {
-    /// A superclass of the main class other than java/lang/Object.
-    Superclass,
     /// A use of java/lang/Thread.
     Thread,
     /// A use of java/lang/IllegalThreadStateException.
@@ -28,8 +26,6 @@ pub enum LaterPart {
     /// `athrow`.
     Throw,
     Monitor(MonitorOp),
-    /// `ldc` of a string.
-    StringConstant,
     Field(FieldOp),
     Invoke(InvokeOp),
     /// `new`.
@@ -44,7 +40,6 @@ impl Display for LaterPart {
 
     fn fmt<W: fmt::Write>(&self, f: &mut fmt::Formatter<W>) -> fmt::Result {
         match self {
-            LaterPart::Superclass => f.write_str("superclass"),
             LaterPart::Thread => f.write_str("java/lang/Thread"),
             LaterPart::IllegalThreadState => {
                 f.write_str("java/lang/IllegalThreadStateException")
@@ -56,7 +51,6 @@ impl Display for LaterPart {
             LaterPart::Array(op) => write!(f, "{op}"),
             LaterPart::Throw => f.write_str("athrow"),
             LaterPart::Monitor(op) => write!(f, "{op}"),
-            LaterPart::StringConstant => f.write_str("ldc"),
             LaterPart::Field(op) => write!(f, "{op}"),
             LaterPart::Invoke(op) => write!(f, "{op}"),
             LaterPart::New => f.write_str("new"),

@@ -9,6 +9,7 @@
 //! have some. The crate stands on `jm_program`, `jm_builtins`, `jm_world` and `jm_tables`.
 #![tactic(auto)]
 
+mod assignability;
 mod instruction;
 mod kind;
 mod later;

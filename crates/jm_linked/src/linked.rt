@@ -1,13 +1,15 @@
 // A program whose names are resolved.
 
 ghost use Rattle.std.specs.Prelude.{◌≡◌, ◌<◌, List, ℕ, Some, None, length, slice_index_or};
+ghost use Rattle.jm_program.specs.declared.class.ClassParts.{ClassParts};
 ghost use Rattle.jm_program.specs.declared.descriptor.MethodDescriptor.{MethodDescriptor};
 ghost use Rattle.jm_builtins.specs.List.{the_builtins};
+ghost use Rattle.jm_world.specs.Hierarchy.{is_subclass};
 ghost use Rattle.jm_world.specs.Resolution.{select};
 ghost use Rattle.jm_tables.specs.Numbering.{name_of};
-ghost use Rattle.jm_linked.specs.Links.{LinkedView, IsLinked, IsSelected};
+ghost use Rattle.jm_linked.specs.Links.{LinkedView, IsLinked, IsSelected, NamesClass, class_numbered};
 ghost use Rattle.jm_linked.specs.Methods.{selector_of};
-ghost use Rattle.jm_linked.specs.Tables.{all_names};
+ghost use Rattle.jm_linked.specs.Tables.{IsSuperclass, all_names};
 
 use crate::method::{LinkedMethod, Selected};
 use crate::tables::Tables;
@@ -39,11 +41,12 @@ impl Model for Linked {
         × IsLinked (record { program = l.classes; methods = l.methods; literals = l.literals; tables = l.tables; main = l.main }) };
 }
 
-fn code_of(codes: &[Option<u32>], method: u32) -> Option<u32>
-    ensures { result ≡ slice_index_or codes.now method None }
+// What stands at a number, if there is anything.
+fn number_at(numbers: &[Option<u32>], index: u32) -> Option<u32>
+    ensures { result ≡ slice_index_or numbers.now index None }
 {
-    match codes.get(method as usize) {
-        Some(code) => *code,
+    match numbers.get(index as usize) {
+        Some(number) => *number,
         None => None,
     }
 }
@@ -124,10 +127,29 @@ impl Linked {
         let Some(method) = self.tables.selected.select(class, selector) else {
             return Selected::Nothing;
         };
-        match code_of(self.tables.codes.as_slice(), method) {
+        match number_at(self.tables.codes.as_slice(), method) {
             Some(code) => Selected::Coded(code),
             None => Selected::WithoutCode(method),
         }
+    }
+
+    /// Whether a class or an interface is another one, extends it or implements it, by their numbers
+    /// among all classes (JVMS 2.4). In as many steps as a number has digits.
+    #[inline]
+    pub fn is_subclass(&self, class: u32, above: u32) -> bool
+        ensures { (name other : List ℕ) → NamesClass self.now.program class name → NamesClass self.now.program above other
+            → result ≡ is_subclass self.now.program name other }
+    {
+        self.tables.hierarchy.is_below(class, above)
+    }
+
+    /// The number of a class's superclass, by the class's number, the built-in ones counted first; or
+    /// none if it has none (JVMS 4.1).
+    #[inline]
+    pub fn superclass(&self, class: u32) -> Option<u32>
+        ensures { (c : ClassParts) → class_numbered self.now.program class ≡ Some c → IsSuperclass self.now.program c.superclass result }
+    {
+        number_at(self.tables.superclasses.as_slice(), class)
     }
 
     /// The methods with code, in the order of the classes and of the methods of each.

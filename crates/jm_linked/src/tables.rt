@@ -17,4 +17,6 @@ pub struct Tables {
     /// Of each method, by its number among those of all classes, its number among those with code,
     /// or none if it has no code.
     pub codes: Sequence<Option<u32>>,
+    /// Of each class the number of its superclass, or none if it has none (JVMS 4.1).
+    pub superclasses: Sequence<Option<u32>>,
 }

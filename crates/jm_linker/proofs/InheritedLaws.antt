@@ -1,20 +1,24 @@
 -- What is gathered of each class for the tables of a program.
 use Rattle.std.proofs.Common.{◌≡◌, ℕ, zero, suc, ◌+◌, ◌<◌, List, [], ◌∷◌, ◌++◌, Option, Some, None, length, length-append, refl, sym, ap, ◌∙◌, subst, arith}
 use Rattle.std.proofs.lemmas.List.Elements.{All-nil, All-push, All-append}
+use Rattle.std.proofs.lemmas.List.{length-map}
+use Rattle.std.proofs.lemmas.Option.{slice_get_within}
+use Rattle.jm_values.proofs.Lists.{get_map, get_there}
 use Rattle.std.specs.Prelude.{map, option_map, option_to_list, slice_get, slice_index_or, IfSome}
 use Rattle.std.specs.List.{All}
 use Rattle.jm_program.specs.declared.class.ClassParts.{ClassParts}
-use Rattle.jm_world.specs.Classes.{class_named, height}
+use Rattle.jm_world.specs.Classes.{as_class, class_named, height}
+use Rattle.jm_builtins.specs.List.{the_builtins}
 use Rattle.jm_world.specs.Hierarchy.{parents}
 use Rattle.jm_world.specs.Loads.{Loads, Refusal, duplicates, duplicate_fields, duplicate_members, duplicate_methods, first_of_all, or_else, refusal}
 use Rattle.jm_radix.specs.Tables.{IsCellOf}
 use Rattle.jm_tables.specs.Hierarchies.{AreHeirs, IsHeir, own_cell}
-use Rattle.jm_tables.specs.Layouts.{AreFields, DeclaresFields}
+use Rattle.jm_tables.specs.Layouts.{AreFields, DeclaresFields, classes_of}
 use Rattle.jm_tables.specs.Numbering.{name_of}
 use Rattle.jm_tables.specs.declared.extent.DeclaredFields.{DeclaredFields}
 use Rattle.jm_tables.specs.declared.inheritance.Declared.{Declared}
 use Rattle.jm_linked.specs.Links.{class_names, class_numbered}
-use Rattle.jm_linked.specs.Tables.{all_names}
+use Rattle.jm_linked.specs.Tables.{AreSuperclasses, all_names}
 use Rattle.jm_linked.proofs.Names.{are_names, name_numbered, found_numbered}
 use Rattle.jm_linker.specs.BuiltInClasses.{built_in_classes}
 use Rattle.jm_linker.specs.Inherited.{IsClass, AreClasses, IsItsFields, AreTheirFields, first_of}
@@ -151,6 +155,25 @@ are_fields program hs ds loads heirs are =
           fields = is.fields;
           apart = (once_numbered program loads n is.parts is.numbered).0;
         }
+
+-- their superclasses by number
+pub are_superclasses : (program : List ClassParts) (ds : List DeclaredFields) → AreFields program (all_names program) ds
+    → AreSuperclasses program (map (λ (d : DeclaredFields). d.superclass) ds)
+are_superclasses program ds are = λ class c at.
+    let within = slice_get_within (classes_of program) class c at in
+    let both : length (classes_of program) ≡ length (map as_class the_builtins) + length program = length-append (map as_class the_builtins) program in
+    let mapped : length (map as_class the_builtins) ≡ length the_builtins = length-map the_builtins as_class in
+    let count : length ds ≡ length program + length the_builtins = are.many ∙ are.named.many in
+    let d = get_there ds class (omega arith) in
+    let declares = are.each class d.0 d.1 in
+    let same : declares.parts ≡ c = let there = declares.numbered in cc in (
+      d.0.superclass,
+      get_map (λ (x : DeclaredFields). x.superclass) ds class d.0 d.1,
+      record {
+        named = declares.superclass ∙ ap (λ (p : ClassParts). p.superclass) same;
+        within = declares.within;
+      },
+    )
 
 pub no_fields : (program : List ClassParts) (hs : List Declared) → AreTheirFields program hs 0 []
 no_fields program hs = record { length = refl; each = λ n d e. cc }

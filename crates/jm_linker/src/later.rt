@@ -2,9 +2,9 @@
 
 ghost use Rattle.std.specs.Prelude.{◌≡◌, [], ◌∷◌, None, Some, cond, false};
 ghost use Rattle.jm_linked.specs.Later.{is_class_called, is_system_out, base_type, printed_type, print_name, print_parameters, is_print, print_among};
-ghost use Rattle.jm_linked.specs.Later.{print_methods, later_constant, later_array, later_field, later_invoke, later_instruction, later_name, later_element};
-ghost use Rattle.jm_linked.specs.Later.{later_class_ref, later_use, later_in_code, first_later, later_code, is_main_method, later_main_superclass};
-ghost use Rattle.jm_linked.specs.Later.{later_other_superclass, later_superclass, later_constant_value, later_declared_field, later_method};
+ghost use Rattle.jm_linked.specs.Later.{print_methods, later_array, later_type, later_field, later_invoke, later_instruction, later_name, later_element};
+ghost use Rattle.jm_linked.specs.Later.{later_class_ref, later_use, later_in_code, first_later, later_code, is_main_method};
+ghost use Rattle.jm_linked.specs.Later.{later_superclass, later_constant_value, later_declared_field, later_method};
 ghost use Rattle.jm_linked.specs.Later.{later_class, later_part};
 ghost use Rattle.jm_program.specs.Names.{same_text};
 ghost use Rattle.jm_program.specs.declared.class.Method.{Method};
@@ -16,9 +16,9 @@ use crate::name::{is_print_stream, is_system};
 use crate::types::letter;
 use jm_linked::{LaterPart, PrintMethod, Printed};
 use jm_program::{
-    AccessFlags, ArrayOp, BaseType, Class, ClassParts, ClassRef, Code, Constant, ElementType,
-    Field, FieldOp, FieldRef, FieldType, Instr, InvokeOp, Method, MethodDescriptor, MethodRef,
-    Name,
+    AccessFlags, ArrayKind, ArrayOp, BaseType, Class, ClassParts, ClassRef, Code, Constant,
+    ElementType, Field, FieldOp, FieldRef, FieldType, Instr, InvokeOp, Method, MethodDescriptor,
+    MethodRef, Name, TypeOp,
 };
 
 fn is_system_ref(class: &ClassRef) -> bool
@@ -158,20 +158,12 @@ pub fn print_method(method: &MethodRef) -> Option<PrintMethod>
     print_among(&PRINT_METHODS, method)
 }
 
-fn later_constant(constant: &Constant) -> Option<LaterPart>
-    ensures { result ≡ later_constant constant.now }
-{
-    match constant {
-        Constant::Int(_) | Constant::Long(_) => None,
-        Constant::String(_) => Some(LaterPart::StringConstant),
-    }
-}
-
 fn later_array(op: ArrayOp) -> Option<LaterPart>
     ensures { result ≡ later_array op }
 {
     match op {
-        ArrayOp::Store(_) => Some(LaterPart::Array(op)),
+        ArrayOp::Store(ArrayKind::Reference) => Some(LaterPart::Array(op)),
+        ArrayOp::Store(_) => None,
         _ => None,
     }
 }
@@ -203,19 +195,27 @@ fn later_invoke(op: InvokeOp, method: &MethodRef) -> Option<LaterPart>
     }
 }
 
+fn later_type(op: TypeOp) -> Option<LaterPart>
+    ensures { result ≡ later_type op }
+{
+    match op {
+        TypeOp::NewArray => None,
+        TypeOp::CheckCast | TypeOp::InstanceOf => Some(LaterPart::Type(op)),
+    }
+}
+
 fn later_instruction(instruction: &Instr) -> Option<LaterPart>
     ensures { result ≡ later_instruction instruction.now }
 {
     match instruction {
-        Instr::Plain(_) | Instr::Return(_) => None,
+        Instr::Plain(_) | Instr::Return(_) | Instr::Constant(_) => None,
         Instr::Array(op) => later_array(*op),
         Instr::Throw => Some(LaterPart::Throw),
         Instr::Monitor(op) => Some(LaterPart::Monitor(*op)),
-        Instr::Constant(constant) => later_constant(constant),
         Instr::Field(op, field) => later_field(*op, field.get()),
         Instr::Invoke(op, method) => later_invoke(*op, method.get()),
         Instr::New(_) => Some(LaterPart::New),
-        Instr::Type(op, _) => Some(LaterPart::Type(*op)),
+        Instr::Type(op, _) => later_type(*op),
     }
 }
 
@@ -322,37 +322,12 @@ pub fn is_main_method(method: &Method) -> bool
         && returns_nothing(&method.descriptor)
 }
 
-fn later_main_superclass(superclass: &Option<Name>) -> Option<LaterPart>
-    ensures { result ≡ later_main_superclass superclass.now }
-{
-    match superclass {
-        None => Some(LaterPart::Superclass),
-        Some(name) => {
-            if name.is_object() {
-                None
-            } else {
-                Some(LaterPart::Superclass)
-            }
-        }
-    }
-}
-
-fn later_other_superclass(superclass: &Option<Name>) -> Option<LaterPart>
-    ensures { result ≡ later_other_superclass superclass.now }
+fn later_superclass(superclass: &Option<Name>) -> Option<LaterPart>
+    ensures { result ≡ later_superclass superclass.now }
 {
     match superclass {
         None => None,
         Some(name) => later_name(name),
-    }
-}
-
-fn later_superclass(main: bool, superclass: &Option<Name>) -> Option<LaterPart>
-    ensures { result ≡ later_superclass main superclass.now }
-{
-    if main {
-        later_main_superclass(superclass)
-    } else {
-        later_other_superclass(superclass)
     }
 }
 
@@ -416,10 +391,10 @@ fn later_in_codes(methods: &[Method]) -> Option<LaterPart>
     None
 }
 
-fn later_in_class(main: bool, class: &ClassParts) -> Option<LaterPart>
-    ensures { result ≡ later_class main class.now }
+fn later_in_class(class: &ClassParts) -> Option<LaterPart>
+    ensures { result ≡ later_class class.now }
 {
-    if let Some(part) = later_superclass(main, &class.superclass) {
+    if let Some(part) = later_superclass(&class.superclass) {
         return Some(part);
     }
     if let Some(part) = later_in_fields(class.fields.as_slice()) {
@@ -431,27 +406,15 @@ fn later_in_class(main: bool, class: &ClassParts) -> Option<LaterPart>
     later_in_codes(class.methods.as_slice())
 }
 
-fn later_in_others(classes: &[Class]) -> Option<LaterPart>
-    ensures { result ≡ first_later (later_class false) classes.now }
-{
-    for class in classes {
-        if let Some(part) = later_in_class(false, class.parts()) {
-            return Some(part);
-        }
-    }
-    None
-}
-
-/// The first part of a program that cannot be run yet; the main class is the first.
+/// The first part of a program that cannot be run yet.
 #[tactic(auto, unfolding(jm_linked::specs::Later::later_part))]
 pub fn later_part(classes: &[Class]) -> Option<LaterPart>
     ensures { result ≡ later_part classes.now }
 {
-    let Some((first, others)) = classes.split_first() else {
-        return None;
-    };
-    if let Some(part) = later_in_class(true, first.parts()) {
-        return Some(part);
+    for class in classes {
+        if let Some(part) = later_in_class(class.parts()) {
+            return Some(part);
+        }
     }
-    later_in_others(others)
+    None
 }

@@ -1,13 +1,13 @@
 // What a program's classes have by their numbers: which are above which, where their fields stand,
 // and which methods are selected for them.
 
-ghost use Rattle.std.specs.Prelude.{◌≡◌, ◌∷◌, [], IfOk, IfSome, Some, length, option_to_list};
+ghost use Rattle.std.specs.Prelude.{◌≡◌, ◌∷◌, [], IfOk, IfSome, Some, length, map, option_to_list};
 ghost use Rattle.jm_world.specs.Hierarchy.{parents};
 ghost use Rattle.jm_world.specs.Loads.{Loads};
 ghost use Rattle.jm_world.specs.Classes.{height};
 ghost use Rattle.jm_tables.specs.Hierarchies.{own_cell};
-ghost use Rattle.jm_tables.specs.Layouts.{IsLayout};
-ghost use Rattle.jm_linked.specs.Tables.{AreTables, all_names};
+ghost use Rattle.jm_tables.specs.declared.extent.DeclaredFields.{DeclaredFields as ModelFields};
+ghost use Rattle.jm_linked.specs.Tables.{AreTables};
 ghost use Rattle.jm_linker.specs.Inherited.{AreClasses, AreTheirFields, first_of};
 ghost use Rattle.jm_linker.specs.NumberedClasses.{AreNumbers};
 
@@ -120,23 +120,18 @@ fn fields_of<'a>(
     Ok(Some(fields))
 }
 
-// Where the fields of the classes stand.
-fn layout_of<'a>(
+// The superclasses' numbers.
+fn superclasses_in(
     alloc: Global,
-    classes: &Classes<'a>,
-    heirs: &[Declared],
-    order: &[u32],
-) -> Result<Option<Layout>, AllocError>
-    ensures { IfOk result (λ found. IfSome found (λ layout. Loads classes.now.program.now
-        → AreClasses classes.now.program.now (height classes.now.program.now) heirs.now → IsLayout classes.now.program.now (all_names classes.now.program.now) layout)) }
+    fields: &[DeclaredFields<'_>],
+) -> Result<Vec<Option<u32>>, AllocError>
+    ensures { IfOk result (λ numbers. numbers.items ≡ map (λ (d : ModelFields). d.superclass) fields.now) }
 {
-    let Some(fields) = fields_of(alloc, classes, heirs)? else {
-        return Ok(None);
-    };
-    let Some(layout) = Layout::of(alloc, &fields, order)? else {
-        return Ok(None);
-    };
-    Ok(Some(layout))
+    let mut numbers = Vec::new(alloc);
+    for class in fields {
+        numbers.push(class.superclass)?;
+    }
+    Ok(numbers)
 }
 
 // When a class is placed: after those of lower ranks, which all of the program's classes have that
@@ -216,7 +211,7 @@ fn order_of<'a>(
 
 /// What the classes of a program that loads have by their numbers, made in the order of the ranks;
 /// or none where a class above one is not there or has no lower rank. It takes 64 bytes for each
-/// digit of a class's number, to the base 16, 40 more for a class and 8 for a field, 16 for a static
+/// digit of a class's number, to the base 16, 48 more for a class and 8 for a field, 16 for a static
 /// one.
 pub fn tables_of<'a>(
     alloc: Global,
@@ -232,9 +227,13 @@ pub fn tables_of<'a>(
     let Some(hierarchy) = Hierarchy::of(alloc, &heirs, &order)? else {
         return Ok(None);
     };
-    let Some(layout) = layout_of(alloc, classes, &heirs, &order)? else {
+    let Some(fields) = fields_of(alloc, classes, &heirs)? else {
         return Ok(None);
     };
+    let Some(layout) = Layout::of(alloc, &fields, &order)? else {
+        return Ok(None);
+    };
+    let superclasses = Sequence::new(superclasses_in(alloc, &fields)?);
     let Some(selected) = selected_of(alloc, classes, &heirs, &order)? else {
         return Ok(None);
     };
@@ -244,5 +243,6 @@ pub fn tables_of<'a>(
         layout,
         selected,
         codes,
+        superclasses,
     }))
 }

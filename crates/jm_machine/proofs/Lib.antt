@@ -1,8 +1,12 @@
 pub mod Events
 pub mod Folds
-pub mod Path
 pub mod MainMethod
-pub mod FirstObjects
+pub mod WithinCells
+pub mod Holding
+pub mod Chars
+pub mod Counting
+pub mod Adding
+pub mod Literals
 pub mod StaticFields
 pub mod Started
 pub mod FirstFrames

@@ -1,47 +1,42 @@
 -- The state from which a run begins is that of the loaded world.
-use Rattle.std.proofs.Common.{◌≡◌, ◌≢◌, ℕ, zero, suc, ◌+◌, ◌-◌, ◌<◌, ◌≤◌, List, [], ◌∷◌, ◌++◌, Some, None, true, false, refl, sym, ap, ◌∙◌, subst, inl, inr, length, replicate, arith}
-use Rattle.std.specs.Prelude.{map, slice_get, option_map, reverse, nat_lt}
-use Rattle.std.specs.List.{AllByRecursion, flat_map}
+use Rattle.std.proofs.Common.{◌≡◌, ℕ, zero, suc, ◌+◌, ◌-◌, List, [], ◌∷◌, ◌++◌, Some, None, true, false, refl, sym, ap, ◌∙◌, subst, length}
+use Rattle.std.proofs.Common.{replicate, arith}
+use Rattle.std.specs.Prelude.{map, slice_get, reverse}
 use Rattle.std.proofs.lemmas.List.{length-replicate}
 use Rattle.std.proofs.lemmas.Option.{slice_get_within}
-use Rattle.std.proofs.lemmas.Bool.{ltb-false}
 use Rattle.jm_program.specs.declared.class.ClassParts.{ClassParts}
 use Rattle.jm_program.specs.declared.class.Method.{Method}
 use Rattle.jm_values.specs.Shape.{list_shape}
 use Rattle.jm_values.specs.Rename.{locals_shape, rename_activation}
 use Rattle.jm_values.specs.declared.value.Value.TheVariants.{Ref}
-use Rattle.jm_world.specs.Classes.{name_of_method, MethodName, method_named, print_stream_class, string_class}
-use Rattle.jm_world.specs.Objects.{Object, cells_of_all, new_array, size_of}
+use Rattle.jm_world.specs.Classes.{name_of_method, MethodName, method_named}
 use Rattle.jm_world.specs.Frames.{Frame, method_frame, initialization_frame, rename_frame}
-use Rattle.jm_world.specs.World.{Static, running, is_running, refs_thread}
-use Rattle.jm_values.specs.Content.{Content, AllResident, name_of, serial_at, object_at}
+use Rattle.jm_world.specs.World.{running, is_running, refs_thread}
+use Rattle.jm_values.specs.Content.{Content, AllResident, name_of}
 use Rattle.jm_world.specs.Renaming.{static_shape, literal_shape, rename_thread}
 use Rattle.jm_world.specs.Invocation.{padded, unset, locals_of, activation_of}
-use Rattle.jm_world.specs.Loading.{loaded_world, first_objects, objects_from, literals_from, literal_texts, first_statics, first_thread, first_frames as model_frames, main_in, out_field, statics_of_class, is_too_small}
-use Rattle.jm_world.specs.Matches.{Matches, places, as_named}
+use Rattle.jm_world.specs.Loading.{loaded_world, literal_texts, first_statics, first_thread, first_frames as model_frames, main_in}
+use Rattle.jm_world.specs.Matches.{Matches, places}
 use Rattle.jm_world.specs.declared.class_state.ClassState.{ClassState}
-use Rattle.jm_world.specs.declared.class_state.ClassState.TheVariants.{NotBegun, Failed}
+use Rattle.jm_world.specs.declared.class_state.ClassState.TheVariants.{NotBegun}
 use Rattle.jm_world.specs.declared.stage.Stage.TheVariants.{Begin}
 use Rattle.jm_world.proofs.LoadsWellFormed.{runs_are_well_formed}
 use Rattle.jm_heap.specs.declared.class_id.ClassId.{ClassId}
-use Rattle.jm_linked.proofs.Classes.{main_class}
 use Rattle.jm_linked.specs.Later.{later_part}
-use Rattle.jm_linked.specs.Links.{LinkedView, IsLinked, MethodLinks, name_of_number, name_among, name_in_class, member_name, class_name_of}
+use Rattle.jm_linked.specs.Links.{LinkedView, IsLinked, MethodLinks, name_of_number, name_among, name_in_class, member_name}
 use Rattle.jm_linked.specs.declared.method.LinkedMethod.{LinkedMethod}
 use Rattle.jm_linked.specs.Named.{named_statics, named_literals, named_states}
-use Rattle.jm_state.specs.Parts.{parts, named_type, thread_part, part_of_held, program_class_name, name_in_program, ending_part, frame_part}
+use Rattle.jm_state.specs.Parts.{parts, thread_part, part_of_held, program_class_name, name_in_program, ending_part, frame_part}
 use Rattle.jm_state.specs.Places.{held_thread}
 use Rattle.jm_state.specs.View.{StateView}
 use Rattle.jm_state.specs.Runnable.{IsRunnable, ThreadRuns, ThreadNotYet}
 use Rattle.jm_state.specs.declared.thread.Thread as held
 use Rattle.jm_state.specs.declared.thread.Ending.TheVariants.{Running}
-use Rattle.jm_machine.specs.Start.{HasFirst, stream, arguments, first_frames}
-use Rattle.jm_machine.proofs.FirstObjects.{named}
+use Rattle.jm_machine.specs.Start.{first_frames}
+use Rattle.jm_machine.proofs.Literals.{HasFirst, literals_refs, literals_are, all_there, next_is, objects_are, array_named, out_named}
 use Rattle.jm_machine.proofs.MainMethod.{main_is}
-use Rattle.jm_machine.proofs.Path.{no_literals}
 use Rattle.jm_machine.proofs.StaticFields.{first_named, first_refs, first_length}
 use Rattle.jm_machine.specs.StaticFields.{static_values}
-use Rattle.jm_world.specs.Types.{class_type, instance_of}
 
 -- local variables that are not set have no references
 unset_refs : (n : ℕ) → locals_shape.refs (unset n) ≡ []
@@ -53,22 +48,10 @@ unset_renamed f zero = refl
 unset_renamed f (suc n) = ap (λ xs. None ∷ xs) (unset_renamed f n)
 
 -- the classes are not begun
-states_are : (program : List ClassParts) → named_states program (replicate (length program) NotBegun) ≡ map (λ c. record { class = c.name; state = NotBegun }) program
+states_are : (program : List ClassParts)
+    → named_states program (replicate (length program) NotBegun) ≡ map (λ c. record { class = c.name; state = NotBegun }) program
 states_are [] = refl
 states_are (c ∷ cs) = ap (λ ps. record { class = c.name; state = NotBegun } ∷ ps) (states_are cs)
-
-none_failed : (n : ℕ) → AllByRecursion (λ s. s ≢ Failed) (replicate n NotBegun)
-none_failed zero = tt
-none_failed (suc n) = (λ e. cc, none_failed n)
-
--- the names of the first objects' types
-stream_named : (program : List ClassParts) → as_named (named_type program) stream ≡ record { type = instance_of print_stream_class; values = [] }
-unfolding named_type class_name_of
-stream_named program = refl
-
-arguments_named : (program : List ClassParts) → as_named (named_type program) arguments ≡ new_array (class_type string_class) 0
-unfolding named_type class_name_of
-arguments_named program = refl
 
 module _ (l : LinkedView) (linked : IsLinked l) where
   links : MethodLinks l linked.main
@@ -78,7 +61,9 @@ module _ (l : LinkedView) (linked : IsLinked l) where
   names_agree = sym (ap (λ o. name_in_class o linked.main.member) links.class_is ∙ ap (member_name links.class) links.method_is) ∙ linked.main_name
 
   code_found : linked.found.method.code ≡ Some links.code
-  code_found = ap (λ (x : Method). x.code) (main_is l.program linked.found links.method linked.found_is (subst (λ n. method_named l.program n ≡ Some links.method) names_agree links.named)) ∙ links.code_is
+  code_found =
+      let named = subst (λ n. method_named l.program n ≡ Some links.method) names_agree links.named in
+      ap (λ (x : Method). x.code) (main_is l.program linked.found links.method linked.found_is named) ∙ links.code_is
 
   number_named : name_of_number l l.main ≡ name_of_method linked.found
   unfolding name_of_number
@@ -90,40 +75,38 @@ module _ (l : LinkedView) (linked : IsLinked l) where
 
   -- the first thread's frames, with references under other names
   activation_is : (f : ℕ → ℕ) (array : ℕ) → f array ≡ 1
-      → rename_activation f (record { at = 0; max_stack = linked.main.max_stack; locals = padded linked.main.max_locals (locals_of (Ref array ∷ [])); stack = [] })
+      → rename_activation f (record {
+        at = 0;
+        max_stack = linked.main.max_stack;
+        locals = padded linked.main.max_locals (locals_of (Ref array ∷ []));
+        stack = [];
+      })
       ≡ activation_of links.code (Ref 1 ∷ [])
   activation_is f array e =
-      let rest : locals_shape.rename f (unset (linked.main.max_locals - 1)) ≡ unset (links.code.max_locals - 1) = unset_renamed f (linked.main.max_locals - 1) ∙ ap (λ n. unset (n - 1)) links.max_locals in
+      let rest : locals_shape.rename f (unset (linked.main.max_locals - 1)) ≡ unset (links.code.max_locals - 1) =
+      unset_renamed f (linked.main.max_locals - 1) ∙ ap (λ n. unset (n - 1)) links.max_locals in
       λ i. record { at = 0; max_stack = links.max_stack i; locals = Some (Ref (e i)) ∷ rest i; stack = [] }
 
-  model_frames_are : model_frames linked.found ≡ initialization_frame linked.found.class.name Begin ∷ method_frame (name_of_method linked.found) (activation_of links.code (Ref 1 ∷ [])) None ∷ []
+  model_frames_are : model_frames linked.found
+      ≡ initialization_frame linked.found.class.name Begin ∷ method_frame (name_of_method linked.found) (activation_of links.code (Ref 1 ∷ [])) None ∷ []
   model_frames_are = ap (λ o. elim o as (λ v. List Frame) [
     | None ↦ []
     | Some code ↦ initialization_frame linked.found.class.name Begin ∷ method_frame (name_of_method linked.found) (activation_of code (Ref 1 ∷ [])) None ∷ []
   ]) code_found
 
-  frames_are : (f : ℕ → ℕ) (array : ℕ) → f array ≡ 1 → map (rename_frame f) (map (frame_part l) (reverse (first_frames l.main linked.main array))) ≡ model_frames linked.found
+  frames_are : (f : ℕ → ℕ) (array : ℕ) → f array ≡ 1
+      → map (rename_frame f) (map (frame_part l) (reverse (first_frames l.main linked.main array))) ≡ model_frames linked.found
   frames_are f array e =
       (λ i. initialization_frame (class_named_is i) Begin ∷ method_frame (number_named i) (activation_is f array e i) None ∷ []) ∙ sym model_frames_are
 
--- the objects that are reached are the first ones
-objects_are : (program : List ClassParts) (old c : Content ClassId) (out array : ℕ) → HasFirst old c out array → (rest : List Object) → (k : ℕ) → k < 2
-    → option_map (as_named (named_type program)) (object_at c k) ≡ slice_get (record { type = instance_of print_stream_class; values = [] } ∷ new_array (class_type string_class) 0 ∷ rest) k
-objects_are program old c out array h rest zero b = ap (option_map (as_named (named_type program))) h.out_is ∙ ap Some (stream_named program)
-objects_are program old c out array h rest (suc zero) b = ap (option_map (as_named (named_type program))) h.array_is ∙ ap Some (arguments_named program)
-objects_are program old c out array h rest (suc (suc k)) b = absurd (omega arith)
-
-heap_length : (program : List ClassParts) → literal_texts program ≡ [] → length (first_objects program) ≡ 2
-heap_length program e = ap (λ ts. suc (suc (length (objects_from 2 ts)))) e
-
 -- the state from which a run begins
-abbrev pub first_view : List ClassParts → ℕ → held.Thread → List ClassState → StateView
-first_view program out t states = record {
+abbrev pub first_view : List ClassParts → ℕ → held.Thread → List ClassState → List ℕ → StateView
+first_view program out t states strings = record {
   threads = t ∷ [];
   live = 1;
   statics = Ref out ∷ static_values program;
   classes = states;
-  literals = [];
+  literals = strings;
   monitors = [];
   output = [];
   stop = None;
@@ -136,11 +119,8 @@ pub record IsFirst (l : LinkedView) (t : held.Thread) (array : ℕ) : Type 0 whe
   pub pending : t.pending ≡ None
   pub ending : t.ending ≡ Running
 
-no_named : (ts : List (List ℕ)) → named_literals ts [] ≡ []
-no_named [] = refl
-no_named (t ∷ ts) = refl
-
-module _ (l : LinkedView) (i : IsLinked l) (none_later : later_part l.program ≡ None) (out array : ℕ) (t : held.Thread) (h : IsFirst l t array) where
+module _ (l : LinkedView) (i : IsLinked l) (none_later : later_part l.program ≡ None) (out array : ℕ) (t : held.Thread) (h : IsFirst l t array)
+    (strings : List ℕ) (count : length strings ≡ length (literal_texts l.program)) where
   first_held : held_thread t ≡ record { object = None; frames = reverse (first_frames l.main i.main array); pending = None; ending = Running }
   first_held = λ j. record { object = h.object j; frames = reverse (h.frames i.main i.main_is j); pending = h.pending j; ending = h.ending j }
 
@@ -153,47 +133,38 @@ module _ (l : LinkedView) (i : IsLinked l) (none_later : later_part l.program �
   thread_refs : refs_thread (thread_part l t) ≡ array ∷ []
   thread_refs = ap (λ x. refs_thread (part_of_held l x)) first_held ∙ rw (unset_refs (i.main.max_locals - 1)) refl
 
-  places_are : (c : Content ClassId) (states : List ClassState) → places (parts l c (first_view l.program out t states)) ≡ array ∷ out ∷ []
+  places_are : (c : Content ClassId) (states : List ClassState) → places (parts l c (first_view l.program out t states strings)) ≡ array ∷ out ∷ strings
   unfolding parts
   places_are c states =
-      ap (λ xs. ((xs ++ []) ++ (list_shape static_shape).refs (named_statics (first_statics l.program) (Ref out ∷ static_values l.program))) ++ [] ++ (list_shape literal_shape).refs (named_literals (literal_texts l.program) [])) thread_refs
-      ∙ ap (λ xs. ((array ∷ []) ++ xs) ++ [] ++ (list_shape literal_shape).refs (named_literals (literal_texts l.program) [])) (first_refs l.program out)
-      ∙ ap (λ ls. ((array ∷ []) ++ (out ∷ [])) ++ [] ++ (list_shape literal_shape).refs ls) (no_named (literal_texts l.program))
-
-  both_resident : (c : Content ClassId) → serial_at c array ≡ Some 1 → serial_at c out ≡ Some 0 → AllResident c (array ∷ out ∷ [])
-  both_resident c a o p (inl e) = (1, ap (serial_at c) e ∙ a)
-  both_resident c a o p (inr (inl e)) = (0, ap (serial_at c) e ∙ o)
-  both_resident c a o p (inr (inr e)) = absurd e
+      ap (λ xs. ((xs ++ []) ++ (list_shape static_shape).refs (named_statics (first_statics l.program) (Ref out ∷ static_values l.program)))
+      ++ [] ++ (list_shape literal_shape).refs (named_literals (literal_texts l.program) strings)) thread_refs
+      ∙ ap (λ xs. ((array ∷ []) ++ xs) ++ [] ++ (list_shape literal_shape).refs (named_literals (literal_texts l.program) strings)) (first_refs l.program out)
+      ∙ ap (λ xs. ((array ∷ []) ++ (out ∷ [])) ++ [] ++ xs) (literals_refs (literal_texts l.program) strings count)
 
   -- it is that of the loaded world
-  pub started : (old c : Content ClassId) (states : List ClassState) → HasFirst old c out array → states ≡ replicate (length l.program) NotBegun
-      → Matches (parts l c (first_view l.program out t states)) (loaded_world l.program old.limit)
+  started : (limit : ℕ) (c : Content ClassId) (states : List ClassState) → HasFirst c (literal_texts l.program) out array strings
+      → c.limit ≡ limit → states ≡ replicate (length l.program) NotBegun
+      → Matches (parts l c (first_view l.program out t states strings)) (loaded_world l.program limit)
   unfolding parts loaded_world
-  started old c states first states_is =
-      let none = no_literals l.program none_later in
-      let long : length (first_objects l.program) ≡ 2 = heap_length l.program none in
-      let at_array : name_of c array ≡ 1 = named c array 1 first.array_at in
-      let at_out : name_of c out ≡ 0 = named c out 0 first.out_at in
-      let bounded = (runs_are_well_formed l.program old.limit []).1 in
-      record {
-        sound = first.sound;
-        resident = subst (AllResident c) (sym (places_are c states)) (both_resident c first.array_at first.out_at);
-        limit = first.limit;
-        next = first.next ∙ sym long;
-        bound = bounded;
-        objects = λ k r. let below : k < length (first_objects l.program) = bounded k r in objects_are l.program old c out array first (objects_from 2 (literal_texts l.program)) k (omega (arith, below, long));
-        threads = ap (λ x. x ∷ []) (thread_is (name_of c) at_array);
-        statics = first_named l.program out (name_of c) at_out;
-        monitors = refl;
-        literals = ap ((list_shape literal_shape).rename (name_of c)) (no_named (literal_texts l.program)) ∙ ap (literals_from 2) (sym none);
-        program = refl;
-        classes = ap (named_states l.program) states_is ∙ states_are l.program;
-        output = refl;
-        stop = refl;
-      }
+  started limit c states first limit_is states_is = record {
+    sound = first.holds.sound;
+    resident = subst (AllResident c) (sym (places_are c states)) (all_there c (literal_texts l.program) out array strings first);
+    limit = limit_is;
+    next = next_is l.program c out array strings first;
+    bound = (runs_are_well_formed l.program limit []).1;
+    objects = λ k r. objects_are l.program c out array strings first k;
+    threads = ap (λ x. x ∷ []) (thread_is (name_of c) (array_named c (literal_texts l.program) out array strings first));
+    statics = first_named l.program out (name_of c) (out_named c (literal_texts l.program) out array strings first);
+    monitors = refl;
+    literals = literals_are c (literal_texts l.program) out array strings first;
+    program = refl;
+    classes = ap (named_states l.program) states_is ∙ states_are l.program;
+    output = refl;
+    stop = refl;
+  }
 
   -- and it keeps to what every state of a run keeps to
-  pub starts : (states : List ClassState) → states ≡ replicate (length l.program) NotBegun → IsRunnable l (first_view l.program out t states)
+  starts : (states : List ClassState) → states ≡ replicate (length l.program) NotBegun → IsRunnable l (first_view l.program out t states strings)
   starts states states_is = record {
     threads = (
       subst (ThreadRuns l) (sym first_held) (record {
@@ -204,27 +175,28 @@ module _ (l : LinkedView) (i : IsLinked l) (none_later : later_part l.program �
     );
     live = ap (λ e. elim (is_running (ending_part l.program e)) as (λ v. ℕ) [ true ↦ 0 + 1 | false ↦ 0 ]) (sym h.ending);
     statics = first_length l.program out;
-    literals = ap length (sym (no_literals l.program none_later));
+    literals = count;
     classes = ap length states_is ∙ length-replicate (length l.program) NotBegun;
     not_yet = record {
       program = none_later;
       threads = (
-        subst (ThreadNotYet l) (sym first_held) (record { object = refl; frames = (main_class l i, ((refl, refl), tt)); initializers = (tt, tt) }),
+        subst (ThreadNotYet l) (sym first_held) (record { object = refl; frames = (tt, ((refl, refl), tt)) }),
         tt,
       );
       monitors = refl;
-      failures = subst (AllByRecursion (λ s. s ≢ Failed)) (sym states_is) (none_failed (length l.program));
     };
   }
 
--- where they are too small for a heap
-pub too_small : (l : LinkedView) (limit : ℕ) → later_part l.program ≡ None → is_too_small l.program limit ≡ nat_lt limit 5
-unfolding size_of
-too_small l limit i = ap (λ ts. nat_lt limit (2 + (3 + cells_of_all (objects_from 2 ts)))) (no_literals l.program i)
-
-pub has_room : (l : LinkedView) (limit : ℕ) → later_part l.program ≡ None → is_too_small l.program limit ≡ false → 5 ≤ limit
-has_room l limit i e = let t : nat_lt limit 5 ≡ false = sym (too_small l limit i) ∙ e in ltb-false limit 5 t
+  -- so the state does that is seen so
+  pub begun : (limit : ℕ) (c : Content ClassId) (states : List ClassState) → HasFirst c (literal_texts l.program) out array strings
+      → c.limit ≡ limit → states ≡ replicate (length l.program) NotBegun → (v : StateView) → v ≡ first_view l.program out t states strings
+      → Matches (parts l c v) (loaded_world l.program limit) × IsRunnable l v
+  begun limit c states first limit_is states_is v same = (
+    subst (λ x. Matches (parts l c x) (loaded_world l.program limit)) (sym same) (started limit c states first limit_is states_is),
+    subst (IsRunnable l) (sym same) (starts states states_is),
+  )
 
 -- as many states as classes
-pub counted : (classes program : List ClassParts) (states : List ClassState) → states ≡ replicate (length classes) NotBegun → classes ≡ program → states ≡ replicate (length program) NotBegun
+pub counted : (classes program : List ClassParts) (states : List ClassState) → states ≡ replicate (length classes) NotBegun → classes ≡ program
+    → states ≡ replicate (length program) NotBegun
 counted classes program states s e = s ∙ ap (λ cs. replicate (length cs) NotBegun) e

@@ -3,6 +3,7 @@ pub mod Collected
 pub mod Threads
 pub mod Answered
 pub mod StaticFields
+pub mod FirstObjects
 pub mod Start
 pub mod MethodFrames
 pub mod Seen

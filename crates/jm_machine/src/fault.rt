@@ -29,10 +29,10 @@ pub struct Interrupted {
 /// Why a program was not loaded.
 #[derive(Clone, Copy, Debug, PartialEq, Eq, Drop, Error)]
 pub enum LoadFault {
-    /// A growth was refused.
+    /// A growth was refused, or a literal has 2^32 code units or more, which no array has.
     #[error("61 OutOfMemory")]
     OutOfMemory,
-    /// The first objects pass the heap's limit.
+    /// The first objects, those of the literals among them, pass the heap's limit.
     #[error("63 HeapTooSmall")]
     HeapTooSmall,
 }

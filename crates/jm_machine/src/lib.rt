@@ -13,6 +13,7 @@
 mod class;
 mod event;
 mod fault;
+mod first_objects;
 mod frame;
 mod load;
 mod machine;

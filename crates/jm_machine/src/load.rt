@@ -1,9 +1,9 @@
 // How a program is loaded.
 
-ghost use Rattle.std.specs.Prelude.{◌≡◌, ◌≤◌, ◌∷◌, [], IfOk, Some, None, false, slice_get, replicate, length};
+ghost use Rattle.std.specs.Prelude.{◌≡◌, ◌<◌, ◌^◌, IfOk, Some, None, false, slice_get, replicate};
 ghost use Rattle.jm_linked.specs.Later.{later_part};
 ghost use Rattle.jm_linked.specs.declared.method.LinkedMethod.{LinkedMethod as Method};
-ghost use Rattle.jm_machine.specs.Start.{IsEmpty, HasFirst, first_frames};
+ghost use Rattle.jm_machine.specs.Start.{IsEmpty, first_frames};
 ghost use Rattle.jm_state.specs.Parts.{state_parts};
 ghost use Rattle.jm_state.specs.Runnable.{StateRuns};
 ghost use Rattle.jm_world.specs.Loading.{loaded_world, is_too_small};
@@ -11,71 +11,15 @@ ghost use Rattle.jm_world.specs.declared.class_state.ClassState.TheVariants.{Not
 ghost use Rattle.jm_world.specs.Matches.{Matches};
 
 use crate::fault::OutOfMemory;
+use crate::first_objects::{make_first_objects, pass_limit, string_places};
 use crate::static_fields::first_values;
-use jm_builtins::BuiltInClass;
 use jm_frames::Frame;
-use jm_heap::{Component, Element, Heap, HeapFault, Roots, Shape};
+use jm_heap::Heap;
 use jm_linked::Linked;
 use jm_state::{Ending, StackFrame, State, Thread};
 use jm_values::{Place, Value};
 use jm_world::{ClassState, Stage};
 use std::alloc::{AllocError, Global};
-
-// The cells of the first objects: 2 of the print stream, and 3 of main's empty array.
-const FIRST_CELLS: u64 = 5;
-
-const STRING: u32 = BuiltInClass::String as u32;
-
-const PRINT_STREAM: u32 = BuiltInClass::PrintStream as u32;
-
-/// Where the first objects lie.
-#[derive(Clone, Copy)]
-pub(crate) struct FirstObjects {
-    /// The print stream of System.out.
-    pub out: Place,
-    /// The array of strings that main is given.
-    pub arguments: Place,
-}
-
-// Makes the first objects, in order, where they are within the limit.
-pub(crate) fn make_first_objects<H: Heap>(
-    alloc: Global,
-    heap: &mut H,
-) -> Result<FirstObjects, OutOfMemory>
-    requires empty { IsEmpty (H.content heap.old) }
-    requires room { 5 ≤ (H.content heap.old).limit }
-    ensures { IfOk result (λ first. HasFirst (H.content heap.old) (H.content heap.new) first.out first.arguments) }
-{
-    let mut roots = Roots::new(alloc);
-    let stream = Shape::Instance {
-        class: PRINT_STREAM,
-        fields: &[],
-    };
-    let out = match heap.allocate(0, &mut roots, stream) {
-        Ok(place) => place,
-        Err(HeapFault::OutOfMemory) => return Err(OutOfMemory),
-        Err(HeapFault::HeapFull) => unreachable!(),
-        Err(HeapFault::SerialsEnd) => unreachable!(),
-    };
-    roots.push(out)?;
-    let array = Shape::Array {
-        component: Component {
-            dimensions: 0,
-            element: Element::Class(STRING),
-        },
-        length: 0,
-    };
-    let arguments = match heap.allocate(0, &mut roots, array) {
-        Ok(place) => place,
-        Err(HeapFault::OutOfMemory) => return Err(OutOfMemory),
-        Err(HeapFault::HeapFull) => unreachable!(),
-        Err(HeapFault::SerialsEnd) => unreachable!(),
-    };
-    Ok(FirstObjects {
-        out: roots.get(0),
-        arguments,
-    })
-}
 
 // Main's frame, whose one argument is its first local variable, and above it the initialization of
 // its class.
@@ -106,13 +50,14 @@ fn not_begun(alloc: Global, count: usize) -> Result<Vec<ClassState>, AllocError>
     vec![in alloc; ClassState::NotBegun; count]
 }
 
-/// Whether the first objects pass a limit. A program in which nothing comes later has no literals, so
-/// there are two.
+/// Whether the first objects pass a limit: the print stream of System.out, main's empty array, and
+/// of each literal its array of chars and its String. It takes no memory.
 pub(crate) fn is_too_small(linked: &Linked, limit: u64) -> bool
-    requires { later_part linked.now.program ≡ None }
     ensures { result ≡ is_too_small linked.now.program limit }
 {
-    limit < FIRST_CELLS
+    // The literals of a linked program are those of its classes.
+    let _classes = linked.classes();
+    pass_limit(linked.literals(), limit)
 }
 
 // The state from which a run begins, over a heap with room for the first objects.
@@ -124,12 +69,15 @@ pub(crate) fn make_first_state<H: Heap + Drop>(
     requires not_later { later_part linked.now.program ≡ None }
     requires empty { IsEmpty (H.content heap) }
     requires room { is_too_small linked.now.program (H.content heap).limit ≡ false }
+    requires small { (H.content heap).limit < 2 ^ 64 }
     ensures loaded { IfOk result (λ state. Matches (state_parts H.content linked.now state) (loaded_world linked.now.program (H.content heap).limit)) }
     ensures runs { IfOk result (λ state. StateRuns linked.now state) }
 {
     let program = linked.classes();
-    let first = make_first_objects(alloc, &mut heap)?;
-    let frames = make_first_frames(alloc, linked, first.arguments)?;
+    let places = make_first_objects(alloc, &mut heap, linked.literals())?;
+    let out = places.get(0);
+    let arguments = places.get(1);
+    let frames = make_first_frames(alloc, linked, arguments)?;
     let mut threads = Vec::with_capacity(alloc, 1)?;
     threads.push_reserved(Thread {
         object: None,
@@ -137,15 +85,16 @@ pub(crate) fn make_first_state<H: Heap + Drop>(
         pending: None,
         ending: Ending::Running,
     });
-    let statics = first_values(alloc, program, first.out)?;
+    let statics = first_values(alloc, program, out)?;
     let classes = not_begun(alloc, program.len())?;
+    let literals = string_places(alloc, &places)?;
     Ok(State {
         heap,
         threads,
         live: 1,
         statics,
         classes,
-        literals: Vec::new(alloc),
+        literals,
         monitors: Vec::new(alloc),
         output: Vec::new(alloc),
         stop: None,

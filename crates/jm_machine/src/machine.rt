@@ -53,16 +53,19 @@ impl<H: Heap + Drop> Machine<H> {
 
     /// The machine from which a run of a linked program begins in which nothing comes later (what
     /// `jm_linker::link` answers is so), over an empty heap whose next serial is 0: `System.out` and
-    /// the empty array that main is given are made, each other static field is zero or null, main's
+    /// the empty array that main is given are made, and then of each string literal, in order, the
+    /// array of its chars and its String (JVMS 5.1); each other static field is zero or null, main's
     /// frame stands below the initialization of its class (JVMS 5.2), and no class of the program is
-    /// begun. `HeapTooSmall`: exactly where the first objects pass the heap's limit. What it took
-    /// is dropped after a refusal.
+    /// begun. `HeapTooSmall`: exactly where the first objects, those of the literals among them, pass
+    /// the heap's limit. `OutOfMemory`: a growth was refused, or a literal has 2^32 code units or
+    /// more, which no array has. What it took is dropped after a refusal.
     pub fn load(alloc: Global, linked: Linked, heap: H) -> Result<Machine<H>, LoadFault>
         requires not_later { later_part linked.program ≡ None }
         requires empty { IsEmpty (H.content heap) }
         ensures { Loaded result linked.program (H.content heap).limit }
     {
-        if is_too_small(&linked, heap.limit()) {
+        let limit = heap.limit();
+        if is_too_small(&linked, limit) {
             return Err(LoadFault::HeapTooSmall);
         }
         let Ok(state) = make_first_state(alloc, &linked, heap) else {

@@ -2,10 +2,13 @@
 //! writers in memory. What is expected was worked out by hand, by JVMS and by the rules for `jm run`
 //! and `jm asm`; printed lines are compared byte for byte.
 //!
-//! `heap` runs the functions of `jm_mutator` for each kind of heap, `linking` links small programs,
-//! `machine` makes events and reads the machine after each, `jobs` does jobs from files to a status.
+//! `calls` hands arguments over, `heap` runs the functions of `jm_mutator` for each kind of heap,
+//! `linking` links small programs, `machine` makes events and reads the machine after each, `jobs` does
+//! jobs from files to a status.
 #![tactic(auto)]
 
+#[cfg(test)]
+mod calls;
 #[cfg(test)]
 mod class_file;
 #[cfg(test)]

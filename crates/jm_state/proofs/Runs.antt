@@ -1,5 +1,5 @@
 -- What keeps to the rules of a run depends on no reference.
-use Rattle.std.proofs.Common.{◌≡◌, ◌≢◌, ℕ, ◌+◌, ◌≤◌, ◌∷◌, List, [], Option, Some, None, true, false, length, refl, sym, ap, ◌∙◌, subst}
+use Rattle.std.proofs.Common.{◌≡◌, ℕ, ◌+◌, ◌≤◌, ◌∷◌, List, [], Option, Some, None, true, false, length, refl, sym, ap, ◌∙◌, subst}
 use Rattle.std.specs.Prelude.{◌↔◌, map, option_map}
 use Rattle.std.specs.List.{AllByRecursion}
 use Rattle.std.proofs.lemmas.List.{length-map}
@@ -9,13 +9,12 @@ use Rattle.jm_values.proofs.Erasing.{Leaves, value_leaves, option_leaves, list_l
 use Rattle.jm_values.proofs.Lists.{all_mapped}
 use Rattle.jm_world.specs.Frames.{number_shape, optional_number_shape}
 use Rattle.jm_world.specs.World.{live_among, is_running}
-use Rattle.jm_world.specs.declared.class_state.ClassState.TheVariants.{Failed}
 use Rattle.jm_world.specs.declared.stop.Stop.{Stop}
 use Rattle.jm_linked.specs.Links.{LinkedView}
 use Rattle.jm_state.specs.Parts.{part_of_held, ending_part}
 use Rattle.jm_state.specs.Places.{with_method_holders, stack_frame_shape, rename_stack_frame, HeldThread, held_thread, held_thread_shape, held_monitor_shape}
 use Rattle.jm_state.specs.Places.{with_thread_holders, Holders, holders, holders_shape, erased, OnlyMoved, IsPutBack}
-use Rattle.jm_state.specs.Runnable.{FrameRuns, IsMethodFrame, FrameNotYet, StandOnTop, ThreadRuns, ThreadNotYet, IsRunnable}
+use Rattle.jm_state.specs.Runnable.{FrameRuns, FrameNotYet, ThreadRuns, ThreadNotYet, IsRunnable}
 use Rattle.jm_state.specs.View.{StateView}
 use Rattle.jm_state.specs.declared.monitor.Monitor.{Monitor}
 use Rattle.jm_state.specs.declared.thread.Ending.{Ending}
@@ -84,15 +83,6 @@ frame_not_yet : (l : LinkedView) (f : StackFrame) → FrameNotYet l f ↔ FrameN
 frame_not_yet l (Method f) = let free = none_same f.monitor in (λ r. (r.0, free.0 r.1), λ r. (r.0, free.1 r.1))
 frame_not_yet l (Initialization class stage) = (λ r. r, λ r. r)
 
-method_same : (f : StackFrame) → IsMethodFrame f ↔ IsMethodFrame (erased_frame f)
-method_same (Method f) = (λ r. r, λ r. r)
-method_same (Initialization class stage) = (λ r. r, λ r. r)
-
-top_same : (pending : Option ℕ) (fs : List StackFrame) → StandOnTop pending fs ↔ StandOnTop (option_map {U = ℕ} (λ (p : ℕ). 0) pending) (map erased_frame fs)
-top_same pending [] = (λ r. tt, λ r. tt)
-top_same None (f ∷ fs) = all_mapped IsMethodFrame IsMethodFrame erased_frame method_same fs
-top_same (Some k) (f ∷ fs) = all_mapped IsMethodFrame IsMethodFrame erased_frame method_same (f ∷ fs)
-
 object_same : (t : HeldThread) → (t.object ≡ None) ↔ ((erase t).object ≡ None)
 object_same t = by t.ending t.object
   where
@@ -112,10 +102,9 @@ thread_same l t =
 not_yet_same : (l : LinkedView) (t : HeldThread) → ThreadNotYet l t ↔ ThreadNotYet l (erase t)
 not_yet_same l t =
     let object = object_same t in
-    let frames = all_mapped (FrameNotYet l) (FrameNotYet l) erased_frame (frame_not_yet l) t.frames in
-    let initializers = top_same t.pending t.frames in (
-      λ r. record { object = object.0 r.object; frames = frames.0 r.frames; initializers = initializers.0 r.initializers },
-      λ r. record { object = object.1 r.object; frames = frames.1 r.frames; initializers = initializers.1 r.initializers },
+    let frames = all_mapped (FrameNotYet l) (FrameNotYet l) erased_frame (frame_not_yet l) t.frames in (
+      λ r. record { object = object.0 r.object; frames = frames.0 r.frames },
+      λ r. record { object = object.1 r.object; frames = frames.1 r.frames },
     )
 
 -- what erasing keeps holds of each of two lists of threads that are the same when erased
@@ -153,7 +142,6 @@ runs_alike {l} {old} {new} m r =
         program = r.not_yet.program;
         threads = each_alike (ThreadNotYet l) (not_yet_same l) (map held_thread old.threads) (map held_thread new.threads) threads r.not_yet.threads;
         monitors = still_none (held_monitor_shape.rename (λ p. 0)) new.monitors (monitors ∙ ap (map (held_monitor_shape.rename (λ p. 0))) r.not_yet.monitors);
-        failures = subst (AllByRecursion (λ s. s ≢ Failed)) (sym m.classes) r.not_yet.failures;
       };
     }
 
@@ -172,5 +160,5 @@ runs_still output stop r = record {
   statics = r.statics;
   literals = r.literals;
   classes = r.classes;
-  not_yet = record { program = r.not_yet.program; threads = r.not_yet.threads; monitors = r.not_yet.monitors; failures = r.not_yet.failures };
+  not_yet = record { program = r.not_yet.program; threads = r.not_yet.threads; monitors = r.not_yet.monitors };
 }

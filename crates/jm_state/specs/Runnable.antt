@@ -1,9 +1,8 @@
 -- What every state of a run of a linked program keeps to, beside its world.
-use Rattle.std.specs.Prelude.{◌≡◌, ◌≢◌, ◌<◌, ◌≤◌, ℕ, List, [], ◌∷◌, length, map, Option, Some, None}
+use Rattle.std.specs.Prelude.{◌≡◌, ◌<◌, ◌≤◌, [], length, map, None}
 use Rattle.std.specs.List.{AllByRecursion}
 use Rattle.jm_world.specs.World.{live_among}
 use Rattle.jm_world.specs.Loading.{first_statics, literal_texts}
-use Rattle.jm_world.specs.declared.class_state.ClassState.TheVariants.{Failed}
 use Rattle.jm_linked.specs.Later.{later_part}
 use Rattle.jm_linked.specs.Links.{LinkedView}
 use Rattle.jm_state.specs.Parts.{thread_part}
@@ -22,36 +21,21 @@ pub record ThreadRuns (l : LinkedView) (t : HeldThread) : Type 0 where
   pub frames : AllByRecursion (FrameRuns l) t.frames
   pub few : length t.frames ≤ 512
 
--- of main, and of no monitor, as no invoke is made yet; of the main class, as no other is initialized
+-- a method frame is of main, and of no monitor, as no invoke is made yet
 abbrev pub FrameNotYet : LinkedView → StackFrame → Type 0
 FrameNotYet l (Method f) = (f.method ≡ l.main) × (f.monitor ≡ None)
-FrameNotYet l (Initialization class stage) = class ≡ 0
+FrameNotYet l (Initialization class stage) = Unit {0}
 
-abbrev pub IsMethodFrame : StackFrame → Type 0
-IsMethodFrame (Method f) = Unit {0}
-IsMethodFrame (Initialization class stage) = ⊥
-
--- an initialization frame stands on top alone, and none where an exception is pending: the frames
--- with the top first
-abbrev pub StandOnTop : Option ℕ → List StackFrame → Type 0
-StandOnTop pending [] = Unit {0}
-StandOnTop None (f ∷ fs) = AllByRecursion IsMethodFrame fs
-StandOnTop (Some k) (f ∷ fs) = AllByRecursion IsMethodFrame (f ∷ fs)
-
--- what no thread comes to while linking refuses the use of Thread, invokes, what initializes another
--- class than main's, and <clinit>
+-- what no thread comes to while linking refuses the use of Thread and invokes
 pub record ThreadNotYet (l : LinkedView) (t : HeldThread) : Type 0 where
   pub object : t.object ≡ None
   pub frames : AllByRecursion (FrameNotYet l) t.frames
-  pub initializers : StandOnTop t.pending t.frames
 
--- and no state: a program in which nothing comes later is loaded, so that no monitor is held, and
--- no <clinit> fails its class
+-- and no state: a program in which nothing comes later is loaded, so that no monitor is held
 pub record NotYet (l : LinkedView) (s : StateView) : Type 0 where
   pub program : later_part l.program ≡ None
   pub threads : AllByRecursion (ThreadNotYet l) (map held_thread s.threads)
   pub monitors : s.monitors ≡ []
-  pub failures : AllByRecursion (λ state. state ≢ Failed) s.classes
 
 pub record IsRunnable (l : LinkedView) (s : StateView) : Type 0 where
   pub threads : AllByRecursion (ThreadRuns l) (map held_thread s.threads)

@@ -8,10 +8,10 @@ use std::alloc::Global;
 use std::process::Abort;
 use std::test::Fail;
 
-// A row is a line of columns with ` | ` between them: `run` or `asm`, the names of the program's files
-// or the text's name, what stands in them, the schedule of a run, what is written, the lines on
-// standard error, and the number of the status. Between files stands ` & `. `-` is nothing; `files`
-// says what the columns of bytes mean.
+// A row is a line of columns with ` | ` between them: `run`, behind which the heap's cells may stand,
+// or `asm`; the names of the program's files or the text's name; what stands in them; the schedule of a
+// run; what is written; the lines on standard error; and the number of the status. Between files stands
+// ` & `. `-` is nothing; `files` says what the columns of bytes mean.
 const RUNS: &str = "\
 # three stages of initialization and six instructions
 run | Main.class | @class sum | t 1 x 9~ | 5~ | - | 0
@@ -53,6 +53,33 @@ run | Main.j | @print aconst_null / iconst_0 / iaload | t 1 x 8~ | - | jm: threa
 run | Main.j | @print iconst_2 / newarray int / iconst_2 / iaload | t 1 x 9~ | - | jm: thread 1 ended by java/lang/ArrayIndexOutOfBoundsException~ | 3
 run | Main.j | @print iconst_2 / newarray int / iconst_m1 / iaload | t 1 x 9~ | - | jm: thread 1 ended by java/lang/ArrayIndexOutOfBoundsException~ | 3
 run | Main.j | @print ldc 65536 / newarray int / arraylength | t 1 x 9~ | - | jm: 62 HeapFull~ | 6
+# arrays of references, and of arrays (JVMS 6.5 `anewarray`)
+run | Main.j | @print iconst_3 / anewarray java/lang/Object / arraylength | t 1 x 9~ | 3~ | - | 0
+run | Main.j | @print iconst_2 / anewarray [I / iconst_1 / aaload / ifnull A / iconst_0 / goto B / A: / iconst_1 / B: | t 1 x 12~ | 1~ | - | 0
+run | Main.j | @print iconst_2 / anewarray Main / iconst_2 / aaload / arraylength | t 1 x 9~ | - | jm: thread 1 ended by java/lang/ArrayIndexOutOfBoundsException~ | 3
+run | Main.j | @print iconst_2 / anewarray Main / iconst_1 / iaload | t 1 x 8~ | - | jm: 60 TagFault(WrongKind)~ | 5
+run | Main.j | @print iconst_m1 / anewarray Main / arraylength | t 1 x 7~ | - | jm: thread 1 ended by java/lang/NegativeArraySizeException~ | 3
+# stores, which narrow (JVMS 6.5 `bastore`, `castore`, `sastore`)
+run | Main.j | @print iconst_2 / newarray int / dup / iconst_1 / bipush 7 / iastore / iconst_1 / iaload | t 1 x 14~ | 7~ | - | 0
+run | Main.j | @print iconst_2 / newarray int / dup / iconst_1 / bipush 7 / iastore / iconst_0 / iaload | t 1 x 14~ | 0~ | - | 0
+run | Main.j | @print iconst_1 / newarray byte / dup / iconst_0 / sipush 456 / bastore / iconst_0 / baload | t 1 x 14~ | -56~ | - | 0
+run | Main.j | @print iconst_1 / newarray boolean / dup / iconst_0 / iconst_3 / bastore / iconst_0 / baload | t 1 x 14~ | 1~ | - | 0
+run | Main.j | @print iconst_1 / newarray char / dup / iconst_0 / iconst_m1 / castore / iconst_0 / caload | t 1 x 14~ | 65535~ | - | 0
+run | Main.j | @print iconst_1 / newarray short / dup / iconst_0 / ldc 40000 / sastore / iconst_0 / saload | t 1 x 14~ | -25536~ | - | 0
+run | Main.j | @print iconst_1 / newarray long / dup / iconst_0 / ldc2_w 9 / lastore / iconst_0 / laload / l2i | t 1 x 15~ | 9~ | - | 0
+run | Main.j | @print aconst_null / iconst_0 / iconst_1 / iastore / iconst_0 | t 1 x 9~ | - | jm: thread 1 ended by java/lang/NullPointerException~ | 3
+run | Main.j | @print iconst_1 / newarray int / iconst_1 / iconst_1 / iastore / iconst_0 | t 1 x 10~ | - | jm: thread 1 ended by java/lang/ArrayIndexOutOfBoundsException~ | 3
+run | Main.j | @print iconst_1 / newarray int / iconst_0 / iconst_1 / bastore / iconst_0 | t 1 x 9~ | - | jm: 60 TagFault(WrongKind)~ | 5
+";
+
+// String literals: the load makes each an array of chars and a String, 3 cells and its letters and 3
+// cells beside the first 5 (JVMS 5.1), and equal ones are one.
+const LITERALS: &str = "\
+run 19 | Main.j | .class Main~.super java/lang/Object~.method static main([Ljava/lang/String;)V~ldc \"abcdefgh\"~pop~return~.end method~ | t 1 x 6~ | - | - | 0
+run 18 | Main.j | .class Main~.super java/lang/Object~.method static main([Ljava/lang/String;)V~ldc \"abcdefgh\"~pop~return~.end method~ | t 1 x 6~ | - | jm: 63 HeapTooSmall~ | 4
+run | Main.j | @print ldc \"x\" / ldc \"x\" / if_acmpeq A / iconst_0 / goto B / A: / iconst_1 / B: | t 1 x 10~ | 1~ | - | 0
+run | Main.j | @print ldc \"x\" / ldc \"y\" / if_acmpeq A / iconst_0 / goto B / A: / iconst_1 / B: | t 1 x 11~ | 0~ | - | 0
+run | Main.j | @print ldc \"\" / ldc \"x\" / pop / ldc \"\" / if_acmpeq A / iconst_0 / goto B / A: / iconst_1 / B: | t 1 x 8~full~t 1 x 5~ | 1~ | - | 0
 ";
 
 const PROGRAM_FILES: &str = "\
@@ -93,6 +120,10 @@ run | Main.class & A.j | @class by zero & @empty A | t 1 x 7~ | - | jm: thread 1
 run | sum.j & A.j | @sum text & .class A~.super Main~.implements java/lang/Cloneable~.field x J~.field static y [I~.method f(I)I~.limit locals 2~iload_1~ireturn~.end method~ | t 1 x 9~ | 5~ | - | 0
 run | sum.j & A.j & I.j | @sum text & .class abstract A~.super java/lang/Object~.implements I~ & .interface I~.super java/lang/Object~.method public abstract g()J~.end method~ | t 1 x 9~minor~full~ | 5~ | - | 0
 run | Main.j | .class Main~.super java/lang/Object~.field static x J~.field y LMain;~.method static f()V~return~.end method~.method static main([Ljava/lang/String;)V~.limit stack 2~getstatic java/lang/System/out Ljava/io/PrintStream;~bipush 7~invokevirtual java/io/PrintStream/println(I)V~return~.end method~ | t 1 x 3~full~t 1 x 4~ | 7~ | - | 0
+# main's superclasses are initialized first, three stages each
+run | Main.j & A.j & B.j | .class Main~.super A~.method static main([Ljava/lang/String;)V~.limit stack 2~getstatic java/lang/System/out Ljava/io/PrintStream;~bipush 7~invokevirtual java/io/PrintStream/println(I)V~return~.end method~ & .class A~.super B~ & @empty B | t 1 x 13~ | 7~ | - | 0
+run | Main.j & A.j & B.j | .class Main~.super A~.method static main([Ljava/lang/String;)V~.limit stack 2~getstatic java/lang/System/out Ljava/io/PrintStream;~bipush 7~invokevirtual java/io/PrintStream/println(I)V~return~.end method~ & .class A~.super B~ & @empty B | t 1 x 12~ | 7~ | jm: 1 threads not ended~ | 8
+run | Main.j | .class Main~.super java/lang/Exception~.method static main([Ljava/lang/String;)V~return~.end method~ | t 1 x 4~ | - | - | 0
 # what comes later, in a class beside main
 run | sum.j & A.j | @sum text & .class A~.super java/lang/Thread~ | ? | - | jm: 16 Later(java/lang/Thread)~ | 4
 # the first file's class is the main class
@@ -148,10 +179,16 @@ asm | sum.j | @far text | - | - | jm: sum.j: 14 BranchTooFar~ | 4
 asm | sum.j | @long text | - | - | jm: sum.j: 36 TooMany~ | 4
 ";
 
-// The run of a program's files by a schedule.
-fn run_job(alloc: Global, names: &str, program: &str, schedule: &str) -> Result<Job, Fail> {
+// The run of a program's files by a schedule, with a heap of so many cells.
+fn run_job(
+    alloc: Global,
+    heap: u32,
+    names: &str,
+    program: &str,
+    schedule: &str,
+) -> Result<Job, Fail> {
     Ok(Job::Run(RunJob {
-        heap: 65_536,
+        heap,
         schedule: file_of(alloc, "events", schedule)?,
         program: files_of(alloc, names, program)?,
     }))
@@ -165,7 +202,7 @@ fn assembly_job(alloc: Global, name: &str, text: &str) -> Result<Job, Fail> {
     }))
 }
 
-/// The job of a row's first columns: `run` or `asm`, the names of the files, what stands in them, and the
+/// The job of a row's first columns: `run`, behind which the heap's cells may stand, or `asm`, the names of the files, what stands in them, and the
 /// schedule of a run.
 pub fn job_of(
     alloc: Global,
@@ -175,9 +212,12 @@ pub fn job_of(
     schedule: &str,
 ) -> Result<Job, Fail> {
     match which {
-        "run" => run_job(alloc, name, file, schedule),
+        "run" => run_job(alloc, 65_536, name, file, schedule),
         "asm" => assembly_job(alloc, name, file),
-        _ => Err(Fail::from("no job of that name")),
+        _ => match which.strip_prefix("run ") {
+            Some(heap) => run_job(alloc, heap.parse()?, name, file, schedule),
+            None => Err(Fail::from("no job of that name")),
+        },
     }
 }
 
@@ -257,7 +297,12 @@ fn runs_end_as_their_rows_say(rt: HostRuntime) -> Result<(), Fail> {
 
 #[test]
 fn arrays_answer_as_java_does(rt: HostRuntime) -> Result<(), Fail> {
-    check_rows(&rt, rt.alloc(), ARRAYS, 13)
+    check_rows(&rt, rt.alloc(), ARRAYS, 28)
+}
+
+#[test]
+fn literals_are_made_by_the_load(rt: HostRuntime) -> Result<(), Fail> {
+    check_rows(&rt, rt.alloc(), LITERALS, 5)
 }
 
 #[test]
@@ -267,7 +312,7 @@ fn program_files_are_known_by_their_names(rt: HostRuntime) -> Result<(), Fail> {
 
 #[test]
 fn several_files_are_one_program(rt: HostRuntime) -> Result<(), Fail> {
-    check_rows(&rt, rt.alloc(), SEVERAL_FILES, 28)
+    check_rows(&rt, rt.alloc(), SEVERAL_FILES, 31)
 }
 
 #[test]

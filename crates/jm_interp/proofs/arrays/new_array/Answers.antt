@@ -1,20 +1,24 @@
 use Rattle.std.proofs.Common.{sym, ap, ◌∙◌, subst, drop}
 use Rattle.jm_world.specs.Here.{push_new}
 use Rattle.jm_world.specs.Matches.{as_named}
+use Rattle.jm_world.specs.Types.{primitive_type}
 use Rattle.jm_heap.specs.NewObject.{new_object}
 use Rattle.jm_heap.specs.declared.shape.Shape.TheVariants as shape
 use Rattle.jm_state.specs.Parts.{named_type}
 use Rattle.jm_interp.specs.TopObject.{StepIs}
-use Rattle.jm_interp.proofs.ArrayRows.{new_is}
+use Rattle.jm_interp.proofs.ArrayRows.{makes_base, new_is}
 use Rattle.jm_interp.proofs.arrays.new_array.Goals as goal
 
 pub make_on_top-requires-clause-step : goal.make_on_top-requires-clause-step
 make_on_top-requires-clause-step g c =
-    let counts = c.in-Ok.ensures c.args.element c.requires in
+    let counts = c.in-Ok.ensures (primitive_type c.args.element) (makes_base c.args.element c.requires) in
     let program = c.args.at.linked.now.program in
     let made = ap (λ k. as_named (named_type program) (new_object (shape.Array k c.in-Ok.length))) c.component_of-component.ensures in
     let is = made ∙ new_is program c.args.element c.in-Ok.length in
     subst (λ o. StepIs g.H.Heap.content c.args.at c.args.state.now (λ here. push_new here o (drop 1 here.frame.stack))) (sym is) counts.0
 
 pub make_on_top-requires-clause-room : goal.make_on_top-requires-clause-room
-make_on_top-requires-clause-room g c = (c.in-Ok.ensures c.args.element c.requires).1
+make_on_top-requires-clause-room g c = (c.in-Ok.ensures (primitive_type c.args.element) (makes_base c.args.element c.requires)).1
+
+pub refuse-requires-clause-refused : goal.refuse-requires-clause-refused
+refuse-requires-clause-refused g c = c.in-Err.ensures (primitive_type c.args.element) (makes_base c.args.element c.requires)

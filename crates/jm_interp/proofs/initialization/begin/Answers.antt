@@ -1,25 +1,25 @@
 use Rattle.std.proofs.Common.{refl, inl, inr, arith}
-use Rattle.jm_interp.proofs.Initialized.{class_within, skips, waits, begins, not_failed}
+use Rattle.jm_interp.proofs.Initialized.{class_within, own, skips, waits, begins, refuses}
 use Rattle.jm_interp.proofs.OnThread.{within, numbered, read}
 use Rattle.jm_interp.proofs.initialization.begin.Goals as goal
 
 pub index-requires : goal.index-requires
-index-requires g c = class_within c.requires.1
+index-requires g c = class_within c.requires.1 c.args.class (own c.requires.1)
 
 pub overflow_add-at : goal.overflow_add-at
 overflow_add-at g c = omega (arith, numbered c.requires.1)
 
 pub returns-in-Done : goal.returns-in-Done
-returns-in-Done g c = skips c.requires.1 c.index.ensures 0 (inl c.in-Done.is) c.skip.ensures
+returns-in-Done g c = skips c.requires.1 c.index.ensures 0 (inl c.in-Done.is) c.leave_frame.ensures
 
 pub returns-then-owner-at : goal.returns-then-owner-at
 returns-then-owner-at g c = waits c.requires.1 c.index.ensures c.in-InProgress.is c.if-owner-at.true
 
 pub returns-else-owner-at : goal.returns-else-owner-at
-returns-else-owner-at g c = skips c.requires.1 c.index.ensures _ (inr (c.in-InProgress.is, c.if-owner-at.false)) c.skip-in-InProgress.ensures
+returns-else-owner-at g c = skips c.requires.1 c.index.ensures _ (inr (c.in-InProgress.is, c.if-owner-at.false)) c.leave_frame-in-InProgress.ensures
 
 pub index_mut-requires : goal.index_mut-requires
-index_mut-requires g c = class_within c.requires.1
+index_mut-requires g c = class_within c.requires.1 c.args.class (own c.requires.1)
 
 pub index_mut-requires-in-NotBegun : goal.index_mut-requires-in-NotBegun
 index_mut-requires-in-NotBegun g c = within c.requires.1
@@ -36,5 +36,14 @@ returns-in-NotBegun g c =
     (record { threads = refl; statics = refl; literals = refl; monitors = refl; heap = refl; stop = refl }) refl refl refl
     (c.go_to_stage.ensures _ _ _ (read c.requires.1 c.index_mut-in-NotBegun.ensures.value))
 
-pub unreachable-requires : goal.unreachable-requires
-unreachable-requires g c = not_failed c.requires.1 c.index.ensures c.in-Failed.is
+pub leave_frame-requires : goal.leave_frame-requires
+leave_frame-requires g c = record { frames = _; pending = _; on = c.requires.1 }
+
+pub leave_frame-requires-in-InProgress : goal.leave_frame-requires-in-InProgress
+leave_frame-requires-in-InProgress g c = record { frames = _; pending = _; on = c.requires.1 }
+
+pub refuse_class-requires : goal.refuse_class-requires
+refuse_class-requires g c = record { frames = _; pending = _; on = c.requires.1 }
+
+pub returns-in-Failed : goal.returns-in-Failed
+returns-in-Failed g c = refuses c.requires.1 c.index.ensures c.in-Failed.is c.refuse_class.ensures

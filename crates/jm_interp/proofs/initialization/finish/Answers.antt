@@ -1,18 +1,15 @@
 use Rattle.std.proofs.Common.{refl}
-use Rattle.jm_interp.proofs.Initialized.{class_within, finished}
+use Rattle.jm_interp.proofs.Initialized.{class_within, own, finished}
 use Rattle.jm_interp.proofs.OnThread.{within, read}
 use Rattle.jm_interp.proofs.initialization.finish.Goals as goal
 
 pub index_mut-requires : goal.index_mut-requires
-index_mut-requires g c = class_within c.requires.2
+index_mut-requires g c = class_within c.requires.2 c.args.class (own c.requires.2)
 
 pub index_mut-requires-2 : goal.index_mut-requires-2
 index_mut-requires-2 g c = within c.requires.2
 
-pub drop_top-requires : goal.drop_top-requires
-drop_top-requires g c = (_, _, _, read c.requires.2 c.index_mut-2.ensures.value)
-
 pub returns : goal.returns
 returns g c =
     finished c.requires.2 (record { threads = refl; statics = refl; literals = refl; monitors = refl; heap = refl; stop = refl }) refl refl refl
-    (c.drop_top.ensures _ _ _ (read c.requires.2 c.index_mut-2.ensures.value))
+    (c.drop_top.ensures _ _ (read c.requires.2 c.index_mut-2.ensures.value))

@@ -1,41 +1,43 @@
-use Rattle.std.proofs.Common.{refl, [], ◌∷◌, None, sym, ap, ◌∙◌, subst}
+use Rattle.std.proofs.Common.{refl, [], ◌∷◌, None, ap, ◌∙◌}
 use Rattle.jm_values.specs.declared.value.Value.TheVariants.{Ref}
-use Rattle.jm_world.specs.Loading.{loaded_world}
-use Rattle.jm_world.specs.Matches.{Matches}
-use Rattle.jm_state.specs.Parts.{parts}
-use Rattle.jm_state.specs.Runnable.{IsRunnable}
+use Rattle.jm_world.specs.Loading.{literal_texts}
 use Rattle.jm_state.specs.declared.thread.Ending.TheVariants.{Running}
 use Rattle.jm_state.specs.declared.thread.Thread as held
 use Rattle.jm_machine.specs.StaticFields.{static_values}
 use Rattle.jm_machine.proofs.Folds.{pushed}
-use Rattle.jm_machine.proofs.Started.{started, starts, has_room, counted}
+use Rattle.jm_machine.proofs.Literals.{first_of, has_room}
+use Rattle.jm_machine.proofs.Started.{begun, counted}
 use Rattle.jm_machine.proofs.load.make_first_state.Goals as goal
 
 pub make_first_objects-requires-clause-room : goal.make_first_objects-requires-clause-room
-make_first_objects-requires-clause-room g c = has_room c.args.linked.now _ c.requires.not_later c.requires.room
+make_first_objects-requires-clause-room g c =
+    let linked = c.classes-program.ensures.linked in
+    has_room c.args.linked.now.program c.literals.result.now _ (c.literals.ensures ∙ linked.literals) c.requires.room
 
-pub returns-clause-loaded : goal.returns-clause-loaded
-returns-clause-loaded g c =
+pub returns : goal.returns
+returns g c =
     let l = c.args.linked.now in
-    let first = c.in_ok-first.first in
+    let linked = c.classes-program.ensures.linked in
+    let out = c.get-out.result in
+    let first = first_of _ (literal_texts l.program) _ _ _ _ _ (c.literals.ensures ∙ linked.literals) c.in_ok-places.ensures.holds
+    c.get-out.ensures c.get-arguments.ensures c.in_ok-literals.ensures in
     let t : held.Thread = record { object = None; frames = c.in_ok-frames.frames; pending = None; ending = Running } in
     let threads = pushed c.in_ok-threads.threads.items c.push_reserved.new.self.items [] t c.push_reserved.ensures.items c.in_ok-threads.ensures.items in
-    let statics = c.in_ok-statics.ensures ∙ ap (λ cs. Ref first.out ∷ static_values cs) c.classes-program.ensures.classes in
+    let statics = c.in_ok-statics.ensures ∙ ap (λ cs. Ref out ∷ static_values cs) c.classes-program.ensures.classes in
     let states = c.in_ok-classes.classes.items in
-    subst (λ v. Matches (parts l (g.H.Heap.content c.make_first_objects.new.heap) v) (loaded_world l.program (g.H.Heap.content c.args.heap).limit))
-    (λ j. record { threads = sym threads j; live = 1; statics = sym statics j; classes = states; literals = sym c.new.ensures.items j; monitors = sym c.new-2.ensures.items j; output = sym c.new-3.ensures.items j; stop = None })
-    (started l c.classes-program.ensures.linked c.requires.not_later first.out first.arguments t (record { object = refl; frames = c.in_ok-frames.ensures; pending = refl; ending = refl }) _ _ states c.in_ok-first.ensures
-    (counted c.classes-program.result.now l.program states c.in_ok-classes.ensures c.classes-program.ensures.classes))
-
-pub returns-clause-runs : goal.returns-clause-runs
-returns-clause-runs g c =
-    let l = c.args.linked.now in
-    let first = c.in_ok-first.first in
-    let t : held.Thread = record { object = None; frames = c.in_ok-frames.frames; pending = None; ending = Running } in
-    let threads = pushed c.in_ok-threads.threads.items c.push_reserved.new.self.items [] t c.push_reserved.ensures.items c.in_ok-threads.ensures.items in
-    let statics = c.in_ok-statics.ensures ∙ ap (λ cs. Ref first.out ∷ static_values cs) c.classes-program.ensures.classes in
-    let states = c.in_ok-classes.classes.items in
-    subst (IsRunnable l)
-    (λ j. record { threads = sym threads j; live = 1; statics = sym statics j; classes = states; literals = sym c.new.ensures.items j; monitors = sym c.new-2.ensures.items j; output = sym c.new-3.ensures.items j; stop = None })
-    (starts l c.classes-program.ensures.linked c.requires.not_later first.out first.arguments t (record { object = refl; frames = c.in_ok-frames.ensures; pending = refl; ending = refl }) states
-    (counted c.classes-program.result.now l.program states c.in_ok-classes.ensures c.classes-program.ensures.classes))
+    let strings = c.in_ok-literals.literals.items in
+    let both = begun l linked c.requires.not_later out c.get-arguments.result t
+    (record { object = refl; frames = c.in_ok-frames.ensures; pending = refl; ending = refl }) strings first.1
+    _ _ states first.0 c.in_ok-places.ensures.limit
+    (counted c.classes-program.result.now l.program states c.in_ok-classes.ensures c.classes-program.ensures.classes)
+    _ (λ j. record {
+      threads = threads j;
+      live = 1;
+      statics = statics j;
+      classes = states;
+      literals = strings;
+      monitors = c.new.ensures.items j;
+      output = c.new-2.ensures.items j;
+      stop = None;
+    }) in
+    record { loaded = both.0; runs = both.1 }
