@@ -16,7 +16,6 @@
 #![tactic(auto)]
 
 mod assembly;
-mod class_name;
 mod ends;
 mod events;
 mod execution;

@@ -7,12 +7,12 @@ ghost use Rattle.jm_machine.specs.View.{MatchesWorld};
 ghost use Rattle.jm_execute.specs.Written.{WritesLines, words};
 ghost use Rattle.jm_execute.specs.Reports.{ended_line, thread_line, thread_lines, stop_text, live_line, last_line, report, memory_line};
 
-use crate::class_name::ClassName;
 use crate::number::Number;
 use crate::watchable::{Watchable, WriteFailed};
 use crate::watched::Watched;
 use jm_heap::Heap;
 use jm_machine::Machine;
+use jm_text::Utf8;
 use jm_world::Stop;
 use std::fmt;
 use std::fmt::Display;
@@ -25,7 +25,7 @@ fn write_ended<W: Watchable>(
     ensures { WritesLines (words W.contents W.ends) result err.old err.new (ended_line number class.now) }
 {
     let number = Number(number);
-    let class = ClassName(class);
+    let class = Utf8(class);
     err.write_line(format_args!("jm: thread {number} ended by {class}"))
 }
 

@@ -18,8 +18,10 @@ pub mod OnTop
 pub mod MadeOnTop
 pub mod ArrayRows
 pub mod ArrayStores
+pub mod TypeRows
 pub mod ReturnRow
 pub mod Arguments
+pub mod StringText
 pub mod PrintRow
 pub mod Unwound
 pub mod Initialized

@@ -26,6 +26,7 @@ use Rattle.jm_world.specs.Resolution.{select, instance_along}
 use Rattle.jm_builtins.specs.List.{print_stream}
 use Rattle.jm_world.specs.Classes.{FoundMethod, as_class, object_class, print_stream_class}
 use Rattle.jm_world.specs.Types.{ObjectType, class_type, type_of_object}
+use Rattle.jm_world.specs.Matches.{places}
 use Rattle.jm_world.specs.World.{World}
 use Rattle.jm_values.specs.Content.{Content, name_of, serial_at, object_at}
 use Rattle.jm_world.specs.Loads.{Loads}
@@ -45,8 +46,9 @@ use Rattle.jm_state.specs.declared.thread.StackFrame.TheVariants.{Method}
 use Rattle.jm_state.specs.declared.thread.Thread as held
 use Rattle.jm_interp.specs.declared.print_operands.Printing.{Printing}
 use Rattle.jm_interp.specs.declared.print_operands.Text.{Text}
-use Rattle.jm_interp.specs.Printing.{printing_of, left_by, text_bytes, line_bytes, is_print_stream}
-use Rattle.jm_interp.proofs.Arguments.{arguments_of, IsOf, int, long, char, Fits, AllFit, received, receives, all_fit}
+use Rattle.jm_interp.specs.declared.print_operands.Text.TheVariants as text
+use Rattle.jm_interp.specs.Printing.{printing_of, left_by, arguments_of, with_bytes, string_in, line_bytes, is_print_stream, TextAmong, TextGives, TextHalts}
+use Rattle.jm_interp.proofs.Arguments.{IsOf, int, long, char, string, Fits, AllFit, received, receives, all_fit}
 use Rattle.jm_linked.proofs.PrintStreams.{ref_is, stream_selects, stream_below_itself, no_stream, other_name}
 use Rattle.std.specs.Prelude.{slice_index_or, Result}
 use Rattle.jm_linked.specs.Links.{Links}
@@ -54,16 +56,17 @@ use Rattle.jm_frames.specs.FrameView.{FrameView}
 use Rattle.jm_world.specs.declared.stop.Stop.TheVariants as why
 use Rattle.jm_state.specs.Runnable.{StateRuns}
 use Rattle.jm_state.specs.declared.halt.Halt.{Halt}
-use Rattle.jm_state.specs.declared.halt.Halt.TheVariants.{Stopped}
+use Rattle.jm_state.specs.declared.halt.Halt.TheVariants.{Stopped, OutOfMemory}
 use Rattle.jm_state.specs.declared.halt.StepEnd.{StepEnd}
 use Rattle.jm_state.specs.declared.halt.StepEnd.TheVariants.{Done}
 use Rattle.jm_state.specs.declared.thread.StackFrame.{StackFrame}
 use Rattle.jm_interp.specs.declared.at.At.{At}
-use Rattle.jm_interp.specs.At.{StandsOn, Does, Steps}
+use Rattle.jm_interp.specs.At.{parts_at, StandsOn, Does, Steps}
 use Rattle.jm_interp.specs.Standing.{Stands, ThreadRest, running}
 use Rattle.jm_interp.proofs.Here.{place, row_is, top_held, inside_with, part_with}
 use Rattle.jm_interp.proofs.Objects.{IsObject, object_of, told}
-use Rattle.jm_interp.proofs.OnThread.{Leads, model, read, does_as, stops, runs_with, goes_to, with_thread_at, ChangedTo}
+use Rattle.jm_interp.proofs.StringText.{text_told, text_untold}
+use Rattle.jm_interp.proofs.OnThread.{Leads, model, read, does_as, stops, refused, runs_with, goes_to, with_thread_at, ChangedTo}
 
 five_is : (program : List ClassParts) → class_name_of program 5 ≡ print_stream_class
 unfolding class_name_of
@@ -92,28 +95,37 @@ stream_test program loads (Array component) =
     ap (λ n. dimensions_assignable program (element_named program component.element) (Class print_stream_class) n 0) (add-one component.dimensions)
 
 -- what the method writes
-stream_writes : (o : Here) (p : PrintMethod) (t : Text) (k : ℕ) (rest : List Value) → Fits p t → Loads o.world.program → call_found o
-    (select o.world.program print_stream_class (print_name p) (print_type p)) k (arguments_of t) rest ≡ write o (text_bytes t ++ line_bytes p) rest
-stream_writes o p t k rest f loads = ap (λ z. call_found o z k (arguments_of t) rest) (stream_selects o.world.program loads p) ∙ by p t f
+stream_writes : (f : ℕ → ℕ) (o : Here) (p : PrintMethod) (t : Text) (k : ℕ) (rest : List Value) → Fits p t → Loads o.world.program → call_found o
+    (select o.world.program print_stream_class (print_name p) (print_type p)) k (arguments_of f t) rest
+    ≡ with_bytes o f t (λ bytes. write o (bytes ++ line_bytes p) rest)
+stream_writes f o p t k rest fits loads = ap (λ z. call_found o z k (arguments_of f t) rest) (stream_selects o.world.program loads p) ∙ by p t fits
   where
     found : PrintMethod → Option FoundMethod
     found p = instance_along false (as_class print_stream ∷ up_from (length o.world.program + 28) o.world.program object_class) (print_name p) (print_type p)
 
-    printed_so : (k' : Printed) (t : Text) → IsOf k' t → call_found o (found (Print k')) k (arguments_of t) rest ≡ write o (text_bytes t) rest
+    printed_so : (k' : Printed) (t : Text) → IsOf k' t → call_found o (found (Print k')) k (arguments_of f t) rest
+        ≡ with_bytes o f t (λ bytes. write o bytes rest)
     printed_so _ _ (int n) = refl
     printed_so _ _ (long n) = refl
     printed_so _ _ (char n) = refl
+    printed_so _ _ (string None) = refl
+    printed_so _ _ (string (Some p)) = refl
 
-    line_so : (k' : Printed) (t : Text) → IsOf k' t → call_found o (found (Println k')) k (arguments_of t) rest ≡ write o (text_bytes t ++ 10 ∷ []) rest
+    line_so : (k' : Printed) (t : Text) → IsOf k' t → call_found o (found (Println k')) k (arguments_of f t) rest
+        ≡ with_bytes o f t (λ bytes. write o (bytes ++ 10 ∷ []) rest)
     line_so _ _ (int n) = refl
     line_so _ _ (long n) = refl
     line_so _ _ (char n) = refl
+    line_so _ _ (string None) = refl
+    line_so _ _ (string (Some p)) = refl
 
-    by : (p : PrintMethod) (t : Text) → Fits p t → call_found o (found p) k (arguments_of t) rest ≡ write o (text_bytes t ++ line_bytes p) rest
-    by (Print k') t f = printed_so k' t f ∙ ap (λ b. write o b rest) (sym (append-nil (text_bytes t)))
-    by (Println k') t f = line_so k' t f
+    by : (p : PrintMethod) (t : Text) → Fits p t → call_found o (found p) k (arguments_of f t) rest
+        ≡ with_bytes o f t (λ bytes. write o (bytes ++ line_bytes p) rest)
+    by (Print k') t g = printed_so k' t g ∙ (λ i. with_bytes o f t (λ bytes. write o (sym (append-nil bytes) i) rest))
+    by (Println k') t g = line_so k' t g
     by EndLine t e =
-        ap (λ x. call_found o (found EndLine) k (arguments_of x) rest) e ∙ ap (λ x. write o (text_bytes x ++ line_bytes EndLine) rest) (sym e)
+        ap (λ x. call_found o (found EndLine) k (arguments_of f x) rest) e
+        ∙ ap (λ x. with_bytes o f x (λ bytes. write o (bytes ++ line_bytes EndLine) rest)) (sym e)
 
 -- fewer operands have fewer references
 drop_refs : (s : List Value) (q : ℕ) → Among q (stack_shape.refs (drop 1 s)) → Among q (stack_shape.refs s)
@@ -175,9 +187,27 @@ module _ {H : Type 0} {content : H → Content ClassId} {at : At} {old : State H
       fits =
           subst (AllFit (Fits p) (stack_shape.refs h.method.frame.activation.stack)) (found is) (all_fit p h.method.frame.activation.stack)
 
+      -- the argument in the model
+      abbrev arguments : List Value
+      arguments = arguments_of (name_of (content old.heap)) pr.text
+
+      -- what the argument names is the machine's
+      pub text_held : TextAmong (places (parts_at content at old)) pr.text
+      text_held = by pr.text fits.1
+        where
+          by : (t : Text) → TextAmong (stack_shape.refs h.method.frame.activation.stack) t → TextAmong (places (parts_at content at old)) t
+          by (text.Int n) a = tt
+          by (text.Long n) a = tt
+          by (text.Char n) a = tt
+          by (text.String None) a = tt
+          by (text.String (Some q)) a =
+              let v = h.method.frame.activation in
+              top_held h.method q (among_right q (locals_shape.refs v.locals) (stack_shape.refs v.stack) a)
+          by text.Nothing a = tt
+
       to_receiver : {r : Option ℕ} → pr.receiver ≡ r
-          → Leads h.method.on step_thread (λ w. on_receiver w (option_map (name_of (content old.heap)) r) (arguments_of pr.text) rest)
-      to_receiver e w m = received_is is w m ∙ ap (λ r. on_receiver w (option_map (name_of (content old.heap)) r) (arguments_of pr.text) rest) e
+          → Leads h.method.on step_thread (λ w. on_receiver w (option_map (name_of (content old.heap)) r) arguments rest)
+      to_receiver e w m = received_is is w m ∙ ap (λ r. on_receiver w (option_map (name_of (content old.heap)) r) arguments rest) e
 
       -- null throws
       pub print_throws : {result : Result StepEnd Halt} {new : State H} {class : List ℕ} → pr.receiver ≡ None → class ≡ codes "java/lang/NullPointerException"
@@ -190,14 +220,14 @@ module _ {H : Type 0} {content : H → Content ClassId} {at : At} {old : State H
         receiver_object =
             let v = h.method.frame.activation in
             object_of h.method.on receiver
-            (top_held h.method receiver (among_right receiver (locals_shape.refs v.locals) (stack_shape.refs v.stack) (fits.1 receiver r)))
+            (top_held h.method receiver (among_right receiver (locals_shape.refs v.locals) (stack_shape.refs v.stack) (fits.2 receiver r)))
 
         module _ {id : ClassId} {test : Bool}
             (class : (k : ℕ) (o : ObjectOf ClassId) → serial_at (content old.heap) receiver ≡ Some k → object_at (content old.heap) k ≡ Some o → id ≡ o.type)
             (tested : test ≡ is_print_stream id) where
           -- its mark decides
           by_mark : Leads h.method.on step_thread
-              (λ w. on_type w (arguments_of pr.text) (name_of (content old.heap) receiver) (named_type at.linked.now.program id) test)
+              (λ w. on_type w arguments (name_of (content old.heap) receiver) (named_type at.linked.now.program id) test)
           unfolding parts
           by_mark w m =
               let l = at.linked.now in
@@ -205,10 +235,10 @@ module _ {H : Type 0} {content : H → Content ClassId} {at : At} {old : State H
               let t = receiver_object in
               let k = name_of (content old.heap) receiver in
               to_receiver r w m
-              ∙ ap (λ o. elim o as (λ _. Next) [ None ↦ faults WrongKind | Some z ↦ on_object w (arguments_of pr.text) rest k z ]) (t.in_world w m)
-              ∙ ap (λ x. on_object w (arguments_of pr.text) rest k (record { type = named_type l.program x; values = t.object.values }))
+              ∙ ap (λ o. elim o as (λ _. Next) [ None ↦ faults WrongKind | Some z ↦ on_object w arguments rest k z ]) (t.in_world w m)
+              ∙ ap (λ x. on_object w arguments rest k (record { type = named_type l.program x; values = t.object.values }))
               (sym (told h.method.on t class))
-              ∙ ap (on_type w (arguments_of pr.text) k (named_type l.program id))
+              ∙ ap (on_type w arguments k (named_type l.program id))
               (ap (λ program. is_assignable program (type_of_object (named_type l.program id)) (class_type print_stream_class)) (sym m.program)
               ∙ stream_test l.program b.loads id ∙ sym tested)
 
@@ -216,36 +246,45 @@ module _ {H : Type 0} {content : H → Content ClassId} {at : At} {old : State H
           pub other_faults : test ≡ false → Steps content at old (Err (Stopped (why.TagFault WrongKind))) old
           other_faults n =
               stops h.method.on
-              (λ w m. by_mark w m ∙ ap (on_type w (arguments_of pr.text) (name_of (content old.heap) receiver) (named_type at.linked.now.program id)) n)
+              (λ w m. by_mark w m ∙ ap (on_type w arguments (name_of (content old.heap) receiver) (named_type at.linked.now.program id)) n)
 
           -- the text comes to the end of the output
-          writes : test ≡ true → Leads h.method.on step_thread (λ w. write (place h.method w) (text_bytes pr.text ++ line_bytes p) rest)
+          writes : test ≡ true → Leads h.method.on step_thread
+              (λ w. with_bytes (place h.method w) (name_of (content old.heap)) pr.text (λ bytes. write (place h.method w) (bytes ++ line_bytes p) rest))
           unfolding parts
           writes y w m =
               let l = at.linked.now in
               let k = name_of (content old.heap) receiver in
               by_mark w m
-              ∙ ap (on_type w (arguments_of pr.text) k (named_type l.program id)) y
-              ∙ ap (λ n. call_found (place h.method w) (select w.program n (print_name p) (print_type p)) k (arguments_of pr.text) rest)
+              ∙ ap (on_type w arguments k (named_type l.program id)) y
+              ∙ ap (λ n. call_found (place h.method w) (select w.program n (print_name p) (print_type p)) k arguments rest)
               (stream_name l.program id (sym tested ∙ y))
-              ∙ stream_writes (place h.method w) p pr.text k rest fits.0 (subst Loads m.program h.method.on.beside.linked.loads)
+              ∙ stream_writes (name_of (content old.heap)) (place h.method w) p pr.text k rest fits.0 (subst Loads m.program h.method.on.beside.linked.loads)
 
-          pub prints : test ≡ true → {new : State H} {t : held.Thread} → ChangedTo h.method.on new t → new.classes.items ≡ old.classes.items
+          -- an argument that has no text stops the machine
+          pub text_stops : test ≡ true → {halt : Halt} → TextHalts (content old.heap) (string_in pr.text) halt → Steps content at old (Err halt) old
+          text_stops y {halt = Stopped stop} halts = stops h.method.on (λ w m.
+              writes y w m
+              ∙ text_untold h.method pr.text text_held halts (place h.method w) (λ bytes. write (place h.method w) (bytes ++ line_bytes p) rest) m)
+          text_stops y {halt = OutOfMemory} halts = refused h.method.on
+
+          pub prints : test ≡ true → (said : List ℕ) → TextGives (content old.heap) pr.text (string_in pr.text) said → {new : State H} {t : held.Thread} → ChangedTo h.method.on new t → new.classes.items ≡ old.classes.items
               → StateRuns at.linked.now new → Stands t
               (Method (gone_to (with_stack h.method.frame (left_by p h.method.frame.activation.stack)) (h.method.frame.activation.at + 1)) ∷ h.method.below)
-              (running h.method.on.object None) → new.output.items ≡ old.output.items ++ (text_bytes pr.text ++ line_bytes p) → Steps content at old
+              (running h.method.on.object None) → new.output.items ≡ old.output.items ++ (said ++ line_bytes p) → Steps content at old
               (Ok Done) new
           unfolding parts
-          prints y {new} same classes runs s written =
+          prints y said gives {new} same classes runs s written =
               let v = h.method.frame in
-              let bytes = text_bytes pr.text ++ line_bytes p in
+              let bytes = said ++ line_bytes p in
               goes_to h.method.on new (λ w. w.classes) (λ w. w.output ++ bytes) runs same s (λ q a. a)
               (inside_with h.method (gone_to (with_stack v (left_by p v.activation.stack)) (v.activation.at + 1)).activation (λ q a.
               top_held h.method q (elim (among_split q (locals_shape.refs v.activation.locals) (stack_shape.refs (left_by p v.activation.stack)) a) [
                 | inl z ↦ among_left q (locals_shape.refs v.activation.locals) (stack_shape.refs v.activation.stack) z
                 | inr z ↦ among_right q (locals_shape.refs v.activation.locals) (stack_shape.refs v.activation.stack) (left_refs p v.activation.stack q z)
               ])))
-              (λ w m. (ap (named_states at.linked.now.program) classes ∙ m.classes, written ∙ ap (λ z. z ++ bytes) m.output)) (writes y)
+              (λ w m. (ap (named_states at.linked.now.program) classes ∙ m.classes, written ∙ ap (λ z. z ++ bytes) m.output))
+              (λ w m. writes y w m ∙ text_told h.method pr.text text_held gives (place h.method w) (λ b. write (place h.method w) (b ++ line_bytes p) rest) m)
 
   -- the thread goes on without the operands
   pub runs_on : {t : held.Thread} → Stands t

@@ -5,6 +5,7 @@ pub mod Standing
 pub mod Stepped
 pub mod Pushing
 pub mod Returned
+pub mod Strings
 pub mod Printing
 pub mod Tops
 pub mod TopObject

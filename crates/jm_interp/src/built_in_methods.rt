@@ -9,7 +9,7 @@ ghost use Rattle.jm_interp.specs.Printing.{is_print_stream};
 use crate::at::At;
 use crate::class_number::{PRINT_STREAM, null_pointer_exception};
 use crate::print_operands::{operands_of, pop_operands};
-use crate::text::printed_bytes;
+use crate::text::{text_bytes, with_line_end};
 use crate::throwing::throws;
 use jm_heap::{ClassId, Heap};
 use jm_linked::PrintMethod;
@@ -47,11 +47,14 @@ pub(crate) fn print<H: Heap>(
     if !is_print_stream(state.heap.class_of(receiver)) {
         return Err(Halt::Stopped(Stop::TagFault(TagFault::WrongKind)));
     }
-    let bytes = match printed_bytes(at.alloc, printing.text, method) {
+    let bytes = match text_bytes(at.alloc, &state.heap, printing.text) {
         Ok(bytes) => bytes,
-        Err(_) => return Err(Halt::OutOfMemory),
+        Err(halt) => return Err(halt),
     };
-    match state.output.extend_from_slice(bytes.as_slice()) {
+    let Ok(line) = with_line_end(bytes, method) else {
+        return Err(Halt::OutOfMemory);
+    };
+    match state.output.extend_from_slice(line.as_slice()) {
         Ok(()) => {
             pop_operands(&mut state.threads[at.index], method);
             Ok(StepEnd::Done)

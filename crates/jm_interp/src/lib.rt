@@ -9,11 +9,12 @@
 //!
 //! `at` says where a step is made, and `specs/At` what it does: the words of all contracts. The files
 //! are named as the model's (`jm_world`): `stepping` chooses what is to be done; `plain`,
-//! `constants`, `returns` and `built_in_methods` are the instructions, `throwing`, `unwinding` and
-//! `ending` what exceptions and ends do, `initialization` the stages of a class, with its `superclass`,
-//! over the calls on one thread in `top_frame`, `frames` and `print_operands`. A plain instruction looks up its thread,
+//! `constants`, `arrays`, `type_checks`, `returns` and `built_in_methods` are the instructions, with the
+//! text of Strings in `strings`; `throwing`, `unwinding` and `ending` are what exceptions and ends do,
+//! `initialization` the stages of a class, with its `superclass`, over the calls on one thread in
+//! `top_frame`, `top_object`, `frames` and `print_operands`. A plain instruction looks up its thread,
 //! its top frame and its code, and takes no memory. The crate stands on `jm_state`, `jm_linked`,
-//! `jm_ops` and `jm_heap`'s trait.
+//! `jm_ops`, `jm_text` and `jm_heap`'s trait.
 #![tactic(auto)]
 
 mod arrays;
@@ -29,11 +30,13 @@ mod print_operands;
 mod returns;
 mod stages;
 mod stepping;
+mod strings;
 mod superclass;
 mod text;
 mod throwing;
 mod top_frame;
 mod top_object;
+mod type_checks;
 mod unwinding;
 
 pub use stages::{init_stage, unwind_stage};

@@ -17,6 +17,8 @@ pub(crate) enum Text {
     Int(i32),
     Long(i64),
     Char(i32),
+    /// None for null.
+    String(Option<Place>),
     Nothing,
 }
 
@@ -45,6 +47,11 @@ fn text_of(printed: Printed, operand: Option<Value>) -> Result<Text, TagFault>
             },
             Printed::Long => match value {
                 Value::Long(n) => Ok(Text::Long(n)),
+                _ => Err(TagFault::WrongTag),
+            },
+            Printed::String => match value {
+                Value::Ref(place) => Ok(Text::String(Some(place))),
+                Value::Null => Ok(Text::String(None)),
                 _ => Err(TagFault::WrongTag),
             },
         },

@@ -1,7 +1,6 @@
 // Unwinding.
 
-ghost use Rattle.std.specs.Prelude.{◌≡◌, ◌<◌, ◌+◌, ◌↔◌, List, Some, Ok, IfSome, IsTrue, drop, length, false, codes};
-ghost use Rattle.jm_builtins.specs.List.{the_builtins};
+ghost use Rattle.std.specs.Prelude.{◌≡◌, ◌<◌, ◌+◌, List, Some, Ok, IfSome, drop, length, false, codes};
 ghost use Rattle.jm_world.specs.World.{ended_by, is_running, with_state};
 ghost use Rattle.jm_world.specs.Next.{goes};
 ghost use Rattle.jm_world.specs.Throwing.{class_name, unwound_anew};
@@ -14,6 +13,7 @@ ghost use Rattle.jm_interp.specs.Ending.{unwound_to};
 ghost use Rattle.jm_interp.specs.Initializing.{is_error};
 
 use crate::at::At;
+use crate::class_number::is_numbered;
 use crate::ending::end_thread;
 use crate::frames::{class_on_top, leave_frame};
 use crate::throwing::leave_pending;
@@ -40,14 +40,6 @@ fn ending_by(linked: &Linked, thrown: ClassId) -> Option<Ending>
             Some(Ending::EndedBy((built_in + classes) as u32))
         }
     }
-}
-
-// Whether a class has the number.
-fn is_numbered(linked: &Linked, class: u32) -> bool
-    ensures { IsTrue result ↔ (class < length the_builtins + length linked.now.program) }
-{
-    (class as usize) < linked.built_ins().len()
-        || class as usize - linked.built_ins().len() < linked.classes().len()
 }
 
 // Whether an object is an Error (JVMS 2.10), by its mark; none where no class has its number, as

@@ -38,7 +38,7 @@ subclass_is l is n above name other a b =
     ∙ ap (is_subclass l.program name) upper.0
 
 -- a class has a built-in one's name just where it has its number
-same_as : (program : List ClassParts) → Loads program → (n k : ℕ) (name other : List ℕ) → NamesClass program n name → NamesClass program k other
+pub same_as : (program : List ClassParts) → Loads program → (n k : ℕ) (name other : List ℕ) → NamesClass program n name → NamesClass program k other
     → same_text name other ≡ nat_eq n k
 same_as program loads n k name other a b =
     let own = named_at program n name a in

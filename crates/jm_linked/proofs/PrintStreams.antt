@@ -71,11 +71,14 @@ base_is printed.Long (Base b) h = ap Base (long_is b h)
 base_is printed.Long (Class n) h = cc
 base_is printed.Char (Base b) h = ap Base (char_is b h)
 base_is printed.Char (Class n) h = cc
+base_is printed.String (Base b) h = cc
+base_is printed.String (Class n) h = ap Class (texts.same_text n string_class (sym h))
 
 zero_is : (k : Printed) → (printed_type k).dimensions ≡ 0
 zero_is printed.Int = refl
 zero_is printed.Long = refl
 zero_is printed.Char = refl
+zero_is printed.String = refl
 
 printed_is : (k : Printed) (t : FieldType) → same_type t (printed_type k) ≡ true → t ≡ printed_type k
 printed_is k t h =

@@ -9,16 +9,10 @@ use Rattle.jm_program.specs.declared.descriptor.FieldType.{FieldType}
 use Rattle.jm_world.specs.Types.{same_types, same_result, same_method_type}
 use Rattle.jm_world.specs.Classes.{FoundMethod, MethodName, method_in}
 use Rattle.jm_world.specs.Loading.{main_in, main_type}
-use Rattle.jm_program.specs.declared.instruction.operation.ArrayKind.TheVariants as kind
-use Rattle.jm_program.specs.declared.instruction.operation.ArrayOp.{ArrayOp}
-use Rattle.jm_world.specs.Arrays.{serves_references}
-use Rattle.jm_program.specs.declared.instruction.operation.ArrayOp.TheVariants.{Load, Store, New, Length}
 use Rattle.jm_program.specs.declared.instruction.operation.FieldOp.{FieldOp}
 use Rattle.jm_program.specs.declared.instruction.operation.FieldOp.TheVariants.{GetStatic, PutStatic, GetField, PutField}
 use Rattle.jm_program.specs.declared.instruction.operation.InvokeOp.{InvokeOp}
 use Rattle.jm_program.specs.declared.instruction.operation.InvokeOp.TheVariants.{Virtual, Special, Static, Interface}
-use Rattle.jm_program.specs.declared.instruction.operation.TypeOp.{TypeOp}
-use Rattle.jm_program.specs.declared.instruction.operation.TypeOp.TheVariants.{NewArray, CheckCast, InstanceOf}
 use Rattle.jm_program.specs.declared.instruction.symbolic.Instr.{Instr}
 use Rattle.jm_program.specs.declared.reference.FieldRef.{FieldRef}
 use Rattle.jm_program.specs.declared.reference.MethodRef.{MethodRef}
@@ -28,7 +22,7 @@ use Rattle.jm_linked.specs.declared.instruction.PrintMethod.{PrintMethod}
 use Rattle.jm_linked.specs.Links.{LinkedView, IsLinked, LinksIn, name_of_number, name_among, prints, reads_system_out}
 use Rattle.jm_linked.specs.declared.later.LaterPart.{LaterPart}
 use Rattle.jm_linked.specs.declared.later.LaterPart.TheVariants as later
-use Rattle.jm_linked.specs.Later.{print_among, print_methods, or_later, first_later, unless_empty, later_array, later_type, later_field, later_invoke, later_instruction, later_code}
+use Rattle.jm_linked.specs.Later.{print_among, print_methods, or_later, first_later, unless_empty, later_field, later_invoke, later_instruction, later_code}
 use Rattle.jm_linked.specs.Later.{later_use, later_in_code, later_superclass, later_declared_field, later_method, later_class, later_part}
 
 -- neither of two comes later
@@ -127,41 +121,17 @@ pub instruction_runs : {code : Code} → IsWhole code → (n : ℕ) (i : Instr) 
 instruction_runs {code} w n i at = (neither_later (later_use i) (later_instruction i) (none_later later_in_code code.instructions n i w.instructions at)).1
 
 -- the linked instructions that the machine can run
-abbrev pub RunsArray : ArrayOp → Type 0
-RunsArray (Store k) = serves_references k ≡ false
-RunsArray _ = Unit {0}
-
-abbrev pub RunsType : TypeOp → Type 0
-RunsType NewArray = Unit {0}
-RunsType _ = ⊥
-
 abbrev pub RunsToday : LinkedInstr → Type 0
 RunsToday (linked.Plain op) = Unit {0}
 RunsToday (linked.Int n) = Unit {0}
 RunsToday (linked.Long n) = Unit {0}
 RunsToday (linked.Literal n) = Unit {0}
 RunsToday (linked.Return op) = Unit {0}
-RunsToday (linked.Array op) = RunsArray op
-RunsToday (linked.Type op t) = RunsType op
+RunsToday (linked.Array op) = Unit {0}
+RunsToday (linked.Type op t) = Unit {0}
 RunsToday linked.SystemOut = Unit {0}
 RunsToday (linked.Print p) = Unit {0}
 RunsToday _ = ⊥
-
-array_later : (op : ArrayOp) → later_array op ≡ None → RunsArray op
-array_later (Load kind) e = tt
-array_later (Store kind.Int) e = refl
-array_later (Store kind.Long) e = refl
-array_later (Store kind.Byte) e = refl
-array_later (Store kind.Char) e = refl
-array_later (Store kind.Short) e = refl
-array_later (Store kind.Reference) e = cc
-array_later (New element) e = tt
-array_later Length e = tt
-
-type_later : (op : TypeOp) → later_type op ≡ None → RunsType op
-type_later NewArray e = tt
-type_later CheckCast e = cc
-type_later InstanceOf e = cc
 
 field_later : (op : FieldOp) (f : FieldRef) → reads_system_out op f ≡ false → later_field op f ≡ None → ⊥
 field_later GetStatic f other e = let bad : Some (later.Field GetStatic) ≡ None = sym (ap (λ b. elim b as
@@ -191,7 +161,7 @@ runs_today program (linked.Int n) i h e = tt
 runs_today program (linked.Long n) i h e = tt
 runs_today program (linked.Literal n) i h e = tt
 runs_today program (linked.Return op) i h e = tt
-runs_today program (linked.Array op) i h e = array_later op (sym (ap later_instruction h) ∙ e)
+runs_today program (linked.Array op) i h e = tt
 runs_today program linked.Throw i h e = let bad : Some later.Throw ≡ None = sym (ap later_instruction h) ∙ e in cc
 runs_today program (linked.Monitor op) i h e = let bad : Some (later.Monitor op) ≡ None = sym (ap later_instruction h) ∙ e in cc
 runs_today program linked.SystemOut i h e = tt
@@ -199,4 +169,4 @@ runs_today program (linked.Field op n) i h e = field_later op h.field h.other (s
 runs_today program (linked.Print p) i h e = tt
 runs_today program (linked.Invoke op n) i h e = invoke_later op h.method h.other (sym (ap later_instruction h.is) ∙ e)
 runs_today program (linked.New n) i h e = let bad : Some later.New ≡ None = sym (ap later_instruction h.1) ∙ e in cc
-runs_today program (linked.Type op t) i h e = type_later op (sym (ap later_instruction h.1) ∙ e)
+runs_today program (linked.Type op t) i h e = tt

@@ -14,15 +14,10 @@ use Rattle.jm_program.specs.declared.descriptor.BaseType.{BaseType}
 use Rattle.jm_program.specs.declared.descriptor.BaseType.TheVariants as base
 use Rattle.jm_program.specs.declared.descriptor.ElementType.{ElementType}
 use Rattle.jm_program.specs.declared.descriptor.ElementType.TheVariants.{Base, Class}
-use Rattle.jm_program.specs.declared.instruction.operation.ArrayKind.TheVariants as kind
-use Rattle.jm_program.specs.declared.instruction.operation.ArrayOp.{ArrayOp}
-use Rattle.jm_program.specs.declared.instruction.operation.ArrayOp.TheVariants.{Store}
 use Rattle.jm_program.specs.declared.instruction.operation.FieldOp.{FieldOp}
 use Rattle.jm_program.specs.declared.instruction.operation.FieldOp.TheVariants.{GetStatic}
 use Rattle.jm_program.specs.declared.instruction.operation.InvokeOp.{InvokeOp}
 use Rattle.jm_program.specs.declared.instruction.operation.InvokeOp.TheVariants.{Virtual}
-use Rattle.jm_program.specs.declared.instruction.operation.TypeOp.{TypeOp}
-use Rattle.jm_program.specs.declared.instruction.operation.TypeOp.TheVariants.{NewArray}
 use Rattle.jm_program.specs.declared.instruction.symbolic.Instr.{Instr}
 use Rattle.jm_program.specs.declared.instruction.symbolic.Instr.TheVariants as instr
 use Rattle.jm_program.specs.declared.reference.ClassRef.{ClassRef}
@@ -30,10 +25,10 @@ use Rattle.jm_program.specs.declared.reference.ClassRef.TheVariants as named
 use Rattle.jm_program.specs.declared.reference.FieldRef.{FieldRef}
 use Rattle.jm_program.specs.declared.reference.MethodRef.{MethodRef}
 use Rattle.jm_world.specs.Types.{class_type, same_type, same_method_type}
-use Rattle.jm_world.specs.Classes.{system_class, print_stream_class, thread_class}
+use Rattle.jm_world.specs.Classes.{system_class, print_stream_class, string_class, thread_class}
 use Rattle.jm_world.specs.Loading.{main_type}
 use Rattle.jm_linked.specs.declared.instruction.Printed.{Printed}
-use Rattle.jm_linked.specs.declared.instruction.Printed.TheVariants.{Int, Long, Char}
+use Rattle.jm_linked.specs.declared.instruction.Printed.TheVariants.{Int, Long, Char, String}
 use Rattle.jm_linked.specs.declared.instruction.PrintMethod.{PrintMethod}
 use Rattle.jm_linked.specs.declared.instruction.PrintMethod.TheVariants.{Print, Println, EndLine}
 use Rattle.jm_linked.specs.declared.later.LaterPart.{LaterPart}
@@ -55,6 +50,7 @@ abbrev pub printed_type : Printed → FieldType
 printed_type Int = base_type base.Int
 printed_type Long = base_type base.Long
 printed_type Char = base_type base.Char
+printed_type String = class_type string_class
 
 abbrev pub print_name : PrintMethod → List ℕ
 print_name (Print p) = codes "print"
@@ -73,16 +69,12 @@ abbrev pub is_print : MethodRef → PrintMethod → Bool
 is_print m p = is_class_called m.class print_stream_class && same_text m.name (print_name p) && same_method_type m.descriptor (print_type p)
 
 abbrev pub print_methods : List PrintMethod
-print_methods = Print Int ∷ Print Long ∷ Print Char ∷ Println Int ∷ Println Long ∷ Println Char ∷ EndLine ∷ []
+print_methods =
+    Print Int ∷ Print Long ∷ Print Char ∷ Print String ∷ Println Int ∷ Println Long ∷ Println Char ∷ Println String ∷ EndLine ∷ []
 
 abbrev pub print_among : List PrintMethod → MethodRef → Option PrintMethod
 print_among [] m = None
 print_among (p ∷ ps) m = elim (is_print m p) [ true ↦ Some p | false ↦ print_among ps m ]
-
--- the stores of references into arrays
-abbrev pub later_array : ArrayOp → Option LaterPart
-later_array (Store kind.Reference) = Some (later.Array (Store kind.Reference))
-later_array _ = None
 
 abbrev pub later_field : FieldOp → FieldRef → Option LaterPart
 later_field GetStatic f = elim (is_system_out f) [ true ↦ None | false ↦ Some (later.Field GetStatic) ]
@@ -92,15 +84,10 @@ abbrev pub later_invoke : InvokeOp → MethodRef → Option LaterPart
 later_invoke Virtual m = elim (print_among print_methods m) [ Some p ↦ None | None ↦ Some (later.Invoke Virtual) ]
 later_invoke op m = Some (later.Invoke op)
 
--- the uses of types but anewarray
-abbrev pub later_type : TypeOp → Option LaterPart
-later_type NewArray = None
-later_type op = Some (later.Type op)
-
 -- an instruction that cannot be run yet
 abbrev pub later_instruction : Instr → Option LaterPart
 later_instruction (instr.Plain op) = None
-later_instruction (instr.Array op) = later_array op
+later_instruction (instr.Array op) = None
 later_instruction (instr.Return op) = None
 later_instruction instr.Throw = Some later.Throw
 later_instruction (instr.Monitor op) = Some (later.Monitor op)
@@ -108,7 +95,7 @@ later_instruction (instr.Constant c) = None
 later_instruction (instr.Field op f) = later_field op f
 later_instruction (instr.Invoke op m) = later_invoke op m
 later_instruction (instr.New name) = Some later.New
-later_instruction (instr.Type op t) = later_type op
+later_instruction (instr.Type op t) = None
 
 -- a use of a class whose objects are threads, or that starting one throws, by its name
 abbrev pub illegal_thread_state_class : List ℕ

@@ -8,6 +8,7 @@ pub enum Printed {
     Int,
     Long,
     Char,
+    String,
 }
 
 /// A method of a print stream.
@@ -73,8 +74,8 @@ pub enum LinkedInstr {
     SystemOut,
     /// Any other use of a field.
     Field(FieldOp, MemberNumber),
-    /// `invokevirtual` of a method of java/io/PrintStream that prints an int, a long, a char or the
-    /// end of a line.
+    /// `invokevirtual` of a method of java/io/PrintStream, which prints an int, a long, a char, a String
+    /// or the end of a line.
     Print(PrintMethod),
     /// Any other invoke.
     Invoke(InvokeOp, InvokedMethod),

@@ -3,7 +3,7 @@
 ghost use Rattle.std.specs.Prelude.{Some};
 ghost use Rattle.jm_linked.specs.LaterTexts.{later_text};
 
-use jm_program::{ArrayOp, FieldOp, InvokeOp, MonitorOp, TypeOp};
+use jm_program::{FieldOp, InvokeOp, MonitorOp};
 use std::fmt;
 use std::fmt::Display;
 
@@ -22,7 +22,6 @@ pub enum LaterPart {
     Synchronized,
     /// An exception table that is not empty.
     Handlers,
-    Array(ArrayOp),
     /// `athrow`.
     Throw,
     Monitor(MonitorOp),
@@ -30,7 +29,6 @@ pub enum LaterPart {
     Invoke(InvokeOp),
     /// `new`.
     New,
-    Type(TypeOp),
 }
 
 /// The mnemonic of an instruction, the name of a class, or that of the part.
@@ -48,13 +46,11 @@ impl Display for LaterPart {
             LaterPart::ClassInitializer => f.write_str("<clinit>"),
             LaterPart::Synchronized => f.write_str("synchronized"),
             LaterPart::Handlers => f.write_str("handlers"),
-            LaterPart::Array(op) => write!(f, "{op}"),
             LaterPart::Throw => f.write_str("athrow"),
             LaterPart::Monitor(op) => write!(f, "{op}"),
             LaterPart::Field(op) => write!(f, "{op}"),
             LaterPart::Invoke(op) => write!(f, "{op}"),
             LaterPart::New => f.write_str("new"),
-            LaterPart::Type(op) => write!(f, "{op}"),
         }
     }
 }

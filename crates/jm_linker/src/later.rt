@@ -2,23 +2,22 @@
 
 ghost use Rattle.std.specs.Prelude.{◌≡◌, [], ◌∷◌, None, Some, cond, false};
 ghost use Rattle.jm_linked.specs.Later.{is_class_called, is_system_out, base_type, printed_type, print_name, print_parameters, is_print, print_among};
-ghost use Rattle.jm_linked.specs.Later.{print_methods, later_array, later_type, later_field, later_invoke, later_instruction, later_name, later_element};
+ghost use Rattle.jm_linked.specs.Later.{print_methods, later_field, later_invoke, later_instruction, later_name, later_element};
 ghost use Rattle.jm_linked.specs.Later.{later_class_ref, later_use, later_in_code, first_later, later_code, is_main_method};
 ghost use Rattle.jm_linked.specs.Later.{later_superclass, later_constant_value, later_declared_field, later_method};
 ghost use Rattle.jm_linked.specs.Later.{later_class, later_part};
 ghost use Rattle.jm_program.specs.Names.{same_text};
 ghost use Rattle.jm_program.specs.declared.class.Method.{Method};
 ghost use Rattle.jm_world.specs.Loading.{strings_type};
-ghost use Rattle.jm_world.specs.Classes.{system_class, print_stream_class};
+ghost use Rattle.jm_world.specs.Classes.{system_class, print_stream_class, string_class};
 ghost use Rattle.jm_world.specs.Types.{class_type, same_type, same_types, same_result};
 
 use crate::name::{is_print_stream, is_system};
 use crate::types::letter;
 use jm_linked::{LaterPart, PrintMethod, Printed};
 use jm_program::{
-    AccessFlags, ArrayKind, ArrayOp, BaseType, Class, ClassParts, ClassRef, Code, Constant,
-    ElementType, Field, FieldOp, FieldRef, FieldType, Instr, InvokeOp, Method, MethodDescriptor,
-    MethodRef, Name, TypeOp,
+    AccessFlags, BaseType, Class, ClassParts, ClassRef, Code, Constant, ElementType, Field,
+    FieldOp, FieldRef, FieldType, Instr, InvokeOp, Method, MethodDescriptor, MethodRef, Name,
 };
 
 fn is_system_ref(class: &ClassRef) -> bool
@@ -68,6 +67,16 @@ fn is_base(field_type: &FieldType, base: BaseType) -> bool
         }
 }
 
+fn is_string(field_type: &FieldType) -> bool
+    ensures { result ≡ same_type field_type.now (class_type string_class) }
+{
+    field_type.dimensions == 0
+        && match &field_type.element {
+            ElementType::Base(_) => false,
+            ElementType::Class(name) => name.is_string(),
+        }
+}
+
 fn is_printed(field_type: &FieldType, printed: Printed) -> bool
     ensures { result ≡ same_type field_type.now (printed_type printed) }
 {
@@ -75,6 +84,7 @@ fn is_printed(field_type: &FieldType, printed: Printed) -> bool
         Printed::Int => is_base(field_type, BaseType::Int),
         Printed::Long => is_base(field_type, BaseType::Long),
         Printed::Char => is_base(field_type, BaseType::Char),
+        Printed::String => is_string(field_type),
     }
 }
 
@@ -130,13 +140,15 @@ fn is_print(method: &MethodRef, print: PrintMethod) -> bool
         && returns_nothing(&method.descriptor)
 }
 
-const PRINT_METHODS: [PrintMethod; 7] = [
+const PRINT_METHODS: [PrintMethod; 9] = [
     PrintMethod::Print(Printed::Int),
     PrintMethod::Print(Printed::Long),
     PrintMethod::Print(Printed::Char),
+    PrintMethod::Print(Printed::String),
     PrintMethod::Println(Printed::Int),
     PrintMethod::Println(Printed::Long),
     PrintMethod::Println(Printed::Char),
+    PrintMethod::Println(Printed::String),
     PrintMethod::EndLine,
 ];
 
@@ -151,21 +163,11 @@ fn print_among(prints: &[PrintMethod], method: &MethodRef) -> Option<PrintMethod
     None
 }
 
-/// The method of PrintStream that prints an int, a long or a char, or ends a line.
+/// The method of PrintStream, which prints an int, a long, a char or a String, or ends a line.
 pub fn print_method(method: &MethodRef) -> Option<PrintMethod>
     ensures { result ≡ print_among print_methods method.now }
 {
     print_among(&PRINT_METHODS, method)
-}
-
-fn later_array(op: ArrayOp) -> Option<LaterPart>
-    ensures { result ≡ later_array op }
-{
-    match op {
-        ArrayOp::Store(ArrayKind::Reference) => Some(LaterPart::Array(op)),
-        ArrayOp::Store(_) => None,
-        _ => None,
-    }
 }
 
 fn later_field(op: FieldOp, field: &FieldRef) -> Option<LaterPart>
@@ -195,27 +197,17 @@ fn later_invoke(op: InvokeOp, method: &MethodRef) -> Option<LaterPart>
     }
 }
 
-fn later_type(op: TypeOp) -> Option<LaterPart>
-    ensures { result ≡ later_type op }
-{
-    match op {
-        TypeOp::NewArray => None,
-        TypeOp::CheckCast | TypeOp::InstanceOf => Some(LaterPart::Type(op)),
-    }
-}
-
 fn later_instruction(instruction: &Instr) -> Option<LaterPart>
     ensures { result ≡ later_instruction instruction.now }
 {
     match instruction {
         Instr::Plain(_) | Instr::Return(_) | Instr::Constant(_) => None,
-        Instr::Array(op) => later_array(*op),
+        Instr::Array(_) | Instr::Type(_, _) => None,
         Instr::Throw => Some(LaterPart::Throw),
         Instr::Monitor(op) => Some(LaterPart::Monitor(*op)),
         Instr::Field(op, field) => later_field(*op, field.get()),
         Instr::Invoke(op, method) => later_invoke(*op, method.get()),
         Instr::New(_) => Some(LaterPart::New),
-        Instr::Type(op, _) => later_type(*op),
     }
 }
 

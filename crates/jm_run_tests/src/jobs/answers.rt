@@ -72,6 +72,44 @@ run | Main.j | @print iconst_1 / newarray int / iconst_1 / iconst_1 / iastore / 
 run | Main.j | @print iconst_1 / newarray int / iconst_0 / iconst_1 / bastore / iconst_0 | t 1 x 9~ | - | jm: 60 TagFault(WrongKind)~ | 5
 ";
 
+// Tests of types and casts, and what arrays of references can hold (JVMS 6.5 `instanceof`, `checkcast`,
+// `aastore`).
+const TYPES: &str = "\
+run | Main.j | @print iconst_1 / newarray int / instanceof java/lang/Object | t 1 x 9~ | 1~ | - | 0
+run | Main.j | @print iconst_1 / newarray int / instanceof java/lang/Cloneable | t 1 x 9~ | 1~ | - | 0
+run | Main.j | @print iconst_1 / newarray int / instanceof java/lang/String | t 1 x 9~ | 0~ | - | 0
+run | Main.j | @print iconst_1 / newarray int / instanceof [I | t 1 x 9~ | 1~ | - | 0
+run | Main.j | @print iconst_1 / newarray int / instanceof [J | t 1 x 9~ | 0~ | - | 0
+run | Main.j | @print iconst_1 / newarray int / instanceof [[I | t 1 x 9~ | 0~ | - | 0
+run | Main.j | @print iconst_1 / newarray int / instanceof [Ljava/lang/Object; | t 1 x 9~ | 0~ | - | 0
+run | Main.j | @print iconst_1 / newarray byte / instanceof [Z | t 1 x 9~ | 0~ | - | 0
+run | Main.j | @print iconst_1 / anewarray [I / instanceof [Ljava/lang/Object; | t 1 x 9~ | 1~ | - | 0
+run | Main.j | @print iconst_1 / anewarray [I / instanceof [Ljava/lang/Cloneable; | t 1 x 9~ | 1~ | - | 0
+run | Main.j | @print iconst_1 / anewarray Main / instanceof [Ljava/lang/Object; | t 1 x 9~ | 1~ | - | 0
+run | Main.j | @print iconst_1 / anewarray java/lang/Object / instanceof [LMain; | t 1 x 9~ | 0~ | - | 0
+run | Main.j & A.j | .class Main~.super A~.method static main([Ljava/lang/String;)V~.limit stack 2~getstatic java/lang/System/out Ljava/io/PrintStream;~iconst_1~anewarray Main~instanceof [LA;~invokevirtual java/io/PrintStream/println(I)V~return~.end method~ & @empty A | t 1 x 12~ | 1~ | - | 0
+run | Main.j | @print ldc \"x\" / instanceof java/io/Serializable | t 1 x 8~ | 1~ | - | 0
+run | Main.j | @print ldc \"x\" / instanceof Main | t 1 x 8~ | 0~ | - | 0
+run | Main.j | @print aconst_null / instanceof Main | t 1 x 8~ | 0~ | - | 0
+run | Main.j | @print iconst_0 / instanceof Main | t 1 x 6~ | - | jm: 60 TagFault(WrongTag)~ | 5
+# casts
+run | Main.j | @print iconst_3 / newarray int / checkcast [I / arraylength | t 1 x 10~ | 3~ | - | 0
+run | Main.j | @print ldc \"x\" / checkcast java/lang/String / checkcast java/io/Serializable / checkcast java/lang/Object / pop / iconst_5 | t 1 x 12~ | 5~ | - | 0
+run | Main.j | @print aconst_null / checkcast [I / ifnull A / iconst_0 / goto B / A: / iconst_1 / B: | t 1 x 10~ | 1~ | - | 0
+run | Main.j | @print iconst_1 / newarray int / checkcast [Ljava/lang/Object; / arraylength | t 1 x 8~ | - | jm: thread 1 ended by java/lang/ClassCastException~ | 3
+run | Main.j | @print ldc \"x\" / checkcast Main / arraylength | t 1 x 7~ | - | jm: thread 1 ended by java/lang/ClassCastException~ | 3
+run | Main.j | @print iconst_0 / checkcast Main | t 1 x 6~ | - | jm: 60 TagFault(WrongTag)~ | 5
+# stores of references
+run | Main.j | @print iconst_1 / anewarray [I / dup / iconst_0 / iconst_3 / newarray int / aastore / iconst_0 / aaload / arraylength | t 1 x 16~ | 3~ | - | 0
+run | Main.j | @print iconst_1 / anewarray java/lang/Object / dup / iconst_0 / ldc \"x\" / aastore / iconst_0 / aaload / instanceof java/lang/String | t 1 x 10~full~t 1 x 5~ | 1~ | - | 0
+run | Main.j | @print iconst_1 / anewarray Main / dup / iconst_0 / aconst_null / aastore / arraylength | t 1 x 13~ | 1~ | - | 0
+run | Main.j | @print iconst_1 / anewarray [I / iconst_0 / iconst_1 / newarray byte / aastore / iconst_0 | t 1 x 11~ | - | jm: thread 1 ended by java/lang/ArrayStoreException~ | 3
+run | Main.j | @print iconst_1 / anewarray Main / iconst_1 / ldc \"x\" / aastore / iconst_0 | t 1 x 10~ | - | jm: thread 1 ended by java/lang/ArrayIndexOutOfBoundsException~ | 3
+run | Main.j | @print aconst_null / iconst_0 / aconst_null / aastore / iconst_0 | t 1 x 9~ | - | jm: thread 1 ended by java/lang/NullPointerException~ | 3
+run | Main.j | @print iconst_1 / newarray int / iconst_0 / aconst_null / aastore / iconst_0 | t 1 x 9~ | - | jm: 60 TagFault(WrongKind)~ | 5
+run | Main.j | @print iconst_1 / anewarray Main / iconst_0 / iconst_1 / aastore / iconst_0 | t 1 x 9~ | - | jm: 60 TagFault(WrongTag)~ | 5
+";
+
 // String literals: the load makes each an array of chars and a String, 3 cells and its letters and 3
 // cells beside the first 5 (JVMS 5.1), and equal ones are one.
 const LITERALS: &str = "\
@@ -80,6 +118,24 @@ run 18 | Main.j | .class Main~.super java/lang/Object~.method static main([Ljava
 run | Main.j | @print ldc \"x\" / ldc \"x\" / if_acmpeq A / iconst_0 / goto B / A: / iconst_1 / B: | t 1 x 10~ | 1~ | - | 0
 run | Main.j | @print ldc \"x\" / ldc \"y\" / if_acmpeq A / iconst_0 / goto B / A: / iconst_1 / B: | t 1 x 11~ | 0~ | - | 0
 run | Main.j | @print ldc \"\" / ldc \"x\" / pop / ldc \"\" / if_acmpeq A / iconst_0 / goto B / A: / iconst_1 / B: | t 1 x 8~full~t 1 x 5~ | 1~ | - | 0
+";
+
+// What `print` and `println` of a String write: UTF-8, a surrogate without its partner as `?`, null as
+// `null`, as Java does where its encoding is UTF-8.
+const STRINGS: &str = "\
+run | Main.j | .class Main~.super java/lang/Object~.method static main([Ljava/lang/String;)V~.limit stack 4~getstatic java/lang/System/out Ljava/io/PrintStream;~ldc \"Hello, world\"~invokevirtual java/io/PrintStream/println(Ljava/lang/String;)V~return~.end method~ | t 1 x 7~ | Hello, world~ | - | 0
+run | Main.j | .class Main~.super java/lang/Object~.method static main([Ljava/lang/String;)V~.limit stack 4~getstatic java/lang/System/out Ljava/io/PrintStream;~ldc \"\"~invokevirtual java/io/PrintStream/println(Ljava/lang/String;)V~return~.end method~ | t 1 x 7~ | ~ | - | 0
+run | Main.j | .class Main~.super java/lang/Object~.method static main([Ljava/lang/String;)V~.limit stack 4~getstatic java/lang/System/out Ljava/io/PrintStream;~ldc \"ab\"~invokevirtual java/io/PrintStream/print(Ljava/lang/String;)V~getstatic java/lang/System/out Ljava/io/PrintStream;~ldc \"c\"~invokevirtual java/io/PrintStream/print(Ljava/lang/String;)V~return~.end method~ | t 1 x 10~ | abc | - | 0
+run | Main.j | .class Main~.super java/lang/Object~.method static main([Ljava/lang/String;)V~.limit stack 4~getstatic java/lang/System/out Ljava/io/PrintStream;~ldc \"caf\\u00e9 \\u20ac\"~invokevirtual java/io/PrintStream/println(Ljava/lang/String;)V~return~.end method~ | t 1 x 7~ | caf%C3%A9 %E2%82%AC~ | - | 0
+run | Main.j | .class Main~.super java/lang/Object~.method static main([Ljava/lang/String;)V~.limit stack 4~getstatic java/lang/System/out Ljava/io/PrintStream;~ldc \"\\u0000\\ud83d\\ude00\"~invokevirtual java/io/PrintStream/println(Ljava/lang/String;)V~return~.end method~ | t 1 x 5~full~t 1 x 2~ | %00%F0%9F%98%80~ | - | 0
+run | Main.j | .class Main~.super java/lang/Object~.method static main([Ljava/lang/String;)V~.limit stack 4~getstatic java/lang/System/out Ljava/io/PrintStream;~ldc \"a\\ud83db\\ude00\"~invokevirtual java/io/PrintStream/println(Ljava/lang/String;)V~return~.end method~ | t 1 x 7~ | a?b?~ | - | 0
+run | Main.j | .class Main~.super java/lang/Object~.method static main([Ljava/lang/String;)V~.limit stack 4~getstatic java/lang/System/out Ljava/io/PrintStream;~aconst_null~invokevirtual java/io/PrintStream/println(Ljava/lang/String;)V~return~.end method~ | t 1 x 7~ | null~ | - | 0
+run | Main.j | .class Main~.super java/lang/Object~.method static main([Ljava/lang/String;)V~.limit stack 4~getstatic java/lang/System/out Ljava/io/PrintStream;~aconst_null~invokevirtual java/io/PrintStream/print(Ljava/lang/String;)V~return~.end method~ | t 1 x 7~ | null | - | 0
+run | Main.j | .class Main~.super java/lang/Object~.method static main([Ljava/lang/String;)V~.limit stack 4~aconst_null~ldc \"x\"~invokevirtual java/io/PrintStream/println(Ljava/lang/String;)V~return~.end method~ | t 1 x 7~ | - | jm: thread 1 ended by java/lang/NullPointerException~ | 3
+run | Main.j | .class Main~.super java/lang/Object~.method static main([Ljava/lang/String;)V~.limit stack 4~getstatic java/lang/System/out Ljava/io/PrintStream;~iconst_1~newarray char~invokevirtual java/io/PrintStream/println(Ljava/lang/String;)V~return~.end method~ | t 1 x 7~ | - | jm: 60 TagFault(WrongKind)~ | 5
+run | Main.j | .class Main~.super java/lang/Object~.method static main([Ljava/lang/String;)V~.limit stack 4~getstatic java/lang/System/out Ljava/io/PrintStream;~getstatic java/lang/System/out Ljava/io/PrintStream;~invokevirtual java/io/PrintStream/println(Ljava/lang/String;)V~return~.end method~ | t 1 x 6~ | - | jm: 60 TagFault(WrongKind)~ | 5
+run | Main.j | .class Main~.super java/lang/Object~.method static main([Ljava/lang/String;)V~.limit stack 4~ldc \"x\"~ldc \"x\"~invokevirtual java/io/PrintStream/println(Ljava/lang/String;)V~return~.end method~ | t 1 x 6~ | - | jm: 60 TagFault(WrongKind)~ | 5
+run | Main.j | .class Main~.super java/lang/Object~.method static main([Ljava/lang/String;)V~.limit stack 4~getstatic java/lang/System/out Ljava/io/PrintStream;~iconst_1~invokevirtual java/io/PrintStream/println(Ljava/lang/String;)V~return~.end method~ | t 1 x 6~ | - | jm: 60 TagFault(WrongTag)~ | 5
 ";
 
 const PROGRAM_FILES: &str = "\
@@ -301,8 +357,18 @@ fn arrays_answer_as_java_does(rt: HostRuntime) -> Result<(), Fail> {
 }
 
 #[test]
+fn types_are_tested_as_java_does(rt: HostRuntime) -> Result<(), Fail> {
+    check_rows(&rt, rt.alloc(), TYPES, 31)
+}
+
+#[test]
 fn literals_are_made_by_the_load(rt: HostRuntime) -> Result<(), Fail> {
     check_rows(&rt, rt.alloc(), LITERALS, 5)
+}
+
+#[test]
+fn strings_are_printed_in_utf8(rt: HostRuntime) -> Result<(), Fail> {
+    check_rows(&rt, rt.alloc(), STRINGS, 13)
 }
 
 #[test]

@@ -1,7 +1,8 @@
 use Rattle.std.proofs.Common.{◌++◌, refl, ap, ◌∙◌}
 use Rattle.jm_interp.proofs.Objects.{lies}
 use Rattle.jm_interp.proofs.OnThread.{within, read, with_thread_at}
-use Rattle.jm_interp.proofs.PrintRow.{print_faults, print_throws, receiver_object, other_faults, prints, runs_on}
+use Rattle.jm_interp.proofs.PrintRow.{print_faults, print_throws, receiver_object, other_faults, text_held, text_stops, prints, runs_on}
+use Rattle.jm_interp.proofs.StringText.{text_lies}
 use Rattle.jm_state.proofs.Runs.{runs_still}
 use Rattle.jm_interp.proofs.built_in_methods.print.Goals as goal
 
@@ -22,6 +23,15 @@ returns-then-not-is_print_stream g c =
     other_faults c.args.method c.requires c.index.ensures c.in-Ok.ensures c.in-Some.is c.class_of.ensures c.is_print_stream.ensures
     c.if-not-is_print_stream.true
 
+pub text_bytes-requires : goal.text_bytes-requires
+text_bytes-requires g c =
+    text_lies c.requires.method c.in-Ok.printing.text (text_held c.args.method c.requires c.index.ensures c.in-Ok.ensures)
+
+pub returns-in-Err-text_bytes : goal.returns-in-Err-text_bytes
+returns-in-Err-text_bytes g c =
+    text_stops c.args.method c.requires c.index.ensures c.in-Ok.ensures c.in-Some.is c.class_of.ensures c.is_print_stream.ensures
+    c.if-not-is_print_stream.false c.in-Err-text_bytes.ensures
+
 pub index_mut-requires : goal.index_mut-requires
 index_mut-requires g c = within c.requires.method.on
 
@@ -32,9 +42,10 @@ pub returns-in-Ok-extend_from_slice : goal.returns-in-Ok-extend_from_slice
 returns-in-Ok-extend_from_slice g c =
     let gone = c.pop_operands.ensures _ _ _ (read c.requires.method.on c.index_mut.ensures.value) in
     let written =
-    c.in-Ok-extend_from_slice.ensures.items ∙ ap (λ z. c.args.state.now.output.items ++ z) (c.as_slice.ensures.value ∙ c.in-Ok-printed_bytes.ensures) in
+    c.in-Ok-extend_from_slice.ensures.items ∙ ap (λ z. c.args.state.now.output.items ++ z) (c.as_slice.ensures.value ∙ c.in-Ok-with_line_end.ensures) in
     let new = record (with_thread_at c.args.state.now c.args.at.index c.pop_operands.new.thread) { output = c.extend_from_slice.new.self } in
     prints c.args.method c.requires c.index.ensures c.in-Ok.ensures c.in-Some.is c.class_of.ensures c.is_print_stream.ensures c.if-not-is_print_stream.false
+    c.in-Ok-text_bytes.bytes.items c.in-Ok-text_bytes.ensures
     {new =
     new}
     (record { threads = refl; statics = refl; literals = refl; monitors = refl; heap = refl; stop = refl }) refl

@@ -2,7 +2,7 @@
 use Rattle.std.proofs.Common.{◌++◌, ◌∙◌, ap, sym, append_assoc, rules, encode_utf8}
 use Rattle.std.proofs.Output.{has_written_append}
 use Rattle.jm_world.specs.Text.{utf8_text}
-use Rattle.jm_execute.proofs.class_name.ClassNameDisplay.fmt.Goals as goal
+use Rattle.jm_text.proofs.utf8.Utf8Display.fmt.Goals as goal
 
 pub loop-character-preserved : goal.loop-character-preserved
 loop-character-preserved g c =

@@ -1,8 +1,8 @@
--- What is written, and the text of what is left, are the name.
+-- What is written, and the text of what is left, are the text of the units.
 use Rattle.std.proofs.Common.{◌≡◌, List, ℕ, ◌++◌, length}
 use Rattle.std.specs.Fmt.{HasWritten, IsPlainFormatter}
 use Rattle.jm_world.specs.Text.{utf8_text}
-use Rattle.jm_execute.proofs.class_name.ClassNameDisplay.fmt.Given as goal
+use Rattle.jm_text.proofs.utf8.Utf8Display.fmt.Given as goal
 
 abbrev pub invariant-loop-character : goal.invariant-loop-character
 invariant-loop-character g l =

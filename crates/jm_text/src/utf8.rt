@@ -1,4 +1,4 @@
-// The name of a class in UTF-8.
+// Code units of UTF-16 in UTF-8.
 
 ghost use Rattle.std.specs.Prelude.{◌≡◌, ◌<◌, ◌++◌, [], length, Some, IfSome, MatchOption, encode_utf8};
 ghost use Rattle.jm_world.specs.Text.{utf8_text};
@@ -24,13 +24,13 @@ fn first_character(units: &[u16]) -> Option<(char, &[u16])>
     }
 }
 
-/// The name of a class, from its code units.
+/// A text of UTF-16 code units: the chars of a String, or the name of a class.
 #[derive(Clone, Copy)]
-pub struct ClassName<'a>(pub &'a [u16]);
+pub struct Utf8<'a>(pub &'a [u16]);
 
-/// The name in UTF-8; a surrogate without its partner is a question mark.
-impl Display for ClassName<'_> {
-    ghost output = { λ name. Some (utf8_text name.0.now) };
+/// The text in UTF-8; a surrogate without its partner is a question mark.
+impl Display for Utf8<'_> {
+    ghost output = { λ text. Some (utf8_text text.0.now) };
 
     fn fmt<W: fmt::Write>(&self, f: &mut fmt::Formatter<W>) -> fmt::Result {
         let mut units = self.0;
