@@ -84,27 +84,27 @@ extents_more i classes extents class d e long known is found = λ k x at. by k x
         subst (λ n. IsExtent n classes k x) (sym next)
         (extent_more i classes k x (known k x (sym (get_or-set_other extents class k (Some e) None ne) ∙ at)))
 
--- an extent stays known
-pub stays_known : (extents : List (Option Extent)) (class other : ℕ) (e : Extent) → class < length extents → IsSome (get_or extents other None)
-    → IsSome (get_or (set extents class (Some e)) other None)
-stays_known extents class other e within h = by (nat_eq other class) refl
+-- what is known of a class stays known
+pub stays_known : {A : Type 0} (known : List (Option A)) (class other : ℕ) (e : A) → class < length known → IsSome (get_or known other None)
+    → IsSome (get_or (set known class (Some e)) other None)
+stays_known {A} known class other e within h = by (nat_eq other class) refl
   where
-    by : (t : Bool) → nat_eq other class ≡ t → IsSome (get_or (set extents class (Some e)) other None)
-    by true is = rw (eqb-true other class is, get_or-set_same extents class (Some e) None within) refl
+    by : (t : Bool) → nat_eq other class ≡ t → IsSome (get_or (set known class (Some e)) other None)
+    by true is = rw (eqb-true other class is, get_or-set_same known class (Some e) None within) refl
     by false is = let ne : other ≢ class = λ same. let t = eq-eqb other class same in cc in
-        rw (get_or-set_other extents class other (Some e) None ne) h
+        rw (get_or-set_other known class other (Some e) None ne) h
 
-pub known_more : (order : List ℕ) (extents : List (Option Extent)) (i class : ℕ) (e : Extent) → class < length extents → class ≡ get_or order i 0
-    → ((k : ℕ) → StandsBefore order i k → IsSome (get_or extents k None))
-    → (k : ℕ) → StandsBefore order (i + 1) k → IsSome (get_or (set extents class (Some e)) k None)
-known_more order extents i class e within is known k s = by (nat_lt s.0 i) refl
+pub known_more : {A : Type 0} (order : List ℕ) (known : List (Option A)) (i class : ℕ) (e : A) → class < length known → class ≡ get_or order i 0
+    → ((k : ℕ) → StandsBefore order i k → IsSome (get_or known k None))
+    → (k : ℕ) → StandsBefore order (i + 1) k → IsSome (get_or (set known class (Some e)) k None)
+known_more {A} order known i class e within is before k s = by (nat_lt s.0 i) refl
   where
-    by : (t : Bool) → nat_lt s.0 i ≡ t → IsSome (get_or (set extents class (Some e)) k None)
-    by true b = let less : s.0 < i = grind (arith, b) in stays_known extents class k e within (known k (s.0, less, s.2))
+    by : (t : Bool) → nat_lt s.0 i ≡ t → IsSome (get_or (set known class (Some e)) k None)
+    by true b = let less : s.0 < i = grind (arith, b) in stays_known known class k e within (before k (s.0, less, s.2))
     by false b =
         let at : s.0 ≡ i = (let less = s.1 in grind (arith, b, less)) in
         let same : k ≡ class = sym (get_or_from_slice_get order s.0 k 0 s.2) ∙ ap (λ j. get_or order j 0) at ∙ sym is in
-        rw (same, get_or-set_same extents class (Some e) None within) refl
+        rw (same, get_or-set_same known class (Some e) None within) refl
 
 -- what stands right above a class is known
 pub above_is_known : (extents : List (Option Extent)) (d : DeclaredFields) → IfSome d.superclass (λ s. IsSome (get_or extents s None))

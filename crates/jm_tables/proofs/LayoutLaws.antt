@@ -278,7 +278,7 @@ module _ (program : List ClassParts) (names : List (List ℕ)) (classes : List D
       (sym (counted classes (classes_of program) 0 class fields_of_classes (omega (arith, within))))
       ∙ ap (λ fs. Some (length (statics_of 0 (take class classes)) + length (filter (λ f. is_static f.flags) (take i fs)))) (sym p.fields)
 
-  instance_are : (class : ℕ) → instance_fields program (name_of names class) ≡ fields_down (up (length classes) class)
+  pub instance_are : (class : ℕ) → instance_fields program (name_of names class) ≡ fields_down (up (length classes) class)
   unfolding instance_fields chain
   instance_are class = fields_are (up_from (height program) program (name_of names class))
       ∙ ap (λ n. fields_down (up_from n program (name_of names class))) (sym (are.many ∙ are.named.many))

@@ -2,10 +2,12 @@ mod ChainLaws
 mod ExtentLaws
 mod HierarchyLaws
 mod InstanceLaws
+mod KindLaws
+mod KindRowLaws
 mod LayoutLaws
 mod ListedLaws
 mod MethodLaws
-mod PlaceLaws
+pub mod PlaceLaws
 mod PlacingLaws
 mod RowLaws
 mod SlotLaws

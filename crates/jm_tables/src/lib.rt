@@ -9,6 +9,7 @@
 #![tactic(auto)]
 
 mod extent;
+mod field_kinds;
 mod hierarchy;
 mod inheritance;
 mod laws;
@@ -16,6 +17,7 @@ mod layout;
 mod method_table;
 
 pub use extent::DeclaredFields;
+pub use field_kinds::FieldKinds;
 pub use hierarchy::Hierarchy;
 pub use inheritance::{Declared, Inheritance};
 pub use laws::{above_along_the_chain, one_field_a_place, statics_by_number};
