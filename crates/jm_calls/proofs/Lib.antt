@@ -1,2 +1,3 @@
 pub mod Popping
 pub mod Locals
+pub mod Tested

@@ -23,7 +23,7 @@ pub struct Callee {
 
 // Whether a value is of the type that a letter names (JVMS 2.11.1).
 #[inline]
-fn is_of(operand_type: OperandType, value: Value) -> bool
+pub(crate) fn is_of(operand_type: OperandType, value: Value) -> bool
     ensures { result ≡ is_of operand_type value }
 {
     match operand_type {
