@@ -94,14 +94,14 @@ differ a b n = elim (eqb_tells a b) [ inl t ↦ absurd (n t.1) | inr t ↦ t.0 ]
 alike : (a b : ℕ) → a ≡ b → nat_eq a b ≡ true
 alike a b e = eq-eqb a b e
 
-less : (a b : ℕ) → a < b → nat_lt a b ≡ true
+pub less : (a b : ℕ) → a < b → nat_lt a b ≡ true
 less a b lt = by (nat_lt a b) refl
   where
     by : (t : Bool) → nat_lt a b ≡ t → nat_lt a b ≡ true
     by true e = e
     by false e = absurd (grind (arith, nat_tests, e))
 
-not_less : (a b : ℕ) → b ≤ a → nat_lt a b ≡ false
+pub not_less : (a b : ℕ) → b ≤ a → nat_lt a b ≡ false
 not_less a b le = by (nat_lt a b) refl
   where
     by : (t : Bool) → nat_lt a b ≡ t → nat_lt a b ≡ false
@@ -139,7 +139,7 @@ module _ {H : Type 0} {content : H → Content ClassId} {at : At} {old : State H
   unfolding parts
   class_here w m = ap (λ p. class_named p name) (sym m.program) ∙ ap (class_named at.linked.now.program) class_there.named ∙ class_there.is_named
 
-  state_here : {st : ClassState} → slice_get old.classes.items class ≡ Some st → (w : World) → Matches (parts_at content at old) w → state_of w name ≡ st
+  pub state_here : {st : ClassState} → slice_get old.classes.items class ≡ Some st → (w : World) → Matches (parts_at content at old) w → state_of w name ≡ st
   unfolding parts
   state_here {st} there w m =
       let l = at.linked.now in

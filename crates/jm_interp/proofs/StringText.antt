@@ -1,23 +1,23 @@
 -- The text of a String, in the heap and in every world.
-use Rattle.std.proofs.Common.{◌≡◌, ℕ, zero, suc, ◌+◌, ◌<◌, ◌≤◌, ◌%◌, ◌^◌, List, [], ◌∷◌, ◌++◌, Option, Some, None, Bool, true, false, refl, sym, ap, ◌∙◌, subst, inl, inr, length, take, arith}
-use Rattle.std.specs.Prelude.{slice_get, unwrap_or, option_map, nat_eq, Ok, Err, codes}
+use Rattle.std.proofs.Common.{◌≡◌, ℕ, zero, suc, ◌≤◌, ◌%◌, ◌^◌, List, [], ◌∷◌, ◌++◌, Option, Some, None, Bool, true, false, refl, sym, ap, ◌∙◌, subst, inl, length, take, arith}
+use Rattle.std.specs.Prelude.{slice_get, unwrap_or, option_map, nat_eq}
 use Rattle.std.proofs.lemmas.Bool.{eqb-true}
 use Rattle.std.specs.Int.{w32, cast_unsigned}
 use Rattle.jm_program.specs.Names.{same_text}
 use Rattle.jm_program.specs.declared.class.ClassParts.{ClassParts}
-use Rattle.jm_builtins.specs.Numbers as built_in
 use Rattle.jm_builtins.specs.Numbers.{number_of}
-use Rattle.jm_builtins.specs.declared.built_in_class.BuiltInClass.TheVariants.{String}
-use Rattle.jm_values.specs.Content.{Content, HasValue, name_of, serial_at, object_at}
+use Rattle.jm_builtins.specs.declared.built_in_class.BuiltInClass.TheVariants.{PrintStream, String}
+use Rattle.jm_values.specs.Content.{Content, HasValue, AllResident, name_of, serial_at, object_at}
 use Rattle.jm_values.specs.Objects.{ObjectOf, refs_of}
-use Rattle.jm_values.specs.Reach.{field}
+use Rattle.jm_values.specs.Reach.{Reach, field}
 use Rattle.jm_values.specs.Rename.{rename, stack_shape}
 use Rattle.jm_values.specs.Shape.{Among}
 use Rattle.jm_values.specs.declared.fault.TagFault.TheVariants.{WrongKind}
 use Rattle.jm_values.specs.declared.value.Value.{Value}
 use Rattle.jm_values.specs.declared.value.Value.TheVariants.{Int, Long, Null, Ref}
+use Rattle.jm_values.proofs.SoundContents.{object_of_place, name_is}
 use Rattle.jm_world.specs.BuiltInMethods.{chars_in, chars_of_type, with_chars}
-use Rattle.jm_world.specs.Classes.{string_class}
+use Rattle.jm_world.specs.Classes.{print_stream_class, string_class}
 use Rattle.jm_world.specs.Here.{Here}
 use Rattle.jm_world.specs.Loads.{Loads}
 use Rattle.jm_world.specs.Matches.{Matches, places, as_named}
@@ -118,19 +118,28 @@ all_taken [] (suc n) e = refl
 all_taken (v ∷ vs) zero e = absurd (omega (arith, e))
 all_taken (v ∷ vs) (suc n) e = ap (λ xs. v ∷ xs) (all_taken vs n (omega (arith, e)))
 
--- the class of a mark is String just where it has String's number
-string_name : (program : List ClassParts) → Loads program → (n : ℕ) → same_text (class_name_of program n) string_class ≡ nat_eq n (number_of String)
+-- a class has the name of another just where it has its number
+class_test : (program : List ClassParts) → Loads program → (n k : ℕ) (name : List ℕ) → slice_get (class_names program) k ≡ Some name → same_text [] name ≡ false
+    → same_text (class_name_of program n) name ≡ nat_eq n k
 unfolding class_name_of
-string_name program loads n = by (slice_get (class_names program) n) refl
+class_test program loads n k name named some = by (slice_get (class_names program) n) refl
   where
-    other : (b : Bool) → nat_eq n (number_of String) ≡ b → slice_get (class_names program) n ≡ None → false ≡ b
+    other : (b : Bool) → nat_eq n k ≡ b → slice_get (class_names program) n ≡ None → false ≡ b
     other false e none = refl
     other true e none =
-        let bad : Some string_class ≡ None = sym (ap (slice_get (class_names program)) (eqb-true n (number_of String) e)) ∙ none in cc
+        let bad : Some name ≡ None = sym named ∙ sym (ap (slice_get (class_names program)) (eqb-true n k e)) ∙ none in cc
 
-    by : (o : Option (List ℕ)) → slice_get (class_names program) n ≡ o → same_text (unwrap_or o []) string_class ≡ nat_eq n (number_of String)
-    by (Some name) e = same_as program loads n (number_of String) name string_class e refl
-    by None e = other (nat_eq n (number_of String)) refl e
+    by : (o : Option (List ℕ)) → slice_get (class_names program) n ≡ o → same_text (unwrap_or o []) name ≡ nat_eq n k
+    by (Some own) e = same_as program loads n k own name e named
+    by None e = some ∙ other (nat_eq n k) refl e
+
+-- String, and PrintStream
+pub string_name : (program : List ClassParts) → Loads program → (n : ℕ) → same_text (class_name_of program n) string_class ≡ nat_eq n (number_of String)
+string_name program loads n = class_test program loads n (number_of String) string_class refl refl
+
+pub stream_name : (program : List ClassParts) → Loads program → (n : ℕ)
+    → same_text (class_name_of program n) print_stream_class ≡ nat_eq n (number_of PrintStream)
+stream_name program loads n = class_test program loads n (number_of PrintStream) print_stream_class refl refl
 
 -- the model's test of an object is that of its mark
 abbrev when_string : World → List Value → Bool → Option (List Value)
@@ -178,7 +187,7 @@ named_first o k e = by (is_string o.type) e
 module _ {H : Type 0} {content : H → Content ClassId} {at : At} {old : State H} (h : InMethod content at old) where
   -- the object of a String
   module _ (string : ℕ) (inside : Among string (places (parts_at content at old))) where
-    abbrev it : IsObject h.on string
+    abbrev pub it : IsObject h.on string
     it = object_of h.on string inside
 
     -- the model's chars, by the array that the String names
@@ -195,29 +204,57 @@ module _ {H : Type 0} {content : H → Content ClassId} {at : At} {old : State H
         ∙ ap finish (type_test program h.on.beside.linked.loads w named it.object.type)
         ∙ ap finish (by_mark w it.object.values (is_string it.object.type))
 
-    no_string : chars_of it.object ≡ None → (here : Here) (go : List Value → Next) → Matches (parts_at content at old) here.world
+    pub no_string : chars_of it.object ≡ None → (here : Here) (go : List Value → Next) → Matches (parts_at content at old) here.world
         → with_chars here (name_of (content old.heap) string) go ≡ faults WrongKind
     unfolding first_chars
     no_string none here go m =
         chars_are here go m
         ∙ ap (λ x. elim (first_chars here.world x) as (λ _. Next) [ None ↦ faults WrongKind | Some chars ↦ go chars ]) none
 
+    -- the array of its chars, in every world
+    module _ {chars : ℕ} (is : chars_of it.object ≡ Some chars) where
+      array_reached : (w : World) → Matches (parts_at content at old) w → Reach (slice_get w.heap) (roots w) chars
+      array_reached w m =
+          field (name_of (content old.heap) string) chars (it.reached w m)
+          (subst (λ x. Among chars (refs_of x)) (sym (it.in_world w m)) (first_among it.object.values chars (named_first it.object chars is)))
+
+      pub has_chars : {array : ObjectOf ClassId} → object_at (content old.heap) chars ≡ Some array → (here : Here) (go : List Value → Next)
+          → Matches (parts_at content at old) here.world → with_chars here (name_of (content old.heap) string) go ≡ go array.values
+      unfolding parts first_chars
+      has_chars there here go m =
+          let w = here.world in
+          let named = as_named (named_type at.linked.now.program) in
+          let finish : Option (List Value) → Next = λ x. elim x [ None ↦ faults WrongKind | Some vs ↦ go vs ] in
+          chars_are here go m
+          ∙ ap (λ x. finish (first_chars w x)) is
+          ∙ ap (λ x. finish (elim x as (λ _. Option (List Value)) [ None ↦ None | Some o ↦ Some o.values ]))
+          (sym (m.objects chars (array_reached w m)) ∙ ap (option_map named) there)
+
+    -- the object of the array, where the code found its place
+    pub array_object : (array : ℕ) → chars_of it.object ≡ Some (name_of (content old.heap) array) → AllResident (content old.heap) (array ∷ [])
+        → IsObject h.on array
+    unfolding parts
+    array_object array is resident =
+        let c = content old.heap in
+        let named = as_named (named_type at.linked.now.program) in
+        let k = resident array (inl refl) in
+        let o = object_of_place c array k.0 k.1 in
+        record {
+          serial = k.0;
+          object = o.0;
+          serial_is = k.1;
+          object_is = o.1;
+          reached = array_reached is;
+          in_world = λ w m.
+              sym (m.objects (name_of c array) (array_reached is w m))
+              ∙ ap (λ j. option_map named (object_at c j)) (name_is c array k.0 k.1)
+              ∙ ap (option_map named) o.1;
+        }
+
     is_text : {bytes : List ℕ} → TextOf (content old.heap) it.object bytes → (here : Here) (go : List ℕ → Next)
         → Matches (parts_at content at old) here.world
         → with_chars here (name_of (content old.heap) string) (λ chars. go (utf8_text (units_of chars))) ≡ go bytes
-    unfolding parts first_chars
-    is_text t here go m =
-        let w = here.world in
-        let named = as_named (named_type at.linked.now.program) in
-        let finish : Option (List Value) → Next = λ x. elim x [ None ↦ faults WrongKind | Some chars ↦ go (utf8_text (units_of chars)) ] in
-        let among = first_among it.object.values t.chars (named_first it.object t.chars t.chars_are) in
-        let reached = field (name_of (content old.heap) string) t.chars (it.reached w m)
-        (subst (λ x. Among t.chars (refs_of x)) (sym (it.in_world w m)) among) in
-        let there = sym (m.objects t.chars reached) ∙ ap (option_map named) t.array_is in
-        chars_are here (λ chars. go (utf8_text (units_of chars))) m
-        ∙ ap (λ x. finish (first_chars w x)) t.chars_are
-        ∙ ap (λ x. finish (elim x as (λ _. Option (List Value)) [ None ↦ None | Some o ↦ Some o.values ])) there
-        ∙ ap go (sym t.bytes_are)
+    is_text t here go m = has_chars t.chars_are t.array_is here (λ chars. go (utf8_text (units_of chars))) m ∙ ap go (sym t.bytes_are)
 
   -- the argument of a method of a print stream
   pub text_lies : (t : Text) → TextAmong (places (parts_at content at old)) t → TextLies (content old.heap) (string_in t)

@@ -15,7 +15,7 @@ use Rattle.jm_linked.proofs.Classes.{same_self}
 use Rattle.jm_state.specs.Parts.{program_class_name, name_in_program}
 use Rattle.jm_interp.specs.Initializing.{IsOwnSuperclass}
 
-get_past : {A : Type 0} (xs ys : List A) (n k : ℕ) → n ≡ k + length xs → slice_get (xs ++ ys) n ≡ slice_get ys k
+pub get_past : {A : Type 0} (xs ys : List A) (n k : ℕ) → n ≡ k + length xs → slice_get (xs ++ ys) n ≡ slice_get ys k
 get_past [] ys n k e = let same : n ≡ k = omega arith in ap (slice_get ys) same
 get_past (x ∷ xs) ys zero k e = absurd (omega arith)
 get_past (x ∷ xs) ys (suc n) k e = get_past xs ys n k (omega arith)
@@ -44,7 +44,7 @@ own_name (c ∷ cs) zero = refl
 own_name (c ∷ cs) (suc k) = own_name cs k
 
 -- the name of a built-in class by its number is known
-known : (bs : List BuiltIn) (rest : List (List ℕ)) (n : ℕ) → n < length bs
+pub known : (bs : List BuiltIn) (rest : List (List ℕ)) (n : ℕ) → n < length bs
     → is_some (built_in_named bs (slice_index_or (map (λ (b : BuiltIn). b.name) bs ++ rest) n [])) ≡ true
 known [] rest n lt = absurd (omega arith)
 known (b ∷ bs) rest zero lt =

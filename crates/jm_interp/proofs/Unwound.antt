@@ -126,7 +126,7 @@ module _ {H : Type 0} {content : H → Content ClassId} {at : At} {old : State H
         | Some r ↦ handle w (at.index + 1) x (name_of_number l v.method) (rename_activation f v.activation) (option_map f v.monitor) below k r
         | None ↦ drop_method w (at.index + 1) x (option_map f v.monitor) below k type
       ]) handlers
-      ∙ ap (λ o. drop_method w (at.index + 1) x (option_map f o) below k type) q.not_yet.frames.0.1
+      ∙ ap (λ o. drop_method w (at.index + 1) x (option_map f o) below k type) q.not_yet.frames.0
 
   -- an initialization fails its class
   frames_fail : (gs : List StackFrame) (class : ℕ) → class_on_top gs ≡ Some class → (w : World) (x : Thread) (k : ℕ) (type : ObjectType)

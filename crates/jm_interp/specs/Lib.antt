@@ -3,11 +3,17 @@ pub mod Ending
 pub mod Initializing
 pub mod Standing
 pub mod Stepped
+pub mod Calls
 pub mod Pushing
+pub mod Narrowing
 pub mod Returned
 pub mod Strings
+pub mod StringMethods
 pub mod Printing
 pub mod Tops
 pub mod TopObject
 pub mod Storing
 pub mod ArrayRows
+pub mod Readiness
+pub mod FieldRows
+pub mod Creating

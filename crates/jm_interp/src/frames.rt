@@ -1,6 +1,6 @@
 // The frames of a thread.
 
-ghost use Rattle.std.specs.Prelude.{◌≡◌, ◌+◌, ℕ, List, ◌∷◌, Ok, drop};
+ghost use Rattle.std.specs.Prelude.{◌≡◌, ◌+◌, ◌<◌, ◌^◌, ℕ, List, ◌∷◌, Ok, drop};
 ghost use Rattle.jm_frames.specs.FrameView.{FrameView};
 ghost use Rattle.jm_world.specs.Here.{with_frames};
 ghost use Rattle.jm_world.specs.Next.{goes};
@@ -9,14 +9,14 @@ ghost use Rattle.jm_state.specs.declared.thread.StackFrame.{StackFrame};
 ghost use Rattle.jm_state.specs.declared.thread.StackFrame.TheVariants.{Method, Initialization};
 ghost use Rattle.jm_interp.specs.At.{OnFrames, Does};
 ghost use Rattle.jm_interp.specs.Initializing.{Began, class_on_top};
-ghost use Rattle.jm_interp.specs.Returned.{Left, pop_fault};
-ghost use Rattle.jm_interp.specs.Standing.{ThreadRest, Stands, HasTop, Topped, RunsMethod, InAnyMethod};
+ghost use Rattle.jm_interp.specs.Returned.{Took, Left};
+ghost use Rattle.jm_interp.specs.Standing.{ThreadRest, Stands, HasTop, Topped};
 
 use crate::at::At;
-use crate::top_frame::top_method;
+use jm_frames::Frame;
 use jm_heap::Heap;
 use jm_state::{Halt, StackFrame, State, Thread};
-use jm_values::TagFault;
+use jm_values::{TagFault, Value};
 use jm_world::{Stage, Stop};
 use std::alloc::AllocError;
 
@@ -78,43 +78,57 @@ pub(crate) fn begin_above(
     Ok(())
 }
 
-/// Returns to the frame below the top one, which moves on if a method runs in it. Its operands are
-/// as they were: `Overflow` where they do not fit. OutOfMemory: its instruction has no number after
-/// it, which no code that fits in memory has. Nothing has changed then.
-pub(crate) fn leave_top(thread: &mut Thread) -> Result<(), Halt>
-    requires { (f : FrameView) × (b : StackFrame) × (below : List StackFrame) × (r : ThreadRest) × Stands thread.old (Method f ∷ b ∷ below) r }
-    ensures { (f : FrameView) (b : StackFrame) (below : List StackFrame) (r : ThreadRest) → Stands thread.old (Method f ∷ b ∷ below) r
-        → Left result thread.new f b below r }
+// Takes the result of a method that was called, if it has one, on the operands of the caller, which
+// moves on. `Overflow`: `max_stack` has no room for it (JVMS 2.6.2), and nothing has changed.
+#[inline]
+fn take_result(frame: &mut Frame, value: Option<Value>) -> Result<(), TagFault>
+    requires { frame.old.activation.at + 1 < 2 ^ 64 }
+    ensures { Took result value frame.old frame.new }
 {
-    let count = thread.frames.len();
-    match &mut thread.frames[count - 2] {
-        StackFrame::Method(frame) => {
-            if !frame.has_room(0) {
-                return Err(Halt::Stopped(Stop::TagFault(TagFault::Overflow)));
+    match value {
+        Some(value) => match frame.push(value) {
+            Ok(()) => {
+                frame.go_on();
+                Ok(())
             }
-            if frame.at() == usize::MAX {
-                return Err(Halt::OutOfMemory);
+            Err(fault) => Err(fault),
+        },
+        None => {
+            if !frame.has_room(0) {
+                return Err(TagFault::Overflow);
             }
             frame.go_on();
-            let _top = thread.frames.pop();
-            Ok(())
-        }
-        StackFrame::Initialization { class: _, stage: _ } => {
-            let _top = thread.frames.pop();
             Ok(())
         }
     }
 }
 
-/// Why a method without a result returns no value: an operand is there, and is of no type that it
-/// returns, or there is none.
-#[cold]
-pub(crate) fn value_fault(thread: &Thread) -> TagFault
-    requires { RunsMethod thread.now }
-    ensures { InAnyMethod thread.now (λ f below r. result ≡ pop_fault f.activation.stack) }
+/// Returns to the frame below the top one: if a method runs in it, it takes the result, if there is
+/// one, and moves on; the frame of an initialization stays as it is. `Overflow` where the operands do
+/// not fit. OutOfMemory: its instruction has no number after it, which no code that fits in memory
+/// has. Nothing has changed then.
+pub(crate) fn leave_top(thread: &mut Thread, value: Option<Value>) -> Result<(), Halt>
+    requires { (f : FrameView) × (b : StackFrame) × (below : List StackFrame) × (r : ThreadRest) × Stands thread.old (Method f ∷ b ∷ below) r }
+    ensures { (f : FrameView) (b : StackFrame) (below : List StackFrame) (r : ThreadRest) → Stands thread.old (Method f ∷ b ∷ below) r
+        → Left result thread.new value f b below r }
 {
-    match top_method(thread).operand(0) {
-        Some(_) => TagFault::WrongTag,
-        None => TagFault::Underflow,
+    let count = thread.frames.len();
+    match &mut thread.frames[count - 2] {
+        StackFrame::Method(frame) => {
+            if frame.at() == usize::MAX {
+                return Err(Halt::OutOfMemory);
+            }
+            match take_result(frame, value) {
+                Ok(()) => {
+                    let _top = thread.frames.pop();
+                    Ok(())
+                }
+                Err(fault) => Err(Halt::Stopped(Stop::TagFault(fault))),
+            }
+        }
+        StackFrame::Initialization { class: _, stage: _ } => {
+            let _top = thread.frames.pop();
+            Ok(())
+        }
     }
 }

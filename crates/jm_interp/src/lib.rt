@@ -8,28 +8,38 @@
 //! make the first and the last of these by themselves.
 //!
 //! `at` says where a step is made, and `specs/At` what it does: the words of all contracts. The files
-//! are named as the model's (`jm_world`): `stepping` chooses what is to be done; `plain`,
-//! `constants`, `arrays`, `type_checks`, `returns` and `built_in_methods` are the instructions, with the
-//! text of Strings in `strings`; `throwing`, `unwinding` and `ending` are what exceptions and ends do,
-//! `initialization` the stages of a class, with its `superclass`, over the calls on one thread in
-//! `top_frame`, `top_object`, `frames` and `print_operands`. A plain instruction looks up its thread,
-//! its top frame and its code, and takes no memory. The crate stands on `jm_state`, `jm_linked`,
-//! `jm_ops`, `jm_text` and `jm_heap`'s trait.
+//! are named as the model's (`jm_world`): `stepping` chooses what is to be done; `plain`, `constants`,
+//! `arrays`, `instances`, `fields`, `static_fields`, `type_checks`, `invocation`, `returns`,
+//! `string_methods` and `built_in_methods` are the instructions, with the text of Strings in `strings`,
+//! what variables keep of values in `narrowing` and the calls of methods with code in `calls`;
+//! `throwing`, `unwinding` and `ending` are what exceptions and ends do, `readiness` what classes ask for
+//! before they are used, `initialization` the stages of a class, with its `superclass`, over the calls on
+//! one thread in `top_frame`, `top_object`, `frames` and `print_operands`. A plain instruction looks up
+//! its thread, its top frame and its code, and takes no memory. The crate stands on `jm_state`,
+//! `jm_linked`, `jm_tables`, `jm_calls`, `jm_ops`, `jm_text` and `jm_heap`'s trait.
 #![tactic(auto)]
 
 mod arrays;
 mod at;
 mod built_in_methods;
+mod calls;
 mod class_number;
 mod constants;
 mod ending;
+mod fields;
 mod frames;
 mod initialization;
+mod instances;
+mod invocation;
+mod narrowing;
 mod plain;
 mod print_operands;
+mod readiness;
 mod returns;
 mod stages;
+mod static_fields;
 mod stepping;
+mod string_methods;
 mod strings;
 mod superclass;
 mod text;

@@ -28,7 +28,7 @@ fn is_string(id: ClassId) -> bool
 }
 
 // The array of the chars of the String at a place; none where the object is no String.
-fn chars_of<H: Heap>(heap: &H, string: Place) -> Option<Place>
+pub(crate) fn chars_of<H: Heap>(heap: &H, string: Place) -> Option<Place>
     requires { LiesAt (H.content heap.now) string }
     ensures chars { (k : ℕ) (o : ObjectOf ClassId) → serial_at (H.content heap.now) string ≡ Some k → object_at (H.content heap.now) k ≡ Some o
         → chars_of o ≡ option_map (name_of (H.content heap.now)) result }

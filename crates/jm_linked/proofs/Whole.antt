@@ -9,20 +9,18 @@ use Rattle.jm_program.specs.declared.descriptor.FieldType.{FieldType}
 use Rattle.jm_world.specs.Types.{same_types, same_result, same_method_type}
 use Rattle.jm_world.specs.Classes.{FoundMethod, MethodName, method_in}
 use Rattle.jm_world.specs.Loading.{main_in, main_type}
-use Rattle.jm_program.specs.declared.instruction.operation.FieldOp.{FieldOp}
-use Rattle.jm_program.specs.declared.instruction.operation.FieldOp.TheVariants.{GetStatic, PutStatic, GetField, PutField}
 use Rattle.jm_program.specs.declared.instruction.operation.InvokeOp.{InvokeOp}
 use Rattle.jm_program.specs.declared.instruction.operation.InvokeOp.TheVariants.{Virtual, Special, Static, Interface}
 use Rattle.jm_program.specs.declared.instruction.symbolic.Instr.{Instr}
-use Rattle.jm_program.specs.declared.reference.FieldRef.{FieldRef}
 use Rattle.jm_program.specs.declared.reference.MethodRef.{MethodRef}
+use Rattle.jm_linked.specs.declared.instruction.InvokedMethod.{InvokedMethod}
 use Rattle.jm_linked.specs.declared.instruction.LinkedInstr.{LinkedInstr}
 use Rattle.jm_linked.specs.declared.instruction.LinkedInstr.TheVariants as linked
 use Rattle.jm_linked.specs.declared.instruction.PrintMethod.{PrintMethod}
-use Rattle.jm_linked.specs.Links.{LinkedView, IsLinked, LinksIn, name_of_number, name_among, prints, reads_system_out}
+use Rattle.jm_linked.specs.Links.{LinkedView, IsLinked, LinksIn, name_of_number, name_among, prints}
 use Rattle.jm_linked.specs.declared.later.LaterPart.{LaterPart}
 use Rattle.jm_linked.specs.declared.later.LaterPart.TheVariants as later
-use Rattle.jm_linked.specs.Later.{print_among, print_methods, or_later, first_later, unless_empty, later_field, later_invoke, later_instruction, later_code}
+use Rattle.jm_linked.specs.Later.{print_among, print_methods, or_later, first_later, unless_empty, later_invoke, later_instruction, later_code}
 use Rattle.jm_linked.specs.Later.{later_use, later_in_code, later_superclass, later_declared_field, later_method, later_class, later_part}
 
 -- neither of two comes later
@@ -130,15 +128,11 @@ RunsToday (linked.Return op) = Unit {0}
 RunsToday (linked.Array op) = Unit {0}
 RunsToday (linked.Type op t) = Unit {0}
 RunsToday linked.SystemOut = Unit {0}
+RunsToday (linked.Field op n) = Unit {0}
 RunsToday (linked.Print p) = Unit {0}
+RunsToday (linked.Invoke Static n) = Unit {0}
+RunsToday (linked.New n) = Unit {0}
 RunsToday _ = ⊥
-
-field_later : (op : FieldOp) (f : FieldRef) → reads_system_out op f ≡ false → later_field op f ≡ None → ⊥
-field_later GetStatic f other e = let bad : Some (later.Field GetStatic) ≡ None = sym (ap (λ b. elim b as
-    (λ _. Option LaterPart) [ true ↦ None | false ↦ Some (later.Field GetStatic) ]) other) ∙ e in cc
-field_later PutStatic f other e = cc
-field_later GetField f other e = cc
-field_later PutField f other e = cc
 
 none_prints : (o : Option PrintMethod) → is_some o ≡ false → (elim o as (λ _. Option LaterPart) [
   | Some p ↦ None
@@ -148,11 +142,11 @@ none_prints : (o : Option PrintMethod) → is_some o ≡ false → (elim o as (�
 none_prints None other e = cc
 none_prints (Some p) other e = cc
 
-invoke_later : (op : InvokeOp) (m : MethodRef) → prints op m ≡ false → later_invoke op m ≡ None → ⊥
-invoke_later Virtual m other e = none_prints (print_among print_methods m) other e
-invoke_later Special m other e = cc
-invoke_later Static m other e = cc
-invoke_later Interface m other e = cc
+invoke_later : (op : InvokeOp) (m : MethodRef) (n : InvokedMethod) → prints op m ≡ false → later_invoke op m ≡ None → RunsToday (linked.Invoke op n)
+invoke_later Virtual m n other e = none_prints (print_among print_methods m) other e
+invoke_later Special m n other e = cc
+invoke_later Static m n other e = tt
+invoke_later Interface m n other e = cc
 
 -- an instruction that does not come later
 pub runs_today : (program : List ClassParts) (x : LinkedInstr) (i : Instr) → LinksIn program x i → later_instruction i ≡ None → RunsToday x
@@ -165,8 +159,8 @@ runs_today program (linked.Array op) i h e = tt
 runs_today program linked.Throw i h e = let bad : Some later.Throw ≡ None = sym (ap later_instruction h) ∙ e in cc
 runs_today program (linked.Monitor op) i h e = let bad : Some (later.Monitor op) ≡ None = sym (ap later_instruction h) ∙ e in cc
 runs_today program linked.SystemOut i h e = tt
-runs_today program (linked.Field op n) i h e = field_later op h.field h.other (sym (ap later_instruction h.is) ∙ e)
+runs_today program (linked.Field op n) i h e = tt
 runs_today program (linked.Print p) i h e = tt
-runs_today program (linked.Invoke op n) i h e = invoke_later op h.method h.other (sym (ap later_instruction h.is) ∙ e)
-runs_today program (linked.New n) i h e = let bad : Some later.New ≡ None = sym (ap later_instruction h.1) ∙ e in cc
+runs_today program (linked.Invoke op n) i h e = invoke_later op h.method n h.other (sym (ap later_instruction h.is) ∙ e)
+runs_today program (linked.New n) i h e = tt
 runs_today program (linked.Type op t) i h e = tt

@@ -14,10 +14,8 @@ use Rattle.jm_program.specs.declared.descriptor.BaseType.{BaseType}
 use Rattle.jm_program.specs.declared.descriptor.BaseType.TheVariants as base
 use Rattle.jm_program.specs.declared.descriptor.ElementType.{ElementType}
 use Rattle.jm_program.specs.declared.descriptor.ElementType.TheVariants.{Base, Class}
-use Rattle.jm_program.specs.declared.instruction.operation.FieldOp.{FieldOp}
-use Rattle.jm_program.specs.declared.instruction.operation.FieldOp.TheVariants.{GetStatic}
 use Rattle.jm_program.specs.declared.instruction.operation.InvokeOp.{InvokeOp}
-use Rattle.jm_program.specs.declared.instruction.operation.InvokeOp.TheVariants.{Virtual}
+use Rattle.jm_program.specs.declared.instruction.operation.InvokeOp.TheVariants.{Virtual, Static}
 use Rattle.jm_program.specs.declared.instruction.symbolic.Instr.{Instr}
 use Rattle.jm_program.specs.declared.instruction.symbolic.Instr.TheVariants as instr
 use Rattle.jm_program.specs.declared.reference.ClassRef.{ClassRef}
@@ -76,12 +74,9 @@ abbrev pub print_among : List PrintMethod → MethodRef → Option PrintMethod
 print_among [] m = None
 print_among (p ∷ ps) m = elim (is_print m p) [ true ↦ Some p | false ↦ print_among ps m ]
 
-abbrev pub later_field : FieldOp → FieldRef → Option LaterPart
-later_field GetStatic f = elim (is_system_out f) [ true ↦ None | false ↦ Some (later.Field GetStatic) ]
-later_field op f = Some (later.Field op)
-
 abbrev pub later_invoke : InvokeOp → MethodRef → Option LaterPart
 later_invoke Virtual m = elim (print_among print_methods m) [ Some p ↦ None | None ↦ Some (later.Invoke Virtual) ]
+later_invoke Static m = None
 later_invoke op m = Some (later.Invoke op)
 
 -- an instruction that cannot be run yet
@@ -92,9 +87,9 @@ later_instruction (instr.Return op) = None
 later_instruction instr.Throw = Some later.Throw
 later_instruction (instr.Monitor op) = Some (later.Monitor op)
 later_instruction (instr.Constant c) = None
-later_instruction (instr.Field op f) = later_field op f
+later_instruction (instr.Field op f) = None
 later_instruction (instr.Invoke op m) = later_invoke op m
-later_instruction (instr.New name) = Some later.New
+later_instruction (instr.New name) = None
 later_instruction (instr.Type op t) = None
 
 -- a use of a class whose objects are threads, or that starting one throws, by its name

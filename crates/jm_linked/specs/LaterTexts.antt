@@ -1,6 +1,6 @@
 -- How a part that cannot be run yet is printed: an instruction by its mnemonic.
 use Rattle.std.specs.Prelude.{ℕ, List, codes}
-use Rattle.jm_program.specs.Mnemonics.{monitor_mnemonic, field_mnemonic, invoke_mnemonic}
+use Rattle.jm_program.specs.Mnemonics.{monitor_mnemonic, invoke_mnemonic}
 use Rattle.jm_linked.specs.declared.later.LaterPart.{LaterPart}
 use Rattle.jm_linked.specs.declared.later.LaterPart.TheVariants as later
 
@@ -13,6 +13,4 @@ later_text later.Synchronized = codes "synchronized"
 later_text later.Handlers = codes "handlers"
 later_text later.Throw = codes "athrow"
 later_text (later.Monitor op) = monitor_mnemonic op
-later_text (later.Field op) = field_mnemonic op
 later_text (later.Invoke op) = invoke_mnemonic op
-later_text later.New = codes "new"

@@ -6,6 +6,7 @@ use Rattle.jm_builtins.specs.Numbers.{built_in_names}
 use Rattle.jm_world.specs.Hierarchy.{is_subclass}
 use Rattle.jm_world.specs.Resolution.{select}
 use Rattle.jm_radix.specs.Tables.{row_at}
+use Rattle.jm_tables.specs.FieldKinds.{AreKinds}
 use Rattle.jm_tables.specs.Hierarchies.{is_above}
 use Rattle.jm_tables.specs.Layouts.{IsLayout, classes_of}
 use Rattle.jm_tables.specs.MethodTables.{IsNumberOf}
@@ -34,12 +35,13 @@ AreSuperclasses program numbers = (class : ℕ) (c : ClassParts) → slice_get (
     → (number : Option ℕ) × (slice_get numbers class ≡ Some number) × IsSuperclass program c.superclass number
 
 -- one class is another or has it above itself just where the model says so, the fields have the
--- model's places and numbers, the model's methods are selected, those with code have numbers in
--- their order, and each class has its superclass's number
+-- model's places and numbers and hold the model's kinds of values, the model's methods are selected,
+-- those with code have numbers in their order, and each class has its superclass's number
 pub record AreTables (program : List ClassParts) (tables : Tables) : Type 0 where
   pub hierarchy : (class above : ℕ) → class < length (all_names program) → above < length (all_names program)
       → is_above tables.hierarchy class above ≡ is_subclass program (name_of (all_names program) class) (name_of (all_names program) above)
   pub layout : IsLayout program (all_names program) tables.layout
+  pub kinds : AreKinds program (all_names program) tables.kinds
   pub selected : AreSelected program tables.selected
   pub codes : tables.codes ≡ code_numbers program
   pub superclasses : AreSuperclasses program tables.superclasses

@@ -3,7 +3,7 @@
 ghost use Rattle.std.specs.Prelude.{Some};
 ghost use Rattle.jm_linked.specs.LaterTexts.{later_text};
 
-use jm_program::{FieldOp, InvokeOp, MonitorOp};
+use jm_program::{InvokeOp, MonitorOp};
 use std::fmt;
 use std::fmt::Display;
 
@@ -25,10 +25,7 @@ pub enum LaterPart {
     /// `athrow`.
     Throw,
     Monitor(MonitorOp),
-    Field(FieldOp),
     Invoke(InvokeOp),
-    /// `new`.
-    New,
 }
 
 /// The mnemonic of an instruction, the name of a class, or that of the part.
@@ -48,9 +45,7 @@ impl Display for LaterPart {
             LaterPart::Handlers => f.write_str("handlers"),
             LaterPart::Throw => f.write_str("athrow"),
             LaterPart::Monitor(op) => write!(f, "{op}"),
-            LaterPart::Field(op) => write!(f, "{op}"),
             LaterPart::Invoke(op) => write!(f, "{op}"),
-            LaterPart::New => f.write_str("new"),
         }
     }
 }

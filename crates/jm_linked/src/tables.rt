@@ -1,7 +1,7 @@
 // What a program's classes have, by their numbers.
 
 use jm_program::Sequence;
-use jm_tables::{Hierarchy, Layout, MethodTable};
+use jm_tables::{FieldKinds, Hierarchy, Layout, MethodTable};
 
 /// What a program's classes have, by their numbers.
 #[derive(Drop)]
@@ -10,6 +10,8 @@ pub struct Tables {
     pub hierarchy: Hierarchy,
     /// Where their fields stand, in instances and among the static ones (JVMS 2.5.3, 2.7, 5.5).
     pub layout: Layout,
+    /// What kinds of values the fields of their instances hold (JVMS 2.3, 2.4, 6.5 new).
+    pub kinds: FieldKinds,
     /// The methods that are selected for an object of a class, by selector: a selector stands for a
     /// name and a type, and a method's number is that among the methods of all classes, those of the
     /// built-in ones first, of each as declared (JVMS 5.4.5, 6.5 invokevirtual).

@@ -2,7 +2,7 @@
 
 ghost use Rattle.std.specs.Prelude.{◌≡◌, [], ◌∷◌, None, Some, cond, false};
 ghost use Rattle.jm_linked.specs.Later.{is_class_called, is_system_out, base_type, printed_type, print_name, print_parameters, is_print, print_among};
-ghost use Rattle.jm_linked.specs.Later.{print_methods, later_field, later_invoke, later_instruction, later_name, later_element};
+ghost use Rattle.jm_linked.specs.Later.{print_methods, later_invoke, later_instruction, later_name, later_element};
 ghost use Rattle.jm_linked.specs.Later.{later_class_ref, later_use, later_in_code, first_later, later_code, is_main_method};
 ghost use Rattle.jm_linked.specs.Later.{later_superclass, later_constant_value, later_declared_field, later_method};
 ghost use Rattle.jm_linked.specs.Later.{later_class, later_part};
@@ -17,7 +17,7 @@ use crate::types::letter;
 use jm_linked::{LaterPart, PrintMethod, Printed};
 use jm_program::{
     AccessFlags, BaseType, Class, ClassParts, ClassRef, Code, Constant, ElementType, Field,
-    FieldOp, FieldRef, FieldType, Instr, InvokeOp, Method, MethodDescriptor, MethodRef, Name,
+    FieldRef, FieldType, Instr, InvokeOp, Method, MethodDescriptor, MethodRef, Name,
 };
 
 fn is_system_ref(class: &ClassRef) -> bool
@@ -170,21 +170,6 @@ pub fn print_method(method: &MethodRef) -> Option<PrintMethod>
     print_among(&PRINT_METHODS, method)
 }
 
-fn later_field(op: FieldOp, field: &FieldRef) -> Option<LaterPart>
-    ensures { result ≡ later_field op field.now }
-{
-    match op {
-        FieldOp::GetStatic => {
-            if is_system_out(field) {
-                None
-            } else {
-                Some(LaterPart::Field(op))
-            }
-        }
-        _ => Some(LaterPart::Field(op)),
-    }
-}
-
 fn later_invoke(op: InvokeOp, method: &MethodRef) -> Option<LaterPart>
     ensures { result ≡ later_invoke op method.now }
 {
@@ -193,7 +178,8 @@ fn later_invoke(op: InvokeOp, method: &MethodRef) -> Option<LaterPart>
             Some(_) => None,
             None => Some(LaterPart::Invoke(op)),
         },
-        _ => Some(LaterPart::Invoke(op)),
+        InvokeOp::Static => None,
+        InvokeOp::Special | InvokeOp::Interface => Some(LaterPart::Invoke(op)),
     }
 }
 
@@ -202,12 +188,10 @@ fn later_instruction(instruction: &Instr) -> Option<LaterPart>
 {
     match instruction {
         Instr::Plain(_) | Instr::Return(_) | Instr::Constant(_) => None,
-        Instr::Array(_) | Instr::Type(_, _) => None,
+        Instr::Array(_) | Instr::Field(_, _) | Instr::New(_) | Instr::Type(_, _) => None,
         Instr::Throw => Some(LaterPart::Throw),
         Instr::Monitor(op) => Some(LaterPart::Monitor(*op)),
-        Instr::Field(op, field) => later_field(*op, field.get()),
         Instr::Invoke(op, method) => later_invoke(*op, method.get()),
-        Instr::New(_) => Some(LaterPart::New),
     }
 }
 

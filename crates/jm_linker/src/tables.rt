@@ -1,5 +1,5 @@
-// What a program's classes have by their numbers: which are above which, where their fields stand,
-// and which methods are selected for them.
+// What a program's classes have by their numbers: which are above which, where their fields stand
+// and what these hold, and which methods are selected for them.
 
 ghost use Rattle.std.specs.Prelude.{◌≡◌, ◌∷◌, [], IfOk, IfSome, Some, length, map, option_to_list};
 ghost use Rattle.jm_world.specs.Hierarchy.{parents};
@@ -18,7 +18,7 @@ use crate::selected::selected_of;
 use jm_linked::Tables;
 use jm_program::{AccessFlags, ClassParts, Name, Sequence};
 use jm_radix::Cell;
-use jm_tables::{Declared, DeclaredFields, Hierarchy, Layout};
+use jm_tables::{Declared, DeclaredFields, FieldKinds, Hierarchy, Layout};
 use std::alloc::{AllocError, Global};
 
 // The numbers of the classes of the names, or none where one is not there.
@@ -211,7 +211,7 @@ fn order_of<'a>(
 
 /// What the classes of a program that loads have by their numbers, made in the order of the ranks;
 /// or none where a class above one is not there or has no lower rank. It takes 64 bytes for each
-/// digit of a class's number, to the base 16, 48 more for a class and 8 for a field, 16 for a static
+/// digit of a class's number, to the base 16, 56 more for a class and 10 for a field, 16 for a static
 /// one.
 pub fn tables_of<'a>(
     alloc: Global,
@@ -233,6 +233,9 @@ pub fn tables_of<'a>(
     let Some(layout) = Layout::of(alloc, &fields, &order)? else {
         return Ok(None);
     };
+    let Some(kinds) = FieldKinds::of(alloc, &fields, &order)? else {
+        return Ok(None);
+    };
     let superclasses = Sequence::new(superclasses_in(alloc, &fields)?);
     let Some(selected) = selected_of(alloc, classes, &heirs, &order)? else {
         return Ok(None);
@@ -241,6 +244,7 @@ pub fn tables_of<'a>(
     Ok(Some(Tables {
         hierarchy,
         layout,
+        kinds,
         selected,
         codes,
         superclasses,

@@ -180,7 +180,7 @@ module _ (l : LinkedView) (i : IsLinked l) (none_later : later_part l.program â‰
     not_yet = record {
       program = none_later;
       threads = (
-        subst (ThreadNotYet l) (sym first_held) (record { object = refl; frames = (tt, ((refl, refl), tt)) }),
+        subst (ThreadNotYet l) (sym first_held) (record { object = refl; frames = (tt, (refl, tt)) }),
         tt,
       );
       monitors = refl;

@@ -40,8 +40,14 @@ linked 1 <= main getstatic java/lang/System/out Ljava/io/PrintStream; / iconst_2
 # constructors are invoked by invokespecial alone
 55 WrongKind(<init>) <= main invokevirtual Main/<init>()V
 54 NoMethod(<init>) <= main invokespecial Main/<init>()V
+# uses of fields and new objects
+linked 1 <= main new java/lang/Object / pop
+linked 1 <= main getstatic A/x I / putstatic A/x I / aconst_null / getfield A/y J & .class public A / .super java/lang/Object / .field static x I / .field y J
+# static methods
+linked 2 <= main invokestatic A/f(J)J / pop & .class public A / .super java/lang/Object / .method static f(J)J / .limit stack 2 / .limit locals 2 / lload_0 / lreturn / .end method
 # instructions that come later
-16 Later(new) <= main new java/lang/Object
+16 Later(invokespecial) <= main new java/lang/Object / invokespecial java/lang/Object/<init>()V
+16 Later(invokevirtual) <= main ldc \"x\" / invokevirtual java/lang/String/length()I / pop
 16 Later(athrow) <= main athrow
 16 Later(athrow) <= main & .class public A / .super java/lang/Object / .method public f()V / aload_0 / athrow / .end method
 # threads come later, by the names of their classes
@@ -126,6 +132,6 @@ fn programs_link_as_their_rows_say(rt: HostRuntime) -> Result<(), Fail> {
             rows = rows.saturating_add(1);
         }
     }
-    assert!(rt; rows == 40);
+    assert!(rt; rows == 44);
     Ok(())
 }

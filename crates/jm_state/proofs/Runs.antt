@@ -80,7 +80,7 @@ frame_same l (Method f) = (λ r. r, λ r. r)
 frame_same l (Initialization class stage) = (λ r. r, λ r. r)
 
 frame_not_yet : (l : LinkedView) (f : StackFrame) → FrameNotYet l f ↔ FrameNotYet l (erased_frame f)
-frame_not_yet l (Method f) = let free = none_same f.monitor in (λ r. (r.0, free.0 r.1), λ r. (r.0, free.1 r.1))
+frame_not_yet l (Method f) = none_same f.monitor
 frame_not_yet l (Initialization class stage) = (λ r. r, λ r. r)
 
 object_same : (t : HeldThread) → (t.object ≡ None) ↔ ((erase t).object ≡ None)

@@ -21,9 +21,9 @@ pub record ThreadRuns (l : LinkedView) (t : HeldThread) : Type 0 where
   pub frames : AllByRecursion (FrameRuns l) t.frames
   pub few : length t.frames ≤ 512
 
--- a method frame is of main, and of no monitor, as no invoke is made yet
+-- a method frame is of no monitor, as no synchronized method is invoked yet
 abbrev pub FrameNotYet : LinkedView → StackFrame → Type 0
-FrameNotYet l (Method f) = (f.method ≡ l.main) × (f.monitor ≡ None)
+FrameNotYet l (Method f) = f.monitor ≡ None
 FrameNotYet l (Initialization class stage) = Unit {0}
 
 -- what no thread comes to while linking refuses the use of Thread and invokes

@@ -4,6 +4,7 @@ use Rattle.std.specs.Prelude.{IfSome, map}
 use Rattle.jm_world.specs.Classes.{height}
 use Rattle.jm_world.specs.Hierarchy.{is_subclass}
 use Rattle.jm_world.specs.Loads.{Loads}
+use Rattle.jm_tables.specs.FieldKinds.{AreKinds}
 use Rattle.jm_tables.specs.Hierarchies.{is_above}
 use Rattle.jm_tables.specs.Layouts.{AreFields, IsLayout}
 use Rattle.jm_tables.specs.declared.extent.DeclaredFields.{DeclaredFields}
@@ -38,9 +39,11 @@ returns c =
           c.in-Some-2.is (c.in_ok-hierarchy.ensures.above_them program names (are_heirs program c.deref.result.now loads gathered));
       layout = subst (λ o. IfSome o (λ layout. IsLayout program names layout))
           c.in-Some-4.is (c.in_ok-layout.ensures.laid_out program names (subst (AreFields program names) (sym c.deref-4.ensures.value) declared));
-      selected = subst (λ o. IfSome o (λ selected. Loads program → AreClasses program (height program) c.deref-7.result.now → AreSelected program selected))
-          c.in-Some-5.is c.in_ok-selected.ensures loads (subst (AreClasses program (height program)) (sym c.deref-7.ensures.value) are);
+      kinds = subst (λ o. IfSome o (λ kinds. AreKinds program names kinds))
+          c.in-Some-5.is (c.in_ok-kinds.ensures.kinds program names (subst (AreFields program names) (sym c.deref-6.ensures.value) declared));
+      selected = subst (λ o. IfSome o (λ selected. Loads program → AreClasses program (height program) c.deref-9.result.now → AreSelected program selected))
+          c.in-Some-6.is c.in_ok-selected.ensures loads (subst (AreClasses program (height program)) (sym c.deref-9.ensures.value) are);
       codes = c.new-codes.ensures ∙ c.in_ok-code_numbers.ensures;
       superclasses = subst (AreSuperclasses program) (sym (c.new-superclasses.ensures ∙ c.in_ok-superclasses_in.ensures
-          ∙ ap (map (λ (d : DeclaredFields). d.superclass)) c.deref-6.ensures.value)) (are_superclasses program fields declared);
+          ∙ ap (map (λ (d : DeclaredFields). d.superclass)) c.deref-8.ensures.value)) (are_superclasses program fields declared);
     }

@@ -1,0 +1,105 @@
+// Invocations of methods.
+
+ghost use Rattle.std.specs.Prelude.{IfSome};
+ghost use Rattle.jm_world.specs.Classes.{FoundMethod};
+ghost use Rattle.jm_program.specs.declared.instruction.operation.InvokeOp.TheVariants as invoke_op;
+ghost use Rattle.jm_linked.specs.Links.{IsMethodOf, Links};
+ghost use Rattle.jm_linked.specs.declared.instruction.LinkedInstr.TheVariants as linked_instr;
+ghost use Rattle.jm_interp.specs.At.{InMethod, StandsOn, Does, Steps, in_method};
+ghost use Rattle.jm_interp.specs.Calls.{IsCodeOf, HasParameters, calls_static};
+
+use crate::at::At;
+use crate::calls::call;
+use crate::readiness::{begin_initialization, is_ready};
+use crate::top_frame::top_method;
+use jm_calls::test_parameters;
+use jm_heap::Heap;
+use jm_linked::{InvokedMethod, Linked, LinkedMethod, MemberNumber};
+use jm_program::FieldType;
+use jm_state::{Halt, State, StepEnd};
+use jm_world::Stop;
+
+// Whether a linked method stands before one that a class of the program declares, in the order of the
+// classes and of the methods of each.
+fn is_before(method: &LinkedMethod, class: u32, member: u32) -> bool {
+    method.class < class || method.class == class && method.member < member
+}
+
+// Where a method of a class of the program would stand among those with code, which are in order.
+fn search(methods: &[LinkedMethod], class: u32, member: u32) -> usize {
+    let mut low = 0;
+    let mut high = methods.len();
+    while low < high {
+        let middle = low + (high - low) / 2;
+        if is_before(&methods[middle], class, member) {
+            low = middle + 1;
+        } else {
+            high = middle;
+        }
+    }
+    low
+}
+
+/// The number among those with code of a method that a class declares; none where it has no code. In
+/// as many steps as the number of all has binary digits.
+pub(crate) fn code_number(linked: &Linked, method: MemberNumber) -> Option<u32>
+    ensures { IfSome result (λ number. IsCodeOf linked.now method number) }
+{
+    let class = method.class.checked_sub(linked.built_ins().len() as u32)?;
+    let number = search(linked.methods(), class, method.member);
+    let found = linked.methods().get(number)?;
+    if found.class != class || found.member != method.member {
+        return None;
+    }
+    u32::try_from(number).ok()
+}
+
+/// The parameters of a method, by its number among those with code.
+fn parameters_of(linked: &Linked, number: u32) -> Option<&[FieldType]>
+    ensures { IfSome result (λ parameters. HasParameters linked.now number parameters.now) }
+{
+    let method = linked.methods().get(number as usize)?;
+    let class = linked.classes().get(method.class as usize)?.parts();
+    let declared = class.methods.as_slice().get(method.member as usize)?;
+    Some(declared.descriptor.parameters.as_slice())
+}
+
+/// Calls a static method whose class is initialized, by the number with which its class declares it
+/// (JVMS 6.5 invokestatic): the operands on top are tested as its arguments. OutOfMemory where the
+/// class declares no method of that number with code, as every static one of a program that loads has.
+pub(crate) fn call_static<H: Heap>(
+    at: At<'_>,
+    state: &mut State<H>,
+    method: MemberNumber,
+) -> Result<StepEnd, Halt>
+    requires { InMethod H.content at state.old }
+    ensures { (found : FoundMethod) → IsMethodOf at.entry.linked.now.program method found
+        → Does H.content at.entry state.old result state.new (in_method (calls_static found.method.descriptor.parameters found)) }
+{
+    let Some(number) = code_number(at.linked, method) else {
+        return Err(Halt::OutOfMemory);
+    };
+    let Some(parameters) = parameters_of(at.linked, number) else {
+        return Err(Halt::OutOfMemory);
+    };
+    match test_parameters(top_method(&state.threads[at.index]), parameters) {
+        Ok(()) => call(at, state, number, parameters.len()),
+        Err(fault) => Err(Halt::Stopped(Stop::TagFault(fault))),
+    }
+}
+
+/// Makes `invokestatic` (JVMS 6.5): the class that declares the method is initialized first.
+/// OutOfMemory: a growth was refused, and nothing has changed.
+pub(crate) fn invoke_static<H: Heap>(
+    at: At<'_>,
+    state: &mut State<H>,
+    method: InvokedMethod,
+) -> Result<StepEnd, Halt>
+    requires { StandsOn H.content at state.old (Links at.linked.now (linked_instr.Invoke invoke_op.Static method)) }
+    ensures { Steps H.content at.entry state.old result state.new }
+{
+    if !is_ready(at, state, method.found.class) {
+        return begin_initialization(at, state, method.found.class);
+    }
+    call_static(at, state, method.found)
+}
