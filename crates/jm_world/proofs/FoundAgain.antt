@@ -29,7 +29,7 @@ use Rattle.jm_world.specs.NamesOfRuns.{IsThere, HasBody}
 use Rattle.jm_world.proofs.CalledMethods.{both_true, IsNamed, Declares, up_named, taken, along_got, resolved_got, found_name}
 
 -- types that are the same are equal
-nat_is : (a b : ℕ) → nat_eq a b ≡ true → a ≡ b
+pub nat_is : (a b : ℕ) → nat_eq a b ≡ true → a ≡ b
 nat_is a b e = by (eqb_tells a b)
   where
     by : ((nat_eq a b ≡ true) × (a ≡ b)) ⊎ ((nat_eq a b ≡ false) × (a ≢ b)) → a ≡ b
@@ -67,13 +67,13 @@ element_is (Class m) (Class n) e = ap Class ((bytes_decides m n).0 e)
 element_is (Base a) (Class n) e = cc
 element_is (Class m) (Base b) e = cc
 
-type_is : (a b : FieldType) → same_type a b ≡ true → a ≡ b
+pub type_is : (a b : FieldType) → same_type a b ≡ true → a ≡ b
 type_is a b e =
     let parts : (nat_eq a.dimensions b.dimensions ≡ true) × (same_element a.element b.element ≡ true) = both_true (nat_eq a.dimensions b.dimensions) (same_element a.element b.element) e in
     ap (λ n. let x : FieldType = record { dimensions = n; element = a.element } in x) (nat_is a.dimensions b.dimensions parts.0)
     ∙ ap (λ t. let x : FieldType = record { dimensions = b.dimensions; element = t } in x) (element_is a.element b.element parts.1)
 
-types_are : (as' bs : List FieldType) → same_types as' bs ≡ true → as' ≡ bs
+pub types_are : (as' bs : List FieldType) → same_types as' bs ≡ true → as' ≡ bs
 types_are [] [] e = refl
 types_are [] (b ∷ bs) e = cc
 types_are (a ∷ as') [] e = cc
@@ -87,7 +87,7 @@ result_is None (Some b) e = cc
 result_is (Some a) None e = cc
 result_is (Some a) (Some b) e = ap Some (type_is a b e)
 
-method_type_is : (a b : MethodDescriptor) → same_method_type a b ≡ true → a ≡ b
+pub method_type_is : (a b : MethodDescriptor) → same_method_type a b ≡ true → a ≡ b
 method_type_is a b e =
     let parts : (same_types a.parameters b.parameters ≡ true) × (same_result a.return_type b.return_type ≡ true) = both_true (same_types a.parameters b.parameters) (same_result a.return_type b.return_type) e in
     ap (λ ps. let x : MethodDescriptor = record { parameters = ps; return_type = a.return_type } in x) (types_are a.parameters b.parameters parts.0)
@@ -102,7 +102,7 @@ built_in_name (b ∷ bs) k c e = by (same_text b.name k) refl e (built_in_name b
     by true q h ih = let same : as_class b ≡ c = cc in subst (λ z. same_text z.name k ≡ true) same q
     by false q h ih = ih h
 
-class_name_is : (cs : List ClassParts) (k : List ℕ) (c : ClassParts) → class_among cs k ≡ Some c → same_text c.name k ≡ true
+pub class_name_is : (cs : List ClassParts) (k : List ℕ) (c : ClassParts) → class_among cs k ≡ Some c → same_text c.name k ≡ true
 class_name_is [] k c e = built_in_name the_builtins k c e
 class_name_is (d ∷ ds) k c e = by (same_text d.name k) refl e (class_name_is ds k c)
   where
@@ -110,11 +110,11 @@ class_name_is (d ∷ ds) k c e = by (same_text d.name k) refl e (class_name_is d
     by true q h ih = let same : d ≡ c = cc in subst (λ z. same_text z.name k ≡ true) same q
     by false q h ih = ih h
 
-class_again : (program : List ClassParts) (k : List ℕ) (c : ClassParts) → class_named program k ≡ Some c → class_named program c.name ≡ Some c
+pub class_again : (program : List ClassParts) (k : List ℕ) (c : ClassParts) → class_named program k ≡ Some c → class_named program c.name ≡ Some c
 unfolding class_named
 class_again program k c e = subst (λ n. class_among program n ≡ Some c) (sym ((bytes_decides c.name k).0 (class_name_is program k c e))) e
 
-found_type : (ms : List Method) (name : List ℕ) (t : MethodDescriptor) (m : Method) → method_in ms name t ≡ Some m → same_method_type m.descriptor t ≡ true
+pub found_type : (ms : List Method) (name : List ℕ) (t : MethodDescriptor) (m : Method) → method_in ms name t ≡ Some m → same_method_type m.descriptor t ≡ true
 found_type [] name t m e = cc
 found_type (x ∷ xs) name t m e = by (same_text x.name name && same_method_type x.descriptor t) refl e (found_type xs name t m)
   where
@@ -122,7 +122,7 @@ found_type (x ∷ xs) name t m e = by (same_text x.name name && same_method_type
     by true q h ih = let same : x ≡ m = cc in subst (λ z. same_method_type z.descriptor t ≡ true) same (both_true (same_text x.name name) (same_method_type x.descriptor t) q).1
     by false q h ih = ih h
 
-method_again : (ms : List Method) (name : List ℕ) (t : MethodDescriptor) (m : Method) → method_in ms name t ≡ Some m → method_in ms m.name m.descriptor ≡ Some m
+pub method_again : (ms : List Method) (name : List ℕ) (t : MethodDescriptor) (m : Method) → method_in ms name t ≡ Some m → method_in ms m.name m.descriptor ≡ Some m
 method_again ms name t m e = subst (λ n. method_in ms n m.descriptor ≡ Some m) (sym ((bytes_decides m.name name).0 (found_name ms name t m e)))
     (subst (λ d. method_in ms name d ≡ Some m) (sym (method_type_is m.descriptor t (found_type ms name t m e))) e)
 
@@ -131,18 +131,18 @@ abbrev pub CallRuns : List ClassParts → Option FoundMethod → Type 0
 CallRuns program None = Unit {0}
 CallRuns program (Some found) = IsThere found.method.code → HasBody (method_named program (name_of_method found))
 
-again : (program : List ClassParts) (name : List ℕ) (t : MethodDescriptor) (found : FoundMethod) → Declares program name t found → IsThere found.method.code → HasBody (method_named program (name_of_method found))
+pub again : (program : List ClassParts) (name : List ℕ) (t : MethodDescriptor) (found : FoundMethod) → Declares program name t found → IsThere found.method.code → HasBody (method_named program (name_of_method found))
 again program name t found d i = subst (λ o. HasBody (method_of_class o (name_of_method found))) (sym (class_again program d.0.0 found.class d.0.1))
     (subst HasBody (sym (method_again found.class.methods name t found.method d.1)) i)
 
-declared_runs : (program : List ClassParts) (name : List ℕ) (t : MethodDescriptor) (o : Option FoundMethod) → ((found : FoundMethod) → o ≡ Some found → Declares program name t found) → CallRuns program o
+pub declared_runs : (program : List ClassParts) (name : List ℕ) (t : MethodDescriptor) (o : Option FoundMethod) → ((found : FoundMethod) → o ≡ Some found → Declares program name t found) → CallRuns program o
 declared_runs program name t None f = tt
 declared_runs program name t (Some found) f = again program name t found (f found refl)
 
 pub resolved : (program : List ClassParts) (class name : List ℕ) (t : MethodDescriptor) → CallRuns program (resolve_method program class name t)
 resolved program class name t = declared_runs program name t (resolve_method program class name t) (resolved_got program class name t)
 
-instance_got : (p : Bool) (program : List ClassParts) (name : List ℕ) (t : MethodDescriptor) (found : FoundMethod) (cs : List ClassParts) → AllByRecursion (IsNamed program) cs → instance_along p cs name t ≡ Some found → Declares program name t found
+pub instance_got : (p : Bool) (program : List ClassParts) (name : List ℕ) (t : MethodDescriptor) (found : FoundMethod) (cs : List ClassParts) → AllByRecursion (IsNamed program) cs → instance_along p cs name t ≡ Some found → Declares program name t found
 instance_got p program name t found [] a e = cc
 instance_got p program name t found (c ∷ cs) a e = by (instance_got p program name t found cs a.1) (method_in c.methods name t) refl e
   where
@@ -159,7 +159,7 @@ pub selected : (program : List ClassParts) (class name : List ℕ) (t : MethodDe
 unfolding select chain
 selected program class name t = declared_runs program name t (instance_along false (up_from (height program) program class) name t) (λ found e. instance_got false program name t found (up_from (height program) program class) (up_named (height program) program class) e)
 
-special_selected : (program : List ClassParts) (class name : List ℕ) (t : MethodDescriptor) → CallRuns program (select_special program class name t)
+pub special_selected : (program : List ClassParts) (class name : List ℕ) (t : MethodDescriptor) → CallRuns program (select_special program class name t)
 unfolding select_special chain
 special_selected program class name t = declared_runs program name t (instance_along true (up_from (height program) program class) name t) (λ found e. instance_got true program name t found (up_from (height program) program class) (up_named (height program) program class) e)
 
@@ -189,7 +189,7 @@ initially program class = by (class_named program class) refl
     by None q = tt
     by (Some c) q = one c q (method_in c.methods (codes "<clinit>") initializer_type) refl
 
-first_named : (c : ClassParts) (cs : List ClassParts) → class_named (c ∷ cs) c.name ≡ Some c
+pub first_named : (c : ClassParts) (cs : List ClassParts) → class_named (c ∷ cs) c.name ≡ Some c
 unfolding class_named
 first_named c cs = by (same_text c.name c.name) ((bytes_decides c.name c.name).1 refl)
   where
