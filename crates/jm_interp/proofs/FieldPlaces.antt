@@ -19,6 +19,7 @@ use Rattle.jm_world.specs.Hierarchy.{chain, holds_of_any, is_below, is_subclass,
 use Rattle.jm_world.specs.Loads.{Loads, refusal, wrong_kind, first_of_all, same_bool, is_sealed, is_strange_interface}
 use Rattle.jm_world.specs.Loads.{superclass_of_kind, superclass_refusal, interface_of_kind, parents_refusal}
 use Rattle.jm_world.specs.Objects.{instance_fields, place_of_field}
+use Rattle.jm_world.proofs.FoundAgain.{class_name_is}
 use Rattle.jm_tables.specs.Layouts.{StandsInChain, slot_at, static_fields}
 use Rattle.jm_tables.specs.Numbering.{name_of}
 use Rattle.jm_tables.specs.declared.layout.FieldSlot.TheVariants.{Instance, Static}
@@ -74,30 +75,12 @@ implied : (a b : Bool) → (not a || b) ≡ true → a ≡ true → b ≡ true
 implied true b e h = e
 implied false b e h = cc
 
-text_is : (a b : List ℕ) → same_text a b ≡ true → a ≡ b
+pub text_is : (a b : List ℕ) → same_text a b ≡ true → a ≡ b
 text_is a b e = (bytes_decides a b).0 e
 
-has_own_name : (program : List ClassParts) (name : List ℕ) (c : ClassParts) → class_named program name ≡ Some c → same_text c.name name ≡ true
+pub has_own_name : (program : List ClassParts) (name : List ℕ) (c : ClassParts) → class_named program name ≡ Some c → same_text c.name name ≡ true
 unfolding class_named
-has_own_name program name c e = among program e
-  where
-    built_in : (bs : List BuiltIn) → built_in_named bs name ≡ Some c → same_text c.name name ≡ true
-    built_in [] h = cc
-    built_in (b ∷ bs) h = by (built_in bs) (same_text b.name name) refl h
-      where
-        by : (built_in_named bs name ≡ Some c → same_text c.name name ≡ true) → (t : Bool) → same_text b.name name ≡ t
-            → (elim t as (λ _. Option ClassParts) [ true ↦ Some (as_class b) | false ↦ built_in_named bs name ]) ≡ Some c → same_text c.name name ≡ true
-        by rest true t g = let same : as_class b ≡ c = cc in subst (λ (x : ClassParts). same_text x.name name ≡ true) same t
-        by rest false t g = rest g
-
-    among : (cs : List ClassParts) → class_among cs name ≡ Some c → same_text c.name name ≡ true
-    among [] h = built_in the_builtins h
-    among (d ∷ ds) h = by (among ds) (same_text d.name name) refl h
-      where
-        by : (class_among ds name ≡ Some c → same_text c.name name ≡ true) → (t : Bool) → same_text d.name name ≡ t
-            → (elim t as (λ _. Option ClassParts) [ true ↦ Some d | false ↦ class_among ds name ]) ≡ Some c → same_text c.name name ≡ true
-        by rest true t g = let same : d ≡ c = cc in subst (λ (x : ClassParts). same_text x.name name ≡ true) same t
-        by rest false t g = rest g
+has_own_name program name c e = class_name_is program name c e
 
 -- one of the names for which a test holds
 any_of : (test : List ℕ → Bool) (P : List ℕ → Type 0) (xs : List (List ℕ)) → AllByRecursion P xs → holds_of_any test xs ≡ true
@@ -431,9 +414,9 @@ not_true : (b : Bool) → not b ≡ true → b ≡ false
 not_true true e = cc
 not_true false e = refl
 
--- a field that a class declares, in the instances of a class of a number
-module _ (l : LinkedView) (is : IsLinked l) (class : ℕ) (within : class < length the_builtins + length l.program) (n : MemberNumber) (found : FoundField)
-    (numbered : IsFieldOf l.program n found) where
+-- a class of a number, and another that declares fields and methods
+module _ (l : LinkedView) (is : IsLinked l) (class : ℕ) (within : class < length the_builtins + length l.program) (number : ℕ) (declaring : ClassParts)
+    (numbered : class_numbered l.program number ≡ Some declaring) where
   abbrev pub name : List ℕ
   name = class_name_of l.program class
 
@@ -450,58 +433,64 @@ module _ (l : LinkedView) (is : IsLinked l) (class : ℕ) (within : class < leng
   named : class_named l.program name ≡ Some its_class.0
   named = ap (class_named l.program) its_name ∙ found_numbered l.program is.loads class its_class.0 its_class.1
 
-  declared : class_named l.program found.class.name ≡ Some found.class
-  declared = found_numbered l.program is.loads n.class found.class numbered.class
+  declared : class_named l.program declaring.name ≡ Some declaring
+  declared = found_numbered l.program is.loads number declaring numbered
 
-  apart : same_text name found.class.name ≡ nat_eq class n.class
+  pub apart : same_text name declaring.name ≡ nat_eq class number
   apart =
-      same_as l.program is.loads class n.class name found.class.name (names_class l.program class within)
-      (names_number l.program n.class found.class numbered.class)
+      same_as l.program is.loads class number name declaring.name (names_class l.program class within) (names_number l.program number declaring numbered)
+
+  chain_of : (h : ℕ) → 0 < h → class_named l.program name ≡ Some declaring → (k : ℕ) × (slice_get (up_from h l.program name) k ≡ Some declaring)
+  chain_of zero some e = absurd (omega (arith, some))
+  chain_of (suc h) some e = (0, first_up l.program is.loads h name declaring e)
+
+  -- the class has them where the other stands in its chain, and else none of the chain has the other's name
+  pub stands : (declaring.name ≡ object_class → ⊥) → has_fields_of l.program class name number declaring ≡ true → StandsInChain l.program name declaring
+  unfolding chain is_subclass
+  stands other e =
+      elim (either_true (nat_eq class number) (not (is_interface declaring.flags) && is_subclass l.program name declaring.name) e) [
+        | inl same ↦ let classes : length the_builtins ≡ 29 = refl in
+            chain_of (height l.program) (omega arith) (ap (class_named l.program) (text_is name declaring.name (apart ∙ same)) ∙ declared)
+        | inr so ↦ let parts = both (not (is_interface declaring.flags)) (is_subclass l.program name declaring.name) so in
+            stands_up l.program is.loads (height l.program) name declaring.name declaring declared
+            (not_true (is_interface declaring.flags) parts.0) other parts.1
+      ]
+
+  pub others : has_fields_of l.program class name number declaring ≡ false → AreOthers (up_from (height l.program) l.program name) declaring.name
+  unfolding is_subclass
+  others e =
+      let other = left_false (nat_eq class number) (not (is_interface declaring.flags) && is_subclass l.program name declaring.name) e in
+      let not_so_either = right_false (nat_eq class number) (not (is_interface declaring.flags) && is_subclass l.program name declaring.name) e in
+      by (is_interface declaring.flags) refl other not_so_either
+    where
+      by : (b : Bool) → is_interface declaring.flags ≡ b → nat_eq class number ≡ false
+          → (not b && is_subclass l.program name declaring.name) ≡ false → AreOthers (up_from (height l.program) l.program name) declaring.name
+      by true i other so =
+          not_interface l.program is.loads (height l.program) name declaring.name its_class.0 declaring declared i named (apart ∙ other)
+      by false i other so = not_above l.program is.loads (height l.program) name declaring.name so
+
+-- a field that a class declares, in the instances of a class of a number
+module _ (l : LinkedView) (is : IsLinked l) (class : ℕ) (within : class < length the_builtins + length l.program) (n : MemberNumber) (found : FoundField)
+    (numbered : IsFieldOf l.program n found) where
+  abbrev own_name : List ℕ
+  own_name = class_name_of l.program class
 
   no_object_class : found.class.name ≡ object_class → ⊥
   no_object_class e =
+      let declared = found_numbered l.program is.loads n.class found.class numbered.class in
       let none = no_object l.program is.loads found.class (sym (ap (class_named l.program) e) ∙ declared) n.member in
       let bad = sym none ∙ numbered.field in cc
 
-  chain_of : (h : ℕ) → 0 < h → class_named l.program name ≡ Some found.class → (k : ℕ) × (slice_get (up_from h l.program name) k ≡ Some found.class)
-  chain_of zero some e = absurd (omega (arith, some))
-  chain_of (suc h) some e = (0, first_up l.program is.loads h name found.class e)
-
-  stands : has_fields_of l.program class name n.class found.class ≡ true → StandsInChain l.program name found.class
-  unfolding chain is_subclass
-  stands e =
-      elim (either_true (nat_eq class n.class) (not (is_interface found.class.flags) && is_subclass l.program name found.class.name) e) [
-        | inl same ↦ let classes : length the_builtins ≡ 29 = refl in
-            chain_of (height l.program) (omega arith)
-            (ap (class_named l.program) (text_is name found.class.name (apart ∙ same)) ∙ declared)
-        | inr so ↦ let parts = both (not (is_interface found.class.flags)) (is_subclass l.program name found.class.name) so in
-            stands_up l.program is.loads (height l.program) name found.class.name found.class declared
-            (not_true (is_interface found.class.flags) parts.0) no_object_class parts.1
-      ]
-
-  others : has_fields_of l.program class name n.class found.class ≡ false → AreOthers (up_from (height l.program) l.program name) found.class.name
-  unfolding is_subclass
-  others e =
-      let other = left_false (nat_eq class n.class) (not (is_interface found.class.flags) && is_subclass l.program name found.class.name) e in
-      let not_so_either = right_false (nat_eq class n.class) (not (is_interface found.class.flags) && is_subclass l.program name found.class.name) e in
-      by (is_interface found.class.flags) refl other not_so_either
-    where
-      by : (b : Bool) → is_interface found.class.flags ≡ b → nat_eq class n.class ≡ false
-          → (not b && is_subclass l.program name found.class.name) ≡ false → AreOthers (up_from (height l.program) l.program name) found.class.name
-      by true i other so =
-          not_interface l.program is.loads (height l.program) name found.class.name its_class.0 found.class declared i named (apart ∙ other)
-      by false i other so = not_above l.program is.loads (height l.program) name found.class.name so
-
-  pub no_place : has_fields_of l.program class name n.class found.class ≡ false
-      → place_of_field (instance_fields l.program name) (name_of_field found) ≡ None
+  pub no_place : has_fields_of l.program class own_name n.class found.class ≡ false
+      → place_of_field (instance_fields l.program own_name) (name_of_field found) ≡ None
   unfolding instance_fields chain
   no_place e =
-      ap (λ gs. place_of_field gs (name_of_field found)) (fields_are (up_from (height l.program) l.program name))
-      ∙ not_in_others (up_from (height l.program) l.program name) (name_of_field found) (others e)
+      ap (λ gs. place_of_field gs (name_of_field found)) (fields_are (up_from (height l.program) l.program own_name))
+      ∙ not_in_others (up_from (height l.program) l.program own_name) (name_of_field found) (others l is class within n.class found.class numbered.class e)
 
-  pub its_place : has_fields_of l.program class name n.class found.class ≡ true → {place : ℕ}
+  pub its_place : has_fields_of l.program class own_name n.class found.class ≡ true → {place : ℕ}
       → slot_at l.tables.layout n.class n.member ≡ Some (Instance place)
-      → place_of_field (instance_fields l.program name) (name_of_field found) ≡ Some place
+      → place_of_field (instance_fields l.program own_name) (name_of_field found) ≡ Some place
   its_place e {place} at = by (is_static found.field.flags) refl
     where
       instance : (o : Option ℕ) → option_map Instance o ≡ Some (Instance place) → o ≡ Some place
@@ -512,10 +501,10 @@ module _ (l : LinkedView) (is : IsLinked l) (class : ℕ) (within : class < leng
       static None h = cc
       static (Some k) h = cc
 
-      there : (name_of (all_names l.program) class ≡ name) × (class < length (all_names l.program))
-      there = named_at l.program class name (names_class l.program class within)
+      there : (name_of (all_names l.program) class ≡ own_name) × (class < length (all_names l.program))
+      there = named_at l.program class own_name (names_class l.program class within)
 
-      by : (t : Bool) → is_static found.field.flags ≡ t → place_of_field (instance_fields l.program name) (name_of_field found) ≡ Some place
+      by : (t : Bool) → is_static found.field.flags ≡ t → place_of_field (instance_fields l.program own_name) (name_of_field found) ≡ Some place
       by true t =
           absurd (static (place_of_field (static_fields l.program) (name_of_field found))
           (sym (is.tables.layout.numbers n.class n.member found (record { class_is = numbered.class; field_is = numbered.field }) t) ∙ at))
@@ -523,5 +512,6 @@ module _ (l : LinkedView) (is : IsLinked l) (class : ℕ) (within : class < leng
           ap (λ x. place_of_field (instance_fields l.program x) (name_of_field found)) (sym there.0)
           ∙ instance (place_of_field (instance_fields l.program (name_of (all_names l.program) class)) (name_of_field found))
           (sym (is.tables.layout.places n.class n.member class found (record { class_is = numbered.class; field_is = numbered.field }) t there.1
-          (subst (λ x. StandsInChain l.program x found.class) (sym there.0) (stands e)))
+          (subst (λ x. StandsInChain l.program x found.class) (sym there.0)
+          (stands l is class within n.class found.class numbered.class no_object_class e)))
           ∙ at)

@@ -37,7 +37,14 @@ pub mod Loaded
 pub mod StaticStored
 pub mod StaticRows
 pub mod StaticCalls
+pub mod InstanceCalls
 pub mod StaticRow
 pub mod Instructions
 pub mod Tops
 pub mod NewRow
+pub mod DeclaredMethods
+pub mod ReceiverRows
+pub mod CodelessCalls
+pub mod SelectedCalls
+pub mod SpecialMethods
+pub mod SpecialRows

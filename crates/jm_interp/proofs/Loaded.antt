@@ -7,15 +7,20 @@ use Rattle.jm_program.specs.declared.class.ClassParts.{ClassParts}
 use Rattle.jm_program.specs.declared.class.Method.{Method}
 use Rattle.jm_program.specs.declared.code.Code.{Code}
 use Rattle.jm_program.specs.declared.instruction.operation.FieldOp.{FieldOp}
+use Rattle.jm_program.specs.declared.instruction.operation.InvokeOp.{InvokeOp}
 use Rattle.jm_program.specs.declared.instruction.symbolic.Instr.{Instr}
+use Rattle.jm_program.specs.declared.reference.ClassRef.TheVariants as named
 use Rattle.jm_program.specs.declared.reference.FieldRef.{FieldRef}
+use Rattle.jm_program.specs.declared.reference.MethodRef.{MethodRef}
 use Rattle.jm_values.specs.Content.{Content}
 use Rattle.jm_values.proofs.Lists.{get_there}
-use Rattle.jm_world.specs.Classes.{FoundField, system_class}
+use Rattle.jm_world.specs.Classes.{FoundField, FoundMethod, class_named, system_class}
 use Rattle.jm_world.specs.Fields.{resolved_field}
 use Rattle.jm_world.specs.Loads.{Loads, Refusal, refusal, or_else, when, first_of_all, same_bool, wrong_kind, ref_refusal, is_static_use, is_stored}
 use Rattle.jm_world.specs.Loads.{duplicates, duplicate_members, parents_refusal, cycle_refusal, is_main, no_main}
 use Rattle.jm_world.specs.Loading.{main_in}
+use Rattle.jm_world.specs.Loads.{found_method_refusal, init_refusal, is_static_call, method_refusal, named_class_refusal}
+use Rattle.jm_world.specs.Resolution.{resolve_method}
 use Rattle.jm_world.specs.Loads.{found_field_refusal, field_refusal, instruction_refusal, catch_refusal, method_code_refusal}
 use Rattle.jm_heap.specs.declared.class_id.ClassId.{ClassId}
 use Rattle.jm_linked.proofs.Classes.{first_none, second_none, not_so}
@@ -88,3 +93,15 @@ static_use program op f found is e =
     let kept : or_else other stored ≡ None = subst (λ o. found_field_refusal op f.name o ≡ None) is refused in
     same_so (is_static found.field.flags) (is_static_use op)
     (not_so (not (same_bool (is_static found.field.flags) (is_static_use op))) (wrong_kind f.name) (first_none other stored kept))
+
+-- a method is static just where it is called so
+pub static_call : (program : List ClassParts) (op : InvokeOp) (m : MethodRef) (class : List ℕ) (found : FoundMethod)
+    → resolve_method program class m.name m.descriptor ≡ Some found → method_refusal program op m (named.Class class) ≡ None
+    → is_static found.method.flags ≡ is_static_call op
+static_call program op m class found is e =
+    let found_refused = found_method_refusal op m.name (resolve_method program class m.name m.descriptor) in
+    let refused = second_none (init_refusal op m.name) found_refused
+    (second_none (named_class_refusal op class (class_named program class)) (or_else (init_refusal op m.name) found_refused) e) in
+    same_so (is_static found.method.flags) (is_static_call op)
+    (not_so (not (same_bool (is_static found.method.flags) (is_static_call op))) (wrong_kind m.name)
+    (subst (λ o. found_method_refusal op m.name o ≡ None) is refused))

@@ -1,5 +1,5 @@
 -- A new instance of a class that can be used.
-use Rattle.std.proofs.Common.{◌≡◌, ℕ, ◌+◌, ◌≤◌, List, [], ◌∷◌, Some, Bool, true, false, refl, sym, ap, ◌∙◌, subst, drop, length, arith}
+use Rattle.std.proofs.Common.{◌≡◌, ℕ, ◌+◌, List, [], ◌∷◌, Some, Bool, true, false, refl, sym, ap, ◌∙◌, drop, arith}
 use Rattle.std.proofs.lemmas.Bool.Decides.{nat_tests}
 use Rattle.std.specs.Borrow.{Bor}
 use Rattle.std.specs.Prelude.{map, nat_le, slice_index_or, unwrap_or, Result}
@@ -10,7 +10,6 @@ use Rattle.jm_values.specs.Content.{Content, name_of}
 use Rattle.jm_values.specs.Objects.{default_of}
 use Rattle.jm_values.specs.Rename.{rename}
 use Rattle.jm_values.specs.declared.fault.TagFault.TheVariants.{Overflow}
-use Rattle.jm_values.specs.declared.value.Value.{Value}
 use Rattle.jm_values.specs.declared.value.Value.TheVariants.{Null, Ref}
 use Rattle.jm_values.proofs.NaturalSteps.{units_renamed}
 use Rattle.jm_program.specs.declared.class.ClassParts.{ClassParts}
@@ -37,7 +36,7 @@ use Rattle.jm_interp.specs.declared.at.At.{At}
 use Rattle.jm_interp.specs.declared.top_object.Refusal.TheVariants.{Faults}
 use Rattle.jm_state.specs.declared.halt.Halt.{Halt}
 use Rattle.jm_state.specs.declared.halt.StepEnd.{StepEnd}
-use Rattle.jm_interp.specs.At.{InMethod, StandsOn, Does, Steps, in_method}
+use Rattle.jm_interp.specs.At.{StandsOn, Does, Steps, in_method}
 use Rattle.jm_interp.specs.Creating.{IsUsable}
 use Rattle.jm_interp.specs.Readiness.{Readiness, begins}
 use Rattle.jm_interp.specs.Standing.{InAnyMethod}

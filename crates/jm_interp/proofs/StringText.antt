@@ -6,7 +6,7 @@ use Rattle.std.specs.Int.{w32, cast_unsigned}
 use Rattle.jm_program.specs.Names.{same_text}
 use Rattle.jm_program.specs.declared.class.ClassParts.{ClassParts}
 use Rattle.jm_builtins.specs.Numbers.{number_of}
-use Rattle.jm_builtins.specs.declared.built_in_class.BuiltInClass.TheVariants.{PrintStream, String}
+use Rattle.jm_builtins.specs.declared.built_in_class.BuiltInClass.TheVariants.{String}
 use Rattle.jm_values.specs.Content.{Content, HasValue, AllResident, name_of, serial_at, object_at}
 use Rattle.jm_values.specs.Objects.{ObjectOf, refs_of}
 use Rattle.jm_values.specs.Reach.{Reach, field}
@@ -17,7 +17,7 @@ use Rattle.jm_values.specs.declared.value.Value.{Value}
 use Rattle.jm_values.specs.declared.value.Value.TheVariants.{Int, Long, Null, Ref}
 use Rattle.jm_values.proofs.SoundContents.{object_of_place, name_is}
 use Rattle.jm_world.specs.BuiltInMethods.{chars_in, chars_of_type, with_chars}
-use Rattle.jm_world.specs.Classes.{print_stream_class, string_class}
+use Rattle.jm_world.specs.Classes.{string_class}
 use Rattle.jm_world.specs.Here.{Here}
 use Rattle.jm_world.specs.Loads.{Loads}
 use Rattle.jm_world.specs.Matches.{Matches, places, as_named}
@@ -133,13 +133,9 @@ class_test program loads n k name named some = by (slice_get (class_names progra
     by (Some own) e = same_as program loads n k own name e named
     by None e = some ∙ other (nat_eq n k) refl e
 
--- String, and PrintStream
-pub string_name : (program : List ClassParts) → Loads program → (n : ℕ) → same_text (class_name_of program n) string_class ≡ nat_eq n (number_of String)
+-- String
+string_name : (program : List ClassParts) → Loads program → (n : ℕ) → same_text (class_name_of program n) string_class ≡ nat_eq n (number_of String)
 string_name program loads n = class_test program loads n (number_of String) string_class refl refl
-
-pub stream_name : (program : List ClassParts) → Loads program → (n : ℕ)
-    → same_text (class_name_of program n) print_stream_class ≡ nat_eq n (number_of PrintStream)
-stream_name program loads n = class_test program loads n (number_of PrintStream) print_stream_class refl refl
 
 -- the model's test of an object is that of its mark
 abbrev when_string : World → List Value → Bool → Option (List Value)

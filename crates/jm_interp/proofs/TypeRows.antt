@@ -2,7 +2,6 @@
 use Rattle.std.proofs.Common.{◌≡◌, ℕ, ◌+◌, ◌<◌, ◌≤◌, List, ◌∷◌, Option, Some, None, Bool, true, false, refl, sym, ap, ◌∙◌, subst, length, drop, inl, inr, arith}
 use Rattle.std.specs.Prelude.{slice_get, slice_index_or, pos, codes, Ok, Err}
 use Rattle.jm_program.specs.declared.class.ClassParts.{ClassParts}
-use Rattle.jm_program.specs.declared.descriptor.ElementType.TheVariants as type
 use Rattle.jm_program.specs.declared.instruction.operation.TypeOp.{TypeOp}
 use Rattle.jm_program.specs.declared.instruction.operation.TypeOp.TheVariants.{CheckCast, InstanceOf}
 use Rattle.jm_program.specs.declared.instruction.symbolic.Instr.TheVariants as instr
@@ -13,8 +12,8 @@ use Rattle.jm_builtins.specs.Numbers as built_in
 use Rattle.jm_values.specs.Activation.{category, units}
 use Rattle.jm_values.specs.Content.{Content, name_of, serial_at}
 use Rattle.jm_values.specs.Reach.{Reach}
-use Rattle.jm_values.specs.Rename.{rename, refs}
-use Rattle.jm_values.specs.declared.fault.TagFault.TheVariants.{Overflow, WrongKind}
+use Rattle.jm_values.specs.Rename.{rename}
+use Rattle.jm_values.specs.declared.fault.TagFault.TheVariants.{Overflow}
 use Rattle.jm_values.specs.declared.value.Value.{Value}
 use Rattle.jm_values.specs.declared.value.Value.TheVariants.{Int, Null, Ref}
 use Rattle.jm_world.specs.Here.{Here, go_on, push, throws, with_reference}
@@ -42,7 +41,7 @@ use Rattle.jm_state.specs.declared.thread.Thread as held
 use Rattle.jm_interp.specs.declared.at.At.{At}
 use Rattle.jm_interp.specs.declared.top_object.Refusal.{Refusal}
 use Rattle.jm_interp.specs.declared.top_object.Refusal.TheVariants.{Throws}
-use Rattle.jm_interp.specs.At.{parts_at, InMethod, StandsOn}
+use Rattle.jm_interp.specs.At.{parts_at, StandsOn}
 use Rattle.jm_interp.specs.Standing.{InAnyMethod}
 use Rattle.jm_interp.specs.TopObject.{reference_of, Reaches, HasRoom, IsRefused, ComesTo}
 use Rattle.jm_interp.proofs.Here.{place, row_is}

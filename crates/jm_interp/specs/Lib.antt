@@ -17,3 +17,4 @@ pub mod ArrayRows
 pub mod Readiness
 pub mod FieldRows
 pub mod Creating
+pub mod Invoking

@@ -55,7 +55,7 @@ pub(crate) fn code_number(linked: &Linked, method: MemberNumber) -> Option<u32>
 }
 
 /// The parameters of a method, by its number among those with code.
-fn parameters_of(linked: &Linked, number: u32) -> Option<&[FieldType]>
+pub(crate) fn parameters_of(linked: &Linked, number: u32) -> Option<&[FieldType]>
     ensures { IfSome result (λ parameters. HasParameters linked.now number parameters.now) }
 {
     let method = linked.methods().get(number as usize)?;

@@ -9,9 +9,12 @@
 //!
 //! `at` says where a step is made, and `specs/At` what it does: the words of all contracts. The files
 //! are named as the model's (`jm_world`): `stepping` chooses what is to be done; `plain`, `constants`,
-//! `arrays`, `instances`, `fields`, `static_fields`, `type_checks`, `invocation`, `returns`,
-//! `string_methods` and `built_in_methods` are the instructions, with the text of Strings in `strings`,
-//! what variables keep of values in `narrowing` and the calls of methods with code in `calls`;
+//! `arrays`, `instances`, `fields`, `static_fields`, `type_checks`, `invocation`, `selections`,
+//! `special_calls`, `returns` and `built_in_methods` are the instructions, with the text of Strings in
+//! `strings` and what variables keep of values in `narrowing`. Of an invoke, `receivers` tests the
+//! receiver and the arguments, `declared` finds methods by their numbers, and `calls`, `instance_calls`,
+//! `codeless_calls` and `string_methods` do what is called: a method with code, an abstract one or one of
+//! a built-in class;
 //! `throwing`, `unwinding` and `ending` are what exceptions and ends do, `readiness` what classes ask for
 //! before they are used, `initialization` the stages of a class, with its `superclass`, over the calls on
 //! one thread in `top_frame`, `top_object`, `frames` and `print_operands`. A plain instruction looks up
@@ -24,18 +27,24 @@ mod at;
 mod built_in_methods;
 mod calls;
 mod class_number;
+mod codeless_calls;
 mod constants;
+mod declared;
 mod ending;
 mod fields;
 mod frames;
 mod initialization;
+mod instance_calls;
 mod instances;
 mod invocation;
 mod narrowing;
 mod plain;
 mod print_operands;
 mod readiness;
+mod receivers;
 mod returns;
+mod selections;
+mod special_calls;
 mod stages;
 mod static_fields;
 mod stepping;

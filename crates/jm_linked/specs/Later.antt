@@ -1,8 +1,8 @@
 -- What the machine cannot run yet: the first such part of a program, by classes in order, in a class
 -- its superclass, fields, methods, then the instructions and the exception table of each method.
-use Rattle.std.specs.Prelude.{ℕ, List, [], ◌∷◌, Option, Some, None, Bool, true, false, ◌&&◌, codes}
+use Rattle.std.specs.Prelude.{ℕ, List, [], ◌∷◌, Option, Some, None, Bool, true, false, ◌&&◌, ◌||◌, codes}
 use Rattle.jm_program.specs.Flags.{is_synchronized}
-use Rattle.jm_program.specs.Names.{same_text}
+use Rattle.jm_program.specs.Names.{same_text, is_init}
 use Rattle.jm_program.specs.declared.class.ClassParts.{ClassParts}
 use Rattle.jm_program.specs.declared.class.Field.{Field}
 use Rattle.jm_program.specs.declared.class.Method.{Method}
@@ -15,7 +15,7 @@ use Rattle.jm_program.specs.declared.descriptor.BaseType.TheVariants as base
 use Rattle.jm_program.specs.declared.descriptor.ElementType.{ElementType}
 use Rattle.jm_program.specs.declared.descriptor.ElementType.TheVariants.{Base, Class}
 use Rattle.jm_program.specs.declared.instruction.operation.InvokeOp.{InvokeOp}
-use Rattle.jm_program.specs.declared.instruction.operation.InvokeOp.TheVariants.{Virtual, Static}
+use Rattle.jm_program.specs.declared.instruction.operation.InvokeOp.TheVariants.{Special}
 use Rattle.jm_program.specs.declared.instruction.symbolic.Instr.{Instr}
 use Rattle.jm_program.specs.declared.instruction.symbolic.Instr.TheVariants as instr
 use Rattle.jm_program.specs.declared.reference.ClassRef.{ClassRef}
@@ -74,23 +74,33 @@ abbrev pub print_among : List PrintMethod → MethodRef → Option PrintMethod
 print_among [] m = None
 print_among (p ∷ ps) m = elim (is_print m p) [ true ↦ Some p | false ↦ print_among ps m ]
 
-abbrev pub later_invoke : InvokeOp → MethodRef → Option LaterPart
-later_invoke Virtual m = elim (print_among print_methods m) [ Some p ↦ None | None ↦ Some (later.Invoke Virtual) ]
-later_invoke Static m = None
-later_invoke op m = Some (later.Invoke op)
+-- invokespecial of a class further up than the superclass
+abbrev pub is_superclass_called : ClassRef → Option (List ℕ) → Bool
+is_superclass_called ref None = false
+is_superclass_called ref (Some superclass) = is_class_called ref superclass
 
--- an instruction that cannot be run yet
-abbrev pub later_instruction : Instr → Option LaterPart
-later_instruction (instr.Plain op) = None
-later_instruction (instr.Array op) = None
-later_instruction (instr.Return op) = None
-later_instruction instr.Throw = Some later.Throw
-later_instruction (instr.Monitor op) = Some (later.Monitor op)
-later_instruction (instr.Constant c) = None
-later_instruction (instr.Field op f) = None
-later_instruction (instr.Invoke op m) = later_invoke op m
-later_instruction (instr.New name) = None
-later_instruction (instr.Type op t) = None
+abbrev pub later_special : ClassParts → MethodRef → Option LaterPart
+later_special c m = elim (is_init m.name || is_class_called m.class c.name || is_superclass_called m.class c.superclass) [
+  | true ↦ None
+  | false ↦ Some (later.Invoke Special)
+]
+
+abbrev pub later_invoke : ClassParts → InvokeOp → MethodRef → Option LaterPart
+later_invoke c Special m = later_special c m
+later_invoke c _ m = None
+
+-- an instruction of the class that cannot be run yet
+abbrev pub later_instruction : ClassParts → Instr → Option LaterPart
+later_instruction c (instr.Plain op) = None
+later_instruction c (instr.Array op) = None
+later_instruction c (instr.Return op) = None
+later_instruction c instr.Throw = Some later.Throw
+later_instruction c (instr.Monitor op) = Some (later.Monitor op)
+later_instruction c (instr.Constant value) = None
+later_instruction c (instr.Field op f) = None
+later_instruction c (instr.Invoke op m) = later_invoke c op m
+later_instruction c (instr.New name) = None
+later_instruction c (instr.Type op t) = None
 
 -- a use of a class whose objects are threads, or that starting one throws, by its name
 abbrev pub illegal_thread_state_class : List ℕ
@@ -130,13 +140,13 @@ abbrev pub unless_empty : {A : Type 0} → LaterPart → List A → Option Later
 unless_empty part [] = None
 unless_empty part (x ∷ xs) = Some part
 
--- an instruction that names such a class, or that cannot be run yet
-abbrev pub later_in_code : Instr → Option LaterPart
-later_in_code i = or_later (later_use i) (later_instruction i)
+-- an instruction of the class that names such a class, or that cannot be run yet
+abbrev pub later_in_code : ClassParts → Instr → Option LaterPart
+later_in_code c i = or_later (later_use i) (later_instruction c i)
 
-abbrev pub later_code : Option Code → Option LaterPart
-later_code None = None
-later_code (Some code) = or_later (first_later later_in_code code.instructions) (unless_empty later.Handlers code.handlers)
+abbrev pub later_code : ClassParts → Option Code → Option LaterPart
+later_code c None = None
+later_code c (Some code) = or_later (first_later (later_in_code c) code.instructions) (unless_empty later.Handlers code.handlers)
 
 -- main, by its name and type
 abbrev pub is_main_method : Method → Bool
@@ -167,7 +177,7 @@ later_class c =
     or_later (later_superclass c.superclass)
     (or_later (first_later later_declared_field c.fields)
     (or_later (first_later later_method c.methods)
-    (first_later (λ m. later_code m.code) c.methods)))
+    (first_later (λ m. later_code c m.code) c.methods)))
 
 -- the first part of a program that cannot be run yet
 unfoldable pub later_part : List ClassParts → Option LaterPart

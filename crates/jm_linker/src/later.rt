@@ -2,7 +2,7 @@
 
 ghost use Rattle.std.specs.Prelude.{◌≡◌, [], ◌∷◌, None, Some, cond, false};
 ghost use Rattle.jm_linked.specs.Later.{is_class_called, is_system_out, base_type, printed_type, print_name, print_parameters, is_print, print_among};
-ghost use Rattle.jm_linked.specs.Later.{print_methods, later_invoke, later_instruction, later_name, later_element};
+ghost use Rattle.jm_linked.specs.Later.{print_methods, is_superclass_called, later_special, later_invoke, later_instruction, later_name, later_element};
 ghost use Rattle.jm_linked.specs.Later.{later_class_ref, later_use, later_in_code, first_later, later_code, is_main_method};
 ghost use Rattle.jm_linked.specs.Later.{later_superclass, later_constant_value, later_declared_field, later_method};
 ghost use Rattle.jm_linked.specs.Later.{later_class, later_part};
@@ -170,28 +170,56 @@ pub fn print_method(method: &MethodRef) -> Option<PrintMethod>
     print_among(&PRINT_METHODS, method)
 }
 
-fn later_invoke(op: InvokeOp, method: &MethodRef) -> Option<LaterPart>
-    ensures { result ≡ later_invoke op method.now }
+fn is_class_called(class: &ClassRef, name: &Name) -> bool
+    ensures { result ≡ is_class_called class.now name.now }
 {
-    match op {
-        InvokeOp::Virtual => match print_method(method) {
-            Some(_) => None,
-            None => Some(LaterPart::Invoke(op)),
-        },
-        InvokeOp::Static => None,
-        InvokeOp::Special | InvokeOp::Interface => Some(LaterPart::Invoke(op)),
+    match class {
+        ClassRef::Class(called) => called == name,
+        ClassRef::Array(_) => false,
     }
 }
 
-fn later_instruction(instruction: &Instr) -> Option<LaterPart>
-    ensures { result ≡ later_instruction instruction.now }
+fn is_superclass_called(class: &ClassRef, superclass: &Option<Name>) -> bool
+    ensures { result ≡ is_superclass_called class.now superclass.now }
+{
+    match superclass {
+        None => false,
+        Some(name) => is_class_called(class, name),
+    }
+}
+
+/// Whether invokespecial calls into a class further up than the superclass.
+fn later_special(class: &ClassParts, method: &MethodRef) -> Option<LaterPart>
+    ensures { result ≡ later_special class.now method.now }
+{
+    if method.name.is_init()
+        || is_class_called(&method.class, &class.name)
+        || is_superclass_called(&method.class, &class.superclass)
+    {
+        None
+    } else {
+        Some(LaterPart::Invoke(InvokeOp::Special))
+    }
+}
+
+fn later_invoke(class: &ClassParts, op: InvokeOp, method: &MethodRef) -> Option<LaterPart>
+    ensures { result ≡ later_invoke class.now op method.now }
+{
+    match op {
+        InvokeOp::Special => later_special(class, method),
+        InvokeOp::Virtual | InvokeOp::Static | InvokeOp::Interface => None,
+    }
+}
+
+fn later_instruction(class: &ClassParts, instruction: &Instr) -> Option<LaterPart>
+    ensures { result ≡ later_instruction class.now instruction.now }
 {
     match instruction {
         Instr::Plain(_) | Instr::Return(_) | Instr::Constant(_) => None,
         Instr::Array(_) | Instr::Field(_, _) | Instr::New(_) | Instr::Type(_, _) => None,
         Instr::Throw => Some(LaterPart::Throw),
         Instr::Monitor(op) => Some(LaterPart::Monitor(*op)),
-        Instr::Invoke(op, method) => later_invoke(*op, method.get()),
+        Instr::Invoke(op, method) => later_invoke(class, *op, method.get()),
     }
 }
 
@@ -238,14 +266,14 @@ fn later_use(instruction: &Instr) -> Option<LaterPart>
     }
 }
 
-fn later_in_instructions(instructions: &[Instr]) -> Option<LaterPart>
-    ensures { result ≡ first_later later_in_code instructions.now }
+fn later_in_instructions(class: &ClassParts, instructions: &[Instr]) -> Option<LaterPart>
+    ensures { result ≡ first_later (later_in_code class.now) instructions.now }
 {
     for instruction in instructions {
         if let Some(part) = later_use(instruction) {
             return Some(part);
         }
-        if let Some(part) = later_instruction(instruction) {
+        if let Some(part) = later_instruction(class, instruction) {
             return Some(part);
         }
     }
@@ -260,13 +288,13 @@ fn unless_empty(part: LaterPart, is_empty: bool) -> Option<LaterPart>
 }
 
 #[tactic(auto, using(crate::proofs::LaterLaws::unless_empty_tells))]
-fn later_in_code(code: &Option<Code>) -> Option<LaterPart>
-    ensures { result ≡ later_code code.now }
+fn later_in_code(class: &ClassParts, code: &Option<Code>) -> Option<LaterPart>
+    ensures { result ≡ later_code class.now code.now }
 {
     let Some(code) = code else {
         return None;
     };
-    if let Some(part) = later_in_instructions(code.instructions.as_slice()) {
+    if let Some(part) = later_in_instructions(class, code.instructions.as_slice()) {
         return Some(part);
     }
     unless_empty(LaterPart::Handlers, code.handlers.as_slice().is_empty())
@@ -356,11 +384,11 @@ fn later_in_methods(methods: &[Method]) -> Option<LaterPart>
     None
 }
 
-fn later_in_codes(methods: &[Method]) -> Option<LaterPart>
-    ensures { result ≡ first_later (λ (m : Method). later_code m.code) methods.now }
+fn later_in_codes(class: &ClassParts, methods: &[Method]) -> Option<LaterPart>
+    ensures { result ≡ first_later (λ (m : Method). later_code class.now m.code) methods.now }
 {
     for method in methods {
-        if let Some(part) = later_in_code(&method.code) {
+        if let Some(part) = later_in_code(class, &method.code) {
             return Some(part);
         }
     }
@@ -379,7 +407,7 @@ fn later_in_class(class: &ClassParts) -> Option<LaterPart>
     if let Some(part) = later_in_methods(class.methods.as_slice()) {
         return Some(part);
     }
-    later_in_codes(class.methods.as_slice())
+    later_in_codes(class, class.methods.as_slice())
 }
 
 /// The first part of a program that cannot be run yet.

@@ -45,9 +45,14 @@ linked 1 <= main new java/lang/Object / pop
 linked 1 <= main getstatic A/x I / putstatic A/x I / aconst_null / getfield A/y J & .class public A / .super java/lang/Object / .field static x I / .field y J
 # static methods
 linked 2 <= main invokestatic A/f(J)J / pop & .class public A / .super java/lang/Object / .method static f(J)J / .limit stack 2 / .limit locals 2 / lload_0 / lreturn / .end method
-# instructions that come later
-16 Later(invokespecial) <= main new java/lang/Object / invokespecial java/lang/Object/<init>()V
-16 Later(invokevirtual) <= main ldc \"x\" / invokevirtual java/lang/String/length()I / pop
+# instance methods: of a constructor, of a class and of its superclass, of an interface
+linked 1 <= main new java/lang/Object / invokespecial java/lang/Object/<init>()V
+linked 1 <= main ldc \"x\" / invokevirtual java/lang/String/length()I / pop
+linked 1 <= main aconst_null / invokeinterface I/f()V 1 & .interface public I / .super java/lang/Object / .method public abstract f()V / .end method
+linked 3 <= main & .class public A / .super java/lang/Object / .method private f()V / return / .end method & .class public B / .super A / .method public g()V / aload_0 / invokespecial A/f()V / return / .end method
+linked 2 <= main & .class public A / .super java/lang/Object / .method private f()V / aload_0 / invokespecial A/f()V / return / .end method
+# instructions that come later; an invokespecial of a class further up than the superclass
+16 Later(invokespecial) <= main & .class public Z / .super java/lang/Object / .method public f()V / return / .end method & .class public A / .super Z & .class public B / .super A / .method public g()V / aload_0 / invokespecial Z/f()V / return / .end method
 16 Later(athrow) <= main athrow
 16 Later(athrow) <= main & .class public A / .super java/lang/Object / .method public f()V / aload_0 / athrow / .end method
 # threads come later, by the names of their classes
@@ -132,6 +137,6 @@ fn programs_link_as_their_rows_say(rt: HostRuntime) -> Result<(), Fail> {
             rows = rows.saturating_add(1);
         }
     }
-    assert!(rt; rows == 44);
+    assert!(rt; rows == 48);
     Ok(())
 }

@@ -1,5 +1,5 @@
 -- The class is initialized first.
-use Rattle.std.proofs.Common.{◌∙◌, ap}
+use Rattle.std.proofs.Common.{◌∙◌}
 use Rattle.jm_interp.proofs.NewRow.{begins_instance}
 use Rattle.jm_interp.proofs.ReadyClasses.{is_own}
 use Rattle.jm_interp.proofs.instances.new_object.Goals as goal

@@ -1,4 +1,4 @@
-use Rattle.std.proofs.Common.{◌≡◌, ◌<◌, sym, ap, ◌∙◌, arith, length}
+use Rattle.std.proofs.Common.{◌≡◌, sym, ◌∙◌, arith, length}
 use Rattle.jm_values.proofs.Lists.{get_there}
 use Rattle.jm_interp.proofs.StringText.{other_chars, no_chars, first_chars_are, value_of, named_chars}
 use Rattle.jm_interp.proofs.strings.chars_of.Goals as goal

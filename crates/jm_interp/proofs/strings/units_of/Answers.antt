@@ -1,4 +1,4 @@
-use Rattle.std.proofs.Common.{◌≡◌, ◌+◌, ◌<◌, ◌≤◌, ◌++◌, suc, take, [], ◌∷◌, sym, ap, ◌∙◌, subst, arith, length}
+use Rattle.std.proofs.Common.{◌≡◌, ◌+◌, ◌<◌, ◌++◌, suc, take, [], ◌∷◌, sym, ap, ◌∙◌, subst, arith, length}
 use Rattle.jm_values.proofs.Lists.{get_there}
 use Rattle.jm_world.specs.Text.{units_of}
 use Rattle.jm_interp.proofs.StringText.{all_taken, units_one_more, units_named, value_of}
