@@ -1,7 +1,9 @@
 #!/bin/sh
 # Compiles the Java programs under data/java and data/refused again, and prints
-# their tables. Needs javac and javap of JDK 9 to 19 (the last that compile for
-# release 7), and python3. No check runs this: the class files are committed.
+# their tables, and what a real Java prints when it runs those that have a main
+# (data/java/printed.txt) and the worked class file (data/printed.txt). Needs
+# java, javac and javap of JDK 9 to 19 (the last that compile for release 7), and
+# python3. No check runs this: the class files and what is printed are committed.
 set -eu
 cd "$(dirname "$0")/data/java"
 rm -f ./*.class
@@ -22,6 +24,20 @@ compile --release 7 -cp . Callback.java Calls.java Conditions.java Queens.java
 compile --release 7 -g Sorting.java Tree.java
 compile --release 7 -g:none Matrix.java Machine.java Hash.java
 python3 ../../expected.py ./*.class > expected.txt
+for source in *.java; do
+    name=${source%.java}
+    grep -q 'static void main(' "$source" || continue
+    echo "== $name"
+    java -cp . "$name"
+done > printed.txt
+
+folder=$(mktemp -d)
+trap 'rm -rf "$folder"' EXIT
+cp ../sum.class "$folder/Main.class"
+{
+    echo "== sum"
+    java -cp "$folder" Main
+} > ../printed.txt
 
 cd ../refused
 rm -f ./*.class

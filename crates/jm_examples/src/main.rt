@@ -1,12 +1,14 @@
 //! Reads the class files among its data, assembles the texts, and prints a table: for each class how
 //! many fields and methods it has and, over its methods, the sums of max_stack and of max_locals and
 //! the rows of the codes, of the exception tables and of the line number tables, and whether it is
-//! equal when it is written and read again; for each file that is refused why. The last line compares
-//! the bytes of the worked text with the worked class file.
+//! equal when it is written and read again; for each file that is refused why. Then a line compares
+//! the bytes of the worked text with the worked class file. Last it runs the programs among its data,
+//! and prints what each prints and how it ends.
 #![tactic(auto)]
 
 mod again;
 mod files;
+mod programs;
 mod row;
 
 use again::read_again;
@@ -15,6 +17,7 @@ use jm_class_reader::read_class;
 use jm_class_writer::write_class;
 use jm_jasmin::assemble;
 use jm_program::Class;
+use programs::print_programs;
 use row::row_of;
 use std::rt::Files;
 use std::{fs, io};
@@ -24,7 +27,8 @@ fn main(rt: HostRuntime) -> io::Result<()> {
     print_class_files(&rt, ACCEPTED)?;
     print_class_files(&rt, REFUSED)?;
     print_texts(&rt, TEXTS)?;
-    print_bytes(&rt, "sum.j", "sum.class")
+    print_bytes(&rt, "sum.j", "sum.class")?;
+    print_programs(&rt, "programs.txt")
 }
 
 fn print_class_files(rt: &(impl Print + Files + AllocGlobal), files: &[&str]) -> io::Result<()> {

@@ -1,0 +1,199 @@
+#!/usr/bin/env python3
+"""Prints what the runs of the programs of data/programs.txt have to print.
+
+A program that needs a part that comes later is refused for the first one, in the
+order of crates/jm_linked/specs/Later.antt: it is looked for in what `javap -v -p`
+prints of a class file, and in the lines of an assembler text. Any other program
+prints what a real Java printed (printed.txt in the folder of its main class), and
+ends with status 0.
+"""
+
+import os
+import re
+import subprocess
+import sys
+
+MEMBER = re.compile(r"^  \S.*;$")
+ATTRIBUTE = re.compile(r"^ {4,6}([A-Z][A-Za-z ]*):")
+INSTRUCTION = re.compile(r"^ *\d+: ([a-z_0-9]+)\s*(.*)$")
+NAMED = re.compile(r"^(?:Method|InterfaceMethod|Field) (\S+?):")
+LATER_CLASSES = ("java/lang/Thread", "java/lang/IllegalThreadStateException")
+MONITORS = ("monitorenter", "monitorexit")
+
+
+class Method:
+    """A method: its name where it matters, its code, whether it has handlers."""
+
+    def __init__(self, name):
+        self.name = name
+        self.synchronized = False
+        self.code = []
+        self.handlers = False
+
+
+class Class:
+    """A class: its names, whether a static field has a ConstantValue, its methods."""
+
+    def __init__(self):
+        self.name = self.superclass = None
+        self.constant = False
+        self.methods = []
+
+
+def element(text):
+    """The class of a class reference: of an array, that of its elements."""
+    text = text.strip('"').lstrip("[")
+    return text[1:-1] if text.startswith("L") and text.endswith(";") else text
+
+
+def instruction(own, mnemonic, comment):
+    """The mnemonic, the class of its operand, and the name of a member of it."""
+    if comment.startswith("class "):
+        return mnemonic, element(comment[6:]), None
+    if found := NAMED.match(comment):
+        owner, dot, name = found[1].rpartition(".")
+        return mnemonic, element(owner) if dot else own, name.strip('"')
+    return mnemonic, None, None
+
+
+def class_of_javap(path):
+    """The class of a class file."""
+    printed = subprocess.run(
+        ["javap", "-v", "-p", path], check=True, capture_output=True, text=True
+    ).stdout
+    result = Class()
+    part = static = None
+    for text in printed.splitlines():
+        if text.startswith("  this_class:"):
+            result.name = text.split("// ")[1]
+        elif text.startswith("  super_class:") and "// " in text:
+            result.superclass = text.split("// ")[1]
+        elif MEMBER.match(text):
+            part = None
+            if text == "  static {};":
+                result.methods.append(Method("<clinit>"))
+            elif "(" in text:
+                result.methods.append(Method(None))
+        elif text.startswith("    flags:"):
+            static = "ACC_STATIC" in text
+            if "ACC_SYNCHRONIZED" in text:
+                result.methods[-1].synchronized = True
+        elif found := ATTRIBUTE.match(text):
+            part = found[1]
+            if part == "ConstantValue":
+                # one of an instance field is skipped (JVMS 4.7.2)
+                result.constant |= static
+            elif part == "Exception table":
+                result.methods[-1].handlers = True
+        elif part == "Code" and (found := INSTRUCTION.match(text)):
+            comment = found[2].partition("// ")[2]
+            result.methods[-1].code.append(instruction(result.name, found[1], comment))
+    return result
+
+
+def instruction_of_text(words):
+    """The instruction of a line of a text."""
+    mnemonic, operand = words[0], words[1] if len(words) > 1 else ""
+    if mnemonic.startswith("invoke"):
+        owner, _, name = operand.partition("(")[0].rpartition("/")
+        return mnemonic, element(owner), name
+    if mnemonic in ("getstatic", "putstatic", "getfield", "putfield"):
+        return mnemonic, element(operand.rpartition("/")[0]), None
+    if mnemonic in ("new", "anewarray", "checkcast", "instanceof"):
+        return mnemonic, element(operand), None
+    return mnemonic, None, None
+
+
+def class_of_text(path):
+    """The class of an assembler text."""
+    result = Class()
+    inside = None
+    with open(path, encoding="utf-8") as lines:
+        for line in lines:
+            words = line.split()
+            if not words or words[0].startswith(";"):
+                continue
+            if words[0] in (".class", ".interface"):
+                result.name = words[-1]
+            elif words[0] == ".super":
+                result.superclass = words[1]
+            elif words[0] == ".field":
+                result.constant |= "static" in words and "=" in words
+            elif words[0] == ".method":
+                inside = Method(next(word for word in words if "(" in word).partition("(")[0])
+                inside.synchronized = "synchronized" in words
+                result.methods.append(inside)
+            elif words[0] == ".catch":
+                inside.handlers = True
+            elif words[0] == ".end":
+                inside = None
+            elif inside and not words[0].startswith("."):
+                words = words[1:] if words[0].endswith(":") else words
+                if words:
+                    inside.code.append(instruction_of_text(words))
+    return result
+
+
+def later_instruction(owner, mnemonic, used, called):
+    """The part of an instruction that comes later, or None."""
+    if used in LATER_CLASSES:
+        return used
+    if mnemonic == "athrow" or mnemonic in MONITORS:
+        return mnemonic
+    if mnemonic == "invokespecial" and called != "<init>":
+        return None if used in (owner.name, owner.superclass) else mnemonic
+    return None
+
+
+def later_class(owner):
+    """The first part of a class that comes later, or None."""
+    if owner.superclass in LATER_CLASSES:
+        return owner.superclass
+    if owner.constant:
+        return "ConstantValue"
+    for method in owner.methods:
+        if method.name == "<clinit>":
+            return "<clinit>"
+        if method.synchronized:
+            return "synchronized"
+    for method in owner.methods:
+        for code in method.code:
+            if part := later_instruction(owner, *code):
+                return part
+        if method.handlers:
+            return "handlers"
+    return None
+
+
+def later_part(files):
+    """The first part of a program that comes later, or None."""
+    for path in files:
+        owner = class_of_text(path) if path.endswith(".j") else class_of_javap(path)
+        if part := later_class(owner):
+            return part
+    return None
+
+
+def printed(path):
+    """What a real Java printed for the program of this main class."""
+    folder, name = os.path.split(path)
+    with open(os.path.join(folder, "printed.txt"), encoding="utf-8") as text:
+        sections = re.split(r"^== (.*)\n", text.read(), flags=re.MULTILINE)
+    return dict(zip(sections[1::2], sections[2::2]))[os.path.splitext(name)[0]]
+
+
+def main():
+    """Prints what the run of each line of programs.txt has to print."""
+    os.chdir(os.path.join(os.path.dirname(os.path.abspath(__file__)), "data"))
+    with open("programs.txt", encoding="utf-8") as lines:
+        for line in lines:
+            files = line.split()
+            print("==", os.path.basename(files[0]))
+            if part := later_part(files):
+                print(f"jm: 16 Later({part})\nstatus 4")
+            else:
+                sys.stdout.write(printed(files[0]))
+                print("status 0")
+
+
+main()
