@@ -6,17 +6,22 @@ ghost use Rattle.jm_values.specs.declared.value.Value.TheVariants.{Ref};
 ghost use Rattle.jm_world.specs.Loading.{first_statics};
 ghost use Rattle.jm_world.specs.World.{Static};
 ghost use Rattle.jm_world.specs.Types.{default_value};
-ghost use Rattle.jm_machine.specs.DeclaredFields.{name_of_declared};
-ghost use Rattle.jm_machine.specs.StaticFields.{static_fields, static_names, static_values};
+ghost use Rattle.jm_machine.specs.StaticFields.{static_fields, static_names, static_values, name_of_static};
 
-use crate::declared_field::DeclaredField;
 use jm_builtins::BuiltInClass;
 use jm_linked::Linked;
-use jm_program::{AccessFlags, BaseType, Class, ElementType, Field, FieldType};
+use jm_program::{AccessFlags, BaseType, Class, ElementType, Field, FieldType, Name};
 use jm_values::{Place, Value};
 use std::alloc::{AllocError, Global};
 
 const SYSTEM: usize = BuiltInClass::System as usize;
+
+/// A static field with the name of the class that declares it.
+#[derive(Clone, Copy)]
+pub(crate) struct StaticField<'a> {
+    pub class: &'a Name,
+    pub field: &'a Field,
+}
 
 // What a variable of a type begins with (JVMS 2.3, 2.4).
 fn default_value(field_type: &FieldType) -> Value
@@ -62,8 +67,8 @@ pub(crate) fn first_values(
 }
 
 // The static field of a number among those of the classes.
-fn static_among(classes: &[Class], number: usize) -> Option<DeclaredField<'_>>
-    ensures { option_map name_of_declared result ≡ slice_get (static_names classes.now) number }
+fn static_among(classes: &[Class], number: usize) -> Option<StaticField<'_>>
+    ensures { option_map name_of_static result ≡ slice_get (static_names classes.now) number }
 {
     let mut left = number;
     for class in classes {
@@ -71,7 +76,7 @@ fn static_among(classes: &[Class], number: usize) -> Option<DeclaredField<'_>>
         for field in parts.fields.as_slice() {
             if field.flags.has(AccessFlags::STATIC) {
                 if left == 0 {
-                    return Some(DeclaredField {
+                    return Some(StaticField {
                         class: &parts.name,
                         field,
                     });
@@ -85,13 +90,13 @@ fn static_among(classes: &[Class], number: usize) -> Option<DeclaredField<'_>>
 
 /// The static field of a number: System.out is 0, and then come those of the program's classes, in
 /// order.
-pub(crate) fn static_numbered(linked: &Linked, number: usize) -> Option<DeclaredField<'_>>
-    ensures { option_map name_of_declared result ≡ slice_get (map (λ (s : Static). s.field) (first_statics linked.now.program)) number }
+pub(crate) fn static_numbered(linked: &Linked, number: usize) -> Option<StaticField<'_>>
+    ensures { option_map name_of_static result ≡ slice_get (map (λ (s : Static). s.field) (first_statics linked.now.program)) number }
 {
     if number == 0 {
         let system = &linked.built_ins()[SYSTEM];
         let fields = system.fields.as_slice();
-        return Some(DeclaredField {
+        return Some(StaticField {
             class: &system.name,
             field: &fields[0],
         });
