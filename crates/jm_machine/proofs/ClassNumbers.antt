@@ -8,12 +8,12 @@ use Rattle.jm_builtins.specs.declared.built_in.BuiltIn.{BuiltIn}
 use Rattle.jm_builtins.specs.List.{the_builtins}
 use Rattle.jm_linked.specs.Links.{class_name_of}
 
-in_first : {A : Type 0} (xs ys : List A) (n : ℕ) → n < length xs → slice_get (xs ++ ys) n ≡ slice_get xs n
+pub in_first : {A : Type 0} (xs ys : List A) (n : ℕ) → n < length xs → slice_get (xs ++ ys) n ≡ slice_get xs n
 in_first [] ys n l = absurd (omega arith)
 in_first (x ∷ xs) ys zero l = refl
 in_first (x ∷ xs) ys (suc n) l = in_first xs ys n (omega arith)
 
-in_second : {A : Type 0} (xs ys : List A) (n k : ℕ) → n ≡ length xs + k → slice_get (xs ++ ys) n ≡ slice_get ys k
+pub in_second : {A : Type 0} (xs ys : List A) (n k : ℕ) → n ≡ length xs + k → slice_get (xs ++ ys) n ≡ slice_get ys k
 in_second [] ys n k e = let same : n ≡ k = omega arith in ap (slice_get ys) same
 in_second (x ∷ xs) ys zero k e = absurd (omega arith)
 in_second (x ∷ xs) ys (suc n) k e = in_second xs ys n k (omega arith)

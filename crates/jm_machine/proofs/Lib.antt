@@ -8,6 +8,7 @@ pub mod Counting
 pub mod Adding
 pub mod Literals
 pub mod StaticFields
+pub mod InstanceFields
 pub mod Started
 pub mod FirstFrames
 pub mod ClassNumbers

@@ -23,10 +23,10 @@ use Rattle.jm_state.specs.declared.thread.StackFrame.{StackFrame}
 use Rattle.jm_state.specs.declared.thread.Thread as held
 use Rattle.jm_state.proofs.Made.{all_resident}
 use Rattle.jm_state.specs.View.{StateView}
-use Rattle.jm_machine.specs.Readers.{frame_at, pending_of}
-use Rattle.jm_machine.specs.Seen.{object_seen, statics_seen}
+use Rattle.jm_machine.specs.Readers.{TellsObject, frame_at, pending_of}
+use Rattle.jm_machine.specs.Seen.{ObjectView, object_seen, statics_seen, view_of_object}
 use Rattle.jm_machine.specs.Threads.{thread_numbered, frame_below, frame_numbered, pending_in, pending_numbered}
-use Rattle.jm_machine.proofs.Events.{thread_is}
+use Rattle.jm_machine.proofs.Events.{program_is, thread_is}
 use Rattle.jm_machine.proofs.Parted.{among_element}
 use Rattle.jm_machine.proofs.Told.{object, seen_is}
 
@@ -94,7 +94,7 @@ module _ (l : LinkedView) (c : Content ClassId) (v : StateView) (w : World) (m :
   unfolding parts
   is_sound = m.sound
 
-  pub object_read : (k p : ℕ) → Among k (reach w) → serial_at c p ≡ Some k → object_at w k ≡ Some (object_seen l c p)
+  object_read : (k p : ℕ) → Among k (reach w) → serial_at c p ≡ Some k → object_at w k ≡ Some (object_seen l c p)
   unfolding parts
   object_read k p a e =
       let there = object l c p m.sound (k, e) in
@@ -102,6 +102,13 @@ module _ (l : LinkedView) (c : Content ClassId) (v : StateView) (w : World) (m :
       sym (m.objects k (((reach_is_least w m.bound).same k).0 a))
       ∙ ap (option_map (as_named (named_type l.program))) (ap (content.object_at c) (sym same) ∙ there.3)
       ∙ ap Some (sym (seen_is l c p m.sound (k, e)))
+
+  pub object_told : (k p : ℕ) → Among k (reach w) → serial_at c p ≡ Some k → (o : ObjectView) → o ≡ view_of_object l c p → TellsObject w k (Some o)
+  object_told k p a e o is = (
+    a,
+    object_read k p a e ∙ ap (λ (x : ObjectView). Some x.object) (sym is),
+    ap (λ (x : ObjectView). x.program) is ∙ program_is l c v w m,
+  )
 
   module _ (n : IsRunnable l v) where
     all_here : AllResident c (places_of v)

@@ -1,22 +1,17 @@
 -- What readers tell beside what the world has.
-use Rattle.std.proofs.Common.{None, ◌≡◌, ℕ, zero, suc, ◌<◌, ◌≤◌, List, [], ◌∷◌, Some, refl, sym, ap, ◌∙◌, subst, length, get_or, arith}
+use Rattle.std.proofs.Common.{None, ◌≡◌, ℕ, zero, suc, ◌<◌, ◌≤◌, List, [], ◌∷◌, Option, Some, refl, sym, ap, ◌∙◌, subst, length, arith}
 use Rattle.std.specs.Prelude.{map, slice_get}
 use Rattle.std.proofs.lemmas.Option.{slice_get_within, slice_get_past}
 use Rattle.std.proofs.lemmas.List.{length-map}
 use Rattle.jm_program.specs.declared.class.ClassParts.{ClassParts}
-use Rattle.jm_program.specs.declared.class.Field.{Field}
 use Rattle.jm_program.specs.declared.class.Method.{Method}
-use Rattle.jm_builtins.specs.declared.built_in.BuiltIn.{BuiltIn}
-use Rattle.jm_builtins.specs.List.{the_builtins, system}
-use Rattle.jm_values.specs.Shape.{list_shape}
 use Rattle.jm_values.specs.Rename.{rename, refs, value_shape, stack_shape}
 use Rattle.jm_values.specs.declared.value.Value.{Value}
-use Rattle.jm_values.specs.declared.value.Value.TheVariants.{Ref}
 use Rattle.jm_world.specs.Classes.{name_of_method, method_named}
 use Rattle.jm_values.specs.Content.{Content, IsSound, AllResident, HasValue, serial_at, object_at, name_of}
-use Rattle.jm_world.specs.Loading.{first_statics, out_field}
+use Rattle.jm_world.specs.Loading.{first_statics}
 use Rattle.jm_world.specs.Matches.{as_named}
-use Rattle.jm_world.specs.Objects.{FieldName}
+use Rattle.jm_world.specs.Objects.{FieldName, Object}
 use Rattle.jm_values.specs.Objects.{ObjectOf}
 use Rattle.jm_world.specs.Renaming.{static_shape}
 use Rattle.jm_world.specs.World.{Static}
@@ -27,7 +22,7 @@ use Rattle.jm_linked.specs.Named.{named_statics}
 use Rattle.jm_state.specs.Parts.{named_type, program_class_name, name_in_program}
 use Rattle.jm_values.proofs.Marking.{object_there}
 use Rattle.jm_values.proofs.SoundContents.{name_is}
-use Rattle.jm_machine.specs.Seen.{object_or_none, object_seen, statics_seen}
+use Rattle.jm_machine.specs.Seen.{ObjectView, field_seen, fields_of_type, object_or_none, object_seen, statics_seen, view_of_object, with_value}
 use Rattle.jm_machine.proofs.StaticFields.{static_read}
 use Rattle.jm_machine.proofs.Parted.{among_element}
 
@@ -69,8 +64,27 @@ module _ (l : LinkedView) (c : Content ClassId) (p : ℕ) (sound : IsSound c) (t
   pub seen_is : object_seen l c p ≡ as_named (named_type l.program) object.1
   seen_is = ap (object_or_none (named_type l.program)) (ap (object_at c) (name_is c p object.0 object.2) ∙ object.3)
 
+  fields_seen : (id : ClassId) → id ≡ object.1.type
+      → fields_of_type l.program (named_type l.program id) ≡ fields_of_type l.program (object_seen l c p).type
+  fields_seen id e =
+      ap (λ t. fields_of_type l.program (named_type l.program t)) e ∙ ap (λ (o : Object). fields_of_type l.program o.type) (sym seen_is)
+
+  -- a field and a value of it that are read, by its number
+  pub field_told : (o : ObjectView) → view_of_object l c p ≡ o → (id : ClassId) → id ≡ object.1.type → (index : ℕ) (f : Option FieldName) (v : Option Value)
+      → f ≡ slice_get (fields_of_type l.program (named_type l.program id)) index → v ≡ slice_get o.object.values index
+      → with_value f v ≡ field_seen o index
+  field_told o is id e index f v name value =
+      let field : f ≡ slice_get (fields_of_type o.program o.object.type) index =
+      name ∙ ap (λ fs. slice_get fs index) (fields_seen id e)
+      ∙ ap (λ (x : ObjectView). slice_get (fields_of_type x.program x.object.type) index) is in
+      (λ i. with_value (field i) (value i))
+
   pub value_seen : (i : ℕ) (v : Value) → HasValue c p i v → slice_get (object_seen l c p).values i ≡ Some v
   value_seen i v h = ap (λ x. slice_get (object_or_none (named_type l.program) x).values i) (ap (object_at c) (name_is c p h.0 h.2) ∙ h.3) ∙ h.4
+
+pub no_value : (f : Option FieldName) → with_value f None ≡ None
+no_value None = refl
+no_value (Some f) = refl
 
 -- static fields with their values
 named_length : (ss : List Static) (vs : List Value) → length vs ≡ length ss → length (named_statics ss vs) ≡ length vs

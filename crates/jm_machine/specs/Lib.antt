@@ -2,7 +2,9 @@ pub mod View
 pub mod Collected
 pub mod Threads
 pub mod Answered
+pub mod DeclaredFields
 pub mod StaticFields
+pub mod InstanceFields
 pub mod FirstObjects
 pub mod Start
 pub mod MethodFrames

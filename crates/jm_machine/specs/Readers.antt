@@ -9,9 +9,10 @@ use Rattle.jm_values.specs.declared.value.Value.TheVariants as value
 use Rattle.jm_world.specs.Classes.{MethodName, name_of_method, method_named}
 use Rattle.jm_world.specs.Frames.{Frame, method_frame, initialization_frame}
 use Rattle.jm_world.specs.Types.{ObjectType, instance_of, array_of}
-use Rattle.jm_world.specs.Objects.{Object}
+use Rattle.jm_world.specs.Objects.{FieldName}
 use Rattle.jm_world.specs.World.{World, Thread, Static, Monitor, object_at, reach}
 use Rattle.jm_machine.specs.MethodFrames.{MethodFrameView}
+use Rattle.jm_machine.specs.Seen.{ObjectView}
 use Rattle.jm_machine.specs.declared.frame.WorldFrame.{WorldFrame}
 use Rattle.jm_machine.specs.declared.frame.WorldFrame.TheVariants.{Method, Initialization}
 use Rattle.jm_machine.specs.declared.monitor.WorldMonitor.{WorldMonitor}
@@ -19,6 +20,7 @@ use Rattle.jm_machine.specs.declared.object.ElementKind.{ElementKind}
 use Rattle.jm_machine.specs.declared.object.ElementKind.TheVariants.{Base, Class}
 use Rattle.jm_machine.specs.declared.object.ObjectKind.{ObjectKind}
 use Rattle.jm_machine.specs.declared.object.ObjectKind.TheVariants.{Instance, Array}
+use Rattle.jm_machine.specs.declared.object.WorldField.{WorldField}
 use Rattle.jm_machine.specs.declared.statics.WorldStatic.{WorldStatic}
 use Rattle.jm_machine.specs.declared.value.WorldValue.{WorldValue}
 use Rattle.jm_machine.specs.declared.value.WorldValue.TheVariants.{Int, Long, Null, Ref}
@@ -62,10 +64,14 @@ abbrev pub model_type : ObjectKind → ObjectType
 model_type (Instance class) = instance_of class.now
 model_type (Array dimensions e) = array_of (record { dimensions = dimensions; element = model_element e })
 
--- the object of a number that the world reaches; none of a number that it does not
-abbrev pub TellsObject : World → ℕ → Option Object → Type 0
+-- the object of a number that the world reaches, beside its program; none of a number that it does not
+abbrev pub TellsObject : World → ℕ → Option ObjectView → Type 0
 TellsObject w k None = Among k (reach w) → ⊥
-TellsObject w k (Some o) = Among k (reach w) × (object_at w k ≡ Some o)
+TellsObject w k (Some o) = Among k (reach w) × (object_at w k ≡ Some o.object) × (o.program ≡ w.program)
+
+-- a field of an object
+abbrev pub model_field : WorldField → FieldName × Value
+model_field f = (record { class = f.class.now; name = f.name.now; type = f.descriptor.now }, model_value f.value)
 
 -- a static field
 abbrev pub model_static : WorldStatic → Static

@@ -1,5 +1,5 @@
 -- The static fields of the program's classes, in the model's order.
-use Rattle.std.specs.Prelude.{List, map, option_map, Option}
+use Rattle.std.specs.Prelude.{List, map}
 use Rattle.std.specs.List.{filter, flat_map}
 use Rattle.jm_program.specs.Flags.{is_static}
 use Rattle.jm_program.specs.declared.class.ClassParts.{ClassParts}
@@ -7,7 +7,6 @@ use Rattle.jm_program.specs.declared.class.Field.{Field}
 use Rattle.jm_values.specs.declared.value.Value.{Value}
 use Rattle.jm_world.specs.Objects.{FieldName, field_names}
 use Rattle.jm_world.specs.Types.{default_value}
-use Rattle.jm_machine.specs.declared.static_fields.StaticField.{StaticField}
 
 abbrev pub static_fields : List Field → List Field
 static_fields fs = filter (λ f. is_static f.flags) fs
@@ -18,7 +17,3 @@ static_names program = flat_map (λ c. field_names c (static_fields c.fields)) p
 
 abbrev pub static_values : List ClassParts → List Value
 static_values program = flat_map (λ c. map (λ f. default_value f.descriptor) (static_fields c.fields)) program
-
--- the name of one
-abbrev pub name_of_static : StaticField → FieldName
-name_of_static s = record { class = s.class.now; name = s.field.now.name; type = s.field.now.descriptor }

@@ -11,10 +11,12 @@
 #![tactic(auto)]
 
 mod class;
+mod declared_field;
 mod event;
 mod fault;
 mod first_objects;
 mod frame;
+mod instance_fields;
 mod load;
 mod machine;
 mod monitor;
@@ -29,6 +31,6 @@ pub use frame::{MethodFrame, WorldFrame};
 pub use jm_schedule::{Schedule, ScheduleFault, read_schedule};
 pub use machine::Machine;
 pub use monitor::WorldMonitor;
-pub use object::{ElementKind, ObjectKind, WorldObject};
+pub use object::{ElementKind, ObjectKind, WorldField, WorldObject};
 pub use statics::{WorldStatic, WorldStatics};
 pub use value::WorldValue;

@@ -2,16 +2,20 @@
 
 ghost use Rattle.std.specs.Prelude.{◌≡◌, ℕ, length, option_map, slice_get, Some};
 ghost use Rattle.jm_values.specs.Content.{IsSound, serial_at};
+ghost use Rattle.jm_world.specs.Types.{instance_of};
 ghost use Rattle.jm_linked.specs.Links.{class_name_of};
 ghost use Rattle.jm_state.specs.Parts.{named_type, element_named};
-ghost use Rattle.jm_machine.specs.Readers.{model_value, model_element, model_type};
-ghost use Rattle.jm_machine.specs.Seen.{object_seen};
+ghost use Rattle.jm_machine.specs.DeclaredFields.{name_of_declared};
+ghost use Rattle.jm_machine.specs.Readers.{model_value, model_element, model_type, model_field};
+ghost use Rattle.jm_machine.specs.Seen.{fields_of_type, field_seen, view_of_object};
 
 use crate::class::class_name;
+use crate::declared_field::DeclaredField;
+use crate::instance_fields::instance_field;
 use crate::value::{WorldValue, world_value};
 use jm_heap::{ClassId, Element, Heap};
 use jm_linked::Linked;
-use jm_program::BaseType;
+use jm_program::{BaseType, FieldType, Name};
 use jm_values::Place;
 use std::marker::Model;
 
@@ -36,6 +40,16 @@ pub enum ObjectKind<'a> {
     },
 }
 
+/// A field of an object and its value (JVMS 2.5.3).
+#[derive(Clone, Copy)]
+pub struct WorldField<'a> {
+    /// The name of the class that declares it.
+    pub class: &'a Name,
+    pub name: &'a Name,
+    pub descriptor: &'a FieldType,
+    pub value: WorldValue,
+}
+
 /// An object, as the world has it (JVMS 2.7): references are numbers of objects. It borrows from
 /// the machine and copies nothing.
 #[derive(Drop)]
@@ -48,12 +62,11 @@ pub struct WorldObject<'a, H: Heap> {
 impl<'a, H: Heap> Model for WorldObject<'a, H> {
     ghost use Rattle.std.specs.Prelude.{◌≡◌, ℕ, Some};
     ghost use Rattle.jm_values.specs.Content.{IsSound, serial_at};
-    ghost use Rattle.jm_world.specs.Objects.{Object};
-    ghost use Rattle.jm_machine.specs.Seen.{object_seen};
+    ghost use Rattle.jm_machine.specs.Seen.{ObjectView, view_of_object};
 
-    ghost Value = { Object };
+    ghost Value = { ObjectView };
 
-    ghost view = { λ o. object_seen o.linked.now (H.content o.heap.now) o.place };
+    ghost view = { λ o. view_of_object o.linked.now (H.content o.heap.now) o.place };
 
     ghost invariant = { λ o. IsSound (H.content o.heap.now) × ((k : ℕ) × (serial_at (H.content o.heap.now) o.place ≡ Some k)) };
 }
@@ -63,7 +76,7 @@ impl<'a, H: Heap> WorldObject<'a, H> {
     pub(crate) fn new(heap: &'a H, linked: &'a Linked, place: Place) -> WorldObject<'a, H>
         requires sound { IsSound (H.content heap.now) }
         requires there { (k : ℕ) × (serial_at (H.content heap.now) place ≡ Some k) }
-        ensures { result ≡ object_seen linked.now (H.content heap.now) place }
+        ensures { result ≡ view_of_object linked.now (H.content heap.now) place }
     {
         WorldObject {
             heap,
@@ -74,14 +87,14 @@ impl<'a, H: Heap> WorldObject<'a, H> {
 
     /// Its class, or the type of its elements.
     pub fn kind(&self) -> ObjectKind<'a>
-        ensures { model_type result ≡ self.now.type }
+        ensures { model_type result ≡ self.now.object.type }
     {
         kind_of(self.linked, self.heap.class_of(self.place))
     }
 
     /// How many fields or elements it has.
     pub fn length(&self) -> u32
-        ensures { result ≡ length self.now.values }
+        ensures { result ≡ length self.now.object.values }
     {
         self.heap.length(self.place)
     }
@@ -89,7 +102,7 @@ impl<'a, H: Heap> WorldObject<'a, H> {
     /// The value of a field, of those of the topmost superclass first, in a class as declared, or
     /// of an element; None where there is none of that number.
     pub fn value(&self, index: u32) -> Option<WorldValue>
-        ensures { option_map model_value result ≡ slice_get self.now.values index }
+        ensures { option_map model_value result ≡ slice_get self.now.object.values index }
     {
         if index < self.heap.length(self.place) {
             let value = self.heap.get(self.place, index);
@@ -97,6 +110,26 @@ impl<'a, H: Heap> WorldObject<'a, H> {
         } else {
             None
         }
+    }
+
+    /// The field of a number, of those of the topmost superclass first, in a class as declared; None
+    /// past the fields, and of an array, which has none. It walks up the superclasses, over the
+    /// fields of each.
+    pub fn field(&self, index: u32) -> Option<WorldField<'a>>
+        ensures { option_map model_field result ≡ field_seen self.now index }
+    {
+        let Some(value) = self.value(index) else {
+            return None;
+        };
+        let Some(found) = field_of(self.linked, self.heap.class_of(self.place), index) else {
+            return None;
+        };
+        Some(WorldField {
+            class: found.class,
+            name: &found.field.name,
+            descriptor: &found.field.descriptor,
+            value,
+        })
     }
 }
 
@@ -122,5 +155,27 @@ fn kind_of(linked: &Linked, id: ClassId) -> ObjectKind<'_>
             dimensions: component.dimensions,
             element: element_of(linked, component.element),
         },
+    }
+}
+
+// The field of a number among those of the instances of a class. No class is without a name (JVMS
+// 4.2.1), so where no class has the number there is no field.
+fn field_in_class(linked: &Linked, class: u32, index: u32) -> Option<DeclaredField<'_>>
+    ensures { option_map name_of_declared result
+        ≡ slice_get (fields_of_type linked.now.program (instance_of (class_name_of linked.now.program class))) index }
+{
+    if class_name(linked, class).is_empty() {
+        return None;
+    }
+    instance_field(linked, class, index as usize)
+}
+
+// The field of a number among those of an object whose class or elements have these numbers.
+fn field_of(linked: &Linked, id: ClassId, index: u32) -> Option<DeclaredField<'_>>
+    ensures { option_map name_of_declared result ≡ slice_get (fields_of_type linked.now.program (named_type linked.now.program id)) index }
+{
+    match id {
+        ClassId::Instance(number) => field_in_class(linked, number, index),
+        ClassId::Array(_) => None,
     }
 }

@@ -6,22 +6,17 @@ ghost use Rattle.jm_values.specs.declared.value.Value.TheVariants.{Ref};
 ghost use Rattle.jm_world.specs.Loading.{first_statics};
 ghost use Rattle.jm_world.specs.World.{Static};
 ghost use Rattle.jm_world.specs.Types.{default_value};
-ghost use Rattle.jm_machine.specs.StaticFields.{static_fields, static_names, static_values, name_of_static};
+ghost use Rattle.jm_machine.specs.DeclaredFields.{name_of_declared};
+ghost use Rattle.jm_machine.specs.StaticFields.{static_fields, static_names, static_values};
 
+use crate::declared_field::DeclaredField;
 use jm_builtins::BuiltInClass;
 use jm_linked::Linked;
-use jm_program::{AccessFlags, BaseType, Class, ElementType, Field, FieldType, Name};
+use jm_program::{AccessFlags, BaseType, Class, ElementType, Field, FieldType};
 use jm_values::{Place, Value};
 use std::alloc::{AllocError, Global};
 
 const SYSTEM: usize = BuiltInClass::System as usize;
-
-/// A static field with the name of the class that declares it.
-#[derive(Clone, Copy)]
-pub(crate) struct StaticField<'a> {
-    pub class: &'a Name,
-    pub field: &'a Field,
-}
 
 // What a variable of a type begins with (JVMS 2.3, 2.4).
 fn default_value(field_type: &FieldType) -> Value
@@ -67,8 +62,8 @@ pub(crate) fn first_values(
 }
 
 // The static field of a number among those of the classes.
-fn static_among(classes: &[Class], number: usize) -> Option<StaticField<'_>>
-    ensures { option_map name_of_static result ≡ slice_get (static_names classes.now) number }
+fn static_among(classes: &[Class], number: usize) -> Option<DeclaredField<'_>>
+    ensures { option_map name_of_declared result ≡ slice_get (static_names classes.now) number }
 {
     let mut left = number;
     for class in classes {
@@ -76,7 +71,7 @@ fn static_among(classes: &[Class], number: usize) -> Option<StaticField<'_>>
         for field in parts.fields.as_slice() {
             if field.flags.has(AccessFlags::STATIC) {
                 if left == 0 {
-                    return Some(StaticField {
+                    return Some(DeclaredField {
                         class: &parts.name,
                         field,
                     });
@@ -90,13 +85,13 @@ fn static_among(classes: &[Class], number: usize) -> Option<StaticField<'_>>
 
 /// The static field of a number: System.out is 0, and then come those of the program's classes, in
 /// order.
-pub(crate) fn static_numbered(linked: &Linked, number: usize) -> Option<StaticField<'_>>
-    ensures { option_map name_of_static result ≡ slice_get (map (λ (s : Static). s.field) (first_statics linked.now.program)) number }
+pub(crate) fn static_numbered(linked: &Linked, number: usize) -> Option<DeclaredField<'_>>
+    ensures { option_map name_of_declared result ≡ slice_get (map (λ (s : Static). s.field) (first_statics linked.now.program)) number }
 {
     if number == 0 {
         let system = &linked.built_ins()[SYSTEM];
         let fields = system.fields.as_slice();
-        return Some(StaticField {
+        return Some(DeclaredField {
             class: &system.name,
             field: &fields[0],
         });

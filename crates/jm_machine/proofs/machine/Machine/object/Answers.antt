@@ -1,8 +1,8 @@
-use Rattle.std.proofs.Common.{sym, subst, ap, ◌∙◌, Some}
+use Rattle.std.proofs.Common.{sym, subst}
 use Rattle.jm_state.specs.View.{view_of}
 use Rattle.jm_machine.specs.View.{MatchesWorld}
 use Rattle.jm_state.specs.Reached.{FindsReachable}
-use Rattle.jm_machine.proofs.Reading.{is_sound, object_read}
+use Rattle.jm_machine.proofs.Reading.{is_sound, object_told}
 use Rattle.jm_machine.proofs.machine.Machine.object.Goals as goal
 
 pub new-object-requires-clause-sound : goal.new-object-requires-clause-sound
@@ -18,4 +18,5 @@ returns-in-Ok-Some g c = λ w m.
     let l = c.self.inside.linked in
     let heap = g.H.Heap.content s.heap in
     let here = subst (FindsReachable heap w c.args.number) c.in-Ok-Some.field-0-is (c.in-Ok-Some.ensures w (subst (λ v. MatchesWorld v w) (sym c.self.view_is) m)) in
-    (here.0, object_read l heap (view_of s) w (subst (λ v. MatchesWorld v w) (sym c.self.view_is) m) c.args.number c.in-Ok-Some.place here.0 here.1 ∙ ap Some (sym c.new-object.ensures))
+    object_told l heap (view_of s) w (subst (λ v. MatchesWorld v w) (sym c.self.view_is) m) c.args.number c.in-Ok-Some.place here.0 here.1 c.new-object.result
+    c.new-object.ensures

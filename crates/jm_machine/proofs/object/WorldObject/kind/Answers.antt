@@ -1,6 +1,7 @@
 use Rattle.std.proofs.Common.{sym, ap, ◌∙◌}
 use Rattle.jm_world.specs.Objects.{Object}
 use Rattle.jm_state.specs.Parts.{named_type}
+use Rattle.jm_machine.specs.Seen.{ObjectView}
 use Rattle.jm_machine.proofs.Told.{object, seen_is}
 use Rattle.jm_machine.proofs.object.WorldObject.kind.Goals as goal
 
@@ -15,4 +16,5 @@ returns g c =
     let sound = c.self.invariant.0 in
     let there = c.self.invariant.1 in
     let o = object l heap place sound there in
-    c.kind_of.ensures ∙ ap (named_type l.program) (c.class_of.ensures o.0 o.1 o.2 o.3) ∙ ap (λ (x : Object). x.type) (sym (seen_is l heap place sound there) ∙ c.self.view_is)
+    c.kind_of.ensures ∙ ap (named_type l.program) (c.class_of.ensures o.0 o.1 o.2 o.3) ∙ ap (λ (x : Object). x.type) (sym (seen_is l heap place sound there))
+    ∙ ap (λ (x : ObjectView). x.object.type) c.self.view_is

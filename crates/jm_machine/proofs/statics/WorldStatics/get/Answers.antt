@@ -3,7 +3,7 @@ use Rattle.std.specs.Prelude.{slice_get}
 use Rattle.std.proofs.lemmas.Option.{slice_get_past, slice_get-get_or}
 use Rattle.jm_world.specs.World.{Static}
 use Rattle.jm_machine.specs.Seen.{statics_seen}
-use Rattle.jm_machine.specs.StaticFields.{name_of_static}
+use Rattle.jm_machine.specs.DeclaredFields.{name_of_declared}
 use Rattle.jm_machine.proofs.Told.{none_past, statics_length, static_resident, static_is}
 use Rattle.jm_machine.proofs.statics.WorldStatics.get.Goals as goal
 
@@ -31,7 +31,7 @@ returns g c =
     let l = c.self.inside.linked.now in
     let heap = g.H.Heap.content c.self.inside.heap.now in
     let values = c.self.inside.values.now in
-    let found = name_of_static c.in-Some.found in
+    let found = name_of_declared c.in-Some.found in
     (λ i. Some (record { field = found; value = c.world_value.ensures i }))
     ∙ sym (static_is l heap values c.args.index _ (slice_get-get_or values c.args.index c.index-self-index.result c.if-index-self.false) found
     (sym c.in-Some.ensures))
