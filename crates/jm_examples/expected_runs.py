@@ -5,7 +5,9 @@ A program that needs a part that comes later is refused for the first one, in th
 order of crates/jm_linked/specs/Later.antt: it is looked for in what `javap -v -p`
 prints of a class file, and in the lines of an assembler text. Any other program
 prints what a real Java printed (printed.txt in the folder of its main class), and
-ends with status 0.
+ends with status 0. What the worked programs of data/worked.txt print is in
+worked/printed.txt, written by hand from the rules of JVMS. What a closed run of
+data/runs.txt prints, and how its threads end, stands in its folder.
 """
 
 import os
@@ -22,21 +24,18 @@ MONITORS = ("monitorenter", "monitorexit")
 
 
 class Method:
-    """A method: its name where it matters, its code, whether it has handlers."""
+    """A method: its code, whether it is synchronized."""
 
-    def __init__(self, name):
-        self.name = name
+    def __init__(self):
         self.synchronized = False
         self.code = []
-        self.handlers = False
 
 
 class Class:
-    """A class: its names, whether a static field has a ConstantValue, its methods."""
+    """A class: its names, its methods."""
 
     def __init__(self):
         self.name = self.superclass = None
-        self.constant = False
         self.methods = []
 
 
@@ -62,7 +61,7 @@ def class_of_javap(path):
         ["javap", "-v", "-p", path], check=True, capture_output=True, text=True
     ).stdout
     result = Class()
-    part = static = None
+    part = None
     for text in printed.splitlines():
         if text.startswith("  this_class:"):
             result.name = text.split("// ")[1]
@@ -70,21 +69,13 @@ def class_of_javap(path):
             result.superclass = text.split("// ")[1]
         elif MEMBER.match(text):
             part = None
-            if text == "  static {};":
-                result.methods.append(Method("<clinit>"))
-            elif "(" in text:
-                result.methods.append(Method(None))
+            if text == "  static {};" or "(" in text:
+                result.methods.append(Method())
         elif text.startswith("    flags:"):
-            static = "ACC_STATIC" in text
             if "ACC_SYNCHRONIZED" in text:
                 result.methods[-1].synchronized = True
         elif found := ATTRIBUTE.match(text):
             part = found[1]
-            if part == "ConstantValue":
-                # one of an instance field is skipped (JVMS 4.7.2)
-                result.constant |= static
-            elif part == "Exception table":
-                result.methods[-1].handlers = True
         elif part == "Code" and (found := INSTRUCTION.match(text)):
             comment = found[2].partition("// ")[2]
             result.methods[-1].code.append(instruction(result.name, found[1], comment))
@@ -117,14 +108,10 @@ def class_of_text(path):
                 result.name = words[-1]
             elif words[0] == ".super":
                 result.superclass = words[1]
-            elif words[0] == ".field":
-                result.constant |= "static" in words and "=" in words
             elif words[0] == ".method":
-                inside = Method(next(word for word in words if "(" in word).partition("(")[0])
+                inside = Method()
                 inside.synchronized = "synchronized" in words
                 result.methods.append(inside)
-            elif words[0] == ".catch":
-                inside.handlers = True
             elif words[0] == ".end":
                 inside = None
             elif inside and not words[0].startswith("."):
@@ -138,7 +125,7 @@ def later_instruction(owner, mnemonic, used, called):
     """The part of an instruction that comes later, or None."""
     if used in LATER_CLASSES:
         return used
-    if mnemonic == "athrow" or mnemonic in MONITORS:
+    if mnemonic in MONITORS:
         return mnemonic
     if mnemonic == "invokespecial" and called != "<init>":
         return None if used in (owner.name, owner.superclass) else mnemonic
@@ -149,19 +136,12 @@ def later_class(owner):
     """The first part of a class that comes later, or None."""
     if owner.superclass in LATER_CLASSES:
         return owner.superclass
-    if owner.constant:
-        return "ConstantValue"
-    for method in owner.methods:
-        if method.name == "<clinit>":
-            return "<clinit>"
-        if method.synchronized:
-            return "synchronized"
+    if any(method.synchronized for method in owner.methods):
+        return "synchronized"
     for method in owner.methods:
         for code in method.code:
             if part := later_instruction(owner, *code):
                 return part
-        if method.handlers:
-            return "handlers"
     return None
 
 
@@ -182,18 +162,64 @@ def printed(path):
     return dict(zip(sections[1::2], sections[2::2]))[os.path.splitext(name)[0]]
 
 
+def later_run(part):
+    """What the run of a program prints that needs a part that comes later."""
+    return f"jm: 16 Later({part})\nstatus 4\n"
+
+
+def text_of(path):
+    """The text of a file, empty where there is none."""
+    if not os.path.exists(path):
+        return ""
+    with open(path, encoding="utf-8") as text:
+        return text.read()
+
+
+def closed_run(files):
+    """What a closed run prints, and how it ends."""
+    folder = os.path.dirname(files[0])
+    ended = text_of(os.path.join(folder, "stderr"))
+    status = 3 if ended else 0
+    return f"{text_of(os.path.join(folder, 'stdout'))}{ended}status {status}\n"
+
+
+def words_of_lines(path):
+    """The words of each line of a list."""
+    return [line.split() for line in text_of(path).splitlines()]
+
+
+def programs():
+    """What the run of each line of programs.txt has to print."""
+    for files in words_of_lines("programs.txt"):
+        yield f"== {os.path.basename(files[0])}\n"
+        part = later_part(files)
+        yield later_run(part) if part else f"{printed(files[0])}status 0\n"
+
+
+def unlisted_runs():
+    """The folders of closed runs that runs.txt has no line of."""
+    listed = {os.path.dirname(words[2]) for words in words_of_lines("runs.txt")}
+    folders = [entry for entry in os.scandir("runs") if entry.is_dir()]
+    return sorted(entry.name for entry in folders if entry.path not in listed)
+
+
+def closed_runs():
+    """What the run of each line of runs.txt has to print."""
+    if names := unlisted_runs():
+        sys.exit(f"runs.txt lacks {', '.join(names)}")
+    for heap, events, *files in words_of_lines("runs.txt"):
+        name = files[0].partition("/")[2]
+        yield f"== {name}, heap {heap}, events {events}\n"
+        part = later_part(files)
+        yield later_run(part) if part else closed_run(files)
+
+
 def main():
-    """Prints what the run of each line of programs.txt has to print."""
+    """Prints what the run of each line of the three lists has to print."""
     os.chdir(os.path.join(os.path.dirname(os.path.abspath(__file__)), "data"))
-    with open("programs.txt", encoding="utf-8") as lines:
-        for line in lines:
-            files = line.split()
-            print("==", os.path.basename(files[0]))
-            if part := later_part(files):
-                print(f"jm: 16 Later({part})\nstatus 4")
-            else:
-                sys.stdout.write(printed(files[0]))
-                print("status 0")
+    sys.stdout.writelines(programs())
+    sys.stdout.write(text_of("worked/printed.txt"))
+    sys.stdout.writelines(closed_runs())
 
 
 main()

@@ -16,7 +16,7 @@ compile --release 8 Marker.java Empty.java Arithmetic.java LongArithmetic.java \
     Comparisons.java Switches.java Loops.java Recursion.java Arrays.java \
     Constants.java Texts.java Shapes.java Generic.java LinkedStack.java \
     Anonymous.java Nested.java Varargs.java Interfaces.java ManyLocals.java \
-    ManyConstants.java FarJump.java
+    ManyConstants.java FarJump.java Caught.java Starting.java
 compile --release 8 -g Exceptions.java BuiltInFaults.java Locks.java \
     Threads.java Initializers.java Casts.java OldMembers.java
 compile --release 8 -g:none Fields.java Evaluation.java

@@ -17,7 +17,7 @@ use jm_class_reader::read_class;
 use jm_class_writer::write_class;
 use jm_jasmin::assemble;
 use jm_program::Class;
-use programs::print_programs;
+use programs::{print_programs, print_runs};
 use row::row_of;
 use std::rt::Files;
 use std::{fs, io};
@@ -28,7 +28,9 @@ fn main(rt: HostRuntime) -> io::Result<()> {
     print_class_files(&rt, REFUSED)?;
     print_texts(&rt, TEXTS)?;
     print_bytes(&rt, "sum.j", "sum.class")?;
-    print_programs(&rt, "programs.txt")
+    print_programs(&rt, "programs.txt")?;
+    print_runs(&rt, "worked.txt")?;
+    print_runs(&rt, "runs.txt")
 }
 
 fn print_class_files(rt: &(impl Print + Files + AllocGlobal), files: &[&str]) -> io::Result<()> {

@@ -71,7 +71,7 @@ unset_renamed : (f : ℕ → ℕ) (n : ℕ) → locals_shape.rename f (unset n) 
 unset_renamed f zero = refl
 unset_renamed f (suc n) = ap (λ xs. None ∷ xs) (unset_renamed f n)
 
-padded_renamed : (f : ℕ → ℕ) (max : ℕ) (xs : List (Option Value)) → locals_shape.rename f (padded max xs) ≡ padded max (locals_shape.rename f xs)
+pub padded_renamed : (f : ℕ → ℕ) (max : ℕ) (xs : List (Option Value)) → locals_shape.rename f (padded max xs) ≡ padded max (locals_shape.rename f xs)
 padded_renamed f max xs =
     map-append (option_map (rename f)) xs (unset (max - length xs))
     ∙ ap (λ l. map (option_map (rename f)) xs ++ l) (unset_renamed f (max - length xs)
@@ -117,7 +117,7 @@ unset_refs : (n q : ℕ) → Among q (locals_shape.refs (unset n)) → ⊥
 unset_refs zero q a = a
 unset_refs (suc n) q a = unset_refs n q a
 
-padded_refs : (max : ℕ) (xs : List (Option Value)) (q : ℕ) → Among q (locals_shape.refs (padded max xs)) → Among q (locals_shape.refs xs)
+pub padded_refs : (max : ℕ) (xs : List (Option Value)) (q : ℕ) → Among q (locals_shape.refs (padded max xs)) → Among q (locals_shape.refs xs)
 padded_refs max xs q a =
     let rest = unset (max - length xs) in
     elim (among_split q (locals_shape.refs xs) (locals_shape.refs rest) (subst (Among q) (flat_map-append (option_refs value_shape) xs rest) a)) [

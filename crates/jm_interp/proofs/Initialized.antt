@@ -5,31 +5,35 @@ use Rattle.std.specs.Prelude.{map, slice_get, slice_set, nat_eq, nat_lt, codes, 
 use Rattle.std.specs.List.{AllByRecursion}
 use Rattle.jm_program.specs.declared.class.ClassParts.{ClassParts}
 use Rattle.jm_program.specs.declared.class.Field.{Field}
+use Rattle.jm_program.specs.declared.code.Code.{Code}
 use Rattle.std.proofs.lemmas.Bool.{eq-eqb}
 use Rattle.std.proofs.lemmas.List.{length-map}
 use Rattle.std.proofs.lemmas.Bool.Decides.{eqb_tells, nat_tests}
 use Rattle.jm_values.specs.Shape.{Among}
-use Rattle.jm_world.specs.Frames.{Frame, frames_shape, initialization_frame, rename_frame}
+use Rattle.jm_values.specs.declared.fault.TagFault.TheVariants.{WrongKind}
+use Rattle.jm_values.proofs.Among.{among_split}
+use Rattle.jm_world.specs.Frames.{Frame, frames_shape, refs_frame, initialization_frame, rename_frame}
 use Rattle.jm_world.specs.Here.{with_frames, push_frame}
-use Rattle.jm_world.specs.Initialization.{initialize, begin, superclass_first, superclass_name, is_done, run_initializer, initializer_of, initializer_in}
-use Rattle.jm_world.specs.Initialization.{initializer_type, constants_of, with_constant, with_constants, at_stage, finish}
+use Rattle.jm_world.specs.Initialization.{initialize, begin, superclass_first, superclass_name, is_done, run_initializer, call_initializer, initializer_of}
+use Rattle.jm_world.specs.Initialization.{constants_of, at_stage, finish}
 use Rattle.jm_world.specs.Next as next
 use Rattle.jm_world.specs.Next.{Next, goes, throw}
-use Rattle.jm_world.specs.Classes.{class_named}
+use Rattle.jm_world.specs.Classes.{FoundMethod, class_named}
 use Rattle.jm_world.specs.World.{World, Thread, Static, Literal, with_thread, with_state, state_of, state_in, set_state_in, held_shape, live_among}
 use Rattle.jm_values.specs.Content.{Content, name_of}
 use Rattle.jm_world.specs.Matches.{Matches}
 use Rattle.jm_world.specs.Stepping.{step_thread}
 use Rattle.jm_world.specs.declared.class_state.ClassState.{ClassState}
 use Rattle.jm_world.specs.declared.class_state.ClassState.TheVariants.{NotBegun, InProgress, Done, Failed}
+use Rattle.jm_world.specs.declared.stop.Stop.TheVariants as why
 use Rattle.jm_world.specs.declared.stage.Stage.{Stage}
 use Rattle.jm_world.specs.declared.stage.Stage.TheVariants as stage
 use Rattle.jm_heap.specs.declared.class_id.ClassId.{ClassId}
-use Rattle.jm_linked.specs.Later.{later_part, later_declared_field, first_later}
 use Rattle.jm_linked.specs.Links.{LinkedView, IsLinked}
 use Rattle.jm_linked.specs.Named.{named_states}
+use Rattle.jm_linked.specs.Tables.{IsInitializer}
 use Rattle.jm_state.specs.Parts.{parts, frame_part, thread_part, program_class_name, name_in_program}
-use Rattle.jm_state.specs.Runnable.{ThreadRuns, ThreadNotYet}
+use Rattle.jm_state.specs.Runnable.{FrameRuns, FrameNotYet, ThreadRuns, ThreadNotYet}
 use Rattle.jm_state.specs.Places.{held_thread}
 use Rattle.jm_state.specs.declared.state.State.{State}
 use Rattle.jm_state.specs.declared.thread.StackFrame.{StackFrame}
@@ -38,21 +42,22 @@ use Rattle.jm_state.specs.declared.thread.Thread as held
 use Rattle.jm_values.proofs.Lists.{set_same}
 use Rattle.jm_linked.proofs.BuiltIns.{others}
 use Rattle.jm_linked.proofs.SystemOut.{not_listed}
-use Rattle.jm_linked.proofs.Classes.{IsPlain, plain_class, no_constant, state_is, states_set, class_is}
-use Rattle.jm_linked.proofs.Whole.{neither_later}
+use Rattle.jm_linked.proofs.Classes.{state_is, states_set, class_is}
 use Rattle.std.specs.Prelude.{slice_index_or, vec_len, Ok}
 use Rattle.jm_interp.specs.declared.at.At.{At}
-use Rattle.jm_interp.specs.At.{parts_at, HoldsAll, OnThread, Does, Steps}
+use Rattle.jm_interp.specs.At.{parts_at, HoldsAll, OnThread, OnFrames, Does, Steps}
+use Rattle.jm_interp.specs.ConstantValues.{gives_constants, puts_in_progress}
 use Rattle.jm_interp.specs.Initializing.{IsOwnSuperclass}
+use Rattle.jm_interp.proofs.After.{seen_after, then_does}
 use Rattle.jm_interp.specs.Standing.{Stands, running}
 use Rattle.jm_interp.proofs.OnThread.{Leads, thread_as, thread_there, model, read, does_as, blocks, held_frames, held_pending}
 use Rattle.jm_interp.proofs.OnThread.{part_here, runs_with, same_matches, ChangedTo, with_thread_at}
 use Rattle.jm_interp.proofs.OnThread as thread
-use Rattle.jm_values.proofs.Lists.{get_there, get_at}
+use Rattle.jm_values.proofs.Lists.{get_there, get_at, set_there}
 use Rattle.jm_interp.proofs.Threads.{part_refs, PartRuns, without_top, with_top, with_more, dropped_part, dropped_refs, count_is}
 use Rattle.jm_state.specs.Runnable.{StateRuns}
 use Rattle.jm_state.specs.declared.halt.Halt.{Halt}
-use Rattle.jm_state.specs.declared.halt.Halt.TheVariants.{OutOfMemory}
+use Rattle.jm_state.specs.declared.halt.Halt.TheVariants.{Stopped, OutOfMemory}
 use Rattle.jm_state.specs.declared.halt.StepEnd.{StepEnd}
 use Rattle.jm_state.specs.declared.halt.StepEnd.TheVariants as step_end
 
@@ -62,27 +67,17 @@ pub record HasClass (l : LinkedView) (class : ℕ) : Type 0 where
   pub at : slice_get l.program class ≡ Some class_of
   pub named : program_class_name l.program class ≡ class_of.name
   pub is_named : class_named l.program class_of.name ≡ Some class_of
-  pub plain : IsPlain class_of
 
-pub has_class : (l : LinkedView) → IsLinked l → later_part l.program ≡ None → (class : ℕ) → class < length l.program → HasClass l class
+pub has_class : (l : LinkedView) → IsLinked l → (class : ℕ) → class < length l.program → HasClass l class
 unfolding program_class_name
-has_class l is none class lt =
+has_class l is class lt =
     let d = get_there l.program class lt in
     record {
       class_of = d.0;
       at = d.1;
       named = ap name_in_program d.1;
       is_named = class_is l.program is.loads class d.0 d.1;
-      plain = plain_class l.program none class d.0 d.1;
     }
-
--- no field of it has a constant
-no_constants : (literals : List Literal) (c : ClassParts) (fs : List Field) (statics : List Static) → first_later later_declared_field fs ≡ None
-    → with_constants literals c fs statics ≡ statics
-no_constants literals c [] statics e = refl
-no_constants literals c (f ∷ fs) statics e =
-    let parts = neither_later (later_declared_field f) (first_later later_declared_field fs) e in
-    ap (λ o. with_constants literals c fs (with_constant literals c f o statics)) (no_constant f parts.0) ∙ no_constants literals c fs statics parts.1
 
 pub staged_runs : {l : LinkedView} {class : ℕ} {s s' : Stage} {below : List StackFrame} {o : Option ℕ}
     → PartRuns l (Initialization class s ∷ below) (running o None) → PartRuns l (Initialization class s' ∷ below) (running o None)
@@ -129,7 +124,7 @@ module _ {H : Type 0} {content : H → Content ClassId} {at : At} {old : State H
   name = program_class_name at.linked.now.program class
 
   pub class_there : HasClass at.linked.now class
-  class_there = has_class at.linked.now h.beside.linked h.beside.runs.not_yet.program class lt
+  class_there = has_class at.linked.now h.beside.linked class lt
 
   pub class_within : class < vec_len old.classes
   class_within = let n = old.classes.ok.0 in let r = h.beside.runs.classes in omega arith
@@ -246,13 +241,29 @@ module _ {H : Type 0} {content : H → Content ClassId} {at : At} {old : State H
       ap (λ z. initialize w (at.index + 1) (model h) called z lower) e
       ∙ ap (begin w (at.index + 1) (model h) called lower) (state_here h class own there w m)
 
-  pub initializer_done : {new : State H} → s ≡ stage.Initializer
-      → Does content at old (Ok step_end.Done) new (λ w number x. finish w number x called (drop 1 x.frames)) → Steps content at old (Ok step_end.Done) new
-  initializer_done e done = does_as h (λ w m. m) (λ w m.
+  initializer_is : s ≡ stage.Initializer → {o : Option FoundMethod} → initializer_of (Some class_of.class_of) ≡ o
+      → Leads h step_thread (λ w. run_initializer w (at.index + 1) (model h) called lower o)
+  initializer_is e its w m =
       ap (λ z. initialize w (at.index + 1) (model h) called z lower) e
       ∙ ap (λ o. run_initializer w (at.index + 1) (model h) called lower (initializer_of o)) (class_here h class own w m)
-      ∙ ap (λ o. run_initializer w (at.index + 1) (model h) called lower (initializer_in class_of.class_of o))
-      (class_of.plain.no_initializer initializer_type)) done
+      ∙ ap (run_initializer w (at.index + 1) (model h) called lower) its
+
+  -- it has no initializer, one without code, or one with code
+  pub initializer_done : {new : State H} → s ≡ stage.Initializer → IsInitializer class_of.class_of None
+      → Does content at old (Ok step_end.Done) new (λ w number x. finish w number x called (drop 1 x.frames)) → Steps content at old (Ok step_end.Done) new
+  initializer_done e none done = does_as h (λ w m. m) (initializer_is e none) done
+
+  pub codeless : s ≡ stage.Initializer → {found : FoundMethod} → initializer_of (Some class_of.class_of) ≡ Some found → found.method.code ≡ None
+      → Steps content at old (Err (Stopped (why.TagFault WrongKind))) old
+  codeless e {found} its no_code = thread.stops h (λ w m.
+      initializer_is e its w m ∙ ap (call_initializer w (at.index + 1) (model h) called lower found) no_code)
+
+  pub initializer_called : {new : State H} {result : Result StepEnd Halt} → s ≡ stage.Initializer → {found : FoundMethod} {code : Code}
+      → initializer_of (Some class_of.class_of) ≡ Some found → found.method.code ≡ Some code
+      → Does content at old result new (λ w number x. call_initializer w number x called (drop 1 x.frames) found (Some code))
+      → Steps content at old result new
+  initializer_called e {found} its has_code done = does_as h (λ w m. m) (λ w m.
+      initializer_is e its w m ∙ ap (call_initializer w (at.index + 1) (model h) called lower found) has_code) done
 
   pub end_done : {new : State H} → s ≡ stage.End → Does content at old (Ok step_end.Done) new (λ w number x. finish w number x called (drop 1 x.frames))
       → Steps content at old (Ok step_end.Done) new
@@ -334,14 +345,12 @@ module _ {H : Type 0} {content : H → Content ClassId} {at : At} {old : State H
         by w Done g = absurd (g refl)
         by w Failed g = refl
 
-  -- the superclass's frame is put on top, where there is room
-  module _ (above : ℕ) (lt : above < length at.linked.now.program) {d : held.Thread} {n : ℕ} (got : d ≡ slice_index_or old.threads.items at.index d)
-      (count : n ≡ vec_len d.frames) where
+  -- a frame is put on top, where there is room, and this one goes to another stage
+  module _ (later : Stage) (above : Frame) {d : held.Thread} {n : ℕ} (got : d ≡ slice_index_or old.threads.items at.index d) (count : n ≡ vec_len d.frames) where
     abbrev pushes : World → ℕ → Thread → Next
-    pushes w number x = push_frame w number x (initialization_frame called stage.Initializer ∷ drop 1 x.frames)
-        (initialization_frame (program_class_name at.linked.now.program above) stage.Begin)
+    pushes w number x = push_frame w number x (initialization_frame called later ∷ drop 1 x.frames) above
 
-    depth : n ≡ length (initialization_frame called stage.Initializer ∷ lower)
+    depth : n ≡ length (initialization_frame called later ∷ lower)
     depth =
         let f = rename_frame (name_of (content old.heap)) in
         let a : length lower ≡ length below = length-map (map (frame_part at.linked.now) below) f ∙ length-map below (frame_part at.linked.now) in
@@ -350,8 +359,7 @@ module _ {H : Type 0} {content : H → Content ClassId} {at : At} {old : State H
 
     by_depth : World → Bool → Next
     by_depth w b = elim b [
-      | true ↦ goes (with_frames w (at.index + 1) (model h) (initialization_frame (program_class_name at.linked.now.program above) stage.Begin
-          ∷ initialization_frame called stage.Initializer ∷ lower))
+      | true ↦ goes (with_frames w (at.index + 1) (model h) (above ∷ initialization_frame called later ∷ lower))
       | false ↦ throw w (at.index + 1) (model h) (codes "java/lang/StackOverflowError")
     ]
 
@@ -359,20 +367,27 @@ module _ {H : Type 0} {content : H → Content ClassId} {at : At} {old : State H
         → Does content at old result new (λ w number x. throw w number x error) → Does content at old result new pushes
     unfolding by_depth
     too_deep many named done = does_as h (λ w m. m) (λ w m.
-        let deep : 512 ≤ length (initialization_frame called stage.Initializer ∷ lower) = let a = depth in omega arith in
-        ap (by_depth w) (not_less (length (initialization_frame called stage.Initializer ∷ lower)) 512 deep)
+        let deep : 512 ≤ length (initialization_frame called later ∷ lower) = let a = depth in omega arith in
+        ap (by_depth w) (not_less (length (initialization_frame called later ∷ lower)) 512 deep)
         ∙ ap (throw w (at.index + 1) (model h)) (sym named)) done
 
-    pub begun : {t : held.Thread} → n < 512
-        → Stands t (Initialization above stage.Begin ∷ Initialization class stage.Initializer ∷ below) (running h.object None)
+    -- one that holds no place
+    pub begun : {t : held.Thread} {g : StackFrame} → n < 512 → FrameRuns at.linked.now g → FrameNotYet at.linked.now g
+        → ((q : ℕ) → Among q (refs_frame (frame_part at.linked.now g)) → ⊥) → above ≡ rename_frame (name_of (content old.heap)) (frame_part at.linked.now g)
+        → Stands t (g ∷ Initialization class later ∷ below) (running h.object None)
         → Does content at old (Ok step_end.Done) (with_thread_at old at.index t) pushes
     unfolding by_depth
-    begun few s' =
+    begun {g = g} few runs yet free is s' =
         let a = depth in
         let b = count_is (read h got) count in
-        thread.goes h s' (with_more {g = Initialization above stage.Begin} lt tt (omega arith) (staged_runs (part_here h)))
-        (inside (Initialization above stage.Begin ∷ Initialization class stage.Initializer ∷ below) (λ q z. z)) (λ w m.
-        ap (by_depth w) (less (length (initialization_frame called stage.Initializer ∷ lower)) 512 (omega arith)))
+        let rest = frames_shape.refs (map (frame_part at.linked.now) below) in
+        thread.goes h s' (with_more {g = g} runs yet (omega arith) (staged_runs (part_here h)))
+        (inside (g ∷ Initialization class later ∷ below) (λ q z. elim (among_split q (refs_frame (frame_part at.linked.now g)) rest z) [
+          | inl y ↦ absurd (free q y)
+          | inr y ↦ y
+        ])) (λ w m.
+        ap (by_depth w) (less (length (initialization_frame called later ∷ lower)) 512 (omega arith))
+        ∙ ap (λ f. goes (with_frames w (at.index + 1) (model h) (f ∷ initialization_frame called later ∷ lower))) is)
 
     pub not_begun : {t : held.Thread} → Stands t (Initialization class s ∷ below) (running h.object None)
         → Does content at old (Err OutOfMemory) (with_thread_at old at.index t) pushes
@@ -384,11 +399,59 @@ pub at_this : {H : Type 0} {content : H → Content ClassId} {at : At} {old : St
 at_this {content = content} {at = at} {old = old} {class = class} {below = below} e h =
     subst (λ y. OnThread content at old (Initialization class y ∷ below) None) e h
 
+-- it is in progress by this thread, and its superclass is next
+pub in_progress : {H : Type 0} {content : H → Content ClassId} {at : At} {old : State H} {class : ℕ} {below : List StackFrame}
+    (h : OnThread content at old (Initialization class stage.Begin ∷ below) None) {new : State H} {t : held.Thread} → ChangedTo h new t
+    → new.classes.items ≡ slice_set old.classes.items class (InProgress (at.index + 1)) → new.live ≡ old.live → new.output.items ≡ old.output.items
+    → Stands t (Initialization class stage.Superclass ∷ below) (running h.object None)
+    → Does content at old (Ok step_end.Done) new (puts_in_progress (program_class_name at.linked.now.program class))
+in_progress {at = at} {class = class} {below = below} h {new} same classes live output s' =
+    changes h class (own h) same classes output (class_runs h class (own h) new (InProgress (at.index + 1)) same classes live s' (staged_runs (part_here h))) s'
+    (inside h (Initialization class stage.Superclass ∷ below) (λ r a. a)) (λ w m. refl)
+
+module _ {H : Type 0} {content : H → Content ClassId} {at : At} {old : State H} {class : ℕ} {below : List StackFrame}
+    (h : OnThread content at old (Initialization class stage.Begin ∷ below) None) where
+  -- it begins: it is in progress, and its constants are given
+  module _ (begun : slice_get old.classes.items class ≡ Some NotBegun) {mid : State H} (puts : Does content at old (Ok step_end.Done) mid (puts_in_progress (called h))) where
+    put_thread : Thread
+    put_thread = record (model h) { frames = initialization_frame (called h) stage.Superclass ∷ lower h }
+
+    put_world : World → World
+    put_world w = at_stage (with_state w (called h) (InProgress (at.index + 1))) (at.index + 1) (model h) (called h) stage.Superclass (lower h)
+
+    put_matches : (w : World) → Matches (parts_at content at old) w → Matches (parts_at content at mid) (put_world w)
+    unfolding put_world
+    put_matches w m = puts.ends w (model h) m (thread_there h w m)
+
+    put_there : (w : World) → Matches (parts_at content at old) w → slice_get (put_world w).threads at.index ≡ Some put_thread
+    unfolding put_world put_thread
+    put_there w m =
+        let n : at.index ≡ at.index + 1 - 1 = omega arith in
+        subst (λ i. slice_get (slice_set w.threads i put_thread) at.index ≡ Some put_thread) n
+        (set_there w.threads at.index (model h) put_thread (thread_there h w m))
+
+    pub frames_begun : OnFrames content at mid
+    unfolding put_thread
+    frames_begun = (seen_after h puts.runs put_world (λ w. put_thread) put_matches put_there (λ w. refl) h.world h.beside.matches).here
+
+    pub begins : {new : State H} → Does content at mid (Ok step_end.Done) new (gives_constants (called h)) → Steps content at old (Ok step_end.Done) new
+    unfolding put_world
+    begins given = then_does h puts.runs put_world (λ w. put_thread) put_matches put_there (λ w m.
+        begin_is h refl begun w m
+        ∙ ap (λ ss. goes (record (put_world w) { statics = ss })) (constants_kept w (class_named w.program (called h)))) given
+      where
+        constants_kept : (w : World) (o : Option ClassParts) → constants_of w o ≡ constants_of (put_world w) o
+        constants_kept w None = refl
+        constants_kept w (Some c) = refl
+
 module _ {H : Type 0} {content : H → Content ClassId} {at : At} {old : State H} {class : ℕ} {below : List StackFrame}
     (h : OnThread content at old (Initialization class stage.Begin ∷ below) None) {st : ClassState}
     (there : st ≡ slice_index_or old.classes.items class st) where
   state_there : slice_get old.classes.items class ≡ Some st
   state_there = let n = old.classes.ok.0 in let a = class_within h class (own h) in get_at old.classes.items class st (omega arith) there
+
+  pub not_begun_there : st ≡ NotBegun → slice_get old.classes.items class ≡ Some NotBegun
+  not_begun_there e = state_there ∙ ap Some e
 
   -- it is done, or this thread's
   pub skips : (owner : ℕ) {new : State H} → (st ≡ Done) ⊎ ((st ≡ InProgress owner) × (owner ≡ at.index + 1))
@@ -407,23 +470,6 @@ module _ {H : Type 0} {content : H → Content ClassId} {at : At} {old : State H
       ∙ ap (begin w (at.index + 1) (model h) (called h) (lower h)) e
       ∙ ap (λ b. elim b as (λ _. Next) [ true ↦ goes (with_frames w (at.index + 1) (model h) (lower h)) | false ↦ next.blocks ])
       (differ owner (at.index + 1) n))
-
-  -- it begins
-  pub begins : st ≡ NotBegun → {new : State H} {t : held.Thread} → ChangedTo h new t
-      → new.classes.items ≡ slice_set old.classes.items class (InProgress (at.index + 1)) → new.live ≡ old.live → new.output.items ≡ old.output.items
-      → Stands t (Initialization class stage.Superclass ∷ below) (running h.object None) → Steps content at old (Ok step_end.Done) new
-  begins e {new} same classes live output s' =
-      let q = staged_runs (part_here h) in
-      changes h class (own h) same classes output (class_runs h class (own h) new (InProgress (at.index + 1)) same classes live s' q) s'
-      (inside h (Initialization class stage.Superclass ∷ below) (λ r a. a)) (λ w m.
-      let n = called h in
-      let d = class_of h in
-      let constants : constants_of w (class_named w.program n) ≡ w.statics =
-      ap (constants_of w) (class_here h class (own h) w m) ∙ no_constants w.literals d.class_of d.class_of.fields w.statics d.plain.constants in
-      begin_is h refl state_there w m
-      ∙ ap (begin w (at.index + 1) (model h) n (lower h)) e
-      ∙ ap (λ v. goes
-      (at_stage (record (with_state w n (InProgress (at.index + 1))) { statics = v }) (at.index + 1) (model h) n stage.Superclass (lower h))) constants)
 
   -- it has failed
   pub refuses : st ≡ Failed → {new : State H} {result : Result StepEnd Halt}

@@ -89,7 +89,7 @@ module _ {H : Type 0} {content : H → Content ClassId} {at : At} {old : State H
       by : {i : LinkedInstr} {x : Value} → Pushes old.statics.items old.literals.items i x → Holds content at old x
       by (int n x e) q m = absurd (subst (λ y. Among q (refs y)) e m)
       by (long n x e) q m = absurd (subst (λ y. Among q (refs y)) e m)
-      by (literal n p x e there) q m = literal_held h.method n p there q (subst (λ y. Among q (refs y)) e m)
+      by (literal n p x e there) q m = literal_held h.method.on n p there q (subst (λ y. Among q (refs y)) e m)
       by (system_out x e) q m = held_statics h.method.on q (out_refs at.linked.now.program old.statics.items x q e m)
 
   pub pushed_is : Pushes old.statics.items old.literals.items li v

@@ -30,10 +30,11 @@ use Rattle.jm_state.specs.Parts.{parts}
 use Rattle.jm_state.specs.Runnable.{StateRuns}
 use Rattle.jm_state.specs.declared.halt.StepEnd.TheVariants.{Done}
 use Rattle.jm_state.specs.declared.state.State.{State}
+use Rattle.jm_state.specs.declared.thread.StackFrame.{StackFrame}
 use Rattle.jm_state.specs.declared.thread.StackFrame.TheVariants.{Method}
 use Rattle.jm_state.specs.declared.thread.Thread as held
 use Rattle.jm_interp.specs.declared.at.At.{At}
-use Rattle.jm_interp.specs.At.{parts_at, Holds, InMethod, Steps}
+use Rattle.jm_interp.specs.At.{parts_at, Holds, OnThread, InMethod, Steps}
 use Rattle.jm_interp.specs.Standing.{running, Stands}
 use Rattle.jm_interp.proofs.Here.{place, goes_with, part_with, top_held}
 use Rattle.jm_interp.proofs.OnThread.{Leads, model, thread_there, does, runs_with, with_thread_at, held_statics}
@@ -145,34 +146,18 @@ module _ {T : Type 0} (m : Parts T) (w : World) (h : Matches m w) (statics : Lis
     stop = h.stop;
   }
 
-module _ {H : Type 0} {content : H → Content ClassId} {at : At} {old : State H} (h : InMethod content at old) (n : ℕ) (v : Value)
-    (inside : Holds content at old v) (name : FieldName) (is : place_of_field (static_fields at.linked.now.program) name ≡ Some n) where
-  abbrev f : ℕ → ℕ
-  f = name_of (content old.heap)
-
+module _ {H : Type 0} {content : H → Content ClassId} {at : At} {old : State H} {fs : List StackFrame} {p : Option ℕ} (h : OnThread content at old fs p)
+    (n : ℕ) (v : Value) where
   abbrev pub mid : State H
   mid = record old { statics = with_item old.statics n v }
 
   -- the world with the value in the field
-  abbrev pub with_it : World → World
-  with_it w = record w { statics = set_static_in w.statics name (rename f v) }
+  abbrev pub with_it : FieldName → World → World
+  with_it name w = record w { statics = set_static_in w.statics name (rename (name_of (content old.heap)) v) }
 
-  set_held : (q : ℕ) → Among q (refs_of_statics (named_statics (first_statics at.linked.now.program) (slice_set old.statics.items n v)))
-      → Among q (places (parts_at content at old))
-  set_held q a = elim (set_refs (first_statics at.linked.now.program) old.statics.items n v q a) [ inl b ↦ held_statics h.on q b | inr b ↦ inside q b ]
-
-  mid_matches : (w : World) → Matches (parts_at content at old) w → Matches (parts_at content at mid) (with_it w)
-  unfolding parts
-  mid_matches w m =
-      let ss = first_statics at.linked.now.program in
-      let set : renamed f (named_statics ss (slice_set old.statics.items n v)) ≡ set_static_in w.statics name (rename f v) =
-      set_at f ss old.statics.items name n v is ∙ ap (λ x. set_static_in x name (rename f v)) m.statics in
-      subst (λ x. Matches (parts_at content at mid) (record w { statics = x })) set
-      (statics_stored (parts_at content at old) w m (named_statics ss (slice_set old.statics.items n v)) set_held)
-
-  mid_runs : StateRuns at.linked.now mid
+  pub mid_runs : StateRuns at.linked.now mid
   mid_runs =
-      let r = h.on.beside.runs in
+      let r = h.beside.runs in
       record {
         threads = r.threads;
         live = r.live;
@@ -182,13 +167,31 @@ module _ {H : Type 0} {content : H → Content ClassId} {at : At} {old : State H
         not_yet = record { program = r.not_yet.program; threads = r.not_yet.threads; monitors = r.not_yet.monitors };
       }
 
-  stands_there : (w : World) → Matches (parts_at content at old) w → InMethod content at mid
+  module _ (inside : Holds content at old v) where
+    set_held : (q : ℕ) → Among q (refs_of_statics (named_statics (first_statics at.linked.now.program) (slice_set old.statics.items n v)))
+        → Among q (places (parts_at content at old))
+    set_held q a = elim (set_refs (first_statics at.linked.now.program) old.statics.items n v q a) [ inl b ↦ held_statics h q b | inr b ↦ inside q b ]
+
+    pub mid_matches : (name : FieldName) → place_of_field (static_fields at.linked.now.program) name ≡ Some n → (w : World)
+        → Matches (parts_at content at old) w → Matches (parts_at content at mid) (with_it name w)
+    unfolding parts
+    mid_matches name is w m =
+        let f = name_of (content old.heap) in
+        let ss = first_statics at.linked.now.program in
+        let set : renamed f (named_statics ss (slice_set old.statics.items n v)) ≡ set_static_in w.statics name (rename f v) =
+        set_at f ss old.statics.items name n v is ∙ ap (λ x. set_static_in x name (rename f v)) m.statics in
+        subst (λ x. Matches (parts_at content at mid) (record w { statics = x })) set
+        (statics_stored (parts_at content at old) w m (named_statics ss (slice_set old.statics.items n v)) set_held)
+
+module _ {H : Type 0} {content : H → Content ClassId} {at : At} {old : State H} (h : InMethod content at old) (n : ℕ) (v : Value)
+    (inside : Holds content at old v) (name : FieldName) (is : place_of_field (static_fields at.linked.now.program) name ≡ Some n) where
+  stands_there : (w : World) → Matches (parts_at content at old) w → InMethod content at (mid h.on n v)
   stands_there w m = record {
     frame = h.frame;
     below = h.below;
     on = record {
-      world = with_it w;
-      beside = record { linked = h.on.beside.linked; runs = mid_runs; matches = mid_matches w m };
+      world = with_it h.on n v name w;
+      beside = record { linked = h.on.beside.linked; runs = mid_runs h.on n v; matches = mid_matches h.on n v inside name is w m };
       object = h.on.object;
       stands = record { thread = h.on.stands.thread; at = h.on.stands.at; stands = h.on.stands.stands };
     };
@@ -209,16 +212,16 @@ module _ {H : Type 0} {content : H → Content ClassId} {at : At} {old : State H
 
     -- a row that stores the value in the field
     pub static_stored : {t : held.Thread} → Stands t (Method left ∷ h.below) (running h.on.object None)
-        → Leads h.on step_thread (λ w. go_on_in (place h w) (with_it w) (drop count (place h w).frame.stack))
-        → Steps content at old (Ok Done) (with_thread_at mid at.index t)
+        → Leads h.on step_thread (λ w. go_on_in (place h w) (with_it h.on n v name w) (drop count (place h w).frame.stack))
+        → Steps content at old (Ok Done) (with_thread_at (mid h.on n v) at.index t)
     unfolding stands_there
     static_stored {t} stands row =
         let there = stands_there h.on.world h.on.beside.matches in
         does h.on (runs_with there.on stands (part_with there left.activation)) (λ w m.
         let s = stands_there w m in
-        let rule = λ (x : World) (number : ℕ) (y : Thread). goes (topped (place s x) x (rename_activation f left.activation)) in
+        let rule = λ (x : World) (number : ℕ) (y : Thread). goes (topped (place s x) x (rename_activation (name_of (content old.heap)) left.activation)) in
         let done = goes_with s {rule = rule} stands (λ q a. top_held s q (left_held q a)) (λ x k. refl) in
-        let dropped = dropped_map (rename f) count h.frame.activation.stack in
-        let same = ap (λ x. goes (topped (place h w) (with_it w) (moved_on (place h w).frame x))) dropped in
-        subst (Ended (Ok Done) (parts_at content at (with_thread_at mid at.index t)) w) (sym (row w m ∙ same))
-        (done.ends (with_it w) (model s.on) (mid_matches w m) (thread_there s.on (with_it w) (mid_matches w m))))
+        let dropped = dropped_map (rename (name_of (content old.heap))) count h.frame.activation.stack in
+        let same = ap (λ x. goes (topped (place h w) (with_it h.on n v name w) (moved_on (place h w).frame x))) dropped in
+        subst (Ended (Ok Done) (parts_at content at (with_thread_at (mid h.on n v) at.index t)) w) (sym (row w m ∙ same))
+        (done.ends (with_it h.on n v name w) (model s.on) (mid_matches h.on n v inside name is w m) (thread_there s.on (with_it h.on n v name w) (mid_matches h.on n v inside name is w m))))

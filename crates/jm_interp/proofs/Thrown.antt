@@ -130,7 +130,7 @@ module _ {H : Type 0} {content : H → Content ClassId} {at : At} {mid : State H
   abbrev pub pending_at : held.Thread
   pending_at = record d { pending = Some place }
 
-  stands_pending : Stands pending_at g.frames (running g.on.object (Some place))
+  pub stands_pending : Stands pending_at g.frames (running g.on.object (Some place))
   stands_pending =
       let s = read g.on got in record {
         frames_are = s.frames_are;

@@ -9,12 +9,12 @@ use Rattle.jm_program.specs.declared.class.ClassParts.{ClassParts}
 use Rattle.jm_program.specs.declared.code.Handler.{Handler}
 use Rattle.jm_builtins.specs.List.{the_builtins}
 use Rattle.jm_values.specs.Rename.{rename_activation}
-use Rattle.jm_world.specs.Types.{ObjectType, instance_of, array_of}
+use Rattle.jm_world.specs.Types.{ObjectType}
 use Rattle.jm_values.specs.Objects.{ObjectOf}
+use Rattle.jm_frames.specs.FrameView.{FrameView}
 use Rattle.jm_world.specs.Classes.{method_named, error_class}
 use Rattle.jm_world.specs.Frames.{Frame, rename_frame}
 use Rattle.jm_world.specs.Here.{with_frames}
-use Rattle.jm_world.specs.Hierarchy.{is_subclass}
 use Rattle.jm_world.specs.Next.{Next, faults, goes}
 use Rattle.jm_world.specs.Throwing.{unwind_frames, unwound, unwound_anew, drop_method, drop_initialization}
 use Rattle.jm_world.specs.Throwing.{handle, handler_in, handlers_of, class_name, is_kind_of}
@@ -27,8 +27,7 @@ use Rattle.jm_values.specs.declared.fault.TagFault.TheVariants.{WrongKind}
 use Rattle.jm_heap.specs.declared.class_id.ClassId.{ClassId}
 use Rattle.jm_heap.specs.declared.class_id.ClassId.TheVariants.{Instance, Array}
 use Rattle.jm_heap.specs.declared.class_id.Component.{Component}
-use Rattle.jm_linked.specs.Later.{later_part}
-use Rattle.jm_linked.specs.Links.{LinkedView, IsLinked, NamesClass, name_of_number, class_name_of, class_names}
+use Rattle.jm_linked.specs.Links.{NamesClass, name_of_number, class_name_of, class_names}
 use Rattle.jm_state.specs.Parts.{parts, frame_part, named_type, program_class_name}
 use Rattle.jm_state.specs.Runnable.{FrameRuns}
 use Rattle.jm_state.specs.declared.halt.Halt.{Halt}
@@ -38,14 +37,15 @@ use Rattle.jm_state.specs.declared.state.State.{State}
 use Rattle.jm_state.specs.declared.thread.StackFrame.{StackFrame}
 use Rattle.jm_state.specs.declared.thread.StackFrame.TheVariants.{Method, Initialization}
 use Rattle.jm_state.specs.declared.thread.Thread as held
-use Rattle.jm_interp.proofs.Fetching as fetching
 use Rattle.jm_interp.specs.declared.at.At.{At}
-use Rattle.jm_interp.specs.At.{parts_at, OnThread, Does, Steps}
+use Rattle.jm_interp.specs.At.{parts_at, in_method, OnThread, Does, Steps}
 use Rattle.jm_interp.specs.Ending.{ended_as, unwound_to}
-use Rattle.jm_interp.specs.Initializing.{class_on_top, is_error}
+use Rattle.jm_interp.specs.Catching.{InThrowing, failed_by, handles, is_of, target_in, target_on_top}
+use Rattle.jm_interp.specs.Initializing.{class_on_top}
 use Rattle.jm_interp.specs.Standing.{running}
+use Rattle.jm_interp.proofs.Caught.{InMethodFrame, in_method_frame, begins, begins_not, begins_at, kind_is}
 use Rattle.jm_interp.proofs.Objects.{IsObject, object_of, told}
-use Rattle.jm_interp.proofs.OnThread.{Leads, lower, model, read, does_as, held_pending, part_here}
+use Rattle.jm_interp.proofs.OnThread.{Leads, lower, model, read, as_frames, does_as, held_pending, part_here}
 use Rattle.jm_values.proofs.Lists.{get_there}
 use Rattle.jm_interp.proofs.Threads.{HasTwo, tail_of, two_frames, few_frames, PartRuns}
 
@@ -74,26 +74,6 @@ names_class program n lt =
     let there = get_there (class_names program) n (omega arith) in
     there.1 ∙ sym (ap (λ o. Some (unwrap_or o [])) there.1)
 
--- whether an object is an Error, by its mark
-pub instance_is : (program : List ClassParts) {id : ClassId} {n : ℕ} → id ≡ Instance n
-    → is_subclass program (class_name_of program n) error_class ≡ is_error program (named_type program id)
-unfolding named_type
-instance_is program e = ap (λ x. is_error program (named_type program x)) (sym e)
-
-pub array_is : (program : List ClassParts) {id : ClassId} {component : Component} → id ≡ Array component → false ≡ is_error program (named_type program id)
-unfolding named_type
-array_is program e = ap (λ x. is_error program (named_type program x)) (sym e)
-
--- no method that can run catches
-no_handlers : (l : LinkedView) → IsLinked l → later_part l.program ≡ None → (k : ℕ) → k < length l.methods
-    → handlers_of (method_named l.program (name_of_number l k)) ≡ []
-no_handlers l is none k lt =
-    let m = get_there l.methods k lt in
-    let links = is.methods k m.0 m.1 in
-    ap handlers_of (fetching.method_is l is k m.0 m.1)
-    ∙ ap (λ o. elim o as (λ _. List Handler) [ None ↦ [] | Some code ↦ code.handlers ]) links.code_is
-    ∙ (fetching.whole l is k m.0 m.1 none).handlers
-
 module _ {H : Type 0} {content : H → Content ClassId} {at : At} {old : State H} {fs : List StackFrame} {place : ℕ}
     (h : OnThread content at old fs (Some place)) where
   -- the pending exception lies in the heap
@@ -110,23 +90,39 @@ module _ {H : Type 0} {content : H → Content ClassId} {at : At} {old : State H
 
   -- no method catches
   frames_left : (gs : List StackFrame) → class_on_top gs ≡ None → PartRuns at.linked.now gs (running h.object (Some place)) → (w : World)
-      → Matches (parts_at content at old) w → (x : Thread) (k : ℕ) (type : ObjectType)
+      → Matches (parts_at content at old) w → (x : Thread) (k : ℕ) (type : ObjectType) → target_on_top w at.linked.now type gs ≡ None
       → unwind_frames w (at.index + 1) x (lower h gs) k type ≡ unwound w (at.index + 1) x (drop 1 (lower h gs)) k type
-  unfolding parts
-  frames_left [] none q w m x k type = refl
-  frames_left (Initialization class stage ∷ gs) none q w m x k type = cc
-  frames_left (Method v ∷ gs) none q w m x k type =
+  frames_left [] none q w m x k type missed = refl
+  frames_left (Initialization class stage ∷ gs) none q w m x k type missed = cc
+  frames_left (Method v ∷ gs) none q w m x k type missed =
       let l = at.linked.now in
       let f = name_of (content old.heap) in
       let below = map (rename_frame f) (map (frame_part l) gs) in
-      let handlers : handlers_of (method_named w.program (name_of_number l v.method)) ≡ [] =
-      ap (λ p. handlers_of (method_named p (name_of_number l v.method))) (sym m.program)
-      ∙ no_handlers l h.beside.linked h.beside.runs.not_yet.program v.method q.runs.frames.0 in
-      ap (λ hs. elim (handler_in w v.activation.at type hs) as (λ _. Next) [
+      let found = handler_in w v.activation.at type (handlers_of (method_named w.program (name_of_number l v.method))) in
+      ap (λ o. elim o as (λ _. Next) [
         | Some r ↦ handle w (at.index + 1) x (name_of_number l v.method) (rename_activation f v.activation) (option_map f v.monitor) below k r
         | None ↦ drop_method w (at.index + 1) x (option_map f v.monitor) below k type
-      ]) handlers
+      ]) (begins_not found missed)
       ∙ ap (λ o. drop_method w (at.index + 1) x (option_map f o) below k type) q.not_yet.frames.0
+
+  -- the top frame's method catches
+  frames_caught : (v : FrameView) (gs : List StackFrame) (target : ℕ) (w : World) (x : Thread) (k : ℕ) (type : ObjectType)
+      → target_in w at.linked.now v.method v.activation.at type ≡ Some target
+      → unwind_frames w (at.index + 1) x (lower h (Method v ∷ gs)) k type
+      ≡ handle w (at.index + 1) x (name_of_number at.linked.now v.method) (rename_activation (name_of (content old.heap)) v.activation)
+      (option_map (name_of (content old.heap)) v.monitor) (lower h gs) k (begins_at target)
+  frames_caught v gs target w x k type caught =
+      let l = at.linked.now in
+      let f = name_of (content old.heap) in
+      let below = map (rename_frame f) (map (frame_part l) gs) in
+      let found = handler_in w v.activation.at type (handlers_of (method_named w.program (name_of_number l v.method))) in
+      let b = begins found target caught in
+      ap (λ o. elim o as (λ _. Next) [
+        | Some r ↦ handle w (at.index + 1) x (name_of_number l v.method) (rename_activation f v.activation) (option_map f v.monitor) below k r
+        | None ↦ drop_method w (at.index + 1) x (option_map f v.monitor) below k type
+      ]) b.is
+      ∙ ap (λ n. handle w (at.index + 1) x (name_of_number l v.method) (rename_activation f v.activation) (option_map f v.monitor) below k (begins_at n))
+      b.there
 
   -- an initialization fails its class
   frames_fail : (gs : List StackFrame) (class : ℕ) → class_on_top gs ≡ Some class → (w : World) (x : Thread) (k : ℕ) (type : ObjectType)
@@ -154,14 +150,52 @@ module _ {H : Type 0} {content : H → Content ClassId} {at : At} {old : State H
   ends_as : {id : ClassId} {e : Ending} → Tells id → e ≡ ended_by (class_name (type_of id)) → ended_by (class_name (type_of thrown.object.type)) ≡ e
   ends_as tells ended = ap (λ x. ended_by (class_name (type_of x))) (sym (told h thrown tells)) ∙ sym ended
 
-  -- a method's frame, or none
-  pub leaves_method : {id : ClassId} {e : Ending} {new : State H} → class_on_top fs ≡ None → Tells id → e ≡ ended_by (class_name (type_of id))
+  -- where the first handler begins that catches it
+  abbrev Finds : Option ℕ → ClassId → Type 0
+  Finds found id = (w : World) → w.program ≡ at.linked.now.program → found ≡ target_on_top w at.linked.now (type_of id) fs
+
+  finds_for : {found : Option ℕ} {id : ClassId} → Tells id → Finds found id → (w : World) → Matches (parts_at content at old) w
+      → target_on_top w at.linked.now (type_of thrown.object.type) fs ≡ found
+  unfolding parts
+  finds_for tells finds w m = ap (λ x. target_on_top w at.linked.now (type_of x) fs) (sym (told h thrown tells)) ∙ sym (finds w (sym m.program))
+
+  -- a method's frame in which no handler catches, or none
+  pub leaves_method : {id : ClassId} {e : Ending} {new : State H} {found : Option ℕ} → class_on_top fs ≡ None → Tells id
+      → e ≡ ended_by (class_name (type_of id)) → Finds found id → found ≡ None
       → Does content at old (Ok Done) new (λ w number t. unwound_to w number t (drop 1 t.frames) e) → Steps content at old (Ok Done) new
-  leaves_method none tells ended done = does_as h (λ w m. m) (λ w m.
+  leaves_method none tells ended finds missed done = does_as h (λ w m. m) (λ w m.
       unwinds w m
-      ∙ frames_left fs none (part_here h) w m (model h) (name_of (content old.heap) place) (type_of thrown.object.type)
+      ∙ frames_left fs none (part_here h) w m (model h) (name_of (content old.heap) place) (type_of thrown.object.type) (finds_for tells finds w m ∙ missed)
       ∙ left_is w (drop 1 (lower h fs)) (type_of thrown.object.type)
       ∙ ap (unwound_to w (at.index + 1) (model h) (drop 1 (lower h fs))) (ends_as tells ended)) done
+
+  -- a method's frame in which a handler catches
+  module _ {id : ClassId} {target : ℕ} {found : Option ℕ} (tells : Tells id) (finds : Finds found id) (caught : found ≡ Some target) where
+    frame_in : (w : World) → Matches (parts_at content at old) w → InMethodFrame w at.linked.now (type_of thrown.object.type) fs target
+    frame_in w m = in_method_frame w at.linked.now (type_of thrown.object.type) fs target (finds_for tells finds w m ∙ caught)
+
+    pub in_throwing : InThrowing content at old place
+    in_throwing =
+        let top = frame_in h.world h.beside.matches in
+        record { frame = top.frame; below = top.below; on = as_frames h top.is }
+
+    pub goes_to_handler : {new : State H} {result : Result StepEnd Halt}
+        → ((handler : Handler) → handler.target ≡ target → Does content at old result new (handles handler)) → Steps content at old result new
+    goes_to_handler done = does_as h (λ w m. m) (λ w m.
+        let top = frame_in w m in
+        let k = name_of (content old.heap) place in
+        let type = type_of thrown.object.type in
+        unwinds w m ∙ by w top.frame top.below type top.is top.found) (done (begins_at target) refl)
+      where
+        by : (w : World) (v : FrameView) (gs : List StackFrame) (type : ObjectType) → fs ≡ Method v ∷ gs
+            → target_in w at.linked.now v.method v.activation.at type ≡ Some target
+            → unwind_frames w (at.index + 1) (model h) (lower h fs) (name_of (content old.heap) place) type
+            ≡ handles (begins_at target) w (at.index + 1) (model h)
+        by w v gs type is found =
+            subst (λ xs. unwind_frames w (at.index + 1) (model h) (lower h xs) (name_of (content old.heap) place) type
+            ≡ in_method (λ here. handle here.world here.number here.thread here.method here.frame here.monitor here.below
+            (name_of (content old.heap) place) (begins_at target)) w (at.index + 1) (record (model h) { frames = lower h xs })) (sym is)
+            (frames_caught v gs target w (model h) (name_of (content old.heap) place) type found)
 
   -- an initialization's
   module _ {class : ℕ} (on : class_on_top fs ≡ Some class) where
@@ -183,36 +217,36 @@ module _ {H : Type 0} {content : H → Content ClassId} {at : At} {old : State H
       | false ↦ unwound_anew w (with_state w name Failed) (at.index + 1) (model h) (drop 1 (lower h fs)) (codes "java/lang/ExceptionInInitializerError")
     ]
 
-    kind_in : (w : World) → Matches (parts_at content at old) w → (type : ObjectType)
-        → is_kind_of w type error_class ≡ is_error at.linked.now.program type
+    kind_in : (w : World) → Matches (parts_at content at old) w → {id : ClassId} → Tells id
+        → is_kind_of w (type_of thrown.object.type) error_class ≡ is_of at.linked.now.program (type_of id) error_class
     unfolding parts
-    kind_in w m (instance_of class) = ap (λ p. is_subclass p class error_class) (sym m.program)
-    kind_in w m (array_of component) = refl
+    kind_in w m tells =
+        sym (kind_is w at.linked.now.program (sym m.program) (type_of thrown.object.type) error_class)
+        ∙ ap (λ x. is_of at.linked.now.program (type_of x) error_class) (sym (told h thrown tells))
 
-    module _ {id : ClassId} {error : Bool} (tells : Tells id) (is : error ≡ is_error at.linked.now.program (type_of id)) where
-      fails_by : {b : Bool} → error ≡ b → Leads h step_thread (λ w. by_kind w b)
-      unfolding by_kind
-      fails_by e w m =
-          unwinds w m
-          ∙ frames_fail fs class on w (model h) (name_of (content old.heap) place) (type_of thrown.object.type)
-          ∙ ap (by_kind w) (kind_in w m (type_of thrown.object.type) ∙ ap (λ x. is_error at.linked.now.program (type_of x)) (sym (told h thrown tells))
-          ∙ sym is ∙ e)
+    ends_by : (w : World) {id : ClassId} {e : Ending} → Tells id → e ≡ ended_by (class_name (type_of id)) → (b : Bool)
+        → by_kind w b ≡ failed_by b name e w (at.index + 1) (model h)
+    unfolding by_kind
+    ends_by w tells ended true =
+        left_is (with_state w name Failed) (drop 1 (lower h fs)) (type_of thrown.object.type)
+        ∙ ap (unwound_to (with_state w name Failed) (at.index + 1) (model h) (drop 1 (lower h fs))) (ends_as tells ended)
+    ends_by w tells ended false = refl
 
-      pub fails_with : {e : Ending} {new : State H} → error ≡ true → e ≡ ended_by (class_name (type_of id))
-          → Does content at old (Ok Done) new (λ w number t. unwound_to (with_state w name Failed) number t (drop 1 t.frames) e)
-          → Steps content at old (Ok Done) new
-      unfolding by_kind
-      fails_with it_is ended done = does_as h (λ w m. m) (λ w m.
-          fails_by it_is w m
-          ∙ left_is (with_state w name Failed) (drop 1 (lower h fs)) (type_of thrown.object.type)
-          ∙ ap (unwound_to (with_state w name Failed) (at.index + 1) (model h) (drop 1 (lower h fs))) (ends_as tells ended)) done
+    pub fails : {id : ClassId} {e : Ending} {new : State H} {result : Result StepEnd Halt} → Tells id → e ≡ ended_by (class_name (type_of id))
+        → Does content at old result new (failed_by (is_of at.linked.now.program (type_of id) error_class) name e) → Steps content at old result new
+    unfolding by_kind
+    fails {id} tells ended done = does_as h (λ w m. m) (λ w m.
+        unwinds w m
+        ∙ frames_fail fs class on w (model h) (name_of (content old.heap) place) (type_of thrown.object.type)
+        ∙ ap (by_kind w) (kind_in w m tells)
+        ∙ ends_by w tells ended (is_of at.linked.now.program (type_of id) error_class)) done
 
-      pub fails_anew : {new : State H} {result : Result StepEnd Halt} → error ≡ false
-          → Does content at old result new
-          (λ w number t. unwound_anew w (with_state w name Failed) number t (drop 1 t.frames) (codes "java/lang/ExceptionInInitializerError"))
-          → Steps content at old result new
-      unfolding by_kind
-      fails_anew it_is done = does_as h (λ w m. m) (λ w m. fails_by it_is w m) done
+-- by whether it is an Error
+pub fails_so : {H : Type 0} {content : H → Content ClassId} {at : At} {old new : State H} {result : Result StepEnd Halt} {told is b : Bool}
+    (class : List ℕ) (e : Ending) → told ≡ is → told ≡ b → Does content at old result new (failed_by b class e)
+    → Does content at old result new (failed_by is class e)
+fails_so {content = content} {at = at} {old = old} {new = new} {result = result} class e same now done =
+    subst (λ x. Does content at old result new (failed_by x class e)) (sym now ∙ same) done
 
 -- the top frame is dropped, by how many there are
 module _ {H : Type 0} {content : H → Content ClassId} {at : At} {old : State H} {fs : List StackFrame} {p : Option ℕ} (h : OnThread content at old fs p)

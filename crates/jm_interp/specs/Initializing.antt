@@ -1,12 +1,9 @@
 -- What initializations ask of classes and of frames.
-use Rattle.std.specs.Prelude.{◌≡◌, ℕ, ◌<◌, List, [], ◌∷◌, length, Option, Some, None, Bool, true, false, is_some, Result, Ok, Err}
+use Rattle.std.specs.Prelude.{◌≡◌, ℕ, ◌<◌, List, [], ◌∷◌, length, Option, Some, None, true, is_some, Result, Ok, Err}
 use Rattle.jm_program.specs.declared.class.ClassParts.{ClassParts}
 use Rattle.jm_builtins.specs.List.{the_builtins}
-use Rattle.jm_world.specs.Classes.{built_in_named, error_class}
-use Rattle.jm_world.specs.Hierarchy.{is_subclass}
-use Rattle.jm_world.specs.Types.{ObjectType, instance_of, array_of}
+use Rattle.jm_world.specs.Classes.{built_in_named}
 use Rattle.jm_world.specs.declared.stage.Stage.{Stage}
-use Rattle.jm_world.specs.declared.stage.Stage.TheVariants.{Begin}
 use Rattle.jm_state.specs.Parts.{program_class_name}
 use Rattle.jm_state.specs.declared.thread.StackFrame.{StackFrame}
 use Rattle.jm_state.specs.declared.thread.StackFrame.TheVariants.{Method, Initialization}
@@ -27,12 +24,7 @@ class_on_top [] = None
 class_on_top (Method f ∷ fs) = None
 class_on_top (Initialization class stage ∷ fs) = Some class
 
--- objects of the type are Errors
-abbrev pub is_error : List ClassParts → ObjectType → Bool
-is_error program (instance_of class) = is_subclass program class error_class
-is_error program (array_of component) = false
-
--- an initialization has begun on top of one that is at a stage, or nothing has changed
-abbrev pub Began : {E : Type 0} → Result (Unit {0}) E → held.Thread → ℕ → Stage → ℕ → StackFrame → List StackFrame → ThreadRest → Type 0
-Began (Ok done) new class stage above f below r = Stands new (Initialization above Begin ∷ Initialization class stage ∷ below) r
+-- a frame is on top of an initialization's that is at a stage, or nothing has changed
+abbrev pub Began : {E : Type 0} → Result (Unit {0}) E → held.Thread → ℕ → Stage → StackFrame → StackFrame → List StackFrame → ThreadRest → Type 0
+Began (Ok done) new class stage above f below r = Stands new (above ∷ Initialization class stage ∷ below) r
 Began (Err refused) new class stage above f below r = Stands new (f ∷ below) r

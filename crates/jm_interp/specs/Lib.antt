@@ -2,6 +2,7 @@ pub mod At
 pub mod Ending
 pub mod Initializing
 pub mod Standing
+pub mod Catching
 pub mod Stepped
 pub mod Calls
 pub mod Pushing
@@ -17,4 +18,6 @@ pub mod ArrayRows
 pub mod Readiness
 pub mod FieldRows
 pub mod Creating
+pub mod ConstantValues
 pub mod Invoking
+pub mod Athrow

@@ -29,6 +29,7 @@ fn is_print_stream(id: ClassId) -> bool
 
 /// Makes invokevirtual of a method of a print stream: it writes at the end of the output, whose
 /// growth comes before any change. Null throws NullPointerException.
+#[inline(never)]
 pub(crate) fn print<H: Heap>(
     at: At<'_>,
     state: &mut State<H>,

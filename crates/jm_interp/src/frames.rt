@@ -58,21 +58,18 @@ pub(crate) fn go_to_stage(thread: &mut Thread, class: u32, stage: Stage)
     }
 }
 
-/// Begins the initialization of a class, `above`, on top of the top frame, which becomes that of an
-/// initialization at a stage. `AllocError`: the growth was refused, and the frames are as they were.
+/// Puts a frame on top of the top one, which becomes that of an initialization at a stage.
+/// `AllocError`: the growth was refused, and the frames are as they were.
 pub(crate) fn begin_above(
     thread: &mut Thread,
     class: u32,
     stage: Stage,
-    above: u32,
+    above: StackFrame,
 ) -> Result<(), AllocError>
     requires { HasTop thread.old }
     ensures { Topped thread.old (λ f below r. Began result thread.new class stage above f below r) }
 {
-    thread.frames.push(StackFrame::Initialization {
-        class: above,
-        stage: Stage::Begin,
-    })?;
+    thread.frames.push(above)?;
     let count = thread.frames.len();
     thread.frames[count - 2] = StackFrame::Initialization { class, stage };
     Ok(())

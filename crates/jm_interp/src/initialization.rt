@@ -1,10 +1,11 @@
 // The initialization of a class.
 
-ghost use Rattle.std.specs.Prelude.{◌+◌, ◌<◌, ◌∷◌, ℕ, List, None, Ok, drop, length, codes};
+ghost use Rattle.std.specs.Prelude.{◌≡◌, ◌+◌, ◌<◌, ◌∷◌, ℕ, List, None, Some, Ok, drop, length, slice_get, codes};
 ghost use Rattle.jm_world.specs.Frames.{initialization_frame};
 ghost use Rattle.jm_world.specs.Here.{push_frame};
 ghost use Rattle.jm_world.specs.Initialization.{at_stage, finish};
 ghost use Rattle.jm_world.specs.Next.{goes, throw};
+ghost use Rattle.jm_world.specs.declared.class_state.ClassState.TheVariants.{NotBegun};
 ghost use Rattle.jm_world.specs.declared.stage.Stage.{Stage};
 ghost use Rattle.jm_world.specs.declared.stage.Stage.TheVariants.{Begin, Superclass, Initializer};
 ghost use Rattle.jm_state.specs.Parts.{program_class_name};
@@ -12,18 +13,22 @@ ghost use Rattle.jm_state.specs.declared.halt.StepEnd.TheVariants.{Done};
 ghost use Rattle.jm_state.specs.declared.thread.StackFrame.{StackFrame};
 ghost use Rattle.jm_state.specs.declared.thread.StackFrame.TheVariants.{Initialization};
 ghost use Rattle.jm_interp.specs.At.{OnThread, OnFrames, Does, Steps};
+ghost use Rattle.jm_interp.specs.ConstantValues.{puts_in_progress};
 
 use crate::at::At;
+use crate::constant_values::{constants_of, set_constants};
 use crate::frames::{begin_above, drop_top, go_to_stage, leave_frame};
+use crate::initializers::run_initializer;
 use crate::superclass::{number_among_all, own_superclass};
 use crate::throwing::{leave_pending, throw};
 use jm_builtins::BuiltInClass;
 use jm_heap::Heap;
-use jm_state::{Halt, State, StepEnd};
+use jm_state::{Halt, StackFrame, State, StepEnd};
 use jm_world::{ClassState, Stage};
 
 /// Makes one stage of the initialization whose frame is on top (JVMS 5.5), of any of the program's
-/// classes. No class that can run has a `<clinit>` or a field with a constant.
+/// classes.
+#[inline(never)]
 pub(crate) fn initialize_top<H: Heap>(
     at: At<'_>,
     state: &mut State<H>,
@@ -36,10 +41,7 @@ pub(crate) fn initialize_top<H: Heap>(
     match stage {
         Stage::Begin => begin(at, state, class),
         Stage::Superclass => superclass_first(at, state, class),
-        Stage::Initializer => {
-            finish(at, state, class);
-            Ok(StepEnd::Done)
-        }
+        Stage::Initializer => run_initializer(at, state, class),
         Stage::End => {
             finish(at, state, class);
             Ok(StepEnd::Done)
@@ -47,8 +49,8 @@ pub(crate) fn initialize_top<H: Heap>(
     }
 }
 
-// Marks the class as done, and drops the frame.
-fn finish<H: Heap>(at: At<'_>, state: &mut State<H>, class: u32)
+/// Marks the class as done, and drops the frame.
+pub(crate) fn finish<H: Heap>(at: At<'_>, state: &mut State<H>, class: u32)
     requires { (stage : Stage) × (below : List StackFrame) × OnThread H.content at state.old (Initialization class stage ∷ below) None }
     ensures { Does H.content at.entry state.old (Ok Done) state.new
         (λ w number t. finish w number t (program_class_name at.entry.linked.now.program class) (drop 1 t.frames)) }
@@ -73,6 +75,35 @@ fn refuse_class<H: Heap>(at: At<'_>, state: &mut State<H>) -> Result<StepEnd, Ha
     }
 }
 
+// The class is in progress by this thread, and the superclass is next (JVMS 5.5).
+fn put_in_progress<H: Heap>(at: At<'_>, state: &mut State<H>, class: u32)
+    requires { (below : List StackFrame) × OnThread H.content at state.old (Initialization class Begin ∷ below) None }
+    ensures { Does H.content at.entry state.old (Ok Done) state.new
+        (puts_in_progress (program_class_name at.entry.linked.now.program class)) }
+{
+    state.classes[class as usize] = ClassState::InProgress(at.index as u64 + 1);
+    go_to_stage(&mut state.threads[at.index], class, Stage::Superclass);
+}
+
+// The class is in progress by this thread, and its fields with constants have them (JVMS 5.5). The
+// superclass is next. OutOfMemory past the end of numbers, to which no program that fits in memory
+// comes; nothing has changed then.
+fn begin_anew<H: Heap>(at: At<'_>, state: &mut State<H>, class: u32) -> Result<StepEnd, Halt>
+    requires { (below : List StackFrame) × OnThread H.content at state.old (Initialization class Begin ∷ below) None
+        × (slice_get state.old.classes.items class ≡ Some NotBegun) }
+    ensures { Steps H.content at.entry state.old result state.new }
+{
+    let Some(number) = number_among_all(at.linked, class) else {
+        return Err(Halt::OutOfMemory);
+    };
+    if constants_of(at.linked, class).len() > u32::MAX as usize {
+        return Err(Halt::OutOfMemory);
+    }
+    put_in_progress(at, state, class);
+    set_constants(at, state, class, number);
+    Ok(StepEnd::Done)
+}
+
 // Begins it: a class that is done, or in progress by this thread, needs none, another thread's
 // progress is waited for, and a class that failed cannot be used.
 fn begin<H: Heap>(at: At<'_>, state: &mut State<H>, class: u32) -> Result<StepEnd, Halt>
@@ -91,11 +122,7 @@ fn begin<H: Heap>(at: At<'_>, state: &mut State<H>, class: u32) -> Result<StepEn
             leave_frame(at, state);
             Ok(StepEnd::Done)
         }
-        ClassState::NotBegun => {
-            state.classes[class as usize] = ClassState::InProgress(at.index as u64 + 1);
-            go_to_stage(&mut state.threads[at.index], class, Stage::Superclass);
-            Ok(StepEnd::Done)
-        }
+        ClassState::NotBegun => begin_anew(at, state, class),
         ClassState::Failed => refuse_class(at, state),
     }
 }
@@ -131,7 +158,10 @@ fn begin_superclass<H: Heap>(
         &mut state.threads[at.index],
         class,
         Stage::Initializer,
-        above,
+        StackFrame::Initialization {
+            class: above,
+            stage: Stage::Begin,
+        },
     ) {
         Ok(()) => Ok(StepEnd::Done),
         Err(_) => Err(Halt::OutOfMemory),

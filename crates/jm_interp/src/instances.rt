@@ -32,6 +32,7 @@ fn new_instance<H: Heap>(at: At<'_>, state: &mut State<H>, class: u32) -> Result
 /// Makes `new` (JVMS 6.5): the class is initialized first, and then the instruction is made again.
 /// The machine stops where the object cannot be made, and nothing has changed then, nor where a growth
 /// was refused.
+#[inline(never)]
 pub(crate) fn new_object<H: Heap>(
     at: At<'_>,
     state: &mut State<H>,

@@ -90,6 +90,7 @@ pub(crate) fn call_static<H: Heap>(
 
 /// Makes `invokestatic` (JVMS 6.5): the class that declares the method is initialized first.
 /// OutOfMemory: a growth was refused, and nothing has changed.
+#[inline(never)]
 pub(crate) fn invoke_static<H: Heap>(
     at: At<'_>,
     state: &mut State<H>,

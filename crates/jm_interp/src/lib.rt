@@ -15,8 +15,10 @@
 //! receiver and the arguments, `declared` finds methods by their numbers, and `calls`, `instance_calls`,
 //! `codeless_calls` and `string_methods` do what is called: a method with code, an abstract one or one of
 //! a built-in class;
-//! `throwing`, `unwinding` and `ending` are what exceptions and ends do, `readiness` what classes ask for
-//! before they are used, `initialization` the stages of a class, with its `superclass`, over the calls on
+//! `athrow`, `throwing`, `handlers`, `unwinding` and `ending` are what exceptions and ends do, with the class
+//! of an object in `object_kind`, `readiness` what classes ask for
+//! before they are used, `initialization` the stages of a class, with its `superclass`, its `initializers` and its
+//! `constant_values`, over the calls on
 //! one thread in `top_frame`, `top_object`, `frames` and `print_operands`. A plain instruction looks up
 //! its thread, its top frame and its code, and takes no memory. The crate stands on `jm_state`,
 //! `jm_linked`, `jm_tables`, `jm_calls`, `jm_ops`, `jm_text` and `jm_heap`'s trait.
@@ -24,20 +26,25 @@
 
 mod arrays;
 mod at;
+mod athrow;
 mod built_in_methods;
 mod calls;
 mod class_number;
 mod codeless_calls;
+mod constant_values;
 mod constants;
 mod declared;
 mod ending;
 mod fields;
 mod frames;
+mod handlers;
 mod initialization;
+mod initializers;
 mod instance_calls;
 mod instances;
 mod invocation;
 mod narrowing;
+mod object_kind;
 mod plain;
 mod print_operands;
 mod readiness;

@@ -59,6 +59,7 @@ fn call_selected<H: Heap>(
 /// first method from the receiver's class up of that name and type that is neither static nor private
 /// is called. `otherwise` is what refuses a receiver that is not of the named class: a wrong kind, or
 /// IncompatibleClassChangeError. OutOfMemory: a growth was refused, and nothing has changed.
+#[inline(never)]
 pub(crate) fn invoke_selected<H: Heap>(
     at: At<'_>,
     state: &mut State<H>,

@@ -47,6 +47,7 @@ fn call_declared<H: Heap>(
 /// that the name and the type mean in the named class, which is the current class or its superclass;
 /// one of an interface throws AbstractMethodError. A receiver that is not of the named class is of a
 /// wrong kind. OutOfMemory: a growth was refused, and nothing has changed.
+#[inline(never)]
 pub(crate) fn invoke_special<H: Heap>(
     at: At<'_>,
     state: &mut State<H>,

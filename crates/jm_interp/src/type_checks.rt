@@ -89,6 +89,7 @@ fn cast_on_top<H: Heap>(at: At<'_>, state: &State<H>, to: LinkedType) -> Result<
 
 /// Makes `checkcast` (JVMS 6.5): null passes, and a reference to an object that no variable of the
 /// type can hold throws ClassCastException.
+#[inline(never)]
 pub(crate) fn check_cast<H: Heap>(
     at: At<'_>,
     state: &mut State<H>,
@@ -118,6 +119,7 @@ fn test_on_top<H: Heap>(at: At<'_>, state: &State<H>, to: LinkedType) -> Result<
 
 /// Makes `instanceof` (JVMS 6.5): 1 for a reference to an object that a variable of the type can
 /// hold, 0 for another one and for null.
+#[inline(never)]
 pub(crate) fn instance_of<H: Heap>(
     at: At<'_>,
     state: &mut State<H>,

@@ -1,6 +1,8 @@
 // Unwinding.
 
 ghost use Rattle.std.specs.Prelude.{◌≡◌, ◌<◌, ◌+◌, List, Some, Ok, IfSome, drop, length, false, codes};
+ghost use Rattle.jm_program.specs.declared.code.Handler.{Handler};
+ghost use Rattle.jm_world.specs.Classes.{error_class};
 ghost use Rattle.jm_world.specs.World.{ended_by, is_running, with_state};
 ghost use Rattle.jm_world.specs.Next.{goes};
 ghost use Rattle.jm_world.specs.Throwing.{class_name, unwound_anew};
@@ -9,20 +11,21 @@ ghost use Rattle.jm_state.specs.Parts.{ending_part, named_type, program_class_na
 ghost use Rattle.jm_state.specs.declared.halt.StepEnd.TheVariants.{Done};
 ghost use Rattle.jm_state.specs.declared.thread.StackFrame.{StackFrame};
 ghost use Rattle.jm_interp.specs.At.{OnThread, OnFrames, Does, Steps};
+ghost use Rattle.jm_interp.specs.Catching.{IsKnown, InThrowing, failed_by, handles, is_of};
 ghost use Rattle.jm_interp.specs.Ending.{unwound_to};
-ghost use Rattle.jm_interp.specs.Initializing.{is_error};
 
 use crate::at::At;
-use crate::class_number::is_numbered;
 use crate::ending::end_thread;
 use crate::frames::{class_on_top, leave_frame};
+use crate::handlers::{catch_on_top, target_on_top};
+use crate::object_kind::{is_known, is_of};
 use crate::throwing::leave_pending;
 use jm_builtins::BuiltInClass;
 use jm_heap::{ClassId, Heap};
 use jm_linked::Linked;
 use jm_state::{Ending, Halt, State, StepEnd};
 use jm_values::Place;
-use jm_world::ClassState;
+use jm_world::{ClassState, Stop};
 
 // The end by an exception of a class. An array, which nothing throws, has no class: its number is
 // the one past the last class's, and there is none where numbers have come to their end.
@@ -39,22 +42,6 @@ fn ending_by(linked: &Linked, thrown: ClassId) -> Option<Ending>
             }
             Some(Ending::EndedBy((built_in + classes) as u32))
         }
-    }
-}
-
-// Whether an object is an Error (JVMS 2.10), by its mark; none where no class has its number, as
-// every object's has.
-fn is_error(linked: &Linked, thrown: ClassId) -> Option<bool>
-    ensures { IfSome result (λ error. error ≡ is_error linked.now.program (named_type linked.now.program thrown)) }
-{
-    match thrown {
-        ClassId::Instance(class) => {
-            if !is_numbered(linked, class) {
-                return None;
-            }
-            Some(linked.is_subclass(class, BuiltInClass::Error.number()))
-        }
-        ClassId::Array(_) => Some(false),
     }
 }
 
@@ -111,10 +98,53 @@ fn fail_anew<H: Heap>(at: At<'_>, state: &mut State<H>, class: u32) -> Result<St
     }
 }
 
-/// Makes one stage of unwinding (JVMS 2.10, 5.5): no method that can run has an exception table, so
-/// the top frame is dropped, and with the last one the thread ends by the exception's class. Where
-/// the frame is an initialization's, its class has failed, and an exception that is no Error gives
-/// its place to a new ExceptionInInitializerError.
+// Goes to the handler that begins at an instruction, in the top frame, with the exception as the one
+// operand. Overflow where `max_stack` is 0, and nothing has changed.
+fn handle<H: Heap>(
+    at: At<'_>,
+    state: &mut State<H>,
+    place: Place,
+    target: u32,
+) -> Result<StepEnd, Halt>
+    requires { InThrowing H.content at state.old place }
+    ensures { (handler : Handler) → handler.target ≡ target → Does H.content at.entry state.old result state.new (handles handler) }
+{
+    match catch_on_top(&mut state.threads[at.index], place, target) {
+        Ok(()) => Ok(StepEnd::Done),
+        Err(fault) => Err(Halt::Stopped(Stop::TagFault(fault))),
+    }
+}
+
+// Drops the frame of the initialization of a class, which has failed: an exception that is no Error
+// gives its place to a new ExceptionInInitializerError (JVMS 5.5).
+fn fail_by<H: Heap>(
+    at: At<'_>,
+    state: &mut State<H>,
+    class: u32,
+    thrown: ClassId,
+    ending: Ending,
+) -> Result<StepEnd, Halt>
+    requires on { OnFrames H.content at state.old }
+    requires class { class < length at.linked.now.program }
+    requires known { IsKnown at.linked.now.program thrown }
+    requires ends { is_running (ending_part at.linked.now.program ending) ≡ false }
+    ensures { Does H.content at.entry state.old result state.new
+        (failed_by (is_of at.entry.linked.now.program (named_type at.entry.linked.now.program thrown) error_class)
+        (program_class_name at.entry.linked.now.program class) (ending_part at.entry.linked.now.program ending)) }
+{
+    if is_of(at.linked, thrown, BuiltInClass::Error.number()) {
+        fail(at, state, class, ending);
+        return Ok(StepEnd::Done);
+    }
+    fail_anew(at, state, class)
+}
+
+/// Makes one stage of unwinding (JVMS 2.10, 3.12, 5.5). The first handler of the top frame's method
+/// that catches the exception goes on with it as the one operand; else the frame is dropped, and with
+/// the last one the thread ends by the exception's class. Where the frame is an initialization's, its
+/// class has failed, and an exception that is no Error gives its place to a new
+/// ExceptionInInitializerError.
+#[inline(never)]
 pub(crate) fn unwind_top<H: Heap>(
     at: At<'_>,
     state: &mut State<H>,
@@ -124,19 +154,20 @@ pub(crate) fn unwind_top<H: Heap>(
     ensures { Steps H.content at.entry state.old result state.new }
 {
     let thrown = state.heap.class_of(place);
+    if !is_known(at.linked, thrown) {
+        return Err(Halt::OutOfMemory);
+    }
     let Some(ending) = ending_by(at.linked, thrown) else {
         return Err(Halt::OutOfMemory);
     };
-    let Some(class) = class_on_top(&state.threads[at.index]) else {
-        drop_frame(at, state, ending);
-        return Ok(StepEnd::Done);
-    };
-    let Some(error) = is_error(at.linked, thrown) else {
-        return Err(Halt::OutOfMemory);
-    };
-    if error {
-        fail(at, state, class, ending);
-        return Ok(StepEnd::Done);
+    if let Some(class) = class_on_top(&state.threads[at.index]) {
+        return fail_by(at, state, class, thrown, ending);
     }
-    fail_anew(at, state, class)
+    match target_on_top(at.linked, &state.threads[at.index], thrown) {
+        Some(target) => handle(at, state, place, target),
+        None => {
+            drop_frame(at, state, ending);
+            Ok(StepEnd::Done)
+        }
+    }
 }

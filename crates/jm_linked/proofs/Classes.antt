@@ -4,24 +4,15 @@ use Rattle.std.specs.Prelude.{slice_get, slice_set, codes, ◌&&◌, ◌||◌}
 use Rattle.std.specs.Cmp.Lexicographic as texts
 use Rattle.jm_program.specs.Names.{same_text}
 use Rattle.jm_program.specs.declared.class.ClassParts.{ClassParts}
-use Rattle.jm_program.specs.declared.class.Field.{Field}
 use Rattle.jm_program.specs.declared.class.Method.{Method}
-use Rattle.jm_program.specs.declared.constant.Constant.{Constant}
-use Rattle.jm_program.specs.declared.descriptor.MethodDescriptor.{MethodDescriptor}
-use Rattle.jm_program.specs.Flags.{is_synchronized}
 use Rattle.jm_world.specs.Classes.{FoundMethod, MethodName, name_of_method, class_among, class_named, method_in}
 use Rattle.jm_world.specs.Loading.{main_in, main_type}
 use Rattle.jm_world.specs.Loads.{Loads, Refusal, refusal, duplicates, is_named_among, or_else, when, duplicate_class}
-use Rattle.jm_world.specs.Types.{same_method_type}
 use Rattle.jm_world.specs.World.{Progress, state_in, set_state_in}
 use Rattle.jm_world.specs.declared.class_state.ClassState.{ClassState}
-use Rattle.jm_linked.specs.Later.{later_part, later_constant_value, later_declared_field, later_method, first_later}
 use Rattle.jm_linked.specs.Links.{LinkedView, IsLinked, name_in_class, member_name}
-use Rattle.jm_linked.specs.declared.later.LaterPart.{LaterPart}
-use Rattle.jm_linked.specs.declared.later.LaterPart.TheVariants as later
 use Rattle.jm_linked.specs.Named.{named_states}
 use Rattle.jm_linked.proofs.BuiltIns.{AreOthers}
-use Rattle.jm_linked.proofs.Whole.{neither_later, whole_class_at}
 
 pub first_none : (a b : Option Refusal) → or_else a b ≡ None → a ≡ None
 first_none None b e = refl
@@ -139,40 +130,3 @@ main_class l i =
     let named : name_of_method (record { class = links.class; method = links.method }) ≡ name_of_method i.found =
     sym (ap (λ o. name_in_class o i.main.member) links.class_is ∙ ap (member_name links.class) links.method_is) ∙ i.main_name in
     found_first l.program i.found i.main.class links.class (distinct l.program i.loads) i.found_is links.class_is (ap (λ (n : MethodName). n.class) named)
-
--- a class of a program in which nothing comes later
-pub record IsPlain (d : ClassParts) : Type 0 where
-  pub constants : first_later later_declared_field d.fields ≡ None
-  pub no_initializer : (t : MethodDescriptor) → method_in d.methods (codes "<clinit>") t ≡ None
-
--- a field that does not come later has no constant
-pub no_constant : (f : Field) → later_declared_field f ≡ None → f.constant ≡ None
-no_constant f e = by f.constant e
-  where
-    by : (o : Option Constant) → later_constant_value o ≡ None → o ≡ None
-    by None g = refl
-    by (Some c) g = cc
-
--- a method that does not come later initializes no class
-initializes_none : (m : Method) → later_method m ≡ None → same_text m.name (codes "<clinit>") ≡ false
-initializes_none m e = by (same_text m.name (codes "<clinit>")) refl e
-  where
-    by : (b : Bool) → same_text m.name (codes "<clinit>") ≡ b → (elim b as (λ _. Option LaterPart) [
-      | true ↦ Some later.ClassInitializer
-      | false ↦ elim (is_synchronized m.flags) as (λ _. Option LaterPart) [ true ↦ Some later.Synchronized | false ↦ None ]
-    ]) ≡ None → same_text m.name (codes "<clinit>") ≡ false
-    by true t g = cc
-    by false t g = t
-
-no_clinit : (ms : List Method) (t : MethodDescriptor) → first_later later_method ms ≡ None → method_in ms (codes "<clinit>") t ≡ None
-no_clinit [] t e = refl
-no_clinit (m ∷ ms) t e =
-    let parts = neither_later (later_method m) (first_later later_method ms) e in
-    ap (λ b. elim (b && same_method_type m.descriptor t) as (λ _. Option Method) [ true ↦ Some m | false ↦ method_in ms (codes "<clinit>") t ])
-    (initializes_none m parts.0)
-    ∙ no_clinit ms t parts.1
-
-pub plain_class : (program : List ClassParts) → later_part program ≡ None → (n : ℕ) (d : ClassParts) → slice_get program n ≡ Some d → IsPlain d
-plain_class program e n d at =
-    let whole = whole_class_at program n d e at in
-    record { constants = whole.fields; no_initializer = λ t. no_clinit d.methods t whole.methods }

@@ -1,8 +1,8 @@
 -- What holds of a program in which nothing comes later.
 use Rattle.std.proofs.Common.{◌≡◌, ℕ, zero, suc, List, [], ◌∷◌, Option, Some, None, Bool, true, false, ◌||◌, refl, sym, ap, ◌∙◌}
-use Rattle.std.specs.Prelude.{slice_get, codes}
+use Rattle.std.specs.Prelude.{slice_get}
 use Rattle.jm_program.specs.Flags.{is_synchronized}
-use Rattle.jm_program.specs.Names.{same_text, is_init}
+use Rattle.jm_program.specs.Names.{is_init}
 use Rattle.jm_program.specs.declared.class.ClassParts.{ClassParts}
 use Rattle.jm_program.specs.declared.class.Method.{Method}
 use Rattle.jm_program.specs.declared.code.Code.{Code}
@@ -15,8 +15,8 @@ use Rattle.jm_linked.specs.declared.instruction.LinkedInstr.TheVariants as linke
 use Rattle.jm_linked.specs.Links.{LinksIn}
 use Rattle.jm_linked.specs.declared.later.LaterPart.{LaterPart}
 use Rattle.jm_linked.specs.declared.later.LaterPart.TheVariants as later
-use Rattle.jm_linked.specs.Later.{is_class_called, is_superclass_called, or_later, first_later, unless_empty, later_instruction, later_code}
-use Rattle.jm_linked.specs.Later.{later_use, later_in_code, later_superclass, later_declared_field, later_method, later_class, later_part}
+use Rattle.jm_linked.specs.Later.{is_class_called, is_superclass_called, or_later, first_later, later_instruction, later_code}
+use Rattle.jm_linked.specs.Later.{later_use, later_in_code, later_superclass, later_method, later_class, later_part}
 
 -- neither of two comes later
 pub neither_later : (a b : Option LaterPart) → or_later a b ≡ None → (a ≡ None) × (b ≡ None)
@@ -29,23 +29,17 @@ none_later look [] n x e at = cc
 none_later look (y ∷ ys) zero x e at = let same : x ≡ y = cc in ap look same ∙ (neither_later (look y) (first_later look ys) e).0
 none_later look (y ∷ ys) (suc n) x e at = none_later look ys n x (neither_later (look y) (first_later look ys) e).1 at
 
-pub nothing_later : {A : Type 0} (part : LaterPart) (xs : List A) → unless_empty part xs ≡ None → xs ≡ []
-nothing_later part [] e = refl
-nothing_later part (x ∷ xs) e = cc
-
 -- a class in which nothing comes later
 pub record IsWholeClass (c : ClassParts) : Type 0 where
   pub superclass : later_superclass c.superclass ≡ None
-  pub fields : first_later later_declared_field c.fields ≡ None
   pub methods : first_later later_method c.methods ≡ None
   pub codes : first_later (λ m. later_code c m.code) c.methods ≡ None
 
 pub whole_class : (c : ClassParts) → later_class c ≡ None → IsWholeClass c
 whole_class c e =
     let past_superclass = neither_later (later_superclass c.superclass) _ e in
-    let past_fields = neither_later (first_later later_declared_field c.fields) _ past_superclass.1 in
-    let past_methods = neither_later (first_later later_method c.methods) _ past_fields.1 in
-    record { superclass = past_superclass.0; fields = past_fields.0; methods = past_methods.0; codes = past_methods.1 }
+    let past_methods = neither_later (first_later later_method c.methods) _ past_superclass.1 in
+    record { superclass = past_superclass.0; methods = past_methods.0; codes = past_methods.1 }
 
 -- each class of a program in which nothing comes later
 pub whole_class_at : (program : List ClassParts) (n : ℕ) (c : ClassParts) → later_part program ≡ None → slice_get program n ≡ Some c → IsWholeClass c
@@ -54,30 +48,21 @@ whole_class_at program n c e at = whole_class c (none_later later_class program 
 
 -- each of its methods
 none_synchronized : (m : Method) → later_method m ≡ None → is_synchronized m.flags ≡ false
-none_synchronized m e = by_name (same_text m.name (codes "<clinit>")) refl e
+none_synchronized m e = by (is_synchronized m.flags) refl e
   where
-    by_flag : (b : Bool) → is_synchronized m.flags ≡ b → (elim b as (λ _. Option LaterPart) [ true ↦ Some later.Synchronized | false ↦ None ]) ≡ None
+    by : (b : Bool) → is_synchronized m.flags ≡ b → (elim b as (λ _. Option LaterPart) [ true ↦ Some later.Synchronized | false ↦ None ]) ≡ None
         → is_synchronized m.flags ≡ false
-    by_flag true t g = cc
-    by_flag false t g = t
-
-    by_name : (b : Bool) → same_text m.name (codes "<clinit>") ≡ b
-        → (elim b as (λ _. Option LaterPart) [
-          | true ↦ Some later.ClassInitializer
-          | false ↦ elim (is_synchronized m.flags) [ true ↦ Some later.Synchronized | false ↦ None ]
-        ]) ≡ None → is_synchronized m.flags ≡ false
-    by_name true t g = cc
-    by_name false t g = by_flag (is_synchronized m.flags) refl g
+    by true t g = cc
+    by false t g = t
 
 pub not_synchronized : (program : List ClassParts) (n k : ℕ) (c : ClassParts) (m : Method) → later_part program ≡ None
     → slice_get program n ≡ Some c → slice_get c.methods k ≡ Some m → is_synchronized m.flags ≡ false
 not_synchronized program n k c m e class method =
     let whole = whole_class_at program n c e class in none_synchronized m (none_later later_method c.methods k m whole.methods method)
 
--- a method of the class in which nothing comes later catches nothing
+-- the code of a method of a class in which nothing comes later
 pub record IsWhole (c : ClassParts) (code : Code) : Type 0 where
   pub instructions : first_later (later_in_code c) code.instructions ≡ None
-  pub handlers : code.handlers ≡ []
 
 pub whole_method : (program : List ClassParts) (n k : ℕ) (c : ClassParts) (m : Method) (code : Code) → later_part program ≡ None
     → slice_get program n ≡ Some c → slice_get c.methods k ≡ Some m → m.code ≡ Some code → IsWhole c code
@@ -85,8 +70,7 @@ whole_method program n k c m code e class method is =
     let whole = whole_class_at program n c e class in
     let own : later_code c m.code ≡ None = none_later (λ (x : Method). later_code c x.code) c.methods k m whole.codes method in
     let whole_code : later_code c (Some code) ≡ None = sym (ap (later_code c) is) ∙ own in
-    let parts = neither_later (first_later (later_in_code c) code.instructions) (unless_empty later.Handlers code.handlers) whole_code in
-    record { instructions = parts.0; handlers = nothing_later later.Handlers code.handlers parts.1 }
+    record { instructions = whole_code }
 
 -- its instructions are such as can be run
 pub instruction_runs : {c : ClassParts} {code : Code} → IsWhole c code → (n : ℕ) (i : Instr) → slice_get code.instructions n ≡ Some i
@@ -96,7 +80,6 @@ instruction_runs {c} {code} w n i at =
 
 -- the linked instructions that the machine can run
 abbrev pub RunsToday : LinkedInstr → Type 0
-RunsToday linked.Throw = ⊥
 RunsToday (linked.Monitor op) = ⊥
 RunsToday _ = Unit {0}
 
@@ -109,7 +92,7 @@ runs_today program c (linked.Long n) i h e = tt
 runs_today program c (linked.Literal n) i h e = tt
 runs_today program c (linked.Return op) i h e = tt
 runs_today program c (linked.Array op) i h e = tt
-runs_today program c linked.Throw i h e = let bad : Some later.Throw ≡ None = sym (ap (later_instruction c) h) ∙ e in cc
+runs_today program c linked.Throw i h e = tt
 runs_today program c (linked.Monitor op) i h e = let bad : Some (later.Monitor op) ≡ None = sym (ap (later_instruction c) h) ∙ e in cc
 runs_today program c linked.SystemOut i h e = tt
 runs_today program c (linked.Field op n) i h e = tt

@@ -1,13 +1,11 @@
 -- What the machine cannot run yet: the first such part of a program, by classes in order, in a class
--- its superclass, fields, methods, then the instructions and the exception table of each method.
+-- its superclass, its methods, then the instructions of each method.
 use Rattle.std.specs.Prelude.{ℕ, List, [], ◌∷◌, Option, Some, None, Bool, true, false, ◌&&◌, ◌||◌, codes}
 use Rattle.jm_program.specs.Flags.{is_synchronized}
 use Rattle.jm_program.specs.Names.{same_text, is_init}
 use Rattle.jm_program.specs.declared.class.ClassParts.{ClassParts}
-use Rattle.jm_program.specs.declared.class.Field.{Field}
 use Rattle.jm_program.specs.declared.class.Method.{Method}
 use Rattle.jm_program.specs.declared.code.Code.{Code}
-use Rattle.jm_program.specs.declared.constant.Constant.{Constant}
 use Rattle.jm_program.specs.declared.descriptor.FieldType.{FieldType}
 use Rattle.jm_program.specs.declared.descriptor.MethodDescriptor.{MethodDescriptor}
 use Rattle.jm_program.specs.declared.descriptor.BaseType.{BaseType}
@@ -94,7 +92,7 @@ abbrev pub later_instruction : ClassParts → Instr → Option LaterPart
 later_instruction c (instr.Plain op) = None
 later_instruction c (instr.Array op) = None
 later_instruction c (instr.Return op) = None
-later_instruction c instr.Throw = Some later.Throw
+later_instruction c instr.Throw = None
 later_instruction c (instr.Monitor op) = Some (later.Monitor op)
 later_instruction c (instr.Constant value) = None
 later_instruction c (instr.Field op f) = None
@@ -136,17 +134,13 @@ abbrev pub first_later : {A : Type 0} → (A → Option LaterPart) → List A �
 first_later look [] = None
 first_later look (x ∷ xs) = or_later (look x) (first_later look xs)
 
-abbrev pub unless_empty : {A : Type 0} → LaterPart → List A → Option LaterPart
-unless_empty part [] = None
-unless_empty part (x ∷ xs) = Some part
-
 -- an instruction of the class that names such a class, or that cannot be run yet
 abbrev pub later_in_code : ClassParts → Instr → Option LaterPart
 later_in_code c i = or_later (later_use i) (later_instruction c i)
 
 abbrev pub later_code : ClassParts → Option Code → Option LaterPart
 later_code c None = None
-later_code c (Some code) = or_later (first_later (later_in_code c) code.instructions) (unless_empty later.Handlers code.handlers)
+later_code c (Some code) = first_later (later_in_code c) code.instructions
 
 -- main, by its name and type
 abbrev pub is_main_method : Method → Bool
@@ -157,27 +151,15 @@ abbrev pub later_superclass : Option (List ℕ) → Option LaterPart
 later_superclass None = None
 later_superclass (Some name) = later_name name
 
--- a field with a ConstantValue (JVMS 4.7.2)
-abbrev pub later_constant_value : Option Constant → Option LaterPart
-later_constant_value None = None
-later_constant_value (Some c) = Some later.ConstantValue
-
-abbrev pub later_declared_field : Field → Option LaterPart
-later_declared_field f = later_constant_value f.constant
-
--- the initializer of a class (JVMS 2.9), and a method that is synchronized (JVMS 2.11.10)
+-- a method that is synchronized (JVMS 2.11.10)
 abbrev pub later_method : Method → Option LaterPart
-later_method m = elim (same_text m.name (codes "<clinit>")) [
-  | true ↦ Some later.ClassInitializer
-  | false ↦ elim (is_synchronized m.flags) [ true ↦ Some later.Synchronized | false ↦ None ]
-]
+later_method m = elim (is_synchronized m.flags) [ true ↦ Some later.Synchronized | false ↦ None ]
 
 abbrev pub later_class : ClassParts → Option LaterPart
 later_class c =
     or_later (later_superclass c.superclass)
-    (or_later (first_later later_declared_field c.fields)
     (or_later (first_later later_method c.methods)
-    (first_later (λ m. later_code c m.code) c.methods)))
+    (first_later (λ m. later_code c m.code) c.methods))
 
 -- the first part of a program that cannot be run yet
 unfoldable pub later_part : List ClassParts → Option LaterPart

@@ -7,10 +7,6 @@ use Rattle.jm_linked.specs.declared.later.LaterPart.TheVariants as later
 unfoldable pub later_text : LaterPart → List ℕ
 later_text later.Thread = codes "java/lang/Thread"
 later_text later.IllegalThreadState = codes "java/lang/IllegalThreadStateException"
-later_text later.ConstantValue = codes "ConstantValue"
-later_text later.ClassInitializer = codes "<clinit>"
 later_text later.Synchronized = codes "synchronized"
-later_text later.Handlers = codes "handlers"
-later_text later.Throw = codes "athrow"
 later_text (later.Monitor op) = monitor_mnemonic op
 later_text (later.Invoke op) = invoke_mnemonic op

@@ -1,6 +1,6 @@
 -- A linked program beside its classes.
-use Rattle.std.specs.Prelude.{◌≡◌, ℕ, suc, List, [], ◌∷◌, ◌++◌, map, length, Option, Some, None, Bool, true, false, is_some, unwrap_or, slice_get, option_map}
-use Rattle.std.specs.List.{list_all}
+use Rattle.std.specs.Prelude.{◌≡◌, ℕ, suc, List, [], ◌∷◌, ◌++◌, map, length, Option, Some, None, Bool, true, false, is_some, unwrap_or, slice_get, option_map, IfSome}
+use Rattle.std.specs.List.{AllByRecursion, list_all}
 use Rattle.jm_program.specs.Instructions.{instr_fits}
 use Rattle.jm_program.specs.declared.class.ClassParts.{ClassParts}
 use Rattle.jm_program.specs.declared.class.Method.{Method}
@@ -155,6 +155,10 @@ handler_in program h = record { start = h.start; end = h.end; target = h.target;
 abbrev pub handler_of : LinkedView → LinkedHandler → Handler
 handler_of l h = handler_in l.program h
 
+-- its catch type, if it has one, is the number of a class
+abbrev pub CatchesClass : List ClassParts → LinkedHandler → Type 0
+CatchesClass program h = IfSome h.catch_type (λ n. NamesClass program n (class_name_of program n))
+
 -- the name by which the model keeps a method: that of the member of that number of a class
 abbrev pub no_name : MethodName
 no_name = record { class = []; name = []; descriptor = record { parameters = []; return_type = None } }
@@ -193,6 +197,7 @@ pub record MethodLinks (l : LinkedView) (m : LinkedMethod) : Type 0 where
   pub instructions : AllLink l m.code code.instructions
   pub fits : list_all (instr_fits (length code.instructions)) code.instructions ≡ true
   pub handlers : map (handler_of l) m.handlers ≡ code.handlers
+  pub catch_types : AllByRecursion (CatchesClass l.program) m.handlers
 
 -- the methods with code of a class, and of classes, by the number of the class among the program's
 -- and the method's among those of its class, both from a number on

@@ -14,16 +14,8 @@ pub enum LaterPart {
     Thread,
     /// A use of java/lang/IllegalThreadStateException.
     IllegalThreadState,
-    /// A field with a `ConstantValue`.
-    ConstantValue,
-    /// `<clinit>`.
-    ClassInitializer,
     /// A method that is synchronized.
     Synchronized,
-    /// An exception table that is not empty.
-    Handlers,
-    /// `athrow`.
-    Throw,
     Monitor(MonitorOp),
     Invoke(InvokeOp),
 }
@@ -39,11 +31,7 @@ impl Display for LaterPart {
             LaterPart::IllegalThreadState => {
                 f.write_str("java/lang/IllegalThreadStateException")
             }
-            LaterPart::ConstantValue => f.write_str("ConstantValue"),
-            LaterPart::ClassInitializer => f.write_str("<clinit>"),
             LaterPart::Synchronized => f.write_str("synchronized"),
-            LaterPart::Handlers => f.write_str("handlers"),
-            LaterPart::Throw => f.write_str("athrow"),
             LaterPart::Monitor(op) => write!(f, "{op}"),
             LaterPart::Invoke(op) => write!(f, "{op}"),
         }

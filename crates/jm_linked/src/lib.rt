@@ -23,5 +23,5 @@ pub use instruction::{
 pub use kind::ValueKind;
 pub use later::LaterPart;
 pub use linked::Linked;
-pub use method::{LinkedHandler, LinkedMethod, Selected};
+pub use method::{LinkedConstant, LinkedHandler, LinkedMethod, Selected};
 pub use tables::Tables;

@@ -32,6 +32,15 @@ pub enum Selected {
     Coded(u32),
 }
 
+/// The value of a constant (JVMS 4.7.2, 5.1).
+#[derive(Clone, Copy)]
+pub enum LinkedConstant {
+    Int(i32),
+    Long(i64),
+    /// A string, by its number among the program's literals.
+    Literal(u32),
+}
+
 /// A row of the exception table (JVMS 4.7.3). The range goes from `start`, included, to `end`,
 /// excluded.
 #[derive(Clone, Copy)]

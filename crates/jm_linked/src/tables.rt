@@ -1,5 +1,6 @@
 // What a program's classes have, by their numbers.
 
+use crate::method::LinkedConstant;
 use jm_program::Sequence;
 use jm_tables::{FieldKinds, Hierarchy, Layout, MethodTable};
 
@@ -21,4 +22,10 @@ pub struct Tables {
     pub codes: Sequence<Option<u32>>,
     /// Of each class the number of its superclass, or none if it has none (JVMS 4.1).
     pub superclasses: Sequence<Option<u32>>,
+    /// Of each of the program's classes the number, among its methods, of the one that initializes it,
+    /// or none (JVMS 2.9).
+    pub initializers: Sequence<Option<u32>>,
+    /// Of each of the program's classes the constant of each of its fields, in the order of the fields;
+    /// none of an instance field, where one is ignored (JVMS 4.7.2).
+    pub constants: Sequence<Sequence<Option<LinkedConstant>>>,
 }

@@ -1,5 +1,5 @@
 -- What is found, by numbers.
-use Rattle.std.proofs.Common.{◌≡◌, ℕ, zero, suc, List, [], Option, Some, None, refl, ap, subst, ◌∙◌}
+use Rattle.std.proofs.Common.{◌≡◌, ℕ, zero, suc, List, [], Option, Some, None, refl, sym, ap, subst, ◌∙◌}
 use Rattle.std.specs.Prelude.{unwrap_or}
 use Rattle.jm_program.specs.declared.class.ClassParts.{ClassParts}
 use Rattle.jm_program.specs.declared.class.Field.{Field}
@@ -17,6 +17,9 @@ use Rattle.jm_linker.specs.declared.references.FoundMember.{FoundMember}
 pub names_class : (program : List ClassParts) (n : ℕ) (name : List ℕ) → NamesClass program n name → class_name_of program n ≡ name
 unfolding class_name_of
 names_class program n name e = ap (λ o. unwrap_or o []) e
+
+pub names_itself : (program : List ClassParts) (n : ℕ) (name : List ℕ) → NamesClass program n name → NamesClass program n (class_name_of program n)
+names_itself program n name e = e ∙ ap Some (sym (names_class program n name e))
 
 -- a member that is found is of a class that the program has
 field_got : (n : ℕ) (program : List ClassParts) (name : List ℕ) (t : FieldType) (class : List ℕ) (found : FoundField)

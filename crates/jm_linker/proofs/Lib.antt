@@ -19,3 +19,5 @@ pub mod LiteralLaws
 pub mod SelectorLaws
 pub mod InheritedLaws
 pub mod SelectedLaws
+pub mod ConstantLaws
+pub mod PairLaws

@@ -5,6 +5,7 @@ use Rattle.std.specs.Prelude.{is_some, slice_get}
 use Rattle.std.specs.List.{flat_map}
 use Rattle.jm_program.specs.Names.{same_text}
 use Rattle.jm_program.specs.declared.class.ClassParts.{ClassParts}
+use Rattle.jm_program.specs.declared.class.Field.{Field}
 use Rattle.jm_program.specs.declared.class.Method.{Method}
 use Rattle.jm_program.specs.declared.code.Code.{Code}
 use Rattle.jm_program.specs.declared.instruction.symbolic.Instr.{Instr}
@@ -74,6 +75,19 @@ code_literals program n i c m code class method is = λ text has.
     ap (λ o. has_text text (elim o as (λ _. List (List ℕ)) [ None ↦ [] | Some k ↦ flat_map texts_of_instruction k.instructions ])) is ∙ has in
     class_literals program n c class text
     (has_second (flat_map texts_of_field c.fields) (flat_map texts_of_method c.methods) text (has_part texts_of_method c.methods i m text method own))
+
+-- those of a class's fields
+pub class_field_literals : (program : List ClassParts) (n : ℕ) (c : ClassParts) → slice_get program n ≡ Some c
+    → AreLiterals program (flat_map texts_of_field c.fields)
+unfolding AreLiterals
+class_field_literals program n c at = λ text has.
+    class_literals program n c at text (has_first (flat_map texts_of_field c.fields) (flat_map texts_of_method c.methods) text has)
+
+-- those of a field
+pub field_literals : (program : List ClassParts) (fields : List Field) (n : ℕ) (f : Field) → AreLiterals program (flat_map texts_of_field fields)
+    → slice_get fields n ≡ Some f → AreLiterals program (texts_of_field f)
+unfolding AreLiterals
+field_literals program fields n f all at = λ text has. all text (has_part texts_of_field fields n f text at has)
 
 -- those of an instruction
 pub instruction_literals : (program : List ClassParts) (instructions : List Instr) (n : ℕ) (i : Instr) → AreLiterals program (flat_map texts_of_instruction instructions)

@@ -14,6 +14,7 @@ use Rattle.jm_program.specs.Instructions.{instr_fits}
 use Rattle.jm_program.specs.declared.class.ClassParts.{ClassParts}
 use Rattle.jm_program.specs.declared.class.Method.{Method}
 use Rattle.jm_program.specs.declared.code.Code.{Code}
+use Rattle.jm_program.specs.declared.descriptor.MethodDescriptor.{MethodDescriptor}
 use Rattle.jm_world.specs.Types.{same_method_type}
 use Rattle.jm_world.specs.Classes.{FoundMethod, method_in, method_of_class, method_named, name_of_method}
 use Rattle.jm_world.specs.Loading.{literal_texts, main_type, main_in}
@@ -31,13 +32,19 @@ use Rattle.jm_linker.proofs.NumberedLaws.{got_first}
 use Rattle.jm_linker.proofs.Reasons.{neither_refuses}
 use Rattle.jm_linker.proofs.TableLaws.{same_method_type_equiv}
 
--- the method at a place, after others that are not main
-pub main_here : (ms : List Method) (i : ℕ) (m : Method) → i < length ms → m ≡ get_or ms i m → is_main_method m ≡ true → method_in ms (codes "main") main_type ≡ method_in (drop i ms) (codes "main") main_type → method_in ms (codes "main") main_type ≡ slice_get ms i
-main_here ms i m l is main e =
+-- the method at a place is the first of a name and a type, after others that are not
+pub method_here : (name : List ℕ) (t : MethodDescriptor) (ms : List Method) (i : ℕ) (m : Method) → i < length ms → m ≡ get_or ms i m
+    → (same_text m.name name && same_method_type m.descriptor t) ≡ true → method_in ms name t ≡ method_in (drop i ms) name t
+    → method_in ms name t ≡ slice_get ms i
+method_here name t ms i m l is so e =
     let here : drop i ms ≡ m ∷ drop (i + 1) ms = rw (drop_more ms i m l, ← is) refl in
-    e ∙ ap (λ xs. method_in xs (codes "main") main_type) here
-    ∙ ap (λ b. elim b as (λ _. Option Method) [ true ↦ Some m | false ↦ method_in (drop (i + 1) ms) (codes "main") main_type ]) main
+    e ∙ ap (λ xs. method_in xs name t) here
+    ∙ ap (λ b. elim b as (λ _. Option Method) [ true ↦ Some m | false ↦ method_in (drop (i + 1) ms) name t ]) so
     ∙ sym (slice_get_read ms (length ms) i m refl l is)
+
+pub main_here : (ms : List Method) (i : ℕ) (m : Method) → i < length ms → m ≡ get_or ms i m → is_main_method m ≡ true
+    → method_in ms (codes "main") main_type ≡ method_in (drop i ms) (codes "main") main_type → method_in ms (codes "main") main_type ≡ slice_get ms i
+main_here ms i m l is main e = method_here (codes "main") main_type ms i m l is main e
 
 both : (a b : Bool) → (a && b) ≡ true → (a ≡ true) × (b ≡ true)
 both true b e = (refl, e)
@@ -142,6 +149,7 @@ method_links l loads m a = record {
   instructions = a.links.instructions;
   fits = instructions_fit a.class m.member a.method a.code a.fits a.method_is a.code_is;
   handlers = a.links.handlers;
+  catch_types = a.links.catch_types;
 }
 
 each_at : {A : Type 0} (P : A → Type 0) (xs : List A) (n : ℕ) (x : A) → AllByRecursion P xs → slice_get xs n ≡ Some x → P x

@@ -92,6 +92,7 @@ alone program k i c x code m class fits method is h = record {
     max_locals = h.max_locals;
     instructions = h.instructions;
     handlers = h.handlers;
+    catch_types = h.catch_types;
   };
 }
 

@@ -9,7 +9,7 @@ use Rattle.jm_program.specs.declared.descriptor.MethodDescriptor.{MethodDescript
 use Rattle.jm_world.specs.Classes.{FoundMethod}
 use Rattle.jm_world.specs.Loading.{main_in}
 use Rattle.jm_linked.specs.Kinds.{kind_of}
-use Rattle.jm_linked.specs.Links.{AllLinkIn, coded_among, coded_from, handler_in, place_of}
+use Rattle.jm_linked.specs.Links.{AllLinkIn, CatchesClass, coded_among, coded_from, handler_in, place_of}
 use Rattle.jm_linked.specs.declared.method.LinkedMethod.{LinkedMethod}
 
 -- the linked code of a method of that number of a class of that number
@@ -21,6 +21,7 @@ pub record LinksCode (program : List ClassParts) (class member : ℕ) (type : Me
   pub max_locals : m.max_locals ≡ code.max_locals
   pub instructions : AllLinkIn program m.code code.instructions
   pub handlers : map (handler_in program) m.handlers ≡ code.handlers
+  pub catch_types : AllByRecursion (CatchesClass program) m.handlers
 
 -- the linked method of a method of the program
 pub record LinksAlone (program : List ClassParts) (m : LinkedMethod) : Type 0 where

@@ -15,11 +15,12 @@ ghost use Rattle.jm_linker.specs.LinkedMethods.{LinksCode, LinksAlone, LinksClas
 ghost use Rattle.jm_linker.specs.Literals.{AreLiterals};
 
 use crate::classes::Classes;
+use crate::constants::linked_constant;
 use crate::fault::LinkFault;
 use crate::later::{is_system_out, print_method};
 use crate::number::short_number;
 use crate::references::{link_field, link_handlers, link_method, link_new, link_ref};
-use jm_linked::{LinkedInstr, LinkedMethod, PrintMethod, ValueKind};
+use jm_linked::{LinkedConstant, LinkedInstr, LinkedMethod, PrintMethod, ValueKind};
 use jm_program::{
     Class, Code, Constant, FieldOp, FieldRef, Instr, InvokeOp, MethodDescriptor, MethodRef,
     Sequence,
@@ -30,13 +31,10 @@ fn link_constant<'a>(classes: &Classes<'a>, constant: &'a Constant) -> LinkedIns
     requires { AreLiterals classes.now.program.now (text_of constant.now) }
     ensures { LinksIn classes.now.program.now result (instr.Constant constant.now) }
 {
-    match constant {
-        Constant::Int(number) => LinkedInstr::Int(*number),
-        Constant::Long(number) => LinkedInstr::Long(*number),
-        Constant::String(text) => match classes.literal(text.as_slice()) {
-            Some(number) => LinkedInstr::Literal(number),
-            None => unreachable!(),
-        },
+    match linked_constant(classes, constant) {
+        LinkedConstant::Int(number) => LinkedInstr::Int(number),
+        LinkedConstant::Long(number) => LinkedInstr::Long(number),
+        LinkedConstant::Literal(number) => LinkedInstr::Literal(number),
     }
 }
 

@@ -1,10 +1,10 @@
 // The parts of a program that the machine cannot run yet.
 
-ghost use Rattle.std.specs.Prelude.{◌≡◌, [], ◌∷◌, None, Some, cond, false};
+ghost use Rattle.std.specs.Prelude.{◌≡◌, [], ◌∷◌, None, Some, false};
 ghost use Rattle.jm_linked.specs.Later.{is_class_called, is_system_out, base_type, printed_type, print_name, print_parameters, is_print, print_among};
 ghost use Rattle.jm_linked.specs.Later.{print_methods, is_superclass_called, later_special, later_invoke, later_instruction, later_name, later_element};
 ghost use Rattle.jm_linked.specs.Later.{later_class_ref, later_use, later_in_code, first_later, later_code, is_main_method};
-ghost use Rattle.jm_linked.specs.Later.{later_superclass, later_constant_value, later_declared_field, later_method};
+ghost use Rattle.jm_linked.specs.Later.{later_superclass, later_method};
 ghost use Rattle.jm_linked.specs.Later.{later_class, later_part};
 ghost use Rattle.jm_program.specs.Names.{same_text};
 ghost use Rattle.jm_program.specs.declared.class.Method.{Method};
@@ -16,8 +16,8 @@ use crate::name::{is_print_stream, is_system};
 use crate::types::letter;
 use jm_linked::{LaterPart, PrintMethod, Printed};
 use jm_program::{
-    AccessFlags, BaseType, Class, ClassParts, ClassRef, Code, Constant, ElementType, Field,
-    FieldRef, FieldType, Instr, InvokeOp, Method, MethodDescriptor, MethodRef, Name,
+    AccessFlags, BaseType, Class, ClassParts, ClassRef, Code, ElementType, FieldRef, FieldType,
+    Instr, InvokeOp, Method, MethodDescriptor, MethodRef, Name,
 };
 
 fn is_system_ref(class: &ClassRef) -> bool
@@ -122,7 +122,7 @@ fn are_print_parameters(types: &[FieldType], method: PrintMethod) -> bool
     }
 }
 
-fn returns_nothing(descriptor: &MethodDescriptor) -> bool
+pub fn returns_nothing(descriptor: &MethodDescriptor) -> bool
     ensures { result ≡ same_result descriptor.now.return_type None }
 {
     match &descriptor.return_type {
@@ -217,7 +217,7 @@ fn later_instruction(class: &ClassParts, instruction: &Instr) -> Option<LaterPar
     match instruction {
         Instr::Plain(_) | Instr::Return(_) | Instr::Constant(_) => None,
         Instr::Array(_) | Instr::Field(_, _) | Instr::New(_) | Instr::Type(_, _) => None,
-        Instr::Throw => Some(LaterPart::Throw),
+        Instr::Throw => None,
         Instr::Monitor(op) => Some(LaterPart::Monitor(*op)),
         Instr::Invoke(op, method) => later_invoke(class, *op, method.get()),
     }
@@ -280,24 +280,13 @@ fn later_in_instructions(class: &ClassParts, instructions: &[Instr]) -> Option<L
     None
 }
 
-#[tactic(auto, using(crate::proofs::LaterLaws::unless_empty_tells))]
-fn unless_empty(part: LaterPart, is_empty: bool) -> Option<LaterPart>
-    ensures { result ≡ cond is_empty None (Some part) }
-{
-    if is_empty { None } else { Some(part) }
-}
-
-#[tactic(auto, using(crate::proofs::LaterLaws::unless_empty_tells))]
 fn later_in_code(class: &ClassParts, code: &Option<Code>) -> Option<LaterPart>
     ensures { result ≡ later_code class.now code.now }
 {
     let Some(code) = code else {
         return None;
     };
-    if let Some(part) = later_in_instructions(class, code.instructions.as_slice()) {
-        return Some(part);
-    }
-    unless_empty(LaterPart::Handlers, code.handlers.as_slice().is_empty())
+    later_in_instructions(class, code.instructions.as_slice())
 }
 
 fn is_strings(field_type: &FieldType) -> bool
@@ -335,38 +324,10 @@ fn later_superclass(superclass: &Option<Name>) -> Option<LaterPart>
     }
 }
 
-fn later_constant_value(constant: &Option<Constant>) -> Option<LaterPart>
-    ensures { result ≡ later_constant_value constant.now }
-{
-    match constant {
-        None => None,
-        Some(_) => Some(LaterPart::ConstantValue),
-    }
-}
-
-fn later_declared_field(field: &Field) -> Option<LaterPart>
-    ensures { result ≡ later_declared_field field.now }
-{
-    later_constant_value(&field.constant)
-}
-
-fn later_in_fields(fields: &[Field]) -> Option<LaterPart>
-    ensures { result ≡ first_later later_declared_field fields.now }
-{
-    for field in fields {
-        if let Some(part) = later_declared_field(field) {
-            return Some(part);
-        }
-    }
-    None
-}
-
 fn later_method(method: &Method) -> Option<LaterPart>
     ensures { result ≡ later_method method.now }
 {
-    if method.name.is_text(b"<clinit>") {
-        Some(LaterPart::ClassInitializer)
-    } else if method.flags.has(AccessFlags::SYNCHRONIZED) {
+    if method.flags.has(AccessFlags::SYNCHRONIZED) {
         Some(LaterPart::Synchronized)
     } else {
         None
@@ -399,9 +360,6 @@ fn later_in_class(class: &ClassParts) -> Option<LaterPart>
     ensures { result ≡ later_class class.now }
 {
     if let Some(part) = later_superclass(&class.superclass) {
-        return Some(part);
-    }
-    if let Some(part) = later_in_fields(class.fields.as_slice()) {
         return Some(part);
     }
     if let Some(part) = later_in_methods(class.methods.as_slice()) {

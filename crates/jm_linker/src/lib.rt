@@ -10,9 +10,11 @@
 mod classes;
 mod code;
 mod codes;
+mod constants;
 mod cycles;
 mod duplicates;
 mod fault;
+mod initializers;
 mod key;
 mod later;
 mod linking;

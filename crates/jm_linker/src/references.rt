@@ -1,13 +1,14 @@
 // What the instructions and the exception tables name (JVMS 5.4.3, 6.5), by numbers.
 
-ghost use Rattle.std.specs.Prelude.{◌≡◌, IfOk, IsTrue, MatchResult, Some, is_some, map, option_map};
+ghost use Rattle.std.specs.Prelude.{◌≡◌, IfOk, IfSome, IsTrue, MatchResult, Some, is_some, map, option_map};
+ghost use Rattle.std.specs.List.{AllByRecursion};
 ghost use Rattle.jm_program.specs.declared.reference.ClassRef.TheVariants as named;
 ghost use Rattle.jm_world.specs.Classes.{class_named};
 ghost use Rattle.jm_world.specs.Fields.{resolved_field};
 ghost use Rattle.jm_world.specs.Loads.{class_refusal, element_refusal, ref_refusal, is_static_use, is_stored, same_bool, found_field_refusal, field_refusal, is_interface_use, is_special_use, is_static_call, init_refusal, found_method_refusal, named_class_refusal, method_refusal, new_refusal, catch_refusal, first_of_all};
 ghost use Rattle.jm_world.specs.Resolution.{resolve_field, resolve_method};
 ghost use Rattle.jm_world.specs.Types.{type_of_ref};
-ghost use Rattle.jm_linked.specs.Links.{NamesClass, NamesElement, NamesType, class_name_of, class_numbered, handler_in};
+ghost use Rattle.jm_linked.specs.Links.{CatchesClass, NamesClass, NamesElement, NamesType, class_name_of, class_numbered, handler_in};
 ghost use Rattle.jm_linked.specs.Methods.{selector_of};
 ghost use Rattle.jm_linker.specs.Answers.{Answers, IsOutOfMemory};
 ghost use Rattle.jm_linker.specs.Found.{found_field, found_method};
@@ -399,6 +400,7 @@ fn link_catch_type<'a>(
 ) -> Result<Option<u32>, LinkFault>
     ensures refusal { Answers result (catch_type_refusal classes.now.program.now catch_type.now) }
     ensures named { IfOk result (λ n. option_map (class_name_of classes.now.program.now) n ≡ catch_type.now) }
+    ensures caught { IfOk result (λ n. IfSome n (λ k. NamesClass classes.now.program.now k (class_name_of classes.now.program.now k))) }
 {
     match catch_type {
         None => Ok(None),
@@ -413,6 +415,7 @@ fn link_handler<'a>(
 ) -> Result<LinkedHandler, LinkFault>
     ensures refusal { Answers result (catch_refusal classes.now.program.now handler.now) }
     ensures linked { IfOk result (λ linked. handler_in classes.now.program.now linked ≡ handler.now) }
+    ensures caught { IfOk result (CatchesClass classes.now.program.now) }
 {
     let catch_type = link_catch_type(alloc, classes, &handler.catch_type)?;
     Ok(LinkedHandler {
@@ -431,6 +434,7 @@ pub fn link_handlers<'a>(
 ) -> Result<Sequence<LinkedHandler>, LinkFault>
     ensures refusal { Answers result (first_of_all (catch_refusal classes.now.program.now) handlers.now) }
     ensures linked { IfOk result (λ linked. map (handler_in classes.now.program.now) linked ≡ handlers.now) }
+    ensures caught { IfOk result (λ linked. AllByRecursion (CatchesClass classes.now.program.now) linked) }
 {
     let mut linked = Vec::new(alloc);
     for handler in handlers {

@@ -1,5 +1,5 @@
 // What a program's classes have by their numbers: which are above which, where their fields stand
-// and what these hold, and which methods are selected for them.
+// and what these hold or begin with, and which methods are selected for them or initialize them.
 
 ghost use Rattle.std.specs.Prelude.{◌≡◌, ◌∷◌, [], IfOk, IfSome, Some, length, map, option_to_list};
 ghost use Rattle.jm_world.specs.Hierarchy.{parents};
@@ -13,6 +13,8 @@ ghost use Rattle.jm_linker.specs.NumberedClasses.{AreNumbers};
 
 use crate::classes::Classes;
 use crate::codes::code_numbers;
+use crate::constants::constants_of;
+use crate::initializers::initializers_of;
 use crate::parents::superclass_of;
 use crate::selected::selected_of;
 use jm_linked::Tables;
@@ -211,7 +213,7 @@ fn order_of<'a>(
 
 /// What the classes of a program that loads have by their numbers, made in the order of the ranks;
 /// or none where a class above one is not there or has no lower rank. It takes 64 bytes for each
-/// digit of a class's number, to the base 16, 56 more for a class and 10 for a field, 16 for a static
+/// digit of a class's number, to the base 16, 88 more for a class and 26 for a field, 32 for a static
 /// one.
 pub fn tables_of<'a>(
     alloc: Global,
@@ -241,6 +243,8 @@ pub fn tables_of<'a>(
         return Ok(None);
     };
     let codes = Sequence::new(code_numbers(alloc, classes)?);
+    let initializers = Sequence::new(initializers_of(alloc, classes)?);
+    let constants = Sequence::new(constants_of(alloc, classes)?);
     Ok(Some(Tables {
         hierarchy,
         layout,
@@ -248,5 +252,7 @@ pub fn tables_of<'a>(
         selected,
         codes,
         superclasses,
+        initializers,
+        constants,
     }))
 }

@@ -46,8 +46,8 @@ pub const WRONG_TAG: [u8; 4] = [0x03, 0x09, 0x60, 0xB1];
 /// `iconst_1`, `iconst_0`, `idiv`, `pop`, `return`.
 pub const BY_ZERO: [u8; 5] = [0x04, 0x03, 0x6C, 0x57, 0xB1];
 
-/// `aconst_null`, `athrow`, of which `athrow` comes later.
-pub const LATER: [u8; 2] = [0x01, 0xBF];
+/// `aconst_null`, `monitorenter`, of which `monitorenter` comes later.
+pub const LATER: [u8; 2] = [0x01, 0xC2];
 
 /// `jsr_w`, an opcode that is left out.
 pub const JSR_W: [u8; 5] = [0xC9, 0x00, 0x00, 0x00, 0x00];

@@ -53,18 +53,19 @@ linked 3 <= main & .class public A / .super java/lang/Object / .method private f
 linked 2 <= main & .class public A / .super java/lang/Object / .method private f()V / aload_0 / invokespecial A/f()V / return / .end method
 # instructions that come later; an invokespecial of a class further up than the superclass
 16 Later(invokespecial) <= main & .class public Z / .super java/lang/Object / .method public f()V / return / .end method & .class public A / .super Z & .class public B / .super A / .method public g()V / aload_0 / invokespecial Z/f()V / return / .end method
-16 Later(athrow) <= main athrow
-16 Later(athrow) <= main & .class public A / .super java/lang/Object / .method public f()V / aload_0 / athrow / .end method
+16 Later(monitorenter) <= main aconst_null / monitorenter
+16 Later(monitorexit) <= main & .class public A / .super java/lang/Object / .method public f()V / aload_0 / monitorexit / .end method
 # threads come later, by the names of their classes
 16 Later(java/lang/Thread) <= main new java/lang/Thread
 16 Later(java/lang/Thread) <= main aconst_null / instanceof [Ljava/lang/Thread;
 16 Later(java/lang/Thread) <= main & .class public A / .super java/lang/Thread
 16 Later(java/lang/IllegalThreadStateException) <= main & .class public A / .super java/lang/IllegalThreadStateException
-# initializers, constants, monitors and handlers come later
-16 Later(<clinit>) <= main & .class public A / .super java/lang/Object / .method static <clinit>()V / return / .end method
-16 Later(ConstantValue) <= main & .class public A / .super java/lang/Object / .field static x I = 1
+# methods that are synchronized come later
 16 Later(synchronized) <= main & .class public A / .super java/lang/Object / .method public synchronized f()V / return / .end method
-16 Later(handlers) <= main A: / nop / B: / .catch all from A to B using A
+# initializers, constants, thrown exceptions and handlers
+linked 2 <= main aconst_null / athrow & .class public A / .super java/lang/Object / .field static x I = 1 / .field static y Ljava/lang/String; = \"x\" / .method static <clinit>()V / return / .end method
+linked 1 <= main A: / nop / B: / .catch all from A to B using A / .catch java/lang/Error from A to B using B
+51 NoClass(a/B) <= main A: / nop / B: / .catch a/B from A to B using A
 # a main class below another class
 linked 1 <= .class public Main / .super A / .method public static main([Ljava/lang/String;)V / return / .end method & .class A / .super java/lang/Object
 16 Later(java/lang/Thread) <= .class public Main / .super java/lang/Thread / .method public static main([Ljava/lang/String;)V / return / .end method

@@ -23,10 +23,10 @@ run | Main.class | @class sum | - | - | jm: 1 threads not ended~ | 8
 run | Main.class | @class wrong tag | t 1 x 20~ | - | jm: 60 TagFault(WrongTag)~ | 5
 run | Main.class | @class by zero | t 1 x 7~ | - | jm: thread 1 ended by java/lang/ArithmeticException~ | 3
 run | Main.class | @class by zero | t 1 x 6~ | - | jm: 1 threads not ended~ | 8
-run | Main.class | @class later | t 1 x 7~ | - | jm: 16 Later(athrow)~ | 4
+run | Main.class | @class later | t 1 x 7~ | - | jm: 16 Later(monitorenter)~ | 4
 run | Main.class | @class sum | t 1~t 1 x 0~ | - | jm: 70 BadSchedule(2)~ | 9
 # the class before the schedule
-run | Main.class | @class later | nothing~ | - | jm: 16 Later(athrow)~ | 4
+run | Main.class | @class later | nothing~ | - | jm: 16 Later(monitorenter)~ | 4
 run | Main.class | @class jsr_w | - | - | jm: Main.class: 11 LeftOut(jsr_w)~ | 4
 # files that are not read
 run | Main.class | @class sum | @not read | - | jm: events: not read~ | 2

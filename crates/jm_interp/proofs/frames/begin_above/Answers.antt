@@ -1,5 +1,4 @@
 use Rattle.std.proofs.Common.{refl, ◌∷◌}
-use Rattle.jm_world.specs.declared.stage.Stage.TheVariants.{Begin}
 use Rattle.jm_state.specs.declared.thread.StackFrame.TheVariants.{Initialization}
 use Rattle.jm_state.specs.declared.thread.Thread as held
 use Rattle.jm_interp.proofs.TopFrames.{top_more, second_other}
@@ -9,6 +8,6 @@ pub returns : goal.returns
 returns c f below r s =
     let t = c.args.thread.now in
     let more : held.Thread = record { object = t.object; frames = c.push.new.self; pending = t.pending; ending = t.ending } in
-    let begun = top_more t more (Initialization c.args.above Begin) (f ∷ below) r s c.in_ok-push.ensures.items refl in
-    second_other more _ (Initialization c.args.above Begin) f (Initialization c.args.class c.args.stage) below r c.len-count.result begun
+    let begun = top_more t more c.args.above (f ∷ below) r s c.in_ok-push.ensures.items refl in
+    second_other more _ c.args.above f (Initialization c.args.class c.args.stage) below r c.len-count.result begun
     c.len-count.ensures refl refl

@@ -1,6 +1,6 @@
-use Rattle.std.proofs.Common.{refl, inl, inr, arith}
-use Rattle.jm_interp.proofs.Initialized.{class_within, own, skips, waits, begins, refuses}
-use Rattle.jm_interp.proofs.OnThread.{within, numbered, read}
+use Rattle.std.proofs.Common.{inl, inr, arith}
+use Rattle.jm_interp.proofs.Initialized.{class_within, own, not_begun_there, skips, waits, refuses}
+use Rattle.jm_interp.proofs.OnThread.{numbered}
 use Rattle.jm_interp.proofs.initialization.begin.Goals as goal
 
 pub index-requires : goal.index-requires
@@ -18,23 +18,8 @@ returns-then-owner-at g c = waits c.requires.1 c.index.ensures c.in-InProgress.i
 pub returns-else-owner-at : goal.returns-else-owner-at
 returns-else-owner-at g c = skips c.requires.1 c.index.ensures _ (inr (c.in-InProgress.is, c.if-owner-at.false)) c.leave_frame-in-InProgress.ensures
 
-pub index_mut-requires : goal.index_mut-requires
-index_mut-requires g c = class_within c.requires.1 c.args.class (own c.requires.1)
-
-pub index_mut-requires-in-NotBegun : goal.index_mut-requires-in-NotBegun
-index_mut-requires-in-NotBegun g c = within c.requires.1
-
-pub overflow_add-at-in-NotBegun : goal.overflow_add-at-in-NotBegun
-overflow_add-at-in-NotBegun g c = omega (arith, numbered c.requires.1)
-
-pub go_to_stage-requires : goal.go_to_stage-requires
-go_to_stage-requires g c = (_, _, _, read c.requires.1 c.index_mut-in-NotBegun.ensures.value)
-
-pub returns-in-NotBegun : goal.returns-in-NotBegun
-returns-in-NotBegun g c =
-    begins c.requires.1 c.index.ensures c.in-NotBegun.is
-    (record { threads = refl; statics = refl; literals = refl; monitors = refl; heap = refl; stop = refl }) refl refl refl
-    (c.go_to_stage.ensures _ _ _ (read c.requires.1 c.index_mut-in-NotBegun.ensures.value))
+pub begin_anew-requires : goal.begin_anew-requires
+begin_anew-requires g c = (_, c.requires.1, not_begun_there c.requires.1 c.index.ensures c.in-NotBegun.is)
 
 pub leave_frame-requires : goal.leave_frame-requires
 leave_frame-requires g c = record { frames = _; pending = _; on = c.requires.1 }

@@ -1,3 +1,4 @@
+use Rattle.std.proofs.Common.{refl}
 use Rattle.jm_linked.proofs.BuiltInNumbers.{names_built_in}
 use Rattle.jm_interp.proofs.Initialized.{too_deep, begun, not_begun}
 use Rattle.jm_interp.proofs.OnThread.{within, read}
@@ -11,7 +12,7 @@ throw-requires g c = record { frames = _; pending = _; on = c.requires.2 }
 
 pub returns-then-len-ge512 : goal.returns-then-len-ge512
 returns-then-len-ge512 g c =
-    too_deep c.requires.2 c.args.above c.requires.3 c.index.ensures c.len.ensures c.if-len-ge512.true
+    too_deep c.requires.2 _ _ c.index.ensures c.len.ensures c.if-len-ge512.true
     (names_built_in c.args.at.linked.now.program c.number.result _ c.number.ensures.named) c.throw.ensures
 
 pub index_mut-requires : goal.index_mut-requires
@@ -22,9 +23,9 @@ begin_above-requires g c = (_, _, _, read c.requires.2 c.index_mut.ensures.value
 
 pub returns-in-Ok : goal.returns-in-Ok
 returns-in-Ok g c =
-    begun c.requires.2 c.args.above c.requires.3 c.index.ensures c.len.ensures c.if-len-ge512.false
+    begun c.requires.2 _ _ c.index.ensures c.len.ensures c.if-len-ge512.false c.requires.3 tt (λ q a. a) refl
     (c.in-Ok.ensures _ _ _ (read c.requires.2 c.index_mut.ensures.value))
 
 pub returns-in-Err : goal.returns-in-Err
 returns-in-Err g c =
-    not_begun c.requires.2 c.args.above c.requires.3 c.index.ensures c.len.ensures (c.in-Err.ensures _ _ _ (read c.requires.2 c.index_mut.ensures.value))
+    not_begun c.requires.2 _ _ c.index.ensures c.len.ensures (c.in-Err.ensures _ _ _ (read c.requires.2 c.index_mut.ensures.value))

@@ -9,7 +9,7 @@ use Rattle.jm_tables.specs.Hierarchies.{is_above}
 use Rattle.jm_tables.specs.Layouts.{AreFields, IsLayout}
 use Rattle.jm_tables.specs.declared.extent.DeclaredFields.{DeclaredFields}
 use Rattle.jm_tables.specs.Numbering.{name_of}
-use Rattle.jm_linked.specs.Tables.{AreSelected, AreSuperclasses, all_names}
+use Rattle.jm_linked.specs.Tables.{AreInitializers, AreSelected, AreSuperclasses, HaveConstants, all_names}
 use Rattle.jm_linker.specs.Inherited.{AreClasses, AreTheirFields}
 use Rattle.jm_linker.proofs.InheritedLaws.{are_fields, are_heirs, are_superclasses, own_cells}
 use Rattle.jm_linker.proofs.tables.tables_of.Goals as goal
@@ -46,4 +46,6 @@ returns c =
       codes = c.new-codes.ensures ∙ c.in_ok-code_numbers.ensures;
       superclasses = subst (AreSuperclasses program) (sym (c.new-superclasses.ensures ∙ c.in_ok-superclasses_in.ensures
           ∙ ap (map (λ (d : DeclaredFields). d.superclass)) c.deref-8.ensures.value)) (are_superclasses program fields declared);
+      initializers = subst (AreInitializers program) (sym c.new-initializers.ensures) c.in_ok-initializers_of.ensures;
+      constants = subst (HaveConstants program) (sym c.new-constants.ensures) c.in_ok-constants_of.ensures;
     }

@@ -1,0 +1,6 @@
+.class public B
+.super A
+.method public m()I
+    iconst_2
+    ireturn
+.end method

@@ -1,0 +1,2 @@
+.class public C
+.super A

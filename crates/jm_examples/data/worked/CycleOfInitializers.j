@@ -1,0 +1,13 @@
+.class public Main
+.super java/lang/Object
+.method public static main([Ljava/lang/String;)V
+    .limit stack 8
+    .limit locals 8
+    getstatic java/lang/System/out Ljava/io/PrintStream;
+    getstatic CycleA/a I
+    invokevirtual java/io/PrintStream/println(I)V
+    getstatic java/lang/System/out Ljava/io/PrintStream;
+    getstatic CycleB/b I
+    invokevirtual java/io/PrintStream/println(I)V
+    return
+.end method

@@ -1,0 +1,12 @@
+.class public Fails
+.super java/lang/Object
+.field static a I
+.method static <clinit>()V
+    .limit stack 8
+    .limit locals 8
+    iconst_1
+    iconst_0
+    idiv
+    pop
+    return
+.end method

@@ -1,0 +1,13 @@
+.class public Main
+.super java/lang/Object
+.method public static main([Ljava/lang/String;)V
+    .limit stack 8
+    .limit locals 8
+    bipush 6
+    newarray int
+    astore_1
+    new Lacks
+    invokeinterface I/m()I 1
+    pop
+    return
+.end method

@@ -1,0 +1,12 @@
+.class public Main
+.super java/lang/Object
+.method public static main([Ljava/lang/String;)V
+    .limit stack 8
+    .limit locals 8
+    bipush 6
+    newarray int
+    astore_1
+    getstatic Fails/a I
+    pop
+    return
+.end method

@@ -1,0 +1,13 @@
+.class public Main
+.super java/lang/Object
+.method public static main([Ljava/lang/String;)V
+    .limit stack 8
+    .limit locals 8
+    bipush 8
+    newarray int
+    astore_1
+    aconst_null
+    arraylength
+    pop
+    return
+.end method

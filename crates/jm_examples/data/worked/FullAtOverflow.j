@@ -1,0 +1,15 @@
+.class public Main
+.super java/lang/Object
+.method public static main([Ljava/lang/String;)V
+    .limit stack 8
+    .limit locals 8
+    bipush 8
+    newarray int
+    astore_1
+    invokestatic Main/f()V
+    return
+.end method
+.method static f()V
+    invokestatic Main/f()V
+    return
+.end method

@@ -1,0 +1,11 @@
+.class public Main
+.super java/lang/Object
+.method public static main([Ljava/lang/String;)V
+    .limit stack 8
+    .limit locals 8
+    bipush 8
+    newarray int
+    astore_1
+    aconst_null
+    athrow
+.end method

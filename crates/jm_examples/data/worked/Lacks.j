@@ -1,0 +1,3 @@
+.class public Lacks
+.super java/lang/Object
+.implements I

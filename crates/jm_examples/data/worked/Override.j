@@ -1,0 +1,15 @@
+.class public Main
+.super java/lang/Object
+.method public static main([Ljava/lang/String;)V
+    .limit stack 8
+    .limit locals 8
+    getstatic java/lang/System/out Ljava/io/PrintStream;
+    new B
+    invokeinterface I/m()I 1
+    invokevirtual java/io/PrintStream/println(I)V
+    getstatic java/lang/System/out Ljava/io/PrintStream;
+    new C
+    invokevirtual A/m()I
+    invokevirtual java/io/PrintStream/println(I)V
+    return
+.end method
