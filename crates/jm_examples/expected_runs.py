@@ -5,7 +5,7 @@ A program that needs a part that comes later is refused for the first one, in th
 order of crates/jm_linked/specs/Later.antt: it is looked for in what `javap -v -p`
 prints of a class file, and in the lines of an assembler text. Any other program
 prints what a real Java printed (printed.txt in the folder of its main class), and
-ends with status 0. What the worked programs of data/worked.txt print is in
+ends with status 3 where an exception has ended a thread, else 0. What the worked programs of data/worked.txt print is in
 worked/printed.txt, written by hand from the rules of JVMS. What a closed run of
 data/runs.txt prints, and how its threads end, stands in its folder.
 """
@@ -19,6 +19,7 @@ MEMBER = re.compile(r"^  \S.*;$")
 ATTRIBUTE = re.compile(r"^ {4,6}([A-Z][A-Za-z ]*):")
 INSTRUCTION = re.compile(r"^ *\d+: ([a-z_0-9]+)\s*(.*)$")
 NAMED = re.compile(r"^(?:Method|InterfaceMethod|Field) (\S+?):")
+ENDED = re.compile(r"jm: thread \d+ ended by ")
 LATER_CLASSES = ("java/lang/Thread", "java/lang/IllegalThreadStateException")
 MONITORS = ("monitorenter", "monitorexit")
 
@@ -175,12 +176,15 @@ def text_of(path):
         return text.read()
 
 
+def with_status(text):
+    """What a run prints that comes to its end, with its status."""
+    return f"{text}status {3 if ENDED.search(text) else 0}\n"
+
+
 def closed_run(files):
     """What a closed run prints, and how it ends."""
     folder = os.path.dirname(files[0])
-    ended = text_of(os.path.join(folder, "stderr"))
-    status = 3 if ended else 0
-    return f"{text_of(os.path.join(folder, 'stdout'))}{ended}status {status}\n"
+    return with_status("".join(text_of(f"{folder}/{name}") for name in ("stdout", "stderr")))
 
 
 def words_of_lines(path):
@@ -193,7 +197,7 @@ def programs():
     for files in words_of_lines("programs.txt"):
         yield f"== {os.path.basename(files[0])}\n"
         part = later_part(files)
-        yield later_run(part) if part else f"{printed(files[0])}status 0\n"
+        yield later_run(part) if part else with_status(printed(files[0]))
 
 
 def unlisted_runs():

@@ -1,22 +1,39 @@
 #!/bin/sh
 # Compiles the Java programs under data/java and data/refused again, and prints
 # their tables, and what a real Java prints when it runs those that have a main
-# (data/java/printed.txt) and the worked class file (data/printed.txt). Needs
-# java, javac and javap of JDK 9 to 19 (the last that compile for release 7), and
-# python3. No check runs this: the class files and what is printed are committed.
+# (data/java/printed.txt) and the worked class file (data/printed.txt). Where an
+# exception ends the first thread, what Java says of it stands there in the words of
+# jm run. A constant is read when the program runs only where the compiler knows
+# none: Reading is compiled with the classes of stub/. Needs java, javac and javap
+# of JDK 9 to 19 (the last that compile for release 7), and python3. No check runs
+# this: the class files and what is printed are committed.
 set -eu
 cd "$(dirname "$0")/data/java"
 rm -f ./*.class
+folder=$(mktemp -d)
+trap 'rm -rf "$folder"' EXIT
 
 compile() {
-    javac -Xlint:-options -nowarn -encoding US-ASCII -d . "$@"
+    javac -Xlint:-options -nowarn -encoding US-ASCII "$@"
+}
+
+# Runs a program, and tells the exception that has ended it.
+run() {
+    java -cp . "$1" 2> "$folder/said" && return
+    ended=$(grep '^Exception in thread "main" ' "$folder/said")
+    echo "$ended" | tr . / |
+        sed 's/^Exception in thread "main" \([^: ]*\).*/jm: thread 1 ended by \1/'
 }
 
 compile --release 8 Marker.java Empty.java Arithmetic.java LongArithmetic.java \
     Comparisons.java Switches.java Loops.java Recursion.java Arrays.java \
     Constants.java Texts.java Shapes.java Generic.java LinkedStack.java \
     Anonymous.java Nested.java Varargs.java Interfaces.java ManyLocals.java \
-    ManyConstants.java FarJump.java Caught.java Starting.java
+    ManyConstants.java FarJump.java Caught.java Starting.java \
+    Given.java GivenAlone.java GivenNames.java Unwound.java FailedAbove.java \
+    FailedStart.java
+compile --release 8 -d "$folder" stub/*.java
+compile --release 8 -cp "$folder" Reading.java
 compile --release 8 -g Exceptions.java BuiltInFaults.java Locks.java \
     Threads.java Initializers.java Casts.java OldMembers.java
 compile --release 8 -g:none Fields.java Evaluation.java
@@ -28,11 +45,9 @@ for source in *.java; do
     name=${source%.java}
     grep -q 'static void main(' "$source" || continue
     echo "== $name"
-    java -cp . "$name"
+    run "$name"
 done > printed.txt
 
-folder=$(mktemp -d)
-trap 'rm -rf "$folder"' EXIT
 cp ../sum.class "$folder/Main.class"
 {
     echo "== sum"
