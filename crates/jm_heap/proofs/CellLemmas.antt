@@ -9,11 +9,8 @@ use Rattle.jm_values.specs.Content.{Content, Resident, AllResident, Reached, use
 use Rattle.jm_values.proofs.Reaching.{reached_is_least}
 use Rattle.jm_heap.specs.Cells.{class_size, cells_of_all, resident_cells}
 use Rattle.jm_heap.specs.Collection.{Collected}
-use Rattle.jm_heap.specs.Slots.{AreSound, object_of, named_object, residents_from, name_in, content_of}
+use Rattle.jm_heap.specs.Slots.{AreSound, object_of, named_object, residents_from, name_in, content_of, Object, Slot}
 use Rattle.jm_heap.specs.declared.class_id.ClassId.{ClassId}
-use Rattle.jm_heap.specs.declared.slot.Object.{Object}
-use Rattle.jm_heap.specs.declared.slot.Slot.{Slot}
-use Rattle.jm_heap.specs.declared.slot.Slot.TheVariants.{Free, Taken}
 use Rattle.jm_heap.proofs.ContentLemmas.{Apart, From, slots_show, only_from, tail_apart, apart_of}
 use Rattle.jm_heap.proofs.SoundLemmas.{reached_at}
 
@@ -114,18 +111,18 @@ no_object (Some x) h = absurd (h x refl)
 
 serials_apart : (name : ℕ → ℕ) (i : ℕ) (slots : List Slot) → Apart slots → SerialsApart (residents_from name i slots)
 serials_apart name i [] h = tt
-serials_apart name i (Free n ∷ slots) h = serials_apart name (suc i) slots (tail_apart (Free n) slots h)
-serials_apart name i (Taken o ∷ slots) h =
-    (no_object (object_in (residents_from name (suc i) slots) o.serial) (λ x e. other (only_from name (suc i) slots o.serial x e)), serials_apart name (suc i) slots (tail_apart (Taken o) slots h))
+serials_apart name i (None ∷ slots) h = serials_apart name (suc i) slots (tail_apart None slots h)
+serials_apart name i (Some o ∷ slots) h =
+    (no_object (object_in (residents_from name (suc i) slots) o.serial) (λ x e. other (only_from name (suc i) slots o.serial x e)), serials_apart name (suc i) slots (tail_apart (Some o) slots h))
   where
     other : {x : ObjectOf ClassId} → From name slots o.serial x → ⊥
     other f = let same : zero ≡ suc f.slot = h zero (suc f.slot) o f.object refl f.taken (sym f.serial) in absurd (omega arith)
 
 -- what holds of the serials of objects in slots holds of those of residents
-all_serials : (P : ℕ → Type 0) (name : ℕ → ℕ) (i : ℕ) (slots : List Slot) → ((j : ℕ) (o : Object) → slice_get slots j ≡ Some (Taken o) → P o.serial) → AllSerials (residents_from name i slots) P
+all_serials : (P : ℕ → Type 0) (name : ℕ → ℕ) (i : ℕ) (slots : List Slot) → ((j : ℕ) (o : Object) → slice_get slots j ≡ Some (Some o) → P o.serial) → AllSerials (residents_from name i slots) P
 all_serials P name i [] h = tt
-all_serials P name i (Free n ∷ slots) h = all_serials P name (suc i) slots (λ j o e. h (suc j) o e)
-all_serials P name i (Taken a ∷ slots) h = (h zero a refl, all_serials P name (suc i) slots (λ j o e. h (suc j) o e))
+all_serials P name i (None ∷ slots) h = all_serials P name (suc i) slots (λ j o e. h (suc j) o e)
+all_serials P name i (Some a ∷ slots) h = (h zero a refl, all_serials P name (suc i) slots (λ j o e. h (suc j) o e))
 
 cells_alike : (f g : ℕ → Option (ObjectOf ClassId)) (ks : List ℕ) → ((k : ℕ) → Among k ks → f k ≡ g k) → cells class_size f ks ≡ cells class_size g ks
 cells_alike f g [] h = refl
@@ -169,7 +166,7 @@ module _ (limit next : ℕ) (slots : List Slot) (roots : List ℕ) (s : AreSound
     alike : (k : ℕ) → Among k (reached_from c roots) → object_at new k ≡ object_at c k
     alike k a = g.kept.reached k (least.0 k a)
 
-    in_list : (j : ℕ) (o : Object) → slice_get after j ≡ Some (Taken o) → Among o.serial (reached_from c roots)
+    in_list : (j : ℕ) (o : Object) → slice_get after j ≡ Some (Some o) → Among o.serial (reached_from c roots)
     in_list j o e = least.1 o.serial (g.only o.serial (named_object (name_of new) o) ((slots_show limit next after t).objects (suc j) o (ap object_of e)))
 
     cover : resident_cells new ≤ cells class_size (object_at new) (reached_from c roots)

@@ -12,11 +12,8 @@ use Rattle.jm_values.specs.Objects.{ObjectOf}
 use Rattle.jm_values.specs.Content.{Content, Resident, IsSound, serial_in, serial_at, object_at, name_of}
 use Rattle.jm_values.specs.Content as content
 use Rattle.jm_heap.specs.Cells.{class_size, cells_of_all, resident_cells}
-use Rattle.jm_heap.specs.Slots.{AreSound, object_in, object_of, serial_of, name_in, named_object, residents_from, content_of, slots_cells, slot_cells}
+use Rattle.jm_heap.specs.Slots.{AreSound, object_in, object_of, serial_of, name_in, named_object, residents_from, content_of, slots_cells, slot_cells, Object, Slot}
 use Rattle.jm_heap.specs.declared.class_id.ClassId.{ClassId}
-use Rattle.jm_heap.specs.declared.slot.Object.{Object}
-use Rattle.jm_heap.specs.declared.slot.Slot.{Slot}
-use Rattle.jm_heap.specs.declared.slot.Slot.TheVariants.{Free, Taken}
 use Rattle.jm_heap.proofs.SlotLemmas.{slot_at}
 
 choose_true : {A : Type 0} (b : Bool) (x y : A) → b ≡ true → (elim b as (λ _. A) [ true ↦ x | false ↦ y ]) ≡ x
@@ -44,18 +41,18 @@ other_number a b n = by (eqb_tells a b)
 -- no place of an earlier slot
 too_low : (name : ℕ → ℕ) (i : ℕ) (slots : List Slot) (p : ℕ) → p ≤ i → serial_in (residents_from name i slots) p ≡ None
 too_low name i [] p h = refl
-too_low name i (Free n ∷ slots) p h = too_low name (suc i) slots p (omega arith)
-too_low name i (Taken o ∷ slots) p h =
+too_low name i (None ∷ slots) p h = too_low name (suc i) slots p (omega arith)
+too_low name i (Some o ∷ slots) p h =
     choose_false (nat_eq p (suc i)) (Some o.serial) (serial_in (residents_from name (suc i) slots) p) (other_number p (suc i) (λ e. omega arith))
     ∙ too_low name (suc i) slots p (omega arith)
 
 serial_from : (name : ℕ → ℕ) (i : ℕ) (slots : List Slot) (k q : ℕ) → q ≡ suc (i + k) → serial_in (residents_from name i slots) q ≡ serial_of (object_of (slice_get slots k))
 serial_from name i [] k q e = refl
-serial_from name i (Free n ∷ slots) zero q e = too_low name (suc i) slots q (omega arith)
-serial_from name i (Free n ∷ slots) (suc k) q e = serial_from name (suc i) slots k q (omega arith)
-serial_from name i (Taken o ∷ slots) zero q e =
+serial_from name i (None ∷ slots) zero q e = too_low name (suc i) slots q (omega arith)
+serial_from name i (None ∷ slots) (suc k) q e = serial_from name (suc i) slots k q (omega arith)
+serial_from name i (Some o ∷ slots) zero q e =
     choose_true (nat_eq q (suc i)) (Some o.serial) (serial_in (residents_from name (suc i) slots) q) (same_number q (suc i) (omega arith))
-serial_from name i (Taken o ∷ slots) (suc k) q e =
+serial_from name i (Some o ∷ slots) (suc k) q e =
     choose_false (nat_eq q (suc i)) (Some o.serial) (serial_in (residents_from name (suc i) slots) q) (other_number q (suc i) (λ h. omega arith))
     ∙ serial_from name (suc i) slots k q (omega arith)
 
@@ -66,7 +63,7 @@ serial_of_place limit next slots zero = too_low (name_in slots) 0 slots zero (om
 serial_of_place limit next slots (suc i) = serial_from (name_in slots) 0 slots i (suc i) (omega arith)
 
 abbrev pub Apart : List Slot → Type 0
-Apart slots = (j k : ℕ) (a b : Object) → slice_get slots j ≡ Some (Taken a) → slice_get slots k ≡ Some (Taken b) → a.serial ≡ b.serial → j ≡ k
+Apart slots = (j k : ℕ) (a b : Object) → slice_get slots j ≡ Some (Some a) → slice_get slots k ≡ Some (Some b) → a.serial ≡ b.serial → j ≡ k
 
 pub tail_apart : (s : Slot) (slots : List Slot) → Apart (s ∷ slots) → Apart slots
 tail_apart s slots h j k a b e f g = let same : suc j ≡ suc k = h (suc j) (suc k) a b e f g in omega arith
@@ -74,23 +71,23 @@ tail_apart s slots h j k a b e f g = let same : suc j ≡ suc k = h (suc j) (suc
 pub apart_of : (next : ℕ) (slots : List Slot) → AreSound next slots → Apart slots
 apart_of next slots s j k a b e f g = let same : suc j ≡ suc k = s.apart (suc j) (suc k) a b (ap object_of e) (ap object_of f) g in omega arith
 
-object_from : (name : ℕ → ℕ) (i : ℕ) (slots : List Slot) (k : ℕ) (o : Object) → Apart slots → slice_get slots k ≡ Some (Taken o) → content.object_in (residents_from name i slots) o.serial ≡ Some (named_object name o)
+object_from : (name : ℕ → ℕ) (i : ℕ) (slots : List Slot) (k : ℕ) (o : Object) → Apart slots → slice_get slots k ≡ Some (Some o) → content.object_in (residents_from name i slots) o.serial ≡ Some (named_object name o)
 object_from name i [] k o h e = cc
-object_from name i (Free n ∷ slots) zero o h e = cc
-object_from name i (Free n ∷ slots) (suc k) o h e = object_from name (suc i) slots k o (tail_apart (Free n) slots h) e
-object_from name i (Taken a ∷ slots) zero o h e =
+object_from name i (None ∷ slots) zero o h e = cc
+object_from name i (None ∷ slots) (suc k) o h e = object_from name (suc i) slots k o (tail_apart None slots h) e
+object_from name i (Some a ∷ slots) zero o h e =
     let same : a ≡ o = cc in
     choose_true (nat_eq o.serial a.serial) (Some (named_object name a)) (content.object_in (residents_from name (suc i) slots) o.serial) (same_number o.serial a.serial (ap (λ x. x.serial) (sym same)))
     ∙ ap (λ x. Some (named_object name x)) same
-object_from name i (Taken a ∷ slots) (suc k) o h e =
+object_from name i (Some a ∷ slots) (suc k) o h e =
     choose_false (nat_eq o.serial a.serial) (Some (named_object name a)) (content.object_in (residents_from name (suc i) slots) o.serial) (other_number o.serial a.serial (λ s. let same : zero ≡ suc k = h zero (suc k) a o refl e (sym s) in omega arith))
-    ∙ object_from name (suc i) slots k o (tail_apart (Taken a) slots h) e
+    ∙ object_from name (suc i) slots k o (tail_apart (Some a) slots h) e
 
 -- where an object comes from
 pub record From (name : ℕ → ℕ) (slots : List Slot) (k : ℕ) (x : ObjectOf ClassId) : Type 0 where
   pub slot : ℕ
   pub object : Object
-  pub taken : slice_get slots slot ≡ Some (Taken object)
+  pub taken : slice_get slots slot ≡ Some (Some object)
   pub serial : object.serial ≡ k
   pub named : x ≡ named_object name object
 
@@ -99,15 +96,15 @@ from_tail name s slots k x f = record { slot = suc f.slot; object = f.object; ta
 
 pub only_from : (name : ℕ → ℕ) (i : ℕ) (slots : List Slot) (k : ℕ) (x : ObjectOf ClassId) → content.object_in (residents_from name i slots) k ≡ Some x → From name slots k x
 only_from name i [] k x e = cc
-only_from name i (Free n ∷ slots) k x e = from_tail name (Free n) slots k x (only_from name (suc i) slots k x e)
-only_from name i (Taken o ∷ slots) k x e = by (only_from name (suc i) slots k x) (eqb_tells k o.serial)
+only_from name i (None ∷ slots) k x e = from_tail name None slots k x (only_from name (suc i) slots k x e)
+only_from name i (Some o ∷ slots) k x e = by (only_from name (suc i) slots k x) (eqb_tells k o.serial)
   where
-    by : (content.object_in (residents_from name (suc i) slots) k ≡ Some x → From name slots k x) → ((nat_eq k o.serial ≡ true) × (k ≡ o.serial)) ⊎ ((nat_eq k o.serial ≡ false) × (k ≢ o.serial)) → From name (Taken o ∷ slots) k x
+    by : (content.object_in (residents_from name (suc i) slots) k ≡ Some x → From name slots k x) → ((nat_eq k o.serial ≡ true) × (k ≡ o.serial)) ⊎ ((nat_eq k o.serial ≡ false) × (k ≢ o.serial)) → From name (Some o ∷ slots) k x
     by later (inl t) =
         let it : Some (named_object name o) ≡ Some x = sym (choose_true (nat_eq k o.serial) (Some (named_object name o)) (content.object_in (residents_from name (suc i) slots) k) t.0) ∙ e in
         record { slot = zero; object = o; taken = refl; serial = sym t.1; named = cc }
     by later (inr t) =
-        from_tail name (Taken o) slots k x (later (sym (choose_false (nat_eq k o.serial) (Some (named_object name o)) (content.object_in (residents_from name (suc i) slots) k) t.0) ∙ e))
+        from_tail name (Some o) slots k x (later (sym (choose_false (nat_eq k o.serial) (Some (named_object name o)) (content.object_in (residents_from name (suc i) slots) k) t.0) ∙ e))
 
 -- the cells of the content are those of the slots
 length_renamed : (name : ℕ → ℕ) (vs : List Value) → length (map (rename name) vs) ≡ length vs
@@ -116,14 +113,14 @@ length_renamed name (v ∷ vs) = ap suc (length_renamed name vs)
 
 cells_from : (name : ℕ → ℕ) (i : ℕ) (slots : List Slot) → cells_of_all (residents_from name i slots) ≡ slots_cells slots
 cells_from name i [] = refl
-cells_from name i (Free n ∷ slots) = cells_from name (suc i) slots ∙ sym (sum_by-cons slot_cells (Free n) slots ∙ zero_first (slots_cells slots))
+cells_from name i (None ∷ slots) = cells_from name (suc i) slots ∙ sym (sum_by-cons slot_cells None slots ∙ zero_first (slots_cells slots))
   where
     zero_first : (n : ℕ) → 0 + n ≡ n
     zero_first n = omega arith
-cells_from name i (Taken o ∷ slots) =
-    let total = sum_by-cons slot_cells (Taken o) slots in
+cells_from name i (Some o ∷ slots) =
+    let total = sum_by-cons slot_cells (Some o) slots in
     let rest = cells_from name (suc i) slots in
-    let many = ap (class_size o.class) (length_renamed name o.values.items) in
+    let many = ap (class_size o.class) (length_renamed name o.values) in
     omega (arith, total, rest, many)
 
 pub cells_of_content : (limit next : ℕ) (slots : List Slot) → resident_cells (content_of limit next slots) ≡ slots_cells slots
@@ -143,8 +140,8 @@ rename_all_same f g (v ∷ vs) h =
     ap (λ x. x ∷ map (rename f) vs) (rename_same f g v (λ p a. h p (among_left p (refs v) (stack_shape.refs vs) a)))
     ∙ ap (λ xs. rename g v ∷ xs) (rename_all_same f g vs (λ p a. h p (among_right p (refs v) (stack_shape.refs vs) a)))
 
-pub named_same : (f g : ℕ → ℕ) (o : Object) → ((p : ℕ) → Among p (stack_shape.refs o.values.items) → f p ≡ g p) → named_object f o ≡ named_object g o
-named_same f g o h = ap (λ (vs : List Value). record { type = o.class; values = vs }) (rename_all_same f g o.values.items h)
+pub named_same : (f g : ℕ → ℕ) (o : Object) → ((p : ℕ) → Among p (stack_shape.refs o.values) → f p ≡ g p) → named_object f o ≡ named_object g o
+named_same f g o h = ap (λ (vs : List Value). record { type = o.class; values = vs }) (rename_all_same f g o.values h)
 
 -- a heap's places and the content that they show
 pub record Shows (f : ℕ → Option Object) (c : Content ClassId) : Type 0 where

@@ -10,11 +10,9 @@ use Rattle.jm_values.specs.Objects.{ObjectOf, size_by}
 use Rattle.jm_values.specs.Content.{Content, Kept, Made, IsAtEnd, AllResident, serial_at, object_at, name_of}
 use Rattle.jm_heap.specs.Allocation.{MadeHere}
 use Rattle.jm_heap.specs.Cells.{class_size, resident_cells}
-use Rattle.jm_heap.specs.Slots.{AreSound, object_in, object_cells, serial_of, named_object, content_of, slots_cells}
-use Rattle.jm_heap.specs.Stored.{Stored, IsNew}
+use Rattle.jm_heap.specs.Slots.{AreSound, object_in, object_cells, serial_of, named_object, content_of, slots_cells, Object, Slot}
+use Rattle.jm_heap.specs.Stored.{Stored, numbered}
 use Rattle.jm_heap.specs.declared.class_id.ClassId.{ClassId}
-use Rattle.jm_heap.specs.declared.slot.Object.{Object}
-use Rattle.jm_heap.specs.declared.slot.Slot.{Slot}
 use Rattle.jm_heap.proofs.ContentLemmas.{Shows, slots_show, serial_of_place, cells_of_content, named_same}
 use Rattle.jm_heap.proofs.SoundLemmas.{at_place, some_object, some_is, sound_content, reached_at}
 use Rattle.jm_heap.proofs.SweepingLemmas.{names_same}
@@ -29,11 +27,11 @@ plain_values f (Null ∷ vs) e = ap (λ l. Null ∷ l) (plain_values f vs e)
 plain_values f (Ref p ∷ vs) e = cc
 
 -- one size, by type and length
-same_size : (a : Object) (o : ObjectOf ClassId) → a.class ≡ o.type → a.values.items ≡ o.values → object_cells a ≡ size_by class_size o
-same_size a o type values = ap (λ (t : ClassId). class_size t (length a.values.items)) type ∙ ap (λ (l : List Value). class_size o.type (length l)) values
+same_size : (a : Object) (o : ObjectOf ClassId) → a.class ≡ o.type → a.values ≡ o.values → object_cells a ≡ size_by class_size o
+same_size a o type values = ap (λ (t : ClassId). class_size t (length a.values)) type ∙ ap (λ (l : List Value). class_size o.type (length l)) values
 
 -- sound slots, and an object without references that has come to a free place with the next serial
-module _ (limit next : ℕ) (slots after : List Slot) (s : AreSound next slots) (p : ℕ) (a : Object) (w : Stored slots after p a) (number : a.serial ≡ next) (plain : stack_shape.refs a.values.items ≡ []) (few : length a.values.items < 2 ^ 32) where
+module _ (limit next : ℕ) (slots after : List Slot) (s : AreSound next slots) (p : ℕ) (a : Object) (w : Stored slots after p a) (number : a.serial ≡ next) (plain : stack_shape.refs a.values ≡ []) (few : length a.values < 2 ^ 32) where
   abbrev old : Content ClassId
   old = content_of limit next slots
 
@@ -73,12 +71,12 @@ module _ (limit next : ℕ) (slots after : List Slot) (s : AreSound next slots) 
       low q x (inl h) = let is : x.serial ≡ a.serial = ap (λ z. z.serial) h.1 in omega (arith, is, number)
       low q x (inr h) = let few = s.below q x h in omega (arith, few)
 
-      from : (q : ℕ) (x : Object) → ((q ≡ p) × (x ≡ a)) ⊎ (object_in slots q ≡ Some x) → (k : ℕ) → Among k (stack_shape.refs x.values.items) → is_some (object_in slots k) ≡ true
-      from q x (inl h) k m = absurd (subst (λ l. Among k l) (ap (λ z. stack_shape.refs z.values.items) h.1 ∙ plain) m)
+      from : (q : ℕ) (x : Object) → ((q ≡ p) × (x ≡ a)) ⊎ (object_in slots q ≡ Some x) → (k : ℕ) → Among k (stack_shape.refs x.values) → is_some (object_in slots k) ≡ true
+      from q x (inl h) k m = absurd (subst (λ l. Among k l) (ap (λ z. stack_shape.refs z.values) h.1 ∙ plain) m)
       from q x (inr h) k m = s.closed q x h k m
 
-      brief : (q : ℕ) (x : Object) → ((q ≡ p) × (x ≡ a)) ⊎ (object_in slots q ≡ Some x) → length x.values.items < 2 ^ 32
-      brief q x (inl h) = subst (λ (y : Object). length y.values.items < 2 ^ 32) (sym h.1) few
+      brief : (q : ℕ) (x : Object) → ((q ≡ p) × (x ≡ a)) ⊎ (object_in slots q ≡ Some x) → length x.values < 2 ^ 32
+      brief q x (inl h) = subst (λ (y : Object). length y.values < 2 ^ 32) (sym h.1) few
       brief q x (inr h) = s.short q x h
 
       there : (k : ℕ) → is_some (object_in slots k) ≡ true → is_some (object_in after k) ≡ true
@@ -120,11 +118,11 @@ module _ (limit next : ℕ) (slots after : List Slot) (s : AreSound next slots) 
           subst (λ m. object_at old m ≡ Some (named_object (name_of old) y)) is (shows.objects q y h)
           ∙ ap Some (sym (same_named q y h) ∙ sym named)
 
-  module _ (o : ObjectOf ClassId) (type : a.class ≡ o.type) (values : a.values.items ≡ o.values) where
+  module _ (o : ObjectOf ClassId) (type : a.class ≡ o.type) (values : a.values ≡ o.values) where
     filled : object_at new next ≡ Some o
     filled =
         subst (λ n. object_at new n ≡ Some (named_object (name_of new) a)) number (shows_after.objects p a w.stored)
-        ∙ ap Some (ap (λ (l : List Value). record { type = a.class; values = l }) (plain_values (name_of new) a.values.items plain ∙ values) ∙ ap (λ (t : ClassId). record { type = t; values = o.values }) type)
+        ∙ ap Some (ap (λ (l : List Value). record { type = a.class; values = l }) (plain_values (name_of new) a.values plain ∙ values) ∙ ap (λ (t : ClassId). record { type = t; values = o.values }) type)
 
     placed : serial_at new p ≡ Some next
     placed = serial_of_place limit (next + 1) after p ∙ ap serial_of w.stored ∙ ap Some number
@@ -156,16 +154,16 @@ module _ (limit next : ℕ) (slots after : List Slot) (s : AreSound next slots) 
       unfolding content_of
       made_here = record { made = made; places = places; objects = objects; as_before = only_new; cells = more_cells; within = omega (arith, more_cells, room) }
 
-no_refs : (a : Object) (o : ObjectOf ClassId) → a.values.items ≡ o.values → stack_shape.refs o.values ≡ [] → stack_shape.refs a.values.items ≡ []
+no_refs : (a : Object) (o : ObjectOf ClassId) → a.values ≡ o.values → stack_shape.refs o.values ≡ [] → stack_shape.refs a.values ≡ []
 no_refs a o values plain = ap (λ (l : List Value). stack_shape.refs l) values ∙ plain
 
-as_few : (a : Object) (o : ObjectOf ClassId) → a.values.items ≡ o.values → length o.values < 2 ^ 32 → length a.values.items < 2 ^ 32
+as_few : (a : Object) (o : ObjectOf ClassId) → a.values ≡ o.values → length o.values < 2 ^ 32 → length a.values < 2 ^ 32
 as_few a o values few = subst (λ (l : List Value). length l < 2 ^ 32) (sym values) few
 
-pub sound_made : (next : ℕ) (slots after : List Slot) → AreSound next slots → (p : ℕ) (a : Object) (o : ObjectOf ClassId) → Stored slots after p a → a.serial ≡ next → a.values.items ≡ o.values → stack_shape.refs o.values ≡ [] → length o.values < 2 ^ 32 → AreSound (next + 1) after
+pub sound_made : (next : ℕ) (slots after : List Slot) → AreSound next slots → (p : ℕ) (a : Object) (o : ObjectOf ClassId) → Stored slots after p a → a.serial ≡ next → a.values ≡ o.values → stack_shape.refs o.values ≡ [] → length o.values < 2 ^ 32 → AreSound (next + 1) after
 sound_made next slots after s p a o w number values plain few = sound_after 0 next slots after s p a w number (no_refs a o values plain) (as_few a o values few)
 
-pub made_at : (limit next : ℕ) (slots after : List Slot) (d : Content ClassId) → content_of limit next slots ≡ d → AreSound next slots → (p : ℕ) (a : Object) (o : ObjectOf ClassId) → Stored slots after p a → a.serial ≡ next → a.class ≡ o.type → a.values.items ≡ o.values → stack_shape.refs o.values ≡ [] → length o.values < 2 ^ 32 → slots_cells slots + size_by class_size o ≤ limit → next < 2 ^ 63 → MadeHere d (content_of limit (next + 1) after) p o
+pub made_at : (limit next : ℕ) (slots after : List Slot) (d : Content ClassId) → content_of limit next slots ≡ d → AreSound next slots → (p : ℕ) (a : Object) (o : ObjectOf ClassId) → Stored slots after p a → a.serial ≡ next → a.class ≡ o.type → a.values ≡ o.values → stack_shape.refs o.values ≡ [] → length o.values < 2 ^ 32 → slots_cells slots + size_by class_size o ≤ limit → next < 2 ^ 63 → MadeHere d (content_of limit (next + 1) after) p o
 made_at limit next slots after d e s p a o w number type values plain few room lasts =
     let cells = cells_of_content limit next slots in
     subst (λ x. MadeHere x (content_of limit (next + 1) after) p o) e (made_here limit next slots after s p a w number (no_refs a o values plain) (as_few a o values few) o type values (omega (arith, cells, room)) lasts)
@@ -188,8 +186,8 @@ end_here limit next slots s o room last roots r =
 pub at_end : (limit next : ℕ) (slots : List Slot) (d : Content ClassId) → content_of limit next slots ≡ d → AreSound next slots → (o : ObjectOf ClassId) → slots_cells slots + size_by class_size o ≤ limit → 2 ^ 63 ≤ next → (roots : List ℕ) → AllResident d roots → IsAtEnd class_size d roots o
 at_end limit next slots d e s o room last = subst (λ x. (roots : List ℕ) → AllResident x roots → IsAtEnd class_size x roots o) e (end_here limit next slots s o room last)
 
-pub new_size : (serial : ℕ) (a : Object) (o : ObjectOf ClassId) → IsNew a serial o → object_cells a ≡ size_by class_size o
-new_size serial a o w = same_size a o w.class w.values
+pub new_size : (serial : ℕ) (o : ObjectOf ClassId) → object_cells (numbered serial o) ≡ size_by class_size o
+new_size serial o = same_size (numbered serial o) o refl refl
 
 pub on_err : {T E P : Type 0} (r : Result T E) → P → OnErr r P
 on_err (Ok x) h = tt

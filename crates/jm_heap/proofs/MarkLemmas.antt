@@ -13,9 +13,7 @@ use Rattle.jm_values.specs.Objects.{refs_of}
 use Rattle.jm_values.specs.Reach.{Reach, root, field}
 use Rattle.jm_values.proofs.Reaching.{reach_within}
 use Rattle.jm_heap.specs.Marks.{MarkedAll, AreReached, IsClosed, plain_object, objects_of, unmarked}
-use Rattle.jm_heap.specs.Slots.{object_in, object_of, is_marked}
-use Rattle.jm_heap.specs.declared.slot.Object.{Object}
-use Rattle.jm_heap.specs.declared.slot.Slot.{Slot}
+use Rattle.jm_heap.specs.Slots.{object_in, object_of, values_of, is_marked, Object, Slot}
 use Rattle.jm_heap.proofs.SlotLemmas.{get_set_same, get_set_other}
 
 pub marked_none : (m : List Bool) (s : List ℕ) → MarkedAll [] m s m s
@@ -234,6 +232,11 @@ frontier_is_reach slots roots marks f = record {
     over : (j k : ℕ) → Among j [] ⊎ ((i : ℕ) → Among i (refs_of (objects_of slots j)) → is_marked marks i ≡ true) → Among k (refs_of (objects_of slots j)) → is_marked marks k ≡ true
     over j k (inl h) a = absurd h
     over j k (inr h) a = h k a
+
+-- an object names what its values name
+pub values_named : (o : Option Object) → refs_of (plain_object o) ≡ stack_shape.refs (values_of o)
+values_named None = refl
+values_named (Some a) = refl
 
 -- a place with an object is within the slots
 pub within_slots : (slots : List Slot) (q : ℕ) → is_some (object_in slots q) ≡ true → q ≤ length slots

@@ -10,10 +10,8 @@ use Rattle.jm_values.specs.Shape.{Among}
 use Rattle.jm_values.specs.Reach.{AllDistinct}
 use Rattle.jm_values.specs.Content.{Content, serial_at}
 use Rattle.jm_heap.specs.Residents.{AreResident}
-use Rattle.jm_heap.specs.Slots.{AreSound, object_in, object_of, serial_of, serials_of, content_of}
+use Rattle.jm_heap.specs.Slots.{AreSound, object_in, object_of, serial_of, serials_of, content_of, Object, Slot}
 use Rattle.jm_heap.specs.declared.class_id.ClassId.{ClassId}
-use Rattle.jm_heap.specs.declared.slot.Object.{Object}
-use Rattle.jm_heap.specs.declared.slot.Slot.{Slot}
 use Rattle.jm_heap.proofs.CellLemmas.{Told}
 use Rattle.jm_heap.proofs.ContentLemmas.{apart_of, serial_of_place}
 use Rattle.jm_heap.proofs.SerialLemmas.{serial_lies, serial_listed, serials_distinct}

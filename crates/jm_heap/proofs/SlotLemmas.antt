@@ -4,14 +4,10 @@ use Rattle.std.specs.Prelude.{slice_get, slice_set, slice_index_or}
 use Rattle.std.proofs.lemmas.List.Sums.{sum_by-set, sum_by_push}
 use Rattle.std.proofs.lemmas.List.{length-set}
 use Rattle.std.proofs.lemmas.Option.{get_or_from_slice_get, slice_get_within, slice_get-get_or}
-use Rattle.std.specs.Vec.{with_item}
 use Rattle.jm_values.specs.declared.value.Value.{Value}
 use Rattle.jm_heap.specs.Cells.{class_size}
-use Rattle.jm_heap.specs.Slots.{object_in, object_of, object_cells, slot_cells, slots_cells}
+use Rattle.jm_heap.specs.Slots.{object_in, object_of, object_cells, slot_cells, slots_cells, set_value, with_value, Object, Slot}
 use Rattle.jm_heap.specs.Stored.{Written, Stored}
-use Rattle.jm_heap.specs.declared.slot.Object.{Object}
-use Rattle.jm_heap.specs.declared.slot.Slot.{Slot}
-use Rattle.jm_heap.specs.declared.slot.Slot.TheVariants.{Free, Taken}
 
 pub get_set_same : {X : Type 0} (xs : List X) (i : ℕ) (x : X) → i < length xs → slice_get (slice_set xs i x) i ≡ Some x
 get_set_same [] i x h = absurd (omega arith)
@@ -56,71 +52,65 @@ cells_set slots m s t e =
     subst (λ x. slots_cells (slice_set slots m t) + slot_cells x ≡ slots_cells slots + slot_cells t) at (sum_by-set slot_cells slots m t s within)
 
 -- a place with an object has a slot
-pub slot_at : (slots : List Slot) (m : ℕ) (a : Object) → object_in slots (suc m) ≡ Some a → slice_get slots m ≡ Some (Taken a)
+pub slot_at : (slots : List Slot) (m : ℕ) (a : Object) → object_in slots (suc m) ≡ Some a → slice_get slots m ≡ Some (Some a)
 slot_at slots m a e = by (slice_get slots m) e
   where
-    by : (s : Option Slot) → object_of s ≡ Some a → s ≡ Some (Taken a)
+    by : (s : Option Slot) → object_of s ≡ Some a → s ≡ Some (Some a)
     by None h = cc
-    by (Some (Free n)) h = cc
-    by (Some (Taken o)) h = let same : o ≡ a = cc in ap (λ x. Some (Taken x)) same
+    by (Some s) h = ap Some h
 
-written_at : (slots : List Slot) (m i : ℕ) (v : Value) (o : Object) → slice_get slots m ≡ Some (Taken o) → Written slots (slice_set slots m (Taken (record { serial = o.serial; class = o.class; values = with_item o.values i v }))) (suc m) i v
+written_at : (slots : List Slot) (m i : ℕ) (v : Value) (o : Object) → slice_get slots m ≡ Some (Some o) → Written slots (slice_set slots m (Some (set_value o i v))) (suc m) i v
 written_at slots m i v o e = record {
-  others = λ q h. others_set slots m (Taken new) q h;
-  written = λ a h k. let same : o ≡ a = one a h in (new, ap object_of (get_set_same slots m (Taken new) (slice_get_within slots m (Taken o) e)), record { serial = ap (λ x. x.serial) same; class = ap (λ x. x.class) same; values = ap (λ x. slice_set x.values.items i v) same });
-  cells = let total : slots_cells (slice_set slots m (Taken new)) + object_cells o ≡ slots_cells slots + object_cells new = cells_set slots m (Taken o) (Taken new) e in
-      let many : class_size o.class (length (slice_set o.values.items i v)) ≡ class_size o.class (length o.values.items) = ap (class_size o.class) (length-set o.values.items i v) in
+  others = λ q h. others_set slots m (Some new) q h;
+  written = λ a h k. let same : o ≡ a = one a h in (new, ap object_of (get_set_same slots m (Some new) (slice_get_within slots m (Some o) e)), record { serial = ap (λ x. x.serial) same; class = ap (λ x. x.class) same; values = ap (λ x. slice_set x.values i v) same });
+  cells = let total : slots_cells (slice_set slots m (Some new)) + object_cells o ≡ slots_cells slots + object_cells new = cells_set slots m (Some o) (Some new) e in
+      let many : class_size o.class (length (slice_set o.values i v)) ≡ class_size o.class (length o.values) = ap (class_size o.class) (length-set o.values i v) in
       omega (arith, total, many);
-  many = length-set slots m (Taken new);
+  many = length-set slots m (Some new);
 }
   where
     new : Object
-    new = record { serial = o.serial; class = o.class; values = with_item o.values i v }
+    new = set_value o i v
 
     one : (a : Object) → object_of (slice_get slots m) ≡ Some a → o ≡ a
-    one a h = let k : object_of (Some (Taken o)) ≡ Some a = subst (λ s. object_of s ≡ Some a) e h in cc
+    one a h = let k : object_of (Some (Some o)) ≡ Some a = subst (λ s. object_of s ≡ Some a) e h in cc
+
+-- the slot that is read where an object lies
+pub slot_read : (slots : List Slot) (p m : ℕ) (s : Slot) (a : Object) → p ≡ suc m → s ≡ slice_index_or slots m s → object_in slots p ≡ Some a → s ≡ Some a
+slot_read slots p m s a e r h =
+    let there : slice_get slots m ≡ Some (Some a) = slot_at slots m a (subst (λ q. object_in slots q ≡ Some a) e h) in
+    let within : m < length slots = slice_get_within slots m (Some a) there in
+    let read : slice_get slots m ≡ Some s = slice_get-get_or slots m s within ∙ ap Some (sym r) in
+    cc
 
 -- a write of one value, from what the code read
-pub write_at : (slots : List Slot) (p m i : ℕ) (v : Value) (s : Slot) (o a : Object) → p ≡ suc m → s ≡ Taken o → s ≡ slice_index_or slots m s → object_in slots p ≡ Some a → Written slots (slice_set slots m (Taken (record { serial = o.serial; class = o.class; values = with_item o.values i v }))) p i v
-write_at slots p m i v s o a e t r h =
-    let there : slice_get slots m ≡ Some (Taken a) = slot_at slots m a (subst (λ q. object_in slots q ≡ Some a) e h) in
-    let within : m < length slots = slice_get_within slots m (Taken a) there in
-    let read : slice_get slots m ≡ Some s = slice_get-get_or slots m s within ∙ ap Some (sym r) in
-    let found : slice_get slots m ≡ Some (Taken o) = read ∙ ap Some t in
-    subst (λ q. Written slots (slice_set slots m (Taken (record { serial = o.serial; class = o.class; values = with_item o.values i v }))) q i v) (sym e) (written_at slots m i v o found)
-
--- no slot that is free has an object
-pub not_free : {W : Type 0} (slots : List Slot) (p m next : ℕ) (s : Slot) (a : Object) → p ≡ suc m → s ≡ Free next → s ≡ slice_index_or slots m s → object_in slots p ≡ Some a → W
-not_free slots p m next s a e t r h =
-    let there : slice_get slots m ≡ Some (Taken a) = slot_at slots m a (subst (λ q. object_in slots q ≡ Some a) e h) in
-    let within : m < length slots = slice_get_within slots m (Taken a) there in
-    let read : slice_get slots m ≡ Some s = slice_get-get_or slots m s within ∙ ap Some (sym r) in
-    absurd (cc)
+pub write_at : (slots : List Slot) (p m i : ℕ) (v : Value) (s : Slot) (a : Object) → p ≡ suc m → s ≡ slice_index_or slots m s → object_in slots p ≡ Some a → Written slots (slice_set slots m (with_value s i v)) p i v
+write_at slots p m i v s a e r h =
+    let there : slice_get slots m ≡ Some (Some a) = slot_at slots m a (subst (λ q. object_in slots q ≡ Some a) e h) in
+    let taken : Some a ≡ s = sym (slot_read slots p m s a e r h) in
+    subst (λ q. Written slots (slice_set slots m (with_value s i v)) q i v) (sym e) (subst (λ (t : Slot). Written slots (slice_set slots m (with_value t i v)) (suc m) i v) taken (written_at slots m i v a there))
 
 -- an object comes to a free slot, or to a new one
-pub stored_in_free : (slots : List Slot) (p m next : ℕ) (s : Slot) (o : Object) → p ≡ suc m → s ≡ Free next → m < length slots → s ≡ slice_index_or slots m s → length slots < 2 ^ 63 → Stored slots (slice_set slots m (Taken o)) p o
-stored_in_free slots p m next s o e t within r few =
-    subst (λ q. Stored slots (slice_set slots m (Taken o)) q o) (sym e) (record {
+pub stored_in_free : (slots : List Slot) (p m : ℕ) (o : Object) → p ≡ suc m → slice_get slots m ≡ Some None → length slots < 2 ^ 63 → Stored slots (slice_set slots m (Some o)) p o
+stored_in_free slots p m o e found few =
+    subst (λ q. Stored slots (slice_set slots m (Some o)) q o) (sym e) (record {
       fresh = ap object_of found;
-      stored = ap object_of (get_set_same slots m (Taken o) within);
-      others = λ q h. others_set slots m (Taken o) q h;
-      cells = let total : slots_cells (slice_set slots m (Taken o)) + 0 ≡ slots_cells slots + object_cells o = cells_set slots m (Free next) (Taken o) found in omega (arith, total);
-      few = let same : length (slice_set slots m (Taken o)) ≡ length slots = length-set slots m (Taken o) in omega (arith, same, few);
+      stored = ap object_of (get_set_same slots m (Some o) (slice_get_within slots m None found));
+      others = λ q h. others_set slots m (Some o) q h;
+      cells = let total : slots_cells (slice_set slots m (Some o)) + 0 ≡ slots_cells slots + object_cells o = cells_set slots m None (Some o) found in omega (arith, total);
+      few = let same : length (slice_set slots m (Some o)) ≡ length slots = length-set slots m (Some o) in omega (arith, same, few);
     })
-  where
-    found : slice_get slots m ≡ Some (Free next)
-    found = slice_get-get_or slots m s within ∙ ap Some (sym r) ∙ ap Some t
 
-pub stored_at_end : (slots : List Slot) (p : ℕ) (o : Object) → p ≡ suc (length slots) → length slots < 9223372036854775807 → Stored slots (slots ++ Taken o ∷ []) p o
+pub stored_at_end : (slots : List Slot) (p : ℕ) (o : Object) → p ≡ suc (length slots) → length slots < 9223372036854775807 → Stored slots (slots ++ Some o ∷ []) p o
 stored_at_end slots p o e few =
-    subst (λ q. Stored slots (slots ++ Taken o ∷ []) q o) (sym e) (record {
+    subst (λ q. Stored slots (slots ++ Some o ∷ []) q o) (sym e) (record {
       fresh = ap object_of (get_past slots);
-      stored = ap object_of (get_end slots (Taken o));
-      others = λ q h. others_push slots (Taken o) q h;
-      cells = sum_by_push slot_cells slots (Taken o);
-      few = let many : length (slots ++ Taken o ∷ []) ≡ suc (length slots) = longer slots in omega (arith, many, few);
+      stored = ap object_of (get_end slots (Some o));
+      others = λ q h. others_push slots (Some o) q h;
+      cells = sum_by_push slot_cells slots (Some o);
+      few = let many : length (slots ++ Some o ∷ []) ≡ suc (length slots) = longer slots in omega (arith, many, few);
     })
   where
-    longer : (xs : List Slot) → length (xs ++ Taken o ∷ []) ≡ suc (length xs)
+    longer : (xs : List Slot) → length (xs ++ Some o ∷ []) ≡ suc (length xs)
     longer [] = refl
     longer (x ∷ xs) = ap suc (longer xs)

@@ -10,10 +10,8 @@ use Rattle.jm_values.specs.Objects.{refs_of}
 use Rattle.jm_values.specs.Content.{Content, IsSound, AllResident, Reached, serial_at, object_at, name_of}
 use Rattle.jm_values.proofs.Reaching.{reach_within}
 use Rattle.jm_heap.specs.Marks.{objects_of, plain_object}
-use Rattle.jm_heap.specs.Slots.{AreSound, object_in, object_of, serial_of, name_in, named_object, content_of}
+use Rattle.jm_heap.specs.Slots.{AreSound, object_in, object_of, serial_of, name_in, named_object, content_of, Object, Slot}
 use Rattle.jm_heap.specs.declared.class_id.ClassId.{ClassId}
-use Rattle.jm_heap.specs.declared.slot.Object.{Object}
-use Rattle.jm_heap.specs.declared.slot.Slot.{Slot}
 use Rattle.jm_heap.proofs.ContentLemmas.{Shows, slots_show, apart_of}
 use Rattle.jm_heap.proofs.SerialLemmas.{At, serial_lies, serials_distinct, serials_are, places_distinct}
 
@@ -101,8 +99,8 @@ reached_at limit next slots roots s r = reach_within (ReachedAt slots roots) at_
     over : (j k : ℕ) → ReachedAt slots roots j → Among k (refs_of (object_at (content_of limit next slots) j)) → ReachedAt slots roots k
     over j k x a =
         let here : object_at (content_of limit next slots) j ≡ Some (named_object (name_of (content_of limit next slots)) x.object) = subst (λ n. object_at (content_of limit next slots) n ≡ Some (named_object (name_of (content_of limit next slots)) x.object)) x.serial (shows.objects x.place x.object x.lies) in
-        let named : Among k (stack_shape.refs (map (rename (name_of (content_of limit next slots))) x.object.values.items)) = subst (λ o. Among k (refs_of o)) here a in
-        let m = among_of_map (name_of (content_of limit next slots)) k (stack_shape.refs x.object.values.items) (subst (λ l. Among k l) (refs_renamed (name_of (content_of limit next slots)) x.object.values.items) named) in
+        let named : Among k (stack_shape.refs (map (rename (name_of (content_of limit next slots))) x.object.values)) = subst (λ o. Among k (refs_of o)) here a in
+        let m = among_of_map (name_of (content_of limit next slots)) k (stack_shape.refs x.object.values) (subst (λ l. Among k l) (refs_renamed (name_of (content_of limit next slots)) x.object.values) named) in
         from_place m.0 k m.2 (field x.place m.0 x.reach (subst (λ o. Among m.0 (refs_of (plain_object o))) (sym x.lies) m.1)) (some_object (object_in slots m.0) (s.closed x.place x.object x.lies m.0 m.1))
 
 -- a place with an object, whose serial is reached
@@ -125,9 +123,9 @@ reached_name limit next slots roots s r p h = (reach_within (NamedAt (content_of
     over : (j k : ℕ) → NamedAt (content_of limit next slots) slots roots j → Among k (refs_of (objects_of slots j)) → NamedAt (content_of limit next slots) slots roots k
     over j k x a =
         let o = x.0.0 in
-        let named_refs : Among k (stack_shape.refs o.values.items) = subst (λ o. Among k (refs_of (plain_object o))) x.0.1 a in
+        let named_refs : Among k (stack_shape.refs o.values) = subst (λ o. Among k (refs_of (plain_object o))) x.0.1 a in
         let serial : name_of (content_of limit next slots) j ≡ o.serial = name_is (object_in slots) (content_of limit next slots) shows j o x.0.1 in
         let here : object_at (content_of limit next slots) (name_of (content_of limit next slots) j) ≡ Some (named_object (name_of (content_of limit next slots)) o) = ap (object_at (content_of limit next slots)) serial ∙ shows.objects j o x.0.1 in (
           some_object (object_in slots k) (s.closed j o x.0.1 k named_refs),
-          field (name_of (content_of limit next slots) j) (name_of (content_of limit next slots) k) x.1 (subst (λ o. Among (name_of (content_of limit next slots) k) (refs_of o)) (sym here) (subst (λ l. Among (name_of (content_of limit next slots) k) l) (sym (refs_renamed (name_of (content_of limit next slots)) o.values.items)) (among_map (name_of (content_of limit next slots)) k (stack_shape.refs o.values.items) named_refs))),
+          field (name_of (content_of limit next slots) j) (name_of (content_of limit next slots) k) x.1 (subst (λ o. Among (name_of (content_of limit next slots) k) (refs_of o)) (sym here) (subst (λ l. Among (name_of (content_of limit next slots) k) l) (sym (refs_renamed (name_of (content_of limit next slots)) o.values)) (among_map (name_of (content_of limit next slots)) k (stack_shape.refs o.values) named_refs))),
         )

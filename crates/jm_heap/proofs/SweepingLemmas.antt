@@ -8,11 +8,9 @@ use Rattle.jm_values.specs.Reach.{Reach, root, field}
 use Rattle.jm_values.specs.Content.{Content, IsSound, Kept, AllResident, Reached, serial_at, object_at, name_of}
 use Rattle.jm_heap.specs.Collection.{Collected}
 use Rattle.jm_heap.specs.Marks.{AreReached, objects_of, plain_object}
-use Rattle.jm_heap.specs.Slots.{AreSound, object_in, serial_of, named_object, content_of, is_marked}
+use Rattle.jm_heap.specs.Slots.{AreSound, object_in, serial_of, named_object, content_of, is_marked, Object, Slot}
 use Rattle.jm_heap.specs.Stored.{Swept}
 use Rattle.jm_heap.specs.declared.class_id.ClassId.{ClassId}
-use Rattle.jm_heap.specs.declared.slot.Object.{Object}
-use Rattle.jm_heap.specs.declared.slot.Slot.{Slot}
 use Rattle.jm_heap.proofs.ContentLemmas.{Shows, slots_show, serial_of_place, named_same}
 use Rattle.jm_heap.proofs.SoundLemmas.{ReachedAt, at_place, serial_is, name_is, some_is, sound_content, reached_at, reached_name}
 
@@ -40,7 +38,7 @@ module _ (limit next : ℕ) (slots after : List Slot) (roots : List ℕ) (marks 
       by true m = record { lay = sym (w.kept p m) ∙ e; marked = m }
       by false m = let none : object_in after p ≡ None = w.gone p m in absurd (cc)
 
-  refs_marked : (p : ℕ) (x : Object) → object_in slots p ≡ Some x → is_marked marks p ≡ true → (q : ℕ) → Among q (stack_shape.refs x.values.items) → is_marked marks q ≡ true
+  refs_marked : (p : ℕ) (x : Object) → object_in slots p ≡ Some x → is_marked marks p ≡ true → (q : ℕ) → Among q (stack_shape.refs x.values) → is_marked marks q ≡ true
   refs_marked p x e m q a = reached.marked q (field p q (reached.reached p m) (subst (λ o. Among q (refs_of (plain_object o))) (sym e) a))
 
   sound_after : AreSound next after

@@ -10,11 +10,9 @@ use Rattle.jm_values.proofs.Among.{among_left, among_right, among_split}
 use Rattle.jm_values.proofs.Lists.{map_set}
 use Rattle.jm_values.specs.Objects.{ObjectOf}
 use Rattle.jm_values.specs.Content.{Content, IsSet, HasValue, AllResident, serial_at, object_at, name_of}
-use Rattle.jm_heap.specs.Slots.{AreSound, object_in, serial_of, named_object, content_of}
+use Rattle.jm_heap.specs.Slots.{AreSound, object_in, serial_of, named_object, content_of, Object, Slot}
 use Rattle.jm_heap.specs.Stored.{Written, IsWritten}
 use Rattle.jm_heap.specs.declared.class_id.ClassId.{ClassId}
-use Rattle.jm_heap.specs.declared.slot.Object.{Object}
-use Rattle.jm_heap.specs.declared.slot.Slot.{Slot}
 use Rattle.jm_heap.proofs.ContentLemmas.{Shows, slots_show, serial_of_place, named_same}
 use Rattle.jm_heap.proofs.SoundLemmas.{at_place, serial_is, some_is, sound_content}
 use Rattle.jm_heap.proofs.ReadingLemmas.{value_within, object_read}
@@ -46,10 +44,10 @@ module _ (limit next : ℕ) (slots after : List Slot) (s : AreSound next slots) 
     object : Object
     lay : object_in slots q ≡ Some object
     serial : x.serial ≡ object.serial
-    many : length x.values.items ≡ length object.values.items
-    refs_from : (k : ℕ) → Among k (stack_shape.refs x.values.items) → is_some (object_in slots k) ≡ true
+    many : length x.values ≡ length object.values
+    refs_from : (k : ℕ) → Among k (stack_shape.refs x.values) → is_some (object_in slots k) ≡ true
 
-  from_both : (k : ℕ) → Among k (stack_shape.refs a.values.items) ⊎ Among k (refs v) → is_some (object_in slots k) ≡ true
+  from_both : (k : ℕ) → Among k (stack_shape.refs a.values) ⊎ Among k (refs v) → is_some (object_in slots k) ≡ true
   from_both k (inl m) = s.closed p a lies k m
   from_both k (inr m) = names k m
 
@@ -64,8 +62,8 @@ module _ (limit next : ℕ) (slots after : List Slot) (s : AreSound next slots) 
             object = a;
             lay = subst (λ n. object_in slots n ≡ Some a) (sym t.1) lies;
             serial = ap (λ y. y.serial) (sym same) ∙ w.serial;
-            many = ap (λ y. length y.values.items) (sym same) ∙ ap (λ (l : List Value). length l) w.values ∙ length-set a.values.items i v;
-            refs_from = λ k m. from_both k (among_set a.values.items i v k (subst (λ l. Among k (stack_shape.refs l)) (ap (λ y. y.values.items) (sym same) ∙ w.values) m));
+            many = ap (λ y. length y.values) (sym same) ∙ ap (λ (l : List Value). length l) w.values ∙ length-set a.values i v;
+            refs_from = λ k m. from_both k (among_set a.values i v k (subst (λ l. Among k (stack_shape.refs l)) (ap (λ y. y.values) (sym same) ∙ w.values) m));
           }
       by (inr t) =
           let same : object_in slots q ≡ Some x = sym (others q t.1) ∙ e in
@@ -112,11 +110,11 @@ module _ (limit next : ℕ) (slots after : List Slot) (s : AreSound next slots) 
   shows_after : Shows (object_in after) new
   shows_after = slots_show limit next after sound_after
 
-  written_object : named_object (name_of new) b ≡ record { type = a.class; values = slice_set (map (rename (name_of old)) a.values.items) i (rename (name_of old) v) }
+  written_object : named_object (name_of new) b ≡ record { type = a.class; values = slice_set (map (rename (name_of old)) a.values) i (rename (name_of old) v) }
   written_object =
       named_same (name_of new) (name_of old) b (λ q m. named q)
-      ∙ ap (λ (c : ClassId). record { type = c; values = map (rename (name_of old)) b.values.items }) w.class
-      ∙ ap (λ (l : List Value). record { type = a.class; values = l }) (ap (map (rename (name_of old))) w.values ∙ map_set (rename (name_of old)) a.values.items i v)
+      ∙ ap (λ (c : ClassId). record { type = c; values = map (rename (name_of old)) b.values }) w.class
+      ∙ ap (λ (l : List Value). record { type = a.class; values = l }) (ap (map (rename (name_of old))) w.values ∙ map_set (rename (name_of old)) a.values i v)
 
   changed : (k : ℕ) (o : ObjectOf ClassId) → serial_at old p ≡ Some k → object_at old k ≡ Some o → object_at new k ≡ Some (record { type = o.type; values = slice_set o.values i (rename (name_of old) v) })
   changed k o h g =
@@ -162,7 +160,7 @@ module _ (limit next : ℕ) (slots after : List Slot) (s : AreSound next slots) 
   is_set = record { limit = refl; next = refl; sound = sound_content limit next after sound_after; serials = serials; changed = changed; others = other_objects }
 
 -- the object that a value is written to
-pub target : (limit next : ℕ) (slots : List Slot) (d : Content ClassId) → content_of limit next slots ≡ d → AreSound next slots → (p i : ℕ) (u : Value) → HasValue d p i u → (a : Object) × (object_in slots p ≡ Some a) × (i < length a.values.items)
+pub target : (limit next : ℕ) (slots : List Slot) (d : Content ClassId) → content_of limit next slots ≡ d → AreSound next slots → (p i : ℕ) (u : Value) → HasValue d p i u → (a : Object) × (object_in slots p ≡ Some a) × (i < length a.values)
 target limit next slots d e s p i u h =
     let there : serial_at (content_of limit next slots) p ≡ Some h.0 = subst (λ x. serial_at x p ≡ Some h.0) (sym e) h.2 in
     let x = at_place (object_in slots) (content_of limit next slots) (slots_show limit next slots s) p h.0 there in

@@ -4,6 +4,7 @@ pub mod Residents
 pub mod Allocation
 pub mod Collection
 pub mod Slots
+pub mod Layout
 pub mod Stored
 pub mod Marks
 pub mod PlainHeap

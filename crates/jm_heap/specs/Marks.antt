@@ -4,22 +4,20 @@ use Rattle.jm_values.specs.Shape.{Among}
 use Rattle.jm_values.specs.Rename.{stack_shape}
 use Rattle.jm_values.specs.Objects.{ObjectOf}
 use Rattle.jm_values.specs.Reach.{Reach}
-use Rattle.jm_heap.specs.Slots.{object_in, is_marked}
+use Rattle.jm_heap.specs.Slots.{object_in, is_marked, Object, Slot}
 use Rattle.jm_heap.specs.declared.class_id.ClassId.{ClassId}
-use Rattle.jm_heap.specs.declared.slot.Object.{Object}
-use Rattle.jm_heap.specs.declared.slot.Slot.{Slot}
 
 -- an object as it lies in its slot: its values name places
 abbrev pub plain_object : Option Object → Option (ObjectOf ClassId)
 plain_object None = None
-plain_object (Some o) = Some (record { type = o.class; values = o.values.items })
+plain_object (Some o) = Some (record { type = o.class; values = o.values })
 
 abbrev pub objects_of : List Slot → ℕ → Option (ObjectOf ClassId)
 objects_of slots p = plain_object (object_in slots p)
 
 -- each reference of an object is the place of one
 abbrev pub IsClosed : List Slot → Type 0
-IsClosed slots = (p : ℕ) (a : Object) → object_in slots p ≡ Some a → (q : ℕ) → Among q (stack_shape.refs a.values.items) → is_some (object_in slots q) ≡ true
+IsClosed slots = (p : ℕ) (a : Object) → object_in slots p ≡ Some a → (q : ℕ) → Among q (stack_shape.refs a.values) → is_some (object_in slots q) ≡ true
 
 -- the marks are on exactly the places that are reached
 pub record AreReached (slots : List Slot) (roots : List ℕ) (marks : List Bool) : Type 0 where

@@ -1,7 +1,6 @@
 -- What holds of a plain heap's fields.
 use Rattle.std.specs.Prelude.{◌≡◌, ℕ, ◌<◌, ◌≤◌, ◌^◌, List, length}
-use Rattle.jm_heap.specs.Slots.{AreSound, slots_cells}
-use Rattle.jm_heap.specs.declared.slot.Slot.{Slot}
+use Rattle.jm_heap.specs.Slots.{AreSound, slots_cells, Slot}
 
 pub record IsPlainHeap (limit next used : ℕ) (slots : List Slot) : Type 0 where
   pub sound : AreSound next slots

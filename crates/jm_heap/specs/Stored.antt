@@ -2,27 +2,23 @@
 use Rattle.std.specs.Prelude.{◌≡◌, ◌≢◌, ℕ, ◌+◌, ◌<◌, ◌≤◌, ◌^◌, List, length, Some, None, Bool, true, false, slice_set}
 use Rattle.jm_values.specs.declared.value.Value.{Value}
 use Rattle.jm_values.specs.Objects.{ObjectOf}
-use Rattle.jm_heap.specs.Slots.{object_in, object_cells, slots_cells, is_marked}
+use Rattle.jm_heap.specs.Slots.{object_in, object_cells, slots_cells, is_marked, Object, Slot}
 use Rattle.jm_heap.specs.declared.class_id.ClassId.{ClassId}
-use Rattle.jm_heap.specs.declared.slot.Object.{Object}
-use Rattle.jm_heap.specs.declared.slot.Slot.{Slot}
 
 -- an object with one value changed
 pub record IsWritten (a b : Object) (i : ℕ) (v : Value) : Type 0 where
   pub serial : b.serial ≡ a.serial
   pub class : b.class ≡ a.class
-  pub values : b.values.items ≡ slice_set a.values.items i v
+  pub values : b.values ≡ slice_set a.values i v
 
--- an object that is to be stored, and what it is in the world
-pub record IsNew (a : Object) (serial : ℕ) (o : ObjectOf ClassId) : Type 0 where
-  pub serial_is : a.serial ≡ serial
-  pub class : a.class ≡ o.type
-  pub values : a.values.items ≡ o.values
+-- a new object with its number in the world
+abbrev pub numbered : ℕ → ObjectOf ClassId → Object
+numbered serial o = record { serial = serial; class = o.type; values = o.values }
 
 -- one value of the object at a place is another
 pub record Written (old new : List Slot) (p i : ℕ) (v : Value) : Type 0 where
   pub others : (q : ℕ) → q ≢ p → object_in new q ≡ object_in old q
-  pub written : (a : Object) → object_in old p ≡ Some a → i < length a.values.items → (b : Object) × (object_in new p ≡ Some b) × IsWritten a b i v
+  pub written : (a : Object) → object_in old p ≡ Some a → i < length a.values → (b : Object) × (object_in new p ≡ Some b) × IsWritten a b i v
   pub cells : slots_cells new ≡ slots_cells old
   pub many : length new ≡ length old
 

@@ -11,6 +11,7 @@
 
 mod class_id;
 mod fault;
+mod form;
 mod heap;
 mod mark;
 mod new_object;
@@ -19,6 +20,7 @@ mod resident;
 mod roots;
 mod shape;
 mod slot;
+mod slots;
 mod sweep;
 
 pub use class_id::{ClassId, Component, Element};

@@ -7,7 +7,8 @@ ghost use Rattle.jm_values.specs.Objects.{refs_of};
 ghost use Rattle.jm_heap.specs.Marks.{MarkedAll, AreReached, IsClosed, plain_object};
 ghost use Rattle.jm_heap.specs.Slots.{object_in};
 
-use crate::slot::{Slot, object_at};
+use crate::slot::Slot;
+use crate::slots::values_at;
 use jm_values::{Place, Value};
 use std::alloc::{AllocError, Global};
 
@@ -84,10 +85,7 @@ fn mark_object(
     requires { (p : ℕ) → Among p (refs_of (plain_object (object_in slots.now.items place))) → p ≤ length marks.old.items }
     ensures { OnOk result (MarkedAll (refs_of (plain_object (object_in slots.now.items place))) marks.old.items pending.old.items marks.new.items pending.new.items) }
 {
-    match object_at(slots, place) {
-        Some(object) => mark_values(object.values.as_slice(), marks, pending),
-        None => Ok(()),
-    }
+    mark_values(values_at(slots, place), marks, pending)
 }
 
 // Marks for so many places, none of them on.

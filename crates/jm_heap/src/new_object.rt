@@ -1,15 +1,16 @@
 // The object that is made of a shape.
 
-ghost use Rattle.std.specs.Prelude.{◌≡◌, ◌<◌, ◌^◌, IfOk, length, map, replicate};
+ghost use Rattle.std.specs.Prelude.{◌≡◌, ◌<◌, ◌^◌, IfOk, Some, length, map, replicate};
 ghost use Rattle.jm_values.specs.Objects.{size_by, default_of};
 ghost use Rattle.jm_heap.specs.Cells.{class_size};
 ghost use Rattle.jm_heap.specs.NewObject.{new_object, operand_of_component};
-ghost use Rattle.jm_heap.specs.Stored.{IsNew};
+ghost use Rattle.jm_heap.specs.Layout.{all_values};
+ghost use Rattle.jm_heap.specs.Stored.{numbered};
 ghost use Rattle.jm_heap.specs.declared.class_id.ClassId.TheVariants.{Array};
 
 use crate::class_id::{ClassId, Component, Element};
 use crate::shape::Shape;
-use crate::slot::Object;
+use crate::slot::{Slot, Values};
 use jm_program::{BaseType, OperandType};
 use jm_values::Value;
 use std::alloc::{AllocError, Global};
@@ -81,34 +82,43 @@ fn field_values(alloc: Global, fields: &[OperandType]) -> Result<Vec<Value>, All
     Ok(values)
 }
 
-// So many elements with one value.
-fn elements(alloc: Global, value: Value, length: u32) -> Result<Vec<Value>, AllocError>
-    ensures { IfOk result (λ values. values.items ≡ replicate length value) }
+// The values of an instance.
+fn values_of_instance(alloc: Global, fields: &[OperandType]) -> Result<Values, AllocError>
+    ensures { IfOk result (λ values. all_values values ≡ map default_of fields.now) }
 {
-    vec![in alloc; value; length as usize]
+    match fields {
+        [field] => Ok(Values::One(default_value(*field))),
+        _ => Ok(Values::Many(field_values(alloc, fields)?)),
+    }
+}
+
+// So many elements with one value.
+fn elements(alloc: Global, value: Value, length: u32) -> Result<Values, AllocError>
+    ensures { IfOk result (λ values. all_values values ≡ replicate length value) }
+{
+    if length == 1 {
+        return Ok(Values::One(value));
+    }
+    Ok(Values::Many(vec![in alloc; value; length as usize]?))
 }
 
 // The object's values.
 #[tactic(auto, unfolding(crate::specs::NewObject::new_object))]
-fn values_of(alloc: Global, shape: Shape<'_>) -> Result<Vec<Value>, AllocError>
-    ensures { IfOk result (λ values. values.items ≡ (new_object shape.entry).values) }
+fn values_of(alloc: Global, shape: Shape<'_>) -> Result<Values, AllocError>
+    ensures { IfOk result (λ values. all_values values ≡ (new_object shape.entry).values) }
 {
     match shape {
-        Shape::Instance { fields, .. } => field_values(alloc, fields),
+        Shape::Instance { fields, .. } => values_of_instance(alloc, fields),
         Shape::Array { component, length } => {
             elements(alloc, default_value(operand_of(component)), length)
         }
     }
 }
 
-/// The object, with its number in the world.
-pub fn make(alloc: Global, serial: u64, shape: Shape<'_>) -> Result<Object, AllocError>
-    ensures { IfOk result (λ object. IsNew object serial (new_object shape.entry)) }
+/// A slot with the object, with its number in the world.
+pub fn make(alloc: Global, serial: u64, shape: Shape<'_>) -> Result<Slot, AllocError>
+    ensures { IfOk result (λ slot. slot ≡ Some (numbered serial (new_object shape.entry))) }
 {
     let values = values_of(alloc, shape)?;
-    Ok(Object {
-        serial,
-        class: class_of(shape),
-        values,
-    })
+    Ok(Slot::taken(serial, class_of(shape), values))
 }

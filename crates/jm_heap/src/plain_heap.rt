@@ -20,7 +20,8 @@ use crate::new_object;
 use crate::resident::serials;
 use crate::roots::Roots;
 use crate::shape::Shape;
-use crate::slot::{Slot, object_at, store, write};
+use crate::slot::Slot;
+use crate::slots::{class_at, serial_at, store, values_at, write};
 use crate::sweep::sweep;
 use jm_values::{Place, Value};
 use std::alloc::{AllocError, Global};
@@ -76,10 +77,7 @@ impl PlainHeap {
         ensures value { HasValue self.now place index (rename (name_of self.now) result) }
         ensures resident { AllResident self.now (refs result) }
     {
-        match object_at(&self.slots, place) {
-            Some(object) => object.values[index as usize],
-            None => Value::Null,
-        }
+        values_at(&self.slots, place)[index as usize]
     }
 
     /// Changes one value of the object at a place.
@@ -127,8 +125,8 @@ impl PlainHeap {
         if self.next >= MAX_SERIALS {
             return Err(HeapFault::SerialsEnd);
         }
-        let object = new_object::make(self.alloc, self.next, shape)?;
-        let place = store(&mut self.slots, &mut self.free, object)?;
+        let slot = new_object::make(self.alloc, self.next, shape)?;
+        let place = store(&mut self.slots, &mut self.free, slot)?;
         self.next += 1;
         self.used += cells;
         Ok(Some(place))
@@ -211,10 +209,7 @@ impl PlainHeap {
         requires { (k : ℕ) × (o : ObjectOf ClassId) × (serial_at self.now place ≡ Some k) × (object_at self.now k ≡ Some o) }
         ensures { (k : ℕ) (o : ObjectOf ClassId) → serial_at self.now place ≡ Some k → object_at self.now k ≡ Some o → result ≡ length o.values }
     {
-        match object_at(&self.slots, place) {
-            Some(object) => object.values.len() as u32,
-            None => 0,
-        }
+        values_at(&self.slots, place).len() as u32
     }
 
     /// The class or array type of the object at a place.
@@ -223,10 +218,7 @@ impl PlainHeap {
         requires { (k : ℕ) × (o : ObjectOf ClassId) × (serial_at self.now place ≡ Some k) × (object_at self.now k ≡ Some o) }
         ensures { (k : ℕ) (o : ObjectOf ClassId) → serial_at self.now place ≡ Some k → object_at self.now k ≡ Some o → result ≡ o.type }
     {
-        match object_at(&self.slots, place) {
-            Some(object) => object.class,
-            None => ClassId::Instance(0),
-        }
+        class_at(&self.slots, place).unwrap_or(ClassId::Instance(0))
     }
 
     /// The serial of the object at a place.
@@ -235,10 +227,7 @@ impl PlainHeap {
         requires { (k : ℕ) × (serial_at self.now place ≡ Some k) }
         ensures { serial_at self.now place ≡ Some result }
     {
-        match object_at(&self.slots, place) {
-            Some(object) => object.serial,
-            None => 0,
-        }
+        serial_at(&self.slots, place).unwrap_or(0)
     }
 
     /// The serials of the residents, rising.

@@ -1,27 +1,14 @@
 // The serials of what lies in slots.
 
 ghost use Rattle.std.specs.Prelude.{◌≡◌, IfOk};
-ghost use Rattle.jm_heap.specs.Slots.{slot_serial, serials_of};
+ghost use Rattle.jm_heap.specs.Slots.{serials_of};
 
 use crate::slot::Slot;
 use std::alloc::{AllocError, Global};
-
-// The serial of what lies in a slot.
-fn serial_in(slot: &Slot) -> Option<u64>
-    ensures { result ≡ slot_serial slot.now }
-{
-    match slot {
-        Slot::Free(_) => None,
-        Slot::Taken(object) => Some(object.serial),
-    }
-}
 
 /// The serials of what lies in slots, in the order of the slots.
 pub fn serials(alloc: Global, slots: &Vec<Slot>) -> Result<Vec<u64>, AllocError>
     ensures { IfOk result (λ serials. serials.items ≡ serials_of slots.now.items) }
 {
-    slots
-        .iter()
-        .filter_map(|slot| serial_in(slot))
-        .collect(alloc)
+    slots.iter().filter_map(|slot| slot.serial()).collect(alloc)
 }

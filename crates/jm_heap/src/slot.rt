@@ -1,80 +1,158 @@
-// Where the objects of a plain heap lie.
+// A slot of a plain heap.
 
-ghost use Rattle.std.specs.Prelude.{◌≡◌, Some, IfErr, ◌<◌, ◌^◌, IfOk, OnErr, length};
-ghost use Rattle.std.specs.Option.{option_copied};
-ghost use Rattle.jm_heap.specs.declared.slot.Object.{Object};
-ghost use Rattle.jm_heap.specs.declared.fault.HeapFault.TheVariants.{OutOfMemory};
-ghost use Rattle.jm_heap.specs.Slots.{object_in};
-ghost use Rattle.jm_heap.specs.Stored.{Stored, Written};
+ghost use Rattle.std.specs.Prelude.{◌≡◌, ◌<◌, ◌↔◌, IsSome, None, Some, length};
+ghost use Rattle.jm_heap.specs.Slots.{class_of, serial_of, values_of, with_value};
+ghost use Rattle.jm_heap.specs.Layout.{all_values};
 
 use crate::class_id::ClassId;
-use crate::fault::HeapFault;
-use jm_values::{Place, Value};
-use std::alloc::AllocError;
+use crate::form::{Form, number_of};
+use jm_values::Value;
+use std::marker::Model;
+use std::mem::size_of;
+use std::slice;
 
-/// An object, with its number in the world; its values name places.
+/// The values of a new object.
 #[derive(Drop)]
-pub struct Object {
-    pub serial: u64,
-    pub class: ClassId,
-    pub values: Vec<Value>,
+pub enum Values {
+    /// One value, which takes no memory of its own.
+    One(Value),
+    /// Any values; none take no memory either.
+    Many(Vec<Value>),
 }
 
-/// A slot in which an object lies, or one that is free, with the next free slot, or any number that
-/// is no free slot's at the end.
+// What a slot has. The form and the number of the class come first, since so they take one word
+// with what tells the cases apart.
 #[derive(Drop)]
-pub enum Slot {
-    Free(usize),
-    Taken(Object),
+enum State {
+    Free {
+        next: usize,
+    },
+    One {
+        form: Form,
+        number: u32,
+        serial: u64,
+        value: Value,
+    },
+    Many {
+        form: Form,
+        number: u32,
+        serial: u64,
+        values: Vec<Value>,
+    },
 }
 
-/// How many slots there may be, so that each has a place.
-const MAX_SLOTS: usize = (1 << 63) - 1;
-
-/// The object at a place.
-#[inline]
-pub fn object_at(slots: &Vec<Slot>, place: Place) -> Option<&Object>
-    ensures { option_copied result ≡ object_in slots.now.items place }
-{
-    let number = place.number();
-    match slots.get(number as usize - 1) {
-        Some(Slot::Taken(object)) => Some(object),
-        _ => None,
-    }
+/// A slot in which an object lies, with its number in the world and values that name places; or one
+/// that is free, with the next free slot, or any number that is no free slot's at the end.
+#[derive(Drop)]
+pub struct Slot {
+    state: State,
 }
 
-/// Changes one value of the object at a place.
-#[inline]
-pub fn write(slots: &mut Vec<Slot>, place: Place, index: u32, value: Value)
-    requires { (a : Object) × (object_in slots.old.items place ≡ Some a) × (index < length a.values.items) }
-    ensures { Written slots.old.items slots.new.items place index value }
-{
-    let number = place.number();
-    match &mut slots[number as usize - 1] {
-        Slot::Taken(object) => object.values[index as usize] = value,
-        Slot::Free(_) => {}
-    }
+impl Model for Slot {
+    ghost use Rattle.std.specs.Prelude.{Option};
+    ghost use Rattle.jm_heap.specs.Slots.{Object};
+
+    ghost Value = { Option Object };
+
+    ghost use Rattle.jm_heap.specs.Layout.{object_in_state};
+
+    ghost view = { λ s. object_in_state s.state };
 }
 
-/// Puts an object in a slot that is free, the first of the list of free ones or a new one.
-pub fn store(slots: &mut Vec<Slot>, free: &mut usize, object: Object) -> Result<Place, HeapFault>
-    requires { length slots.old.items < 2 ^ 63 }
-    ensures ok { IfOk result (λ place. Stored slots.old.items slots.new.items place object) }
-    ensures same { OnErr result (slots.new.items ≡ slots.old.items) }
-    ensures err { IfErr result (λ fault. fault ≡ OutOfMemory) }
-{
-    let index = *free;
-    if let Some(Slot::Free(next)) = slots.get(index) {
-        *free = *next;
-        slots[index] = Slot::Taken(object);
-        return Ok(Place::new(index as u64 + 1));
+// An object of 2 or 3 cells takes a slot alone, and so at most 20 bytes a cell.
+const _: () = prove!(size_of::<Slot>() == 40);
+
+impl Slot {
+    /// A slot in which nothing lies, before another one of those.
+    #[inline]
+    pub fn free(next: usize) -> Slot
+        ensures { result ≡ None }
+    {
+        Slot {
+            state: State::Free { next },
+        }
     }
-    let end = slots.len();
-    if end >= MAX_SLOTS {
-        return Err(HeapFault::OutOfMemory);
+
+    /// A slot with an object.
+    pub fn taken(serial: u64, class: ClassId, values: Values) -> Slot
+        ensures { result ≡ Some (record { serial = serial; class = class; values = all_values values }) }
+    {
+        let form = Form::of(class);
+        let number = number_of(class);
+        let state = match values {
+            Values::One(value) => State::One {
+                form,
+                number,
+                serial,
+                value,
+            },
+            Values::Many(values) => State::Many {
+                form,
+                number,
+                serial,
+                values,
+            },
+        };
+        Slot { state }
     }
-    match slots.push(Slot::Taken(object)) {
-        Ok(()) => Ok(Place::new(end as u64 + 1)),
-        Err(refused) => Err(AllocError::from(refused).into()),
+
+    /// The next free slot, of one in which nothing lies.
+    #[inline]
+    pub fn next_free(&self) -> Option<usize>
+        ensures { IsSome result ↔ (self.now ≡ None) }
+    {
+        match &self.state {
+            State::Free { next } => Some(*next),
+            _ => None,
+        }
+    }
+
+    /// The serial of what lies in the slot.
+    #[inline]
+    pub fn serial(&self) -> Option<u64>
+        ensures { result ≡ serial_of self.now }
+    {
+        match &self.state {
+            State::Free { .. } => None,
+            State::One { serial, .. } | State::Many { serial, .. } => Some(*serial),
+        }
+    }
+
+    /// The class or array type of what lies in the slot.
+    #[inline]
+    pub fn class(&self) -> Option<ClassId>
+        ensures { result ≡ class_of self.now }
+    {
+        match &self.state {
+            State::Free { .. } => None,
+            State::One { form, number, .. } | State::Many { form, number, .. } => {
+                Some(form.with_number(*number))
+            }
+        }
+    }
+
+    /// The values of what lies in the slot, none where nothing does.
+    #[inline]
+    pub fn values(&self) -> &[Value]
+        ensures { result.now ≡ values_of self.now }
+    {
+        match &self.state {
+            State::Free { .. } => &[],
+            State::One { value, .. } => slice::from_ref(value),
+            State::Many { values, .. } => values.as_slice(),
+        }
+    }
+
+    /// Changes one value of what lies in the slot.
+    #[inline]
+    pub fn set(&mut self, index: usize, value: Value)
+        requires { index < length (values_of self.old) }
+        ensures { self.new ≡ with_value self.old index value }
+    {
+        match &mut self.state {
+            State::Free { .. } => {}
+            State::One { value: only, .. } => *only = value,
+            State::Many { values, .. } => values[index] = value,
+        }
     }
 }

@@ -1,9 +1,8 @@
 // Giving slots free.
 
-ghost use Rattle.std.specs.Prelude.{◌≡◌, ◌<◌, ◌≤◌, length, slice_set};
+ghost use Rattle.std.specs.Prelude.{◌≡◌, ◌<◌, ◌≤◌, length, None, slice_set};
 ghost use Rattle.jm_heap.specs.Slots.{slot_cells, slots_cells};
 ghost use Rattle.jm_heap.specs.Stored.{Swept};
-ghost use Rattle.jm_heap.specs.declared.slot.Slot.TheVariants.{Free};
 
 use crate::slot::Slot;
 
@@ -14,9 +13,9 @@ const NO_SLOT: usize = usize::MAX;
 fn cells(slot: &Slot) -> u64
     ensures { result ≡ slot_cells slot.now }
 {
-    match slot {
-        Slot::Free(_) => 0,
-        Slot::Taken(object) => object.class.size(object.values.len() as u64),
+    match slot.class() {
+        None => 0,
+        Some(class) => class.size(slot.values().len() as u64),
     }
 }
 
@@ -24,12 +23,12 @@ fn cells(slot: &Slot) -> u64
 fn free_slot(slots: &mut Vec<Slot>, used: &mut u64, index: usize, next: usize)
     requires within { index < length slots.old.items }
     requires used { used.old ≡ slots_cells slots.old.items }
-    ensures items { slots.new.items ≡ slice_set slots.old.items index (Free next) }
+    ensures items { slots.new.items ≡ slice_set slots.old.items index None }
     ensures used { used.new ≡ slots_cells slots.new.items }
     ensures fewer { used.new ≤ used.old }
 {
     *used -= cells(&slots[index]);
-    slots[index] = Slot::Free(next);
+    slots[index] = Slot::free(next);
 }
 
 /// Frees each slot that is not marked, and answers the first free one; `used` is then the cells of

@@ -37,7 +37,7 @@ use Rattle.jm_state.specs.declared.halt.Halt.TheVariants.{Stopped}
 use Rattle.jm_state.specs.declared.halt.StepEnd.TheVariants.{Done}
 use Rattle.jm_state.specs.declared.state.State.{State}
 use Rattle.jm_state.specs.declared.thread.StackFrame.{StackFrame}
-use Rattle.jm_state.specs.declared.thread.StackFrame.TheVariants.{Method, Initialization}
+use Rattle.jm_state.specs.declared.thread.StackFrame.TheVariants.{Method, Initialization, Entry}
 use Rattle.jm_state.specs.declared.thread.Thread as held
 use Rattle.jm_interp.specs.declared.at.At.{At}
 use Rattle.jm_interp.specs.At.{parts_at, HoldsAll, Does}
@@ -173,6 +173,7 @@ pub in_method_frame : (w : World) (l : LinkedView) (type : ObjectType) (fs : Lis
 in_method_frame w l type [] target e = cc
 in_method_frame w l type (Method f ∷ fs) target e = record { frame = f; below = fs; is = refl; found = e }
 in_method_frame w l type (Initialization class stage ∷ fs) target e = cc
+in_method_frame w l type (Entry ∷ fs) target e = cc
 
 -- a handler of which only that is so
 abbrev pub begins_at : ℕ → Handler

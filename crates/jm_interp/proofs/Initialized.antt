@@ -126,34 +126,34 @@ module _ {H : Type 0} {content : H → Content ClassId} {at : At} {old : State H
   pub class_there : HasClass at.linked.now class
   class_there = has_class at.linked.now h.beside.linked class lt
 
-  pub class_within : class < vec_len old.classes
-  class_within = let n = old.classes.ok.0 in let r = h.beside.runs.classes in omega arith
+  pub class_within : class < length old.classes
+  class_within = let r = h.beside.runs.classes in omega arith
 
   -- the model's class, and its state
   class_here : (w : World) → Matches (parts_at content at old) w → class_named w.program name ≡ Some class_there.class_of
   unfolding parts
   class_here w m = ap (λ p. class_named p name) (sym m.program) ∙ ap (class_named at.linked.now.program) class_there.named ∙ class_there.is_named
 
-  pub state_here : {st : ClassState} → slice_get old.classes.items class ≡ Some st → (w : World) → Matches (parts_at content at old) w → state_of w name ≡ st
+  pub state_here : {st : ClassState} → slice_get old.classes class ≡ Some st → (w : World) → Matches (parts_at content at old) w → state_of w name ≡ st
   unfolding parts
   state_here {st} there w m =
       let l = at.linked.now in
       let d = class_there in
-      ap (λ ps. state_in ps name) (sym m.classes) ∙ ap (state_in (named_states l.program old.classes.items)) d.named
-      ∙ state_is l.program h.beside.linked.loads old.classes.items class d.class_of st d.at there
+      ap (λ ps. state_in ps name) (sym m.classes) ∙ ap (state_in (named_states l.program old.classes)) d.named
+      ∙ state_is l.program h.beside.linked.loads old.classes class d.class_of st d.at there
 
   states_here : (st : ClassState) (w : World) → Matches (parts_at content at old) w
-      → named_states at.linked.now.program (slice_set old.classes.items class st) ≡ set_state_in w.classes name st
+      → named_states at.linked.now.program (slice_set old.classes class st) ≡ set_state_in w.classes name st
   unfolding parts
   states_here st w m =
       let l = at.linked.now in
       let d = class_there in
-      sym (ap (λ ps. set_state_in ps name st) (sym m.classes) ∙ ap (λ n. set_state_in (named_states l.program old.classes.items) n st) d.named
-      ∙ states_set l.program h.beside.linked.loads old.classes.items class d.class_of st d.at)
+      sym (ap (λ ps. set_state_in ps name st) (sym m.classes) ∙ ap (λ n. set_state_in (named_states l.program old.classes) n st) d.named
+      ∙ states_set l.program h.beside.linked.loads old.classes class d.class_of st d.at)
 
   -- a thread and the state of the class have changed
   changes : {new : State H} {t : held.Thread} {gs : List StackFrame} {q : Option ℕ} {st : ClassState} {rule : World → ℕ → Thread → Next}
-      → ChangedTo h new t → new.classes.items ≡ slice_set old.classes.items class st → new.output.items ≡ old.output.items → StateRuns at.linked.now new
+      → ChangedTo h new t → new.classes ≡ slice_set old.classes class st → new.output.items ≡ old.output.items → StateRuns at.linked.now new
       → Stands t gs (running h.object q) → HoldsAll content at old (held_shape.refs (q, map (frame_part at.linked.now) gs))
       → Leads h rule (λ w. goes (with_thread (with_state w name st) (at.index + 1) (thread_as h gs (running h.object q))))
       → Does content at old (Ok step_end.Done) new rule
@@ -164,7 +164,7 @@ module _ {H : Type 0} {content : H → Content ClassId} {at : At} {old : State H
 
   -- the state with another thread and state of the class runs on
   class_runs : (new : State H) (st : ClassState) {t : held.Thread} {gs : List StackFrame} {q : Option ℕ} → ChangedTo h new t
-      → new.classes.items ≡ slice_set old.classes.items class st → new.live ≡ old.live → Stands t gs (running h.object q)
+      → new.classes ≡ slice_set old.classes class st → new.live ≡ old.live → Stands t gs (running h.object q)
       → PartRuns at.linked.now gs (running h.object q) → StateRuns at.linked.now new
   class_runs new st {t} same classes live s' part =
       let r = runs_with h s' part in
@@ -173,7 +173,7 @@ module _ {H : Type 0} {content : H → Content ClassId} {at : At} {old : State H
         live = live ∙ r.live ∙ ap (λ ts. live_among (map (thread_part at.linked.now) ts)) (sym same.threads);
         statics = ap length same.statics ∙ r.statics;
         literals = ap length same.literals ∙ r.literals;
-        classes = ap length classes ∙ length-set old.classes.items class st ∙ r.classes;
+        classes = ap length classes ∙ length-set old.classes class st ∙ r.classes;
         not_yet = record {
           program = r.not_yet.program;
           threads = subst (λ ts. AllByRecursion (ThreadNotYet at.linked.now) (map held_thread ts)) (sym same.threads) r.not_yet.threads;
@@ -184,7 +184,7 @@ module _ {H : Type 0} {content : H → Content ClassId} {at : At} {old : State H
   -- the state of the class alone has changed
   pub marked : {new : State H} {st : ClassState} → new.threads.items ≡ old.threads.items → new.statics.items ≡ old.statics.items
       → new.literals.items ≡ old.literals.items → new.monitors.items ≡ old.monitors.items → new.heap ≡ old.heap → new.stop ≡ old.stop
-      → new.classes.items ≡ slice_set old.classes.items class st → new.live ≡ old.live → new.output.items ≡ old.output.items
+      → new.classes ≡ slice_set old.classes class st → new.live ≡ old.live → new.output.items ≡ old.output.items
       → Does content at old (Ok step_end.Done) new (λ w number x. goes (with_state w name st))
   marked {new} {st} threads statics literals monitors heap stop classes live output =
       let same : ChangedTo h new h.stands.thread = record {
@@ -227,7 +227,7 @@ module _ {H : Type 0} {content : H → Content ClassId} {at : At} {old : State H
       → Does content at old (Ok step_end.Done) (with_thread_at old at.index t) (λ w number x. goes (at_stage w number x called s' (drop 1 x.frames)))
   staged {t} {s'} is_so = thread.goes h is_so (staged_runs (part_here h)) (inside (Initialization class s' ∷ below) (λ q a. a)) (λ w m. refl)
 
-  pub finished : {new : State H} {t : held.Thread} → ChangedTo h new t → new.classes.items ≡ slice_set old.classes.items class Done → new.live ≡ old.live
+  pub finished : {new : State H} {t : held.Thread} → ChangedTo h new t → new.classes ≡ slice_set old.classes class Done → new.live ≡ old.live
       → new.output.items ≡ old.output.items → Stands t below (running h.object None)
       → Does content at old (Ok step_end.Done) new (λ w number x. finish w number x called (drop 1 x.frames))
   finished {new} same classes live output s' =
@@ -235,7 +235,7 @@ module _ {H : Type 0} {content : H → Content ClassId} {at : At} {old : State H
       (λ w m. refl)
 
   -- what the model does at the stages
-  pub begin_is : {st : ClassState} → s ≡ stage.Begin → slice_get old.classes.items class ≡ Some st
+  pub begin_is : {st : ClassState} → s ≡ stage.Begin → slice_get old.classes class ≡ Some st
       → Leads h step_thread (λ w. begin w (at.index + 1) (model h) called lower st)
   begin_is {st} e there w m =
       ap (λ z. initialize w (at.index + 1) (model h) called z lower) e
@@ -293,7 +293,7 @@ module _ {H : Type 0} {content : H → Content ClassId} {at : At} {old : State H
           → superclass_first w (at.index + 1) (model h) called lower o ≡ goes (at_stage w (at.index + 1) (model h) called stage.Initializer lower)
       by w m None known = refl
       by w m (Some above) known = ap (superclass_by above w) (ap (λ ps. state_in ps above) (sym m.classes)
-          ∙ not_listed above at.linked.now.program old.classes.items (others at.linked.now.program h.beside.linked.loads above known))
+          ∙ not_listed above at.linked.now.program old.classes (others at.linked.now.program h.beside.linked.loads above known))
 
   pub own_within : {n : ℕ} → IsOwnSuperclass at.linked.now.program class_of.class_of.superclass (Some n) → n < length at.linked.now.program
   own_within {n} is = by class_of.class_of.superclass is
@@ -304,10 +304,7 @@ module _ {H : Type 0} {content : H → Content ClassId} {at : At} {old : State H
 
   -- a class of the program
   module _ (n : ℕ) {st : ClassState} (e : s ≡ stage.Superclass) (is : IsOwnSuperclass at.linked.now.program class_of.class_of.superclass (Some n))
-      (read_there : st ≡ slice_index_or old.classes.items n st) where
-    there : slice_get old.classes.items n ≡ Some st
-    there = let k = old.classes.ok.0 in let a = class_within h n (own_within is) in get_at old.classes.items n st (omega arith) read_there
-
+      (there : slice_get old.classes n ≡ Some st) where
     own_is : Leads h step_thread (λ w. superclass_by (program_class_name at.linked.now.program n) w st)
     unfolding superclass_by
     own_is w m = superclass_is e w m ∙ by class_of.class_of.superclass is
@@ -402,7 +399,7 @@ at_this {content = content} {at = at} {old = old} {class = class} {below = below
 -- it is in progress by this thread, and its superclass is next
 pub in_progress : {H : Type 0} {content : H → Content ClassId} {at : At} {old : State H} {class : ℕ} {below : List StackFrame}
     (h : OnThread content at old (Initialization class stage.Begin ∷ below) None) {new : State H} {t : held.Thread} → ChangedTo h new t
-    → new.classes.items ≡ slice_set old.classes.items class (InProgress (at.index + 1)) → new.live ≡ old.live → new.output.items ≡ old.output.items
+    → new.classes ≡ slice_set old.classes class (InProgress (at.index + 1)) → new.live ≡ old.live → new.output.items ≡ old.output.items
     → Stands t (Initialization class stage.Superclass ∷ below) (running h.object None)
     → Does content at old (Ok step_end.Done) new (puts_in_progress (program_class_name at.linked.now.program class))
 in_progress {at = at} {class = class} {below = below} h {new} same classes live output s' =
@@ -412,7 +409,7 @@ in_progress {at = at} {class = class} {below = below} h {new} same classes live 
 module _ {H : Type 0} {content : H → Content ClassId} {at : At} {old : State H} {class : ℕ} {below : List StackFrame}
     (h : OnThread content at old (Initialization class stage.Begin ∷ below) None) where
   -- it begins: it is in progress, and its constants are given
-  module _ (begun : slice_get old.classes.items class ≡ Some NotBegun) {mid : State H} (puts : Does content at old (Ok step_end.Done) mid (puts_in_progress (called h))) where
+  module _ (begun : slice_get old.classes class ≡ Some NotBegun) {mid : State H} (puts : Does content at old (Ok step_end.Done) mid (puts_in_progress (called h))) where
     put_thread : Thread
     put_thread = record (model h) { frames = initialization_frame (called h) stage.Superclass ∷ lower h }
 
@@ -446,11 +443,8 @@ module _ {H : Type 0} {content : H → Content ClassId} {at : At} {old : State H
 
 module _ {H : Type 0} {content : H → Content ClassId} {at : At} {old : State H} {class : ℕ} {below : List StackFrame}
     (h : OnThread content at old (Initialization class stage.Begin ∷ below) None) {st : ClassState}
-    (there : st ≡ slice_index_or old.classes.items class st) where
-  state_there : slice_get old.classes.items class ≡ Some st
-  state_there = let n = old.classes.ok.0 in let a = class_within h class (own h) in get_at old.classes.items class st (omega arith) there
-
-  pub not_begun_there : st ≡ NotBegun → slice_get old.classes.items class ≡ Some NotBegun
+    (state_there : slice_get old.classes class ≡ Some st) where
+  pub not_begun_there : st ≡ NotBegun → slice_get old.classes class ≡ Some NotBegun
   not_begun_there e = state_there ∙ ap Some e
 
   -- it is done, or this thread's

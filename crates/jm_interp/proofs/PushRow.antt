@@ -121,6 +121,6 @@ module _ {H : Type 0} {content : H → Content ClassId} {at : At} {old : State H
           let loads : Loads o.world.program = subst Loads m.program is.loads in
           let done : state_of o.world system_class ≡ Done =
           ap (λ c. state_in c system_class) (sym m.classes)
-          ∙ not_listed system_class l.program old.classes.items (others l.program is.loads system_class refl) in
+          ∙ not_listed system_class l.program old.classes (others l.program is.loads system_class refl) in
           let value : static_in o.world.statics out_field ≡ Some (rename f x) = out_value l.program f old.statics.items x w.statics m.statics e in
           ap (row o) k.1 ∙ system_out_row o k.0 (rename f x) loads k.2 done value

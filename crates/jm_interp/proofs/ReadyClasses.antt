@@ -77,7 +77,7 @@ module _ {H : Type 0} {content : H → Content ClassId} {at : At} {old : State H
     is = λ w name m named. let l = at.linked.now in
         ap (λ ps. is_ready (state_in ps name) (at.index + 1)) (sym m.classes)
         ∙ ap (λ st. is_ready st (at.index + 1))
-        (not_listed name l.program old.classes.items (others l.program h.on.beside.linked.loads name (built_in_known l.program class name named few)));
+        (not_listed name l.program old.classes (others l.program h.on.beside.linked.loads name (built_in_known l.program class name named few)));
     own = λ e. cc;
   }
 
@@ -91,19 +91,16 @@ module _ {H : Type 0} {content : H → Content ClassId} {at : At} {old : State H
         → (number < length at.linked.now.program) × (program_class_name at.linked.now.program number ≡ name)
     own_there name is = own_known at.linked.now.program class number name is (omega arith)
 
-    pub number_within : number < vec_len old.classes
+    pub number_within : number < length old.classes
     number_within = class_within h.on number (own_there named.0 named.1).0
 
-    state_read : {st : ClassState} → st ≡ slice_index_or old.classes.items number st → slice_get old.classes.items number ≡ Some st
-    state_read {st} there = let n = old.classes.ok.0 in let a = number_within in get_at old.classes.items number st (omega arith) there
-
     -- by the state that was read
-    pub ready_by : {st : ClassState} → st ≡ slice_index_or old.classes.items number st → {ready : Bool}
+    pub ready_by : {st : ClassState} → slice_get old.classes number ≡ Some st → {ready : Bool}
         → is_ready st (at.index + 1) ≡ ready → Readiness content at old class ready
     ready_by {st} there is = record {
       is = λ w name m e. let own = own_there name e in
           ap (λ x. is_ready (state_of w x) (at.index + 1)) (sym own.1)
-          ∙ ap (λ x. is_ready x (at.index + 1)) (state_here h.on number own.0 (state_read there) w m)
+          ∙ ap (λ x. is_ready x (at.index + 1)) (state_here h.on number own.0 there w m)
           ∙ is;
       own = λ e. omega arith;
     }

@@ -45,7 +45,7 @@ use Rattle.jm_state.specs.declared.halt.Halt.TheVariants.{Stopped, OutOfMemory}
 use Rattle.jm_state.specs.declared.halt.StepEnd.TheVariants.{Done}
 use Rattle.jm_state.specs.declared.state.State.{State}
 use Rattle.jm_state.specs.declared.thread.StackFrame.{StackFrame}
-use Rattle.jm_state.specs.declared.thread.StackFrame.TheVariants.{Method, Initialization}
+use Rattle.jm_state.specs.declared.thread.StackFrame.TheVariants.{Method, Initialization, Entry}
 use Rattle.jm_state.specs.declared.thread.Thread as held
 use Rattle.jm_interp.specs.declared.at.At.{At}
 use Rattle.jm_interp.specs.declared.top_object.Refusal.{Refusal}
@@ -363,6 +363,12 @@ module _ {H : Type 0} {content : H → Content ClassId} {at : At} {old : State H
                   | inr z ↦ held_frames k n (among_right n (refs_frame (frame_part at.linked.now (Method h.frame)))
                       (frames_shape.refs (map (frame_part at.linked.now) (Initialization class stage ∷ below.rest))) z)
                 ]) is
+            by Entry k is left =
+                thread.goes k left (without_top (part_here k)) (λ n a. elim (part_refs at.linked.now (Entry ∷ below.rest) None n a) [
+                  | inl z ↦ absurd z
+                  | inr z ↦ held_frames k n (among_right n (refs_frame (frame_part at.linked.now (Method h.frame)))
+                      (frames_shape.refs (map (frame_part at.linked.now) (Entry ∷ below.rest))) z)
+                ]) is
             by (Method u) k is left =
                 let l = at.linked.now in
                 let r : PartRuns l (Method u ∷ below.rest) (running k.object None) = without_top (part_here k) in
@@ -390,6 +396,7 @@ module _ {H : Type 0} {content : H → Content ClassId} {at : At} {old : State H
                 (Err why) t x h.frame b below.rest (running k.object None) → Steps content at old (Err why) (with_thread_at old at.index t)
             by OutOfMemory b k is left = does k (runs_with k left (part_here k)) (λ w m. same_matches k left w m)
             by (Stopped s) (Initialization class stage) k is left = absurd left
+            by (Stopped s) Entry k is left = absurd left
             by (Stopped s) (Method u) k is left =
                 let l = at.linked.now in
                 does k (runs_with k left.2 (part_here k)) (λ w m.

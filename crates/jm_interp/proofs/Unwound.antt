@@ -35,7 +35,7 @@ use Rattle.jm_state.specs.declared.halt.StepEnd.{StepEnd}
 use Rattle.jm_state.specs.declared.halt.StepEnd.TheVariants.{Done}
 use Rattle.jm_state.specs.declared.state.State.{State}
 use Rattle.jm_state.specs.declared.thread.StackFrame.{StackFrame}
-use Rattle.jm_state.specs.declared.thread.StackFrame.TheVariants.{Method, Initialization}
+use Rattle.jm_state.specs.declared.thread.StackFrame.TheVariants.{Method, Initialization, Entry}
 use Rattle.jm_state.specs.declared.thread.Thread as held
 use Rattle.jm_interp.specs.declared.at.At.{At}
 use Rattle.jm_interp.specs.At.{parts_at, in_method, OnThread, Does, Steps}
@@ -94,6 +94,7 @@ module _ {H : Type 0} {content : H → Content ClassId} {at : At} {old : State H
       → unwind_frames w (at.index + 1) x (lower h gs) k type ≡ unwound w (at.index + 1) x (drop 1 (lower h gs)) k type
   frames_left [] none q w m x k type missed = refl
   frames_left (Initialization class stage ∷ gs) none q w m x k type missed = cc
+  frames_left (Entry ∷ gs) none q w m x k type missed = refl
   frames_left (Method v ∷ gs) none q w m x k type missed =
       let l = at.linked.now in
       let f = name_of (content old.heap) in
@@ -130,6 +131,7 @@ module _ {H : Type 0} {content : H → Content ClassId} {at : At} {old : State H
       ≡ drop_initialization w (at.index + 1) x (program_class_name at.linked.now.program class) (drop 1 (lower h gs)) k type
   frames_fail [] class on w x k type = cc
   frames_fail (Method v ∷ gs) class on w x k type = cc
+  frames_fail (Entry ∷ gs) class on w x k type = cc
   frames_fail (Initialization c stage ∷ gs) class on w x k type =
       let same : c ≡ class = cc in
       ap (λ z. drop_initialization w (at.index + 1) x (program_class_name at.linked.now.program z) (lower h gs) k type) same
@@ -205,6 +207,7 @@ module _ {H : Type 0} {content : H → Content ClassId} {at : At} {old : State H
         by : (gs : List StackFrame) → class_on_top gs ≡ Some class → AllByRecursion (FrameRuns at.linked.now) gs → class < length at.linked.now.program
         by [] e all = cc
         by (Method v ∷ gs) e all = cc
+        by (Entry ∷ gs) e all = cc
         by (Initialization c stage ∷ gs) e all = let same : c ≡ class = cc in subst (λ z. z < length at.linked.now.program) same all.0
 
     abbrev name : List ℕ

@@ -22,7 +22,7 @@ use Rattle.jm_linked.specs.Links.{LinkedView, name_of_number}
 use Rattle.jm_linked.specs.declared.method.LinkedHandler.{LinkedHandler}
 use Rattle.jm_state.specs.declared.state.State.{State}
 use Rattle.jm_state.specs.declared.thread.StackFrame.{StackFrame}
-use Rattle.jm_state.specs.declared.thread.StackFrame.TheVariants.{Method, Initialization}
+use Rattle.jm_state.specs.declared.thread.StackFrame.TheVariants.{Method, Initialization, Entry}
 use Rattle.jm_state.specs.declared.thread.Thread as held
 use Rattle.jm_interp.specs.declared.at.At.{At}
 use Rattle.jm_interp.specs.At.{OnThread, in_method}
@@ -52,6 +52,7 @@ abbrev pub target_on_top : World → LinkedView → ObjectType → List StackFra
 target_on_top w l type [] = None
 target_on_top w l type (Method f ∷ fs) = target_in w l f.method f.activation.at type
 target_on_top w l type (Initialization class stage ∷ fs) = None
+target_on_top w l type (Entry ∷ fs) = None
 
 -- a reference stands alone among the operands of the top frame, which is at the handler, and no
 -- exception is pending; or nothing has changed, since `max_stack` has no room for it (JVMS 2.6.2)

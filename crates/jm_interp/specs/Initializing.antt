@@ -6,7 +6,7 @@ use Rattle.jm_world.specs.Classes.{built_in_named}
 use Rattle.jm_world.specs.declared.stage.Stage.{Stage}
 use Rattle.jm_state.specs.Parts.{program_class_name}
 use Rattle.jm_state.specs.declared.thread.StackFrame.{StackFrame}
-use Rattle.jm_state.specs.declared.thread.StackFrame.TheVariants.{Method, Initialization}
+use Rattle.jm_state.specs.declared.thread.StackFrame.TheVariants.{Method, Initialization, Entry}
 use Rattle.jm_state.specs.declared.thread.Thread as held
 use Rattle.jm_interp.specs.Standing.{ThreadRest, Stands}
 
@@ -23,6 +23,7 @@ abbrev pub class_on_top : List StackFrame → Option ℕ
 class_on_top [] = None
 class_on_top (Method f ∷ fs) = None
 class_on_top (Initialization class stage ∷ fs) = Some class
+class_on_top (Entry ∷ fs) = None
 
 -- a frame is on top of an initialization's that is at a stage, or nothing has changed
 abbrev pub Began : {E : Type 0} → Result (Unit {0}) E → held.Thread → ℕ → Stage → StackFrame → StackFrame → List StackFrame → ThreadRest → Type 0

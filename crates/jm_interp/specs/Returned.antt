@@ -19,7 +19,7 @@ use Rattle.jm_state.specs.declared.halt.Halt.{Halt}
 use Rattle.jm_state.specs.declared.halt.Halt.TheVariants.{Stopped, OutOfMemory}
 use Rattle.jm_state.specs.declared.state.State.{State}
 use Rattle.jm_state.specs.declared.thread.StackFrame.{StackFrame}
-use Rattle.jm_state.specs.declared.thread.StackFrame.TheVariants.{Method, Initialization}
+use Rattle.jm_state.specs.declared.thread.StackFrame.TheVariants.{Method, Initialization, Entry}
 use Rattle.jm_state.specs.declared.thread.Thread as held
 use Rattle.jm_interp.specs.declared.at.At.{At}
 use Rattle.jm_interp.specs.declared.top_object.Refusal.{Refusal}
@@ -81,7 +81,9 @@ Took (Err fault) result v new = (takes v result ≡ false) × (fault ≡ Overflo
 abbrev pub Left : Result (Unit {0}) Halt → held.Thread → Option Value → FrameView → StackFrame → List StackFrame → ThreadRest → Type 0
 Left (Ok done) new result f (Method v) below r = (takes v result ≡ true) × Stands new (Method (taken v result) ∷ below) r
 Left (Ok done) new result f (Initialization class stage) below r = Stands new (Initialization class stage ∷ below) r
+Left (Ok done) new result f Entry below r = Stands new (Entry ∷ below) r
 Left (Err (Stopped why)) new result f (Method v) below r =
     (takes v result ≡ false) × (why ≡ stop.TagFault Overflow) × Stands new (Method f ∷ Method v ∷ below) r
 Left (Err (Stopped why)) new result f (Initialization class stage) below r = ⊥
+Left (Err (Stopped why)) new result f Entry below r = ⊥
 Left (Err OutOfMemory) new result f b below r = Stands new (Method f ∷ b ∷ below) r

@@ -75,5 +75,6 @@ fn push_called(thread: &mut Thread, frame: Frame, count: usize) -> Result<(), Al
             Ok(())
         }
         StackFrame::Initialization { class: _, stage: _ } => unreachable!(),
+        StackFrame::Entry => unreachable!(),
     }
 }

@@ -45,6 +45,7 @@ pub(crate) fn class_on_top(thread: &Thread) -> Option<u32>
     match top {
         StackFrame::Method(_) => None,
         StackFrame::Initialization { class, stage: _ } => Some(*class),
+        StackFrame::Entry => None,
     }
 }
 
@@ -124,6 +125,10 @@ pub(crate) fn leave_top(thread: &mut Thread, value: Option<Value>) -> Result<(),
             }
         }
         StackFrame::Initialization { class: _, stage: _ } => {
+            let _top = thread.frames.pop();
+            Ok(())
+        }
+        StackFrame::Entry => {
             let _top = thread.frames.pop();
             Ok(())
         }

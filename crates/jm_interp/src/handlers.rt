@@ -80,6 +80,7 @@ pub(crate) fn target_on_top(linked: &Linked, thread: &Thread, thrown: ClassId) -
     match top {
         StackFrame::Method(frame) => target_in(linked, frame.method(), frame.at(), thrown),
         StackFrame::Initialization { class: _, stage: _ } => None,
+        StackFrame::Entry => None,
     }
 }
 
@@ -105,5 +106,6 @@ pub(crate) fn catch_on_top(thread: &mut Thread, place: Place, target: u32) -> Re
             Ok(())
         }
         StackFrame::Initialization { class: _, stage: _ } => unreachable!(),
+        StackFrame::Entry => unreachable!(),
     }
 }

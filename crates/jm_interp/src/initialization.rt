@@ -55,7 +55,7 @@ pub(crate) fn finish<H: Heap>(at: At<'_>, state: &mut State<H>, class: u32)
     ensures { Does H.content at.entry state.old (Ok Done) state.new
         (λ w number t. finish w number t (program_class_name at.entry.linked.now.program class) (drop 1 t.frames)) }
 {
-    state.classes[class as usize] = ClassState::Done;
+    state.classes.finish(class);
     drop_top(&mut state.threads[at.index]);
 }
 
@@ -81,7 +81,7 @@ fn put_in_progress<H: Heap>(at: At<'_>, state: &mut State<H>, class: u32)
     ensures { Does H.content at.entry state.old (Ok Done) state.new
         (puts_in_progress (program_class_name at.entry.linked.now.program class)) }
 {
-    state.classes[class as usize] = ClassState::InProgress(at.index as u64 + 1);
+    state.classes.begin(class, at.index as u64 + 1);
     go_to_stage(&mut state.threads[at.index], class, Stage::Superclass);
 }
 
@@ -90,7 +90,7 @@ fn put_in_progress<H: Heap>(at: At<'_>, state: &mut State<H>, class: u32)
 // comes; nothing has changed then.
 fn begin_anew<H: Heap>(at: At<'_>, state: &mut State<H>, class: u32) -> Result<StepEnd, Halt>
     requires { (below : List StackFrame) × OnThread H.content at state.old (Initialization class Begin ∷ below) None
-        × (slice_get state.old.classes.items class ≡ Some NotBegun) }
+        × (slice_get state.old.classes class ≡ Some NotBegun) }
     ensures { Steps H.content at.entry state.old result state.new }
 {
     let Some(number) = number_among_all(at.linked, class) else {
@@ -110,7 +110,7 @@ fn begin<H: Heap>(at: At<'_>, state: &mut State<H>, class: u32) -> Result<StepEn
     requires { (below : List StackFrame) × OnThread H.content at state.old (Initialization class Begin ∷ below) None }
     ensures { Steps H.content at.entry state.old result state.new }
 {
-    match state.classes[class as usize] {
+    match state.classes.get(class) {
         ClassState::Done => {
             leave_frame(at, state);
             Ok(StepEnd::Done)
@@ -181,7 +181,7 @@ fn superclass_first<H: Heap>(at: At<'_>, state: &mut State<H>, class: u32) -> Re
         to_initializer(at, state, class);
         return Ok(StepEnd::Done);
     };
-    match state.classes[above as usize] {
+    match state.classes.get(above) {
         ClassState::Done => {
             to_initializer(at, state, class);
             Ok(StepEnd::Done)

@@ -129,6 +129,7 @@ pub(crate) fn pop_operands(thread: &mut Thread, method: PrintMethod)
                 }
             },
             StackFrame::Initialization { class: _, stage: _ } => {}
+            StackFrame::Entry => {}
         }
     }
 }

@@ -24,11 +24,11 @@ pub(crate) fn is_ready<H: Heap>(at: At<'_>, state: &State<H>, class: u32) -> boo
     requires named { (name : List ℕ) × NamesClass at.linked.now.program class name }
     ensures { Readiness H.content at.entry state.now class result }
 {
-    let built_in = at.linked.built_ins().len();
-    if (class as usize) < built_in {
+    let built_in = at.linked.built_ins().len() as u32;
+    if class < built_in {
         return true;
     }
-    match state.classes[class as usize - built_in] {
+    match state.classes.get(class - built_in) {
         ClassState::Done => true,
         ClassState::InProgress(owner) => owner == at.index as u64 + 1,
         ClassState::NotBegun => false,

@@ -22,11 +22,13 @@ use jm_state::{Halt, State, StepEnd};
 use std::alloc::Global;
 
 /// Makes one stage of unwinding of a thread that runs and whose exception is pending, by the
-/// thread's number from 1 (JVMS 2.10, 3.12, 5.5, 6.5 athrow): the top frame is dropped, and with the
-/// last one the thread ends by the exception. Where it is an initialization's, the class has failed,
-/// and an exception that is no Error gives its place to a new ExceptionInInitializerError. Stopped:
-/// that cannot be made. OutOfMemory: a growth was refused. Then the state is beside the same world
-/// as before.
+/// thread's number from 1 (JVMS 2.10, 3.12, 5.5, 6.5 athrow). The first handler of the top frame's
+/// method that catches, in the order of the table, goes on with the exception as the one operand; else
+/// the top frame is dropped, and with the last one the thread ends by the exception. Where it is an
+/// initialization's, the class has failed, and an exception that is no Error gives its place to a new
+/// ExceptionInInitializerError. Stopped: that cannot be made, or the method of the handler has a
+/// `max_stack` of 0. OutOfMemory: a growth was refused. Then the state is beside the same world as
+/// before.
 pub fn unwind_stage<H: Heap>(
     alloc: Global,
     linked: &Linked,

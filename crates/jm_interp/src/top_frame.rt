@@ -31,6 +31,7 @@ pub(crate) fn top_method(thread: &Thread) -> &Frame
     match top {
         StackFrame::Method(frame) => frame,
         StackFrame::Initialization { class: _, stage: _ } => unreachable!(),
+        StackFrame::Entry => unreachable!(),
     }
 }
 
@@ -47,6 +48,7 @@ pub(crate) fn step_top(thread: &mut Thread, op: &Plain) -> Result<Flow, Fault>
     match top {
         StackFrame::Method(frame) => step(frame, op),
         StackFrame::Initialization { class: _, stage: _ } => unreachable!(),
+        StackFrame::Entry => unreachable!(),
     }
 }
 
@@ -68,6 +70,7 @@ pub(crate) fn push_top(thread: &mut Thread, value: Value) -> Result<(), TagFault
             Err(fault) => Err(fault),
         },
         StackFrame::Initialization { class: _, stage: _ } => unreachable!(),
+        StackFrame::Entry => unreachable!(),
     }
 }
 
@@ -89,6 +92,7 @@ pub(crate) fn replace_top(thread: &mut Thread, count: usize, value: Value)
             frame.go_on();
         }
         StackFrame::Initialization { class: _, stage: _ } => unreachable!(),
+        StackFrame::Entry => unreachable!(),
     }
 }
 
@@ -108,5 +112,6 @@ pub(crate) fn drop_top(thread: &mut Thread, count: usize)
             frame.go_on();
         }
         StackFrame::Initialization { class: _, stage: _ } => unreachable!(),
+        StackFrame::Entry => unreachable!(),
     }
 }

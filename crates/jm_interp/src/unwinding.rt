@@ -25,7 +25,7 @@ use jm_heap::{ClassId, Heap};
 use jm_linked::Linked;
 use jm_state::{Ending, Halt, State, StepEnd};
 use jm_values::Place;
-use jm_world::{ClassState, Stop};
+use jm_world::Stop;
 
 // The end by an exception of a class. An array, which nothing throws, has no class: its number is
 // the one past the last class's, and there is none where numbers have come to their end.
@@ -64,7 +64,7 @@ fn mark_failed<H: Heap>(at: At<'_>, state: &mut State<H>, class: u32)
     ensures { Does H.content at.entry state.old (Ok Done) state.new
         (λ w number t. goes (with_state w (program_class_name at.entry.linked.now.program class) Failed)) }
 {
-    state.classes[class as usize] = ClassState::Failed;
+    state.classes.fail(class);
 }
 
 // Drops the frame of the initialization of a class, which has failed; with the last frame the thread

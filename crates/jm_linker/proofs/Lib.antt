@@ -20,4 +20,4 @@ pub mod SelectorLaws
 pub mod InheritedLaws
 pub mod SelectedLaws
 pub mod ConstantLaws
-pub mod PairLaws
+pub mod InitializerLaws

@@ -1,26 +1,13 @@
 // The initializers of classes, by number (JVMS 2.9).
 
-ghost use Rattle.std.specs.Prelude.{◌≡◌, ◌<◌, ◌&&◌, None, IfOk, MatchOption, length, slice_get, codes};
-ghost use Rattle.jm_program.specs.Names.{same_text};
+ghost use Rattle.std.specs.Prelude.{◌≡◌, ◌<◌, None, IfOk, MatchOption, length, slice_get, codes};
 ghost use Rattle.jm_world.specs.Classes.{method_in};
 ghost use Rattle.jm_world.specs.Initialization.{initializer_type};
-ghost use Rattle.jm_world.specs.Types.{same_method_type};
 ghost use Rattle.jm_linked.specs.Tables.{AreInitializers, IsInitializer};
 
 use crate::classes::Classes;
-use crate::later::returns_nothing;
 use jm_program::{AccessFlags, ClassParts, Method};
 use std::alloc::{AllocError, Global};
-
-// Whether it is `<clinit>()V` by its name and type.
-#[tactic(auto, using(crate::proofs::TypeLaws::same_types_none))]
-fn is_clinit(method: &Method) -> bool
-    ensures { result ≡ (same_text method.now.name (codes "<clinit>") && same_method_type method.now.descriptor initializer_type) }
-{
-    method.name.is_text(b"<clinit>")
-        && method.descriptor.parameters.as_slice().is_empty()
-        && returns_nothing(&method.descriptor)
-}
 
 // The number of `<clinit>()V` among methods.
 fn clinit_number(methods: &[Method]) -> Option<usize>
@@ -28,7 +15,7 @@ fn clinit_number(methods: &[Method]) -> Option<usize>
         (λ n. (n < length methods.now) × (method_in methods.now (codes "<clinit>") initializer_type ≡ slice_get methods.now n)) }
 {
     for (index, method) in methods.iter().enumerate() {
-        if is_clinit(method) {
+        if method.is_class_initializer() {
             return Some(index);
         }
     }

@@ -122,7 +122,7 @@ fn are_print_parameters(types: &[FieldType], method: PrintMethod) -> bool
     }
 }
 
-pub fn returns_nothing(descriptor: &MethodDescriptor) -> bool
+fn returns_nothing(descriptor: &MethodDescriptor) -> bool
     ensures { result ≡ same_result descriptor.now.return_type None }
 {
     match &descriptor.return_type {

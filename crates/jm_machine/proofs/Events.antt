@@ -28,7 +28,7 @@ use Rattle.jm_state.specs.declared.halt.StepEnd.TheVariants.{Done, Blocked}
 use Rattle.jm_state.specs.declared.halt.Halt.TheVariants.{Stopped, OutOfMemory}
 use Rattle.jm_state.specs.View.{StateView}
 use Rattle.jm_machine.specs.declared.fault.OutOfMemory as refusal
-use Rattle.jm_machine.specs.Threads.{thread_numbered, ending_numbered, class_of_ending, class_ended_by}
+use Rattle.jm_machine.specs.Threads.{thread_numbered, ending_numbered, class_of_ending, class_ended_by, is_live, is_live_thread}
 use Rattle.jm_machine.specs.Answered.{IsAnswered}
 
 module _ (l : LinkedView) (c : Content ClassId) (v : StateView) (w : World) (m : Matches (parts l c v) w) where
@@ -120,6 +120,13 @@ module _ (l : LinkedView) (c : Content ClassId) (v : StateView) (w : World) (m :
 
   pub by_class : (n : ℕ) (end : code.Ending) → ending_numbered v.threads n ≡ Some end → class_ended_by (thread_at w n) ≡ class_of_ending (ending_part l.program end)
   by_class n end e = let x = a_thread n end e in ap class_ended_by x.1 ∙ ap class_of_ending x.2
+
+  -- whether it has not
+  pub not_live : (n : ℕ) → ending_numbered v.threads n ≡ None → is_live w n ≡ false
+  not_live n e = ap is_live_thread (no_thread n e)
+
+  pub lives : (n : ℕ) (end : code.Ending) → ending_numbered v.threads n ≡ Some end → is_live w n ≡ is_running (ending_part l.program end)
+  lives n end e = let x = a_thread n end e in ap is_live_thread x.1 ∙ ap is_running x.2
 
 pub some_is : (s : Option Stop) → is_some s ≡ true → (stop : Stop) × (s ≡ Some stop)
 some_is None e = cc

@@ -7,14 +7,14 @@ use Rattle.jm_values.specs.Shape.{Among}
 use Rattle.jm_values.specs.declared.value.Value.{Value}
 use Rattle.jm_values.specs.declared.value.Value.TheVariants as value
 use Rattle.jm_world.specs.Classes.{MethodName, name_of_method, method_named}
-use Rattle.jm_world.specs.Frames.{Frame, method_frame, initialization_frame}
+use Rattle.jm_world.specs.Frames.{Frame, method_frame, initialization_frame, entry_frame}
 use Rattle.jm_world.specs.Types.{ObjectType, instance_of, array_of}
 use Rattle.jm_world.specs.Objects.{FieldName}
 use Rattle.jm_world.specs.World.{World, Thread, Static, Monitor, object_at, reach}
 use Rattle.jm_machine.specs.MethodFrames.{MethodFrameView}
 use Rattle.jm_machine.specs.Seen.{ObjectView}
 use Rattle.jm_machine.specs.declared.frame.WorldFrame.{WorldFrame}
-use Rattle.jm_machine.specs.declared.frame.WorldFrame.TheVariants.{Method, Initialization}
+use Rattle.jm_machine.specs.declared.frame.WorldFrame.TheVariants.{Method, Initialization, Entry}
 use Rattle.jm_machine.specs.declared.monitor.WorldMonitor.{WorldMonitor}
 use Rattle.jm_machine.specs.declared.object.ElementKind.{ElementKind}
 use Rattle.jm_machine.specs.declared.object.ElementKind.TheVariants.{Base, Class}
@@ -39,11 +39,13 @@ name_of_frame f = name_of_method (record { class = f.class; method = f.method })
 abbrev pub model_frame : {H : Type 0} → WorldFrame H → Frame
 model_frame (Method f) = method_frame (name_of_frame f) f.activation f.monitor
 model_frame (Initialization class stage) = initialization_frame class.now.name stage
+model_frame Entry = entry_frame
 
 -- its method is the one that the program has under its name
 abbrev pub IsOfProgram : {H : Type 0} → List ClassParts → WorldFrame H → Type 0
 IsOfProgram program (Method f) = method_named program (name_of_frame f) ≡ Some f.method
 IsOfProgram program (Initialization class stage) = Unit {0}
+IsOfProgram program Entry = Unit {0}
 
 -- the frame of a thread that is so many below the top
 abbrev pub frame_at : Option Thread → ℕ → Option Frame

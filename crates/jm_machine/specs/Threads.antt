@@ -1,6 +1,6 @@
 -- The threads of a machine by number.
-use Rattle.std.specs.Prelude.{ℕ, zero, suc, List, Option, Some, None, option_map, reverse, slice_get}
-use Rattle.jm_world.specs.World.{Ending as ModelEnding, running, returned, ended_by, Thread as ModelThread}
+use Rattle.std.specs.Prelude.{ℕ, zero, suc, List, Option, Some, None, Bool, false, option_map, reverse, slice_get}
+use Rattle.jm_world.specs.World.{World, Ending as ModelEnding, running, returned, ended_by, Thread as ModelThread, thread_at, is_running}
 use Rattle.jm_state.specs.declared.thread.Thread.{Thread}
 use Rattle.jm_state.specs.declared.thread.StackFrame.{StackFrame}
 use Rattle.jm_state.specs.declared.thread.Ending.{Ending}
@@ -39,3 +39,11 @@ class_of_ending (ended_by class) = Some class
 abbrev pub class_ended_by : Option ModelThread → Option (List ℕ)
 class_ended_by None = None
 class_ended_by (Some t) = class_of_ending t.ending
+
+-- a thread of a world that has not ended
+abbrev pub is_live_thread : Option ModelThread → Bool
+is_live_thread None = false
+is_live_thread (Some t) = is_running t.ending
+
+abbrev pub is_live : World → ℕ → Bool
+is_live w n = is_live_thread (thread_at w n)

@@ -113,6 +113,8 @@ pub enum WorldFrame<'a, H: Heap> {
     Method(MethodFrame<'a, H>),
     /// Of the initialization of a class, with what is next in it (JVMS 5.5).
     Initialization { class: &'a Class, stage: Stage },
+    /// Of a thread that has not begun.
+    Entry,
 }
 
 // The frame of a method, whose references are places in the heap.
@@ -158,5 +160,6 @@ pub(crate) fn world_frame<'a, H: Heap>(
             class: &linked.classes()[*class as usize],
             stage: *stage,
         },
+        StackFrame::Entry => WorldFrame::Entry,
     }
 }

@@ -1,13 +1,12 @@
 // How a program is loaded.
 
-ghost use Rattle.std.specs.Prelude.{◌≡◌, ◌<◌, ◌^◌, IfOk, Some, None, false, slice_get, replicate};
+ghost use Rattle.std.specs.Prelude.{◌≡◌, ◌<◌, ◌^◌, IfOk, Some, None, false, slice_get};
 ghost use Rattle.jm_linked.specs.Later.{later_part};
 ghost use Rattle.jm_linked.specs.declared.method.LinkedMethod.{LinkedMethod as Method};
 ghost use Rattle.jm_machine.specs.Start.{IsEmpty, first_frames};
 ghost use Rattle.jm_state.specs.Parts.{state_parts};
 ghost use Rattle.jm_state.specs.Runnable.{StateRuns};
 ghost use Rattle.jm_world.specs.Loading.{loaded_world, is_too_small};
-ghost use Rattle.jm_world.specs.declared.class_state.ClassState.TheVariants.{NotBegun};
 ghost use Rattle.jm_world.specs.Matches.{Matches};
 
 use crate::fault::OutOfMemory;
@@ -16,9 +15,10 @@ use crate::static_fields::first_values;
 use jm_frames::Frame;
 use jm_heap::Heap;
 use jm_linked::Linked;
+use jm_monitors::InitStates;
 use jm_state::{Ending, StackFrame, State, Thread};
 use jm_values::{Place, Value};
-use jm_world::{ClassState, Stage};
+use jm_world::Stage;
 use std::alloc::{AllocError, Global};
 
 // Main's frame, whose one argument is its first local variable, and above it the initialization of
@@ -41,13 +41,6 @@ pub(crate) fn make_first_frames(
         stage: Stage::Begin,
     });
     Ok(frames)
-}
-
-// So many classes that are not begun.
-fn not_begun(alloc: Global, count: usize) -> Result<Vec<ClassState>, AllocError>
-    ensures { IfOk result (λ states. states.items ≡ replicate count NotBegun) }
-{
-    vec![in alloc; ClassState::NotBegun; count]
 }
 
 /// Whether the first objects pass a limit: the print stream of System.out, main's empty array, and
@@ -86,7 +79,7 @@ pub(crate) fn make_first_state<H: Heap + Drop>(
         ending: Ending::Running,
     });
     let statics = first_values(alloc, program, out)?;
-    let classes = not_begun(alloc, program.len())?;
+    let classes = InitStates::new(alloc, program.len())?;
     let literals = string_places(alloc, &places)?;
     Ok(State {
         heap,

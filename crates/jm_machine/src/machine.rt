@@ -7,7 +7,7 @@ ghost use Rattle.jm_world.specs.Run.{after, run_from, replies_from};
 ghost use Rattle.jm_state.specs.Reached.{AreReachable};
 ghost use Rattle.jm_machine.specs.Collected.{LeavesAfter};
 ghost use Rattle.jm_machine.specs.Readers.{model_frame, model_monitor, frame_at, pending_of, IsOfProgram, TellsObject};
-ghost use Rattle.jm_machine.specs.Threads.{class_ended_by};
+ghost use Rattle.jm_machine.specs.Threads.{class_ended_by, is_live};
 ghost use Rattle.jm_machine.specs.View.{MatchesWorld};
 
 use crate::class::class_name;
@@ -158,6 +158,18 @@ impl<H: Heap> Machine<H> {
         ensures { (w : World) → MatchesWorld self.now w → result ≡ live_among w.threads }
     {
         self.state.live
+    }
+
+    /// Whether there is a thread of a number and it has not ended.
+    pub fn is_live(&self, number: u64) -> bool
+        ensures { (w : World) → MatchesWorld self.now w → result ≡ is_live w number }
+    {
+        match ending_of(&self.state.threads, number) {
+            Some(Ending::Running) => true,
+            Some(Ending::Returned) => false,
+            Some(Ending::EndedBy(_)) => false,
+            None => false,
+        }
     }
 
     /// The name, in UTF-16 code units, of the class of the exception by which the thread of a

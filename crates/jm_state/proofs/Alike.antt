@@ -25,12 +25,13 @@ use Rattle.jm_state.specs.declared.monitor.Monitor.{Monitor}
 use Rattle.jm_state.specs.declared.thread.Ending.{Ending}
 use Rattle.jm_state.specs.declared.thread.Ending.TheVariants.{Running, Returned, EndedBy}
 use Rattle.jm_state.specs.declared.thread.StackFrame.{StackFrame}
-use Rattle.jm_state.specs.declared.thread.StackFrame.TheVariants.{Method, Initialization}
+use Rattle.jm_state.specs.declared.thread.StackFrame.TheVariants.{Method, Initialization, Entry}
 use Rattle.jm_state.specs.declared.thread.Thread.{Thread}
 
 frame_alike : (l : LinkedView) (x : StackFrame) → Alike stack_frame_shape frame_shape (frame_part l) x
 frame_alike l (Method f) = record { refs = refl; refill = λ ns. refl }
 frame_alike l (Initialization class stage) = record { refs = refl; refill = λ ns. refl }
+frame_alike l Entry = record { refs = refl; refill = λ ns. refl }
 
 -- a pending exception and frames
 held_alike : (l : LinkedView) (p : Option ℕ) (fs : List StackFrame)

@@ -20,7 +20,7 @@ use Rattle.jm_state.specs.declared.monitor.Monitor.{Monitor}
 use Rattle.jm_state.specs.declared.thread.Ending.{Ending}
 use Rattle.jm_state.specs.declared.thread.Ending.TheVariants.{Running, Returned, EndedBy}
 use Rattle.jm_state.specs.declared.thread.StackFrame.{StackFrame}
-use Rattle.jm_state.specs.declared.thread.StackFrame.TheVariants.{Method, Initialization}
+use Rattle.jm_state.specs.declared.thread.StackFrame.TheVariants.{Method, Initialization, Entry}
 use Rattle.jm_state.proofs.Alike.{threads_seen}
 
 number_leaves : Leaves number_shape
@@ -35,6 +35,7 @@ frame_leaves ns (Method f) =
     (pair_leaves (pair_shape locals_shape stack_shape) optional_number_shape activation_leaves optional_leaves ns
     ((f.activation.locals, f.activation.stack), f.monitor))
 frame_leaves ns (Initialization class stage) = refl
+frame_leaves ns Entry = refl
 
 thread_leaves : Leaves held_thread_shape
 thread_leaves ns t = by t.object t.frames t.pending t.ending
@@ -78,10 +79,12 @@ none_same (Some p) = (λ e. cc, λ e. cc)
 frame_same : (l : LinkedView) (f : StackFrame) → FrameRuns l f ↔ FrameRuns l (erased_frame f)
 frame_same l (Method f) = (λ r. r, λ r. r)
 frame_same l (Initialization class stage) = (λ r. r, λ r. r)
+frame_same l Entry = (λ r. r, λ r. r)
 
 frame_not_yet : (l : LinkedView) (f : StackFrame) → FrameNotYet l f ↔ FrameNotYet l (erased_frame f)
 frame_not_yet l (Method f) = none_same f.monitor
 frame_not_yet l (Initialization class stage) = (λ r. r, λ r. r)
+frame_not_yet l Entry = (λ r. r, λ r. r)
 
 object_same : (t : HeldThread) → (t.object ≡ None) ↔ ((erase t).object ≡ None)
 object_same t = by t.ending t.object

@@ -4,7 +4,7 @@ use Rattle.jm_program.specs.declared.class.ClassParts.{ClassParts}
 use Rattle.jm_program.specs.declared.descriptor.ElementType.{ElementType}
 use Rattle.jm_program.specs.declared.descriptor.ElementType.TheVariants as type
 use Rattle.jm_world.specs.Types.{ObjectType, instance_of, array_of}
-use Rattle.jm_world.specs.Frames.{Frame, method_frame, initialization_frame}
+use Rattle.jm_world.specs.Frames.{Frame, method_frame, initialization_frame, entry_frame}
 use Rattle.jm_world.specs.World.{Thread, Monitor, Ending, running, returned, ended_by}
 use Rattle.jm_values.specs.Content.{Content}
 use Rattle.jm_world.specs.Loading.{first_statics, literal_texts}
@@ -16,7 +16,7 @@ use Rattle.jm_heap.specs.declared.class_id.Element.TheVariants.{Base, Class}
 use Rattle.jm_linked.specs.Named.{named_statics, named_states, named_literals}
 use Rattle.jm_linked.specs.Links.{LinkedView, class_name_of, name_of_number}
 use Rattle.jm_state.specs.declared.thread.StackFrame.{StackFrame}
-use Rattle.jm_state.specs.declared.thread.StackFrame.TheVariants.{Method, Initialization}
+use Rattle.jm_state.specs.declared.thread.StackFrame.TheVariants.{Method, Initialization, Entry}
 use Rattle.jm_state.specs.declared.thread.Ending as code
 use Rattle.jm_state.specs.declared.thread.Ending.TheVariants.{Running, Returned, EndedBy}
 use Rattle.jm_state.specs.declared.thread.Thread as held
@@ -46,6 +46,7 @@ program_class_name program n = name_in_program (slice_get program n)
 abbrev pub frame_part : LinkedView → StackFrame → Frame
 frame_part l (Method f) = method_frame (name_of_number l f.method) f.activation f.monitor
 frame_part l (Initialization class stage) = initialization_frame (program_class_name l.program class) stage
+frame_part l Entry = entry_frame
 
 abbrev pub ending_part : List ClassParts → code.Ending → Ending
 ending_part program Running = running

@@ -11,7 +11,7 @@ use Rattle.jm_state.specs.declared.monitor.Monitor.{Monitor}
 use Rattle.jm_state.specs.declared.thread.Ending.{Ending}
 use Rattle.jm_state.specs.declared.thread.Ending.TheVariants.{Running, Returned, EndedBy}
 use Rattle.jm_state.specs.declared.thread.StackFrame.{StackFrame}
-use Rattle.jm_state.specs.declared.thread.StackFrame.TheVariants.{Method, Initialization}
+use Rattle.jm_state.specs.declared.thread.StackFrame.TheVariants.{Method, Initialization, Entry}
 use Rattle.jm_state.specs.declared.thread.Thread.{Thread}
 
 -- a method frame: its local variables, its operands from the top, and the monitor's object
@@ -24,18 +24,21 @@ with_method_holders p f = record { method = f.method; monitor = p.1; activation 
 abbrev pub method_shape : Shape FrameView
 method_shape = part_shape method_holders with_method_holders method_part_shape
 
--- an initialization frame has none
+-- an initialization frame and an entry frame have none
 abbrev pub rename_stack_frame : (ℕ → ℕ) → StackFrame → StackFrame
 rename_stack_frame f (Method frame) = Method (method_shape.rename f frame)
 rename_stack_frame f (Initialization class stage) = Initialization class stage
+rename_stack_frame f Entry = Entry
 
 abbrev pub refs_stack_frame : StackFrame → List ℕ
 refs_stack_frame (Method frame) = method_shape.refs frame
 refs_stack_frame (Initialization class stage) = []
+refs_stack_frame Entry = []
 
 abbrev pub refill_stack_frame : List ℕ → StackFrame → StackFrame
 refill_stack_frame ns (Method frame) = Method (method_shape.refill ns frame)
 refill_stack_frame ns (Initialization class stage) = Initialization class stage
+refill_stack_frame ns Entry = Entry
 
 abbrev pub stack_frame_shape : Shape StackFrame
 stack_frame_shape = record { rename = rename_stack_frame; refs = refs_stack_frame; refill = refill_stack_frame }

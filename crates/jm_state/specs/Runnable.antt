@@ -9,22 +9,25 @@ use Rattle.jm_state.specs.Parts.{thread_part}
 use Rattle.jm_state.specs.Places.{HeldThread, held_thread}
 use Rattle.jm_state.specs.View.{StateView, view_of}
 use Rattle.jm_state.specs.declared.thread.StackFrame.{StackFrame}
-use Rattle.jm_state.specs.declared.thread.StackFrame.TheVariants.{Method, Initialization}
+use Rattle.jm_state.specs.declared.thread.StackFrame.TheVariants.{Method, Initialization, Entry}
 use Rattle.jm_state.specs.declared.state.State.{State}
 
 -- a method frame is of a method with code, an initialization frame of a class of the program
 abbrev pub FrameRuns : LinkedView → StackFrame → Type 0
 FrameRuns l (Method f) = f.method < length l.methods
 FrameRuns l (Initialization class stage) = class < length l.program
+FrameRuns l Entry = Unit {0}
 
 pub record ThreadRuns (l : LinkedView) (t : HeldThread) : Type 0 where
   pub frames : AllByRecursion (FrameRuns l) t.frames
   pub few : length t.frames ≤ 512
 
--- a method frame is of no monitor, as no synchronized method is invoked yet
+-- a method frame is of no monitor, as no synchronized method is invoked yet, and no frame is of a
+-- thread that has not begun, as none is started
 abbrev pub FrameNotYet : LinkedView → StackFrame → Type 0
 FrameNotYet l (Method f) = f.monitor ≡ None
 FrameNotYet l (Initialization class stage) = Unit {0}
+FrameNotYet l Entry = ⊥
 
 -- what no thread comes to while linking refuses the use of Thread and invokes
 pub record ThreadNotYet (l : LinkedView) (t : HeldThread) : Type 0 where

@@ -96,6 +96,7 @@ fn push_frame(roots: &mut Roots, frame: &StackFrame) -> Result<(), AllocError>
     match frame {
         StackFrame::Method(frame) => push_method(roots, frame),
         StackFrame::Initialization { .. } => Ok(()),
+        StackFrame::Entry => Ok(()),
     }
 }
 

@@ -2,8 +2,9 @@
 
 use crate::monitor::Monitor;
 use crate::thread::Thread;
+use jm_monitors::InitStates;
 use jm_values::{Place, Value};
-use jm_world::{ClassState, Stop};
+use jm_world::Stop;
 
 /// What a run of a linked program has made.
 #[derive(Drop)]
@@ -16,7 +17,7 @@ pub struct State<H> {
     /// The values of the static fields: System.out, then the program's.
     pub statics: Vec<Value>,
     /// How far the initialization of each of the program's classes is.
-    pub classes: Vec<ClassState>,
+    pub classes: InitStates,
     /// The Strings of the program's literals, in the order of the literals.
     pub literals: Vec<Place>,
     /// The monitors that are held.

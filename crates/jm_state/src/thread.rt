@@ -12,6 +12,8 @@ pub enum StackFrame {
     /// Of the initialization of a class, by its number among the program's classes, with what is
     /// next in it (JVMS 5.5).
     Initialization { class: u32, stage: Stage },
+    /// Of a thread that has not begun: the `run` of its object is next (JVMS 2.5.1).
+    Entry,
 }
 
 /// How a thread has ended.

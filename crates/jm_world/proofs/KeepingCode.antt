@@ -46,7 +46,7 @@ use Rattle.jm_world.specs.Frames.{Frame, method_frame, initialization_frame, ent
 use Rattle.jm_world.specs.World.{World, Thread, Monitor, with_thread, thread_at, is_running, with_state, state_of, reach_cells, literal_in, static_in, set_static_in}
 use Rattle.jm_world.specs.Next.{Next, goes, stops, blocks, faults, make, exception, throw}
 use Rattle.jm_world.specs.Here.{Here, topped, moved_on, with_frames, go_on, go_on_in, throws, push, push_new, with_operand, with_int, with_reference, with_arguments, with_object, with_depth, push_frame, is_ready, all_frames, when_initialized}
-use Rattle.jm_world.specs.Monitors.{monitor_in, recounted, entered, enter, enter_if, left_in, leave, leave_if}
+use Rattle.jm_world.specs.Monitors.{monitor_in, recounted, with_monitor, entered, enter, enter_if, left_in, leave, leave_if}
 use Rattle.jm_world.specs.Text.{number_text, char_text, utf8_text, units_of}
 use Rattle.jm_world.specs.Constants.{row_constant}
 use Rattle.jm_world.specs.Fields.{resolved_field, name_of_field, with_field, get_static, put_static, place_in, with_place, pushed, get_field, put_field, with_value_at, row_field}
@@ -161,7 +161,7 @@ enter_runs : (w : World) (number k : ℕ) (go : World → Next) → ((ms : List 
 enter_runs w number k go g = by (monitor_in w.monitors k)
   where
     by : (o : Option Monitor) → Runs (entered w number k o go)
-    by None = g (w.monitors ++ record { object = k; owner = number; count = 1 } ∷ [])
+    by None = g (with_monitor w.monitors (record { object = k; owner = number; count = 1 }))
     by (Some m) = if_runs (nat_eq m.owner number) _ _ (if_runs (nat_lt (m.count + 1) (2 ^ 31)) _ _ (g (recounted w.monitors k (m.count + 1))) tt) tt
 
 enter_if_runs : (w : World) (number : ℕ) (o : Option ℕ) (go : World → Next) → ((ms : List Monitor) → Runs (go (with_monitors w ms))) → Runs (enter_if w number o go)

@@ -1,5 +1,5 @@
 -- The words of the rows keep a world well formed.
-use Rattle.std.proofs.Common.{◌≡◌, ◌≢◌, ℕ, ◌+◌, ◌-◌, ◌^◌, ◌<◌, ◌≤◌, List, [], ◌∷◌, ◌++◌, Option, Some, None, Bool, true, false, refl, sym, ap, ◌∙◌, subst, inl, inr, ◌⊎◌, length, arith, ℤ}
+use Rattle.std.proofs.Common.{◌≡◌, ◌≢◌, ℕ, ◌+◌, ◌-◌, ◌^◌, ◌<◌, ◌≤◌, List, [], ◌∷◌, Option, Some, None, Bool, true, false, refl, sym, ap, ◌∙◌, subst, inl, inr, ◌⊎◌, length, arith, ℤ}
 use Rattle.std.specs.Prelude.{map, slice_get, nat_eq, nat_lt, nat_le, codes}
 use Rattle.std.specs.List.{AllByRecursion}
 use Rattle.std.proofs.lemmas.Bool.{ltb-true}
@@ -17,11 +17,11 @@ use Rattle.jm_world.specs.Frames.{Frame, method_frame, initialization_frame}
 use Rattle.jm_world.specs.World.{World, Thread, Monitor, with_thread, is_running, reach_cells, state_of}
 use Rattle.jm_world.specs.Next.{Next, goes, stops, blocks, make, exception, throw}
 use Rattle.jm_world.specs.Here.{Here, with_frames, moved_on, go_on_in, go_on, throws, with_room, push, push_new, with_operand, with_int, with_reference, with_arguments, with_object, with_depth, push_frame, is_ready, all_frames, when_initialized}
-use Rattle.jm_world.specs.Monitors.{monitor_in, without_monitor, recounted, entered, enter, enter_if, left_in, leave, leave_if}
+use Rattle.jm_world.specs.Monitors.{monitor_in, without_monitor, recounted, with_monitor, entered, enter, enter_if, left_in, leave, leave_if}
 use Rattle.jm_values.specs.Reach.{AllDistinct}
 use Rattle.jm_world.specs.WellFormed.{ValueBelow, ValuesBelow, LocalsBelow, NumberBelow, FrameBelow, FramesBelow, ThreadFits, MonitorFits, IsWellFormed}
 use Rattle.jm_world.specs.declared.stage.Stage.TheVariants.{Begin}
-use Rattle.jm_world.proofs.Fitting.{each_append, each_got, values_more, locals_more, number_more, frames_more, thread_more, with_thread_fits, grown, grown_longer, grown_fits}
+use Rattle.jm_world.proofs.Fitting.{each_got, values_more, locals_more, number_more, frames_more, thread_more, with_thread_fits, grown, grown_longer, grown_fits}
 
 -- what comes of a step is well formed
 abbrev pub Fine : Next → Type 0
@@ -188,27 +188,38 @@ not_held (x ∷ xs) k e a = by (nat_eq x.object k) refl (not_held xs k) (eqb_tel
     by false f ih (inr t) h (inl c) = t.1 (sym c)
     by false f ih (inr t) h (inr c) = ih h c
 
-among_last : (xs : List ℕ) (k j : ℕ) → Among j (xs ++ k ∷ []) → Among j xs ⊎ (j ≡ k)
-among_last [] k j (inl e) = inr e
-among_last [] k j (inr a) = absurd a
-among_last (x ∷ xs) k j (inl e) = inl (inl e)
-among_last (x ∷ xs) k j (inr a) = by (among_last xs k j a)
+with_fits : (P : Monitor → Type 0) (ms : List Monitor) (m : Monitor) → AllByRecursion P ms → P m → AllByRecursion P (with_monitor ms m)
+with_fits P [] m f p = (p, tt)
+with_fits P (x ∷ xs) m f p = by (nat_lt m.object x.object) (with_fits P xs m f.1 p)
   where
-    by : Among j xs ⊎ (j ≡ k) → ((j ≡ x) ⊎ Among j xs) ⊎ (j ≡ k)
-    by (inl b) = inl (inr b)
-    by (inr e) = inr e
+    by : (b : Bool) → AllByRecursion P (with_monitor xs m) → AllByRecursion P (elim b as (λ _. List Monitor) [ true ↦ m ∷ x ∷ xs | false ↦ x ∷ with_monitor xs m ])
+    by true ih = (p, f)
+    by false ih = (f.0, ih)
 
-distinct_last : (xs : List ℕ) (k : ℕ) → AllDistinct xs → (Among k xs → ⊥) → AllDistinct (xs ++ k ∷ [])
-distinct_last [] k d n = (λ a. absurd a, tt)
-distinct_last (x ∷ xs) k d n = (λ a. by (among_last xs k x a), distinct_last xs k d.1 (λ a. n (inr a)))
+with_among : (ms : List Monitor) (m : Monitor) (j : ℕ) → Among j (map (λ m. m.object) (with_monitor ms m)) → (j ≡ m.object) ⊎ Among j (map (λ m. m.object) ms)
+with_among [] m j a = a
+with_among (x ∷ xs) m j a = by (nat_lt m.object x.object) (with_among xs m j) a
   where
-    by : Among x xs ⊎ (x ≡ k) → ⊥
-    by (inl a) = d.0 a
-    by (inr e) = n (inl (sym e))
+    by : (b : Bool) → (Among j (map (λ m. m.object) (with_monitor xs m)) → (j ≡ m.object) ⊎ Among j (map (λ m. m.object) xs)) → Among j (map (λ m. m.object) (elim b as (λ _. List Monitor) [ true ↦ m ∷ x ∷ xs | false ↦ x ∷ with_monitor xs m ])) → (j ≡ m.object) ⊎ ((j ≡ x.object) ⊎ Among j (map (λ m. m.object) xs))
+    by true ih c = c
+    by false ih (inl e) = inr (inl e)
+    by false ih (inr c) = among (ih c)
+      where
+        among : (j ≡ m.object) ⊎ Among j (map (λ m. m.object) xs) → (j ≡ m.object) ⊎ ((j ≡ x.object) ⊎ Among j (map (λ m. m.object) xs))
+        among (inl e) = inl e
+        among (inr d) = inr (inr d)
 
-objects_append : (ms : List Monitor) (m : Monitor) → map (λ x. x.object) (ms ++ m ∷ []) ≡ map (λ x. x.object) ms ++ m.object ∷ []
-objects_append [] m = refl
-objects_append (x ∷ xs) m = ap (λ l. x.object ∷ l) (objects_append xs m)
+with_once : (ms : List Monitor) (m : Monitor) → AllDistinct (map (λ m. m.object) ms) → (Among m.object (map (λ m. m.object) ms) → ⊥) → AllDistinct (map (λ m. m.object) (with_monitor ms m))
+with_once [] m d n = (n, tt)
+with_once (x ∷ xs) m d n = by (nat_lt m.object x.object) (with_once xs m d.1 (λ a. n (inr a)))
+  where
+    other : (x.object ≡ m.object) ⊎ Among x.object (map (λ m. m.object) xs) → ⊥
+    other (inl e) = n (inl (sym e))
+    other (inr a) = d.0 a
+
+    by : (b : Bool) → AllDistinct (map (λ m. m.object) (with_monitor xs m)) → AllDistinct (map (λ m. m.object) (elim b as (λ _. List Monitor) [ true ↦ m ∷ x ∷ xs | false ↦ x ∷ with_monitor xs m ]))
+    by true ih = (n, d)
+    by false ih = (λ a. other (with_among xs m x.object a), ih)
 
 monitor_got : (P : Monitor → Type 0) (ms : List Monitor) (k : ℕ) (m : Monitor) → AllByRecursion P ms → monitor_in ms k ≡ Some m → P m
 monitor_got P [] k m f e = cc
@@ -232,9 +243,9 @@ enter_fine w number k go f b l h g = by (monitor_in w.monitors k) refl
     new = record { object = k; owner = number; count = 1 }
 
     by : (o : Option Monitor) → monitor_in w.monitors k ≡ o → Fine (entered w number k o go)
-    by None e = g (w.monitors ++ record { object = k; owner = number; count = 1 } ∷ []) (monitors_fit w (w.monitors ++ record { object = k; owner = number; count = 1 } ∷ []) f
-        (each_append (MonitorFits (length w.heap) (length w.threads)) w.monitors (record { object = k; owner = number; count = 1 } ∷ []) f.monitors (record { object = b; owner_from_one = l; owner_made = h; entered = omega arith; counted = omega arith }, tt))
-        (subst AllDistinct (sym (objects_append w.monitors (record { object = k; owner = number; count = 1 }))) (distinct_last (map (λ m. m.object) w.monitors) k f.once (not_held w.monitors k e))))
+    by None e = g (with_monitor w.monitors new) (monitors_fit w (with_monitor w.monitors new) f
+        (with_fits (MonitorFits (length w.heap) (length w.threads)) w.monitors new f.monitors (record { object = b; owner_from_one = l; owner_made = h; entered = omega arith; counted = omega arith }))
+        (with_once w.monitors new f.once (not_held w.monitors k e)))
     by (Some m) e = if_fine (nat_eq m.owner number) _ _
         (λ t. if_fine (nat_lt (m.count + 1) (2 ^ 31)) _ _
         (λ c. g (recounted w.monitors k (m.count + 1)) (monitors_fit w (recounted w.monitors k (m.count + 1)) f

@@ -1,12 +1,12 @@
 -- The words of the rows keep the frames of a world, and who initializes its classes.
-use Rattle.std.proofs.Common.{◌≡◌, ◌≢◌, ℕ, zero, suc, ◌+◌, ◌-◌, ◌^◌, ◌<◌, ◌≤◌, List, [], ◌∷◌, ◌++◌, Option, Some, None, Bool, true, false, refl, sym, ap, ◌∙◌, subst, inl, inr, ◌⊎◌, length, arith, ℤ, length-append}
+use Rattle.std.proofs.Common.{◌≡◌, ◌≢◌, ℕ, zero, suc, ◌+◌, ◌-◌, ◌^◌, ◌<◌, ◌≤◌, List, [], ◌∷◌, Option, Some, None, Bool, true, false, refl, sym, ap, ◌∙◌, subst, inl, inr, ◌⊎◌, length, arith, ℤ}
 use Rattle.std.specs.Prelude.{slice_get, slice_set, nat_eq, nat_lt, nat_le, codes}
 use Rattle.std.specs.List.{AllByRecursion}
 use Rattle.std.proofs.lemmas.Bool.{ltb-true, leb-true}
 use Rattle.std.proofs.lemmas.Bool.Decides.{eqb_tells}
 use Rattle.jm_program.specs.declared.descriptor.FieldType.{FieldType}
 use Rattle.jm_program.specs.declared.instruction.operation.OperandType.{OperandType}
-use Rattle.jm_values.specs.Activation.{Activation, category, units}
+use Rattle.jm_values.specs.Activation.{Activation, units}
 use Rattle.jm_values.specs.Steps.{is_of}
 use Rattle.jm_values.specs.WellFormed.{IsWellFormed}
 use Rattle.jm_values.specs.declared.value.Value.{Value}
@@ -17,9 +17,8 @@ use Rattle.jm_world.specs.Frames.{Frame, method_frame, initialization_frame}
 use Rattle.jm_world.specs.World.{World, Thread, Monitor, with_thread, thread_at, reach_cells, state_of, state_in}
 use Rattle.jm_world.specs.Next.{Next, goes, stops, blocks, make, exception, throw}
 use Rattle.jm_world.specs.Here.{Here, with_frames, topped, moved_on, go_on_in, go_on, throws, with_room, push, push_new, with_operand, with_int, with_reference, with_arguments, with_object, with_depth, push_frame, is_ready, all_frames, when_initialized}
-use Rattle.jm_world.specs.Monitors.{monitor_in, without_monitor, recounted, entered, enter, enter_if, left_in, leave, leave_if}
+use Rattle.jm_world.specs.Monitors.{monitor_in, recounted, with_monitor, entered, enter, enter_if, left_in, leave, leave_if}
 use Rattle.jm_world.specs.FramesOfRuns.{FramesStand, ThreadStands, Initialize, Initializes, ThreadsStand}
-use Rattle.jm_world.specs.declared.class_state.ClassState.{ClassState}
 use Rattle.jm_world.specs.declared.class_state.ClassState.TheVariants.{InProgress}
 use Rattle.jm_world.specs.declared.stage.Stage.TheVariants.{Begin}
 use Rattle.jm_world.proofs.Fitting.{each_got, each_set, grown}
@@ -193,7 +192,7 @@ pub enter_framed : (w : World) (number k : ℕ) (go : World → Next) → ((ms :
 enter_framed w number k go g = by (monitor_in w.monitors k)
   where
     by : (o : Option Monitor) → Framed (entered w number k o go)
-    by None = g (w.monitors ++ record { object = k; owner = number; count = 1 } ∷ [])
+    by None = g (with_monitor w.monitors (record { object = k; owner = number; count = 1 }))
     by (Some m) = if_framed (nat_eq m.owner number) _ _ (λ t. if_framed (nat_lt (m.count + 1) (2 ^ 31)) _ _ (λ c. g (recounted w.monitors k (m.count + 1))) (λ c. tt)) (λ t. tt)
 
 pub enter_if_framed : (w : World) (number : ℕ) (o : Option ℕ) (go : World → Next) → ((ms : List Monitor) → Framed (go (with_monitors w ms))) → Framed (enter_if w number o go)

@@ -1,5 +1,5 @@
 -- Monitors: an owner and a count (JVMS 2.11.10, 6.5 monitorenter, monitorexit).
-use Rattle.std.specs.Prelude.{ℕ, ◌+◌, ◌-◌, ◌^◌, List, [], ◌∷◌, ◌++◌, Option, Some, None, true, false, nat_eq, nat_lt}
+use Rattle.std.specs.Prelude.{ℕ, ◌+◌, ◌-◌, ◌^◌, List, [], ◌∷◌, Option, Some, None, true, false, nat_eq, nat_lt}
 use Rattle.jm_values.specs.declared.fault.TagFault.TheVariants.{MonitorCount}
 use Rattle.jm_world.specs.World.{World, Monitor}
 use Rattle.jm_world.specs.Next.{Next, blocks, faults}
@@ -20,9 +20,14 @@ recounted (m ∷ ms) k count = elim (nat_eq m.object k) [
   | false ↦ m ∷ recounted ms k count
 ]
 
+-- the monitors with a new one, in the order of the objects' numbers
+abbrev pub with_monitor : List Monitor → Monitor → List Monitor
+with_monitor [] new = new ∷ []
+with_monitor (m ∷ ms) new = elim (nat_lt new.object m.object) [ true ↦ new ∷ m ∷ ms | false ↦ m ∷ with_monitor ms new ]
+
 -- enters: another's monitor blocks, and a count past 2^31 - 1 is a fault
 abbrev pub entered : World → ℕ → ℕ → Option Monitor → (World → Next) → Next
-entered w number k None go = go (record w { monitors = w.monitors ++ record { object = k; owner = number; count = 1 } ∷ [] })
+entered w number k None go = go (record w { monitors = with_monitor w.monitors (record { object = k; owner = number; count = 1 }) })
 entered w number k (Some m) go = elim (nat_eq m.owner number) [
   | false ↦ blocks
   | true ↦ elim (nat_lt (m.count + 1) (2 ^ 31)) [

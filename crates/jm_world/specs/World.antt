@@ -58,7 +58,7 @@ pub record World : Type 0 where
   pub literals : List Literal
   pub statics : List Static
   pub classes : List Progress
-  -- those that are held
+  -- those that are held, in the order of their objects' numbers
   pub monitors : List Monitor
   -- thread n is the n-th, from 1
   pub threads : List Thread

@@ -8,15 +8,19 @@ use Rattle.jm_values.specs.declared.fault.TagFault.TheVariants as fault
 use Rattle.jm_world.specs.Monitors.{enter}
 use Rattle.jm_world.specs.Next.{blocks, faults, goes}
 use Rattle.jm_world.specs.Run.{run_from}
-use Rattle.jm_world.specs.World.{World, ended_by}
+use Rattle.jm_world.specs.World.{World, Monitor, ended_by}
 use Rattle.jm_world.specs.Written.{aload, astore, class, class_below, field, getstatic, iconst, int, invokevirtual, main, main_method, method, monitorenter, monitorexit, new, nothing_to_nothing, out, println, putstatic, return, start}
 use Rattle.jm_world.specs.declared.reply.ReplyKind.TheVariants as kind
 use Rattle.jm_world.proofs.Runs.Computed.{computed, ending_of, in_method, operands, steps, where_is}
 use Rattle.jm_world.proofs.Runs.Words.{ends, in_turn, kinds_from, object, printed}
 
--- a world in which the first thread has entered the monitor of object 2 so often
+-- a world in which these monitors are held
+abbrev holding : List Monitor → World
+holding monitors = record (computed (main (return ∷ []) ∷ []) []) { monitors = monitors }
+
+-- one in which the first thread has entered the monitor of object 2 so often
 abbrev counted : ℕ → World
-counted count = record (computed (main (return ∷ []) ∷ []) []) { monitors = record { object = 2; owner = 1; count = count } ∷ [] }
+counted count = holding (record { object = 2; owner = 1; count = count } ∷ [])
 
 the_count_goes_to_its_limit : enter (counted 2147483646) 1 2 (λ w. goes w) ≡ goes (counted 2147483647)
 unfolding computed
@@ -103,3 +107,37 @@ a_synchronized_method_enters_again = refl
 and_counts_two : (computed entered_again (steps 9 1)).monitors ≡ record { object = 2; owner = 1; count = 2 } ∷ []
 unfolding computed
 and_counts_two = refl
+
+-- the monitors of two objects are held in the order of the objects, in whichever they are entered
+abbrev the_later_first : List ClassParts
+the_later_first = main (new (codes "java/lang/Object") ∷ astore short_index.One ∷ new (codes "java/lang/Object") ∷ astore short_index.Two
+    ∷ aload short_index.Two ∷ monitorenter ∷ aload short_index.One ∷ monitorenter ∷ aload short_index.Two ∷ monitorexit ∷ return ∷ []) ∷ []
+
+the_later_is_held : (computed the_later_first (steps 9 1)).monitors ≡ record { object = 3; owner = 1; count = 1 } ∷ []
+unfolding computed
+the_later_is_held = refl
+
+the_earlier_comes_before_it : (computed the_later_first (steps 11 1)).monitors ≡ record { object = 2; owner = 1; count = 1 } ∷ record { object = 3; owner = 1; count = 1 } ∷ []
+unfolding computed
+the_earlier_comes_before_it = refl
+
+and_stays_when_the_later_is_left : (computed the_later_first (steps 13 1)).monitors ≡ record { object = 2; owner = 1; count = 1 } ∷ []
+unfolding computed
+and_stays_when_the_later_is_left = refl
+
+abbrev the_earlier_first : List ClassParts
+the_earlier_first = main (new (codes "java/lang/Object") ∷ astore short_index.One ∷ new (codes "java/lang/Object") ∷ astore short_index.Two
+    ∷ aload short_index.One ∷ monitorenter ∷ aload short_index.Two ∷ monitorenter ∷ aload short_index.One ∷ monitorexit ∷ return ∷ []) ∷ []
+
+the_later_comes_behind_it : (computed the_earlier_first (steps 11 1)).monitors ≡ record { object = 2; owner = 1; count = 1 } ∷ record { object = 3; owner = 1; count = 1 } ∷ []
+unfolding computed
+the_later_comes_behind_it = refl
+
+and_stays_when_the_earlier_is_left : (computed the_earlier_first (steps 13 1)).monitors ≡ record { object = 3; owner = 1; count = 1 } ∷ []
+unfolding computed
+and_stays_when_the_earlier_is_left = refl
+
+another_threads_stands_in_the_order_too : enter (holding (record { object = 2; owner = 1; count = 1 } ∷ record { object = 4; owner = 1; count = 2 } ∷ [])) 2 3 (λ w. goes w)
+    ≡ goes (holding (record { object = 2; owner = 1; count = 1 } ∷ record { object = 3; owner = 2; count = 1 } ∷ record { object = 4; owner = 1; count = 2 } ∷ []))
+unfolding computed
+another_threads_stands_in_the_order_too = refl

@@ -3,23 +3,23 @@ use Rattle.jm_interp.proofs.Initialized.{class_within, own, not_begun_there, ski
 use Rattle.jm_interp.proofs.OnThread.{numbered}
 use Rattle.jm_interp.proofs.initialization.begin.Goals as goal
 
-pub index-requires : goal.index-requires
-index-requires g c = class_within c.requires.1 c.args.class (own c.requires.1)
+pub get-requires : goal.get-requires
+get-requires g c = class_within c.requires.1 c.args.class (own c.requires.1)
 
 pub overflow_add-at : goal.overflow_add-at
 overflow_add-at g c = omega (arith, numbered c.requires.1)
 
 pub returns-in-Done : goal.returns-in-Done
-returns-in-Done g c = skips c.requires.1 c.index.ensures 0 (inl c.in-Done.is) c.leave_frame.ensures
+returns-in-Done g c = skips c.requires.1 c.get.ensures 0 (inl c.in-Done.is) c.leave_frame.ensures
 
 pub returns-then-owner-at : goal.returns-then-owner-at
-returns-then-owner-at g c = waits c.requires.1 c.index.ensures c.in-InProgress.is c.if-owner-at.true
+returns-then-owner-at g c = waits c.requires.1 c.get.ensures c.in-InProgress.is c.if-owner-at.true
 
 pub returns-else-owner-at : goal.returns-else-owner-at
-returns-else-owner-at g c = skips c.requires.1 c.index.ensures _ (inr (c.in-InProgress.is, c.if-owner-at.false)) c.leave_frame-in-InProgress.ensures
+returns-else-owner-at g c = skips c.requires.1 c.get.ensures _ (inr (c.in-InProgress.is, c.if-owner-at.false)) c.leave_frame-in-InProgress.ensures
 
 pub begin_anew-requires : goal.begin_anew-requires
-begin_anew-requires g c = (_, c.requires.1, not_begun_there c.requires.1 c.index.ensures c.in-NotBegun.is)
+begin_anew-requires g c = (_, c.requires.1, not_begun_there c.requires.1 c.get.ensures c.in-NotBegun.is)
 
 pub leave_frame-requires : goal.leave_frame-requires
 leave_frame-requires g c = record { frames = _; pending = _; on = c.requires.1 }
@@ -31,4 +31,4 @@ pub refuse_class-requires : goal.refuse_class-requires
 refuse_class-requires g c = record { frames = _; pending = _; on = c.requires.1 }
 
 pub returns-in-Failed : goal.returns-in-Failed
-returns-in-Failed g c = refuses c.requires.1 c.index.ensures c.in-Failed.is c.refuse_class.ensures
+returns-in-Failed g c = refuses c.requires.1 c.get.ensures c.in-Failed.is c.refuse_class.ensures

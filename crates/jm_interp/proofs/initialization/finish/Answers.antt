@@ -3,13 +3,13 @@ use Rattle.jm_interp.proofs.Initialized.{class_within, own, finished}
 use Rattle.jm_interp.proofs.OnThread.{within, read}
 use Rattle.jm_interp.proofs.initialization.finish.Goals as goal
 
-pub index_mut-requires : goal.index_mut-requires
-index_mut-requires g c = class_within c.requires.2 c.args.class (own c.requires.2)
+pub finish-requires : goal.finish-requires
+finish-requires g c = class_within c.requires.2 c.args.class (own c.requires.2)
 
-pub index_mut-requires-2 : goal.index_mut-requires-2
-index_mut-requires-2 g c = within c.requires.2
+pub index_mut-requires : goal.index_mut-requires
+index_mut-requires g c = within c.requires.2
 
 pub returns : goal.returns
 returns g c =
-    finished c.requires.2 (record { threads = refl; statics = refl; literals = refl; monitors = refl; heap = refl; stop = refl }) refl refl refl
-    (c.drop_top.ensures _ _ (read c.requires.2 c.index_mut-2.ensures.value))
+    finished c.requires.2 (record { threads = refl; statics = refl; literals = refl; monitors = refl; heap = refl; stop = refl }) c.finish.ensures refl refl
+    (c.drop_top.ensures _ _ (read c.requires.2 c.index_mut.ensures.value))

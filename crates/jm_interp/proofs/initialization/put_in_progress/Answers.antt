@@ -3,19 +3,19 @@ use Rattle.jm_interp.proofs.Initialized.{class_within, own, in_progress}
 use Rattle.jm_interp.proofs.OnThread.{within, numbered, read}
 use Rattle.jm_interp.proofs.initialization.put_in_progress.Goals as goal
 
-pub index_mut-requires : goal.index_mut-requires
-index_mut-requires g c = class_within c.requires.1 c.args.class (own c.requires.1)
+pub begin-requires : goal.begin-requires
+begin-requires g c = class_within c.requires.1 c.args.class (own c.requires.1)
 
-pub index_mut-requires-2 : goal.index_mut-requires-2
-index_mut-requires-2 g c = within c.requires.1
+pub index_mut-requires : goal.index_mut-requires
+index_mut-requires g c = within c.requires.1
 
 pub overflow_add-at : goal.overflow_add-at
 overflow_add-at g c = omega (arith, numbered c.requires.1)
 
 pub go_to_stage-requires : goal.go_to_stage-requires
-go_to_stage-requires g c = (_, _, _, read c.requires.1 c.index_mut-2.ensures.value)
+go_to_stage-requires g c = (_, _, _, read c.requires.1 c.index_mut.ensures.value)
 
 pub returns : goal.returns
 returns g c =
-    in_progress c.requires.1 (record { threads = refl; statics = refl; literals = refl; monitors = refl; heap = refl; stop = refl }) refl refl refl
-    (c.go_to_stage.ensures _ _ _ (read c.requires.1 c.index_mut-2.ensures.value))
+    in_progress c.requires.1 (record { threads = refl; statics = refl; literals = refl; monitors = refl; heap = refl; stop = refl }) c.begin.ensures refl refl
+    (c.go_to_stage.ensures _ _ _ (read c.requires.1 c.index_mut.ensures.value))

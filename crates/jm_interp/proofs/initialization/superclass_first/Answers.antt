@@ -7,8 +7,8 @@ returns-in_default-own_superclass g c =
     let d = class_of c.requires.1 in
     none_first c.requires.1 refl (c.in_default-own_superclass.ensures d.class_of (c.in-Some.ensures d.class_of d.at)) c.to_initializer.ensures
 
-pub index-requires : goal.index-requires
-index-requires g c =
+pub get-requires : goal.get-requires
+get-requires g c =
     let d = class_of c.requires.1 in
     let own = own_within c.requires.1 (c.in-Some-own_superclass.ensures d.class_of (c.in-Some.ensures d.class_of d.at)) in
     class_within c.requires.1 c.in-Some-own_superclass.above own
@@ -17,15 +17,15 @@ pub returns-in-Done : goal.returns-in-Done
 returns-in-Done g c =
     let d = class_of c.requires.1 in
     let own = c.in-Some-own_superclass.ensures d.class_of (c.in-Some.ensures d.class_of d.at) in
-    done_first c.requires.1 c.in-Some-own_superclass.above refl own c.index.ensures c.in-Done.is c.to_initializer-in-Done.ensures
+    done_first c.requires.1 c.in-Some-own_superclass.above refl own c.get.ensures c.in-Done.is c.to_initializer-in-Done.ensures
 
 pub begin_superclass-requires : goal.begin_superclass-requires
 begin_superclass-requires g c =
     let d = class_of c.requires.1 in
     (_, c.requires.0, c.requires.1, own_within c.requires.1 (c.in-Some-own_superclass.ensures d.class_of (c.in-Some.ensures d.class_of d.at)))
 
-pub returns-in_default-index : goal.returns-in_default-index
-returns-in_default-index g c =
+pub returns-in_default-get : goal.returns-in_default-get
+returns-in_default-get g c =
     let d = class_of c.requires.1 in
-    own_first c.requires.1 c.in-Some-own_superclass.above refl (c.in-Some-own_superclass.ensures d.class_of (c.in-Some.ensures d.class_of d.at)) c.index.ensures
-    c.in_default-index.not-Done c.begin_superclass.ensures
+    own_first c.requires.1 c.in-Some-own_superclass.above refl (c.in-Some-own_superclass.ensures d.class_of (c.in-Some.ensures d.class_of d.at)) c.get.ensures
+    c.in_default-get.not-Done c.begin_superclass.ensures

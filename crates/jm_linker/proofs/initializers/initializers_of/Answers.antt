@@ -1,20 +1,15 @@
--- The initializer of one more class, and in the end that of each.
-use Rattle.std.proofs.Common.{subst, arith}
-use Rattle.std.proofs.lemmas.List.{take_all}
-use Rattle.jm_linked.specs.Tables.{IsInitializer}
-use Rattle.jm_linker.proofs.PairLaws.{ArePairs, pair_at, pairs_more}
+-- The initializer of one more class.
+use Rattle.std.proofs.Common.{◌≡◌, ℕ, ◌+◌, List, Option, length, take, sym, subst, arith}
+use Rattle.jm_linked.specs.Tables.{AreInitializers, IsInitializer}
+use Rattle.jm_linker.proofs.InitializerLaws.{initializers_more}
 use Rattle.jm_linker.proofs.initializers.initializers_of.Goals as goal
 
 pub loop-class-preserved : goal.loop-class-preserved
 loop-class-preserved c =
     let program = c.args.classes.now.program.now in
-    let same = c.parts.ensures.parts in
-    pairs_more (λ n d. IsInitializer d n) c.loop-class.numbers.items c.push.new.self.items program c.loop-class.class-index c.in_ok-initializer_number.field-0 c.class-item.result
-    (omega arith) c.class-item.is c.in_ok-push.ensures.items c.loop-class.invariant
-    (subst (λ d. IsInitializer d c.in_ok-initializer_number.field-0) same c.in_ok-initializer_number.ensures)
-
-pub returns : goal.returns
-returns c =
-    let program = c.args.classes.now.program.now in
-    let all = subst (ArePairs (λ n d. IsInitializer d n) c.loop-class.numbers.items) (take_all c.loop-class.class-index program (omega arith)) c.loop-class.invariant in
-    λ class d at. pair_at (λ n e. IsInitializer e n) c.loop-class.numbers.items program all class d at
+    let i = c.loop-class.class-index in
+    let items = c.in_ok-push.ensures.items in
+    let is_its = subst (λ d. IsInitializer d c.in_ok-initializer_number.field-0) c.parts.ensures.parts c.in_ok-initializer_number.ensures in
+    subst (λ ns. (length ns ≡ i + 1) × AreInitializers (take (i + 1) program) ns) (sym {A = List (Option ℕ)} items)
+    (initializers_more program c.loop-class.numbers.items i c.class-item.result c.in_ok-initializer_number.field-0
+    (omega arith) c.class-item.is is_its c.loop-class.invariant)

@@ -24,7 +24,7 @@ returns g c =
     let t : held.Thread = record { object = None; frames = c.in_ok-frames.frames; pending = None; ending = Running } in
     let threads = pushed c.in_ok-threads.threads.items c.push_reserved.new.self.items [] t c.push_reserved.ensures.items c.in_ok-threads.ensures.items in
     let statics = c.in_ok-statics.ensures ∙ ap (λ cs. Ref out ∷ static_values cs) c.classes-program.ensures.classes in
-    let states = c.in_ok-classes.classes.items in
+    let states = c.in_ok-classes.classes in
     let strings = c.in_ok-literals.literals.items in
     let both = begun l linked c.requires.not_later out c.get-arguments.result t
     (record { object = refl; frames = c.in_ok-frames.ensures; pending = refl; ending = refl }) strings first.1
@@ -36,8 +36,8 @@ returns g c =
       statics = statics j;
       classes = states;
       literals = strings;
-      monitors = c.new.ensures.items j;
-      output = c.new-2.ensures.items j;
+      monitors = c.new-2.ensures.items j;
+      output = c.new-3.ensures.items j;
       stop = None;
     }) in
     record { loaded = both.0; runs = both.1 }

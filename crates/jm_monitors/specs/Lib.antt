@@ -1,0 +1,2 @@
+pub mod HeldMonitors
+pub mod Entries
