@@ -10,4 +10,7 @@ mod Beginnings
 mod Telling
 mod Statuses
 mod Rooms
+mod RobinLemmas
+mod PassLemmas
+mod KeptThreads
 pub mod Calls
