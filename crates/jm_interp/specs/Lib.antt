@@ -21,3 +21,4 @@ pub mod Creating
 pub mod ConstantValues
 pub mod Invoking
 pub mod Athrow
+pub mod Locking
