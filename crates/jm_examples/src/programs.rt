@@ -1,8 +1,7 @@
 // The programs among the data, and what running each comes to.
 
-use crate::jobs::{HEAP, input_file, run_job};
 use crate::name_of;
-use jm_execute::{Contents, Job, Status, Watched, execute};
+use jm_execute::{Contents, InputFile, Job, RunJob, Status, Watched, execute};
 use std::{fs, io};
 
 // A program and how it is run.
@@ -18,6 +17,9 @@ struct Run<'a> {
 
 // Enough events for each of the programs.
 const EVENTS: &str = "100000";
+
+// The limit of the heap of a program that names none.
+const HEAP: u32 = 65_536;
 
 /// Runs each program of a file whose lines name the files of a program, the main class's first.
 pub fn print_programs(rt: &HostRuntime, file: &str) -> io::Result<()> {
@@ -74,21 +76,31 @@ fn main_file(program: &str) -> &str {
 
 // Prints the output of a program, the lines on its standard error, and its status.
 fn print_run(rt: &HostRuntime, run: &Run<'_>) -> io::Result<()> {
-    let job = job_of(rt, run)?;
+    let job = run_job(rt, run)?;
     println!(rt; "status {}", status_of(rt, &job).code())
 }
 
+// A file that was read.
+fn input_file(rt: &HostRuntime, name: &str, bytes: Vec<u8>) -> io::Result<InputFile> {
+    Ok(InputFile {
+        name: String::from_str(rt.alloc(), name)?,
+        contents: Contents::Bytes(bytes),
+    })
+}
+
 // The job of a run.
-fn job_of(rt: &HostRuntime, run: &Run<'_>) -> io::Result<Job> {
+fn run_job(rt: &HostRuntime, run: &Run<'_>) -> io::Result<Job> {
     let mut files = Vec::new(rt.alloc());
     for name in run.files.split(' ') {
-        let bytes = fs::read(rt, name)?;
-        files.push(input_file(rt.alloc(), name, Contents::Bytes(bytes))?)?;
+        files.push(input_file(rt, name, fs::read(rt, name)?)?)?;
     }
-    let schedule = format!(in rt.alloc(); "t 1 x {}", run.events)?;
-    let schedule = Contents::Bytes(schedule.into_bytes());
-    let schedule = input_file(rt.alloc(), "schedule", schedule)?;
-    Ok(run_job(run.heap, schedule, files))
+    let mut schedule = String::from_str(rt.alloc(), "t 1 x ")?;
+    schedule.push_str(run.events)?;
+    Ok(Job::Run(RunJob {
+        heap: run.heap,
+        schedule: input_file(rt, "schedule", schedule.into_bytes())?,
+        program: files,
+    }))
 }
 
 // Does a job whose lines for standard error come behind its output.

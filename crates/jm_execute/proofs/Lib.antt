@@ -10,7 +10,4 @@ mod Beginnings
 mod Telling
 mod Statuses
 mod Rooms
-mod RobinLemmas
-mod PassLemmas
-mod KeptThreads
 pub mod Calls

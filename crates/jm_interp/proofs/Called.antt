@@ -223,7 +223,7 @@ module _ {H : Type 0} {content : H → Content ClassId} {at : At} {old : State H
     begins {t} few made s =
         let b = count_is (read h.on got) len in
         let stands = subst (λ f. Stands t (Method f ∷ Method caller ∷ h.below) (running h.on.object None)) made s in
-        thread.goes h.on stands (with_more {g = Method called} (got_within at.linked.now.methods number is.method is.method_is) (omega arith)
+        thread.goes h.on stands (with_more {g = Method called} (got_within at.linked.now.methods number is.method is.method_is) refl (omega arith)
         (part_with h caller.activation)) inside (λ w m.
         let frames = calling (place h w) (drop count (map (rename names) stack)) in
         let shallow : length frames < 512 = let a = depth w in omega arith in

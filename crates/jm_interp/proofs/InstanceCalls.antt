@@ -160,6 +160,6 @@ module _ {H : Type 0} {content : H → Content ClassId} {at : At} {old : State H
       λ w. slice_get-map (rename f) stack (length parameters) ∙ ap (option_map (rename f)) s.has.receiver_is in
       does_as h (λ w m. m) (λ w m.
       s.step w (model h) m (thread_there h w m)
-      ∙ called linked p k i.there h.beside.runs.program (place s.on w) (f receiver) (length parameters) (there w))
+      ∙ called linked p k i.there h.beside.runs.not_yet.program (place s.on w) (f receiver) (length parameters) (there w))
       (subst (λ n. Does content at old result new (in_method (calls_with found code n))) (sym one_more)
       (done found code (found_called linked p k i.there)))

@@ -139,8 +139,6 @@ module _ {T : Type 0} (m : Parts T) (w : World) (h : Matches m w) (statics : Lis
     threads = h.threads;
     statics = refl;
     monitors = h.monitors;
-    monitor_serials = h.monitor_serials;
-    thread_serials = h.thread_serials;
     literals = h.literals;
     program = h.program;
     classes = h.classes;
@@ -166,8 +164,7 @@ module _ {H : Type 0} {content : H → Content ClassId} {at : At} {old : State H
         statics = length-set old.statics.items n v ∙ r.statics;
         literals = r.literals;
         classes = r.classes;
-        started = r.started;
-        program = r.program;
+        not_yet = record { program = r.not_yet.program; threads = r.not_yet.threads; monitors = r.not_yet.monitors };
       }
 
   module _ (inside : Holds content at old v) where

@@ -167,7 +167,7 @@ module _ {H : Type 0} {content : H → Content ClassId} {at : At} {mid : State H
       }))) named
       (subst (Matches (parts_at content at (with_thread_at mid at.index pending_at))) (same_rest g.on after m g.frames (running g.on.object (Some place)))
       (changed_among g.on after m (IsKnown w (exception class)) shared (with_thread_at mid at.index pending_at)
-      (with_thread_changed g.on pending_at) stands_pending refl stand))
+      (with_thread_changed g.on pending_at) stands_pending stand))
 
 -- an exception of the class has been made, or none
 module _ {H : Type 0} {content : H → Content ClassId} {at : At} {old : State H} (mid : State H) (class : ℕ) (h : OnFrames content at old)

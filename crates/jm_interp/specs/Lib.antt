@@ -21,4 +21,3 @@ pub mod Creating
 pub mod ConstantValues
 pub mod Invoking
 pub mod Athrow
-pub mod Locking

@@ -10,8 +10,6 @@ ghost use Rattle.jm_interp.specs.Calls.{IsCalled, ThreadCalls, MayCall, Called, 
 ghost use Rattle.jm_interp.specs.Standing.{RunsMethod, InAnyMethod};
 
 use crate::at::At;
-use crate::frames::drop_top;
-use crate::monitors::enter_if;
 use crate::throwing::throws;
 use crate::top_frame::top_method;
 use jm_builtins::BuiltInClass;
@@ -19,7 +17,6 @@ use jm_calls::{Callee, arguments_on, called_frame};
 use jm_frames::Frame;
 use jm_heap::Heap;
 use jm_state::{Halt, StackFrame, State, StepEnd, Thread};
-use jm_values::Place;
 use std::alloc::AllocError;
 
 /// Calls a method, by its number among those with code, that enters no monitor: its frame begins with
@@ -31,7 +28,6 @@ pub(crate) fn call<H: Heap>(
     state: &mut State<H>,
     method: u32,
     count: usize,
-    monitor: Option<Place>,
 ) -> Result<StepEnd, Halt>
     requires { MayCall H.content at state.old method count }
     ensures { (found : FoundMethod) (code : Code) → IsCalled at.entry.linked.now method found code
@@ -40,47 +36,17 @@ pub(crate) fn call<H: Heap>(
     if state.threads[at.index].frames.len() >= 512 {
         return throws(at, state, BuiltInClass::StackOverflowError.number());
     }
-    let Ok(frame) = frame_of(at, &state.threads[at.index], method, count, monitor) else {
-        return Err(Halt::OutOfMemory);
-    };
-    match push_frame(&mut state.threads[at.index], frame) {
-        Ok(()) => enter_called(at, state, count, monitor),
+    match frame_of(at, &state.threads[at.index], method, count) {
+        Ok(frame) => match push_called(&mut state.threads[at.index], frame, count) {
+            Ok(()) => Ok(StepEnd::Done),
+            Err(_) => Err(Halt::OutOfMemory),
+        },
         Err(_) => Err(Halt::OutOfMemory),
     }
 }
 
-// Enters the monitor of the method whose frame is on top, if it has one, and takes its arguments off
-// the operands of the caller. Where the monitor is not entered the frame is dropped again.
-fn enter_called<H: Heap>(
-    at: At<'_>,
-    state: &mut State<H>,
-    count: usize,
-    monitor: Option<Place>,
-) -> Result<StepEnd, Halt> {
-    match enter_if(at, state, monitor) {
-        Ok(StepEnd::Done) => {
-            drop_arguments(&mut state.threads[at.index], count);
-            Ok(StepEnd::Done)
-        }
-        Ok(StepEnd::Blocked) => {
-            drop_top(&mut state.threads[at.index]);
-            Ok(StepEnd::Blocked)
-        }
-        Err(halt) => {
-            drop_top(&mut state.threads[at.index]);
-            Err(halt)
-        }
-    }
-}
-
 // The frame of a method that is called by the top frame, with so many of its operands.
-fn frame_of(
-    at: At<'_>,
-    thread: &Thread,
-    method: u32,
-    count: usize,
-    monitor: Option<Place>,
-) -> Result<Frame, AllocError>
+fn frame_of(at: At<'_>, thread: &Thread, method: u32, count: usize) -> Result<Frame, AllocError>
     requires { ThreadCalls at.linked.now method count thread.now }
     ensures { (m : LinkedMethod) → slice_get at.entry.linked.now.methods method ≡ Some m
         → InAnyMethod thread.now (λ f below r. IfOk result (λ frame. frame ≡ beginning (callee_of method m) (on_top count f.activation.stack))) }
@@ -88,27 +54,26 @@ fn frame_of(
     let linked = &at.linked.methods()[method as usize];
     let callee = Callee {
         method: method as usize,
-        monitor,
+        monitor: None,
         max_stack: linked.max_stack,
         max_locals: linked.max_locals,
     };
     called_frame(at.alloc, callee, arguments_on(top_method(thread), count))
 }
 
-// Puts a frame above the top one. `AllocError`: the growth was refused, and the frames are as they
-// were.
-fn push_frame(thread: &mut Thread, frame: Frame) -> Result<(), AllocError>
+// Puts a frame above the top one, a method's, which loses so many operands. `AllocError`: the growth
+// was refused, and the frames are as they were.
+fn push_called(thread: &mut Thread, frame: Frame, count: usize) -> Result<(), AllocError>
+    requires { RunsMethod thread.old }
+    ensures { InAnyMethod thread.old (λ f below r. Called result thread.new frame count f below r) }
 {
     thread.frames.push(StackFrame::Method(frame))?;
-    Ok(())
-}
-
-// Takes so many operands off the frame below the top one, a method's.
-fn drop_arguments(thread: &mut Thread, count: usize)
-{
     let number = thread.frames.len();
     match &mut thread.frames[number - 2] {
-        StackFrame::Method(caller) => caller.drop_operands(count),
+        StackFrame::Method(caller) => {
+            caller.drop_operands(count);
+            Ok(())
+        }
         StackFrame::Initialization { class: _, stage: _ } => unreachable!(),
         StackFrame::Entry => unreachable!(),
     }

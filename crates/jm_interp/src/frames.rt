@@ -16,7 +16,7 @@ use crate::at::At;
 use jm_frames::Frame;
 use jm_heap::Heap;
 use jm_state::{Halt, StackFrame, State, Thread};
-use jm_values::{Place, TagFault, Value};
+use jm_values::{TagFault, Value};
 use jm_world::{Stage, Stop};
 use std::alloc::AllocError;
 
@@ -45,18 +45,6 @@ pub(crate) fn class_on_top(thread: &Thread) -> Option<u32>
     match top {
         StackFrame::Method(_) => None,
         StackFrame::Initialization { class, stage: _ } => Some(*class),
-        StackFrame::Entry => None,
-    }
-}
-
-/// The object whose monitor the method of the top frame entered, if it entered one.
-pub(crate) fn monitor_on_top(thread: &Thread) -> Option<Place> {
-    let Some(top) = thread.frames.last() else {
-        return None;
-    };
-    match top {
-        StackFrame::Method(frame) => frame.monitor(),
-        StackFrame::Initialization { class: _, stage: _ } => None,
         StackFrame::Entry => None,
     }
 }

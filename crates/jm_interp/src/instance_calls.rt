@@ -8,10 +8,9 @@ ghost use Rattle.jm_interp.specs.Invoking.{IsCoded, IsInstanceMethod, StepCalls}
 
 use crate::at::At;
 use crate::calls::call;
-use crate::invocation::{monitor_of, parameters_of};
+use crate::invocation::parameters_of;
 use jm_heap::Heap;
 use jm_state::{Halt, State, StepEnd};
-use jm_values::Place;
 
 /// Calls an instance method by its number among those with code: the receiver and the arguments, on
 /// top, become its first local variables (JVMS 2.6.1). With 512 frames StackOverflowError is thrown
@@ -20,7 +19,6 @@ pub(crate) fn call_code<H: Heap>(
     at: At<'_>,
     state: &mut State<H>,
     number: u32,
-    receiver: Place,
 ) -> Result<StepEnd, Halt>
     requires { (found : FoundMethod) × (receiver : ℕ) × (parameters : List FieldType) × StepCalls H.content at state.old (Some found) receiver parameters
         × IsInstanceMethod at.linked.now found parameters × IsCoded at.linked.now number found }
@@ -29,6 +27,5 @@ pub(crate) fn call_code<H: Heap>(
     let Some(parameters) = parameters_of(at.linked, number) else {
         return Err(Halt::OutOfMemory);
     };
-    let monitor = monitor_of(at.linked, number, receiver);
-    call(at, state, number, parameters.len() + 1, monitor)
+    call(at, state, number, parameters.len() + 1)
 }

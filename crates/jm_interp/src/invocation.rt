@@ -15,9 +15,8 @@ use crate::top_frame::top_method;
 use jm_calls::test_parameters;
 use jm_heap::Heap;
 use jm_linked::{InvokedMethod, Linked, LinkedMethod, MemberNumber};
-use jm_program::{AccessFlags, FieldType};
+use jm_program::FieldType;
 use jm_state::{Halt, State, StepEnd};
-use jm_values::Place;
 use jm_world::Stop;
 
 // Whether a linked method stands before one that a class of the program declares, in the order of the
@@ -55,19 +54,6 @@ pub(crate) fn code_number(linked: &Linked, method: MemberNumber) -> Option<u32>
     u32::try_from(number).ok()
 }
 
-/// The object whose monitor a call of an instance method enters, by the method's number among those
-/// with code: the receiver of a synchronized one (JVMS 2.11.10).
-pub(crate) fn monitor_of(linked: &Linked, number: u32, receiver: Place) -> Option<Place> {
-    let method = linked.methods().get(number as usize)?;
-    let class = linked.classes().get(method.class as usize)?.parts();
-    let declared = class.methods.as_slice().get(method.member as usize)?;
-    if declared.flags.has(AccessFlags::SYNCHRONIZED) {
-        Some(receiver)
-    } else {
-        None
-    }
-}
-
 /// The parameters of a method, by its number among those with code.
 pub(crate) fn parameters_of(linked: &Linked, number: u32) -> Option<&[FieldType]>
     ensures { IfSome result (λ parameters. HasParameters linked.now number parameters.now) }
@@ -97,7 +83,7 @@ pub(crate) fn call_static<H: Heap>(
         return Err(Halt::OutOfMemory);
     };
     match test_parameters(top_method(&state.threads[at.index]), parameters) {
-        Ok(()) => call(at, state, number, parameters.len(), None),
+        Ok(()) => call(at, state, number, parameters.len()),
         Err(fault) => Err(Halt::Stopped(Stop::TagFault(fault))),
     }
 }

@@ -16,9 +16,8 @@ ghost use Rattle.jm_interp.specs.Ending.{unwound_to};
 
 use crate::at::At;
 use crate::ending::end_thread;
-use crate::frames::{class_on_top, leave_frame, monitor_on_top};
+use crate::frames::{class_on_top, leave_frame};
 use crate::handlers::{catch_on_top, target_on_top};
-use crate::monitors::{leave_if, owns_if};
 use crate::object_kind::{is_known, is_of};
 use crate::throwing::leave_pending;
 use jm_builtins::BuiltInClass;
@@ -166,31 +165,9 @@ pub(crate) fn unwind_top<H: Heap>(
     }
     match target_on_top(at.linked, &state.threads[at.index], thrown) {
         Some(target) => handle(at, state, place, target),
-        None => drop_method(at, state, ending),
-    }
-}
-
-// Drops the top frame, and leaves its monitor, if it entered one: a thread that does not hold it has
-// a new IllegalMonitorStateException in the place of the pending exception (JVMS 6.5 athrow). With the
-// last frame the thread ends by the exception. The new one is made first: where it cannot be, nothing
-// has changed.
-fn drop_method<H: Heap>(
-    at: At<'_>,
-    state: &mut State<H>,
-    ending: Ending,
-) -> Result<StepEnd, Halt> {
-    let monitor = monitor_on_top(&state.threads[at.index]);
-    if owns_if(at, state, monitor) {
-        let _left = leave_if(at, state, monitor);
-        drop_frame(at, state, ending);
-        return Ok(StepEnd::Done);
-    }
-    let error = BuiltInClass::IllegalMonitorStateException.number();
-    match leave_pending(at, state, error) {
-        Ok(()) => {
-            drop_frame(at, state, Ending::EndedBy(error));
+        None => {
+            drop_frame(at, state, ending);
             Ok(StepEnd::Done)
         }
-        Err(halt) => Err(halt),
     }
 }

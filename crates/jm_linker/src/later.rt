@@ -217,8 +217,52 @@ fn later_instruction(class: &ClassParts, instruction: &Instr) -> Option<LaterPar
     match instruction {
         Instr::Plain(_) | Instr::Return(_) | Instr::Constant(_) => None,
         Instr::Array(_) | Instr::Field(_, _) | Instr::New(_) | Instr::Type(_, _) => None,
-        Instr::Throw | Instr::Monitor(_) => None,
+        Instr::Throw => None,
+        Instr::Monitor(op) => Some(LaterPart::Monitor(*op)),
         Instr::Invoke(op, method) => later_invoke(class, *op, method.get()),
+    }
+}
+
+/// Whether it is java/lang/Thread, or the exception that starting one throws.
+fn later_name(name: &Name) -> Option<LaterPart>
+    ensures { result ≡ later_name name.now }
+{
+    if name.is_text(b"java/lang/Thread") {
+        Some(LaterPart::Thread)
+    } else if name.is_text(b"java/lang/IllegalThreadStateException") {
+        Some(LaterPart::IllegalThreadState)
+    } else {
+        None
+    }
+}
+
+fn later_element(element: &ElementType) -> Option<LaterPart>
+    ensures { result ≡ later_element element.now }
+{
+    match element {
+        ElementType::Base(_) => None,
+        ElementType::Class(name) => later_name(name),
+    }
+}
+
+fn later_class_ref(class: &ClassRef) -> Option<LaterPart>
+    ensures { result ≡ later_class_ref class.now }
+{
+    match class {
+        ClassRef::Class(name) => later_name(name),
+        ClassRef::Array(array) => later_element(&array.element),
+    }
+}
+
+fn later_use(instruction: &Instr) -> Option<LaterPart>
+    ensures { result ≡ later_use instruction.now }
+{
+    match instruction {
+        Instr::Field(_, field) => later_class_ref(&field.get().class),
+        Instr::Invoke(_, method) => later_class_ref(&method.get().class),
+        Instr::New(name) => later_name(name.get()),
+        Instr::Type(_, class) => later_class_ref(class.get()),
+        _ => None,
     }
 }
 
@@ -226,6 +270,9 @@ fn later_in_instructions(class: &ClassParts, instructions: &[Instr]) -> Option<L
     ensures { result ≡ first_later (later_in_code class.now) instructions.now }
 {
     for instruction in instructions {
+        if let Some(part) = later_use(instruction) {
+            return Some(part);
+        }
         if let Some(part) = later_instruction(class, instruction) {
             return Some(part);
         }
@@ -268,6 +315,36 @@ pub fn is_main_method(method: &Method) -> bool
         && returns_nothing(&method.descriptor)
 }
 
+fn later_superclass(superclass: &Option<Name>) -> Option<LaterPart>
+    ensures { result ≡ later_superclass superclass.now }
+{
+    match superclass {
+        None => None,
+        Some(name) => later_name(name),
+    }
+}
+
+fn later_method(method: &Method) -> Option<LaterPart>
+    ensures { result ≡ later_method method.now }
+{
+    if method.flags.has(AccessFlags::SYNCHRONIZED) {
+        Some(LaterPart::Synchronized)
+    } else {
+        None
+    }
+}
+
+fn later_in_methods(methods: &[Method]) -> Option<LaterPart>
+    ensures { result ≡ first_later later_method methods.now }
+{
+    for method in methods {
+        if let Some(part) = later_method(method) {
+            return Some(part);
+        }
+    }
+    None
+}
+
 fn later_in_codes(class: &ClassParts, methods: &[Method]) -> Option<LaterPart>
     ensures { result ≡ first_later (λ (m : Method). later_code class.now m.code) methods.now }
 {
@@ -282,6 +359,12 @@ fn later_in_codes(class: &ClassParts, methods: &[Method]) -> Option<LaterPart>
 fn later_in_class(class: &ClassParts) -> Option<LaterPart>
     ensures { result ≡ later_class class.now }
 {
+    if let Some(part) = later_superclass(&class.superclass) {
+        return Some(part);
+    }
+    if let Some(part) = later_in_methods(class.methods.as_slice()) {
+        return Some(part);
+    }
     later_in_codes(class, class.methods.as_slice())
 }
 

@@ -1,6 +1,7 @@
-// Jobs: readers and writers that fail. What jobs write and how they end stands in the tables of
-// `jm_examples`.
+// Jobs: what they write and how they end, over writers in memory and over writers that fail.
 
+mod answers;
+mod files;
 mod readers;
 mod status;
 mod writers;

@@ -11,6 +11,7 @@
 
 mod halt;
 mod make;
+mod monitor;
 mod places;
 mod reach;
 mod state;
@@ -18,6 +19,7 @@ mod thread;
 
 pub use halt::{Halt, StepEnd};
 pub use make::{collect, make_object};
+pub use monitor::Monitor;
 pub use places::{gather, put_back};
 pub use reach::{find_reachable, reachable};
 pub use state::State;
