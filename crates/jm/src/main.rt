@@ -1,27 +1,63 @@
-//! `jm`: runs the program of some class files and assembler texts, by the events of a schedule, and
-//! assembles texts into class files.
+//! `jm`: runs the program of some class files and assembler texts, by turns of its threads or by the
+//! events of a schedule, and assembles texts into class files.
 //!
 //! The command line is read by `jm_options`, and what a job does is `jm_execute`'s. What stands
 //! here reads the files, hands both over with the standard streams or the file to write, and ends
 //! with the status.
 #![tactic(auto)]
 
+ghost use Rattle.std.specs.Prelude.{◌≤◌};
+
 mod files;
 mod output;
 mod word;
 
 use files::{input_file, input_files};
-use jm_execute::{AssembleJob, Job, RunJob, Status, Watched, execute, write_out_of_memory};
-use jm_options::{AssembleOptions, Options, RunOptions, UsageFault, options};
+use jm_execute::{
+    AssembleJob, Job, RunEvents, RunJob, Status, Watched, execute, write_out_of_memory,
+};
+use jm_options::{
+    AssembleOptions, MAX_QUANTUM, MAX_STEPS, Options, RunOptions, UsageFault, options,
+};
+use jm_schedule::{RoundRobin, round_robin};
 use output::Output;
 use std::alloc::AllocError;
 use std::process::ExitCode;
 use word::{WordsFault, words};
 
+// A number of the command line, which is from 1 to another.
+fn within(number: u32, most: u32) -> u32
+    requires { 1 ≤ most }
+    ensures some { 1 ≤ result }
+    ensures few { result ≤ most }
+{
+    if number < 1 {
+        return 1;
+    }
+    if number > most {
+        return most;
+    }
+    number
+}
+
+// The turns of a run without a schedule.
+fn turns(steps: u32, quantum: u32) -> RoundRobin {
+    round_robin(within(steps, MAX_STEPS), within(quantum, MAX_QUANTUM))
+}
+
+// The events of a run: those of a schedule, or the threads take turns.
+fn events_of(rt: &HostRuntime, schedule: Option<String>, turns: RoundRobin) -> RunEvents {
+    match schedule {
+        Some(name) => RunEvents::Schedule(input_file(rt, name)),
+        None => RunEvents::RoundRobin(turns),
+    }
+}
+
 fn run_job(rt: &HostRuntime, asked: RunOptions) -> Result<Job, AllocError> {
+    let turns = turns(asked.steps, asked.quantum);
     Ok(Job::Run(RunJob {
         heap: asked.heap,
-        schedule: input_file(rt, asked.schedule),
+        events: events_of(rt, asked.schedule, turns),
         program: input_files(rt, asked.files)?,
     }))
 }

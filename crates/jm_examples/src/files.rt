@@ -1,5 +1,5 @@
 // The files among the data: the worked class file, those that the compiler made of the programs in
-// java/ and in refused/, and the assembler's texts in texts/.
+// java/ and in refused/, the assembler's texts in texts/, and the tables of jobs in jobs/.
 
 pub const ACCEPTED: &[&str] = &[
     "sum.class",
@@ -160,4 +160,20 @@ pub const TEXTS: &[&str] = &[
     "texts/Triangle.j",
     "texts/Wide.j",
     "texts/Worker.j",
+];
+
+pub const TABLES: &[&str] = &[
+    "jobs/arrays.txt",
+    "jobs/assemblies.txt",
+    "jobs/fields.txt",
+    "jobs/instances.txt",
+    "jobs/links.txt",
+    "jobs/literals.txt",
+    "jobs/methods.txt",
+    "jobs/program_files.txt",
+    "jobs/runs.txt",
+    "jobs/several_files.txt",
+    "jobs/strings.txt",
+    "jobs/turns.txt",
+    "jobs/types.txt",
 ];

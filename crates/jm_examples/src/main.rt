@@ -2,17 +2,24 @@
 //! many fields and methods it has and, over its methods, the sums of max_stack and of max_locals and
 //! the rows of the codes, of the exception tables and of the line number tables, and whether it is
 //! equal when it is written and read again; for each file that is refused why. Then a line compares
-//! the bytes of the worked text with the worked class file. Last it runs the programs among its data,
-//! and prints what each prints and how it ends.
+//! the bytes of the worked text with the worked class file. Then it runs the programs among its data,
+//! and prints what each prints and how it ends. Last it does the jobs of the tables in jobs/, and
+//! prints how many rows of each are as they should be, and those that are not.
 #![tactic(auto)]
 
 mod again;
+mod columns;
+mod events;
 mod files;
+mod job_rows;
+mod jobs;
+mod outcomes;
 mod programs;
 mod row;
+mod tables;
 
 use again::read_again;
-use files::{ACCEPTED, REFUSED, TEXTS};
+use files::{ACCEPTED, REFUSED, TABLES, TEXTS};
 use jm_class_reader::read_class;
 use jm_class_writer::write_class;
 use jm_jasmin::assemble;
@@ -21,6 +28,7 @@ use programs::{print_programs, print_runs};
 use row::row_of;
 use std::rt::Files;
 use std::{fs, io};
+use tables::print_tables;
 
 fn main(rt: HostRuntime) -> io::Result<()> {
     println!(rt; "file fields methods max_stack max_locals instructions handlers lines again")?;
@@ -30,7 +38,8 @@ fn main(rt: HostRuntime) -> io::Result<()> {
     print_bytes(&rt, "sum.j", "sum.class")?;
     print_programs(&rt, "programs.txt")?;
     print_runs(&rt, "worked.txt")?;
-    print_runs(&rt, "runs.txt")
+    print_runs(&rt, "runs.txt")?;
+    print_tables(&rt, TABLES)
 }
 
 fn print_class_files(rt: &(impl Print + Files + AllocGlobal), files: &[&str]) -> io::Result<()> {

@@ -1,39 +1,33 @@
 // The programs among the data, and what running each comes to.
 
+use crate::events::events_of;
+use crate::jobs::{HEAP, input_file, run_job};
 use crate::name_of;
-use jm_execute::{Contents, InputFile, Job, RunJob, Status, Watched, execute};
+use jm_execute::{Contents, Job, RunEvents, Status, Watched, execute};
 use std::{fs, io};
 
-// A program and how it is run.
+// A run that a line of a file lists.
 #[derive(Clone, Copy, Drop)]
-struct Run<'a> {
+struct ListedRun<'a> {
     /// The limit of the heap, in cells.
     heap: u32,
     /// How many events of the first thread are made.
-    events: &'a str,
+    count: &'a str,
     /// The names of the program's files, the main class's first, with a space between them.
     files: &'a str,
 }
 
-// Enough events for each of the programs.
-const EVENTS: &str = "100000";
+// The threads take turns of one event each; enough events for each of the programs.
+const TURNS: &str = "@turns 1000000 1";
 
-// The limit of the heap of a program that names none.
-const HEAP: u32 = 65_536;
-
-/// Runs each program of a file whose lines name the files of a program, the main class's first.
+/// Runs each program of a file whose lines name the files of a program, the main class's first. The
+/// threads take turns.
 pub fn print_programs(rt: &HostRuntime, file: &str) -> io::Result<()> {
     let programs = fs::read_to_string(rt, file)?;
     for files in programs.lines() {
         println!(rt; "== {}", name_of(main_file(files)))?;
-        print_run(
-            rt,
-            &Run {
-                heap: HEAP,
-                events: EVENTS,
-                files,
-            },
-        )?;
+        let events = events_of(rt, TURNS)?;
+        print_run(rt, &job_of(rt, HEAP, events, files)?)?;
     }
     Ok(())
 }
@@ -43,27 +37,28 @@ pub fn print_programs(rt: &HostRuntime, file: &str) -> io::Result<()> {
 pub fn print_runs(rt: &HostRuntime, file: &str) -> io::Result<()> {
     let programs = fs::read_to_string(rt, file)?;
     for line in programs.lines() {
-        let Some(run) = listed_run(line) else {
-            println!(rt; "no program: {line}")?;
-            continue;
-        };
-        let name = name_of(main_file(run.files));
-        println!(rt; "== {name}, heap {}, events {}", run.heap, run.events)?;
-        print_run(rt, &run)?;
+        match listed_run(line) {
+            Some(run) => print_listed_run(rt, &run)?,
+            None => println!(rt; "no program: {line}")?,
+        }
     }
     Ok(())
 }
 
 // The run of a line.
-fn listed_run(line: &str) -> Option<Run<'_>> {
+fn listed_run(line: &str) -> Option<ListedRun<'_>> {
     let (heap, rest) = line.split_once(" ")?;
-    let (events, files) = rest.split_once(" ")?;
+    let (count, files) = rest.split_once(" ")?;
     let heap = heap.parse().ok()?;
-    Some(Run {
-        heap,
-        events,
-        files,
-    })
+    Some(ListedRun { heap, count, files })
+}
+
+fn print_listed_run(rt: &HostRuntime, run: &ListedRun<'_>) -> io::Result<()> {
+    let name = name_of(main_file(run.files));
+    println!(rt; "== {name}, heap {}, events {}", run.heap, run.count)?;
+    let schedule = format!(in rt.alloc(); "t 1 x {}", run.count)?;
+    let events = events_of(rt, &schedule)?;
+    print_run(rt, &job_of(rt, run.heap, events, run.files)?)
 }
 
 // The file of a program's main class.
@@ -74,33 +69,19 @@ fn main_file(program: &str) -> &str {
     }
 }
 
-// Prints the output of a program, the lines on its standard error, and its status.
-fn print_run(rt: &HostRuntime, run: &Run<'_>) -> io::Result<()> {
-    let job = run_job(rt, run)?;
-    println!(rt; "status {}", status_of(rt, &job).code())
-}
-
-// A file that was read.
-fn input_file(rt: &HostRuntime, name: &str, bytes: Vec<u8>) -> io::Result<InputFile> {
-    Ok(InputFile {
-        name: String::from_str(rt.alloc(), name)?,
-        contents: Contents::Bytes(bytes),
-    })
-}
-
 // The job of a run.
-fn run_job(rt: &HostRuntime, run: &Run<'_>) -> io::Result<Job> {
+fn job_of(rt: &HostRuntime, heap: u32, events: RunEvents, names: &str) -> io::Result<Job> {
     let mut files = Vec::new(rt.alloc());
-    for name in run.files.split(' ') {
-        files.push(input_file(rt, name, fs::read(rt, name)?)?)?;
+    for name in names.split(' ') {
+        let bytes = fs::read(rt, name)?;
+        files.push(input_file(rt.alloc(), name, Contents::Bytes(bytes))?)?;
     }
-    let mut schedule = String::from_str(rt.alloc(), "t 1 x ")?;
-    schedule.push_str(run.events)?;
-    Ok(Job::Run(RunJob {
-        heap: run.heap,
-        schedule: input_file(rt, "schedule", schedule.into_bytes())?,
-        program: files,
-    }))
+    Ok(run_job(heap, events, files))
+}
+
+// Prints the output of a program, the lines on its standard error, and its status.
+fn print_run(rt: &HostRuntime, job: &Job) -> io::Result<()> {
+    println!(rt; "status {}", status_of(rt, job).code())
 }
 
 // Does a job whose lines for standard error come behind its output.

@@ -3,6 +3,9 @@ pub mod Written
 pub mod Reports
 pub mod Codes
 pub mod Turns
+pub mod Sources
+pub mod Passes
+pub mod Standings
 pub mod Beginnings
 pub mod ProgramFiles
 pub mod Reasons

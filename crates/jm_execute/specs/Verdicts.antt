@@ -5,9 +5,11 @@ use Rattle.std.specs.String.{string_bytes}
 use Rattle.jm_bytes.specs.Reading.{and_then, fault_as}
 use Rattle.jm_program.specs.declared.class.ClassParts.{ClassParts}
 use Rattle.jm_class_writer.specs.ClassParts.{written}
-use Rattle.jm_world.specs.Loading.{is_too_small}
+use Rattle.jm_world.specs.Loading.{is_too_small, loaded_world}
 use Rattle.jm_world.specs.Loads.{Refusal, refusal, duplicate_class, no_class, cycle, no_field, no_method, wrong_kind, no_main, duplicate_member}
+use Rattle.jm_world.specs.RoundRobin.{robin}
 use Rattle.jm_world.specs.Schedules.{schedule}
+use Rattle.jm_world.specs.World.{World}
 use Rattle.jm_world.specs.declared.event.Event.{Event}
 use Rattle.jm_linked.specs.Later.{later_part}
 use Rattle.jm_linked.specs.declared.later.LaterPart.{LaterPart}
@@ -16,6 +18,8 @@ use Rattle.jm_linker.specs.declared.fault.LinkFault.TheVariants as link
 use Rattle.jm_execute.specs.declared.job.Contents.{Contents}
 use Rattle.jm_execute.specs.declared.job.Contents.TheVariants.{Bytes, NotRead, OutOfMemory}
 use Rattle.jm_execute.specs.declared.job.InputFile.{InputFile}
+use Rattle.jm_execute.specs.declared.job.RunEvents.{RunEvents}
+use Rattle.jm_execute.specs.declared.job.RunEvents.TheVariants.{Schedule, RoundRobin}
 use Rattle.jm_execute.specs.declared.job.RunJob.{RunJob}
 use Rattle.jm_execute.specs.declared.job.Job.{Job}
 use Rattle.jm_execute.specs.declared.job.Job.TheVariants.{Run, Assemble}
@@ -133,12 +137,26 @@ program_of limit files = do
 abbrev pub events_in : List ℕ → Result (List Event) Cause
 events_in text = fault_as (λ line. because (reason.no_event line)) (schedule text)
 
--- the schedule is read first and looked at last
+-- where the events are those of a schedule, it was read
+abbrev pub events_read : RunEvents → Result (Unit {0}) Cause
+events_read (Schedule file) = do
+  text ← bytes_of file
+  Ok tt
+events_read (RoundRobin turns) = Ok tt
+
+-- the events that are made from a world on
+abbrev pub events_of : RunEvents → World → Result (List Event) Cause
+events_of (Schedule file) w = do
+  text ← bytes_of file
+  events_in text
+events_of (RoundRobin turns) w = Ok (robin w turns.steps turns.quantum)
+
+-- a schedule is read first and looked at last
 unfoldable pub run_verdict : RunJob → Verdict
 run_verdict job = do
-  text ← bytes_of job.schedule
+  read ← events_read job.events
   program ← program_of job.heap job.program.items
-  events ← events_in text
+  events ← events_of job.events (loaded_world program job.heap)
   Ok (runs program job.heap events)
 
 -- ---- a class file from a text

@@ -5,15 +5,17 @@ ghost use Rattle.jm_schedule.specs.Runs.{repeats_of};
 ghost use Rattle.jm_shared.specs.Legal.{world_after};
 ghost use Rattle.jm_world.specs.World.{World};
 ghost use Rattle.jm_world.specs.declared.event.Event.{Event};
+ghost use Rattle.jm_execute.specs.Sources.{events_made};
 ghost use Rattle.jm_execute.specs.Turns.{Records, RecordsPart};
 
 use jm_heap::Heap;
 use jm_machine::OutOfMemory;
-use jm_schedule::{Run, Schedule};
+use jm_schedule::{RoundRobin, Run, Schedule};
 use jm_shared::{Journal, Origin};
+use std::alloc::Global;
 
-// The seat of a run that has one worker.
-const SEAT: u8 = 0;
+/// The seat of a run that has one worker.
+pub const SEAT: u8 = 0;
 
 // Makes an event as often as a run says.
 fn make_repeats<H: Heap, R: Origin>(
@@ -39,6 +41,7 @@ pub trait EventSource {
     /// refused; the journal has the events that were made.
     fn make_events<H: Heap, R: Origin>(
         &self,
+        alloc: Global,
         journal: &mut Journal<H, R>,
     ) -> Result<(), OutOfMemory>
         ensures { let wanted = events self.now (world_after R.first journal.old.entries) in
@@ -52,6 +55,7 @@ impl EventSource for Schedule {
 
     fn make_events<H: Heap, R: Origin>(
         &self,
+        _alloc: Global,
         journal: &mut Journal<H, R>,
     ) -> Result<(), OutOfMemory> {
         let runs = self.runs();
@@ -62,5 +66,29 @@ impl EventSource for Schedule {
             }
         }
         Ok(())
+    }
+}
+
+/// The events of a run, by what the job says of them.
+#[derive(Drop)]
+pub enum RunSource {
+    /// Those of a schedule.
+    Schedule(Schedule),
+    /// The threads take turns.
+    RoundRobin(RoundRobin),
+}
+
+impl EventSource for RunSource {
+    ghost events = { λ source w. events_made source w };
+
+    fn make_events<H: Heap, R: Origin>(
+        &self,
+        alloc: Global,
+        journal: &mut Journal<H, R>,
+    ) -> Result<(), OutOfMemory> {
+        match self {
+            RunSource::Schedule(schedule) => schedule.make_events(alloc, journal),
+            RunSource::RoundRobin(robin) => robin.make_events(alloc, journal),
+        }
     }
 }

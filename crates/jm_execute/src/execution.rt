@@ -88,7 +88,7 @@ fn run_events<S: EventSource, H: Heap + Drop, R: Origin, O: Watchable, E: Watcha
         × Leaves (words O.contents O.ends) (words E.contents E.ends) e result out.old out.new err.old err.new }
 {
     let mut journal: Journal<H, R> = Journal::new(alloc, machine);
-    match source.make_events(&mut journal) {
+    match source.make_events(alloc, &mut journal) {
         Ok(()) => tell_run(&journal, out, err),
         Err(_) => tell_interrupted(&journal, out, err),
     }
@@ -144,9 +144,7 @@ fn execute_run<O: Watchable, E: Watchable>(
     ensures { IsDone (words O.contents O.ends) (words E.contents E.ends) (run_verdict job.now) result out.old out.new err.old err.new }
 {
     match prepare(alloc, job) {
-        Ok((machine, schedule)) => run_events::<_, _, Brand, O, E>(
-            alloc, machine, &schedule, out, err,
-        ),
+        Ok((machine, source)) => run_events::<_, _, Brand, O, E>(alloc, machine, &source, out, err),
         Err(obstacle) => tell_obstacle(obstacle, err),
     }
 }
@@ -171,10 +169,11 @@ fn execute_assemble<O: Watchable, E: Watchable>(
 /// nothing to `out`; where a growth was refused that is one line, and the output of the events made
 /// before it is written. Nothing is read from `reader`.
 ///
-/// `Run`: the class of the program is run by the events of the schedule, one after the other, each a
-/// turn of the first seat in a journal. What the Java program prints goes to `out`, once the last
-/// event is made. Then `err` gets a line for each thread that an exception has ended, and one for
-/// the stop or for the threads that have not ended, if any; the status says how the run ended.
+/// `Run`: the classes of the program are run by the events of the schedule, or where there is none by
+/// those of the round robin, one after the other, each a turn of the first seat in a journal. What the
+/// Java program prints goes to `out`, once the last event is made. Then `err` gets a line for each
+/// thread that an exception has ended, and one for the stop or for the threads that have not ended, if
+/// any; the status says how the run ended.
 ///
 /// `Assemble`: the bytes of the class file of the class that the text denotes go to `out`, once they
 /// stand whole in memory, and the status is `Done`.

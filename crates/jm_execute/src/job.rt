@@ -1,3 +1,5 @@
+use jm_schedule::RoundRobin;
+
 /// What reading a file came to.
 #[derive(Drop)]
 pub enum Contents {
@@ -24,12 +26,21 @@ pub enum Job {
     Assemble(AssembleJob),
 }
 
-/// To run the classes of some files by the events of a schedule.
+/// Where the events of a run come from.
+#[derive(Drop)]
+pub enum RunEvents {
+    /// They are those that the lines of a schedule spell.
+    Schedule(InputFile),
+    /// The threads take turns.
+    RoundRobin(RoundRobin),
+}
+
+/// To run the classes of some files.
 #[derive(Drop)]
 pub struct RunJob {
     /// The limit of the heap, in cells.
     pub heap: u32,
-    pub schedule: InputFile,
+    pub events: RunEvents,
     /// The files of the classes, the main class's first: each a class file, or an assembler text
     /// where its name ends in `.j`.
     pub program: Vec<InputFile>,

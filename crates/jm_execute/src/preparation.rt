@@ -1,14 +1,18 @@
 // From a job's files to a machine and the events that it is to make.
 
 ghost use Rattle.std.specs.Prelude.{◌≡◌, None, IfOk};
+ghost use Rattle.jm_world.specs.Loading.{loaded_world};
+ghost use Rattle.jm_world.specs.World.{World};
 ghost use Rattle.jm_linked.specs.Later.{later_part};
 ghost use Rattle.jm_machine.specs.Start.{IsEmpty};
 ghost use Rattle.jm_execute.specs.Beginnings.{StandsAtItsBeginning};
 ghost use Rattle.jm_execute.specs.Refusals.{Gives};
-ghost use Rattle.jm_execute.specs.Verdicts.{classes_of, events_in, linked_program, loaded_program, program_of, run_verdict, runs};
+ghost use Rattle.jm_execute.specs.Sources.{events_made};
+ghost use Rattle.jm_execute.specs.Verdicts.{classes_of, events_in, events_of, events_read, linked_program, loaded_program, program_of, run_verdict, runs};
 
+use crate::events::RunSource;
 use crate::files::{bytes_of, check_read};
-use crate::job::{InputFile, RunJob};
+use crate::job::{InputFile, RunEvents, RunJob};
 use crate::program_file::class_of;
 use crate::refusal::{Obstacle, Refusal};
 use jm_heap::{Heap, PlainHeap};
@@ -91,20 +95,48 @@ pub fn machine_of<H: Heap + Drop>(
     loaded_machine(alloc, linked, heap)
 }
 
-/// A machine before its first event, and the events that it is to make.
-pub type Ready = (Machine<PlainHeap>, Schedule);
+// Whether what says the events was read.
+fn check_events(events: &RunEvents) -> Result<(), Obstacle<'_>>
+    ensures { Gives result (events_read events.now) (λ _. tt) }
+{
+    match events {
+        RunEvents::Schedule(file) => {
+            bytes_of(file)?;
+            Ok(())
+        }
+        RunEvents::RoundRobin(_) => Ok(()),
+    }
+}
 
-/// The machine that a job's program begins with, and the events that its schedule spells. A schedule
-/// that could not be read is the first obstacle; then those of the program, and last what is wrong
-/// with the schedule.
+// The events that a job says.
+fn source_of(alloc: Global, events: &RunEvents) -> Result<RunSource, Obstacle<'_>>
+    ensures { (w : World) → Gives result (events_of events.now w) (λ source. events_made source w) }
+{
+    match events {
+        RunEvents::Schedule(file) => {
+            let text = bytes_of(file)?;
+            let schedule = schedule_of(alloc, text)?;
+            Ok(RunSource::Schedule(schedule))
+        }
+        RunEvents::RoundRobin(robin) => Ok(RunSource::RoundRobin(*robin)),
+    }
+}
+
+/// A machine before its first event, and where its events come from.
+pub type Ready = (Machine<PlainHeap>, RunSource);
+
+/// The machine that a job's program begins with, and where its events come from. A schedule that could
+/// not be read is the first obstacle; then those of the program, and last what is wrong with the
+/// schedule. The round robin is no obstacle.
 #[tactic(auto, unfolding(crate::specs::Verdicts::run_verdict))]
 pub fn prepare(alloc: Global, job: &RunJob) -> Result<Ready, Obstacle<'_>>
-    ensures run { Gives result (run_verdict job.now) (λ ready. runs ready.0.linked.program job.now.heap ready.1) }
+    ensures run { Gives result (run_verdict job.now) (λ ready.
+        runs ready.0.linked.program job.now.heap (events_made ready.1 (loaded_world ready.0.linked.program job.now.heap))) }
     ensures ready { IfOk result (λ ready. StandsAtItsBeginning job.now.heap ready.0) }
 {
-    let text = bytes_of(&job.schedule)?;
+    check_events(&job.events)?;
     let heap = PlainHeap::new(alloc, job.heap);
     let machine = machine_of(alloc, &job.program, heap)?;
-    let schedule = schedule_of(alloc, text)?;
-    Ok((machine, schedule))
+    let source = source_of(alloc, &job.events)?;
+    Ok((machine, source))
 }

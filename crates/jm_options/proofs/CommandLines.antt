@@ -1,5 +1,5 @@
 -- What some command lines ask for, and what is wrong with others.
-use Rattle.std.proofs.Common.{◌≡◌, List, [], ◌∷◌, Option, Some, refl, codes}
+use Rattle.std.proofs.Common.{◌≡◌, List, [], ◌∷◌, Option, Some, None, refl, codes}
 use Rattle.std.specs.Prelude.{option_map}
 use Rattle.clap.specs.Words.{Kinds, Text, all_of, fault_of, first_of, one_of, subcommand_of}
 use Rattle.clap.specs.declared.error.kind.ErrorKind.TheVariants as kind
@@ -47,9 +47,49 @@ too_large : fault (codes "--heap=16777217" ∷ codes "--schedule=s" ∷ codes "A
 unfolding jm clap_on_literals
 too_large = refl
 
-no_schedule : fault (codes "A.class" ∷ []) ≡ kind.MissingRequiredArgument ∷ []
+-- the schedule, the steps and the quantum
+abbrev turns : List Text → Option (Option Text × Option Text × Option Text)
+turns words = option_map (λ (s : Subcommand). (first_of (codes "schedule") s.1, one_of (codes "steps") s.1, one_of (codes "quantum") s.1)) (subcommand_of jm (codes "jm" ∷ codes "run" ∷ words))
+
+no_schedule : turns (codes "A.class" ∷ []) ≡ Some (None, Some (codes "1000000"), Some (codes "1"))
 unfolding jm clap_on_literals
 no_schedule = refl
+
+no_fault_without : fault (codes "A.class" ∷ []) ≡ []
+unfolding jm clap_on_literals
+no_fault_without = refl
+
+by_turns : turns (codes "--steps=9" ∷ codes "A.class" ∷ codes "--quantum" ∷ codes "2" ∷ []) ≡ Some (None, Some (codes "9"), Some (codes "2"))
+unfolding jm clap_on_literals
+by_turns = refl
+
+beside_a_schedule : turns (codes "--steps=9" ∷ codes "--schedule=s" ∷ codes "A.class" ∷ []) ≡ Some (Some (codes "s"), Some (codes "9"), Some (codes "1"))
+unfolding jm clap_on_literals
+beside_a_schedule = refl
+
+no_steps : fault (codes "--steps=0" ∷ codes "A.class" ∷ []) ≡ kind.ValueValidation ∷ []
+unfolding jm clap_on_literals
+no_steps = refl
+
+the_most_steps : fault (codes "--steps=10000000" ∷ codes "A.class" ∷ []) ≡ []
+unfolding jm clap_on_literals
+the_most_steps = refl
+
+one_step_too_many : fault (codes "--steps=10000001" ∷ codes "A.class" ∷ []) ≡ kind.ValueValidation ∷ []
+unfolding jm clap_on_literals
+one_step_too_many = refl
+
+no_quantum : fault (codes "--quantum=0" ∷ codes "A.class" ∷ []) ≡ kind.ValueValidation ∷ []
+unfolding jm clap_on_literals
+no_quantum = refl
+
+the_largest_quantum : fault (codes "--quantum=1000000" ∷ codes "A.class" ∷ []) ≡ []
+unfolding jm clap_on_literals
+the_largest_quantum = refl
+
+too_large_a_quantum : fault (codes "--quantum=1000001" ∷ codes "A.class" ∷ []) ≡ kind.ValueValidation ∷ []
+unfolding jm clap_on_literals
+too_large_a_quantum = refl
 
 two_files : run (codes "--schedule=s" ∷ codes "A.class" ∷ codes "B.class" ∷ []) ≡ asked_of (codes "65536") (codes "A.class" ∷ codes "B.class" ∷ [])
 unfolding jm clap_on_literals
@@ -68,7 +108,7 @@ no_file : fault (codes "--schedule=s" ∷ []) ≡ kind.MissingRequiredArgument �
 unfolding jm clap_on_literals
 no_file = refl
 
-an_unknown_option : fault (codes "--steps=9" ∷ codes "--schedule=s" ∷ codes "A.class" ∷ []) ≡ kind.UnknownArgument ∷ []
+an_unknown_option : fault (codes "--workers=9" ∷ codes "--schedule=s" ∷ codes "A.class" ∷ []) ≡ kind.UnknownArgument ∷ []
 unfolding jm clap_on_literals
 an_unknown_option = refl
 

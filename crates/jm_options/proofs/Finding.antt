@@ -1,5 +1,5 @@
 -- What the matches of a run hold, from what the calls of clap say of them.
-use Rattle.std.proofs.Common.{◌≡◌, true, [], ◌∷◌, inl, inr, ℕ, ◌<◌, ◌≤◌, ◌^◌, slice_index, List, Option, Some, None, Result, Ok, Err, refl, sym, ap, ◌∙◌, subst, codes, arith, ap₂}
+use Rattle.std.proofs.Common.{◌≡◌, true, [], ◌∷◌, inl, inr, ℕ, ◌<◌, ◌^◌, slice_index, List, Option, Some, None, Result, Ok, Err, refl, sym, ap, ◌∙◌, subst, codes, arith, ap₂}
 use Rattle.std.specs.Prelude.{option_map, unwrap_or, MatchResult, IsOkAnd}
 use Rattle.std.specs.Str.Parse.{ParsesUnsigned, digits_value, without_leading_plus}
 use Rattle.std.specs.Box.{box_value}
@@ -30,7 +30,7 @@ number_there G only (Some t) n none reads =
     let parsed = only t (Ok n) (reads t refl) in
     (t, refl, record { digits = parsed.0.0; value = sym parsed.1 })
 
-pub no_number : {E : Type 0} (G : List ℕ → Result ℕ E → Type 0) → Reads32 G → (t : Text) (n : ℕ) → ReadsOne G t None → SpellsNumber t n → n ≤ 16777216 → ⊥
+pub no_number : {E : Type 0} (G : List ℕ → Result ℕ E → Type 0) → Reads32 G → (t : Text) (n : ℕ) → ReadsOne G t None → SpellsNumber t n → n < 2 ^ 32 → ⊥
 no_number G only t n reads spells small =
     let value = spells.value in
     let fits : digits_value 10 (without_leading_plus t) < 2 ^ 32 = omega arith in
@@ -44,9 +44,6 @@ one_number t u n m same first second =
     sym a ∙ ap (λ (x : Text). digits_value 10 (without_leading_plus x)) text ∙ b
 
 -- ---- the options of a run
-
-pub no_schedule : (rows : List Row) → None ≡ first_of (codes "schedule") rows → (o : RunOptions) → HoldsRun rows o → ⊥
-no_schedule rows none o holds = let some = none ∙ holds.schedule in cc
 
 pub no_files : (rows : List Row) → None ≡ all_of (codes "file") rows → (o : RunOptions) → HoldsRun rows o → ⊥
 no_files rows none o holds = let some = none ∙ holds.files in cc

@@ -1,5 +1,5 @@
 -- What words ask of jm.
-use Rattle.std.specs.Prelude.{◌≡◌, ◌≤◌, ℕ, List, Option, Some, [], Result, Ok, Err, ⊤, codes, map, string_bytes}
+use Rattle.std.specs.Prelude.{◌≡◌, ◌≤◌, ℕ, List, Option, Some, [], Result, Ok, Err, ⊤, codes, map, option_map, string_bytes}
 use Rattle.std.specs.Str.Parse.{IsNumeral, digits_value, without_leading_plus}
 use Rattle.clap.specs.Words.{Row, Text, all_of, first_of, one_of, fault_of, subcommand_of}
 use Rattle.jm_options.specs.CommandLine.{jm}
@@ -19,14 +19,20 @@ pub record SpellsNumber (text : Text) (n : ℕ) : Type 0 where
   pub digits : IsNumeral 10 (without_leading_plus text)
   pub value : digits_value 10 (without_leading_plus text) ≡ n
 
+-- under this name the matches hold a number, and it is within the limits
+pub record HoldsNumber (name : Text) (low high : ℕ) (matches : List Row) (n : ℕ) : Type 0 where
+  pub text : Text
+  pub given : one_of name matches ≡ Some text
+  pub spelled : SpellsNumber text n
+  pub at_least : low ≤ n
+  pub at_most : n ≤ high
+
 -- the options are what the matches of a run hold, and within the limits
 pub record HoldsRun (matches : List Row) (o : RunOptions) : Type 0 where
-  pub heap_text : Text
-  pub heap_given : one_of (codes "heap") matches ≡ Some heap_text
-  pub heap : SpellsNumber heap_text o.heap
-  pub at_least : 16 ≤ o.heap
-  pub at_most : o.heap ≤ 16777216
-  pub schedule : first_of (codes "schedule") matches ≡ Some (string_bytes o.schedule)
+  pub heap : HoldsNumber (codes "heap") 16 16777216 matches o.heap
+  pub schedule : first_of (codes "schedule") matches ≡ option_map string_bytes o.schedule
+  pub steps : HoldsNumber (codes "steps") 1 10000000 matches o.steps
+  pub quantum : HoldsNumber (codes "quantum") 1 1000000 matches o.quantum
   pub files : all_of (codes "file") matches ≡ Some (map string_bytes o.files.items)
 
 -- the options are what the matches of an assembly hold

@@ -16,17 +16,36 @@ heap_argument = record (new_rule (codes "heap")) {
   parser = Some (vp.Signed (pos 16) (pos 16777216));
 }
 
--- --schedule FILE, which has to be there
+-- --schedule FILE
 abbrev pub schedule_argument : Rule
-schedule_argument = record (new_rule (codes "schedule")) { long = Some (codes "schedule"); value_names = 1; required = true }
+schedule_argument = record (new_rule (codes "schedule")) { long = Some (codes "schedule"); value_names = 1 }
+
+-- --steps N: a number of events, 1,000,000 where it is left out
+abbrev pub steps_argument : Rule
+steps_argument = record (new_rule (codes "steps")) {
+  long = Some (codes "steps");
+  value_names = 1;
+  defaults = codes "1000000" ∷ [];
+  parser = Some (vp.Signed (pos 1) (pos 10000000));
+}
+
+-- --quantum N: a number of events, 1 where it is left out
+abbrev pub quantum_argument : Rule
+quantum_argument = record (new_rule (codes "quantum")) {
+  long = Some (codes "quantum");
+  value_names = 1;
+  defaults = codes "1" ∷ [];
+  parser = Some (vp.Signed (pos 1) (pos 1000000));
+}
 
 -- FILE.., of which one has to be there
 abbrev pub file_argument : Rule
 file_argument = record (new_rule (codes "file")) { value_names = 1; required = true; action = Some Append }
 
--- run [--heap N] --schedule FILE FILE..
+-- run [--heap N] [--schedule FILE] [--steps N] [--quantum N] FILE..
 abbrev pub run_command : App
-run_command = with_rule (with_rule (with_rule (new_app (codes "run")) heap_argument) schedule_argument) file_argument
+run_command =
+    with_rule (with_rule (with_rule (with_rule (with_rule (new_app (codes "run")) heap_argument) schedule_argument) steps_argument) quantum_argument) file_argument
 
 -- IN, which has to be there
 abbrev pub input_argument : Rule

@@ -2,7 +2,7 @@
 
 ghost use Rattle.std.specs.Prelude.{◌≡◌, false, IfOk};
 ghost use Rattle.clap.specs.Words.{rule_of};
-ghost use Rattle.jm_options.specs.CommandLine.{heap_argument, schedule_argument, file_argument, run_command, input_argument, output_argument, assemble_command, top_command, jm, IsSeenAs};
+ghost use Rattle.jm_options.specs.CommandLine.{heap_argument, schedule_argument, steps_argument, quantum_argument, file_argument, run_command, input_argument, output_argument, assemble_command, top_command, jm, IsSeenAs};
 
 use clap::{Arg, ArgAction, Command, value_parser};
 use std::alloc::{AllocError, Global};
@@ -26,8 +26,35 @@ fn schedule_argument<'a>(alloc: Global) -> Arg<'a>
     Arg::new(alloc, "schedule")
         .long("schedule")
         .value_name("FILE")
-        .required(true)
-        .help("File of the events to make, in lines `t N`, `t N x K`, `minor` or `full`")
+        .help(
+            "File of the events to make, in lines `t N`, `t N x K`, `minor` or `full`; without one the threads take turns",
+        )
+}
+
+fn steps_argument<'a>(alloc: Global) -> Arg<'a>
+    ensures rule { rule_of result ≡ steps_argument }
+    ensures local { result.global ≡ false }
+{
+    Arg::new(alloc, "steps")
+        .long("steps")
+        .value_name("N")
+        .value_parser(value_parser!(u32).range(1..=10_000_000))
+        .default_value("1000000")
+        .help(
+            "Most events that are made where the threads take turns, from 1 to 10000000; no effect beside a schedule",
+        )
+}
+
+fn quantum_argument<'a>(alloc: Global) -> Arg<'a>
+    ensures rule { rule_of result ≡ quantum_argument }
+    ensures local { result.global ≡ false }
+{
+    Arg::new(alloc, "quantum")
+        .long("quantum")
+        .value_name("N")
+        .value_parser(value_parser!(u32).range(1..=1_000_000))
+        .default_value("1")
+        .help("Most events of a thread's turn, from 1 to 1000000; no effect beside a schedule")
 }
 
 fn file_argument<'a>(alloc: Global) -> Arg<'a>
@@ -45,9 +72,11 @@ fn run_command<'a>(alloc: Global) -> Result<Command<'a>, AllocError>
     ensures { IfOk result (λ c. IsSeenAs c run_command) }
 {
     Command::new(alloc, "run")
-        .about("Run a program by the events of a schedule")
+        .about("Run a program: its threads take turns, or a schedule says which events are made")
         .arg(heap_argument(alloc))?
         .arg(schedule_argument(alloc))?
+        .arg(steps_argument(alloc))?
+        .arg(quantum_argument(alloc))?
         .arg(file_argument(alloc))
 }
 

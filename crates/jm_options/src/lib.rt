@@ -1,7 +1,8 @@
 //! The command line of `jm`: which words it takes, and what they ask for.
 //!
 //! [`options`] reads the words of a command line as [`Options`], or says by a [`UsageFault`] what is
-//! wrong with them. What it knows is `jm run [--heap N] --schedule FILE FILE...` and `jm asm IN OUT`; any
+//! wrong with them. What it knows is
+//! `jm run [--heap N] [--schedule FILE] [--steps N] [--quantum N] FILE...` and `jm asm IN OUT`; any
 //! other option or subcommand is refused by its name.
 //!
 //! The crate stands on `clap`.
@@ -13,5 +14,7 @@ mod request;
 mod words;
 
 pub use fault::UsageFault;
-pub use request::{AssembleOptions, MAX_HEAP, MIN_HEAP, Options, RunOptions};
+pub use request::{
+    AssembleOptions, MAX_HEAP, MAX_QUANTUM, MAX_STEPS, MIN_HEAP, Options, RunOptions,
+};
 pub use words::options;

@@ -4,6 +4,12 @@ pub const MIN_HEAP: u32 = 16;
 /// The largest limit of the heap, in cells.
 pub const MAX_HEAP: u32 = 16_777_216;
 
+/// The largest number of events that a run without a schedule may be limited to.
+pub const MAX_STEPS: u32 = 10_000_000;
+
+/// The largest number of events of a thread's turn.
+pub const MAX_QUANTUM: u32 = 1_000_000;
+
 /// What a command line asks for.
 #[derive(Drop)]
 pub enum Options {
@@ -18,8 +24,12 @@ pub enum Options {
 pub struct RunOptions {
     /// The limit of the heap, in cells.
     pub heap: u32,
-    /// The file of the schedule.
-    pub schedule: String,
+    /// The file of the schedule, if the events are to be those of one.
+    pub schedule: Option<String>,
+    /// The most events that are made without a schedule, from 1 to [`MAX_STEPS`].
+    pub steps: u32,
+    /// The most events of a thread's turn without a schedule, from 1 to [`MAX_QUANTUM`].
+    pub quantum: u32,
     /// The files of the classes, the main class's first: a class file, or the text of a class if its
     /// name ends in `.j`.
     pub files: Vec<String>,

@@ -1,13 +1,15 @@
 // Words as clap reads them.
 
-ghost use Rattle.std.specs.Prelude.{◌≡◌, ◌≤◌, ℕ, List, codes, Some, None, MatchOption, MatchResult, map, string_bytes};
-ghost use Rattle.clap.specs.Words.{found_of, kind_of, one_of, rows_of, subcommand_rows_of};
+ghost use Rattle.std.specs.Prelude.{◌≡◌, ℕ, MatchOption, MatchResult, map, option_map, string_bytes};
+ghost use Rattle.clap.specs.Words.{found_of, kind_of, rows_of, subcommand_rows_of};
 ghost use Rattle.clap.specs.declared.error.kind.ErrorKind.TheVariants as kind;
-ghost use Rattle.jm_options.specs.Asked.{Answers, Finds, FindsAssemble, FindsRun, SpellsNumber};
+ghost use Rattle.jm_options.specs.Asked.{Answers, Finds, FindsAssemble, FindsRun, HoldsNumber};
 
 use crate::command::command;
 use crate::fault::UsageFault;
-use crate::request::{AssembleOptions, MAX_HEAP, MIN_HEAP, Options, RunOptions};
+use crate::request::{
+    AssembleOptions, MAX_HEAP, MAX_QUANTUM, MAX_STEPS, MIN_HEAP, Options, RunOptions,
+};
 use clap::error::ErrorKind;
 use clap::{ArgMatches, Error};
 use std::alloc::Global;
@@ -36,18 +38,26 @@ fn refusal(alloc: Global, error: &Error) -> UsageFault
     }
 }
 
-// The limit of the heap, if it is a number within the limits.
-fn heap_limit(matches: &ArgMatches<'_>) -> Option<u32>
-    ensures { let text = one_of (codes "heap") (rows_of (found_of matches.now)) in
-        MatchOption result
-        ((t : List ℕ) (n : ℕ) → text ≡ Some t → SpellsNumber t n → 16 ≤ n → n ≤ 16777216 → ⊥)
-        (λ n. (t : List ℕ) × (text ≡ Some t) × SpellsNumber t n × (16 ≤ n) × (n ≤ 16777216)) }
+// The number under a name, if it is within the limits.
+fn number_within(matches: &ArgMatches<'_>, name: &str, low: u32, high: u32) -> Option<u32>
+    ensures { let rows = rows_of (found_of matches.now) in
+        MatchOption result ((n : ℕ) → HoldsNumber name.now low high rows n → ⊥) (HoldsNumber name.now low high rows) }
 {
-    let cells = matches.get_one::<u32>("heap")?;
-    if MIN_HEAP <= cells && cells <= MAX_HEAP {
-        Some(cells)
+    let number = matches.get_one::<u32>(name)?;
+    if low <= number && number <= high {
+        Some(number)
     } else {
         None
+    }
+}
+
+// The text, if there is one.
+fn string_of(alloc: Global, text: Option<&str>) -> Result<Option<String>, UsageFault>
+    ensures { MatchResult result (λ string. option_map string_bytes string ≡ option_map (λ t. t.now) text.entry) (λ fault. fault ≡ UsageFault.OutOfMemory) }
+{
+    match text {
+        Some(text) => Ok(Some(String::from_str(alloc, text)?)),
+        None => Ok(None),
     }
 }
 
@@ -65,10 +75,13 @@ fn strings_of(alloc: Global, texts: &[&str]) -> Result<Vec<String>, UsageFault>
 fn run_options(alloc: Global, matches: &ArgMatches<'_>) -> Result<RunOptions, UsageFault>
     ensures { FindsRun (rows_of (found_of matches.now)) result }
 {
-    let Some(heap) = heap_limit(matches) else {
+    let Some(heap) = number_within(matches, "heap", MIN_HEAP, MAX_HEAP) else {
         return Err(nothing_asked(alloc));
     };
-    let Some(schedule) = matches.get_str("schedule") else {
+    let Some(steps) = number_within(matches, "steps", 1, MAX_STEPS) else {
+        return Err(nothing_asked(alloc));
+    };
+    let Some(quantum) = number_within(matches, "quantum", 1, MAX_QUANTUM) else {
         return Err(nothing_asked(alloc));
     };
     let Some(files) = matches.get_strs("file") else {
@@ -76,7 +89,9 @@ fn run_options(alloc: Global, matches: &ArgMatches<'_>) -> Result<RunOptions, Us
     };
     Ok(RunOptions {
         heap,
-        schedule: String::from_str(alloc, schedule)?,
+        schedule: string_of(alloc, matches.get_str("schedule"))?,
+        steps,
+        quantum,
         files: strings_of(alloc, files)?,
     })
 }

@@ -1,7 +1,6 @@
-// Jobs: what they write and how they end, over writers in memory and over writers that fail.
+// Jobs: readers and writers that fail. What jobs write and how they end stands in the tables of
+// `jm_examples`.
 
-mod answers;
-mod files;
 mod readers;
 mod status;
 mod writers;

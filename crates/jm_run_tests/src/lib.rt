@@ -1,21 +1,18 @@
-//! Tests of what runs: heaps, linking, machines with their journals, and whole jobs over readers and
-//! writers in memory. What is expected was worked out by hand, by JVMS and by the rules for `jm run`
-//! and `jm asm`; printed lines are compared byte for byte.
+//! Tests of what runs that no table shows: heaps, machines with their journals, and readers and writers
+//! that fail. What is expected was worked out by hand, by JVMS and by the rules for `jm run` and
+//! `jm asm`. Programs that are run, assembled or linked stand in the tables of `jm_examples`, which cost
+//! no proof.
 //!
 //! `calls` hands arguments over, `heap` runs the functions of `jm_mutator` for each kind of heap,
-//! `linking` links small programs, `machine` makes events and reads the machine after each, `jobs` does
-//! jobs from files to a status.
+//! `machine` makes events and reads the machine after each, `jobs` does jobs over readers and writers
+//! in memory.
 #![tactic(auto)]
 
 #[cfg(test)]
 mod calls;
 #[cfg(test)]
-mod class_file;
-#[cfg(test)]
 mod heap;
 #[cfg(test)]
 mod jobs;
-#[cfg(test)]
-mod linking;
 #[cfg(test)]
 mod machine;

@@ -1,29 +1,36 @@
-// Jobs over a writer that fails.
+// Jobs over writers that fail.
 
 ghost use Rattle.std.specs.Prelude.{⊤};
 
-use crate::jobs::answers::{job_of, status_of};
-use crate::jobs::files::bytes_of;
-use jm_execute::{Job, Watchable, Watched, WriteFailed, put_by_write, put_line_by_write};
-use std::alloc::Global;
+use jm_execute::{
+    AssembleJob, Contents, InputFile, Job, RunEvents, RunJob, Watchable, Watched, WriteFailed,
+    execute, put_by_write, put_line_by_write,
+};
+use std::alloc::{AllocError, Global};
 use std::fmt::Display;
 use std::io;
 use std::io::{ErrorKind, Write};
 use std::process::Abort;
 use std::test::Fail;
 
-// Takes so many bytes, one at a call, and then none.
+// Takes so many bytes, one at a call, and then none; where it is closed, as a pipe can be, it answers
+// an error to each write.
 #[derive(Drop)]
 struct Narrow {
     room: usize,
+    closed: bool,
+    taken: Vec<u8>,
 }
 
 impl Write for Narrow {
     fn write(&mut self, buf: &[u8]) -> io::Result<usize> {
-        if self.room == 0 || buf.is_empty() {
+        if self.closed {
+            return Err(io::Error::from(ErrorKind::BrokenPipe));
+        }
+        if buf.is_empty() || self.taken.len() >= self.room {
             return Ok(0);
         }
-        self.room -= 1;
+        self.taken.push(buf[0])?;
         Ok(1)
     }
 
@@ -44,127 +51,136 @@ impl Watchable for Narrow {
     }
 }
 
-// Answers an error to each write, as a pipe that is closed does.
-#[derive(Drop)]
-struct Closed;
-
-impl Write for Closed {
-    fn write(&mut self, _buf: &[u8]) -> io::Result<usize> {
-        Err(io::Error::from(ErrorKind::BrokenPipe))
-    }
-
-    fn flush(&mut self) -> io::Result<()> {
-        Ok(())
-    }
-}
-
-impl Watchable for Closed {
-    ghost ends = { λ _ _ _. ⊤ };
-
-    fn put(&mut self, bytes: &[u8]) -> Result<usize, WriteFailed> {
-        put_by_write(self, bytes)
-    }
-
-    fn put_line<D: Display + Drop>(&mut self, text: D) -> Result<(), WriteFailed> {
-        put_line_by_write(self, text)
-    }
-}
-
-// A row is a line of columns with ` | ` between them: `run` or `asm`, how many bytes the output
-// takes, whether it fails, the lines on standard error and the number of the status. The sum's output
-// has 2 bytes, its class file 245.
-const ROOMS: &str = "\
-run | 2 | whole | - | 0
-run | 1 | failed | jm: write failed~ | 2
-run | 0 | failed | jm: write failed~ | 2
-asm | 245 | whole | - | 0
-asm | 244 | failed | jm: Sum.class: not written~ | 2
-asm | 0 | failed | jm: Sum.class: not written~ | 2
+// A main that prints 5 and a line feed, in three stages of initialization and four instructions.
+const FIVE: &str = ".class A
+.super java/lang/Object
+.method static main([Ljava/lang/String;)V
+.limit stack 2
+getstatic java/lang/System/out Ljava/io/PrintStream;
+iconst_5
+invokevirtual java/io/PrintStream/println(I)V
+return
+.end method
 ";
 
-// A run of the sum's class file, or the assembly of its text.
-fn job_of_sum(alloc: Global, which: &str, schedule: &str) -> Result<Job, Fail> {
-    match which {
-        "run" => job_of(alloc, which, "Main.class", "@class sum", schedule),
-        _ => job_of(alloc, which, "sum.j", "@sum text", schedule),
+// A class whose class file has 53 bytes.
+const EMPTY: &str = ".class A
+.super java/lang/Object
+";
+
+// A row is a line of columns with ` | ` between them: the job; how many bytes the output takes, or
+// `closed`; whether it fails; the line that standard error takes, `-` where there is none, or `closed`;
+// and the number of the status. No byte of a refused text comes to the output: a closed one is not
+// noticed.
+const ROWS: &str = "\
+run 7 | 2 | whole | - | 0
+run 7 | 1 | failed | jm: write failed | 2
+run 7 | 0 | failed | jm: write failed | 2
+run 7 | closed | failed | closed | 2
+run 6 | 2 | whole | closed | 8
+asm | 53 | whole | - | 0
+asm | 52 | failed | jm: A.class: not written | 2
+asm | 0 | failed | jm: A.class: not written | 2
+asm | closed | failed | closed | 2
+refused | closed | whole | closed | 4
+";
+
+fn file(alloc: Global, text: &str) -> Result<InputFile, AllocError> {
+    Ok(InputFile {
+        name: String::from_str(alloc, "A.j")?,
+        contents: Contents::Bytes(text.as_bytes().to_vec(alloc)?),
+    })
+}
+
+fn run_job(alloc: Global, schedule: &str) -> Result<Job, AllocError> {
+    Ok(Job::Run(RunJob {
+        heap: 100,
+        events: RunEvents::Schedule(file(alloc, schedule)?),
+        program: vec![in alloc; file(alloc, FIVE)?]?,
+    }))
+}
+
+fn assembly_job(alloc: Global, text: &str) -> Result<Job, AllocError> {
+    Ok(Job::Assemble(AssembleJob {
+        text: file(alloc, text)?,
+        output: String::from_str(alloc, "A.class")?,
+    }))
+}
+
+// The job of this name; an empty text is refused.
+fn job_of(alloc: Global, name: &str) -> Result<Job, AllocError> {
+    match name {
+        "run 7" => run_job(alloc, "t 1 x 7"),
+        "run 6" => run_job(alloc, "t 1 x 6"),
+        "asm" => assembly_job(alloc, EMPTY),
+        _ => assembly_job(alloc, ""),
     }
 }
 
-// Does a job over an output with so much room, and compares whether it fails, and the status.
-fn check_output(
+// The writer of a column.
+fn writer(alloc: Global, column: &str) -> Narrow {
+    Narrow {
+        room: column.parse().unwrap_or(1_000),
+        closed: column == "closed",
+        taken: Vec::new(alloc),
+    }
+}
+
+// What standard error has taken.
+fn line_of(alloc: Global, column: &str) -> Result<String, AllocError> {
+    match column {
+        "-" | "closed" => String::from_str(alloc, ""),
+        _ => format!(in alloc; "{column}\n"),
+    }
+}
+
+// Does a job, and compares whether the two writers have failed, and the status.
+fn check_job(
     rt: &impl Abort,
     alloc: Global,
     job: &Job,
-    told: &mut Vec<u8>,
-    room: usize,
+    output: &mut Narrow,
+    told: &mut Narrow,
     fails: bool,
-    status: u8,
+    number: u8,
 ) {
-    let mut out = Watched::new(Narrow { room });
+    let closed = told.closed;
+    let mut input = Watched::new(b"unread".as_slice());
+    let mut out = Watched::new(output);
     let mut err = Watched::new(told);
-    assert!(rt;
-        status_of(alloc, job, &mut out, &mut err) == status,
-        "{room}"
-    );
-    assert!(rt; out.has_failed() == fails, "{room}");
+    let status = execute(alloc, job, &mut input, &mut out, &mut err);
+    assert!(rt; status.code() == number);
+    assert!(rt; out.has_failed() == fails);
+    assert!(rt; err.has_failed() == closed);
 }
 
-fn check_room(rt: &impl Abort, alloc: Global, row: &str) -> Result<(), Fail> {
+fn check_row(rt: &impl Abort, alloc: Global, row: &str) -> Result<(), Fail> {
     let columns: Vec<&str> = row.split(" | ").collect(alloc)?;
-    let [which, room, end, lines, status] = columns.as_slice() else {
+    let [job, room, end, line, status] = columns.as_slice() else {
         return Err(Fail::from("a row without its columns"));
     };
-    let job = job_of_sum(alloc, which, "t 1 x 9")?;
-    let mut told = Vec::new(alloc);
-    check_output(
+    let job = job_of(alloc, job)?;
+    let mut output = writer(alloc, room);
+    let mut told = writer(alloc, line);
+    let fails = *end == "failed";
+    check_job(
         rt,
         alloc,
         &job,
+        &mut output,
         &mut told,
-        room.parse()?,
-        *end == "failed",
+        fails,
         status.parse()?,
     );
-    assert!(rt; told == bytes_of(alloc, lines)?, "{row}");
+    let line = line_of(alloc, line)?;
+    assert!(rt; told.taken.as_slice() == line.as_bytes(), "{row}");
     Ok(())
 }
 
 #[test]
-fn output_that_is_taken_in_parts(rt: HostRuntime) -> Result<(), Fail> {
-    for row in ROOMS.lines() {
-        check_room(&rt, rt.alloc(), row)?;
+fn writers_that_fail(rt: HostRuntime) -> Result<(), Fail> {
+    for row in ROWS.lines() {
+        check_row(&rt, rt.alloc(), row)?;
     }
-    assert!(rt; ROOMS.lines().count() == 6);
-    Ok(())
-}
-
-// Does a job over closed writers, and compares whether the output's failure is noticed.
-fn check_closed(rt: &impl Abort, alloc: Global, job: &Job, fails: bool, status: u8) {
-    let mut out = Watched::new(Closed);
-    let mut err = Watched::new(Closed);
-    assert!(rt; status_of(alloc, job, &mut out, &mut err) == status);
-    assert!(rt; out.has_failed() == fails);
-    assert!(rt; err.has_failed());
-}
-
-// No byte of a refused text comes to the output: a closed one is not noticed.
-#[test]
-fn closed_writers(rt: HostRuntime) -> Result<(), Fail> {
-    let alloc = rt.alloc();
-    check_closed(&rt, alloc, &job_of_sum(alloc, "run", "t 1 x 8")?, true, 2);
-    check_closed(&rt, alloc, &job_of_sum(alloc, "asm", "-")?, true, 2);
-    let wrong = job_of(alloc, "asm", "sum.j", "@wrong text", "-")?;
-    check_closed(&rt, alloc, &wrong, false, 4);
-    Ok(())
-}
-
-#[test]
-fn closed_standard_error(rt: HostRuntime) -> Result<(), Fail> {
-    let job = job_of_sum(rt.alloc(), "run", "t 1 x 8")?;
-    let mut out = Watched::new(Narrow { room: 2 });
-    let mut err = Watched::new(Closed);
-    assert!(rt; status_of(rt.alloc(), &job, &mut out, &mut err) == 8);
-    assert!(rt; !out.has_failed());
-    assert!(rt; err.has_failed());
     Ok(())
 }

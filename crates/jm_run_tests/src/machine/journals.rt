@@ -4,8 +4,7 @@ ghost use Rattle.std.specs.Prelude.{◌≡◌, None};
 ghost use Rattle.jm_linked.specs.Later.{later_part};
 ghost use Rattle.jm_world.specs.Loading.{loaded_world};
 
-use crate::class_file::SUM;
-use crate::machine::runs::{STEP, linked_main};
+use crate::machine::runs::{STEP, SUM, linked_main};
 use jm_heap::PlainHeap;
 use jm_linked::Linked;
 use jm_machine::Machine;
@@ -63,6 +62,6 @@ fn nine_turns<R: Origin>(rt: &impl Abort, alloc: Global, linked: Linked) -> Resu
 
 #[test]
 fn nine_turns_are_journaled(rt: HostRuntime) -> Result<(), Fail> {
-    let linked = linked_main(rt.alloc(), &SUM)?;
+    let linked = linked_main(rt.alloc(), SUM)?;
     nine_turns::<Brand>(&rt, rt.alloc(), linked)
 }

@@ -1,8 +1,7 @@
 // What the readers tell of Main's runs over the plain heap. The answers are worked out by hand: the
 // stream of System.out is object 0, main's empty array object 1 and an exception object 2.
 
-use crate::class_file::{BY_ZERO, SUM};
-use crate::machine::runs::{STEP, loaded};
+use crate::machine::runs::{BY_ZERO, STEP, SUM, loaded};
 use jm_heap::PlainHeap;
 use jm_jasmin::assemble;
 use jm_linker::link;
@@ -68,10 +67,10 @@ fn is_of_main(frame: &MethodFrame<PlainHeap>) -> bool {
 }
 
 fn has_first_locals(frame: &MethodFrame<PlainHeap>) -> bool {
-    frame.max_locals() == 8
+    frame.max_locals() == 2
         && frame.local(0) == Some(Some(WorldValue::Ref(1)))
-        && frame.local(7) == Some(None)
-        && frame.local(8).is_none()
+        && frame.local(1) == Some(None)
+        && frame.local(2).is_none()
 }
 
 fn has_operands_of_sum(frame: &MethodFrame<PlainHeap>) -> bool {
@@ -149,7 +148,7 @@ fn has_exception(machine: &Machine<PlainHeap>) -> Result<bool, OutOfMemory> {
 
 #[test]
 fn frames_and_statics_are_told(rt: HostRuntime) -> Result<(), Fail> {
-    let mut machine = loaded(rt.alloc(), &SUM, 65536)?;
+    let mut machine = loaded(rt.alloc(), SUM, 65536)?;
     assert!(rt; is_at_start(&machine));
     let _ = machine.run(&[STEP; 6])?;
     assert!(rt; is_at_sum(&machine));
@@ -169,7 +168,7 @@ fn static_fields_begin_with_zero_or_null(rt: HostRuntime) -> Result<(), Fail> {
 
 #[test]
 fn objects_are_told(rt: HostRuntime) -> Result<(), Fail> {
-    let mut machine = loaded(rt.alloc(), &BY_ZERO, 65536)?;
+    let mut machine = loaded(rt.alloc(), BY_ZERO, 65536)?;
     let _ = machine.run(&[STEP; 6])?;
     assert!(rt; machine.pending(1) == Some(2));
     assert!(rt; has_empty_array(&machine)?);

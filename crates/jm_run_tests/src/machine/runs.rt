@@ -1,12 +1,11 @@
 // Runs of Main over the plain heap. The answers are worked out by hand: three stages of
 // initialization come before the first instruction.
 
-ghost use Rattle.std.specs.Prelude.{◌≡◌, ◌+◌, ◌<◌, ◌^◌, IfOk, None, length};
+ghost use Rattle.std.specs.Prelude.{◌≡◌, IfOk, None};
 ghost use Rattle.jm_linked.specs.Later.{later_part};
 
-use crate::class_file::{BY_ZERO, SUM, WRONG_TAG, main_with};
-use jm_class_reader::read_class;
 use jm_heap::{Heap, PlainHeap};
+use jm_jasmin::assemble;
 use jm_linked::Linked;
 use jm_linker::link;
 use jm_machine::{LoadFault, Machine, OutOfMemory, read_schedule};
@@ -19,6 +18,31 @@ use std::test::Fail;
 
 /// A step of the first thread.
 pub const STEP: Event = Event::Step(1);
+
+/// The instructions that print the sum of 2 and 3.
+pub const SUM: &str = "getstatic java/lang/System/out Ljava/io/PrintStream;
+iconst_2
+iconst_3
+iadd
+invokevirtual java/io/PrintStream/println(I)V";
+
+/// The instructions that divide by zero.
+pub const BY_ZERO: &str = "iconst_1
+iconst_0
+idiv";
+
+// The third instruction takes an int and finds a long.
+const WRONG_TAG: &str = "iconst_0
+lconst_0
+iadd";
+
+// Main with 3 operands and 2 local variables at most, up to its first instruction.
+const HEAD: &str = ".class Main
+.super java/lang/Object
+.method static main([Ljava/lang/String;)V
+.limit stack 3
+.limit locals 2
+";
 
 // A row is a line of columns with ` | ` between them: events as a schedule's line, and what is told
 // after each of them. That is the reply with how many threads were made and how many have not ended;
@@ -40,7 +64,7 @@ minor | Done 1 1, 1 1 running | - |
 full | Done 1 1, 1 1 running | - |
 ";
 
-// The third instruction takes an int and finds a long; then nothing happens any more.
+// The third instruction stops the machine; then nothing happens any more.
 const WRONG_TAG_ROWS: &str = "\
 t 1 x 5 | Done 1 1, 1 1 running | - |
 t 1 x 2 | Stopped 1 1, 1 1 WrongTag | - |
@@ -61,21 +85,18 @@ t 1 x 5 | Done 1 1, 1 1 running | - |
 t 1 | Stopped 1 1, 1 1 HeapFull | - |
 ";
 
-/// Main with this code for main, linked.
-pub fn linked_main(alloc: Global, code: &[u8]) -> Result<Linked, Fail>
-    requires { length code.now + 12 < 2 ^ 32 }
+/// Main with these instructions and a return, linked.
+pub fn linked_main(alloc: Global, instructions: &str) -> Result<Linked, Fail>
     ensures { IfOk result (λ l. later_part l.program ≡ None) }
 {
-    let bytes = main_with(alloc, code)?;
-    let class = read_class(alloc, &bytes)?;
+    let text = format!(in alloc; "{HEAD}{instructions}\nreturn\n.end method\n")?;
+    let class = assemble(alloc, &text)?;
     Ok(link(alloc, vec![in alloc; class]?)?)
 }
 
-/// The machine from which Main's run begins with this code for main, over a heap of so many cells.
-pub fn loaded(alloc: Global, code: &[u8], limit: u32) -> Result<Machine<PlainHeap>, Fail>
-    requires { length code.now + 12 < 2 ^ 32 }
-{
-    let linked = linked_main(alloc, code)?;
+/// The machine from which Main's run begins with these instructions, over a heap of so many cells.
+pub fn loaded(alloc: Global, instructions: &str, limit: u32) -> Result<Machine<PlainHeap>, Fail> {
+    let linked = linked_main(alloc, instructions)?;
     Ok(Machine::load(alloc, linked, PlainHeap::new(alloc, limit))?)
 }
 
@@ -187,38 +208,36 @@ fn check_rows(
 fn check_run(
     rt: &impl Abort,
     alloc: Global,
-    code: &[u8],
+    instructions: &str,
     limit: u32,
     rows: &str,
-) -> Result<(), Fail>
-    requires { length code.now + 12 < 2 ^ 32 }
-{
-    let mut machine = loaded(alloc, code, limit)?;
+) -> Result<(), Fail> {
+    let mut machine = loaded(alloc, instructions, limit)?;
     check_rows(rt, alloc, &mut machine, 0, rows)
 }
 
 #[test]
 fn nine_events_print_five(rt: HostRuntime) -> Result<(), Fail> {
-    check_run(&rt, rt.alloc(), &SUM, 65536, SUM_ROWS)?;
-    check_run(&rt, rt.alloc(), &SUM, 5, SUM_ROWS)
+    check_run(&rt, rt.alloc(), SUM, 65536, SUM_ROWS)?;
+    check_run(&rt, rt.alloc(), SUM, 5, SUM_ROWS)
 }
 
 #[test]
 fn threads_that_are_not_there(rt: HostRuntime) -> Result<(), Fail> {
-    let mut machine = loaded(rt.alloc(), &SUM, 65536)?;
+    let mut machine = loaded(rt.alloc(), SUM, 65536)?;
     check_rows(&rt, rt.alloc(), &mut machine, 3, NO_THREAD_ROWS)?;
     check_rows(&rt, rt.alloc(), &mut machine, 0, NO_THREAD_ROWS)
 }
 
 #[test]
 fn wrong_tag_stops(rt: HostRuntime) -> Result<(), Fail> {
-    check_run(&rt, rt.alloc(), &WRONG_TAG, 65536, WRONG_TAG_ROWS)
+    check_run(&rt, rt.alloc(), WRONG_TAG, 65536, WRONG_TAG_ROWS)
 }
 
 #[test]
 fn division_by_zero_ends_the_thread(rt: HostRuntime) -> Result<(), Fail> {
-    check_run(&rt, rt.alloc(), &BY_ZERO, 7, BY_ZERO_ROWS)?;
-    check_run(&rt, rt.alloc(), &BY_ZERO, 6, FULL_ROWS)
+    check_run(&rt, rt.alloc(), BY_ZERO, 7, BY_ZERO_ROWS)?;
+    check_run(&rt, rt.alloc(), BY_ZERO, 6, FULL_ROWS)
 }
 
 // Makes nine steps by `run` and one by `step`, and compares each reply.
@@ -238,18 +257,10 @@ fn check_replies(rt: &impl Abort, machine: &mut Machine<PlainHeap>) -> Result<()
 
 #[test]
 fn a_list_of_events_has_a_reply_each(rt: HostRuntime) -> Result<(), Fail> {
-    let mut machine = loaded(rt.alloc(), &SUM, 65536)?;
+    let mut machine = loaded(rt.alloc(), SUM, 65536)?;
     assert!(rt; machine.program().len() == 1);
     assert!(rt; machine.heap().limit() == 65536);
     check_replies(&rt, &mut machine)
-}
-
-#[test]
-fn a_heap_of_four_cells_is_too_small(rt: HostRuntime) -> Result<(), Fail> {
-    let linked = linked_main(rt.alloc(), &SUM)?;
-    let fault = Machine::load(rt.alloc(), linked, PlainHeap::new(rt.alloc(), 4)).err();
-    assert!(rt; fault == Some(LoadFault::HeapTooSmall));
-    Ok(())
 }
 
 #[test]

@@ -2,12 +2,12 @@
 
 use super::words::words_of;
 use crate::table::row_of;
-use jm_options::{Options, options};
+use jm_options::{Options, RunOptions, options};
 use std::alloc::Global;
 use std::test::Fail;
 
-/// Words, parted by `|`, and behind ` => ` what they ask for, with the files, `, ` between them, and the
-/// limit of the heap that they give.
+/// Words, parted by `|`, and behind ` => ` what they ask for, with the files, `, ` between them, where the
+/// events come from, and the limit of the heap that they give.
 const ASKED: &str = "\
 jm|run|--schedule|s.txt|Main.class => run of Main.class by s.txt with 65536
 jm|run|--schedule=s.txt|Main.class => run of Main.class by s.txt with 65536
@@ -19,6 +19,12 @@ jm|run|--heap|00100|--schedule=s.txt|--|Main.class => run of Main.class by s.txt
 jm|run|--schedule=s.txt|Main.class|A.j => run of Main.class, A.j by s.txt with 65536
 jm|run|A.j|--heap=16|Main.class|--schedule=s.txt|A.j => run of A.j, Main.class, A.j by s.txt with 16
 jm|run|--schedule=s.txt|--|-A.j|--heap => run of -A.j, --heap by s.txt with 65536
+jm|run|Main.class => run of Main.class by 1000000 steps in turns of 1 with 65536
+jm|run|--steps|1|Main.class => run of Main.class by 1 steps in turns of 1 with 65536
+jm|run|--steps=10000000|--quantum=1000000|Main.class => run of Main.class by 10000000 steps in turns of 1000000 with 65536
+jm|run|Main.class|--quantum|2|Other.class => run of Main.class, Other.class by 1000000 steps in turns of 2 with 65536
+jm|run|--steps=9|--quantum=2|--schedule=s.txt|Main.class => run of Main.class by s.txt with 65536
+jm|run|asm|A.j|A.class => run of asm, A.j, A.class by 1000000 steps in turns of 1 with 65536
 jm|asm|Main.j|Main.class => assembly of Main.j to Main.class
 jm|asm|-|out => assembly of - to out
 jm|asm|--|-Main.j|--help => assembly of -Main.j to --help
@@ -36,14 +42,26 @@ fn list_of(alloc: Global, files: &[String]) -> Result<String, Fail> {
     Ok(list)
 }
 
+// Where the events of a run come from.
+fn events_of(alloc: Global, run: &RunOptions) -> Result<String, Fail> {
+    match &run.schedule {
+        Some(file) => Ok(String::from_str(alloc, file)?),
+        None => {
+            let (steps, quantum) = (run.steps, run.quantum);
+            Ok(format!(in alloc; "{steps} steps in turns of {quantum}")?)
+        }
+    }
+}
+
 fn answer(alloc: Global, words: &str) -> Result<String, Fail> {
     let words = words_of(alloc, words, "|")?;
     let asked = options(alloc, &words)?;
     Ok(match &asked {
         Options::Run(run) => {
             let files = list_of(alloc, &run.files)?;
-            let (schedule, heap) = (&run.schedule, run.heap);
-            format!(in alloc; "run of {files} by {schedule} with {heap}")
+            let events = events_of(alloc, run)?;
+            let heap = run.heap;
+            format!(in alloc; "run of {files} by {events} with {heap}")
         }
         Options::Assemble(files) => {
             let (input, output) = (&files.input, &files.output);
@@ -59,6 +77,6 @@ fn words_ask_for_this(rt: HostRuntime) -> Result<(), Fail> {
         let answer = answer(rt.alloc(), words)?;
         assert!(rt; answer.as_str() == want, "{row}");
     }
-    assert!(rt; ASKED.lines().count() == 15);
+    assert!(rt; ASKED.lines().count() == 21);
     Ok(())
 }

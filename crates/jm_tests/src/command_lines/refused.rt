@@ -13,14 +13,13 @@ jm => 1 A Java virtual machine that makes one event after the other
 jm --help => 1 A Java virtual machine that makes one event after the other
 jm -h => 1 A Java virtual machine that makes one event after the other
 jm help => 1 A Java virtual machine that makes one event after the other
-jm run --help => 1 Run a program by the events of a schedule
-jm help run => 1 Run a program by the events of a schedule
+jm run --help => 1 Run a program: its threads take turns, or a schedule says which events are made
+jm help run => 1 Run a program: its threads take turns, or a schedule says which events are made
 jm --version => 1 error: unexpected argument '--version' found
 jm replay r A.class => 1 error: unrecognized subcommand 'replay'
 jm debug A.class => 1 error: unrecognized subcommand 'debug'
 jm A.class => 1 error: unrecognized subcommand 'A.class'
 jm run => 1 error: the following required arguments were not provided:
-jm run A.class => 1 error: the following required arguments were not provided:
 jm run --schedule s => 1 error: the following required arguments were not provided:
 jm run A.class --schedule => 1 error: a value is required for '--schedule <FILE>' but none was supplied
 jm run --schedule=s --schedule=t A.class => 1 error: the argument '--schedule <FILE>' cannot be used multiple times
@@ -31,10 +30,15 @@ jm run --heap=99999999999999999999 --schedule=s A.class => 1 error: invalid valu
 jm run --heap x --schedule=s A.class => 1 error: invalid value 'x' for '--heap <N>': invalid digit found in string
 jm run --heap= --schedule=s A.class => 1 error: invalid value '' for '--heap <N>': cannot parse integer from empty string
 jm run --heap=-16 --schedule=s A.class => 1 error: invalid value '-16' for '--heap <N>': -16 is not in 16..=16777216
+jm run --steps=1 --steps=2 A.class => 1 error: the argument '--steps <N>' cannot be used multiple times
+jm run --steps 0 A.class => 1 error: invalid value '0' for '--steps <N>': 0 is not in 1..=10000000
+jm run --steps=10000001 A.class => 1 error: invalid value '10000001' for '--steps <N>': 10000001 is not in 1..=10000000
+jm run --steps x A.class => 1 error: invalid value 'x' for '--steps <N>': invalid digit found in string
+jm run --quantum 0 A.class => 1 error: invalid value '0' for '--quantum <N>': 0 is not in 1..=1000000
+jm run --quantum=1000001 A.class => 1 error: invalid value '1000001' for '--quantum <N>': 1000001 is not in 1..=1000000
+jm run --quantum= A.class => 1 error: invalid value '' for '--quantum <N>': cannot parse integer from empty string
 jm run --shedule s A.class => 1 error: unexpected argument '--shedule' found
 jm run --copiers 2 --schedule=s A.class => 1 error: unexpected argument '--copiers' found
-jm run --steps 9 --schedule=s A.class => 1 error: unexpected argument '--steps' found
-jm run --quantum=2 --schedule=s A.class => 1 error: unexpected argument '--quantum' found
 jm run --workers=2 --schedule=s A.class => 1 error: unexpected argument '--workers' found
 jm run --record r --schedule=s A.class => 1 error: unexpected argument '--record' found
 jm run --show-heap --schedule=s A.class => 1 error: unexpected argument '--show-heap' found
@@ -52,13 +56,12 @@ jm asm --heap=16 A.j A.class => 1 error: unexpected argument '--heap' found
 jm asm -o A.class A.j => 1 error: unexpected argument '-o' found
 jm asm -A.j A.class => 1 error: unexpected argument '-A' found
 jm asm A.j -A.class => 1 error: unexpected argument '-A' found
-jm asn A.j A.class => 1 error: unrecognized subcommand 'asn'
-jm run asm A.j A.class => 1 error: the following required arguments were not provided:";
+jm asn A.j A.class => 1 error: unrecognized subcommand 'asn'";
 
 /// Words that are refused, and behind ` => ` a part of the text, whose line ends are written `/`.
 const PARTS: &str = "\
 jm => Usage: jm <COMMAND>
-jm --help =>   run   Run a program by the events of a schedule
+jm --help =>   run   Run a program: its threads take turns, or a schedule says which events are made
 jm --help =>   asm   Assemble a text in Jasmin's syntax into a class file
 jm run -h => Class files, or texts ending in .j; the first one's `main` is run
 jm asm -h => Usage: jm asm <IN> <OUT>
@@ -70,8 +73,10 @@ jm asm => Usage: jm asm <IN> <OUT>
 jm asm -A.j A.class => to pass '-A' as a value, use '-- -A'
 jm asn => a similar subcommand exists: 'asm'
 jm as => a similar subcommand exists: 'asm'
-jm run -h => Usage: jm run [OPTIONS] --schedule <FILE> <FILE>...
+jm run -h => Usage: jm run [OPTIONS] <FILE>...
 jm run -h => [default: 65536]
+jm run -h => [default: 1000000]
+jm run -h => [default: 1]
 jm run --shedule=s A.class => a similar argument exists: '--schedule'
 jm rum => a similar subcommand exists: 'run'";
 
@@ -95,7 +100,7 @@ fn refusals_name_the_word(rt: HostRuntime) -> Result<(), Fail> {
         let said = first_line(rt.alloc(), words)?;
         assert!(rt; said.as_str() == want, "{row}");
     }
-    assert!(rt; REFUSED.lines().count() == 46);
+    assert!(rt; REFUSED.lines().count() == 49);
     Ok(())
 }
 
@@ -113,7 +118,7 @@ fn refusals_say_what_to_write(rt: HostRuntime) -> Result<(), Fail> {
         let (words, part) = row_of(row)?;
         assert!(rt; says(rt.alloc(), words, part)?, "{row}");
     }
-    assert!(rt; PARTS.lines().count() == 17);
+    assert!(rt; PARTS.lines().count() == 19);
     Ok(())
 }
 

@@ -2,6 +2,7 @@
 use Rattle.std.proofs.Common.{subst}
 use Rattle.jm_world.specs.Loading.{loaded_world}
 use Rattle.jm_execute.specs.Endings.{Ends}
+use Rattle.jm_execute.specs.Sources.{events_made}
 use Rattle.jm_execute.proofs.Beginnings.{allowed}
 use Rattle.jm_execute.proofs.Telling.{untouched_told}
 use Rattle.jm_execute.proofs.execution.execute_run.Goals as goal
@@ -13,7 +14,7 @@ pub returns-in-Ok : goal.returns-in-Ok
 returns-in-Ok g c =
     let (ending, ends, leaves) = c.run_events.ensures in
     let m = c.in-Ok.machine in
-    let from = subst (λ n. Ends (loaded_world m.linked.program n) c.in-Ok.schedule ending) c.in-Ok.ensures.ready.limit_is ends in
+    let from = subst (λ n. Ends (loaded_world m.linked.program n) (events_made c.in-Ok.source (loaded_world m.linked.program n)) ending) c.in-Ok.ensures.ready.limit_is ends in
     (ending, allowed _ _ _ _ c.in-Ok.ensures.run ending from, leaves)
 
 pub returns-in-Err : goal.returns-in-Err

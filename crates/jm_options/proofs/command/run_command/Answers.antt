@@ -1,4 +1,4 @@
--- Three arguments, one after the other.
+-- Five arguments, one after the other.
 use Rattle.std.proofs.Common.{ap, ◌∙◌, codes}
 use Rattle.std.proofs.lemmas.Result.{IfOk-weaker}
 use Rattle.clap.specs.Words.{new_app}
@@ -12,4 +12,6 @@ returns c =
     let start : IsSeenAs c.about.result (new_app (codes "run")) = record { app = ap app_of_fields c.about.ensures ∙ c.new.ensures.app; local = rw c.about.ensures c.new.ensures.local } in
     let one = one_more _ _ _ _ _ start c.in_ok-arg.ensures c.heap_argument.ensures.rule c.heap_argument.ensures.local in
     let two = one_more _ _ _ _ _ one c.in_ok-arg-2.ensures c.schedule_argument.ensures.rule c.schedule_argument.ensures.local in
-    IfOk-weaker _ _ _ (λ command adds. one_more _ _ _ _ _ two adds c.file_argument.ensures.rule c.file_argument.ensures.local) c.arg-3.ensures
+    let three = one_more _ _ _ _ _ two c.in_ok-arg-3.ensures c.steps_argument.ensures.rule c.steps_argument.ensures.local in
+    let four = one_more _ _ _ _ _ three c.in_ok-arg-4.ensures c.quantum_argument.ensures.rule c.quantum_argument.ensures.local in
+    IfOk-weaker _ _ _ (λ command adds. one_more _ _ _ _ _ four adds c.file_argument.ensures.rule c.file_argument.ensures.local) c.arg-5.ensures

@@ -1,0 +1,10 @@
+.class public Main
+.super java/lang/Object
+.method public static main([Ljava/lang/String;)V
+.limit stack 8
+.limit locals 8
+getstatic java/lang/System/out Ljava/io/PrintStream;
+; here
+invokevirtual java/io/PrintStream/println(I)V
+return
+.end method

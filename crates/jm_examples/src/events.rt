@@ -1,0 +1,40 @@
+// The events of a run: those of a schedule, or the threads take turns.
+
+ghost use Rattle.std.specs.Prelude.{MatchOption, ◌≤◌};
+
+use crate::columns::file_of;
+use jm_execute::RunEvents;
+use jm_schedule::{MAX_QUANTUM, MAX_STEPS, RoundRobin, round_robin};
+use std::io;
+use std::io::ErrorKind;
+
+// A number from 1 on, if it is one and at most this large.
+fn number_of(word: &str, most: u32) -> Option<u32>
+    ensures { MatchOption result (Unit {0}) (λ number. (1 ≤ number) × (number ≤ most)) }
+{
+    let number = word.parse::<u32>().ok()?;
+    if 1 <= number && number <= most {
+        Some(number)
+    } else {
+        None
+    }
+}
+
+// The turns of two numbers: how many events are made at most, and how many in a turn.
+fn turns_of(numbers: &str) -> Option<RoundRobin> {
+    let (steps, quantum) = numbers.split_once(' ')?;
+    let steps = number_of(steps, MAX_STEPS)?;
+    let quantum = number_of(quantum, MAX_QUANTUM)?;
+    Some(round_robin(steps, quantum))
+}
+
+/// The events that a column says: `@turns` and two numbers, or a schedule.
+pub fn events_of(rt: &HostRuntime, column: &str) -> io::Result<RunEvents> {
+    match column.strip_prefix("@turns ") {
+        Some(numbers) => match turns_of(numbers) {
+            Some(turns) => Ok(RunEvents::RoundRobin(turns)),
+            None => Err(io::Error::from(ErrorKind::InvalidData)),
+        },
+        None => Ok(RunEvents::Schedule(file_of(rt, "events", column)?)),
+    }
+}

@@ -1,0 +1,32 @@
+// The jobs that are done: a program of files that is run, and a text that is assembled.
+
+use jm_execute::{AssembleJob, Contents, InputFile, Job, RunEvents, RunJob};
+use std::alloc::{AllocError, Global};
+
+/// The limit of the heap where none is named, in cells.
+pub const HEAP: u32 = 65_536;
+
+/// The file of this name.
+pub fn input_file(alloc: Global, name: &str, contents: Contents) -> Result<InputFile, AllocError> {
+    Ok(InputFile {
+        name: String::from_str(alloc, name)?,
+        contents,
+    })
+}
+
+/// The run of a program's files by these events, with a heap of so many cells.
+pub fn run_job(heap: u32, events: RunEvents, program: Vec<InputFile>) -> Job {
+    Job::Run(RunJob {
+        heap,
+        events,
+        program,
+    })
+}
+
+/// The class file `Sum.class` of a text.
+pub fn assembly_job(alloc: Global, text: InputFile) -> Result<Job, AllocError> {
+    Ok(Job::Assemble(AssembleJob {
+        text,
+        output: String::from_str(alloc, "Sum.class")?,
+    }))
+}

@@ -1,0 +1,50 @@
+-- The verdict of a run, one step after the other.
+use Rattle.std.proofs.Common.{◌≡◌, ℕ, List, refl, ap, sym, subst, ◌∙◌, Result, Ok}
+use Rattle.jm_program.specs.declared.class.ClassParts.{ClassParts}
+use Rattle.jm_world.specs.Loading.{loaded_world}
+use Rattle.jm_world.specs.declared.event.Event.{Event}
+use Rattle.jm_execute.specs.Refusals.{Hinders}
+use Rattle.jm_execute.specs.Verdicts.{Verdict, events_read, events_of, program_of, run_verdict, runs, ◌>>=◌}
+use Rattle.jm_execute.specs.declared.job.InputFile.{InputFile}
+use Rattle.jm_execute.specs.declared.job.RunJob.{RunJob}
+use Rattle.jm_execute.specs.declared.refusal.Obstacle.{Obstacle}
+use Rattle.jm_execute.proofs.Chains.{hindered}
+
+-- the steps behind the program, and behind what says the events
+abbrev behind_program : RunJob → List ClassParts → Verdict
+behind_program job program = events_of job.events (loaded_world program job.heap) >>= (λ events. Ok (runs program job.heap events))
+
+abbrev behind_reading : RunJob → Unit {0} → Verdict
+behind_reading job read = program_of job.heap job.program.items >>= behind_program job
+
+module _ (job : RunJob) where
+  by_steps : run_verdict job ≡ (events_read job.events >>= behind_reading job)
+  unfolding run_verdict
+  by_steps = refl
+
+  pub not_read : (o : Obstacle) → Hinders (events_read job.events) o → Hinders (run_verdict job) o
+  not_read o h = subst (λ v. Hinders v o) (sym by_steps) (hindered (events_read job.events) (behind_reading job) o h)
+
+  module _ (read : events_read job.events ≡ Ok tt) (limit : ℕ) (files : List InputFile) (limit_is : limit ≡ job.heap) (files_are : files ≡ job.program.items) where
+    goes_on : run_verdict job ≡ behind_reading job tt
+    goes_on = by_steps ∙ ap (λ step. step >>= behind_reading job) read
+
+    same_program : program_of limit files ≡ program_of job.heap job.program.items
+    same_program = ap (λ n. program_of n files) limit_is ∙ ap (program_of job.heap) files_are
+
+    pub no_program : (o : Obstacle) → Hinders (program_of limit files) o → Hinders (run_verdict job) o
+    no_program o h =
+        let here = subst (λ v. Hinders v o) same_program h in
+        subst (λ v. Hinders v o) (sym goes_on) (hindered (program_of job.heap job.program.items) (behind_program job) o here)
+
+    module _ (program : List ClassParts) (program_is : program_of limit files ≡ Ok program) where
+      goes_further : run_verdict job ≡ behind_program job program
+      goes_further = goes_on ∙ ap (λ step. step >>= behind_program job) (sym same_program ∙ program_is)
+
+      pub no_events : (o : Obstacle) → Hinders (events_of job.events (loaded_world program job.heap)) o → Hinders (run_verdict job) o
+      no_events o h =
+          let events = events_of job.events (loaded_world program job.heap) in
+          subst (λ v. Hinders v o) (sym goes_further) (hindered events (λ es. Ok (runs program job.heap es)) o h)
+
+      pub prepared : (events : List Event) → events_of job.events (loaded_world program job.heap) ≡ Ok events → run_verdict job ≡ Ok (runs program job.heap events)
+      prepared events is = goes_further ∙ ap (λ step. step >>= (λ es. Ok (runs program job.heap es))) is

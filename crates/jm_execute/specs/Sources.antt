@@ -1,0 +1,11 @@
+-- The events of a run that is prepared, from the world that it begins in.
+use Rattle.std.specs.Prelude.{List}
+use Rattle.jm_world.specs.RoundRobin.{robin}
+use Rattle.jm_world.specs.World.{World}
+use Rattle.jm_world.specs.declared.event.Event.{Event}
+use Rattle.jm_execute.specs.declared.events.RunSource.{RunSource}
+use Rattle.jm_execute.specs.declared.events.RunSource.TheVariants.{Schedule, RoundRobin}
+
+abbrev pub events_made : RunSource → World → List Event
+events_made (Schedule events) w = events
+events_made (RoundRobin turns) w = robin w turns.steps turns.quantum
