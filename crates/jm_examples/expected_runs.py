@@ -20,15 +20,12 @@ ATTRIBUTE = re.compile(r"^ {4,6}([A-Z][A-Za-z ]*):")
 INSTRUCTION = re.compile(r"^ *\d+: ([a-z_0-9]+)\s*(.*)$")
 NAMED = re.compile(r"^(?:Method|InterfaceMethod|Field) (\S+?):")
 ENDED = re.compile(r"jm: thread \d+ ended by ")
-LATER_CLASSES = ("java/lang/Thread", "java/lang/IllegalThreadStateException")
-MONITORS = ("monitorenter", "monitorexit")
 
 
 class Method:
-    """A method: its code, whether it is synchronized."""
+    """A method: its code."""
 
     def __init__(self):
-        self.synchronized = False
         self.code = []
 
 
@@ -72,9 +69,6 @@ def class_of_javap(path):
             part = None
             if text == "  static {};" or "(" in text:
                 result.methods.append(Method())
-        elif text.startswith("    flags:"):
-            if "ACC_SYNCHRONIZED" in text:
-                result.methods[-1].synchronized = True
         elif found := ATTRIBUTE.match(text):
             part = found[1]
         elif part == "Code" and (found := INSTRUCTION.match(text)):
@@ -111,7 +105,6 @@ def class_of_text(path):
                 result.superclass = words[1]
             elif words[0] == ".method":
                 inside = Method()
-                inside.synchronized = "synchronized" in words
                 result.methods.append(inside)
             elif words[0] == ".end":
                 inside = None
@@ -124,10 +117,6 @@ def class_of_text(path):
 
 def later_instruction(owner, mnemonic, used, called):
     """The part of an instruction that comes later, or None."""
-    if used in LATER_CLASSES:
-        return used
-    if mnemonic in MONITORS:
-        return mnemonic
     if mnemonic == "invokespecial" and called != "<init>":
         return None if used in (owner.name, owner.superclass) else mnemonic
     return None
@@ -135,10 +124,6 @@ def later_instruction(owner, mnemonic, used, called):
 
 def later_class(owner):
     """The first part of a class that comes later, or None."""
-    if owner.superclass in LATER_CLASSES:
-        return owner.superclass
-    if any(method.synchronized for method in owner.methods):
-        return "synchronized"
     for method in owner.methods:
         for code in method.code:
             if part := later_instruction(owner, *code):

@@ -35,7 +35,8 @@ compile --release 8 Marker.java Empty.java Arithmetic.java LongArithmetic.java \
 compile --release 8 -d "$folder" stub/*.java
 compile --release 8 -cp "$folder" Reading.java
 compile --release 8 -g Exceptions.java BuiltInFaults.java Locks.java \
-    Threads.java Initializers.java Casts.java OldMembers.java
+    Threads.java Initializers.java Casts.java OldMembers.java BoundedBuffer.java \
+    SharedCounter.java Deadlock.java
 compile --release 8 -g:none Fields.java Evaluation.java
 compile --release 7 -cp . Callback.java Calls.java Conditions.java Queens.java
 compile --release 7 -g Sorting.java Tree.java
@@ -44,6 +45,8 @@ python3 ../../expected.py ./*.class > expected.txt
 for source in *.java; do
     name=${source%.java}
     grep -q 'static void main(' "$source" || continue
+    # two threads that wait for one another for ever
+    [ "$name" != Deadlock ] || continue
     echo "== $name"
     run "$name"
 done > printed.txt

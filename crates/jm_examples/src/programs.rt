@@ -11,8 +11,8 @@ use std::{fs, io};
 struct ListedRun<'a> {
     /// The limit of the heap, in cells.
     heap: u32,
-    /// How many events of the first thread are made.
-    count: &'a str,
+    /// How many events of the first thread are made, or `turns`.
+    events: &'a str,
     /// The names of the program's files, the main class's first, with a space between them.
     files: &'a str,
 }
@@ -33,7 +33,7 @@ pub fn print_programs(rt: &HostRuntime, file: &str) -> io::Result<()> {
 }
 
 /// Runs each program of a file whose lines have the limit of the heap, in cells, how many events of the
-/// first thread are made, and the files of the program.
+/// first thread are made, or `turns` where the threads take turns, and the files of the program.
 pub fn print_runs(rt: &HostRuntime, file: &str) -> io::Result<()> {
     let programs = fs::read_to_string(rt, file)?;
     for line in programs.lines() {
@@ -48,17 +48,29 @@ pub fn print_runs(rt: &HostRuntime, file: &str) -> io::Result<()> {
 // The run of a line.
 fn listed_run(line: &str) -> Option<ListedRun<'_>> {
     let (heap, rest) = line.split_once(" ")?;
-    let (count, files) = rest.split_once(" ")?;
+    let (events, files) = rest.split_once(" ")?;
     let heap = heap.parse().ok()?;
-    Some(ListedRun { heap, count, files })
+    Some(ListedRun {
+        heap,
+        events,
+        files,
+    })
 }
 
 fn print_listed_run(rt: &HostRuntime, run: &ListedRun<'_>) -> io::Result<()> {
     let name = name_of(main_file(run.files));
-    println!(rt; "== {name}, heap {}, events {}", run.heap, run.count)?;
-    let schedule = format!(in rt.alloc(); "t 1 x {}", run.count)?;
-    let events = events_of(rt, &schedule)?;
+    println!(rt; "== {name}, heap {}, events {}", run.heap, run.events)?;
+    let events = listed_events(rt, run.events)?;
     print_run(rt, &job_of(rt, run.heap, events, run.files)?)
+}
+
+// So many events of the first thread, or the threads take turns.
+fn listed_events(rt: &HostRuntime, events: &str) -> io::Result<RunEvents> {
+    if events == "turns" {
+        return events_of(rt, TURNS);
+    }
+    let schedule = format!(in rt.alloc(); "t 1 x {events}")?;
+    events_of(rt, &schedule)
 }
 
 // The file of a program's main class.

@@ -154,6 +154,16 @@ module _ {H : Type 0} {content : H → Content ClassId} {at : At} {old mid : Sta
         ∙ again after (length w.heap) below
         ∙ ap (unwound_to (with_state (to_thrown h class w) failed Failed) (at.index + 1) (thread_in h w) below) (sym is)) dropped
 
+    -- or the top frame alone is dropped
+    pub dropped_anew : {new : State H} {ends : world.Ending} → ends ≡ ended_by class
+        → Does content at mid (Ok Done) new (λ w n t. unwound_to w n t (drop 1 t.frames) ends)
+        → Does content at old (Ok Done) new (λ w n t. unwound_anew w w n t (drop 1 t.frames) class)
+    dropped_anew {ends = ends} is dropped = then_does h.on done.runs (to_thrown h class) (thread_in h) matches_in there_in (λ w m.
+        let below = drop 1 (model h.on).frames in
+        (made_in w m).makes (λ made k. unwound (record w { heap = made.heap }) (at.index + 1) (model h.on) below k (instance_of class))
+        ∙ again (with_object w (exception class)) (length w.heap) below
+        ∙ ap (unwound_to (to_thrown h class w) (at.index + 1) (thread_in h w) below) (sym is)) dropped
+
   -- or could not be made
   module _ {name : List ℕ} (named : name ≡ class) {halt : Halt} (done : Does content at old (Err halt) mid (λ w n t. throw w n t name)) where
     pub not_thrown : {rule : World → ℕ → Thread → Next} (other : World → World → ℕ → Next) → Leads h.on rule (λ w. make w (exception class) (other w))

@@ -1,8 +1,9 @@
 -- A call, where it stands.
-use Rattle.std.proofs.Common.{◌≡◌, ℕ, zero, suc, ◌+◌, ◌-◌, ◌<◌, ◌≤◌, List, [], ◌∷◌, ◌++◌, Option, None, Bool, true, false, refl, sym, ap, ◌∙◌, subst}
+use Rattle.std.proofs.Common.{◌≡◌, ℕ, zero, suc, ◌+◌, ◌-◌, ◌<◌, ◌≤◌, List, [], ◌∷◌, ◌++◌, Option, Some, None, Bool, true, false, refl, sym, ap, ◌∙◌, subst}
 use Rattle.std.proofs.Common.{inl, inr, length, drop, take, reverse, arith}
-use Rattle.std.specs.Prelude.{map, option_map, codes, slice_index_or, vec_len, Result, Ok, Err}
+use Rattle.std.specs.Prelude.{map, option_map, codes, slice_get, slice_index_or, vec_len, Result, Ok, Err}
 use Rattle.std.proofs.lemmas.Grind.{flat_map-append}
+use Rattle.std.proofs.lemmas.Option.{get_or_from_slice_get}
 use Rattle.std.proofs.lemmas.List.{length-map, map-append, take-map, reverse-append}
 use Rattle.jm_program.specs.declared.code.Code.{Code}
 use Rattle.jm_frames.specs.FrameView.{FrameView, with_stack}
@@ -12,18 +13,19 @@ use Rattle.jm_values.specs.Shape.{Among, option_refs}
 use Rattle.jm_values.specs.declared.value.Value.{Value}
 use Rattle.jm_values.specs.declared.value.Value.TheVariants.{Int, Long, Null, Ref}
 use Rattle.jm_values.proofs.Among.{among_left, among_right, among_split}
-use Rattle.jm_values.proofs.Lists.{got_within}
+use Rattle.jm_values.proofs.Lists.{got_within, set_there}
 use Rattle.jm_world.specs.Classes.{FoundMethod, name_of_method}
-use Rattle.jm_world.specs.Frames.{frames_shape, rename_frame, method_frame}
-use Rattle.jm_world.specs.Here.{with_frames}
+use Rattle.jm_world.specs.Frames.{frames_shape, rename_frame, method_frame, optional_number_shape}
+use Rattle.jm_world.specs.Here.{Here, with_frames}
 use Rattle.jm_world.specs.Invocation.{argument_locals, locals_of, unset, padded, activation_of, calling}
 use Rattle.jm_world.specs.Matches.{places}
+use Rattle.jm_world.specs.Monitors.{enter_if}
 use Rattle.jm_world.specs.Next as next
 use Rattle.jm_world.specs.Next.{Next, throw}
 use Rattle.jm_world.specs.World.{World, Thread, held_shape}
 use Rattle.jm_calls.specs.Arguments.{on_top, beginning}
 use Rattle.jm_heap.specs.declared.class_id.ClassId.{ClassId}
-use Rattle.jm_linked.specs.Links.{name_of_number, name_among}
+use Rattle.jm_linked.specs.Links.{LinkedView, name_of_number, name_among}
 use Rattle.jm_state.specs.Parts.{frame_part}
 use Rattle.jm_state.specs.declared.halt.Halt.{Halt}
 use Rattle.jm_state.specs.declared.halt.Halt.TheVariants.{OutOfMemory}
@@ -33,13 +35,15 @@ use Rattle.jm_state.specs.declared.state.State.{State}
 use Rattle.jm_state.specs.declared.thread.StackFrame.TheVariants.{Method}
 use Rattle.jm_state.specs.declared.thread.Thread as held
 use Rattle.jm_interp.specs.declared.at.At.{At}
-use Rattle.jm_interp.specs.At.{parts_at, HoldsAll, InMethod, Does, in_method}
-use Rattle.jm_interp.specs.Calls.{IsCalled, calls_with, callee_of}
+use Rattle.jm_interp.specs.At.{parts_at, Beside, HoldsAll, OnThread, InMethod, OnFrames, Does, in_method}
+use Rattle.jm_interp.specs.Calls.{IsCalled, IsOperand, calls_with, callee_with}
+use Rattle.jm_interp.specs.Locking.{OnlyMonitors}
 use Rattle.jm_interp.specs.Standing.{Stands, running}
 use Rattle.jm_interp.proofs.Here.{place, top_held, with_other, part_with}
 use Rattle.jm_interp.proofs.Initialized.{less, not_less}
 use Rattle.jm_interp.proofs.OnThread as thread
-use Rattle.jm_interp.proofs.OnThread.{Leads, model, thread_as, with_thread_at, read, does_as, part_here, runs_with, same_matches}
+use Rattle.jm_interp.proofs.OnThread.{Leads, model, with_thread_at, read, does_as, part_here, runs_with, same_matches}
+use Rattle.jm_interp.proofs.Entered.{IsNotMade, enters, then_made, then_not, then_stands}
 use Rattle.jm_interp.proofs.Replaced.{dropped_map, refs_dropped}
 use Rattle.jm_interp.proofs.Threads.{count_is, part_refs, with_more}
 
@@ -103,7 +107,7 @@ argument_refs (Long n) q a = a
 argument_refs Null q a = a
 argument_refs (Ref p) q a = a
 
-arguments_refs : (vs : List Value) (q : ℕ) → Among q (locals_shape.refs (locals_of vs)) → Among q (stack_shape.refs vs)
+pub arguments_refs : (vs : List Value) (q : ℕ) → Among q (locals_shape.refs (locals_of vs)) → Among q (stack_shape.refs vs)
 arguments_refs [] q a = a
 arguments_refs (v ∷ vs) q a =
     let own = locals_shape.refs (argument_locals v) in
@@ -129,80 +133,180 @@ called_refs : (max count : ℕ) (s : List Value) (q : ℕ) → Among q (locals_s
 called_refs max count s q a =
     taken_refs count s q (reversed_refs (take count s) q (arguments_refs (on_top count s) q (padded_refs max (locals_of (on_top count s)) q a)))
 
-module _ {H : Type 0} {content : H → Content ClassId} {at : At} {old : State H} (h : InMethod content at old) {number : ℕ} {found : FoundMethod}
-    {code : Code} (is : IsCalled at.linked.now number found code) (count : ℕ) where
-  abbrev stack : List Value
-  stack = h.frame.activation.stack
+-- the callee begins in the model, above the caller's frame
+abbrev pub begun : FoundMethod → Code → ℕ → Option ℕ → Here → Next
+begun found code count o here = next.goes (with_frames here.world here.number here.thread (method_frame (name_of_method found)
+    (activation_of code (on_top count here.frame.stack)) o ∷ calling here (drop count here.frame.stack)))
 
-  -- the caller's frame and the callee's
-  abbrev pub caller : FrameView
-  caller = with_stack h.frame (drop count stack)
+-- the frame of the caller
+abbrev pub caller : ℕ → FrameView → FrameView
+caller count frame = with_stack frame (drop count frame.activation.stack)
 
-  abbrev pub called : FrameView
-  called = beginning (callee_of number is.method) (on_top count stack)
-
-  abbrev names : ℕ → ℕ
-  names = name_of (content old.heap)
-
-  -- the model's
-  named_is : name_of_number at.linked.now number ≡ name_of_method found
+module _ {l : LinkedView} {number : ℕ} {found : FoundMethod} {code : Code} (is : IsCalled l number found code) where
+  pub method_named_is : name_of_number l number ≡ name_of_method found
   unfolding name_of_number
-  named_is = ap (name_among at.linked.now.program) is.method_is ∙ is.named
+  method_named_is = ap (name_among l.program) is.method_is ∙ is.named
 
-  locals_are : padded code.max_locals (locals_of (on_top count (map (rename names) stack))) ≡ locals_shape.rename names called.activation.locals
-  locals_are =
+  -- the frame of the callee, and the model's
+  abbrev pub called : Option ℕ → List Value → FrameView
+  called monitor arguments = beginning (callee_with number is.method monitor) arguments
+
+  locals_are : (monitor : Option ℕ) (f : ℕ → ℕ) (arguments : List Value)
+      → padded code.max_locals (locals_of (map (rename f) arguments)) ≡ locals_shape.rename f (called monitor arguments).activation.locals
+  locals_are monitor f arguments =
       let max = is.method.max_locals in
-      ap (λ n. padded n (locals_of (on_top count (map (rename names) stack)))) (sym is.max_locals)
-      ∙ ap (λ vs. padded max (locals_of vs)) (top_renamed (rename names) count stack)
-      ∙ ap (padded max) (sym (arguments_renamed names (on_top count stack)))
-      ∙ sym (padded_renamed names max (locals_of (on_top count stack)))
+      ap (λ n. padded n (locals_of (map (rename f) arguments))) (sym is.max_locals)
+      ∙ ap (padded max) (sym (arguments_renamed f arguments))
+      ∙ sym (padded_renamed f max (locals_of arguments))
 
-  activation_is : activation_of code (on_top count (map (rename names) stack)) ≡ rename_activation names called.activation
-  activation_is = λ i. record { at = 0; max_stack = sym is.max_stack i; locals = locals_are i; stack = [] }
+  pub activation_begins : (monitor : Option ℕ) (f : ℕ → ℕ) (arguments : List Value)
+      → activation_of code (map (rename f) arguments) ≡ rename_activation f (called monitor arguments).activation
+  activation_begins monitor f arguments = λ i. record { at = 0; max_stack = sym is.max_stack i; locals = locals_are monitor f arguments i; stack = [] }
 
-  held_called : HoldsAll content at old (locals_shape.refs called.activation.locals)
-  held_called q a =
-      top_held h q (among_right q (locals_shape.refs h.frame.activation.locals) (stack_shape.refs stack) (called_refs is.method.max_locals count stack q a))
+module _ {H : Type 0} {content : H → Content ClassId} {at : At} {number : ℕ} {found : FoundMethod} {code : Code}
+    (is : IsCalled at.linked.now number found code) (count : ℕ) (monitor : Option ℕ) where
+  module _ {s : State H} (h : InMethod content at s) where
+    abbrev stack : List Value
+    stack = h.frame.activation.stack
 
-  held_caller : HoldsAll content at old (refs_activation caller.activation)
-  held_caller q a =
-      let locals = locals_shape.refs h.frame.activation.locals in
-      top_held h q (elim (among_split q locals (stack_shape.refs (drop count stack)) a) [
-        | inl b ↦ among_left q locals (stack_shape.refs stack) b
-        | inr b ↦ among_right q locals (stack_shape.refs stack) (refs_dropped count stack q b)
-      ])
+    abbrev names : ℕ → ℕ
+    names = name_of (content s.heap)
 
-  inside : HoldsAll content at old (held_shape.refs (None, map (frame_part at.linked.now) (Method called ∷ Method caller ∷ h.below)))
-  inside q a =
-      let l = at.linked.now in
-      let locals = locals_shape.refs called.activation.locals in
-      elim (part_refs l (Method called ∷ Method caller ∷ h.below) None q a) [
-        | inl z ↦ absurd z
-        | inr z ↦ elim (among_split q ((locals ++ []) ++ []) (frames_shape.refs (map (frame_part l) (Method caller ∷ h.below))) z) [
-          | inl y ↦ elim (among_split q (locals ++ []) [] y) [
-            | inl x ↦ elim (among_split q locals [] x) [ inl b ↦ held_called q b | inr b ↦ absurd b ]
-            | inr x ↦ absurd x
+    abbrev callee : FrameView
+    callee = called is monitor (on_top count stack)
+
+    activation_is : activation_of code (on_top count (map (rename names) stack)) ≡ rename_activation names callee.activation
+    activation_is = ap (activation_of code) (top_renamed (rename names) count stack) ∙ activation_begins is monitor names (on_top count stack)
+
+    held_here : HoldsAll content at s (stack_shape.refs stack)
+    held_here q a = top_held h q (among_right q (locals_shape.refs h.frame.activation.locals) (stack_shape.refs stack) a)
+
+    held_caller : HoldsAll content at s (refs_activation (caller count h.frame).activation)
+    held_caller q a =
+        let locals = locals_shape.refs h.frame.activation.locals in
+        top_held h q (elim (among_split q locals (stack_shape.refs (drop count stack)) a) [
+          | inl b ↦ among_left q locals (stack_shape.refs stack) b
+          | inr b ↦ among_right q locals (stack_shape.refs stack) (refs_dropped count stack q b)
+        ])
+
+    module _ (operand : IsOperand h.frame monitor) where
+      inside : HoldsAll content at s (held_shape.refs (None, map (frame_part at.linked.now) (Method callee ∷ Method (caller count h.frame) ∷ h.below)))
+      inside q a =
+          let l = at.linked.now in
+          let locals = locals_shape.refs callee.activation.locals in
+          let own = optional_number_shape.refs monitor in
+          elim (part_refs l (Method callee ∷ Method (caller count h.frame) ∷ h.below) None q a) [
+            | inl z ↦ absurd z
+            | inr z ↦ elim (among_split q ((locals ++ []) ++ own) (frames_shape.refs (map (frame_part l) (Method (caller count h.frame) ∷ h.below))) z) [
+              | inl y ↦ elim (among_split q (locals ++ []) own y) [
+                | inl x ↦ elim (among_split q locals [] x) [
+                  | inl b ↦ held_here q (called_refs is.method.max_locals count stack q b)
+                  | inr b ↦ absurd b
+                ]
+                | inr x ↦ held_here q (operand q x)
+              ]
+              | inr y ↦ with_other h (λ p. Among p (places (parts_at content at s))) (λ p b. b) (caller count h.frame).activation held_caller q y
+            ]
           ]
-          | inr y ↦ with_other h (λ p. Among p (places (parts_at content at old))) (λ p b. b) caller.activation held_caller q y
-        ]
-      ]
+
+      -- the method begins
+      pub begins : {t : held.Thread} {frame : FrameView} {o : Option ℕ} → length (Method h.frame ∷ h.below) < 512 → frame ≡ callee
+          → option_map names monitor ≡ o → Stands t (Method frame ∷ Method (caller count h.frame) ∷ h.below) (running h.on.object None)
+          → Does content at s (Ok Done) (with_thread_at s at.index t) (in_method (begun found code count o))
+      begins {t} few made entered stands =
+          let here = subst (λ f. Stands t (Method f ∷ Method (caller count h.frame) ∷ h.below) (running h.on.object None)) made stands in
+          thread.goes h.on here (with_more {g = Method callee} (got_within at.linked.now.methods number is.method is.method_is) few
+          (part_with h (caller count h.frame).activation)) inside (λ w m i.
+          next.goes (with_frames w (at.index + 1) (model h.on) (method_frame (sym (method_named_is is) i) (activation_is i) (sym entered i)
+          ∷ calling (place h w) (dropped_map (rename names) count stack i))))
+
+-- the caller, with room for a frame more
+module _ {H : Type 0} {content : H → Content ClassId} {at : At} {old : State H} (h : InMethod content at old) where
+  -- the operands, the machine holds
+  pub held_operand : HoldsAll content at old (stack_shape.refs h.frame.activation.stack)
+  held_operand q a =
+      top_held h q (among_right q (locals_shape.refs h.frame.activation.locals) (stack_shape.refs h.frame.activation.stack) a)
+
+module _ {H : Type 0} {content : H → Content ClassId} {at : At} {old : State H} (h : InMethod content at old) {t : held.Thread}
+    (stays : Stands t (Method h.frame ∷ h.below) (running h.on.object None)) where
+  abbrev pub mid : State H
+  mid = with_thread_at old at.index t
+
+  pub still_beside : Beside content at.linked.now mid h.on.world
+  still_beside = record {
+    linked = h.on.beside.linked;
+    runs = runs_with h.on stays (part_here h.on);
+    matches = same_matches h.on stays h.on.world h.on.beside.matches;
+  }
+
+  pub there_still : slice_get mid.threads.items at.index ≡ Some t
+  there_still = set_there old.threads.items at.index h.on.stands.thread t h.on.stands.at
+
+  -- the thread stands in that state as before
+  abbrev pub still_on : OnThread content at mid (Method h.frame ∷ h.below) None
+  still_on = record {
+    world = h.on.world;
+    beside = still_beside;
+    object = h.on.object;
+    stands = record { thread = t; at = there_still; stands = stays };
+  }
+
+  abbrev pub still_in : InMethod content at mid
+  still_in = record { frame = h.frame; below = h.below; on = still_on }
+
+  pub still_framed : OnFrames content at mid
+  still_framed = record { frames = _; pending = _; on = still_on }
+
+  module _ {entered monitor : Option ℕ} (same : entered ≡ monitor) where
+    -- what is entered, the machine holds
+    pub enters_held : IsOperand h.frame monitor → HoldsAll content at mid (optional_number_shape.refs entered)
+    enters_held operand q a = held_operand still_in q (operand q (subst (λ o. Among q (optional_number_shape.refs o)) same a))
+
+    abbrev pub enters_own : Option ℕ → World → ℕ → Thread → Next
+    enters_own o = enters (option_map (name_of (content old.heap)) o)
+
+    pub own_enters : {next : State H} {result : Result StepEnd Halt} → Does content at mid result next (enters_own entered)
+        → Does content at mid result next (enters_own monitor)
+    own_enters {next} {result} done = subst (λ o. Does content at mid result next (enters_own o)) same done
+
+    -- the state in which it was
+    abbrev pub entered_in : {next : State H} → OnlyMonitors mid next → Does content at mid (Ok Done) next (enters_own entered) → InMethod content at next
+    entered_in only done =
+        record { frame = h.frame; below = h.below; on = then_stands still_on (option_map (name_of (content old.heap)) monitor) only (own_enters done) }
+
+  -- the thread that is read then is the one that has room
+  pub same_thread : {next : State H} → OnlyMonitors mid next → {x : held.Thread} → x ≡ slice_index_or next.threads.items at.index x → x ≡ t
+  same_thread {next} only {x} read =
+      let there : slice_get next.threads.items at.index ≡ Some t =
+      ap (λ (s : State H). slice_get s.threads.items at.index) only ∙ there_still in
+      read ∙ get_or_from_slice_get next.threads.items at.index t x there
+
+module _ {H : Type 0} {content : H → Content ClassId} {at : At} {number : ℕ} {found : FoundMethod} {code : Code}
+    (is : IsCalled at.linked.now number found code) (count : ℕ) (monitor : Option ℕ) {old : State H} (h : InMethod content at old)
+    (operand : IsOperand h.frame monitor) where
+  abbrev own : Option ℕ
+  own = option_map (name_of (content old.heap)) monitor
 
   abbrev calls : World → ℕ → Thread → Next
-  calls = in_method (calls_with found code count)
+  calls = in_method (calls_with found code count own)
+
+  -- what follows once the monitor is entered
+  abbrev begins_then : World → ℕ → Thread → Next
+  begins_then = in_method (begun found code count own)
 
   by_depth : World → Bool → Next
   by_depth w b = elim b [
-    | true ↦ next.goes (with_frames w (at.index + 1) (model h.on) (method_frame (name_of_method found)
-        (activation_of code (on_top count (map (rename names) stack))) None ∷ calling (place h w) (drop count (map (rename names) stack))))
+    | true ↦ enter_if w (at.index + 1) own (λ v. begins_then v (at.index + 1) (model h.on))
     | false ↦ throw w (at.index + 1) (model h.on) (codes "java/lang/StackOverflowError")
   ]
 
   module _ {d : held.Thread} {n : ℕ} (got : d ≡ slice_index_or old.threads.items at.index d) (len : n ≡ vec_len d.frames) where
-    depth : (w : World) → n ≡ length (calling (place h w) (drop count (map (rename names) stack)))
+    depth : (w : World) → n ≡ length (calling (place h w) (drop count (map (rename (name_of (content old.heap))) h.frame.activation.stack)))
     depth w =
         let l = at.linked.now in
-        let a : length (map (rename_frame names) (map (frame_part l) h.below)) ≡ length h.below =
-        length-map (map (frame_part l) h.below) (rename_frame names) ∙ length-map h.below (frame_part l) in
+        let f = name_of (content old.heap) in
+        let a : length (map (rename_frame f) (map (frame_part l) h.below)) ≡ length h.below =
+        length-map (map (frame_part l) h.below) (rename_frame f) ∙ length-map h.below (frame_part l) in
         let b = count_is (read h.on got) len in
         omega arith
 
@@ -211,27 +315,41 @@ module _ {H : Type 0} {content : H → Content ClassId} {at : At} {old : State H
         → Does content at old result new (λ w number x. throw w number x error) → Does content at old result new calls
     unfolding by_depth
     too_deep many named done = does_as h.on (λ w m. m) (λ w m.
-        let frames = calling (place h w) (drop count (map (rename names) stack)) in
+        let frames = calling (place h w) (drop count (map (rename (name_of (content old.heap))) h.frame.activation.stack)) in
         let deep : 512 ≤ length frames = let a = depth w in omega arith in
         ap (by_depth w) (not_less (length frames) 512 deep) ∙ ap (throw w (at.index + 1) (model h.on)) (sym named)) done
 
-    -- the method begins
-    pub begins : {t : held.Thread} {frame : FrameView} → n < 512 → frame ≡ called
-        → Stands t (Method frame ∷ Method caller ∷ h.below) (running h.on.object None)
-        → Does content at old (Ok Done) (with_thread_at old at.index t) calls
-    unfolding by_depth
-    begins {t} few made s =
-        let b = count_is (read h.on got) len in
-        let stands = subst (λ f. Stands t (Method f ∷ Method caller ∷ h.below) (running h.on.object None)) made s in
-        thread.goes h.on stands (with_more {g = Method called} (got_within at.linked.now.methods number is.method is.method_is) refl (omega arith)
-        (part_with h caller.activation)) inside (λ w m.
-        let frames = calling (place h w) (drop count (map (rename names) stack)) in
-        let shallow : length frames < 512 = let a = depth w in omega arith in
-        ap (by_depth w) (less (length frames) 512 shallow)
-        ∙ (λ i. next.goes (with_frames w (at.index + 1) (model h.on) (method_frame (sym named_is i) (activation_is i) None
-        ∷ calling (place h w) (dropped_map (rename names) count stack i)))))
+    -- few enough, and there is room for one more
+    module _ (few : n < 512) {t : held.Thread} (stays : Stands t (Method h.frame ∷ h.below) (running h.on.object None)) where
+      shallow : length (Method h.frame ∷ h.below) < 512
+      shallow = let b = count_is (read h.on got) len in omega arith
 
-    -- nothing has changed
-    pub stays : {t : held.Thread} → Stands t (Method h.frame ∷ h.below) (running h.on.object None)
-        → Does content at old (Err OutOfMemory) (with_thread_at old at.index t) calls
-    stays s = thread.does h.on (runs_with h.on s (part_here h.on)) (λ w m. same_matches h.on s w m)
+      calls_is : Leads h.on calls (λ w. enter_if w (at.index + 1) own (λ v. begins_then v (at.index + 1) (model h.on)))
+      unfolding by_depth
+      calls_is w m =
+          let frames = calling (place h w) (drop count (map (rename (name_of (content old.heap))) h.frame.activation.stack)) in
+          let less_deep : length frames < 512 = let a = depth w in omega arith in
+          ap (by_depth w) (less (length frames) 512 less_deep)
+
+      -- nothing has changed
+      pub no_memory : Does content at old (Err OutOfMemory) (mid h stays) calls
+      no_memory = thread.does h.on (runs_with h.on stays (part_here h.on)) (λ w m. same_matches h.on stays w m)
+
+      module _ {entered : Option ℕ} (same : entered ≡ monitor) {next : State H} (only : OnlyMonitors (mid h stays) next) where
+        -- it was not entered
+        pub enters_not : {result : Result StepEnd Halt} → IsNotMade result → Does content at (mid h stays) result next (enters_own h stays same entered)
+            → Does content at old result next calls
+        enters_not not done =
+            does_as h.on (same_matches h.on stays) calls_is (then_not (still_on h stays) own begins_then not (own_enters h stays same done))
+
+        -- it was, and the method begins
+        pub calls_so : (done : Does content at (mid h stays) (Ok Done) next (enters_own h stays same entered)) {u : held.Thread} {frame : FrameView}
+            → frame ≡ called is monitor (on_top count h.frame.activation.stack)
+            → Stands u (Method frame ∷ Method (caller count h.frame) ∷ h.below) (running h.on.object None)
+            → Does content at old (Ok Done) (with_thread_at next at.index u) calls
+        calls_so done made stands =
+            let k = entered_in h stays same only done in
+            let names : option_map (name_of (content next.heap)) monitor ≡ own =
+            ap (λ (s : State H). option_map (name_of (content s.heap)) monitor) only in
+            does_as h.on (same_matches h.on stays) calls_is
+            (then_made (still_on h stays) own begins_then (own_enters h stays same done) (begins is count monitor k operand shallow made names stands))

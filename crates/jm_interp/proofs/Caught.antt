@@ -227,7 +227,7 @@ module _ {H : Type 0} {content : H → Content ClassId} {at : At} {old : State H
     after = gone_to (with_stack h.frame (Ref place ∷ [])) target
 
     after_runs : PartRuns at.linked.now (Method after ∷ h.below) (running h.on.object None)
-    after_runs = let q = part_here h.on in with_top {f = Method h.frame} q.runs.frames.0 q.not_yet.frames.0 q
+    after_runs = let q = part_here h.on in with_top {f = Method h.frame} q.runs.frames.0 q
 
     -- its references are those of the frame that it was, and the exception
     after_held : HoldsAll content at old (held_shape.refs (None, map (frame_part at.linked.now) (Method after ∷ h.below)))

@@ -137,7 +137,7 @@ module _ {H : Type 0} {content : H → Content ClassId} {at : At} {old : State H
       (λ w n t. call_initializer w n t (program_class_name at.linked.now.program class) (drop 1 t.frames) found (Some code))
   initializer_begins got len few {frame} made {t} stands =
       begun h stage.End (initializer_frame found code) got len {g = Method first} few
-      (got_within at.linked.now.methods number is.method is.method_is) refl holds_nothing frame_is
+      (got_within at.linked.now.methods number is.method is.method_is) holds_nothing frame_is
       (subst (λ f. Stands t (Method f ∷ Initialization class stage.End ∷ below) (running h.object None)) made stands)
 
 -- the initializer of the class is a method of that number

@@ -11,7 +11,7 @@ use Rattle.jm_world.specs.Renaming.{rename_object}
 use Rattle.jm_world.specs.World.{Thread, is_running, live_among, with_thread, returned, object_refs}
 use Rattle.jm_heap.specs.declared.class_id.ClassId.{ClassId}
 use Rattle.jm_state.specs.Parts.{parts, thread_part, ending_part}
-use Rattle.jm_state.specs.Runnable.{ThreadRuns, ThreadNotYet, StateRuns}
+use Rattle.jm_state.specs.Runnable.{ThreadRuns, StateRuns, is_started}
 use Rattle.jm_state.specs.declared.halt.StepEnd.TheVariants.{Done}
 use Rattle.jm_state.specs.declared.state.State.{State}
 use Rattle.jm_state.specs.declared.thread.Ending as code
@@ -23,19 +23,9 @@ use Rattle.jm_interp.specs.At.{OnThread, Does}
 use Rattle.jm_interp.specs.Ending.{ended_as}
 use Rattle.jm_interp.specs.Standing.{ThreadRest, Stands}
 use Rattle.jm_values.proofs.Lists.{get_map, map_set}
-use Rattle.jm_interp.proofs.OnThread.{part_here, goes_to}
+use Rattle.jm_interp.proofs.OnThread.{goes_to, object_stays, serials_stay}
 use Rattle.jm_interp.proofs.Threads.{held_is, all_set}
 use Rattle.jm_world.proofs.Live.{live_less}
-
-none_left : (program : List ClassParts) (f g : ℕ → ℕ) (e : code.Ending) (o : Option ℕ) → o ≡ None → rename_object f (ending_part program e) o ≡ option_map g o
-none_left program f g Running o n = ap (option_map f) n ∙ sym (ap (option_map g) n)
-none_left program f g Returned o n = n ∙ sym (ap (option_map g) n)
-none_left program f g (EndedBy c) o n = n ∙ sym (ap (option_map g) n)
-
-no_object : (program : List ClassParts) (e : code.Ending) (o : Option ℕ) (q : ℕ) → o ≡ None → Among q (object_refs (ending_part program e) o) → ⊥
-no_object program Running o q n a = subst (λ x. Among q (optional_number_shape.refs x)) n a
-no_object program Returned o q n a = a
-no_object program (EndedBy c) o q n a = a
 
 module _ {H : Type 0} {content : H → Content ClassId} {at : At} {old : State H} {fs : List StackFrame} {p : Option ℕ} (h : OnThread content at old fs p) where
   -- with the thread as another that has ended, one less is live
@@ -52,9 +42,6 @@ module _ {H : Type 0} {content : H → Content ClassId} {at : At} {old : State H
 
   module _ (left : ℕ) {t : held.Thread} {e : code.Ending} (s : Stands t [] (record { object = h.object; pending = None; ending = e }))
       (ended : is_running (ending_part at.linked.now.program e) ≡ false) (fewer : old.live ≡ left + 1) where
-    none : h.object ≡ None
-    none = (part_here h).not_yet.object
-
     abbrev ended_state : State H
     ended_state = record old { threads = with_item old.threads at.index t; live = left }
 
@@ -74,21 +61,16 @@ module _ {H : Type 0} {content : H → Content ClassId} {at : At} {old : State H
           statics = r.statics;
           literals = r.literals;
           classes = r.classes;
-          not_yet = record {
-            program = r.not_yet.program;
-            threads =
-                all_set (ThreadNotYet at.linked.now) old.threads.items at.index t r.not_yet.threads
-                (subst (ThreadNotYet at.linked.now) (sym (held_is s)) (record { object = none; frames = tt }));
-            monitors = r.not_yet.monitors;
-          };
+          started = λ k. r.started k ∙ ap (is_started k) (sym (serials_stay h t (ap (λ (x : ThreadRest). x.object.serial) s.rest_is)));
+          program = r.program;
         }
 
     pub ends : Does content at old (Ok Done) ended_state (λ w number x. goes (ended_as w number x (ending_part at.linked.now.program e)))
     unfolding parts
     ends =
         let y : Option ℕ → Thread = λ object. record { object = object; frames = []; pending = None; ending = ending_part at.linked.now.program e } in
+        let rest : ThreadRest = record { object = h.object; pending = None; ending = e } in
         goes_to h ended_state (λ w. w.classes) (λ w. w.output) ended_runs
-        (record { threads = refl; statics = refl; literals = refl; monitors = refl; heap = refl; stop = refl }) s
-        (λ q a. absurd (no_object at.linked.now.program e h.object q none a)) (λ q a. absurd a) (λ w m. (m.classes, m.output))
-        (λ w m. ap (λ o. goes (with_thread w (at.index + 1) (y o)))
-        (sym (none_left at.linked.now.program (name_of (content old.heap)) (name_of (content old.heap)) e h.object none)))
+        (record { threads = refl; started = refl; statics = refl; literals = refl; monitors = refl; heap = refl; stop = refl }) s refl
+        (λ q a. absurd a) (λ w m. (m.classes, m.output))
+        (λ w m. ap (λ o. goes (with_thread w (at.index + 1) (y o))) (sym (object_stays h [] rest refl w m)))

@@ -33,7 +33,7 @@ use Rattle.jm_linked.specs.Links.{LinkedView, IsLinked}
 use Rattle.jm_linked.specs.Named.{named_states}
 use Rattle.jm_linked.specs.Tables.{IsInitializer}
 use Rattle.jm_state.specs.Parts.{parts, frame_part, thread_part, program_class_name, name_in_program}
-use Rattle.jm_state.specs.Runnable.{FrameRuns, FrameNotYet, ThreadRuns, ThreadNotYet}
+use Rattle.jm_state.specs.Runnable.{FrameRuns, ThreadRuns, is_among, is_started}
 use Rattle.jm_state.specs.Places.{held_thread}
 use Rattle.jm_state.specs.declared.state.State.{State}
 use Rattle.jm_state.specs.declared.thread.StackFrame.{StackFrame}
@@ -49,7 +49,7 @@ use Rattle.jm_interp.specs.At.{parts_at, HoldsAll, OnThread, OnFrames, Does, Ste
 use Rattle.jm_interp.specs.ConstantValues.{gives_constants, puts_in_progress}
 use Rattle.jm_interp.specs.Initializing.{IsOwnSuperclass}
 use Rattle.jm_interp.proofs.After.{seen_after, then_does}
-use Rattle.jm_interp.specs.Standing.{Stands, running}
+use Rattle.jm_interp.specs.Standing.{OwnObject, Stands, running}
 use Rattle.jm_interp.proofs.OnThread.{Leads, thread_as, thread_there, model, read, does_as, blocks, held_frames, held_pending}
 use Rattle.jm_interp.proofs.OnThread.{part_here, runs_with, same_matches, ChangedTo, with_thread_at}
 use Rattle.jm_interp.proofs.OnThread as thread
@@ -79,9 +79,9 @@ has_class l is class lt =
       is_named = class_is l.program is.loads class d.0 d.1;
     }
 
-pub staged_runs : {l : LinkedView} {class : ℕ} {s s' : Stage} {below : List StackFrame} {o : Option ℕ}
+pub staged_runs : {l : LinkedView} {class : ℕ} {s s' : Stage} {below : List StackFrame} {o : OwnObject}
     → PartRuns l (Initialization class s ∷ below) (running o None) → PartRuns l (Initialization class s' ∷ below) (running o None)
-staged_runs {class = class} {s = s} q = with_top {f = Initialization class s} q.runs.frames.0 tt q
+staged_runs {class = class} {s = s} q = with_top {f = Initialization class s} q.runs.frames.0 q
 
 differ : (a b : ℕ) → (a ≡ b → ⊥) → nat_eq a b ≡ false
 differ a b n = elim (eqb_tells a b) [ inl t ↦ absurd (n t.1) | inr t ↦ t.0 ]
@@ -159,7 +159,7 @@ module _ {H : Type 0} {content : H → Content ClassId} {at : At} {old : State H
       → Does content at old (Ok step_end.Done) new rule
   unfolding parts
   changes {new} {st = st} same classes output runs s' within is =
-      thread.goes_to h new (λ w. set_state_in w.classes name st) (λ w. w.output) runs same s' (λ q a. a) within
+      thread.goes_to h new (λ w. set_state_in w.classes name st) (λ w. w.output) runs same s' refl within
       (λ w m. (ap (named_states at.linked.now.program) classes ∙ states_here st w m, output ∙ m.output)) is
 
   -- the state with another thread and state of the class runs on
@@ -174,21 +174,19 @@ module _ {H : Type 0} {content : H → Content ClassId} {at : At} {old : State H
         statics = ap length same.statics ∙ r.statics;
         literals = ap length same.literals ∙ r.literals;
         classes = ap length classes ∙ length-set old.classes class st ∙ r.classes;
-        not_yet = record {
-          program = r.not_yet.program;
-          threads = subst (λ ts. AllByRecursion (ThreadNotYet at.linked.now) (map held_thread ts)) (sym same.threads) r.not_yet.threads;
-          monitors = same.monitors ∙ r.not_yet.monitors;
-        };
+        started = λ k. ap (is_among k) same.started ∙ r.started k ∙ ap (λ ts. is_started k (map (λ (x : held.Thread). x.serial) ts)) (sym same.threads);
+        program = r.program;
       }
 
   -- the state of the class alone has changed
-  pub marked : {new : State H} {st : ClassState} → new.threads.items ≡ old.threads.items → new.statics.items ≡ old.statics.items
-      → new.literals.items ≡ old.literals.items → new.monitors.items ≡ old.monitors.items → new.heap ≡ old.heap → new.stop ≡ old.stop
+  pub marked : {new : State H} {st : ClassState} → new.threads.items ≡ old.threads.items → new.started.keys ≡ old.started.keys → new.statics.items ≡ old.statics.items
+      → new.literals.items ≡ old.literals.items → new.monitors ≡ old.monitors → new.heap ≡ old.heap → new.stop ≡ old.stop
       → new.classes ≡ slice_set old.classes class st → new.live ≡ old.live → new.output.items ≡ old.output.items
       → Does content at old (Ok step_end.Done) new (λ w number x. goes (with_state w name st))
-  marked {new} {st} threads statics literals monitors heap stop classes live output =
+  marked {new} {st} threads started statics literals monitors heap stop classes live output =
       let same : ChangedTo h new h.stands.thread = record {
         threads = threads ∙ sym (set_same old.threads.items at.index h.stands.thread h.stands.at);
+        started = started;
         statics = statics;
         literals = literals;
         monitors = monitors;
@@ -369,16 +367,16 @@ module _ {H : Type 0} {content : H → Content ClassId} {at : At} {old : State H
         ∙ ap (throw w (at.index + 1) (model h)) (sym named)) done
 
     -- one that holds no place
-    pub begun : {t : held.Thread} {g : StackFrame} → n < 512 → FrameRuns at.linked.now g → FrameNotYet at.linked.now g
+    pub begun : {t : held.Thread} {g : StackFrame} → n < 512 → FrameRuns at.linked.now g
         → ((q : ℕ) → Among q (refs_frame (frame_part at.linked.now g)) → ⊥) → above ≡ rename_frame (name_of (content old.heap)) (frame_part at.linked.now g)
         → Stands t (g ∷ Initialization class later ∷ below) (running h.object None)
         → Does content at old (Ok step_end.Done) (with_thread_at old at.index t) pushes
     unfolding by_depth
-    begun {g = g} few runs yet free is s' =
+    begun {g = g} few runs free is s' =
         let a = depth in
         let b = count_is (read h got) count in
         let rest = frames_shape.refs (map (frame_part at.linked.now) below) in
-        thread.goes h s' (with_more {g = g} runs yet (omega arith) (staged_runs (part_here h)))
+        thread.goes h s' (with_more {g = g} runs (omega arith) (staged_runs (part_here h)))
         (inside (g ∷ Initialization class later ∷ below) (λ q z. elim (among_split q (refs_frame (frame_part at.linked.now g)) rest z) [
           | inl y ↦ absurd (free q y)
           | inr y ↦ y

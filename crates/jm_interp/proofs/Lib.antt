@@ -8,6 +8,9 @@ pub mod Here
 pub mod Thrown
 pub mod After
 pub mod Ended
+pub mod HeldMonitors
+pub mod Locked
+pub mod Entered
 pub mod PlainRow
 pub mod LiteralRow
 pub mod PushRow
@@ -16,6 +19,7 @@ pub mod Stored
 pub mod StoredOnTop
 pub mod DroppedOnTop
 pub mod OnTop
+pub mod MonitorRows
 pub mod MadeOnTop
 pub mod ArrayRows
 pub mod ArrayStores
@@ -24,12 +28,14 @@ pub mod FieldPlaces
 pub mod FieldRows
 pub mod FieldStores
 pub mod ReturnRow
+pub mod MethodLeft
 pub mod Arguments
 pub mod StringText
 pub mod StringRows
 pub mod PrintRow
 pub mod Caught
 pub mod Unwound
+pub mod FrameDropped
 pub mod Initialized
 pub mod Called
 pub mod ClassInitializers
@@ -52,3 +58,7 @@ pub mod CodelessCalls
 pub mod SelectedCalls
 pub mod SpecialMethods
 pub mod SpecialRows
+pub mod Started
+pub mod Starts
+pub mod ThreadMethods
+pub mod Entries

@@ -277,7 +277,7 @@ module _ {H : Type 0} {content : H → Content ClassId} {at : At} {old : State H
           prints y said gives {new} same classes runs s written =
               let v = h.method.frame in
               let bytes = said ++ line_bytes p in
-              goes_to h.method.on new (λ w. w.classes) (λ w. w.output ++ bytes) runs same s (λ q a. a)
+              goes_to h.method.on new (λ w. w.classes) (λ w. w.output ++ bytes) runs same s refl
               (inside_with h.method (gone_to (with_stack v (left_by p v.activation.stack)) (v.activation.at + 1)).activation (λ q a.
               top_held h.method q (elim (among_split q (locals_shape.refs v.activation.locals) (stack_shape.refs (left_by p v.activation.stack)) a) [
                 | inl z ↦ among_left q (locals_shape.refs v.activation.locals) (stack_shape.refs v.activation.stack) z

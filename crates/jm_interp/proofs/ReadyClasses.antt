@@ -144,7 +144,7 @@ module _ {H : Type 0} {content : H → Content ClassId} {at : At} {old : State H
           let fs = Initialization number stage.Begin ∷ Method h.frame ∷ h.below in
           let same : name ≡ program_class_name at.linked.now.program number =
           class_named_so at.linked.now.program class named.0 named.1 ∙ sym own.1 in
-          thread.goes h.on stands (with_more {g = Initialization number stage.Begin} own.0 tt (omega arith) (part_here h.on))
+          thread.goes h.on stands (with_more {g = Initialization number stage.Begin} own.0 (omega arith) (part_here h.on))
           (λ q z. elim (part_refs at.linked.now fs None q z) [ inl y ↦ absurd y | inr y ↦ held_frames h.on q y ]) (λ w m.
           ap (by_depth w) (less (length all) 512 (omega arith))
           ∙ ap (λ x. goes (with_frames w (at.index + 1) (model h.on) (initialization_frame x stage.Begin ∷ all))) same)

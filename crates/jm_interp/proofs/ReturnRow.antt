@@ -21,9 +21,8 @@ use Rattle.jm_values.specs.declared.fault.TagFault.TheVariants.{Overflow, WrongT
 use Rattle.jm_values.proofs.Among.{among_left, among_right, among_split}
 use Rattle.jm_values.proofs.NaturalSteps.{units_renamed, is_of_renamed}
 use Rattle.jm_world.specs.Frames.{Frame, refs_frame, frames_shape, rename_frame, method_frame, optional_number_shape}
-use Rattle.jm_world.specs.Here.{Here, with_frames, with_operand, moved_on, throws}
+use Rattle.jm_world.specs.Here.{Here, with_frames, with_operand, moved_on}
 use Rattle.jm_world.specs.Matches.{Matches, places}
-use Rattle.jm_world.specs.Monitors.{leave_if}
 use Rattle.jm_world.specs.Next.{Next, goes, faults}
 use Rattle.jm_world.specs.Returns.{returned_to, return_from, return_nothing, row_return, return_value, pop_and_return, same_operand, with_result}
 use Rattle.jm_world.specs.Types.{narrow, narrow_int, operand_in}
@@ -50,10 +49,10 @@ use Rattle.jm_state.specs.declared.thread.Thread as held
 use Rattle.jm_interp.specs.declared.at.At.{At}
 use Rattle.jm_interp.specs.declared.top_object.Refusal.{Refusal}
 use Rattle.jm_interp.specs.declared.top_object.Refusal.TheVariants.{Faults}
-use Rattle.jm_interp.specs.At.{parts_at, InMethod, OnThread, StandsOn, Does, Steps}
+use Rattle.jm_interp.specs.At.{parts_at, in_method, InMethod, OnThread, StandsOn, Does, made_step}
 use Rattle.jm_interp.specs.Ending.{ended_as}
 use Rattle.jm_interp.specs.Narrowing.{operand_of, base_of, kept}
-use Rattle.jm_interp.specs.Returned.{as_result, value_result, no_result, result_of, HoldsResult, HandsOn, ReturnsTo, takes, taken, Left}
+use Rattle.jm_interp.specs.Returned.{as_result, value_result, no_result, result_of, HoldsResult, ReturnsTo, takes, taken, Left}
 use Rattle.jm_interp.specs.Standing.{InAnyMethod, Stands, part_of, ThreadRest, running}
 use Rattle.jm_interp.specs.TopObject.{operand_as}
 use Rattle.jm_interp.proofs.ArrayStores.{operand_held}
@@ -116,21 +115,14 @@ one_operand operand.Reference operand.Int e = cc
 one_operand operand.Reference operand.Long e = cc
 one_operand operand.Reference operand.Reference e = refl
 
--- the model hands a result of the machine on
+-- the model returns a result of the machine
 abbrev hands : Here → (ℕ → ℕ) → Option Value → Next
-hands o f x = returned_to o.world o.number o.thread (option_map (rename f) x) o.below
+hands o f x = return_from o (option_map (rename f) x)
 
-leaves : (o : Here) → o.monitor ≡ None → (x : Option Value) → return_from o x ≡ returned_to o.world o.number o.thread x o.below
-leaves o free x =
-    ap (λ k. elim (leave_if o.world o.number k) as (λ _. Next) [
-      | None ↦ throws o (codes "java/lang/IllegalMonitorStateException")
-      | Some u ↦ returned_to u o.number o.thread x o.below
-    ]) free
-
-value_returned : (o : Here) (type : OperandType) (f : ℕ → ℕ) (t : Option FieldType) (v : Value) → is_of type v ≡ true → o.monitor ≡ None
+value_returned : (o : Here) (type : OperandType) (f : ℕ → ℕ) (t : Option FieldType) (v : Value) → is_of type v ≡ true
     → return_value o type t (rename f v) ≡ by o (as_result type (option_map kind_of t) v) (hands o f)
-value_returned o type f None v is free = refl
-value_returned o type f (Some t) v is free =
+value_returned o type f None v is = refl
+value_returned o type f (Some t) v is =
     tested (same_operand (model_type.operand_of t) type) refl
     ∙ ap (λ k. by o (elim (same_operand k type) as (λ _. Result (Option Value) Refusal) [
       | true ↦ Ok (Some (kept (kind_of t) v))
@@ -140,41 +132,39 @@ value_returned o type f (Some t) v is free =
     tested : (b : Bool) → same_operand (model_type.operand_of t) type ≡ b
         → (elim b as (λ _. Next) [ true ↦ return_from o (Some (narrow t (rename f v))) | false ↦ faults WrongTag ])
         ≡ by o (elim b as (λ _. Result (Option Value) Refusal) [ true ↦ Ok (Some (kept (kind_of t) v)) | false ↦ Err (Faults WrongTag) ]) (hands o f)
-    tested true e =
-        leaves o free (Some (narrow t (rename f v)))
-        ∙ ap (λ x. returned_to o.world o.number o.thread (Some x) o.below) (kept_is f t type v is (one_operand (model_type.operand_of t) type e))
+    tested true e = ap (λ x. return_from o (Some x)) (kept_is f t type v is (one_operand (model_type.operand_of t) type e))
     tested false e = refl
 
-operand_returned : (o : Here) (type : OperandType) (f : ℕ → ℕ) (s : List Value) (t : Option FieldType) → o.monitor ≡ None
+operand_returned : (o : Here) (type : OperandType) (f : ℕ → ℕ) (s : List Value) (t : Option FieldType)
     → with_operand type (map (rename f) s) (λ v rest. return_value o type t v)
     ≡ by o (value_result type (option_map kind_of t) (operand_as type (slice_get s 0))) (hands o f)
-operand_returned o type f [] t free = refl
-operand_returned o type f (v ∷ s) t free =
+operand_returned o type f [] t = refl
+operand_returned o type f (v ∷ s) t =
     ap (λ b. elim b as (λ _. Next) [ true ↦ return_value o type t (rename f v) | false ↦ faults WrongTag ]) (is_of_renamed f type v)
     ∙ tested (is_of type v) refl
   where
     tested : (b : Bool) → is_of type v ≡ b → (elim b as (λ _. Next) [ true ↦ return_value o type t (rename f v) | false ↦ faults WrongTag ])
         ≡ by o (value_result type (option_map kind_of t) (elim b as (λ _. Result Value Refusal) [ true ↦ Ok v | false ↦ Err (Faults WrongTag) ])) (hands o f)
-    tested true e = value_returned o type f t v e free
+    tested true e = value_returned o type f t v e
     tested false e = refl
 
-popped : (o : Here) (type : OperandType) (f : ℕ → ℕ) (s : List Value) → o.frame.stack ≡ map (rename f) s → o.monitor ≡ None → pop_and_return o type
+popped : (o : Here) (type : OperandType) (f : ℕ → ℕ) (s : List Value) → o.frame.stack ≡ map (rename f) s → pop_and_return o type
     ≡ by o (value_result type (option_map kind_of o.method.descriptor.return_type) (operand_as type (slice_get s 0))) (hands o f)
-popped o type f s stack free =
+popped o type f s stack =
     ap (λ x. with_operand type x (λ v rest. return_value o type o.method.descriptor.return_type v)) stack
-    ∙ operand_returned o type f s o.method.descriptor.return_type free
+    ∙ operand_returned o type f s o.method.descriptor.return_type
 
-nothing_returned : (o : Here) (f : ℕ → ℕ) (t : Option FieldType) → o.monitor ≡ None
+nothing_returned : (o : Here) (f : ℕ → ℕ) (t : Option FieldType)
     → return_nothing o t ≡ by o (no_result (option_map kind_of t)) (hands o f)
-nothing_returned o f None free = leaves o free None
-nothing_returned o f (Some t) free = refl
+nothing_returned o f None = refl
+nothing_returned o f (Some t) = refl
 
-row_result : (o : Here) (op : ReturnOp) (f : ℕ → ℕ) (s : List Value) → o.frame.stack ≡ map (rename f) s → o.monitor ≡ None
+row_result : (o : Here) (op : ReturnOp) (f : ℕ → ℕ) (s : List Value) → o.frame.stack ≡ map (rename f) s
     → row_return o op ≡ by o (result_of op (option_map kind_of o.method.descriptor.return_type) (slice_get s 0)) (hands o f)
-row_result o return.Int f s stack free = popped o operand.Int f s stack free
-row_result o return.Long f s stack free = popped o operand.Long f s stack free
-row_result o return.Reference f s stack free = popped o operand.Reference f s stack free
-row_result o return.Void f s stack free = nothing_returned o f o.method.descriptor.return_type free
+row_result o return.Int f s stack = popped o operand.Int f s stack
+row_result o return.Long f s stack = popped o operand.Long f s stack
+row_result o return.Reference f s stack = popped o operand.Reference f s stack
+row_result o return.Void f s stack = nothing_returned o f o.method.descriptor.return_type
 
 -- a result is of the operand on top
 record Of (y : Option Value) (v : Value) : Type 0 where
@@ -237,7 +227,7 @@ module _ {H : Type 0} {content : H → Content ClassId} {at : At} {old : State H
         let o = place h.method w in
         row_is h w q
         ∙ ap (row o) h.is
-        ∙ row_result o op f stack refl (ap (option_map f) (part_here h.method.on).not_yet.frames.0)
+        ∙ row_result o op f stack refl
         ∙ ap (λ k. by o (result_of op k (slice_get stack 0)) (hands o f)) kind_is
 
     result_held : (x : Option Value) → result_of op m.result (slice_get stack 0) ≡ Ok x → HoldsResult content at old x
@@ -303,17 +293,20 @@ taken_refs L M B (Some v) s q a = elim (among_split q ((L ++ (refs v ++ stack_sh
   ]
 ]
 
-module _ {H : Type 0} {content : H → Content ClassId} {at : At} {old : State H} (h : InMethod content at old) {x : Option Value}
-    (handed : HandsOn content at old x) where
+module _ {H : Type 0} {content : H → Content ClassId} {at : At} {old : State H} (h : InMethod content at old) (x : Option Value)
+    (holds : HoldsResult content at old x) where
   abbrev g : ℕ → ℕ
   g = name_of (content old.heap)
 
   -- the model returns to the frames below
-  handed_is : Leads h.on step_thread (λ w. returned_to w (at.index + 1) (model h.on) (option_map (rename g) x) (lower h.on h.below))
-  handed_is w m = handed.step w (model h.on) m (thread_there h.on w m)
+  abbrev handing : World → ℕ → Thread → Next
+  handing = in_method (λ here. returned_to here.world here.number here.thread (option_map (rename g) x) here.below)
+
+  handed_is : Leads h.on handing (λ w. returned_to w (at.index + 1) (model h.on) (option_map (rename g) x) (lower h.on h.below))
+  handed_is w m = refl
 
   result_inside : (q : ℕ) → Among q (refs_of x) → Among q (places (parts_at content at old))
-  result_inside q a = of x handed.held a
+  result_inside q a = of x holds a
     where
       of : (y : Option Value) → HoldsResult content at old y → Among q (refs_of y) → Among q (places (parts_at content at old))
       of None k a = absurd a
@@ -322,7 +315,7 @@ module _ {H : Type 0} {content : H → Content ClassId} {at : At} {old : State H
   module _ {d : held.Thread} {n : ℕ} (got : d ≡ slice_index_or old.threads.items at.index d) (count : n ≡ vec_len d.frames) where
     -- the last frame
     pub last_returns : {new : State H} → n < 2 → Does content at old (Ok Done) new (λ w number t. goes (ended_as w number t returned))
-        → Steps content at old (Ok Done) new
+        → Does content at old (Ok Done) new handing
     last_returns few done =
         let none : h.below ≡ [] = few_frames (read h.on got) count (omega arith) in
         does_as h.on (λ w m. m)
@@ -339,24 +332,24 @@ module _ {H : Type 0} {content : H → Content ClassId} {at : At} {old : State H
       abbrev pub on_two : OnThread content at old (Method h.frame ∷ below.next ∷ below.rest) None
       on_two = as_frames h.on (ap (λ x. Method h.frame ∷ x) below_is)
 
-      two_return : (w : World) → Matches (parts_at content at old) w → step_thread w (at.index + 1) (model on_two) ≡ returned_to w (at.index + 1)
+      two_return : (w : World) → Matches (parts_at content at old) w → handing w (at.index + 1) (model on_two) ≡ returned_to w (at.index + 1)
           (model on_two) (option_map (rename g) x) (map (rename_frame (name_of (content old.heap))) (map (frame_part at.linked.now) (below.next ∷ below.rest)))
       two_return w m =
           let f = rename_frame (name_of (content old.heap)) in
           let y : List StackFrame → Thread =
           λ fs. rename_thread (name_of (content old.heap)) (part_of at.linked.now (Method h.frame ∷ fs) (running h.on.object None)) in
           let v = option_map (rename g) x in
-          subst (λ fs. step_thread w (at.index + 1) (y fs) ≡ returned_to w (at.index + 1) (y fs) v (map f (map (frame_part at.linked.now) fs))) below_is
+          subst (λ fs. handing w (at.index + 1) (y fs) ≡ returned_to w (at.index + 1) (y fs) v (map f (map (frame_part at.linked.now) fs))) below_is
           (handed_is w m)
 
       module _ {e : held.Thread} (t : held.Thread) (again : e ≡ slice_index_or old.threads.items at.index e) where
-        pub returns_below : Leaving (Ok tt) x e t → Steps content at old (Ok Done) (with_thread_at old at.index t)
+        returns_below : Leaving (Ok tt) x e t → Does content at old (Ok Done) (with_thread_at old at.index t) handing
         returns_below leaving = by below.next on_two two_return (leaving h.frame below.next below.rest _ (read on_two again))
           where
             by : (b : StackFrame) (k : OnThread content at old (Method h.frame ∷ b ∷ below.rest) None) → ((w : World) → Matches
-                (parts_at content at old) w → step_thread w (at.index + 1) (model k) ≡ returned_to w (at.index + 1) (model k) (option_map (rename g) x)
+                (parts_at content at old) w → handing w (at.index + 1) (model k) ≡ returned_to w (at.index + 1) (model k) (option_map (rename g) x)
                 (map (rename_frame (name_of (content old.heap))) (map (frame_part at.linked.now) (b ∷ below.rest)))) → Left
-                (Ok tt) t x h.frame b below.rest (running k.object None) → Steps content at old (Ok Done) (with_thread_at old at.index t)
+                (Ok tt) t x h.frame b below.rest (running k.object None) → Does content at old (Ok Done) (with_thread_at old at.index t) handing
             by (Initialization class stage) k is left =
                 thread.goes k left (without_top (part_here k)) (λ n a. elim (part_refs at.linked.now (Initialization class stage ∷ below.rest) None n a) [
                   | inl z ↦ absurd z
@@ -372,7 +365,7 @@ module _ {H : Type 0} {content : H → Content ClassId} {at : At} {old : State H
             by (Method u) k is left =
                 let l = at.linked.now in
                 let r : PartRuns l (Method u ∷ below.rest) (running k.object None) = without_top (part_here k) in
-                thread.goes k left.1 (with_top {g = Method (taken u x)} r.runs.frames.0 r.not_yet.frames.0 r)
+                thread.goes k left.1 (with_top {g = Method (taken u x)} r.runs.frames.0 r)
                 (λ n a. elim (part_refs l (Method (taken u x) ∷ below.rest) None n a) [
                   | inl z ↦ absurd z
                   | inr z ↦ elim (taken_refs (locals_shape.refs u.activation.locals) (optional_number_shape.refs u.monitor)
@@ -387,13 +380,13 @@ module _ {H : Type 0} {content : H → Content ClassId} {at : At} {old : State H
                 ∙ returned_below w (at.index + 1) (model k) g x l u (map (rename_frame g) (map (frame_part l) below.rest))
                 ∙ ap (taken_by w (at.index + 1) (model k) g x l u (map (rename_frame g) (map (frame_part l) below.rest))) left.0)
 
-        pub stays_there : {halt : Halt} → Leaving (Err halt) x e t → Steps content at old (Err halt) (with_thread_at old at.index t)
+        stays_there : {halt : Halt} → Leaving (Err halt) x e t → Does content at old (Err halt) (with_thread_at old at.index t) handing
         stays_there {halt} leaving = by halt below.next on_two two_return (leaving h.frame below.next below.rest _ (read on_two again))
           where
             by : (why : Halt) (b : StackFrame) (k : OnThread content at old (Method h.frame ∷ b ∷ below.rest) None) → ((w : World) → Matches
-                (parts_at content at old) w → step_thread w (at.index + 1) (model k) ≡ returned_to w (at.index + 1) (model k) (option_map (rename g) x)
+                (parts_at content at old) w → handing w (at.index + 1) (model k) ≡ returned_to w (at.index + 1) (model k) (option_map (rename g) x)
                 (map (rename_frame (name_of (content old.heap))) (map (frame_part at.linked.now) (b ∷ below.rest)))) → Left
-                (Err why) t x h.frame b below.rest (running k.object None) → Steps content at old (Err why) (with_thread_at old at.index t)
+                (Err why) t x h.frame b below.rest (running k.object None) → Does content at old (Err why) (with_thread_at old at.index t) handing
             by OutOfMemory b k is left = does k (runs_with k left (part_here k)) (λ w m. same_matches k left w m)
             by (Stopped s) (Initialization class stage) k is left = absurd left
             by (Stopped s) Entry k is left = absurd left
@@ -405,3 +398,7 @@ module _ {H : Type 0} {content : H → Content ClassId} {at : At} {old : State H
                 ∙ returned_below w (at.index + 1) (model k) g x l u (map (rename_frame g) (map (frame_part l) below.rest))
                 ∙ ap (taken_by w (at.index + 1) (model k) g x l u (map (rename_frame g) (map (frame_part l) below.rest))) left.0))
                 (sym left.1, same_matches k left.2 w m))
+
+        pub handed_on : (result : Result (Unit {0}) Halt) → Leaving result x e t → Does content at old (made_step result) (with_thread_at old at.index t) handing
+        handed_on (Ok done) leaving = returns_below leaving
+        handed_on (Err halt) leaving = stays_there leaving

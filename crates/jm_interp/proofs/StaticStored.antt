@@ -139,6 +139,8 @@ module _ {T : Type 0} (m : Parts T) (w : World) (h : Matches m w) (statics : Lis
     threads = h.threads;
     statics = refl;
     monitors = h.monitors;
+    monitor_serials = h.monitor_serials;
+    thread_serials = h.thread_serials;
     literals = h.literals;
     program = h.program;
     classes = h.classes;
@@ -164,7 +166,8 @@ module _ {H : Type 0} {content : H → Content ClassId} {at : At} {old : State H
         statics = length-set old.statics.items n v ∙ r.statics;
         literals = r.literals;
         classes = r.classes;
-        not_yet = record { program = r.not_yet.program; threads = r.not_yet.threads; monitors = r.not_yet.monitors };
+        started = r.started;
+        program = r.program;
       }
 
   module _ (inside : Holds content at old v) where

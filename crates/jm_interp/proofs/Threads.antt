@@ -10,10 +10,10 @@ use Rattle.jm_world.specs.World.{refs_thread, object_refs, held_shape}
 use Rattle.jm_linked.specs.Links.{LinkedView}
 use Rattle.jm_state.specs.Parts.{part_of_held, thread_part, frame_part, ending_part}
 use Rattle.jm_state.specs.Places.{HeldThread, held_thread}
-use Rattle.jm_state.specs.Runnable.{FrameRuns, FrameNotYet, ThreadRuns, ThreadNotYet}
+use Rattle.jm_state.specs.Runnable.{FrameRuns, ThreadRuns}
 use Rattle.jm_state.specs.declared.thread.StackFrame.{StackFrame}
 use Rattle.jm_state.specs.declared.thread.Thread as held
-use Rattle.jm_interp.specs.Standing.{ThreadRest, rest_of, running, Stands, held_as, part_of}
+use Rattle.jm_interp.specs.Standing.{OwnObject, ThreadRest, rest_of, told, running, Stands, held_as, part_of}
 use Rattle.jm_values.proofs.Lists.{map_set, get_map, each_set, each_at}
 
 -- the thread seen from the top of its frames, and the part that it is
@@ -25,20 +25,20 @@ part_is l t fs r s = ap (part_of_held l) (held_is s)
 
 -- its references: its object, its pending exception and its frames
 pub object_or_held : (l : LinkedView) (fs : List StackFrame) (r : ThreadRest) (q : ℕ) → Among q (refs_thread (part_of l fs r))
-    → Among q (object_refs (ending_part l.program r.ending) r.object) ⊎ Among q (held_shape.refs (r.pending, map (frame_part l) fs))
-object_or_held l fs r q a = among_split q (object_refs (ending_part l.program r.ending) r.object) (held_shape.refs (r.pending, map (frame_part l) fs)) a
+    → Among q (object_refs (ending_part l.program r.ending) (told r)) ⊎ Among q (held_shape.refs (r.pending, map (frame_part l) fs))
+object_or_held l fs r q a = among_split q (object_refs (ending_part l.program r.ending) (told r)) (held_shape.refs (r.pending, map (frame_part l) fs)) a
 
 pub part_refs : (l : LinkedView) (fs : List StackFrame) (p : Option ℕ) (q : ℕ) → Among q (held_shape.refs (p, map (frame_part l) fs))
     → Among q (optional_number_shape.refs p) ⊎ Among q (frames_shape.refs (map (frame_part l) fs))
 part_refs l fs p q a = among_split q (optional_number_shape.refs p) (frames_shape.refs (map (frame_part l) fs)) a
 
-pub object_in : (l : LinkedView) (fs : List StackFrame) (r : ThreadRest) (q : ℕ) → Among q (object_refs (ending_part l.program r.ending) r.object)
+pub object_in : (l : LinkedView) (fs : List StackFrame) (r : ThreadRest) (q : ℕ) → Among q (object_refs (ending_part l.program r.ending) (told r))
     → Among q (refs_thread (part_of l fs r))
-object_in l fs r q a = among_left q (object_refs (ending_part l.program r.ending) r.object) (held_shape.refs (r.pending, map (frame_part l) fs)) a
+object_in l fs r q a = among_left q (object_refs (ending_part l.program r.ending) (told r)) (held_shape.refs (r.pending, map (frame_part l) fs)) a
 
 held_in : (l : LinkedView) (fs : List StackFrame) (r : ThreadRest) (q : ℕ) → Among q (held_shape.refs (r.pending, map (frame_part l) fs))
     → Among q (refs_thread (part_of l fs r))
-held_in l fs r q a = among_right q (object_refs (ending_part l.program r.ending) r.object) (held_shape.refs (r.pending, map (frame_part l) fs)) a
+held_in l fs r q a = among_right q (object_refs (ending_part l.program r.ending) (told r)) (held_shape.refs (r.pending, map (frame_part l) fs)) a
 
 pub pending_refs : (l : LinkedView) (fs : List StackFrame) (r : ThreadRest) (q : ℕ) → Among q (optional_number_shape.refs r.pending)
     → Among q (refs_thread (part_of l fs r))
@@ -48,44 +48,32 @@ pub frames_refs : (l : LinkedView) (fs : List StackFrame) (r : ThreadRest) (q : 
     → Among q (refs_thread (part_of l fs r))
 frames_refs l fs r q a = held_in l fs r q (among_right q (optional_number_shape.refs r.pending) (frames_shape.refs (map (frame_part l) fs)) a)
 
--- what a thread keeps to, and what it does not come to yet
+-- what a thread keeps to
 pub record PartRuns (l : LinkedView) (fs : List StackFrame) (r : ThreadRest) : Type 0 where
   pub runs : ThreadRuns l (held_as fs r)
-  pub not_yet : ThreadNotYet l (held_as fs r)
 
 pub part_runs : {l : LinkedView} {t : held.Thread} {fs : List StackFrame} {r : ThreadRest} → Stands t fs r → ThreadRuns l (held_thread t)
-    → ThreadNotYet l (held_thread t) → PartRuns l fs r
-part_runs {l} s runs yet = record { runs = subst (ThreadRuns l) (held_is s) runs; not_yet = subst (ThreadNotYet l) (held_is s) yet }
+    → PartRuns l fs r
+part_runs {l} s runs = record { runs = subst (ThreadRuns l) (held_is s) runs }
 
 -- with another pending exception, without its top frame, with another on top, and with one more
-pub with_pending : {l : LinkedView} {fs : List StackFrame} {o p q : Option ℕ} → PartRuns l fs (running o p) → PartRuns l fs (running o q)
-with_pending r = record {
-  runs = record { frames = r.runs.frames; few = r.runs.few };
-  not_yet = record { object = r.not_yet.object; frames = r.not_yet.frames };
-}
+pub with_pending : {l : LinkedView} {fs : List StackFrame} {o : OwnObject} {p q : Option ℕ} → PartRuns l fs (running o p) → PartRuns l fs (running o q)
+with_pending r = record { runs = record { frames = r.runs.frames; few = r.runs.few } }
 
-pub without_top : {l : LinkedView} {f : StackFrame} {fs : List StackFrame} {o p q : Option ℕ} → PartRuns l (f ∷ fs) (running o p) → PartRuns l fs (running o q)
-without_top r = record {
-  runs = record { frames = r.runs.frames.1; few = let k = r.runs.few in omega arith };
-  not_yet = record { object = r.not_yet.object; frames = r.not_yet.frames.1 };
-}
+pub without_top : {l : LinkedView} {f : StackFrame} {fs : List StackFrame} {o : OwnObject} {p q : Option ℕ} → PartRuns l (f ∷ fs) (running o p)
+    → PartRuns l fs (running o q)
+without_top r = record { runs = record { frames = r.runs.frames.1; few = let k = r.runs.few in omega arith } }
 
-pub with_top : {l : LinkedView} {f g : StackFrame} {fs : List StackFrame} {o p q : Option ℕ} → FrameRuns l g → FrameNotYet l g
+pub with_top : {l : LinkedView} {f g : StackFrame} {fs : List StackFrame} {o : OwnObject} {p q : Option ℕ} → FrameRuns l g
     → PartRuns l (f ∷ fs) (running o p) → PartRuns l (g ∷ fs) (running o q)
-with_top frame yet r = record {
-  runs = record { frames = (frame, r.runs.frames.1); few = let k = r.runs.few in omega arith };
-  not_yet = record { object = r.not_yet.object; frames = (yet, r.not_yet.frames.1) };
-}
+with_top frame r = record { runs = record { frames = (frame, r.runs.frames.1); few = let k = r.runs.few in omega arith } }
 
-pub with_more : {l : LinkedView} {g : StackFrame} {fs : List StackFrame} {o p : Option ℕ} → FrameRuns l g → FrameNotYet l g → length fs < 512
+pub with_more : {l : LinkedView} {g : StackFrame} {fs : List StackFrame} {o : OwnObject} {p : Option ℕ} → FrameRuns l g → length fs < 512
     → PartRuns l fs (running o p) → PartRuns l (g ∷ fs) (running o p)
-with_more frame yet few r = record {
-  runs = record { frames = (frame, r.runs.frames); few = omega arith };
-  not_yet = record { object = r.not_yet.object; frames = (yet, r.not_yet.frames) };
-}
+with_more frame few r = record { runs = record { frames = (frame, r.runs.frames); few = omega arith } }
 
 -- and with its top frame dropped, if it has one
-pub dropped_part : {l : LinkedView} (fs : List StackFrame) {o p : Option ℕ} → PartRuns l fs (running o p) → PartRuns l (drop 1 fs) (running o p)
+pub dropped_part : {l : LinkedView} (fs : List StackFrame) {o : OwnObject} {p : Option ℕ} → PartRuns l fs (running o p) → PartRuns l (drop 1 fs) (running o p)
 dropped_part [] r = r
 dropped_part (f ∷ fs) r = without_top r
 

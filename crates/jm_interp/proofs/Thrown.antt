@@ -76,14 +76,14 @@ seen_as {content = content} {at = at} {s = s} {w = w} beside x there live =
     let on : OnThread content at s (reverse t.0.frames.items) t.0.pending = record {
       world = w;
       beside = beside;
-      object = t.0.object;
+      object = record { place = t.0.object; serial = t.0.serial };
       stands = record {
         thread = t.0;
         at = t.1;
         stands = record {
           frames_are = refl;
           rest_is = λ j. record {
-            object = t.0.object;
+            object = record { place = t.0.object; serial = t.0.serial };
             pending = t.0.pending;
             ending = runs_named l t.0.ending (ap (λ (y : Thread). y.ending) seen ∙ live) j;
           };
@@ -167,7 +167,7 @@ module _ {H : Type 0} {content : H → Content ClassId} {at : At} {mid : State H
       }))) named
       (subst (Matches (parts_at content at (with_thread_at mid at.index pending_at))) (same_rest g.on after m g.frames (running g.on.object (Some place)))
       (changed_among g.on after m (IsKnown w (exception class)) shared (with_thread_at mid at.index pending_at)
-      (with_thread_changed g.on pending_at) stands_pending stand))
+      (with_thread_changed g.on pending_at) stands_pending refl stand))
 
 -- an exception of the class has been made, or none
 module _ {H : Type 0} {content : H → Content ClassId} {at : At} {old : State H} (mid : State H) (class : ℕ) (h : OnFrames content at old)

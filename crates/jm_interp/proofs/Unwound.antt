@@ -15,6 +15,7 @@ use Rattle.jm_frames.specs.FrameView.{FrameView}
 use Rattle.jm_world.specs.Classes.{method_named, error_class}
 use Rattle.jm_world.specs.Frames.{Frame, rename_frame}
 use Rattle.jm_world.specs.Here.{with_frames}
+use Rattle.jm_world.specs.Monitors.{leave_if}
 use Rattle.jm_world.specs.Next.{Next, faults, goes}
 use Rattle.jm_world.specs.Throwing.{unwind_frames, unwound, unwound_anew, drop_method, drop_initialization}
 use Rattle.jm_world.specs.Throwing.{handle, handler_in, handlers_of, class_name, is_kind_of}
@@ -40,14 +41,13 @@ use Rattle.jm_state.specs.declared.thread.Thread as held
 use Rattle.jm_interp.specs.declared.at.At.{At}
 use Rattle.jm_interp.specs.At.{parts_at, in_method, OnThread, Does, Steps}
 use Rattle.jm_interp.specs.Ending.{ended_as, unwound_to}
-use Rattle.jm_interp.specs.Catching.{InThrowing, failed_by, handles, is_of, target_in, target_on_top}
+use Rattle.jm_interp.specs.Catching.{InThrowing, dropped_by, failed_by, handles, is_of, monitor_of, target_in, target_on_top}
 use Rattle.jm_interp.specs.Initializing.{class_on_top}
-use Rattle.jm_interp.specs.Standing.{running}
 use Rattle.jm_interp.proofs.Caught.{InMethodFrame, in_method_frame, begins, begins_not, begins_at, kind_is}
 use Rattle.jm_interp.proofs.Objects.{IsObject, object_of, told}
 use Rattle.jm_interp.proofs.OnThread.{Leads, lower, model, read, as_frames, does_as, held_pending, part_here}
 use Rattle.jm_values.proofs.Lists.{get_there}
-use Rattle.jm_interp.proofs.Threads.{HasTwo, tail_of, two_frames, few_frames, PartRuns}
+use Rattle.jm_interp.proofs.Threads.{HasTwo, tail_of, two_frames, few_frames}
 
 many_names : (program : List ClassParts) → length (class_names program) ≡ length the_builtins + length program
 many_names program =
@@ -88,23 +88,29 @@ module _ {H : Type 0} {content : H → Content ClassId} {at : At} {old : State H
       ap (λ o. elim o as (λ _. Next) [ None ↦ faults WrongKind | Some z ↦ unwind_frames w (at.index + 1) (model h) (model h).frames (f place) z.type ])
       (thrown.in_world w m)
 
-  -- no method catches
-  frames_left : (gs : List StackFrame) → class_on_top gs ≡ None → PartRuns at.linked.now gs (running h.object (Some place)) → (w : World)
-      → Matches (parts_at content at old) w → (x : Thread) (k : ℕ) (type : ObjectType) → target_on_top w at.linked.now type gs ≡ None
-      → unwind_frames w (at.index + 1) x (lower h gs) k type ≡ unwound w (at.index + 1) x (drop 1 (lower h gs)) k type
-  frames_left [] none q w m x k type missed = refl
-  frames_left (Initialization class stage ∷ gs) none q w m x k type missed = cc
-  frames_left (Entry ∷ gs) none q w m x k type missed = refl
-  frames_left (Method v ∷ gs) none q w m x k type missed =
+  -- no method catches: the top frame is dropped, by whether its monitor was left
+  by_leaving : World → List Frame → ℕ → ObjectType → Option World → Next
+  by_leaving w below k type o = elim o as (λ _. Next) [
+    | Some left ↦ unwound left (at.index + 1) (model h) below k type
+    | None ↦ unwound_anew w w (at.index + 1) (model h) below (codes "java/lang/IllegalMonitorStateException")
+  ]
+
+  frames_left : (gs : List StackFrame) → class_on_top gs ≡ None → (w : World) (k : ℕ) (type : ObjectType) → target_on_top w at.linked.now type gs ≡ None
+      → unwind_frames w (at.index + 1) (model h) (lower h gs) k type
+      ≡ by_leaving w (drop 1 (lower h gs)) k type (leave_if w (at.index + 1) (monitor_of (lower h gs)))
+  unfolding by_leaving
+  frames_left [] none w k type missed = refl
+  frames_left (Initialization class stage ∷ gs) none w k type missed = cc
+  frames_left (Entry ∷ gs) none w k type missed = refl
+  frames_left (Method v ∷ gs) none w k type missed =
       let l = at.linked.now in
       let f = name_of (content old.heap) in
       let below = map (rename_frame f) (map (frame_part l) gs) in
       let found = handler_in w v.activation.at type (handlers_of (method_named w.program (name_of_number l v.method))) in
       ap (λ o. elim o as (λ _. Next) [
-        | Some r ↦ handle w (at.index + 1) x (name_of_number l v.method) (rename_activation f v.activation) (option_map f v.monitor) below k r
-        | None ↦ drop_method w (at.index + 1) x (option_map f v.monitor) below k type
+        | Some r ↦ handle w (at.index + 1) (model h) (name_of_number l v.method) (rename_activation f v.activation) (option_map f v.monitor) below k r
+        | None ↦ drop_method w (at.index + 1) (model h) (option_map f v.monitor) below k type
       ]) (begins_not found missed)
-      ∙ ap (λ o. drop_method w (at.index + 1) x (option_map f o) below k type) q.not_yet.frames.0
 
   -- the top frame's method catches
   frames_caught : (v : FrameView) (gs : List StackFrame) (target : ℕ) (w : World) (x : Thread) (k : ℕ) (type : ObjectType)
@@ -162,14 +168,24 @@ module _ {H : Type 0} {content : H → Content ClassId} {at : At} {old : State H
   finds_for tells finds w m = ap (λ x. target_on_top w at.linked.now (type_of x) fs) (sym (told h thrown tells)) ∙ sym (finds w (sym m.program))
 
   -- a method's frame in which no handler catches, or none
-  pub leaves_method : {id : ClassId} {e : Ending} {new : State H} {found : Option ℕ} → class_on_top fs ≡ None → Tells id
+  dropped_so : {id : ClassId} {e : Ending} → Tells id → e ≡ ended_by (class_name (type_of id)) → (w : World) (o : Option World)
+      → by_leaving w (drop 1 (lower h fs)) (name_of (content old.heap) place) (type_of thrown.object.type) o ≡ (elim o as (λ _. Next) [
+        | Some left ↦ unwound_to left (at.index + 1) (model h) (drop 1 (lower h fs)) e
+        | None ↦ unwound_anew w w (at.index + 1) (model h) (drop 1 (lower h fs)) (codes "java/lang/IllegalMonitorStateException")
+      ])
+  unfolding by_leaving
+  dropped_so tells ended w (Some left) =
+      left_is left (drop 1 (lower h fs)) (type_of thrown.object.type)
+      ∙ ap (unwound_to left (at.index + 1) (model h) (drop 1 (lower h fs))) (ends_as tells ended)
+  dropped_so tells ended w None = refl
+
+  pub leaves_method : {id : ClassId} {e : Ending} {result : Result StepEnd Halt} {new : State H} {found : Option ℕ} → class_on_top fs ≡ None → Tells id
       → e ≡ ended_by (class_name (type_of id)) → Finds found id → found ≡ None
-      → Does content at old (Ok Done) new (λ w number t. unwound_to w number t (drop 1 t.frames) e) → Steps content at old (Ok Done) new
+      → Does content at old result new (dropped_by e) → Steps content at old result new
   leaves_method none tells ended finds missed done = does_as h (λ w m. m) (λ w m.
       unwinds w m
-      ∙ frames_left fs none (part_here h) w m (model h) (name_of (content old.heap) place) (type_of thrown.object.type) (finds_for tells finds w m ∙ missed)
-      ∙ left_is w (drop 1 (lower h fs)) (type_of thrown.object.type)
-      ∙ ap (unwound_to w (at.index + 1) (model h) (drop 1 (lower h fs))) (ends_as tells ended)) done
+      ∙ frames_left fs none w (name_of (content old.heap) place) (type_of thrown.object.type) (finds_for tells finds w m ∙ missed)
+      ∙ dropped_so tells ended w (leave_if w (at.index + 1) (monitor_of (lower h fs)))) done
 
   -- a method's frame in which a handler catches
   module _ {id : ClassId} {target : ℕ} {found : Option ℕ} (tells : Tells id) (finds : Finds found id) (caught : found ≡ Some target) where

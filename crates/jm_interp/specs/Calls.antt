@@ -1,5 +1,5 @@
 -- Calls of methods that have code.
-use Rattle.std.specs.Prelude.{◌≡◌, ◌≤◌, ◌+◌, [], ◌∷◌, ℕ, List, reverse, Some, None, Result, Ok, Err, drop, length, slice_get}
+use Rattle.std.specs.Prelude.{◌≡◌, ◌≤◌, ◌+◌, [], ◌∷◌, ℕ, List, reverse, Option, Some, None, drop, length, slice_get}
 use Rattle.jm_program.specs.Fits.{Fits}
 use Rattle.jm_program.specs.declared.class.ClassParts.{ClassParts}
 use Rattle.jm_program.specs.declared.class.Method.{Method as Declared}
@@ -8,6 +8,9 @@ use Rattle.jm_program.specs.declared.descriptor.FieldType.{FieldType}
 use Rattle.jm_builtins.specs.List.{the_builtins}
 use Rattle.jm_frames.specs.FrameView.{FrameView, with_stack}
 use Rattle.jm_values.specs.Content.{Content}
+use Rattle.jm_values.specs.Rename.{stack_shape}
+use Rattle.jm_values.specs.Shape.{Among}
+use Rattle.jm_world.specs.Frames.{optional_number_shape}
 use Rattle.jm_world.specs.Classes.{FoundMethod, name_of_method}
 use Rattle.jm_world.specs.Here.{Here, with_arguments}
 use Rattle.jm_world.specs.Invocation.{call_code, call_static, locals_of}
@@ -49,22 +52,26 @@ pub record ThreadCalls (l : LinkedView) (number count : ℕ) (t : held.Thread) :
   pub stands : Stands t (Method frame ∷ below) rest
   pub has : HasArguments l number count frame
 
-pub record MayCall {H : Type 0} (content : H → Content ClassId) (at : At) (s : State H) (number count : ℕ) : Type 0 where
+-- the monitor that the method enters is that of an operand, if it enters one
+abbrev pub IsOperand : FrameView → Option ℕ → Type 0
+IsOperand frame monitor = (q : ℕ) → Among q (optional_number_shape.refs monitor) → Among q (stack_shape.refs frame.activation.stack)
+
+pub record MayCall {H : Type 0} (content : H → Content ClassId) (at : At) (s : State H) (number count : ℕ) (monitor : Option ℕ) : Type 0 where
   pub on : InMethod content at s
   pub has : HasArguments at.linked.now number count on.frame
+  pub operand : IsOperand on.frame monitor
 
--- the model's call, with so many operands on top as its arguments; no monitor is entered
-abbrev pub calls_with : FoundMethod → Code → ℕ → Here → Next
-calls_with found code count here = call_code here found code (on_top count here.frame.stack) None (drop count here.frame.stack)
+-- the model's call, with so many operands on top as its arguments, of a method that enters this monitor, if it enters one
+abbrev pub calls_with : FoundMethod → Code → ℕ → Option ℕ → Here → Next
+calls_with found code count monitor here = call_code here found code (on_top count here.frame.stack) monitor (drop count here.frame.stack)
 
 -- how a method's frame is made
-abbrev pub callee_of : ℕ → LinkedMethod → Callee
-callee_of number m = record { method = number; monitor = None; max_stack = m.max_stack; max_locals = m.max_locals }
+abbrev pub callee_with : ℕ → LinkedMethod → Option ℕ → Callee
+callee_with number m monitor = record { method = number; monitor = monitor; max_stack = m.max_stack; max_locals = m.max_locals }
 
--- a frame is on top of the one that lost so many operands, or nothing has changed
-abbrev pub Called : {E : Type 0} → Result (Unit {0}) E → held.Thread → FrameView → ℕ → FrameView → List StackFrame → ThreadRest → Type 0
-Called (Ok done) new above count f below r = Stands new (Method above ∷ Method (with_stack f (drop count f.activation.stack)) ∷ below) r
-Called (Err refused) new above count f below r = Stands new (Method f ∷ below) r
+-- of one that enters no monitor
+abbrev pub callee_of : ℕ → LinkedMethod → Callee
+callee_of number m = callee_with number m None
 
 -- the linked method of a number is the one that a class declares, the classes numbered with the
 -- built-in ones first

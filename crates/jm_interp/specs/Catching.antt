@@ -9,7 +9,9 @@ use Rattle.jm_values.specs.declared.fault.TagFault.TheVariants.{NoInstruction, O
 use Rattle.jm_values.specs.declared.value.Value.TheVariants.{Ref}
 use Rattle.jm_values.specs.Content.{Content}
 use Rattle.jm_world.specs.Classes.{method_named}
+use Rattle.jm_world.specs.Frames.{Frame, method_frame, initialization_frame, entry_frame}
 use Rattle.jm_world.specs.Hierarchy.{is_subclass}
+use Rattle.jm_world.specs.Monitors.{leave_if}
 use Rattle.jm_world.specs.Next.{Next, faults}
 use Rattle.jm_world.specs.Throwing.{handle, handler_in, handlers_of, unwound_anew}
 use Rattle.jm_world.specs.Types.{ObjectType, instance_of, array_of}
@@ -74,6 +76,28 @@ handles_pending handler w number t (Some k) = in_method (λ here. handle w numbe
 
 abbrev pub handles : Handler → World → ℕ → Thread → Next
 handles handler w number t = handles_pending handler w number t t.pending
+
+-- the object whose monitor the top frame's method entered, if it entered one
+abbrev pub monitor_on_top : List StackFrame → Option ℕ
+monitor_on_top [] = None
+monitor_on_top (Method f ∷ fs) = f.monitor
+monitor_on_top (Initialization class stage ∷ fs) = None
+monitor_on_top (Entry ∷ fs) = None
+
+-- the same in the model
+abbrev pub monitor_of : List Frame → Option ℕ
+monitor_of [] = None
+monitor_of (method_frame m a monitor ∷ fs) = monitor
+monitor_of (initialization_frame class stage ∷ fs) = None
+monitor_of (entry_frame ∷ fs) = None
+
+-- the top frame is dropped, and its monitor is left, if it has one: a thread that does not own it has a
+-- new IllegalMonitorStateException in the place of the pending exception
+abbrev pub dropped_by : Ending → World → ℕ → Thread → Next
+dropped_by ending w number t = elim (leave_if w number (monitor_of t.frames)) [
+  | Some left ↦ unwound_to left number t (drop 1 t.frames) ending
+  | None ↦ unwound_anew w w number t (drop 1 t.frames) (codes "java/lang/IllegalMonitorStateException")
+]
 
 -- the top frame, an initialization's, is dropped, and the class has failed: an exception that is no
 -- Error gives its place to a new ExceptionInInitializerError (JVMS 5.5)

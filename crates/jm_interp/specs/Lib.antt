@@ -21,3 +21,6 @@ pub mod Creating
 pub mod ConstantValues
 pub mod Invoking
 pub mod Athrow
+pub mod Locking
+pub mod Starting
+pub mod Entering

@@ -11,7 +11,7 @@ use Rattle.jm_values.specs.Rename.{rename}
 use Rattle.jm_values.specs.declared.value.Value.{Value}
 use Rattle.jm_values.specs.declared.fault.TagFault.{TagFault}
 use Rattle.jm_values.specs.declared.fault.TagFault.TheVariants.{Overflow, WrongTag}
-use Rattle.jm_world.specs.Returns.{same_operand, with_result, returned_to}
+use Rattle.jm_world.specs.Returns.{same_operand, with_result, return_from}
 use Rattle.jm_world.specs.declared.stop.Stop.TheVariants as stop
 use Rattle.jm_heap.specs.declared.class_id.ClassId.{ClassId}
 use Rattle.jm_linked.specs.declared.kind.ValueKind.{ValueKind}
@@ -54,9 +54,9 @@ abbrev pub HoldsResult : {H : Type 0} → (H → Content ClassId) → At → Sta
 HoldsResult content at s None = Unit {0}
 HoldsResult content at s (Some v) = Holds content at s v
 
--- the model's step hands it on to the frames below
+-- the model's step returns it: the monitor is left first, and then it is handed on to the frames below
 pub record HandsOn {H : Type 0} (content : H → Content ClassId) (at : At) (s : State H) (result : Option Value) : Type 0 where
-  pub step : StepIs content at s (λ here. returned_to here.world here.number here.thread (option_map (rename (name_of (content s.heap))) result) here.below)
+  pub step : StepIs content at s (λ here. return_from here (option_map (rename (name_of (content s.heap))) result))
   pub held : HoldsResult content at s result
 
 -- what the row comes to: a result is handed on, or it is refused

@@ -15,6 +15,7 @@ use crate::at::At;
 use crate::class_number::PRINT_STREAM;
 use crate::declared::declared_method;
 use crate::string_methods::{char_at, length_of};
+use crate::thread_starts::start_thread;
 use crate::top_object::{Refusal, drop_and_go_on, int_at, object_at, refuse, replace};
 use jm_builtins::BuiltInClass;
 use jm_heap::Heap;
@@ -31,6 +32,9 @@ const THREAD: u32 = BuiltInClass::Thread as u32;
 const LENGTH: u32 = 0;
 
 const CHAR_AT: u32 = 1;
+
+// `start` of java/lang/Thread, by its number among the methods of the class.
+const START: u32 = 1;
 
 // Whether a class is one of the three built-in ones with other methods than a constructor, by its number.
 fn has_other_methods(class: u32) -> bool
@@ -86,6 +90,23 @@ fn call_of_string<H: Heap>(
     }
 }
 
+// Calls a method of java/lang/Thread, by its number in the class: the constructor and `run` change
+// nothing.
+fn call_of_thread<H: Heap>(
+    at: At<'_>,
+    state: &mut State<H>,
+    member: u32,
+    thread: Place,
+) -> Result<StepEnd, Halt>
+    requires { CallsWithoutCode H.content at state.old (record { class = number_of Thread; member = member }) thread }
+    ensures { Steps H.content at.entry state.old result state.new }
+{
+    if member == START {
+        return start_thread(at, state, thread);
+    }
+    drop_and_go_on(at, state, 1)
+}
+
 /// Calls an instance method that has no code, by the number with which its class declares it: an
 /// abstract one throws AbstractMethodError (JVMS 6.5 invokevirtual), and one of a built-in class is one
 /// event. OutOfMemory: the class declares no method of that number, as it does, or it is one of
@@ -112,6 +133,9 @@ pub(crate) fn call_without_code<H: Heap>(
     }
     if method.class == STRING {
         return call_of_string(at, state, method.member, receiver);
+    }
+    if method.class == THREAD {
+        return call_of_thread(at, state, method.member, receiver);
     }
     if !has_constructor_alone(at.linked, method.class) {
         return Err(Halt::OutOfMemory);

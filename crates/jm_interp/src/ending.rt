@@ -17,8 +17,9 @@ use jm_state::{Ending, State};
 pub(crate) fn end_thread<H: Heap>(at: At<'_>, state: &mut State<H>, ending: Ending)
     requires { (fs : List StackFrame) × (p : Option ℕ) × OnThread H.content at state.old fs p
         × (is_running (ending_part at.linked.now.program ending) ≡ false) }
-    ensures { Does H.content at.entry state.old (Ok Done) state.new
+    ensures ends { Does H.content at.entry state.old (Ok Done) state.new
         (λ w number t. goes (ended_as w number t (ending_part at.entry.linked.now.program ending))) }
+    ensures heap { state.new.heap ≡ state.old.heap }
 {
     let thread = &mut state.threads[at.index];
     thread.frames.clear();

@@ -8,6 +8,7 @@ ghost use Rattle.jm_state.specs.declared.halt.StepEnd.TheVariants.{Done};
 ghost use Rattle.jm_state.specs.declared.thread.StackFrame.{StackFrame};
 ghost use Rattle.jm_state.specs.declared.thread.StackFrame.TheVariants.{Method, Initialization};
 ghost use Rattle.jm_interp.specs.At.{OnFrames, Does};
+ghost use Rattle.jm_interp.specs.Catching.{monitor_on_top};
 ghost use Rattle.jm_interp.specs.Initializing.{Began, class_on_top};
 ghost use Rattle.jm_interp.specs.Returned.{Took, Left};
 ghost use Rattle.jm_interp.specs.Standing.{ThreadRest, Stands, HasTop, Topped};
@@ -16,7 +17,7 @@ use crate::at::At;
 use jm_frames::Frame;
 use jm_heap::Heap;
 use jm_state::{Halt, StackFrame, State, Thread};
-use jm_values::{TagFault, Value};
+use jm_values::{Place, TagFault, Value};
 use jm_world::{Stage, Stop};
 use std::alloc::AllocError;
 
@@ -45,6 +46,20 @@ pub(crate) fn class_on_top(thread: &Thread) -> Option<u32>
     match top {
         StackFrame::Method(_) => None,
         StackFrame::Initialization { class, stage: _ } => Some(*class),
+        StackFrame::Entry => None,
+    }
+}
+
+/// The object whose monitor the method of the top frame entered, if it entered one.
+pub(crate) fn monitor_on_top(thread: &Thread) -> Option<Place>
+    ensures { (fs : List StackFrame) (r : ThreadRest) → Stands thread.now fs r → result ≡ monitor_on_top fs }
+{
+    let Some(top) = thread.frames.last() else {
+        return None;
+    };
+    match top {
+        StackFrame::Method(frame) => frame.monitor(),
+        StackFrame::Initialization { class: _, stage: _ } => None,
         StackFrame::Entry => None,
     }
 }

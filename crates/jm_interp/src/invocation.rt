@@ -1,6 +1,8 @@
 // Invocations of methods.
 
-ghost use Rattle.std.specs.Prelude.{IfSome};
+ghost use Rattle.std.specs.Prelude.{◌≡◌, IfSome, List};
+ghost use Rattle.jm_program.specs.declared.descriptor.FieldType.{FieldType as DeclaredType};
+ghost use Rattle.jm_world.specs.Invocation.{monitor_of};
 ghost use Rattle.jm_world.specs.Classes.{FoundMethod};
 ghost use Rattle.jm_program.specs.declared.instruction.operation.InvokeOp.TheVariants as invoke_op;
 ghost use Rattle.jm_linked.specs.Links.{IsMethodOf, Links};
@@ -15,8 +17,9 @@ use crate::top_frame::top_method;
 use jm_calls::test_parameters;
 use jm_heap::Heap;
 use jm_linked::{InvokedMethod, Linked, LinkedMethod, MemberNumber};
-use jm_program::FieldType;
+use jm_program::{AccessFlags, FieldType};
 use jm_state::{Halt, State, StepEnd};
+use jm_values::Place;
 use jm_world::Stop;
 
 // Whether a linked method stands before one that a class of the program declares, in the order of the
@@ -54,6 +57,21 @@ pub(crate) fn code_number(linked: &Linked, method: MemberNumber) -> Option<u32>
     u32::try_from(number).ok()
 }
 
+/// The object whose monitor a call of an instance method enters, by the method's number among those
+/// with code: the receiver of a synchronized one (JVMS 2.11.10).
+pub(crate) fn monitor_of(linked: &Linked, number: u32, receiver: Place) -> Option<Place>
+    ensures { (parameters : List DeclaredType) (p : HasParameters linked.now number parameters) → result ≡ monitor_of p.declared receiver }
+{
+    let method = linked.methods().get(number as usize)?;
+    let class = linked.classes().get(method.class as usize)?.parts();
+    let declared = class.methods.as_slice().get(method.member as usize)?;
+    if declared.flags.has(AccessFlags::SYNCHRONIZED) {
+        Some(receiver)
+    } else {
+        None
+    }
+}
+
 /// The parameters of a method, by its number among those with code.
 pub(crate) fn parameters_of(linked: &Linked, number: u32) -> Option<&[FieldType]>
     ensures { IfSome result (λ parameters. HasParameters linked.now number parameters.now) }
@@ -83,7 +101,7 @@ pub(crate) fn call_static<H: Heap>(
         return Err(Halt::OutOfMemory);
     };
     match test_parameters(top_method(&state.threads[at.index]), parameters) {
-        Ok(()) => call(at, state, number, parameters.len()),
+        Ok(()) => call(at, state, number, parameters.len(), None),
         Err(fault) => Err(Halt::Stopped(Stop::TagFault(fault))),
     }
 }

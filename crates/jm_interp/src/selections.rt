@@ -21,8 +21,8 @@ use jm_linked::{InvokedMethod, Selected};
 use jm_state::{Halt, State, StepEnd};
 use jm_values::Place;
 
-// The class in which a method is searched for an object of a mark: an array has Object's.
-fn class_of(id: ClassId) -> u32
+/// The class in which a method is searched for an object of a mark: an array has Object's.
+pub(crate) fn class_of(id: ClassId) -> u32
     ensures { (program : List ClassParts) → class_name_of program result ≡ class_of (named_type program id) }
 {
     match id {
@@ -51,7 +51,7 @@ fn call_selected<H: Heap>(
             Some(method) => call_without_code(at, state, method, receiver),
             None => Err(Halt::OutOfMemory),
         },
-        Selected::Coded(number) => call_code(at, state, number),
+        Selected::Coded(number) => call_code(at, state, number, receiver),
     }
 }
 

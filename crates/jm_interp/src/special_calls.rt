@@ -37,7 +37,7 @@ fn call_declared<H: Heap>(
     match &declared.code {
         None => call_without_code(at, state, method, receiver),
         Some(_) => match code_number(at.linked, method) {
-            Some(number) => call_code(at, state, number),
+            Some(number) => call_code(at, state, number, receiver),
             None => Err(Halt::OutOfMemory),
         },
     }

@@ -1,6 +1,6 @@
 // The stages of unwinding and of the initialization of a class, each by itself.
 
-ghost use Rattle.std.specs.Prelude.{◌≡◌, ◌-◌, ◌≤◌, ◌∷◌, ℕ, List, Option, Some, None};
+ghost use Rattle.std.specs.Prelude.{◌≡◌, ◌-◌, ◌≤◌, ◌∷◌, ℕ, List, Some, None};
 ghost use Rattle.jm_world.specs.Frames.{Frame, initialization_frame};
 ghost use Rattle.jm_world.specs.Initialization.{initialize};
 ghost use Rattle.jm_world.specs.Matches.{Matches};
@@ -12,7 +12,7 @@ ghost use Rattle.jm_state.specs.Parts.{state_parts};
 ghost use Rattle.jm_state.specs.Runnable.{StateRuns};
 ghost use Rattle.jm_state.specs.declared.thread.StackFrame.{StackFrame};
 ghost use Rattle.jm_state.specs.declared.thread.StackFrame.TheVariants.{Initialization};
-ghost use Rattle.jm_interp.specs.Standing.{StandsAt, running};
+ghost use Rattle.jm_interp.specs.Standing.{OwnObject, StandsAt, running};
 
 use crate::at::At;
 use crate::stepping::step_at;
@@ -39,7 +39,7 @@ pub fn unwind_stage<H: Heap>(
     requires runs { StateRuns linked.now state.old }
     requires matched { (w : World) × Matches (state_parts H.content linked.now state.old) w }
     requires from_one { 1 ≤ number }
-    requires here { (object : Option ℕ) × (place : ℕ) × (fs : List StackFrame)
+    requires here { (object : OwnObject) × (place : ℕ) × (fs : List StackFrame)
         × StandsAt state.old.threads.items (number - 1) fs (running object (Some place)) }
     ensures next { (w : World) (t : ModelThread) (k : ℕ) → Matches (state_parts H.content linked.now state.old) w → thread_at w number ≡ Some t
         → t.pending ≡ Some k → Ended result (state_parts H.content linked.now state.new) w (unwind w number t k) }
@@ -72,7 +72,7 @@ pub fn init_stage<H: Heap>(
     requires runs { StateRuns linked.now state.old }
     requires matched { (w : World) × Matches (state_parts H.content linked.now state.old) w }
     requires from_one { 1 ≤ number }
-    requires here { (object : Option ℕ) × (class : ℕ) × (stage : Stage) × (below : List StackFrame)
+    requires here { (object : OwnObject) × (class : ℕ) × (stage : Stage) × (below : List StackFrame)
         × StandsAt state.old.threads.items (number - 1) (Initialization class stage ∷ below) (running object None) }
     ensures next { (w : World) (t : ModelThread) (class : List ℕ) (stage : Stage) (below : List Frame) → Matches (state_parts H.content linked.now state.old) w
         → thread_at w number ≡ Some t → t.pending ≡ None → t.frames ≡ initialization_frame class stage ∷ below

@@ -11,13 +11,14 @@ ghost use Rattle.jm_state.specs.Parts.{ending_part, named_type, program_class_na
 ghost use Rattle.jm_state.specs.declared.halt.StepEnd.TheVariants.{Done};
 ghost use Rattle.jm_state.specs.declared.thread.StackFrame.{StackFrame};
 ghost use Rattle.jm_interp.specs.At.{OnThread, OnFrames, Does, Steps};
-ghost use Rattle.jm_interp.specs.Catching.{IsKnown, InThrowing, failed_by, handles, is_of};
+ghost use Rattle.jm_interp.specs.Catching.{IsKnown, InThrowing, dropped_by, failed_by, handles, is_of, monitor_on_top};
 ghost use Rattle.jm_interp.specs.Ending.{unwound_to};
 
 use crate::at::At;
 use crate::ending::end_thread;
-use crate::frames::{class_on_top, leave_frame};
+use crate::frames::{class_on_top, leave_frame, monitor_on_top};
 use crate::handlers::{catch_on_top, target_on_top};
+use crate::monitors::{leave, owns};
 use crate::object_kind::{is_known, is_of};
 use crate::throwing::leave_pending;
 use jm_builtins::BuiltInClass;
@@ -139,6 +140,48 @@ fn fail_by<H: Heap>(
     fail_anew(at, state, class)
 }
 
+// Drops the top frame and leaves the monitor of an object, which it entered: a thread that does not hold
+// it has a new IllegalMonitorStateException in the place of the pending exception (JVMS 6.5 athrow). With
+// the last frame the thread ends by the exception. The new one is made first: where it cannot be, nothing
+// has changed.
+fn drop_synchronized<H: Heap>(
+    at: At<'_>,
+    state: &mut State<H>,
+    object: Place,
+    ending: Ending,
+) -> Result<StepEnd, Halt>
+    requires on { (h : OnFrames H.content at state.old) × (monitor_on_top h.frames ≡ Some object) }
+    requires ends { is_running (ending_part at.linked.now.program ending) ≡ false }
+    ensures { Does H.content at.entry state.old result state.new (dropped_by (ending_part at.entry.linked.now.program ending)) }
+{
+    if owns(at, state, object) {
+        let _left = leave(at, state, object);
+        drop_frame(at, state, ending);
+        return Ok(StepEnd::Done);
+    }
+    let error = BuiltInClass::IllegalMonitorStateException.number();
+    match leave_pending(at, state, error) {
+        Ok(()) => {
+            drop_frame(at, state, Ending::EndedBy(error));
+            Ok(StepEnd::Done)
+        }
+        Err(halt) => Err(halt),
+    }
+}
+
+// Drops the top frame, and leaves its monitor, if it entered one. With the last frame the thread ends by
+// the exception.
+fn drop_method<H: Heap>(at: At<'_>, state: &mut State<H>, ending: Ending) -> Result<StepEnd, Halt>
+    requires { OnFrames H.content at state.old × (is_running (ending_part at.linked.now.program ending) ≡ false) }
+    ensures { Does H.content at.entry state.old result state.new (dropped_by (ending_part at.entry.linked.now.program ending)) }
+{
+    if let Some(object) = monitor_on_top(&state.threads[at.index]) {
+        return drop_synchronized(at, state, object, ending);
+    }
+    drop_frame(at, state, ending);
+    Ok(StepEnd::Done)
+}
+
 /// Makes one stage of unwinding (JVMS 2.10, 3.12, 5.5). The first handler of the top frame's method
 /// that catches the exception goes on with it as the one operand; else the frame is dropped, and with
 /// the last one the thread ends by the exception's class. Where the frame is an initialization's, its
@@ -165,9 +208,6 @@ pub(crate) fn unwind_top<H: Heap>(
     }
     match target_on_top(at.linked, &state.threads[at.index], thrown) {
         Some(target) => handle(at, state, place, target),
-        None => {
-            drop_frame(at, state, ending);
-            Ok(StepEnd::Done)
-        }
+        None => drop_method(at, state, ending),
     }
 }

@@ -1,6 +1,6 @@
 -- The classes of a linked program.
 use Rattle.std.proofs.Common.{◌≡◌, ℕ, zero, suc, List, [], ◌∷◌, Option, Some, None, Bool, true, false, refl, sym, ap, ◌∙◌, subst}
-use Rattle.std.specs.Prelude.{slice_get, slice_set, codes, ◌&&◌, ◌||◌}
+use Rattle.std.specs.Prelude.{slice_get, slice_set, codes, ◌||◌}
 use Rattle.std.specs.Cmp.Lexicographic as texts
 use Rattle.jm_program.specs.Names.{same_text}
 use Rattle.jm_program.specs.declared.class.ClassParts.{ClassParts}

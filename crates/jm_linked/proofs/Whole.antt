@@ -1,7 +1,6 @@
 -- What holds of a program in which nothing comes later.
 use Rattle.std.proofs.Common.{◌≡◌, ℕ, zero, suc, List, [], ◌∷◌, Option, Some, None, Bool, true, false, ◌||◌, refl, sym, ap, ◌∙◌}
 use Rattle.std.specs.Prelude.{slice_get}
-use Rattle.jm_program.specs.Flags.{is_synchronized}
 use Rattle.jm_program.specs.Names.{is_init}
 use Rattle.jm_program.specs.declared.class.ClassParts.{ClassParts}
 use Rattle.jm_program.specs.declared.class.Method.{Method}
@@ -10,13 +9,9 @@ use Rattle.jm_program.specs.declared.instruction.operation.InvokeOp.TheVariants.
 use Rattle.jm_program.specs.declared.instruction.symbolic.Instr.{Instr}
 use Rattle.jm_program.specs.declared.instruction.symbolic.Instr.TheVariants as instr
 use Rattle.jm_program.specs.declared.reference.MethodRef.{MethodRef}
-use Rattle.jm_linked.specs.declared.instruction.LinkedInstr.{LinkedInstr}
-use Rattle.jm_linked.specs.declared.instruction.LinkedInstr.TheVariants as linked
-use Rattle.jm_linked.specs.Links.{LinksIn}
 use Rattle.jm_linked.specs.declared.later.LaterPart.{LaterPart}
 use Rattle.jm_linked.specs.declared.later.LaterPart.TheVariants as later
-use Rattle.jm_linked.specs.Later.{is_class_called, is_superclass_called, or_later, first_later, later_instruction, later_code}
-use Rattle.jm_linked.specs.Later.{later_use, later_in_code, later_superclass, later_method, later_class, later_part}
+use Rattle.jm_linked.specs.Later.{is_class_called, is_superclass_called, or_later, first_later, later_instruction, later_code, later_class, later_part}
 
 -- neither of two comes later
 pub neither_later : (a b : Option LaterPart) → or_later a b ≡ None → (a ≡ None) × (b ≡ None)
@@ -29,77 +24,23 @@ none_later look [] n x e at = cc
 none_later look (y ∷ ys) zero x e at = let same : x ≡ y = cc in ap look same ∙ (neither_later (look y) (first_later look ys) e).0
 none_later look (y ∷ ys) (suc n) x e at = none_later look ys n x (neither_later (look y) (first_later look ys) e).1 at
 
--- a class in which nothing comes later
-pub record IsWholeClass (c : ClassParts) : Type 0 where
-  pub superclass : later_superclass c.superclass ≡ None
-  pub methods : first_later later_method c.methods ≡ None
-  pub codes : first_later (λ m. later_code c m.code) c.methods ≡ None
-
-pub whole_class : (c : ClassParts) → later_class c ≡ None → IsWholeClass c
-whole_class c e =
-    let past_superclass = neither_later (later_superclass c.superclass) _ e in
-    let past_methods = neither_later (first_later later_method c.methods) _ past_superclass.1 in
-    record { superclass = past_superclass.0; methods = past_methods.0; codes = past_methods.1 }
-
--- each class of a program in which nothing comes later
-pub whole_class_at : (program : List ClassParts) (n : ℕ) (c : ClassParts) → later_part program ≡ None → slice_get program n ≡ Some c → IsWholeClass c
-unfolding later_part
-whole_class_at program n c e at = whole_class c (none_later later_class program n c e at)
-
--- each of its methods
-none_synchronized : (m : Method) → later_method m ≡ None → is_synchronized m.flags ≡ false
-none_synchronized m e = by (is_synchronized m.flags) refl e
-  where
-    by : (b : Bool) → is_synchronized m.flags ≡ b → (elim b as (λ _. Option LaterPart) [ true ↦ Some later.Synchronized | false ↦ None ]) ≡ None
-        → is_synchronized m.flags ≡ false
-    by true t g = cc
-    by false t g = t
-
-pub not_synchronized : (program : List ClassParts) (n k : ℕ) (c : ClassParts) (m : Method) → later_part program ≡ None
-    → slice_get program n ≡ Some c → slice_get c.methods k ≡ Some m → is_synchronized m.flags ≡ false
-not_synchronized program n k c m e class method =
-    let whole = whole_class_at program n c e class in none_synchronized m (none_later later_method c.methods k m whole.methods method)
-
 -- the code of a method of a class in which nothing comes later
 pub record IsWhole (c : ClassParts) (code : Code) : Type 0 where
-  pub instructions : first_later (later_in_code c) code.instructions ≡ None
+  pub instructions : first_later (later_instruction c) code.instructions ≡ None
 
 pub whole_method : (program : List ClassParts) (n k : ℕ) (c : ClassParts) (m : Method) (code : Code) → later_part program ≡ None
     → slice_get program n ≡ Some c → slice_get c.methods k ≡ Some m → m.code ≡ Some code → IsWhole c code
+unfolding later_part
 whole_method program n k c m code e class method is =
-    let whole = whole_class_at program n c e class in
-    let own : later_code c m.code ≡ None = none_later (λ (x : Method). later_code c x.code) c.methods k m whole.codes method in
+    let class_runs : later_class c ≡ None = none_later later_class program n c e class in
+    let own : later_code c m.code ≡ None = none_later (λ (x : Method). later_code c x.code) c.methods k m class_runs method in
     let whole_code : later_code c (Some code) ≡ None = sym (ap (later_code c) is) ∙ own in
     record { instructions = whole_code }
 
 -- its instructions are such as can be run
 pub instruction_runs : {c : ClassParts} {code : Code} → IsWhole c code → (n : ℕ) (i : Instr) → slice_get code.instructions n ≡ Some i
     → later_instruction c i ≡ None
-instruction_runs {c} {code} w n i at =
-    (neither_later (later_use i) (later_instruction c i) (none_later (later_in_code c) code.instructions n i w.instructions at)).1
-
--- the linked instructions that the machine can run
-abbrev pub RunsToday : LinkedInstr → Type 0
-RunsToday (linked.Monitor op) = ⊥
-RunsToday _ = Unit {0}
-
--- an instruction that does not come later
-pub runs_today : (program : List ClassParts) (c : ClassParts) (x : LinkedInstr) (i : Instr) → LinksIn program x i → later_instruction c i ≡ None
-    → RunsToday x
-runs_today program c (linked.Plain op) i h e = tt
-runs_today program c (linked.Int n) i h e = tt
-runs_today program c (linked.Long n) i h e = tt
-runs_today program c (linked.Literal n) i h e = tt
-runs_today program c (linked.Return op) i h e = tt
-runs_today program c (linked.Array op) i h e = tt
-runs_today program c linked.Throw i h e = tt
-runs_today program c (linked.Monitor op) i h e = let bad : Some (later.Monitor op) ≡ None = sym (ap (later_instruction c) h) ∙ e in cc
-runs_today program c linked.SystemOut i h e = tt
-runs_today program c (linked.Field op n) i h e = tt
-runs_today program c (linked.Print p) i h e = tt
-runs_today program c (linked.Invoke op n) i h e = tt
-runs_today program c (linked.New n) i h e = tt
-runs_today program c (linked.Type op t) i h e = tt
+instruction_runs {c} {code} w n i at = none_later (later_instruction c) code.instructions n i w.instructions at
 
 -- an invokespecial that does not come later: of a constructor, of the class itself or of its superclass
 pub special_is_near : (c : ClassParts) (m : MethodRef) → later_instruction c (instr.Invoke Special m) ≡ None

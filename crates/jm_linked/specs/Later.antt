@@ -1,7 +1,6 @@
 -- What the machine cannot run yet: the first such part of a program, by classes in order, in a class
--- its superclass, its methods, then the instructions of each method.
+-- by methods, in a method by instructions.
 use Rattle.std.specs.Prelude.{ℕ, List, [], ◌∷◌, Option, Some, None, Bool, true, false, ◌&&◌, ◌||◌, codes}
-use Rattle.jm_program.specs.Flags.{is_synchronized}
 use Rattle.jm_program.specs.Names.{same_text, is_init}
 use Rattle.jm_program.specs.declared.class.ClassParts.{ClassParts}
 use Rattle.jm_program.specs.declared.class.Method.{Method}
@@ -10,8 +9,7 @@ use Rattle.jm_program.specs.declared.descriptor.FieldType.{FieldType}
 use Rattle.jm_program.specs.declared.descriptor.MethodDescriptor.{MethodDescriptor}
 use Rattle.jm_program.specs.declared.descriptor.BaseType.{BaseType}
 use Rattle.jm_program.specs.declared.descriptor.BaseType.TheVariants as base
-use Rattle.jm_program.specs.declared.descriptor.ElementType.{ElementType}
-use Rattle.jm_program.specs.declared.descriptor.ElementType.TheVariants.{Base, Class}
+use Rattle.jm_program.specs.declared.descriptor.ElementType.TheVariants.{Base}
 use Rattle.jm_program.specs.declared.instruction.operation.InvokeOp.{InvokeOp}
 use Rattle.jm_program.specs.declared.instruction.operation.InvokeOp.TheVariants.{Special}
 use Rattle.jm_program.specs.declared.instruction.symbolic.Instr.{Instr}
@@ -21,7 +19,7 @@ use Rattle.jm_program.specs.declared.reference.ClassRef.TheVariants as named
 use Rattle.jm_program.specs.declared.reference.FieldRef.{FieldRef}
 use Rattle.jm_program.specs.declared.reference.MethodRef.{MethodRef}
 use Rattle.jm_world.specs.Types.{class_type, same_type, same_method_type}
-use Rattle.jm_world.specs.Classes.{system_class, print_stream_class, string_class, thread_class}
+use Rattle.jm_world.specs.Classes.{system_class, print_stream_class, string_class}
 use Rattle.jm_world.specs.Loading.{main_type}
 use Rattle.jm_linked.specs.declared.instruction.Printed.{Printed}
 use Rattle.jm_linked.specs.declared.instruction.Printed.TheVariants.{Int, Long, Char, String}
@@ -93,37 +91,12 @@ later_instruction c (instr.Plain op) = None
 later_instruction c (instr.Array op) = None
 later_instruction c (instr.Return op) = None
 later_instruction c instr.Throw = None
-later_instruction c (instr.Monitor op) = Some (later.Monitor op)
+later_instruction c (instr.Monitor op) = None
 later_instruction c (instr.Constant value) = None
 later_instruction c (instr.Field op f) = None
 later_instruction c (instr.Invoke op m) = later_invoke c op m
 later_instruction c (instr.New name) = None
 later_instruction c (instr.Type op t) = None
-
--- a use of a class whose objects are threads, or that starting one throws, by its name
-abbrev pub illegal_thread_state_class : List ℕ
-illegal_thread_state_class = codes "java/lang/IllegalThreadStateException"
-
-abbrev pub later_name : List ℕ → Option LaterPart
-later_name name = elim (same_text name thread_class) [
-  | true ↦ Some later.Thread
-  | false ↦ elim (same_text name illegal_thread_state_class) [ true ↦ Some later.IllegalThreadState | false ↦ None ]
-]
-
-abbrev pub later_element : ElementType → Option LaterPart
-later_element (Base b) = None
-later_element (Class name) = later_name name
-
-abbrev pub later_class_ref : ClassRef → Option LaterPart
-later_class_ref (named.Class name) = later_name name
-later_class_ref (named.Array t) = later_element t.element
-
-abbrev pub later_use : Instr → Option LaterPart
-later_use (instr.Field op f) = later_class_ref f.class
-later_use (instr.Invoke op m) = later_class_ref m.class
-later_use (instr.New name) = later_name name
-later_use (instr.Type op t) = later_class_ref t
-later_use _ = None
 
 -- the first part, or else the second
 abbrev pub or_later : Option LaterPart → Option LaterPart → Option LaterPart
@@ -134,32 +107,17 @@ abbrev pub first_later : {A : Type 0} → (A → Option LaterPart) → List A �
 first_later look [] = None
 first_later look (x ∷ xs) = or_later (look x) (first_later look xs)
 
--- an instruction of the class that names such a class, or that cannot be run yet
-abbrev pub later_in_code : ClassParts → Instr → Option LaterPart
-later_in_code c i = or_later (later_use i) (later_instruction c i)
-
+-- an instruction of a method's code
 abbrev pub later_code : ClassParts → Option Code → Option LaterPart
 later_code c None = None
-later_code c (Some code) = first_later (later_in_code c) code.instructions
+later_code c (Some code) = first_later (later_instruction c) code.instructions
 
 -- main, by its name and type
 abbrev pub is_main_method : Method → Bool
 is_main_method m = same_text m.name (codes "main") && same_method_type m.descriptor main_type
 
--- the superclass: any but such a class
-abbrev pub later_superclass : Option (List ℕ) → Option LaterPart
-later_superclass None = None
-later_superclass (Some name) = later_name name
-
--- a method that is synchronized (JVMS 2.11.10)
-abbrev pub later_method : Method → Option LaterPart
-later_method m = elim (is_synchronized m.flags) [ true ↦ Some later.Synchronized | false ↦ None ]
-
 abbrev pub later_class : ClassParts → Option LaterPart
-later_class c =
-    or_later (later_superclass c.superclass)
-    (or_later (first_later later_method c.methods)
-    (first_later (λ m. later_code c m.code) c.methods))
+later_class c = first_later (λ m. later_code c m.code) c.methods
 
 -- the first part of a program that cannot be run yet
 unfoldable pub later_part : List ClassParts → Option LaterPart

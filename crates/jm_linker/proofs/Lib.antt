@@ -4,7 +4,6 @@ pub mod Seen
 pub mod KeyLaws
 pub mod TableLaws
 pub mod ClassLaws
-pub mod LaterLaws
 pub mod WalkLaws
 pub mod FoundLaws
 pub mod CycleLaws

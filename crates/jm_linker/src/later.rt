@@ -2,12 +2,9 @@
 
 ghost use Rattle.std.specs.Prelude.{◌≡◌, [], ◌∷◌, None, Some, false};
 ghost use Rattle.jm_linked.specs.Later.{is_class_called, is_system_out, base_type, printed_type, print_name, print_parameters, is_print, print_among};
-ghost use Rattle.jm_linked.specs.Later.{print_methods, is_superclass_called, later_special, later_invoke, later_instruction, later_name, later_element};
-ghost use Rattle.jm_linked.specs.Later.{later_class_ref, later_use, later_in_code, first_later, later_code, is_main_method};
-ghost use Rattle.jm_linked.specs.Later.{later_superclass, later_method};
-ghost use Rattle.jm_linked.specs.Later.{later_class, later_part};
+ghost use Rattle.jm_linked.specs.Later.{print_methods, is_superclass_called, later_special, later_invoke, later_instruction, first_later, later_code};
+ghost use Rattle.jm_linked.specs.Later.{is_main_method, later_class, later_part};
 ghost use Rattle.jm_program.specs.Names.{same_text};
-ghost use Rattle.jm_program.specs.declared.class.Method.{Method};
 ghost use Rattle.jm_world.specs.Loading.{strings_type};
 ghost use Rattle.jm_world.specs.Classes.{system_class, print_stream_class, string_class};
 ghost use Rattle.jm_world.specs.Types.{class_type, same_type, same_types, same_result};
@@ -16,8 +13,8 @@ use crate::name::{is_print_stream, is_system};
 use crate::types::letter;
 use jm_linked::{LaterPart, PrintMethod, Printed};
 use jm_program::{
-    AccessFlags, BaseType, Class, ClassParts, ClassRef, Code, ElementType, FieldRef, FieldType,
-    Instr, InvokeOp, Method, MethodDescriptor, MethodRef, Name,
+    BaseType, Class, ClassParts, ClassRef, Code, ElementType, FieldRef, FieldType, Instr, InvokeOp,
+    Method, MethodDescriptor, MethodRef, Name,
 };
 
 fn is_system_ref(class: &ClassRef) -> bool
@@ -217,62 +214,15 @@ fn later_instruction(class: &ClassParts, instruction: &Instr) -> Option<LaterPar
     match instruction {
         Instr::Plain(_) | Instr::Return(_) | Instr::Constant(_) => None,
         Instr::Array(_) | Instr::Field(_, _) | Instr::New(_) | Instr::Type(_, _) => None,
-        Instr::Throw => None,
-        Instr::Monitor(op) => Some(LaterPart::Monitor(*op)),
+        Instr::Throw | Instr::Monitor(_) => None,
         Instr::Invoke(op, method) => later_invoke(class, *op, method.get()),
     }
 }
 
-/// Whether it is java/lang/Thread, or the exception that starting one throws.
-fn later_name(name: &Name) -> Option<LaterPart>
-    ensures { result ≡ later_name name.now }
-{
-    if name.is_text(b"java/lang/Thread") {
-        Some(LaterPart::Thread)
-    } else if name.is_text(b"java/lang/IllegalThreadStateException") {
-        Some(LaterPart::IllegalThreadState)
-    } else {
-        None
-    }
-}
-
-fn later_element(element: &ElementType) -> Option<LaterPart>
-    ensures { result ≡ later_element element.now }
-{
-    match element {
-        ElementType::Base(_) => None,
-        ElementType::Class(name) => later_name(name),
-    }
-}
-
-fn later_class_ref(class: &ClassRef) -> Option<LaterPart>
-    ensures { result ≡ later_class_ref class.now }
-{
-    match class {
-        ClassRef::Class(name) => later_name(name),
-        ClassRef::Array(array) => later_element(&array.element),
-    }
-}
-
-fn later_use(instruction: &Instr) -> Option<LaterPart>
-    ensures { result ≡ later_use instruction.now }
-{
-    match instruction {
-        Instr::Field(_, field) => later_class_ref(&field.get().class),
-        Instr::Invoke(_, method) => later_class_ref(&method.get().class),
-        Instr::New(name) => later_name(name.get()),
-        Instr::Type(_, class) => later_class_ref(class.get()),
-        _ => None,
-    }
-}
-
 fn later_in_instructions(class: &ClassParts, instructions: &[Instr]) -> Option<LaterPart>
-    ensures { result ≡ first_later (later_in_code class.now) instructions.now }
+    ensures { result ≡ first_later (later_instruction class.now) instructions.now }
 {
     for instruction in instructions {
-        if let Some(part) = later_use(instruction) {
-            return Some(part);
-        }
         if let Some(part) = later_instruction(class, instruction) {
             return Some(part);
         }
@@ -315,57 +265,16 @@ pub fn is_main_method(method: &Method) -> bool
         && returns_nothing(&method.descriptor)
 }
 
-fn later_superclass(superclass: &Option<Name>) -> Option<LaterPart>
-    ensures { result ≡ later_superclass superclass.now }
+fn later_in_class(class: &ClassParts) -> Option<LaterPart>
+    ensures { result ≡ later_class class.now }
 {
-    match superclass {
-        None => None,
-        Some(name) => later_name(name),
-    }
-}
-
-fn later_method(method: &Method) -> Option<LaterPart>
-    ensures { result ≡ later_method method.now }
-{
-    if method.flags.has(AccessFlags::SYNCHRONIZED) {
-        Some(LaterPart::Synchronized)
-    } else {
-        None
-    }
-}
-
-fn later_in_methods(methods: &[Method]) -> Option<LaterPart>
-    ensures { result ≡ first_later later_method methods.now }
-{
-    for method in methods {
-        if let Some(part) = later_method(method) {
-            return Some(part);
-        }
-    }
-    None
-}
-
-fn later_in_codes(class: &ClassParts, methods: &[Method]) -> Option<LaterPart>
-    ensures { result ≡ first_later (λ (m : Method). later_code class.now m.code) methods.now }
-{
+    let methods = class.methods.as_slice();
     for method in methods {
         if let Some(part) = later_in_code(class, &method.code) {
             return Some(part);
         }
     }
     None
-}
-
-fn later_in_class(class: &ClassParts) -> Option<LaterPart>
-    ensures { result ≡ later_class class.now }
-{
-    if let Some(part) = later_superclass(&class.superclass) {
-        return Some(part);
-    }
-    if let Some(part) = later_in_methods(class.methods.as_slice()) {
-        return Some(part);
-    }
-    later_in_codes(class, class.methods.as_slice())
 }
 
 /// The first part of a program that cannot be run yet.

@@ -12,10 +12,12 @@ use Rattle.jm_world.specs.Frames.{rename_frame, optional_number_shape}
 use Rattle.jm_world.specs.Matches.{Matches, as_named}
 use Rattle.jm_world.specs.Monitors.{monitor_in}
 use Rattle.jm_world.specs.Renaming.{rename_thread, monitor_shape}
-use Rattle.jm_world.specs.World.{World, thread_at, object_at, reach}
+use Rattle.jm_world.specs.World.{World, Monitor, thread_at, object_at, reach}
 use Rattle.jm_world.proofs.Reaching.{reach_is_least}
 use Rattle.jm_heap.specs.declared.class_id.ClassId.{ClassId}
 use Rattle.jm_linked.specs.Links.{LinkedView}
+use Rattle.jm_monitors.specs.HeldMonitors.{HeldMonitor, held_in, monitor_of, monitors_of}
+use Rattle.jm_monitors.proofs.InTheModel.{held_is_monitor}
 use Rattle.jm_state.specs.Parts.{parts, monitor_part, frame_part, thread_part, named_type}
 use Rattle.jm_state.specs.Places.{HeldThread, stack_frame_shape, live_object, held_thread, held_thread_shape, places_of}
 use Rattle.jm_state.specs.Runnable.{IsRunnable, ThreadRuns, FrameRuns}
@@ -59,6 +61,16 @@ thread_places_among : (ts : List held.Thread) (n : ℕ) (t : held.Thread) (p : �
 thread_places_among ts zero t p e a = cc
 thread_places_among ts (suc n) t p e a = among_element held_thread_shape (map held_thread ts) n (held_thread t) p (slice_get-map held_thread ts n ∙ ap (option_map held_thread) e) a
 
+-- held monitors whose objects have the serials as names are the model's
+same_monitors : (f : ℕ → ℕ) (hs : List HeldMonitor)
+    → map (λ (h : HeldMonitor). h.serial) hs ≡ map (λ (x : Monitor). x.object) ((list_shape monitor_shape).rename f (map monitor_part hs))
+    → monitors_of hs ≡ (list_shape monitor_shape).rename f (map monitor_part hs)
+same_monitors f [] e = refl
+same_monitors f (h ∷ hs) e =
+    let first : h.serial ≡ f h.place = cc in
+    let rest : map (λ (x : HeldMonitor). x.serial) hs ≡ map (λ (x : Monitor). x.object) ((list_shape monitor_shape).rename f (map monitor_part hs)) = cc in
+    λ i. record { object = first i; owner = h.owner; count = h.count } ∷ same_monitors f hs rest i
+
 module _ (l : LinkedView) (c : Content ClassId) (v : StateView) (w : World) (m : Matches (parts l c v) w) where
   frames_read : (n depth : ℕ) → frame_at (thread_at w n) depth ≡ option_map (rename_frame (name_of c)) (option_map (frame_part l) (frame_numbered v.threads n depth))
   frames_read n depth = ap (λ u. frame_at u depth) (thread_is l c v w m n) ∙ by (thread_numbered v.threads n)
@@ -86,9 +98,14 @@ module _ (l : LinkedView) (c : Content ClassId) (v : StateView) (w : World) (m :
   unfolding parts
   statics_read = m.statics
 
-  pub monitors_read : v.monitors ≡ [] → (k : ℕ) → None ≡ monitor_in w.monitors k
+  monitors_are : monitors_of v.monitors ≡ w.monitors
   unfolding parts
-  monitors_read none k = ap (λ ms. monitor_in ((list_shape monitor_shape).rename (name_of c) (map monitor_part ms)) k) (sym none) ∙ ap (λ ms. monitor_in ms k) m.monitors
+  monitors_are =
+      same_monitors (name_of c) v.monitors (m.monitor_serials ∙ ap (map (λ (x : Monitor). x.object)) (sym m.monitors)) ∙ m.monitors
+
+  -- the monitor of the object of a number
+  pub monitor_read : (k : ℕ) (o : Option HeldMonitor) → o ≡ held_in v.monitors k → option_map monitor_of o ≡ monitor_in w.monitors k
+  monitor_read k o e = ap (option_map monitor_of) e ∙ sym (held_is_monitor v.monitors k) ∙ ap (λ ms. monitor_in ms k) monitors_are
 
   pub is_sound : IsSound c
   unfolding parts

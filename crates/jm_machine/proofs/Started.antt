@@ -1,7 +1,7 @@
 -- The state from which a run begins is that of the loaded world.
 use Rattle.std.proofs.Common.{◌≡◌, ℕ, zero, suc, ◌+◌, ◌-◌, List, [], ◌∷◌, ◌++◌, Some, None, true, false, refl, sym, ap, ◌∙◌, subst, length}
 use Rattle.std.proofs.Common.{replicate, arith}
-use Rattle.std.specs.Prelude.{map, slice_get, reverse}
+use Rattle.std.specs.Prelude.{map, slice_get, reverse, ◌||◌}
 use Rattle.std.proofs.lemmas.List.{length-replicate}
 use Rattle.std.proofs.lemmas.Option.{slice_get_within}
 use Rattle.jm_program.specs.declared.class.ClassParts.{ClassParts}
@@ -9,6 +9,7 @@ use Rattle.jm_program.specs.declared.class.Method.{Method}
 use Rattle.jm_values.specs.Shape.{list_shape}
 use Rattle.jm_values.specs.Rename.{locals_shape, rename_activation}
 use Rattle.jm_values.specs.declared.value.Value.TheVariants.{Ref}
+use Rattle.jm_world.specs.BuiltInMethods.{is_object_of}
 use Rattle.jm_world.specs.Classes.{name_of_method, MethodName, method_named}
 use Rattle.jm_world.specs.Frames.{Frame, method_frame, initialization_frame, rename_frame}
 use Rattle.jm_world.specs.World.{running, is_running, refs_thread}
@@ -29,7 +30,7 @@ use Rattle.jm_linked.specs.Named.{named_statics, named_literals, named_states}
 use Rattle.jm_state.specs.Parts.{parts, thread_part, part_of_held, program_class_name, name_in_program, ending_part, frame_part}
 use Rattle.jm_state.specs.Places.{held_thread}
 use Rattle.jm_state.specs.View.{StateView}
-use Rattle.jm_state.specs.Runnable.{IsRunnable, ThreadRuns, ThreadNotYet}
+use Rattle.jm_state.specs.Runnable.{IsRunnable, ThreadRuns}
 use Rattle.jm_state.specs.declared.thread.Thread as held
 use Rattle.jm_state.specs.declared.thread.Ending.TheVariants.{Running}
 use Rattle.jm_machine.specs.Start.{first_frames}
@@ -103,6 +104,7 @@ module _ (l : LinkedView) (linked : IsLinked l) where
 abbrev pub first_view : List ClassParts → ℕ → held.Thread → List ClassState → List ℕ → StateView
 first_view program out t states strings = record {
   threads = t ∷ [];
+  started = [];
   live = 1;
   statics = Ref out ∷ static_values program;
   classes = states;
@@ -115,14 +117,16 @@ first_view program out t states strings = record {
 -- main's thread, with these frames and nothing else
 pub record IsFirst (l : LinkedView) (t : held.Thread) (array : ℕ) : Type 0 where
   pub object : t.object ≡ None
+  pub serial : t.serial ≡ None
   pub frames : (m : LinkedMethod) → slice_get l.methods l.main ≡ Some m → t.frames.items ≡ first_frames l.main m array
   pub pending : t.pending ≡ None
   pub ending : t.ending ≡ Running
 
 module _ (l : LinkedView) (i : IsLinked l) (none_later : later_part l.program ≡ None) (out array : ℕ) (t : held.Thread) (h : IsFirst l t array)
     (strings : List ℕ) (count : length strings ≡ length (literal_texts l.program)) where
-  first_held : held_thread t ≡ record { object = None; frames = reverse (first_frames l.main i.main array); pending = None; ending = Running }
-  first_held = λ j. record { object = h.object j; frames = reverse (h.frames i.main i.main_is j); pending = h.pending j; ending = h.ending j }
+  first_held : held_thread t ≡ record { object = None; serial = None; frames = reverse (first_frames l.main i.main array); pending = None; ending = Running }
+  first_held =
+      λ j. record { object = h.object j; serial = h.serial j; frames = reverse (h.frames i.main i.main_is j); pending = h.pending j; ending = h.ending j }
 
   thread_is : (f : ℕ → ℕ) → f array ≡ 1 → rename_thread f (thread_part l t) ≡ first_thread (main_in l.program)
   thread_is f e =
@@ -156,6 +160,8 @@ module _ (l : LinkedView) (i : IsLinked l) (none_later : later_part l.program �
     threads = ap (λ x. x ∷ []) (thread_is (name_of c) (array_named c (literal_texts l.program) out array strings first));
     statics = first_named l.program out (name_of c) (out_named c (literal_texts l.program) out array strings first);
     monitors = refl;
+    monitor_serials = refl;
+    thread_serials = ap (λ o. o ∷ []) h.serial;
     literals = literals_are c (literal_texts l.program) out array strings first;
     program = refl;
     classes = ap (named_states l.program) states_is ∙ states_are l.program;
@@ -177,14 +183,8 @@ module _ (l : LinkedView) (i : IsLinked l) (none_later : later_part l.program �
     statics = first_length l.program out;
     literals = count;
     classes = ap length states_is ∙ length-replicate (length l.program) NotBegun;
-    not_yet = record {
-      program = none_later;
-      threads = (
-        subst (ThreadNotYet l) (sym first_held) (record { object = refl; frames = (tt, (refl, tt)) }),
-        tt,
-      );
-      monitors = refl;
-    };
+    started = λ k. ap (λ o. is_object_of k o || false) (sym h.serial);
+    program = none_later;
   }
 
   -- so the state does that is seen so

@@ -15,11 +15,12 @@ use crate::static_fields::first_values;
 use jm_frames::Frame;
 use jm_heap::Heap;
 use jm_linked::Linked;
-use jm_monitors::InitStates;
+use jm_monitors::{InitStates, Monitors};
 use jm_state::{Ending, StackFrame, State, Thread};
 use jm_values::{Place, Value};
 use jm_world::Stage;
 use std::alloc::{AllocError, Global};
+use std::collections::BTreeSet;
 
 // Main's frame, whose one argument is its first local variable, and above it the initialization of
 // its class.
@@ -74,6 +75,7 @@ pub(crate) fn make_first_state<H: Heap + Drop>(
     let mut threads = Vec::with_capacity(alloc, 1)?;
     threads.push_reserved(Thread {
         object: None,
+        serial: None,
         frames,
         pending: None,
         ending: Ending::Running,
@@ -88,7 +90,8 @@ pub(crate) fn make_first_state<H: Heap + Drop>(
         statics,
         classes,
         literals,
-        monitors: Vec::new(alloc),
+        started: BTreeSet::new(alloc),
+        monitors: Monitors::new(alloc),
         output: Vec::new(alloc),
         stop: None,
     })

@@ -242,12 +242,17 @@ impl<H: Heap> Machine<H> {
         }
     }
 
-    /// The monitor of the object of a number, if a thread holds it (JVMS 2.11.10). A linked program
-    /// has no instruction that enters one, so none is held.
-    pub fn monitor(&self, _number: u64) -> Option<WorldMonitor>
-        ensures { (w : World) → MatchesWorld self.now w → option_map model_monitor result ≡ monitor_in w.monitors _number }
+    /// The monitor of the object of a number, if a thread holds it (JVMS 2.11.10).
+    pub fn monitor(&self, number: u64) -> Option<WorldMonitor>
+        ensures { (w : World) → MatchesWorld self.now w → option_map model_monitor result ≡ monitor_in w.monitors number }
     {
-        let _ = &self.state;
-        None
+        match self.state.monitors.get(number) {
+            Some(held) => Some(WorldMonitor {
+                object: number,
+                owner: held.owner,
+                count: held.count,
+            }),
+            None => None,
+        }
     }
 }

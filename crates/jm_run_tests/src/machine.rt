@@ -3,3 +3,4 @@
 mod journals;
 mod readers;
 mod runs;
+mod threads;

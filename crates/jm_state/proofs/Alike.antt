@@ -18,10 +18,10 @@ use Rattle.jm_heap.specs.declared.class_id.ClassId.{ClassId}
 use Rattle.jm_linked.specs.Links.{LinkedView}
 use Rattle.jm_linked.specs.Named.{named_statics, named_literals}
 use Rattle.jm_state.specs.Parts.{frame_part, ending_part, part_of_held, thread_part, monitor_part, parts}
-use Rattle.jm_state.specs.Places.{stack_frame_shape, HeldThread, held_thread, held_thread_shape, held_monitor_shape, Holders, holders, holders_shape, places_of}
+use Rattle.jm_state.specs.Places.{stack_frame_shape, HeldThread, held_thread, held_thread_shape, Holders, holders, holders_shape, places_of}
 use Rattle.jm_state.specs.Runnable.{IsRunnable}
 use Rattle.jm_state.specs.View.{StateView}
-use Rattle.jm_state.specs.declared.monitor.Monitor.{Monitor}
+use Rattle.jm_monitors.specs.HeldMonitors.{HeldMonitor, held_shape as held_monitor_shape}
 use Rattle.jm_state.specs.declared.thread.Ending.{Ending}
 use Rattle.jm_state.specs.declared.thread.Ending.TheVariants.{Running, Returned, EndedBy}
 use Rattle.jm_state.specs.declared.thread.StackFrame.{StackFrame}
@@ -39,21 +39,21 @@ held_alike : (l : LinkedView) (p : Option ℕ) (fs : List StackFrame)
 held_alike l p fs = pair_alike (same_alike optional_number_shape p) (list_alike (frame_alike l) fs)
 
 thread_alike : (l : LinkedView) (t : HeldThread) → Alike held_thread_shape thread_shape (part_of_held l) t
-thread_alike l t = by t.object t.frames t.pending t.ending
+thread_alike l t = by t.object t.serial t.frames t.pending t.ending
   where
     with_held : Option ℕ → Ending → Option ℕ × List Frame → world.Thread
-    with_held o e x = record { object = o; frames = x.1; pending = x.0; ending = ending_part l.program e }
+    with_held n e x = record { object = n; frames = x.1; pending = x.0; ending = ending_part l.program e }
 
     running_with : Option ℕ × (Option ℕ × List Frame) → world.Thread
     running_with x = record { object = x.0; frames = x.1.1; pending = x.1.0; ending = world.running }
 
-    by : (o : Option ℕ) (fs : List StackFrame) (p : Option ℕ) (e : Ending)
-        → Alike held_thread_shape thread_shape (part_of_held l) (record { object = o; frames = fs; pending = p; ending = e })
-    by o fs p Running =
+    by : (o n : Option ℕ) (fs : List StackFrame) (p : Option ℕ) (e : Ending)
+        → Alike held_thread_shape thread_shape (part_of_held l) (record { object = o; serial = n; frames = fs; pending = p; ending = e })
+    by o n fs p Running =
         let a = pair_alike (same_alike optional_number_shape o) (held_alike l p fs) in
         record { refs = a.refs; refill = λ ns. ap running_with (a.refill ns) }
-    by o fs p Returned = let a = held_alike l p fs in record { refs = a.refs; refill = λ ns. ap (with_held o Returned) (a.refill ns) }
-    by o fs p (EndedBy n) = let a = held_alike l p fs in record { refs = a.refs; refill = λ ns. ap (with_held o (EndedBy n)) (a.refill ns) }
+    by o n fs p Returned = let a = held_alike l p fs in record { refs = a.refs; refill = λ ns. ap (with_held n Returned) (a.refill ns) }
+    by o n fs p (EndedBy c) = let a = held_alike l p fs in record { refs = a.refs; refill = λ ns. ap (with_held n (EndedBy c)) (a.refill ns) }
 
 statics_refs : (ss : List world.Static) (vs : List Value) → length vs ≡ length ss → (list_shape static_shape).refs (named_statics ss vs) ≡ stack_shape.refs vs
 statics_refs [] [] e = refl
@@ -87,7 +87,7 @@ literals_refill (t ∷ ts) ns (p ∷ ps) = ap (λ l. record { units = t; string 
 literals_alike : (ts : List (List ℕ)) (ps : List ℕ) → length ps ≡ length ts → Alike (list_shape number_shape) (list_shape literal_shape) (named_literals ts) ps
 literals_alike ts ps e = record { refs = literals_refs ts ps e; refill = λ ns. literals_refill ts ns ps }
 
-monitor_alike : (m : Monitor) → Alike held_monitor_shape monitor_shape monitor_part m
+monitor_alike : (m : HeldMonitor) → Alike held_monitor_shape monitor_shape monitor_part m
 monitor_alike m = record { refs = refl; refill = λ ns. refl }
 
 pub threads_seen : (l : LinkedView) (ts : List Thread) → map (thread_part l) ts ≡ map (part_of_held l) (map held_thread ts)

@@ -33,6 +33,7 @@ use Rattle.jm_state.specs.Places.{IsPutBack, places_of}
 use Rattle.jm_state.specs.Reached.{AreReachable, FindsReachable, LeavesReachable}
 use Rattle.jm_state.specs.Runnable.{IsRunnable}
 use Rattle.jm_state.specs.View.{StateView}
+use Rattle.jm_state.proofs.Runs.{serials_alike, monitors_alike}
 use Rattle.jm_state.proofs.Alike.{places_are, held_put}
 
 -- a heap counts an object's cells as the world does
@@ -107,6 +108,8 @@ module _ {l : LinkedView} {c : Content ClassId} {s : StateView} {roots : List �
         program = refl;
         named = refl;
         classes = ap (named_states l.program) back.moved.classes;
+        monitor_serials = monitors_alike back.moved;
+        thread_serials = serials_alike back.moved;
         output = back.moved.output;
         stop = back.moved.stop;
       }
@@ -160,13 +163,13 @@ module _ (l : LinkedView) (c : Content ClassId) (s : StateView) {w : World} (h :
   made_here {d} {place} here =
       let made = here.made (places (parts l c s)) h.resident in
       let names = subst (λ r. map (name_of d) r ≡ map (name_of c) r) (places_held (parts l c s)) made.kept.names in
-      made_ends h (record { held = same_renamed c d (held_of (parts l c s)) names; program = refl; named = refl; classes = refl; output = refl; stop = refl })
+      made_ends h (record { held = same_renamed c d (held_of (parts l c s)) names; program = refl; named = refl; classes = refl; monitor_serials = refl; thread_serials = refl; output = refl; stop = refl })
       (sizes_alike l.program) o place made
 
   pub refused_here : (why : HeapFault) → IsRefusedHere c o why → MadeOrNot (Err (halt_from why)) (parts l c s) w (as_named (named_type l.program) o)
   unfolding parts
   refused_here why refused =
-      refused_ends h (record { held = refl; program = refl; named = refl; classes = refl; output = refl; stop = refl })
+      refused_ends h (record { held = refl; program = refl; named = refl; classes = refl; monitor_serials = refl; thread_serials = refl; output = refl; stop = refl })
       (sizes_alike l.program) o why h (is_refused why refused)
     where
       is_refused : (why : HeapFault) → IsRefusedHere c o why → IsRefused c (places (parts l c s)) o why

@@ -1,6 +1,6 @@
 -- What keeps to the rules of a run depends on no reference.
 use Rattle.std.proofs.Common.{◌≡◌, ℕ, ◌+◌, ◌≤◌, ◌∷◌, List, [], Option, Some, None, true, false, length, refl, sym, ap, ◌∙◌, subst}
-use Rattle.std.specs.Prelude.{◌↔◌, map, option_map}
+use Rattle.std.specs.Prelude.{◌↔◌, map}
 use Rattle.std.specs.List.{AllByRecursion}
 use Rattle.std.proofs.lemmas.List.{length-map}
 use Rattle.jm_values.specs.Shape.{list_shape, pair_shape}
@@ -12,15 +12,16 @@ use Rattle.jm_world.specs.World.{live_among, is_running}
 use Rattle.jm_world.specs.declared.stop.Stop.{Stop}
 use Rattle.jm_linked.specs.Links.{LinkedView}
 use Rattle.jm_state.specs.Parts.{part_of_held, ending_part}
-use Rattle.jm_state.specs.Places.{with_method_holders, stack_frame_shape, rename_stack_frame, HeldThread, held_thread, held_thread_shape, held_monitor_shape}
+use Rattle.jm_state.specs.Places.{with_method_holders, stack_frame_shape, rename_stack_frame, HeldThread, held_thread, held_thread_shape}
 use Rattle.jm_state.specs.Places.{with_thread_holders, Holders, holders, holders_shape, erased, OnlyMoved, IsPutBack}
-use Rattle.jm_state.specs.Runnable.{FrameRuns, FrameNotYet, ThreadRuns, ThreadNotYet, IsRunnable}
+use Rattle.jm_state.specs.Runnable.{FrameRuns, ThreadRuns, IsRunnable, is_among, is_started}
 use Rattle.jm_state.specs.View.{StateView}
-use Rattle.jm_state.specs.declared.monitor.Monitor.{Monitor}
+use Rattle.jm_monitors.specs.HeldMonitors.{HeldMonitor, held_shape}
 use Rattle.jm_state.specs.declared.thread.Ending.{Ending}
 use Rattle.jm_state.specs.declared.thread.Ending.TheVariants.{Running, Returned, EndedBy}
 use Rattle.jm_state.specs.declared.thread.StackFrame.{StackFrame}
 use Rattle.jm_state.specs.declared.thread.StackFrame.TheVariants.{Method, Initialization, Entry}
+use Rattle.jm_state.specs.declared.thread.Thread.{Thread}
 use Rattle.jm_state.proofs.Alike.{threads_seen}
 
 number_leaves : Leaves number_shape
@@ -38,28 +39,29 @@ frame_leaves ns (Initialization class stage) = refl
 frame_leaves ns Entry = refl
 
 thread_leaves : Leaves held_thread_shape
-thread_leaves ns t = by t.object t.frames t.pending t.ending
+thread_leaves ns t = by t.object t.serial t.frames t.pending t.ending
   where
     leaves : Leaves (pair_shape optional_number_shape (pair_shape optional_number_shape (list_shape stack_frame_shape)))
     leaves =
         pair_leaves optional_number_shape (pair_shape optional_number_shape (list_shape stack_frame_shape)) optional_leaves
         (pair_leaves optional_number_shape (list_shape stack_frame_shape) optional_leaves (list_leaves stack_frame_shape frame_leaves))
 
-    by : (o : Option ℕ) (fs : List StackFrame) (p : Option ℕ) (e : Ending) → let t : HeldThread = record { object = o; frames = fs; pending = p; ending = e } in
+    by : (o k : Option ℕ) (fs : List StackFrame) (p : Option ℕ) (e : Ending)
+        → let t : HeldThread = record { object = o; serial = k; frames = fs; pending = p; ending = e } in
         held_thread_shape.rename (λ q. 0) (held_thread_shape.refill ns t) ≡ held_thread_shape.rename (λ q. 0) t
-    by o fs p Running = ap (λ x. with_thread_holders x (record { object = o; frames = fs; pending = p; ending = Running })) (leaves ns (o, (p, fs)))
-    by o fs p Returned = ap (λ x. with_thread_holders x (record { object = o; frames = fs; pending = p; ending = Returned })) (leaves ns (None, (p, fs)))
-    by o fs p (EndedBy n) = ap (λ x. with_thread_holders x (record { object = o; frames = fs; pending = p; ending = EndedBy n })) (leaves ns (None, (p, fs)))
+    by o k fs p Running = ap (λ x. with_thread_holders x (record { object = o; serial = k; frames = fs; pending = p; ending = Running })) (leaves ns (o, (p, fs)))
+    by o k fs p Returned = ap (λ x. with_thread_holders x (record { object = o; serial = k; frames = fs; pending = p; ending = Returned })) (leaves ns (None, (p, fs)))
+    by o k fs p (EndedBy n) = ap (λ x. with_thread_holders x (record { object = o; serial = k; frames = fs; pending = p; ending = EndedBy n })) (leaves ns (None, (p, fs)))
 
-monitor_leaves : Leaves held_monitor_shape
+monitor_leaves : Leaves held_shape
 monitor_leaves ns m = refl
 
 holders_leave : Leaves holders_shape
 holders_leave =
-    pair_leaves (list_shape held_thread_shape) (pair_shape stack_shape (pair_shape (list_shape held_monitor_shape) (list_shape number_shape)))
+    pair_leaves (list_shape held_thread_shape) (pair_shape stack_shape (pair_shape (list_shape held_shape) (list_shape number_shape)))
     (list_leaves held_thread_shape thread_leaves)
-    (pair_leaves stack_shape (pair_shape (list_shape held_monitor_shape) (list_shape number_shape)) (list_leaves value_shape value_leaves)
-    (pair_leaves (list_shape held_monitor_shape) (list_shape number_shape) (list_leaves held_monitor_shape monitor_leaves)
+    (pair_leaves stack_shape (pair_shape (list_shape held_shape) (list_shape number_shape)) (list_leaves value_shape value_leaves)
+    (pair_leaves (list_shape held_shape) (list_shape number_shape) (list_leaves held_shape monitor_leaves)
     (list_leaves number_shape number_leaves)))
 
 -- what other places were put into differs in them alone
@@ -72,27 +74,10 @@ erase = held_thread_shape.rename (λ p. 0)
 abbrev erased_frame : StackFrame → StackFrame
 erased_frame = rename_stack_frame (λ p. 0)
 
-none_same : (o : Option ℕ) → (o ≡ None) ↔ (option_map {U = ℕ} (λ (p : ℕ). 0) o ≡ None)
-none_same None = (λ e. refl, λ e. refl)
-none_same (Some p) = (λ e. cc, λ e. cc)
-
 frame_same : (l : LinkedView) (f : StackFrame) → FrameRuns l f ↔ FrameRuns l (erased_frame f)
 frame_same l (Method f) = (λ r. r, λ r. r)
 frame_same l (Initialization class stage) = (λ r. r, λ r. r)
 frame_same l Entry = (λ r. r, λ r. r)
-
-frame_not_yet : (l : LinkedView) (f : StackFrame) → FrameNotYet l f ↔ FrameNotYet l (erased_frame f)
-frame_not_yet l (Method f) = none_same f.monitor
-frame_not_yet l (Initialization class stage) = (λ r. r, λ r. r)
-frame_not_yet l Entry = (λ r. r, λ r. r)
-
-object_same : (t : HeldThread) → (t.object ≡ None) ↔ ((erase t).object ≡ None)
-object_same t = by t.ending t.object
-  where
-    by : (x : Ending) (o : Option ℕ) → (o ≡ None) ↔ ((erase (record { object = o; frames = []; pending = None; ending = x })).object ≡ None)
-    by Running o = none_same o
-    by Returned o = (λ e. e, λ e. e)
-    by (EndedBy c) o = (λ e. e, λ e. e)
 
 thread_same : (l : LinkedView) (t : HeldThread) → ThreadRuns l t ↔ ThreadRuns l (erase t)
 thread_same l t =
@@ -100,14 +85,6 @@ thread_same l t =
     let long = length-map t.frames erased_frame in (
       λ r. record { frames = frames.0 r.frames; few = subst (λ n. n ≤ 512) (sym long) r.few },
       λ r. record { frames = frames.1 r.frames; few = subst (λ n. n ≤ 512) long r.few },
-    )
-
-not_yet_same : (l : LinkedView) (t : HeldThread) → ThreadNotYet l t ↔ ThreadNotYet l (erase t)
-not_yet_same l t =
-    let object = object_same t in
-    let frames = all_mapped (FrameNotYet l) (FrameNotYet l) erased_frame (frame_not_yet l) t.frames in (
-      λ r. record { object = object.0 r.object; frames = frames.0 r.frames },
-      λ r. record { object = object.1 r.object; frames = frames.1 r.frames },
     )
 
 -- what erasing keeps holds of each of two lists of threads that are the same when erased
@@ -122,16 +99,30 @@ live_erased l (t ∷ ts) = ap (λ (n : ℕ). elim (is_running (ending_part l.pro
 same_length : {A B : Type 0} (f : A → B) (xs ys : List A) → map f xs ≡ map f ys → length xs ≡ length ys
 same_length f xs ys e = sym (length-map xs f) ∙ ap length e ∙ length-map ys f
 
-still_none : (f : Monitor → Monitor) (ms : List Monitor) → map f ms ≡ [] → ms ≡ []
-still_none f [] e = refl
-still_none f (m ∷ ms) e = cc
+-- of threads that are the same when erased the objects have the same serials
+serials_held : (ts : List Thread) → map (λ (t : Thread). t.serial) ts ≡ map (λ (t : HeldThread). t.serial) (map erase (map held_thread ts))
+serials_held [] = refl
+serials_held (t ∷ ts) = ap (λ ks. t.serial ∷ ks) (serials_held ts)
+
+-- an object that has moved keeps its serial, the threads' and the monitors'
+pub serials_alike : {old new : StateView} → OnlyMoved old new → map (λ (t : Thread). t.serial) new.threads ≡ map (λ (t : Thread). t.serial) old.threads
+serials_alike {old} {new} m =
+    serials_held new.threads ∙ ap (λ (h : Holders). map (λ (t : HeldThread). t.serial) h.0) m.held ∙ sym (serials_held old.threads)
+
+monitors_held : (ms : List HeldMonitor) → map (λ (m : HeldMonitor). m.serial) ms ≡ map (λ (m : HeldMonitor). m.serial) (map (held_shape.rename (λ p. 0)) ms)
+monitors_held [] = refl
+monitors_held (m ∷ ms) = ap (λ ks. m.serial ∷ ks) (monitors_held ms)
+
+pub monitors_alike : {old new : StateView} → OnlyMoved old new
+    → map (λ (m : HeldMonitor). m.serial) new.monitors ≡ map (λ (m : HeldMonitor). m.serial) old.monitors
+monitors_alike {old} {new} m =
+    monitors_held new.monitors ∙ ap (λ (h : Holders). map (λ (m : HeldMonitor). m.serial) h.1.1.0) m.held ∙ sym (monitors_held old.monitors)
 
 -- a state whose objects have moved runs as before
 pub runs_alike : {l : LinkedView} {old new : StateView} → OnlyMoved old new → IsRunnable l old → IsRunnable l new
 runs_alike {l} {old} {new} m r =
     let threads : map erase (map held_thread new.threads) ≡ map erase (map held_thread old.threads) = ap (λ (h : Holders). h.0) m.held in
     let statics = ap (λ (h : Holders). h.1.0) m.held in
-    let monitors = ap (λ (h : Holders). h.1.1.0) m.held in
     let literals = ap (λ (h : Holders). h.1.1.1) m.held in
     record {
       threads = each_alike (ThreadRuns l) (thread_same l) (map held_thread old.threads) (map held_thread new.threads) threads r.threads;
@@ -141,18 +132,17 @@ runs_alike {l} {old} {new} m r =
       statics = same_length _ new.statics old.statics statics ∙ r.statics;
       literals = same_length _ new.literals old.literals literals ∙ r.literals;
       classes = ap length m.classes ∙ r.classes;
-      not_yet = record {
-        program = r.not_yet.program;
-        threads = each_alike (ThreadNotYet l) (not_yet_same l) (map held_thread old.threads) (map held_thread new.threads) threads r.not_yet.threads;
-        monitors = still_none (held_monitor_shape.rename (λ p. 0)) new.monitors (monitors ∙ ap (map (held_monitor_shape.rename (λ p. 0))) r.not_yet.monitors);
-      };
+      started = λ k. ap (is_among k) m.started ∙ r.started k ∙ ap (is_started k) (sym (serials_alike m));
+      program = r.program;
     }
 
 -- other places were put into a state and nothing else changed
-pub is_put_back : (ns : List ℕ) (old new : StateView) → holders new ≡ holders_shape.refill ns (holders old) → new.live ≡ old.live → new.classes ≡ old.classes
-    → new.output ≡ old.output → new.stop ≡ old.stop → IsPutBack ns old new
-is_put_back ns old new e live classes output stop =
-    record { held = e; moved = record { held = put_erased ns old new e; live = live; classes = classes; output = output; stop = stop } }
+pub is_put_back : (ns : List ℕ) (old new : StateView) → holders new ≡ holders_shape.refill ns (holders old) → new.started ≡ old.started
+    → new.live ≡ old.live → new.classes ≡ old.classes → new.output ≡ old.output → new.stop ≡ old.stop → IsPutBack ns old new
+is_put_back ns old new e started live classes output stop = record {
+  held = e;
+  moved = record { held = put_erased ns old new e; started = started; live = live; classes = classes; output = output; stop = stop };
+}
 
 -- so does one that has printed or stopped
 pub runs_still : {l : LinkedView} {s : StateView} (output : List ℕ) (stop : Option Stop) → IsRunnable l s
@@ -163,5 +153,6 @@ runs_still output stop r = record {
   statics = r.statics;
   literals = r.literals;
   classes = r.classes;
-  not_yet = record { program = r.not_yet.program; threads = r.not_yet.threads; monitors = r.not_yet.monitors };
+  started = r.started;
+  program = r.program;
 }

@@ -20,7 +20,7 @@ use Rattle.jm_state.specs.declared.thread.StackFrame.TheVariants.{Method, Initia
 use Rattle.jm_state.specs.declared.thread.Ending as code
 use Rattle.jm_state.specs.declared.thread.Ending.TheVariants.{Running, Returned, EndedBy}
 use Rattle.jm_state.specs.declared.thread.Thread as held
-use Rattle.jm_state.specs.declared.monitor.Monitor as held_monitor
+use Rattle.jm_monitors.specs.HeldMonitors.{HeldMonitor}
 use Rattle.jm_state.specs.declared.state.State.{State}
 use Rattle.jm_state.specs.Places.{HeldThread, held_thread}
 use Rattle.jm_state.specs.View.{StateView, view_of}
@@ -57,15 +57,21 @@ ending_part program (EndedBy n) = ended_by (class_name_of program n)
 abbrev pub frames_part : LinkedView → List StackFrame → List Frame
 frames_part l frames = map (frame_part l) (reverse frames)
 
+-- a thread's object is told by its place while the thread runs, and by its serial after
+abbrev pub told_object : code.Ending → Option ℕ → Option ℕ → Option ℕ
+told_object Running object serial = object
+told_object Returned object serial = serial
+told_object (EndedBy n) object serial = serial
+
 -- a thread, from its frames from the top
 abbrev pub part_of_held : LinkedView → HeldThread → Thread
-part_of_held l t = record { object = t.object; frames = map (frame_part l) t.frames; pending = t.pending; ending = ending_part l.program t.ending }
+part_of_held l t = record { object = told_object t.ending t.object t.serial; frames = map (frame_part l) t.frames; pending = t.pending; ending = ending_part l.program t.ending }
 
 abbrev pub thread_part : LinkedView → held.Thread → Thread
 thread_part l t = part_of_held l (held_thread t)
 
-abbrev pub monitor_part : held_monitor.Monitor → Monitor
-monitor_part m = record { object = m.object; owner = m.owner; count = m.count }
+abbrev pub monitor_part : HeldMonitor → Monitor
+monitor_part m = record { object = m.place; owner = m.owner; count = m.count }
 
 -- the parts of a machine that a state stands for beside a heap of this content
 unfoldable pub parts : LinkedView → Content ClassId → StateView → Parts ClassId
@@ -78,6 +84,8 @@ parts l content s = record {
   classes = named_states l.program s.classes;
   monitors = map monitor_part s.monitors;
   threads = map (thread_part l) s.threads;
+  monitor_serials = map (λ (m : HeldMonitor). m.serial) s.monitors;
+  thread_serials = map (λ (t : held.Thread). t.serial) s.threads;
   output = s.output;
   stop = s.stop;
 }

@@ -7,7 +7,7 @@ use Rattle.jm_values.specs.declared.value.Value.{Value}
 use Rattle.jm_frames.specs.FrameView.{FrameView}
 use Rattle.jm_world.specs.Frames.{number_shape, optional_number_shape, method_part_shape}
 use Rattle.jm_state.specs.View.{StateView}
-use Rattle.jm_state.specs.declared.monitor.Monitor.{Monitor}
+use Rattle.jm_monitors.specs.HeldMonitors.{HeldMonitor, held_shape}
 use Rattle.jm_state.specs.declared.thread.Ending.{Ending}
 use Rattle.jm_state.specs.declared.thread.Ending.TheVariants.{Running, Returned, EndedBy}
 use Rattle.jm_state.specs.declared.thread.StackFrame.{StackFrame}
@@ -46,12 +46,13 @@ stack_frame_shape = record { rename = rename_stack_frame; refs = refs_stack_fram
 -- a thread with its frames from the top
 pub record HeldThread : Type 0 where
   pub object : Option ℕ
+  pub serial : Option ℕ
   pub frames : List StackFrame
   pub pending : Option ℕ
   pub ending : Ending
 
 abbrev pub held_thread : Thread → HeldThread
-held_thread t = record { object = t.object; frames = reverse t.frames.items; pending = t.pending; ending = t.ending }
+held_thread t = record { object = t.object; serial = t.serial; frames = reverse t.frames.items; pending = t.pending; ending = t.ending }
 
 -- a thread's object has a place while the thread has not ended
 abbrev pub live_object : Ending → Option ℕ → Option ℕ
@@ -69,24 +70,22 @@ abbrev pub thread_holders : HeldThread → Option ℕ × (Option ℕ × List Sta
 thread_holders t = (live_object t.ending t.object, (t.pending, t.frames))
 
 abbrev pub with_thread_holders : Option ℕ × (Option ℕ × List StackFrame) → HeldThread → HeldThread
-with_thread_holders p t = record { object = with_live_object t.ending p.0 t.object; frames = p.1.1; pending = p.1.0; ending = t.ending }
+with_thread_holders p t =
+    record { object = with_live_object t.ending p.0 t.object; serial = t.serial; frames = p.1.1; pending = p.1.0; ending = t.ending }
 
 abbrev pub held_thread_shape : Shape HeldThread
 held_thread_shape =
     part_shape thread_holders with_thread_holders (pair_shape optional_number_shape (pair_shape optional_number_shape (list_shape stack_frame_shape)))
 
-abbrev pub held_monitor_shape : Shape Monitor
-held_monitor_shape = part_shape (λ m. m.object) (λ p m. record { object = p; owner = m.owner; count = m.count }) number_shape
-
 -- the threads, the values of the static fields, the monitors and the literals
 abbrev pub Holders : Type 0
-Holders = List HeldThread × (List Value × (List Monitor × List ℕ))
+Holders = List HeldThread × (List Value × (List HeldMonitor × List ℕ))
 
 abbrev pub holders : StateView → Holders
 holders s = (map held_thread s.threads, (s.statics, (s.monitors, s.literals)))
 
 abbrev pub holders_shape : Shape Holders
-holders_shape = pair_shape (list_shape held_thread_shape) (pair_shape stack_shape (pair_shape (list_shape held_monitor_shape) (list_shape number_shape)))
+holders_shape = pair_shape (list_shape held_thread_shape) (pair_shape stack_shape (pair_shape (list_shape held_shape) (list_shape number_shape)))
 
 -- the places of a thread, and of a state
 abbrev pub thread_places : Thread → List ℕ
@@ -102,6 +101,7 @@ erased s = holders_shape.rename (λ p. 0) (holders s)
 -- the state is as it was, but that its objects may have moved
 pub record OnlyMoved (old new : StateView) : Type 0 where
   pub held : erased new ≡ erased old
+  pub started : new.started ≡ old.started
   pub live : new.live ≡ old.live
   pub classes : new.classes ≡ old.classes
   pub output : new.output ≡ old.output

@@ -1,6 +1,7 @@
 -- What every state of a run of a linked program keeps to, beside its world.
-use Rattle.std.specs.Prelude.{◌≡◌, ◌<◌, ◌≤◌, [], length, map, None}
+use Rattle.std.specs.Prelude.{◌≡◌, ◌<◌, ◌≤◌, ◌||◌, ℕ, List, [], ◌∷◌, Option, None, Bool, false, length, map, nat_eq}
 use Rattle.std.specs.List.{AllByRecursion}
+use Rattle.jm_world.specs.BuiltInMethods.{is_object_of}
 use Rattle.jm_world.specs.World.{live_among}
 use Rattle.jm_world.specs.Loading.{first_statics, literal_texts}
 use Rattle.jm_linked.specs.Later.{later_part}
@@ -10,6 +11,7 @@ use Rattle.jm_state.specs.Places.{HeldThread, held_thread}
 use Rattle.jm_state.specs.View.{StateView, view_of}
 use Rattle.jm_state.specs.declared.thread.StackFrame.{StackFrame}
 use Rattle.jm_state.specs.declared.thread.StackFrame.TheVariants.{Method, Initialization, Entry}
+use Rattle.jm_state.specs.declared.thread.Thread.{Thread}
 use Rattle.jm_state.specs.declared.state.State.{State}
 
 -- a method frame is of a method with code, an initialization frame of a class of the program
@@ -22,23 +24,15 @@ pub record ThreadRuns (l : LinkedView) (t : HeldThread) : Type 0 where
   pub frames : AllByRecursion (FrameRuns l) t.frames
   pub few : length t.frames ≤ 512
 
--- a method frame is of no monitor, as no synchronized method is invoked yet, and no frame is of a
--- thread that has not begun, as none is started
-abbrev pub FrameNotYet : LinkedView → StackFrame → Type 0
-FrameNotYet l (Method f) = f.monitor ≡ None
-FrameNotYet l (Initialization class stage) = Unit {0}
-FrameNotYet l Entry = ⊥
+-- whether a number is one of these
+abbrev pub is_among : ℕ → List ℕ → Bool
+is_among k [] = false
+is_among k (n ∷ ns) = nat_eq k n || is_among k ns
 
--- what no thread comes to while linking refuses the use of Thread and invokes
-pub record ThreadNotYet (l : LinkedView) (t : HeldThread) : Type 0 where
-  pub object : t.object ≡ None
-  pub frames : AllByRecursion (FrameNotYet l) t.frames
-
--- and no state: a program in which nothing comes later is loaded, so that no monitor is held
-pub record NotYet (l : LinkedView) (s : StateView) : Type 0 where
-  pub program : later_part l.program ≡ None
-  pub threads : AllByRecursion (ThreadNotYet l) (map held_thread s.threads)
-  pub monitors : s.monitors ≡ []
+-- whether a thread's object has that serial
+abbrev pub is_started : ℕ → List (Option ℕ) → Bool
+is_started k [] = false
+is_started k (o ∷ os) = is_object_of k o || is_started k os
 
 pub record IsRunnable (l : LinkedView) (s : StateView) : Type 0 where
   pub threads : AllByRecursion (ThreadRuns l) (map held_thread s.threads)
@@ -46,7 +40,10 @@ pub record IsRunnable (l : LinkedView) (s : StateView) : Type 0 where
   pub statics : length s.statics ≡ length (first_statics l.program)
   pub literals : length s.literals ≡ length (literal_texts l.program)
   pub classes : length s.classes ≡ length l.program
-  pub not_yet : NotYet l s
+  -- the threads' objects are found by their serials
+  pub started : (k : ℕ) → is_among k s.started ≡ is_started k (map (λ (t : Thread). t.serial) s.threads)
+  -- a program in which nothing comes later is loaded
+  pub program : later_part l.program ≡ None
 
 abbrev pub StateRuns : {H : Type 0} → LinkedView → State H → Type 0
 StateRuns l s = IsRunnable l (view_of s)

@@ -11,7 +11,6 @@
 
 mod halt;
 mod make;
-mod monitor;
 mod places;
 mod reach;
 mod state;
@@ -19,7 +18,6 @@ mod thread;
 
 pub use halt::{Halt, StepEnd};
 pub use make::{collect, make_object};
-pub use monitor::Monitor;
 pub use places::{gather, put_back};
 pub use reach::{find_reachable, reachable};
 pub use state::State;

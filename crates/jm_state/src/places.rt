@@ -7,14 +7,15 @@ ghost use Rattle.jm_values.specs.Rename.{refs, value_shape, locals_shape, stack_
 ghost use Rattle.jm_world.specs.Frames.{number_shape, optional_number_shape};
 ghost use Rattle.jm_state.specs.Places.{IsPutBack};
 ghost use Rattle.jm_state.specs.Places.{method_shape, stack_frame_shape, live_object, with_live_object};
-ghost use Rattle.jm_state.specs.Places.{held_thread, held_thread_shape, held_monitor_shape, thread_places, places_of};
+ghost use Rattle.jm_monitors.specs.HeldMonitors.{held_shape};
+ghost use Rattle.jm_state.specs.Places.{held_thread, held_thread_shape, thread_places, places_of};
 ghost use Rattle.jm_state.specs.View.{view_of};
 
-use crate::monitor::Monitor;
 use crate::state::State;
 use crate::thread::{Ending, StackFrame, Thread};
 use jm_frames::{Frame, put_value};
 use jm_heap::Roots;
+use jm_monitors::Monitors;
 use jm_values::{Place, Value};
 use std::alloc::{AllocError, Global};
 use std::slice::Iter;
@@ -142,11 +143,11 @@ fn push_threads(roots: &mut Roots, threads: &[Thread]) -> Result<(), AllocError>
 }
 
 // Adds the places of the objects of monitors.
-fn push_monitors(roots: &mut Roots, monitors: &[Monitor]) -> Result<(), AllocError>
-    ensures { OnOk result (roots.new ≡ roots.old ++ (list_shape held_monitor_shape).refs monitors.now) }
+fn push_monitors(roots: &mut Roots, monitors: &Monitors) -> Result<(), AllocError>
+    ensures { OnOk result (roots.new ≡ roots.old ++ (list_shape held_shape).refs monitors.now) }
 {
-    for monitor in monitors {
-        roots.push(monitor.object)?;
+    for place in monitors.places() {
+        roots.push(place)?;
     }
     Ok(())
 }
@@ -275,16 +276,6 @@ fn put_number(place: &mut Place, places: &mut Iter<'_, Place>)
     }
 }
 
-// Puts the next places into monitors.
-fn put_monitors(monitors: &mut [Monitor], places: &mut Iter<'_, Place>)
-    ensures monitors { monitors.new ≡ (list_shape held_monitor_shape).refill (iter_rest places.old) monitors.old }
-    ensures left { iter_rest places.new ≡ drop (length ((list_shape held_monitor_shape).refs monitors.old)) (iter_rest places.old) }
-{
-    for monitor in monitors.iter_mut() {
-        put_number(&mut monitor.object, places);
-    }
-}
-
 // Puts the next places into literals.
 fn put_literals(literals: &mut [Place], places: &mut Iter<'_, Place>)
     ensures { literals.new ≡ (list_shape number_shape).refill (iter_rest places.old) literals.old }
@@ -303,6 +294,6 @@ pub fn put_back<H>(state: &mut State<H>, roots: &Roots)
     let mut places = roots.as_slice().iter();
     put_threads(&mut state.threads, &mut places);
     put_statics(&mut state.statics, &mut places);
-    put_monitors(&mut state.monitors, &mut places);
+    state.monitors.put_places(&mut places);
     put_literals(&mut state.literals, &mut places);
 }

@@ -1,10 +1,11 @@
 // The state of a run.
 
-use crate::monitor::Monitor;
 use crate::thread::Thread;
-use jm_monitors::InitStates;
+use jm_monitors::{InitStates, Monitors};
 use jm_values::{Place, Value};
 use jm_world::Stop;
+use std::alloc::Global;
+use std::collections::BTreeSet;
 
 /// What a run of a linked program has made.
 #[derive(Drop)]
@@ -12,6 +13,8 @@ pub struct State<H> {
     pub heap: H,
     /// Thread n is the n-th, from 1.
     pub threads: Vec<Thread>,
+    /// The serials of the threads' objects.
+    pub started: BTreeSet<u64, Global>,
     /// How many threads have not ended.
     pub live: usize,
     /// The values of the static fields: System.out, then the program's.
@@ -21,7 +24,7 @@ pub struct State<H> {
     /// The Strings of the program's literals, in the order of the literals.
     pub literals: Vec<Place>,
     /// The monitors that are held.
-    pub monitors: Vec<Monitor>,
+    pub monitors: Monitors,
     /// The bytes that the program has printed.
     pub output: Vec<u8>,
     pub stop: Option<Stop>,

@@ -30,8 +30,10 @@ pub enum Ending {
 /// A Java thread.
 #[derive(Drop)]
 pub struct Thread {
-    /// Its object, by its place, and after the thread's end by its serial. The first one has none.
+    /// Its object, by its place while the thread has not ended. The first one has none.
     pub object: Option<Place>,
+    /// The serial of its object, by which that is told after the thread's end too.
+    pub serial: Option<u64>,
     /// The top frame is the last.
     pub frames: Vec<StackFrame>,
     /// The pending exception (JVMS 2.10).

@@ -1,26 +1,46 @@
--- A machine beside its world after one thread, the classes or the output have changed.
-use Rattle.std.proofs.Common.{◌≡◌, ℕ, ◌<◌, List, [], Some, refl, sym, subst, inl, inr, length}
+-- A machine beside its world after threads, classes, monitors or the output have changed.
+use Rattle.std.proofs.Common.{◌≡◌, ℕ, ◌<◌, List, ◌++◌, Option, Some, refl, sym, subst, inl, inr, length}
 use Rattle.std.specs.Prelude.{map, slice_get, option_map}
 use Rattle.jm_values.specs.Shape.{Among, list_shape}
-use Rattle.jm_values.proofs.Among.{among_right, among_split, among_map, among_mapped}
+use Rattle.jm_values.proofs.Among.{among_left, among_right, among_split, among_map, among_mapped}
 use Rattle.jm_values.specs.Objects.{refs_of}
 use Rattle.jm_values.specs.Reach.{Reach, root, field}
-use Rattle.jm_world.specs.World.{World, Thread, Progress, roots}
+use Rattle.jm_world.specs.World.{World, Thread, Progress, Monitor, roots}
 use Rattle.jm_values.specs.Content.{name_of, object_at, serial_at}
-use Rattle.jm_world.specs.Renaming.{thread_shape}
+use Rattle.jm_world.specs.Renaming.{thread_shape, static_shape, monitor_shape, literal_shape}
 use Rattle.jm_world.specs.Matches.{Parts, Matches, places, as_named}
 use Rattle.jm_values.proofs.Reaching.{reach_within}
 use Rattle.jm_world.proofs.Matching.{roots_are, roots_named}
 use Rattle.jm_world.proofs.PlacesOfParts.{held_of, parts_shape, places_held}
 
--- the machine with other threads, states of classes and output
-abbrev pub changed_parts : {T : Type 0} → Parts T → List Thread → List Progress → List ℕ → Parts T
-changed_parts m threads classes output = record m { threads = threads; classes = classes; output = output }
+-- what has changed: threads, states of classes, monitors and output, with the serials of the objects
+pub record Change : Type 0 where
+  pub threads : List Thread
+  pub thread_serials : List (Option ℕ)
+  pub classes : List Progress
+  pub monitors : List Monitor
+  pub monitor_serials : List ℕ
+  pub output : List ℕ
+
+-- the machine after it
+abbrev pub changed_parts : {T : Type 0} → Parts T → Change → Parts T
+changed_parts m c = record m {
+  threads = c.threads;
+  thread_serials = c.thread_serials;
+  classes = c.classes;
+  monitors = c.monitors;
+  monitor_serials = c.monitor_serials;
+  output = c.output;
+}
 
 -- the world that it then matches
-abbrev pub changed_world : {T : Type 0} → Parts T → World → List Thread → List Progress → List ℕ → World
-changed_world m w threads classes output =
-    record w { threads = (list_shape thread_shape).rename (name_of m.content) threads; classes = classes; output = output }
+abbrev pub changed_world : {T : Type 0} → Parts T → World → Change → World
+changed_world m w c = record w {
+  threads = (list_shape thread_shape).rename (name_of m.content) c.threads;
+  classes = c.classes;
+  monitors = (list_shape monitor_shape).rename (name_of m.content) c.monitors;
+  output = c.output;
+}
 
 -- a place of an object of a set
 abbrev pub Stands : {T : Type 0} → Parts T → (ℕ → Type 0) → ℕ → Type 0
@@ -46,29 +66,45 @@ module _ {T : Type 0} (m : Parts T) (w : World) (h : Matches m w) where
         (root (name_of m.content p) (subst (Among (name_of m.content p)) (roots_are m w h) (among_map (name_of m.content) p (places m) a))),
   )
 
-  module _ (Q : ℕ → Type 0) (q : IsShared m w Q) (threads : List Thread) (classes : List Progress) (output : List ℕ)
-      (stands : (p : ℕ) → Among p ((list_shape thread_shape).refs threads) → Stands m Q p) where
-    each_stands : (p : ℕ) → Among p (places (changed_parts m threads classes output)) → Stands m Q p
+  module _ (Q : ℕ → Type 0) (q : IsShared m w Q) (c : Change) (threads : (p : ℕ) → Among p ((list_shape thread_shape).refs c.threads) → Stands m Q p)
+      (monitors : (p : ℕ) → Among p ((list_shape monitor_shape).refs c.monitors) → Stands m Q p)
+      (thread_serials : c.thread_serials ≡ map (λ (t : Thread). t.object) (changed_world m w c).threads)
+      (monitor_serials : c.monitor_serials ≡ map (λ (x : Monitor). x.object) (changed_world m w c).monitors) where
+    abbrev new : Parts T
+    new = changed_parts m c
+
+    each_stands : (p : ℕ) → Among p (places new) → Stands m Q p
     each_stands p a =
-        let rest = parts_shape.refs ([], (held_of m).1) in
-        elim (among_split p ((list_shape thread_shape).refs threads) rest
-        (subst (Among p) (places_held (changed_parts m threads classes output)) a)) [
-          | inl d ↦ stands p d
-          | inr r ↦ place_stands Q q p (subst (Among p) (sym (places_held m)) (among_right p ((list_shape thread_shape).refs m.threads) rest r))
+        let ts = (list_shape thread_shape).refs c.threads in
+        let ss = (list_shape static_shape).refs m.statics in
+        let ms = (list_shape monitor_shape).refs c.monitors in
+        let ls = (list_shape literal_shape).refs m.literals in
+        let old_ts = (list_shape thread_shape).refs m.threads in
+        let old_ms = (list_shape monitor_shape).refs m.monitors in
+        let held : (r : ℕ) → Among r (parts_shape.refs (held_of m)) → Stands m Q r = λ r b. place_stands Q q r (subst (Among r) (sym (places_held m)) b) in
+        elim (among_split p ts (ss ++ (ms ++ ls)) (subst (Among p) (places_held new) a)) [
+          | inl d ↦ threads p d
+          | inr d ↦ elim (among_split p ss (ms ++ ls) d) [
+            | inl x ↦ held p (among_right p old_ts (ss ++ (old_ms ++ ls)) (among_left p ss (old_ms ++ ls) x))
+            | inr x ↦ elim (among_split p ms ls x) [
+              | inl y ↦ monitors p y
+              | inr y ↦ held p (among_right p old_ts (ss ++ (old_ms ++ ls)) (among_right p ss (old_ms ++ ls) (among_right p old_ms ls y)))
+            ]
+          ]
         ]
 
-    new_roots : map (name_of m.content) (places (changed_parts m threads classes output)) ≡ roots (changed_world m w threads classes output)
-    new_roots = roots_named (changed_parts m threads classes output) (changed_world m w threads classes output) refl h.statics h.monitors h.literals
+    new_roots : map (name_of m.content) (places new) ≡ roots (changed_world m w c)
+    new_roots = roots_named new (changed_world m w c) refl h.statics refl h.literals
 
-    new_root : (k : ℕ) → Among k (roots (changed_world m w threads classes output)) → Q k
+    new_root : (k : ℕ) → Among k (roots (changed_world m w c)) → Q k
     new_root k a =
-        let r = among_mapped (name_of m.content) k (places (changed_parts m threads classes output)) (subst (Among k) (sym new_roots) a) in
+        let r = among_mapped (name_of m.content) k (places new) (subst (Among k) (sym new_roots) a) in
         subst Q (sym r.2) (each_stands r.0 r.1).1
 
-    new_reach : (k : ℕ) → Reach (slice_get w.heap) (roots (changed_world m w threads classes output)) k → Q k
+    new_reach : (k : ℕ) → Reach (slice_get w.heap) (roots (changed_world m w c)) k → Q k
     new_reach k r = reach_within Q new_root q.closed k r
 
-    pub changed : Matches (changed_parts m threads classes output) (changed_world m w threads classes output)
+    pub changed : Matches new (changed_world m w c)
     changed = record {
       sound = h.sound;
       resident = λ p a. (each_stands p a).0;
@@ -78,7 +114,9 @@ module _ {T : Type 0} (m : Parts T) (w : World) (h : Matches m w) where
       objects = λ k r. q.objects k (new_reach k r);
       threads = refl;
       statics = h.statics;
-      monitors = h.monitors;
+      monitors = refl;
+      monitor_serials = monitor_serials;
+      thread_serials = thread_serials;
       literals = h.literals;
       program = h.program;
       classes = refl;

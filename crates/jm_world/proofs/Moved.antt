@@ -30,6 +30,8 @@ pub record HasMoved {T : Type 0} (m new : Parts T) : Type 0 where
   pub program : new.program ≡ m.program
   pub named : new.named ≡ m.named
   pub classes : new.classes ≡ m.classes
+  pub monitor_serials : new.monitor_serials ≡ m.monitor_serials
+  pub thread_serials : new.thread_serials ≡ m.thread_serials
   pub output : new.output ≡ m.output
   pub stop : new.stop ≡ m.stop
 
@@ -75,6 +77,8 @@ module _ {T : Type 0} {m new : Parts T} {w : World} (h : Matches m w) (a : HasMo
     threads = ap (λ (p : Held). p.0) a.held ∙ h.threads;
     statics = ap (λ (p : Held). p.1.0) a.held ∙ h.statics;
     monitors = ap (λ (p : Held). p.1.1.0) a.held ∙ h.monitors;
+    monitor_serials = a.monitor_serials ∙ h.monitor_serials;
+    thread_serials = a.thread_serials ∙ h.thread_serials;
     literals = ap (λ (p : Held). p.1.1.1) a.held ∙ h.literals;
     program = a.program ∙ h.program;
     classes = a.classes ∙ h.classes;
@@ -103,6 +107,8 @@ module _ {T : Type 0} {m new : Parts T} {w : World} (h : Matches m w) (a : HasMo
       threads = ap (λ (p : Held). p.0) a.held ∙ h.threads;
       statics = ap (λ (p : Held). p.1.0) a.held ∙ h.statics;
       monitors = ap (λ (p : Held). p.1.1.0) a.held ∙ h.monitors;
+      monitor_serials = a.monitor_serials ∙ h.monitor_serials;
+      thread_serials = a.thread_serials ∙ h.thread_serials;
       literals = ap (λ (p : Held). p.1.1.1) a.held ∙ h.literals;
       program = a.program ∙ h.program;
       classes = a.classes ∙ h.classes;

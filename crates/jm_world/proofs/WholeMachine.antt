@@ -129,6 +129,8 @@ module _ (w : World) (f : IsWellFormed w) where
     threads = back thread_shape thread_is_shape w.threads in_threads;
     statics = back static_shape static_is_shape w.statics in_statics;
     monitors = back monitor_shape monitor_is_shape w.monitors in_monitors;
+    monitor_serials = refl;
+    thread_serials = refl;
     literals = back literal_shape literal_is_shape w.literals in_literals;
     program = refl;
     classes = refl;

@@ -1,9 +1,9 @@
 -- A machine that matches a world: each object of the world lies at the place one above its number.
-use Rattle.std.specs.Prelude.{ℕ, ◌+◌, List, [], ◌∷◌, length}
+use Rattle.std.specs.Prelude.{ℕ, ◌+◌, List, [], ◌∷◌, length, map}
 use Rattle.jm_values.specs.Shape.{list_shape}
 use Rattle.jm_world.specs.Types.{ObjectType}
 use Rattle.jm_world.specs.Objects.{Object}
-use Rattle.jm_world.specs.World.{World}
+use Rattle.jm_world.specs.World.{World, Monitor, Thread}
 use Rattle.jm_values.specs.Content.{Content, Resident}
 use Rattle.jm_world.specs.Renaming.{thread_shape, static_shape, monitor_shape, literal_shape}
 use Rattle.jm_world.specs.Matches.{Parts, Matches}
@@ -29,6 +29,8 @@ whole_machine w = record {
   classes = w.classes;
   monitors = (list_shape monitor_shape).rename place_of w.monitors;
   threads = (list_shape thread_shape).rename place_of w.threads;
+  monitor_serials = map (λ (x : Monitor). x.object) w.monitors;
+  thread_serials = map (λ (t : Thread). t.object) w.threads;
   output = w.output;
   stop = w.stop;
 }

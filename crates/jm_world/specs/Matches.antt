@@ -1,5 +1,5 @@
 -- A machine beside a world.
-use Rattle.std.specs.Prelude.{◌≡◌, ◌<◌, ◌↔◌, ◌++◌, ℕ, List, Option, option_map, length, slice_get}
+use Rattle.std.specs.Prelude.{◌≡◌, ◌<◌, ◌↔◌, ◌++◌, ℕ, List, Option, option_map, map, length, slice_get}
 use Rattle.jm_program.specs.declared.class.ClassParts.{ClassParts}
 use Rattle.jm_values.specs.Shape.{list_shape}
 use Rattle.jm_world.specs.Types.{ObjectType}
@@ -12,7 +12,8 @@ use Rattle.jm_world.specs.Renaming.{thread_shape, static_shape, monitor_shape, l
 use Rattle.jm_world.specs.declared.stop.Stop.{Stop}
 
 -- the parts of a machine, as its linked program names them: references are places, but for the
--- objects of ended threads, which are serials; T is how its heap tells classes and array types
+-- objects of ended threads, which are serials; T is how its heap tells classes and array types. It
+-- finds monitors and threads by the serials of their objects, which no collection changes
 pub record Parts (T : Type 0) : Type 0 where
   pub program : List ClassParts
   -- the class or array type of a T
@@ -23,6 +24,8 @@ pub record Parts (T : Type 0) : Type 0 where
   pub classes : List Progress
   pub monitors : List Monitor
   pub threads : List Thread
+  pub monitor_serials : List ℕ
+  pub thread_serials : List (Option ℕ)
   pub output : List ℕ
   pub stop : Option Stop
 
@@ -50,6 +53,8 @@ pub record Matches {T : Type 0} (m : Parts T) (w : World) : Type 0 where
   pub threads : (list_shape thread_shape).rename (name_of m.content) m.threads ≡ w.threads
   pub statics : (list_shape static_shape).rename (name_of m.content) m.statics ≡ w.statics
   pub monitors : (list_shape monitor_shape).rename (name_of m.content) m.monitors ≡ w.monitors
+  pub monitor_serials : m.monitor_serials ≡ map (λ (x : Monitor). x.object) w.monitors
+  pub thread_serials : m.thread_serials ≡ map (λ (t : Thread). t.object) w.threads
   pub literals : (list_shape literal_shape).rename (name_of m.content) m.literals ≡ w.literals
   pub program : m.program ≡ w.program
   pub classes : m.classes ≡ w.classes

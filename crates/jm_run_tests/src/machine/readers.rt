@@ -30,9 +30,12 @@ const OTHER: &str = ".class A
 .field static z C
 ";
 
-// The machine from which the run of a program of two texts begins.
-fn loaded_texts(alloc: Global, main: &str, other: &str) -> Result<Machine<PlainHeap>, Fail> {
-    let classes = vec![in alloc; assemble(alloc, main)?, assemble(alloc, other)?]?;
+/// The machine from which the run of a program of these texts begins.
+pub fn loaded_texts(alloc: Global, texts: &[&str]) -> Result<Machine<PlainHeap>, Fail> {
+    let mut classes = Vec::new(alloc);
+    for text in texts {
+        classes.push(assemble(alloc, text)?)?;
+    }
     let linked = link(alloc, classes)?;
     Ok(Machine::load(alloc, linked, PlainHeap::new(alloc, 65536))?)
 }
@@ -158,7 +161,7 @@ fn frames_and_statics_are_told(rt: HostRuntime) -> Result<(), Fail> {
 
 #[test]
 fn static_fields_begin_with_zero_or_null(rt: HostRuntime) -> Result<(), Fail> {
-    let machine = loaded_texts(rt.alloc(), MAIN, OTHER)?;
+    let machine = loaded_texts(rt.alloc(), &[MAIN, OTHER])?;
     assert!(rt; has_static(&machine, 1, b"Main", b"x", WorldValue::Long(0)));
     assert!(rt; has_static(&machine, 2, b"A", b"y", WorldValue::Null));
     assert!(rt; has_static(&machine, 3, b"A", b"z", WorldValue::Int(0)));

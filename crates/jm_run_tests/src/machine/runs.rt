@@ -100,7 +100,8 @@ pub fn loaded(alloc: Global, instructions: &str, limit: u32) -> Result<Machine<P
     Ok(Machine::load(alloc, linked, PlainHeap::new(alloc, limit))?)
 }
 
-fn kind_name(kind: ReplyKind) -> &'static str {
+/// The name of a reply's kind.
+pub fn kind_name(kind: ReplyKind) -> &'static str {
     match kind {
         ReplyKind::Done => "Done",
         ReplyKind::Blocked => "Blocked",
@@ -132,7 +133,8 @@ fn told(alloc: Global, machine: &Machine<PlainHeap>, reply: Reply) -> Result<Str
     )
 }
 
-fn thread_of(event: Event) -> u64 {
+/// The thread of a step; of a collection the first one.
+pub fn thread_of(event: Event) -> u64 {
     match event {
         Event::Step(number) => number,
         Event::Minor | Event::Full => 1,

@@ -48,5 +48,5 @@ returns-in-Ok-extend_from_slice g c =
     c.in-Ok-text_bytes.bytes.items c.in-Ok-text_bytes.ensures
     {new =
     new}
-    (record { threads = refl; statics = refl; literals = refl; monitors = refl; heap = refl; stop = refl }) refl
+    (record { threads = refl; started = refl; statics = refl; literals = refl; monitors = refl; heap = refl; stop = refl }) refl
     (runs_still c.extend_from_slice.new.self.items c.args.state.now.stop (runs_on c.args.method c.requires gone)) gone written

@@ -14,9 +14,9 @@ returns c f below r s =
     let g = c.drop_operands.new.self in
     let n = c.len-number.result in
     let above = Method c.args.frame in
-    let more : held.Thread = record { object = t.object; frames = c.push.new.self; pending = t.pending; ending = t.ending } in
-    let new : held.Thread = record { object = t.object; frames = with_item c.push.new.self (n - 2) (Method g); pending = t.pending; ending = t.ending } in
-    let begun = top_more t more above (Method f ∷ below) r s c.in_ok-push.ensures.items refl in
+    let more : held.Thread = record t { frames = c.push_reserved.new.self } in
+    let new : held.Thread = record t { frames = with_item c.push_reserved.new.self (n - 2) (Method g) } in
+    let begun = top_more t more above (Method f ∷ below) r s c.push_reserved.ensures.items refl in
     let is : Method v ≡ Method f =
     sym c.in-Method.is ∙ second_frame more above (Method f) c.index_mut.result.now below r n begun c.len-number.ensures c.index_mut.ensures.value in
     let same : v ≡ f = cc in

@@ -8,8 +8,8 @@ use Rattle.jm_interp.proofs.ending.end_thread.Goals as goal
 pub overflow_sub-state : goal.overflow_sub-state
 overflow_sub-state g c = let lives = one_lives c.requires.2 in omega arith
 
-pub returns : goal.returns
-returns g c =
+pub returns-clause-ends : goal.returns-clause-ends
+returns-clause-ends g c =
     let lives = one_lives c.requires.2 in
     ends c.requires.2 _ (record {
       frames_are =

@@ -7,7 +7,7 @@ use Rattle.jm_interp.proofs.frames.begin_above.Goals as goal
 pub returns : goal.returns
 returns c f below r s =
     let t = c.args.thread.now in
-    let more : held.Thread = record { object = t.object; frames = c.push.new.self; pending = t.pending; ending = t.ending } in
+    let more : held.Thread = record { object = t.object; serial = t.serial; frames = c.push.new.self; pending = t.pending; ending = t.ending } in
     let begun = top_more t more c.args.above (f ∷ below) r s c.in_ok-push.ensures.items refl in
     second_other more _ c.args.above f (Initialization c.args.class c.args.stage) below r c.len-count.result begun
     c.len-count.ensures refl refl

@@ -23,7 +23,7 @@ begin_above-requires g c = (_, _, _, read c.requires.2 c.index_mut.ensures.value
 
 pub returns-in-Ok : goal.returns-in-Ok
 returns-in-Ok g c =
-    begun c.requires.2 _ _ c.index.ensures c.len.ensures c.if-len-ge512.false c.requires.3 tt (λ q a. a) refl
+    begun c.requires.2 _ _ c.index.ensures c.len.ensures c.if-len-ge512.false c.requires.3 (λ q a. a) refl
     (c.in-Ok.ensures _ _ _ (read c.requires.2 c.index_mut.ensures.value))
 
 pub returns-in-Err : goal.returns-in-Err

@@ -12,4 +12,4 @@ pub end_thread-requires : goal.end_thread-requires
 end_thread-requires g c = (_, _, c.requires.0.on, c.requires.1)
 
 pub returns : goal.returns
-returns g c = none_left c.requires.0.on c.index.ensures c.len.ensures c.if-len-gt1.false c.end_thread.ensures
+returns g c = none_left c.requires.0.on c.index.ensures c.len.ensures c.if-len-gt1.false c.end_thread.ensures.ends

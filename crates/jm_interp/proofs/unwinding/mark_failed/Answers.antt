@@ -6,4 +6,4 @@ pub fail-requires : goal.fail-requires
 fail-requires g c = class_within c.requires.0.on c.args.class c.requires.1
 
 pub returns : goal.returns
-returns g c = marked c.requires.0.on c.args.class c.requires.1 refl refl refl refl refl refl c.fail.ensures refl refl
+returns g c = marked c.requires.0.on c.args.class c.requires.1 refl refl refl refl refl refl refl c.fail.ensures refl refl

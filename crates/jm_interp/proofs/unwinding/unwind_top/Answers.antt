@@ -38,4 +38,4 @@ pub returns-in-None : goal.returns-in-None
 returns-in-None g c =
     let none = sym (c.class_on_top.ensures _ _ (read c.requires.1 c.index.ensures)) ∙ c.in_default-class_on_top.is in
     leaves_method c.requires.1 none c.class_of-thrown.ensures c.in-Some.ensures
-    (c.target_on_top.ensures _ _ (read c.requires.1 c.index-2.ensures)) c.in-None.is c.drop_frame.ensures
+    (c.target_on_top.ensures _ _ (read c.requires.1 c.index-2.ensures)) c.in-None.is c.drop_method.ensures

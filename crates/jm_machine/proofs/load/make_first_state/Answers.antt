@@ -21,23 +21,24 @@ returns g c =
     let out = c.get-out.result in
     let first = first_of _ (literal_texts l.program) _ _ _ _ _ (c.literals.ensures ∙ linked.literals) c.in_ok-places.ensures.holds
     c.get-out.ensures c.get-arguments.ensures c.in_ok-literals.ensures in
-    let t : held.Thread = record { object = None; frames = c.in_ok-frames.frames; pending = None; ending = Running } in
+    let t : held.Thread = record { object = None; serial = None; frames = c.in_ok-frames.frames; pending = None; ending = Running } in
     let threads = pushed c.in_ok-threads.threads.items c.push_reserved.new.self.items [] t c.push_reserved.ensures.items c.in_ok-threads.ensures.items in
     let statics = c.in_ok-statics.ensures ∙ ap (λ cs. Ref out ∷ static_values cs) c.classes-program.ensures.classes in
     let states = c.in_ok-classes.classes in
     let strings = c.in_ok-literals.literals.items in
     let both = begun l linked c.requires.not_later out c.get-arguments.result t
-    (record { object = refl; frames = c.in_ok-frames.ensures; pending = refl; ending = refl }) strings first.1
+    (record { object = refl; serial = refl; frames = c.in_ok-frames.ensures; pending = refl; ending = refl }) strings first.1
     _ _ states first.0 c.in_ok-places.ensures.limit
     (counted c.classes-program.result.now l.program states c.in_ok-classes.ensures c.classes-program.ensures.classes)
     _ (λ j. record {
       threads = threads j;
+      started = c.new-2.ensures.empty j;
       live = 1;
       statics = statics j;
       classes = states;
       literals = strings;
-      monitors = c.new-2.ensures.items j;
-      output = c.new-3.ensures.items j;
+      monitors = c.new-3.ensures j;
+      output = c.new-4.ensures.items j;
       stop = None;
     }) in
     record { loaded = both.0; runs = both.1 }

@@ -2,7 +2,7 @@
 use Rattle.std.proofs.Common.{◌≡◌, drop}
 use Rattle.jm_linked.specs.Later.{first_later, later_code}
 use Rattle.jm_program.specs.declared.class.Method.{Method}
-use Rattle.jm_linker.proofs.later.later_in_codes.Given as goal
+use Rattle.jm_linker.proofs.later.later_in_class.Given as goal
 
 abbrev pub invariant-loop-method : goal.invariant-loop-method
 invariant-loop-method l =

@@ -1,0 +1,7 @@
+.class public E
+.super java/lang/Thread
+.method public run()V
+    .limit stack 8
+    .limit locals 8
+    return
+.end method

@@ -1,0 +1,11 @@
+.class public Main
+.super java/lang/Object
+.method public static main([Ljava/lang/String;)V
+    .limit stack 8
+    .limit locals 8
+    new WaitsForB
+    invokevirtual java/lang/Thread/start()V
+    getstatic CycleA/a I
+    pop
+    return
+.end method

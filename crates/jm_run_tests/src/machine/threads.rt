@@ -1,0 +1,224 @@
+// Two threads, step by step: what the readers tell after the events of each row is worked out by hand.
+// In the first program the stream of System.out is object 0, main's empty array object 1, the K object
+// 2, the threads' objects 3 and 4, and the first exception object 5.
+
+use crate::machine::readers::loaded_texts;
+use crate::machine::runs::{kind_name, thread_of};
+use jm_heap::PlainHeap;
+use jm_machine::{Machine, MethodFrame, WorldFrame, read_schedule};
+use jm_world::Stage;
+use std::alloc::{AllocError, Global};
+use std::process::Abort;
+use std::test::Fail;
+
+const STARTS_TWO: &str = ".class Main
+.super java/lang/Object
+.field static k LK;
+.method static main([Ljava/lang/String;)V
+.limit stack 1
+new K
+putstatic Main/k LK;
+new W
+invokevirtual java/lang/Thread/start()V
+new W
+invokevirtual java/lang/Thread/start()V
+return
+.end method
+";
+
+const CALLS_K: &str = ".class W
+.super java/lang/Thread
+.method run()V
+.limit stack 1
+getstatic Main/k LK;
+invokevirtual K/f()V
+return
+.end method
+";
+
+const THROWS: &str = ".class K
+.super java/lang/Object
+.method synchronized f()V
+.limit stack 2
+iconst_1
+iconst_0
+idiv
+pop
+return
+.end method
+";
+
+// A row is a line of columns with ` | ` between them: events as a schedule's line, all of one thread;
+// and what is told after the last of them: the reply, the monitor of object 2, and of the thread its
+// pending exception and its frames, the top first.
+const SYNCHRONIZED_ROWS: &str = "\
+t 1 x 18 | Done | none | none | none
+t 2 x 3 | Done | t2 x1 | none | K.f:0 W.run:1
+t 3 x 3 | Blocked | t2 x1 | none | W.run:1
+t 2 x 4 | Done | none | #5 | W.run:1
+t 3 | Done | t3 x1 | none | K.f:0 W.run:1
+";
+
+const STARTS_ONE: &str = ".class Main
+.super java/lang/Object
+.method static main([Ljava/lang/String;)V
+.limit stack 1
+new W
+invokevirtual java/lang/Thread/start()V
+getstatic A/a I
+pop
+return
+.end method
+";
+
+const READS_B: &str = ".class W
+.super java/lang/Thread
+.method run()V
+.limit stack 1
+getstatic B/b I
+pop
+return
+.end method
+";
+
+const A_READS_B: &str = ".class A
+.super java/lang/Object
+.field static a I
+.method static <clinit>()V
+.limit stack 2
+getstatic B/b I
+iconst_1
+iadd
+putstatic A/a I
+return
+.end method
+";
+
+const B_READS_A: &str = ".class B
+.super java/lang/Object
+.field static b I
+.method static <clinit>()V
+.limit stack 2
+getstatic A/a I
+iconst_2
+iadd
+putstatic B/b I
+return
+.end method
+";
+
+// Each thread initializes the class that the other one waits for.
+const INITIALIZER_ROWS: &str = "\
+t 1 x 9 | Done | none | none | Main.main:2
+t 2 x 4 | Done | none | none | init-B-clinit W.run:0
+t 1 x 5 | Done | none | none | init-B-begin A.<clinit>:0 init-A-end Main.main:2
+t 1 | Blocked | none | none | init-B-begin A.<clinit>:0 init-A-end Main.main:2
+t 2 x 2 | Done | none | none | init-A-begin B.<clinit>:0 init-B-end W.run:0
+t 2 | Blocked | none | none | init-A-begin B.<clinit>:0 init-B-end W.run:0
+t 1 | Blocked | none | none | init-B-begin A.<clinit>:0 init-A-end Main.main:2
+";
+
+fn stage_name(stage: Stage) -> &'static str {
+    match stage {
+        Stage::Begin => "begin",
+        Stage::Superclass => "super",
+        Stage::Initializer => "clinit",
+        Stage::End => "end",
+    }
+}
+
+fn method_text(alloc: Global, frame: &MethodFrame<PlainHeap>) -> Result<String, AllocError> {
+    let class = &frame.class().parts().name;
+    let name = &frame.method().name;
+    let at = frame.at();
+    format!(in alloc; "{class}.{name}:{at}")
+}
+
+fn frame_text(alloc: Global, frame: &WorldFrame<PlainHeap>) -> Result<String, AllocError> {
+    match frame {
+        WorldFrame::Method(frame) => method_text(alloc, frame),
+        WorldFrame::Initialization { class, stage } => {
+            let name = &class.parts().name;
+            let stage = stage_name(*stage);
+            format!(in alloc; "init-{name}-{stage}")
+        }
+        WorldFrame::Entry => String::from_str(alloc, "entry"),
+    }
+}
+
+// The frames of a thread, the top first.
+fn frames_text(
+    alloc: Global,
+    machine: &Machine<PlainHeap>,
+    thread: u64,
+) -> Result<String, AllocError> {
+    let mut frames = String::new(alloc);
+    for depth in 0..8 {
+        if let Some(frame) = machine.frame(thread, depth) {
+            if depth > 0 {
+                frames.push_str(" ")?;
+            }
+            frames.push_str(&frame_text(alloc, &frame)?)?;
+        }
+    }
+    if frames.is_empty() {
+        frames.push_str("none")?;
+    }
+    Ok(frames)
+}
+
+// The monitor of object 2.
+fn monitor_text(alloc: Global, machine: &Machine<PlainHeap>) -> Result<String, AllocError> {
+    match machine.monitor(2) {
+        Some(held) => format!(in alloc; "t{} x{}", held.owner, held.count),
+        None => String::from_str(alloc, "none"),
+    }
+}
+
+fn pending_text(
+    alloc: Global,
+    machine: &Machine<PlainHeap>,
+    thread: u64,
+) -> Result<String, AllocError> {
+    match machine.pending(thread) {
+        Some(number) => format!(in alloc; "#{number}"),
+        None => String::from_str(alloc, "none"),
+    }
+}
+
+// Makes the events of a row, of which there is one line, and tells what is there after them.
+fn told(alloc: Global, machine: &mut Machine<PlainHeap>, events: &str) -> Result<String, Fail> {
+    let schedule = read_schedule(alloc, events.as_bytes())?;
+    let run = schedule.runs().first().ok_or("a row without events")?;
+    let mut kind = "no reply";
+    for _ in 0..run.count {
+        kind = kind_name(machine.step(run.event)?.kind);
+    }
+    let thread = thread_of(run.event);
+    let monitor = monitor_text(alloc, machine)?;
+    let pending = pending_text(alloc, machine, thread)?;
+    let frames = frames_text(alloc, machine, thread)?;
+    Ok(format!(in alloc; "{kind} | {monitor} | {pending} | {frames}")?)
+}
+
+fn check_rows(rt: &impl Abort, alloc: Global, texts: &[&str], rows: &str) -> Result<(), Fail> {
+    let mut machine = loaded_texts(alloc, texts)?;
+    for row in rows.lines() {
+        let (events, want) = row.split_once(" | ").ok_or("a row without events")?;
+        let told = told(alloc, &mut machine, events)?;
+        assert!(rt; told.as_str() == want, "{row}");
+    }
+    Ok(())
+}
+
+#[test]
+fn a_synchronized_method_throws_in_two_threads(rt: HostRuntime) -> Result<(), Fail> {
+    let texts = [STARTS_TWO, CALLS_K, THROWS];
+    check_rows(&rt, rt.alloc(), &texts, SYNCHRONIZED_ROWS)
+}
+
+#[test]
+fn two_initializers_wait_for_one_another(rt: HostRuntime) -> Result<(), Fail> {
+    let texts = [STARTS_ONE, READS_B, A_READS_B, B_READS_A];
+    check_rows(&rt, rt.alloc(), &texts, INITIALIZER_ROWS)
+}
