@@ -1,2 +1,4 @@
 pub mod Listing
 pub mod Showing
+pub mod Reaching
+pub mod Cells
