@@ -2,3 +2,5 @@ pub mod Listing
 pub mod Showing
 pub mod Reaching
 pub mod Cells
+pub mod Lanes
+pub mod Carrying
