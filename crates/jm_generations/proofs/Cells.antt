@@ -133,3 +133,16 @@ left_is_used old new roots below sound only same =
     cells_covered new (reached_from old roots) sound l.distinct (λ k a. l.all k (only k a))
     ∙ cells_alike (object_at new) (object_at old) (reached_from old roots) (λ k a. ap (λ o. cells_of class_size o) (same k (l.only k a)))
     ∙ sym (used_is old roots)
+
+-- a resident's serial is among those of all
+pub serial_listed : (c : Content ClassId) (k : ℕ) (x : ObjectOf ClassId) → object_at c k ≡ Some x → Among k (serials_of c.residents)
+unfolding object_at
+serial_listed c k x e = in_list c.residents e
+  where
+    in_list : (rs : List (Resident ClassId)) → object_in rs k ≡ Some x → Among k (serials_of rs)
+    in_list [] e = cc
+    in_list (r ∷ rs) e = by (in_list rs) (eqb_tells k r.serial)
+      where
+        by : (object_in rs k ≡ Some x → Among k (serials_of rs)) → Told k r.serial → Among k (serials_of (r ∷ rs))
+        by later (inl t) = inl t.1
+        by later (inr t) = inr (later (sym (ap (λ b. elim b as (λ _. Option (ObjectOf ClassId)) [ true ↦ Some r.object | false ↦ object_in rs k ]) t.0) ∙ e))

@@ -4,3 +4,4 @@ pub mod Reaching
 pub mod Cells
 pub mod Lanes
 pub mod Carrying
+pub mod Making

@@ -1,3 +1,4 @@
 pub mod Generations
 pub mod Residents
 pub mod Invariant
+pub mod Steps
