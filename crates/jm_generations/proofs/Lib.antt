@@ -5,3 +5,4 @@ pub mod Cells
 pub mod Lanes
 pub mod Carrying
 pub mod Making
+pub mod Setting
