@@ -80,3 +80,26 @@ module _ (g : Generations) (l : AreLaned g) where
 -- no place is in both
 pub not_both : (p : ℕ) → IsYoung p → lane_of p ≡ old_lane → ⊥
 not_both p y e = omega (arith, e, y.few)
+
+-- generations that have the same in each lane
+pub same_lying : (g h : Generations) → AreLaned g → AreLaned h → (p : ℕ) → (IsYoung p → objects_at h.nurseries p ≡ objects_at g.nurseries p) → (lane_of p ≡ old_lane → objects_in h.tenured p ≡ objects_in g.tenured p) → lying h p ≡ lying g p
+same_lying g h l m p young old = by (lying g p) refl (lying h p) refl
+  where
+    in_young : IsYoung p → lying h p ≡ lying g p
+    in_young y = lying_young h m p y ∙ young y ∙ sym (lying_young g l p y)
+
+    in_old : lane_of p ≡ old_lane → lying h p ≡ lying g p
+    in_old e = lying_old h m p e ∙ old e ∙ sym (lying_old g l p e)
+
+    of_old : {a : Object} → LiesYoung g p a ⊎ LiesOld g p a → lying h p ≡ lying g p
+    of_old (inl x) = in_young x.young
+    of_old (inr x) = in_old x.lane
+
+    of_new : {a : Object} → LiesYoung h p a ⊎ LiesOld h p a → lying h p ≡ lying g p
+    of_new (inl x) = in_young x.young
+    of_new (inr x) = in_old x.lane
+
+    by : (x : Option Object) → lying g p ≡ x → (y : Option Object) → lying h p ≡ y → lying h p ≡ lying g p
+    by (Some a) e y f = of_old (lies_where g l p a e)
+    by None e (Some b) f = of_new (lies_where h m p b f)
+    by None e None f = f ∙ sym e

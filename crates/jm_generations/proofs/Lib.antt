@@ -6,3 +6,4 @@ pub mod Lanes
 pub mod Carrying
 pub mod Making
 pub mod Setting
+pub mod Storing

@@ -45,7 +45,7 @@ places_append : (xs ys : List Placed) → places (xs ++ ys) ≡ places xs ++ pla
 places_append [] ys = refl
 places_append (x ∷ xs) ys = ap (λ l. x.place ∷ l) (places_append xs ys)
 
-distinct_append : (ns ms : List ℕ) → AllDistinct ns → AllDistinct ms → ((n : ℕ) → Among n ns → Among n ms → ⊥) → AllDistinct (ns ++ ms)
+pub distinct_append : (ns ms : List ℕ) → AllDistinct ns → AllDistinct ms → ((n : ℕ) → Among n ns → Among n ms → ⊥) → AllDistinct (ns ++ ms)
 distinct_append [] ms d e h = e
 distinct_append (n ∷ ns) ms d e h = (λ a. by (among_split n ns ms a), distinct_append ns ms d.1 e (λ m a b. h m (inr a) b))
   where

@@ -1,5 +1,5 @@
 -- What a heap of generations does, by what lies at places afterwards.
-use Rattle.std.specs.Prelude.{◌≡◌, ◌≢◌, ◌⊎◌, ℕ, ◌+◌, ◌<◌, ◌≤◌, ◌^◌, List, [], Option, Some, None, length}
+use Rattle.std.specs.Prelude.{◌≡◌, ◌≢◌, ◌⊎◌, ℕ, ◌+◌, ◌<◌, ◌≤◌, ◌^◌, List, [], Some, None, slice_set}
 use Rattle.jm_values.specs.Shape.{Among}
 use Rattle.jm_values.specs.Rename.{refs, stack_shape}
 use Rattle.jm_values.specs.Reach.{AllDistinct}
@@ -7,7 +7,7 @@ use Rattle.jm_values.specs.declared.value.Value.{Value}
 use Rattle.jm_blocks.specs.Objects.{Object, with_value}
 use Rattle.jm_blocks.specs.Cells.{object_cells}
 use Rattle.jm_blocks.specs.Places.{lane_of}
-use Rattle.jm_blocks.specs.Stores.{objects_in, HasObject}
+use Rattle.jm_blocks.specs.Stores.{Blocks}
 use Rattle.jm_nursery.specs.Nurseries.{AreNurseries}
 use Rattle.jm_generations.specs.Generations.{Generations, IsYoung, lying, old_lane, all_cells}
 
@@ -51,3 +51,11 @@ pub record IsWritten (g h : Generations) (p i : ℕ) (v : Value) : Type 0 where
   pub others : (q : ℕ) → q ≢ p → lying h q ≡ lying g q
   pub noted : IsNoted g h p v
   pub cells : all_cells h ≡ all_cells g
+
+-- the generations with another store for a nursery and another next serial
+abbrev pub with_nursery : Generations → ℕ → Blocks → ℕ → Generations
+with_nursery g n s next = record { limit = g.limit; next = next; nurseries = slice_set g.nurseries n s; tenured = g.tenured; remembered = g.remembered }
+
+-- and with another store of the old objects, of which these are remembered
+abbrev pub with_tenured : Generations → Blocks → List ℕ → Generations
+with_tenured g s remembered = record { limit = g.limit; next = g.next; nurseries = g.nurseries; tenured = s; remembered = remembered }
