@@ -7,3 +7,5 @@ pub mod Carrying
 pub mod Making
 pub mod Setting
 pub mod Storing
+pub mod Counting
+pub mod Collecting

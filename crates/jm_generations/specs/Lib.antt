@@ -2,3 +2,4 @@ pub mod Generations
 pub mod Residents
 pub mod Invariant
 pub mod Steps
+pub mod Collections
