@@ -9,3 +9,5 @@ pub mod Setting
 pub mod Storing
 pub mod Counting
 pub mod Collecting
+pub mod Surviving
+pub mod CollectingAll
