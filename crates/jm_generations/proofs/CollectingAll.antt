@@ -19,7 +19,7 @@ use Rattle.jm_copy.specs.Collected.{IsCollected, survivors, fresh, promoted_in}
 use Rattle.jm_generations.specs.Generations.{Generations, IsYoung, stores_of, lying, old_lane, all_cells}
 use Rattle.jm_generations.specs.Residents.{named, content_of}
 use Rattle.jm_generations.specs.Invariant.{AreGenerations, AreAged, AreRemembered}
-use Rattle.jm_generations.specs.Collections.{AreSurvivors, IsWhole, LeavesAllReached, collected_fully}
+use Rattle.jm_generations.specs.Collections.{AreSurvivors, IsWhole, LeavesAllReached, collected_as}
 use Rattle.jm_generations.proofs.Showing.{Told}
 use Rattle.jm_generations.proofs.Reaching.{LiesAt, name_is, resident_lies, reached_name}
 use Rattle.jm_generations.proofs.Cells.{left_is_used, used_at_most}
@@ -33,7 +33,7 @@ use Rattle.jm_generations.proofs.Surviving.{first_has, survivors_young, survivor
 -- what is condemned, an empty store of the old objects' lane, and what a collection made of them
 module _ (g : Generations) (v : AreGenerations g) (before young tenured : Blocks) (roots remembered new_roots : List ℕ) (lane : before.lane ≡ old_lane) (empty : IsEmpty before) (c : IsCollected (stores_of g) before roots young tenured remembered new_roots) (stores : List Blocks) (s : AreSurvivors young stores) where
   abbrev h : Generations
-  h = collected_fully g stores tenured remembered
+  h = collected_as g stores tenured remembered
 
   abbrev m : ℕ → ℕ
   m = renamed c.moved

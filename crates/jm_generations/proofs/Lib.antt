@@ -11,3 +11,5 @@ pub mod Counting
 pub mod Collecting
 pub mod Surviving
 pub mod CollectingAll
+pub mod WritingBack
+pub mod CollectingYoung

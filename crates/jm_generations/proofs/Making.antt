@@ -43,7 +43,7 @@ reached_below g v roots r k h =
     let x = reached_lies (lying g) (content_of g) (shown g v) (LiesAt (lying g)) roots (resident_lies (lying g) (content_of g) (shown g v) roots r) (λ p q a s e m. v.told.closed p q a e m) (λ p s. s) k h in
     subst (λ n. n < g.next) x.serial (v.told.below x.place x.object x.lies)
 
-unnamed_map : (ps : List ℕ) → map (λ p. p) ps ≡ ps
+pub unnamed_map : (ps : List ℕ) → map (λ p. p) ps ≡ ps
 unnamed_map [] = refl
 unnamed_map (p ∷ ps) = ap (λ l. p ∷ l) (unnamed_map ps)
 
