@@ -119,7 +119,7 @@ at_cells [] p o h = absurd h
 at_cells (x ∷ xs) p o (inl e) = let two = at_least_two x.object.class (length x.object.values) in omega (arith, two)
 at_cells (x ∷ xs) p o (inr h) = let more = at_cells xs p o h in omega (arith, more)
 
-no_cells : (s : Blocks) → lane_cells s ≡ 0 → IsEmpty s
+pub no_cells : (s : Blocks) → lane_cells s ≡ 0 → IsEmpty s
 no_cells s e q = by (objects_in s q) refl
   where
     by : (x : Option Object) → objects_in s q ≡ x → x ≡ None
@@ -129,7 +129,7 @@ no_cells s e q = by (objects_in s q) refl
         let most = blocks_at_most s.lane 0 s.lists in
         absurd (omega (arith, some, most, e))
 
-none_has : (stores : List Blocks) (n : ℕ) (s : Blocks) → young_cells stores ≡ 0 → slice_get stores n ≡ Some s → lane_cells s ≡ 0
+pub none_has : (stores : List Blocks) (n : ℕ) (s : Blocks) → young_cells stores ≡ 0 → slice_get stores n ≡ Some s → lane_cells s ≡ 0
 none_has [] n s e f = cc
 none_has (x ∷ stores) zero s e f =
     let same : x ≡ s = cc in
@@ -157,3 +157,13 @@ first_nursery stores young r e lane =
       others = λ n s f. no_cells s (none_has stores (suc n) s e (sym (get_set_other stores zero (suc n) young (λ k. absurd (omega (arith, k)))) ∙ f));
       cells = (omega (arith, set, none, e));
     }
+
+-- and where they count none there are no residents
+pub counted_none : (g : Generations) → young_cells g.nurseries ≡ 0 → lane_cells g.tenured ≡ 0 → resident_cells (content_of g) ≡ all_cells g
+unfolding resident_cells content_of
+counted_none g none bare =
+    let all = resident_placed (serial_name g) (placed_in (stores_of g)) in
+    let both = placed_append g.nurseries g.tenured in
+    let young = stores_at_most g.nurseries in
+    let old = blocks_at_most g.tenured.lane 0 g.tenured.lists in
+    omega (arith, all, both, young, old, none, bare)

@@ -13,3 +13,6 @@ pub mod Surviving
 pub mod CollectingAll
 pub mod WritingBack
 pub mod CollectingYoung
+pub mod Following
+pub mod Reading
+pub mod Starting
