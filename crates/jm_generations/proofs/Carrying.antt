@@ -4,8 +4,7 @@ use Rattle.std.specs.Prelude.{map}
 use Rattle.jm_values.specs.declared.value.Value.{Value}
 use Rattle.jm_values.specs.Shape.{Among}
 use Rattle.jm_values.specs.Rename.{rename, stack_shape}
-use Rattle.jm_values.specs.Objects.{ObjectOf}
-use Rattle.jm_values.specs.Content.{Content, IsSound, Kept, AllResident, Reached, object_at, name_of}
+use Rattle.jm_values.specs.Content.{Content, IsSound, Kept, Reached, object_at, name_of}
 use Rattle.jm_values.proofs.Among.{among_mapped}
 use Rattle.jm_values.proofs.Renaming.{stack_is_shape}
 use Rattle.jm_heap.specs.Collection.{IsAsBefore}

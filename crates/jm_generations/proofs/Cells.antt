@@ -1,11 +1,11 @@
 -- The cells of all residents, as those of their serials.
-use Rattle.std.proofs.Common.{◌≡◌, ◌≢◌, ◌⊎◌, ℕ, ◌+◌, ◌<◌, ◌≤◌, List, [], ◌∷◌, Option, Some, None, true, false, refl, sym, ap, ◌∙◌, subst, inl, inr, arith}
+use Rattle.std.proofs.Common.{◌≡◌, ◌⊎◌, ℕ, ◌+◌, ◌<◌, ◌≤◌, List, [], ◌∷◌, Option, Some, None, true, false, refl, sym, ap, ◌∙◌, subst, inl, inr, arith}
 use Rattle.std.specs.Prelude.{map, nat_eq}
 use Rattle.std.proofs.lemmas.Bool.Decides.{eqb_tells}
 use Rattle.jm_values.specs.Shape.{Among}
 use Rattle.jm_values.specs.Objects.{ObjectOf, cells_of, size_by}
 use Rattle.jm_values.specs.Reach.{reached, cells, reached_cells, AllDistinct}
-use Rattle.jm_values.specs.Content.{Content, Resident, IsSound, AllResident, Reached, used_by, object_in, object_at, name_of, serials_of}
+use Rattle.jm_values.specs.Content.{Content, Resident, IsSound, Reached, used_by, object_in, object_at, name_of, serials_of}
 use Rattle.jm_values.proofs.Reaching.{reached_is_least}
 use Rattle.jm_heap.specs.Cells.{class_size, cells_of_all, resident_cells}
 use Rattle.jm_heap.specs.declared.class_id.ClassId.{ClassId}

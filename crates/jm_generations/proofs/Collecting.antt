@@ -1,10 +1,10 @@
 -- Generations in which what survives of others lies under other places.
-use Rattle.std.proofs.Common.{◌≡◌, ◌⊎◌, ℕ, ◌<◌, ◌≤◌, List, [], ◌∷◌, Option, Some, None, refl, sym, ap, ◌∙◌, subst, inl, inr, arith}
+use Rattle.std.proofs.Common.{◌≡◌, ℕ, ◌≤◌, List, Option, Some, None, refl, sym, ap, ◌∙◌, subst, arith}
 use Rattle.std.specs.Prelude.{map}
 use Rattle.jm_values.specs.Shape.{Among}
 use Rattle.jm_values.specs.Rename.{stack_shape}
 use Rattle.jm_values.specs.Objects.{ObjectOf, cells_of}
-use Rattle.jm_values.specs.Content.{Content, IsSound, Kept, serials_of, object_at, name_of}
+use Rattle.jm_values.specs.Content.{IsSound, Kept, serials_of, object_at, name_of}
 use Rattle.jm_heap.specs.Cells.{class_size, resident_cells}
 use Rattle.jm_heap.specs.Collection.{IsAsBefore}
 use Rattle.jm_heap.specs.declared.class_id.ClassId.{ClassId}

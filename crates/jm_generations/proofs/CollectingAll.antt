@@ -1,6 +1,6 @@
 -- A full collection of the generations.
-use Rattle.std.proofs.Common.{◌≡◌, ◌≢◌, ◌⊎◌, ℕ, ◌<◌, ◌≤◌, List, [], ◌∷◌, Option, Some, None, true, refl, sym, ap, ◌∙◌, subst, inl, inr, arith}
-use Rattle.std.specs.Prelude.{map, unwrap_or}
+use Rattle.std.proofs.Common.{◌≡◌, ◌≢◌, ◌⊎◌, ℕ, List, Option, Some, None, refl, sym, ap, ◌∙◌, subst, inl, inr, arith}
+use Rattle.std.specs.Prelude.{unwrap_or}
 use Rattle.std.proofs.lemmas.Bool.Decides.{eqb_tells}
 use Rattle.jm_values.specs.Shape.{Among}
 use Rattle.jm_values.specs.Rename.{stack_shape}
@@ -14,20 +14,19 @@ use Rattle.jm_blocks.specs.Places.{lane_of}
 use Rattle.jm_blocks.specs.Stores.{Blocks, objects_in, IsEmpty}
 use Rattle.jm_blocks.proofs.Placing.{lies_in, elsewhere}
 use Rattle.jm_scan.specs.Image.{IsReached, bare_at, renamed, copy_of}
-use Rattle.jm_copy.specs.Condemned.{objects_at}
 use Rattle.jm_copy.specs.Collected.{IsCollected, survivors, fresh, promoted_in}
-use Rattle.jm_generations.specs.Generations.{Generations, IsYoung, stores_of, lying, old_lane, all_cells}
-use Rattle.jm_generations.specs.Residents.{named, content_of}
+use Rattle.jm_generations.specs.Generations.{Generations, IsYoung, stores_of, lying, old_lane}
+use Rattle.jm_generations.specs.Residents.{content_of}
 use Rattle.jm_generations.specs.Invariant.{AreGenerations, AreAged, AreRemembered}
 use Rattle.jm_generations.specs.Collections.{AreSurvivors, IsWhole, LeavesAllReached, collected_as}
 use Rattle.jm_generations.proofs.Showing.{Told}
 use Rattle.jm_generations.proofs.Reaching.{LiesAt, name_is, resident_lies, reached_name}
 use Rattle.jm_generations.proofs.Cells.{left_is_used, used_at_most}
-use Rattle.jm_generations.proofs.Lanes.{AreLaned, LiesYoung, LiesOld, lying_young, lying_old, lies_where, young_lies, old_lies}
+use Rattle.jm_generations.proofs.Lanes.{AreLaned, LiesYoung, LiesOld, lying_young, lying_old, lies_where, old_lies}
 use Rattle.jm_generations.proofs.Carrying.{Carries, IsCarried, IsAllCarried}
 use Rattle.jm_generations.proofs.Making.{shown, reached_below}
 use Rattle.jm_generations.proofs.Counting.{counted}
-use Rattle.jm_generations.proofs.Collecting.{From, from, told_after, shown_after, sound_after, next_same, kept_after, before_after}
+use Rattle.jm_generations.proofs.Collecting.{from, told_after, shown_after, sound_after, next_same, kept_after, before_after}
 use Rattle.jm_generations.proofs.Surviving.{first_has, survivors_young, survivors_old, pointing}
 
 -- what is condemned, an empty store of the old objects' lane, and what a collection made of them

@@ -1,5 +1,5 @@
 -- A minor collection of the generations.
-use Rattle.std.proofs.Common.{◌≡◌, ◌≢◌, ◌⊎◌, ℕ, ◌<◌, ◌≤◌, List, [], ◌∷◌, ◌++◌, Option, Some, None, Bool, true, false, refl, sym, ap, ◌∙◌, subst, inl, inr, length, arith}
+use Rattle.std.proofs.Common.{◌≡◌, ◌⊎◌, ℕ, List, ◌++◌, Option, Some, None, Bool, true, false, refl, sym, ap, ◌∙◌, subst, inl, inr, length, arith}
 use Rattle.std.specs.Prelude.{map, unwrap_or}
 use Rattle.std.proofs.lemmas.Bool.Decides.{eqb_tells}
 use Rattle.jm_values.specs.declared.value.Value.{Value}
@@ -20,12 +20,12 @@ use Rattle.jm_scan.specs.Image.{IsReached, bare_at, renamed, copy_of}
 use Rattle.jm_copy.specs.Condemned.{objects_at}
 use Rattle.jm_copy.specs.Collected.{IsCollected, survivors, fresh, promoted_in}
 use Rattle.jm_copy.specs.Pointing.{points_to}
-use Rattle.jm_generations.specs.Generations.{Generations, IsYoung, lying, old_lane, all_cells}
+use Rattle.jm_generations.specs.Generations.{Generations, IsYoung, lying, old_lane}
 use Rattle.jm_generations.specs.Residents.{content_of}
 use Rattle.jm_generations.specs.Invariant.{AreGenerations, AreAged, AreRemembered}
-use Rattle.jm_generations.specs.Collections.{AreSurvivors, AreWrittenBack, AreStillRemembered, IsWhole, LeavesOldAndReached, Stays, WasOld, WasReached, collected_as, fields_of, minor_roots, with_values}
+use Rattle.jm_generations.specs.Collections.{AreSurvivors, AreWrittenBack, AreStillRemembered, IsWhole, LeavesOldAndReached, Stays, collected_as, fields_of, minor_roots, with_values}
 use Rattle.jm_generations.proofs.Showing.{Told}
-use Rattle.jm_generations.proofs.Reaching.{LiesAt, resident_lies}
+use Rattle.jm_generations.proofs.Reaching.{resident_lies}
 use Rattle.jm_generations.proofs.Lanes.{AreLaned, LiesYoung, LiesOld, lying_young, lying_old, lies_where, young_lies, old_lies, not_both}
 use Rattle.jm_generations.proofs.Carrying.{Carries, IsCarried, IsAllCarried, carried_same}
 use Rattle.jm_generations.proofs.Making.{laned, shown}

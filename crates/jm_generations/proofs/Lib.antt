@@ -16,3 +16,4 @@ pub mod CollectingYoung
 pub mod Following
 pub mod Reading
 pub mod Starting
+pub mod Keeping

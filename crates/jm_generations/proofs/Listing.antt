@@ -1,5 +1,5 @@
 -- The list of placed objects has what lies at places, each place once.
-use Rattle.std.proofs.Common.{◌≡◌, ◌≢◌, ◌⊎◌, ℕ, zero, suc, ◌+◌, ◌-◌, ◌<◌, ◌≤◌, List, [], ◌∷◌, ◌++◌, Option, Some, None, refl, sym, ap, ◌∙◌, subst, inl, inr, length, arith, take}
+use Rattle.std.proofs.Common.{◌≡◌, ◌⊎◌, ℕ, zero, suc, ◌+◌, ◌-◌, ◌<◌, ◌≤◌, List, [], ◌∷◌, ◌++◌, Some, refl, sym, ap, ◌∙◌, subst, inl, inr, length, arith, take}
 use Rattle.std.specs.Prelude.{slice_get}
 use Rattle.std.proofs.lemmas.Option.{slice_get_within}
 use Rattle.jm_values.specs.Shape.{Among}
@@ -10,7 +10,7 @@ use Rattle.jm_blocks.specs.Places.{place_at, lane_of, block_of, index_of}
 use Rattle.jm_blocks.specs.Stores.{Blocks, objects_in, object_of_list}
 use Rattle.jm_blocks.proofs.Placing.{LiesIn, lies_in, at_place, parts, lane_put, block_put, index_put}
 use Rattle.jm_copy.specs.Condemned.{AreLanes, objects_at, object_of_store}
-use Rattle.jm_copy.proofs.Numbering.{LiesAt, lies_at, lane_there}
+use Rattle.jm_copy.proofs.Numbering.{lies_at}
 use Rattle.jm_generations.specs.Residents.{Placed, placed_in_block, placed_in_blocks, placed_in}
 
 -- the list has the object at the place

@@ -1,13 +1,13 @@
 -- An object is put into a nursery.
-use Rattle.std.proofs.Common.{◌≡◌, ◌≢◌, ◌⊎◌, ℕ, zero, suc, ◌+◌, ◌<◌, ◌≤◌, ◌^◌, List, [], ◌∷◌, Option, Some, None, refl, sym, ap, ◌∙◌, subst, inl, inr, length, arith}
-use Rattle.std.specs.Prelude.{map, nat_eq}
+use Rattle.std.proofs.Common.{◌≡◌, ◌≢◌, ◌⊎◌, ℕ, ◌+◌, ◌<◌, ◌≤◌, ◌^◌, List, [], ◌∷◌, Some, None, refl, sym, ap, ◌∙◌, subst, inl, inr, arith}
+use Rattle.std.specs.Prelude.{map}
 use Rattle.std.proofs.lemmas.Bool.Decides.{eqb_tells}
 use Rattle.jm_values.specs.declared.value.Value.{Value}
 use Rattle.jm_values.specs.Shape.{Among}
-use Rattle.jm_values.specs.Rename.{rename, stack_shape}
+use Rattle.jm_values.specs.Rename.{stack_shape}
 use Rattle.jm_values.specs.Objects.{ObjectOf, cells_of}
-use Rattle.jm_values.specs.Reach.{AllDistinct, cells}
-use Rattle.jm_values.specs.Content.{Content, IsSound, Kept, Made, AllResident, Reached, serials_of, serial_at, object_at, name_of}
+use Rattle.jm_values.specs.Reach.{AllDistinct}
+use Rattle.jm_values.specs.Content.{Content, IsSound, Kept, AllResident, Reached, serials_of, object_at, name_of}
 use Rattle.jm_values.proofs.Renaming.{stack_is_shape}
 use Rattle.jm_heap.specs.Cells.{class_size, resident_cells}
 use Rattle.jm_heap.specs.Allocation.{MadeHere}
@@ -24,7 +24,7 @@ use Rattle.jm_generations.specs.Steps.{IsNew, IsPut}
 use Rattle.jm_generations.proofs.Showing.{Shows, Told, shows, sound_content}
 use Rattle.jm_generations.proofs.Reaching.{LiesAt, at_place, serial_is, resident_lies, reached_lies}
 use Rattle.jm_generations.proofs.Cells.{cells_covered, cells_alike, used_at_most, serial_listed}
-use Rattle.jm_generations.proofs.Lanes.{AreLaned, lanes, lying_young, young_lies, old_lies}
+use Rattle.jm_generations.proofs.Lanes.{AreLaned, lanes, lying_young, young_lies}
 use Rattle.jm_generations.proofs.Carrying.{Carries, kept, carried_same}
 
 pub laned : (g : Generations) → AreGenerations g → AreLaned g

@@ -1,5 +1,5 @@
 -- What is reached by serial lies at places, and what is reached by place is reached by serial.
-use Rattle.std.proofs.Common.{◌≡◌, ℕ, List, [], ◌∷◌, Option, Some, None, refl, sym, ap, ◌∙◌, subst, inl, inr}
+use Rattle.std.proofs.Common.{◌≡◌, ℕ, List, Option, Some, None, refl, sym, ap, ◌∙◌, subst}
 use Rattle.std.specs.Prelude.{map, unwrap_or}
 use Rattle.jm_values.specs.Shape.{Among}
 use Rattle.jm_values.specs.Rename.{rename, stack_shape}
@@ -11,8 +11,8 @@ use Rattle.jm_values.proofs.Reaching.{reach_within}
 use Rattle.jm_heap.specs.declared.class_id.ClassId.{ClassId}
 use Rattle.jm_heap.proofs.SoundLemmas.{refs_renamed}
 use Rattle.jm_blocks.specs.Objects.{Object}
-use Rattle.jm_scan.specs.Image.{bare_at, IsReached}
-use Rattle.jm_generations.specs.Residents.{serial_of, named}
+use Rattle.jm_scan.specs.Image.{bare_at}
+use Rattle.jm_generations.specs.Residents.{serial_of}
 use Rattle.jm_generations.proofs.Showing.{Shows}
 
 -- the object of a serial

@@ -1,11 +1,10 @@
 -- What the content says of a place, and what lies there.
-use Rattle.std.proofs.Common.{◌≡◌, ℕ, ◌<◌, ◌≤◌, List, [], ◌∷◌, Option, Some, None, refl, sym, ap, ◌∙◌, subst, inl, inr, length}
-use Rattle.std.specs.Prelude.{map, slice_get}
+use Rattle.std.proofs.Common.{◌≡◌, ℕ, ◌<◌, Some, sym, ap, ◌∙◌, subst, length}
+use Rattle.std.specs.Prelude.{slice_get}
 use Rattle.std.proofs.lemmas.List.{length-map}
 use Rattle.std.proofs.lemmas.Option.{slice_get_within}
 use Rattle.jm_values.specs.declared.value.Value.{Value}
-use Rattle.jm_values.specs.Shape.{Among}
-use Rattle.jm_values.specs.Rename.{rename, refs, value_shape, stack_shape}
+use Rattle.jm_values.specs.Rename.{rename, refs, value_shape}
 use Rattle.jm_values.specs.Objects.{ObjectOf}
 use Rattle.jm_values.specs.Content.{AllResident, HasValue, serial_at, object_at, name_of}
 use Rattle.jm_values.proofs.Lists.{get_map, refs_in}

@@ -1,5 +1,5 @@
 -- One value of an object is another.
-use Rattle.std.proofs.Common.{◌≡◌, ◌≢◌, ◌⊎◌, ℕ, ◌+◌, ◌<◌, ◌≤◌, List, [], ◌∷◌, Option, Some, None, refl, sym, ap, ◌∙◌, subst, inl, inr, length, arith}
+use Rattle.std.proofs.Common.{◌≡◌, ◌≢◌, ◌⊎◌, ℕ, List, Option, Some, None, refl, sym, ap, ◌∙◌, subst, inl, inr, length, arith}
 use Rattle.std.specs.Prelude.{map, slice_set, unwrap_or}
 use Rattle.std.proofs.lemmas.Bool.Decides.{eqb_tells}
 use Rattle.std.proofs.lemmas.List.{length-map, length-set}
@@ -13,13 +13,13 @@ use Rattle.jm_heap.specs.Cells.{class_size, resident_cells}
 use Rattle.jm_heap.specs.declared.class_id.ClassId.{ClassId}
 use Rattle.jm_blocks.specs.Objects.{Object, with_value}
 use Rattle.jm_blocks.specs.Places.{lane_of}
-use Rattle.jm_blocks.specs.Stores.{objects_in, HasObject}
-use Rattle.jm_generations.specs.Generations.{Generations, IsYoung, lying, old_lane, all_cells}
+use Rattle.jm_blocks.specs.Stores.{HasObject}
+use Rattle.jm_generations.specs.Generations.{Generations, IsYoung, lying, old_lane}
 use Rattle.jm_generations.specs.Residents.{serial_of, named, content_of}
 use Rattle.jm_generations.specs.Invariant.{AreGenerations, AreTold, AreAged, AreRemembered}
 use Rattle.jm_generations.specs.Steps.{IsWritten}
 use Rattle.jm_generations.proofs.Showing.{Shows, Told, shows, sound_content, named_same}
-use Rattle.jm_generations.proofs.Reaching.{LiesAt, at_place, serial_is, name_is, resident_lies}
+use Rattle.jm_generations.proofs.Reaching.{LiesAt, serial_is, resident_lies}
 use Rattle.jm_generations.proofs.Cells.{cells_covered, cells_alike, serial_listed}
 use Rattle.jm_generations.proofs.Lanes.{AreLaned, lanes, lying_young, lying_old, young_lies, old_lies}
 use Rattle.jm_generations.proofs.Making.{laned, shown, sound}

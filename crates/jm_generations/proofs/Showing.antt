@@ -1,5 +1,5 @@
 -- The content of generations, by place and by serial.
-use Rattle.std.proofs.Common.{◌≡◌, ◌≢◌, ◌⊎◌, ℕ, suc, ◌<◌, List, [], ◌∷◌, ◌++◌, Option, Some, None, Bool, true, false, refl, sym, ap, ◌∙◌, subst, inl, inr}
+use Rattle.std.proofs.Common.{◌≡◌, ◌≢◌, ◌⊎◌, ℕ, ◌<◌, List, [], ◌∷◌, Option, Some, None, Bool, true, false, refl, sym, ap, ◌∙◌, subst, inl, inr}
 use Rattle.std.specs.Prelude.{map, nat_eq, unwrap_or}
 use Rattle.std.proofs.lemmas.Bool.Decides.{eqb_tells}
 use Rattle.jm_values.specs.Shape.{Among}
@@ -14,7 +14,7 @@ use Rattle.jm_copy.specs.Condemned.{AreLanes}
 use Rattle.jm_generations.specs.Generations.{Generations, stores_of, lying}
 use Rattle.jm_generations.specs.Residents.{Placed, placed_in, serial_of, serial_name, named, resident_of, content_of}
 use Rattle.jm_generations.specs.Invariant.{AreTold}
-use Rattle.jm_generations.proofs.Listing.{At, places, among_places, listed_lies, lies_listed, distinct_places}
+use Rattle.jm_generations.proofs.Listing.{At, places, listed_lies, lies_listed, distinct_places}
 
 abbrev pub Told : ℕ → ℕ → Type 0
 Told a b = ((nat_eq a b ≡ true) × (a ≡ b)) ⊎ ((nat_eq a b ≡ false) × (a ≢ b))

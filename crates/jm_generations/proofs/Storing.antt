@@ -1,6 +1,6 @@
 -- A change of one store is a step of the generations.
-use Rattle.std.proofs.Common.{◌≡◌, ◌≢◌, ◌⊎◌, ℕ, ◌+◌, ◌-◌, ◌<◌, ◌≤◌, List, [], ◌∷◌, ◌++◌, Option, Some, None, Bool, true, false, cond, refl, sym, ap, ◌∙◌, subst, inl, inr, length, arith}
-use Rattle.std.specs.Prelude.{◌&&◌, slice_get, slice_set, nat_eq, nat_le}
+use Rattle.std.proofs.Common.{◌≡◌, ◌≢◌, ℕ, ◌+◌, ◌-◌, ◌<◌, ◌≤◌, List, [], ◌∷◌, ◌++◌, Some, None, Bool, true, false, cond, refl, sym, ap, ◌∙◌, subst, inl, inr, arith}
+use Rattle.std.specs.Prelude.{◌&&◌, slice_get, slice_set, nat_le}
 use Rattle.std.proofs.lemmas.Bool.{leb-true, le-leb}
 use Rattle.std.proofs.lemmas.Bool.Decides.{eqb_tells}
 use Rattle.std.proofs.lemmas.List.{length-set}
@@ -8,8 +8,8 @@ use Rattle.std.proofs.lemmas.List.Sums.{sum_by-set}
 use Rattle.std.proofs.lemmas.Option.{slice_get_within, get_or_from_slice_get}
 use Rattle.jm_values.specs.declared.value.Value.{Value}
 use Rattle.jm_values.specs.Shape.{Among}
-use Rattle.jm_values.specs.Rename.{refs, stack_shape}
-use Rattle.jm_values.specs.Reach.{AllDistinct, is_among}
+use Rattle.jm_values.specs.Rename.{refs}
+use Rattle.jm_values.specs.Reach.{is_among}
 use Rattle.jm_values.proofs.Reaching.{among_from_test, not_among_from_test}
 use Rattle.jm_values.proofs.Among.{among_left, among_right, among_split}
 use Rattle.jm_blocks.specs.Objects.{Object, with_value}
@@ -19,9 +19,9 @@ use Rattle.jm_blocks.specs.Stores.{Blocks, objects_in, store_cells, store_with, 
 use Rattle.jm_blocks.proofs.Placing.{lies_in, get_set_same, get_set_other}
 use Rattle.jm_nursery.specs.Nurseries.{Young, AreNurseries, IsMade, lane_cells, young_cells, nursery_at}
 use Rattle.jm_barrier.specs.Remembered.{noted}
-use Rattle.jm_copy.specs.Condemned.{AreLanes, objects_at, object_of_store}
+use Rattle.jm_copy.specs.Condemned.{objects_at, object_of_store}
 use Rattle.jm_copy.proofs.Making.{bumped_free}
-use Rattle.jm_generations.specs.Generations.{Generations, IsYoung, stores_of, lying, old_lane, all_cells}
+use Rattle.jm_generations.specs.Generations.{Generations, IsYoung, lying, old_lane, all_cells}
 use Rattle.jm_generations.specs.Invariant.{AreGenerations}
 use Rattle.jm_generations.specs.Steps.{IsPut, IsNoted, IsWritten, with_nursery, with_tenured}
 use Rattle.jm_generations.proofs.Showing.{Told}

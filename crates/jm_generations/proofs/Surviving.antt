@@ -1,21 +1,18 @@
 -- The survivors lie in the first nursery or among the old objects.
-use Rattle.std.proofs.Common.{◌≡◌, ◌≢◌, ◌⊎◌, ℕ, zero, suc, ◌-◌, ◌<◌, List, [], ◌∷◌, Option, Some, None, Bool, true, false, cond, refl, sym, ap, ◌∙◌, subst, inl, inr, arith, eq-eqb, ◌||◌}
+use Rattle.std.proofs.Common.{◌≡◌, ◌≢◌, ℕ, zero, suc, ◌-◌, List, [], ◌∷◌, Option, Some, None, Bool, true, false, cond, refl, sym, ap, ◌∙◌, inl, inr, arith, eq-eqb, ◌||◌}
 use Rattle.std.specs.Prelude.{slice_get, nat_eq}
-use Rattle.std.proofs.lemmas.Bool.Decides.{eqb_tells}
 use Rattle.jm_values.specs.declared.value.Value.{Value}
 use Rattle.jm_values.specs.declared.value.Value.TheVariants.{Int, Long, Null, Ref}
 use Rattle.jm_values.specs.Shape.{Among}
 use Rattle.jm_values.specs.Rename.{stack_shape}
-use Rattle.jm_blocks.specs.Objects.{Object}
 use Rattle.jm_blocks.specs.Places.{lane_of}
 use Rattle.jm_blocks.specs.Stores.{Blocks, objects_in}
-use Rattle.jm_blocks.proofs.Placing.{lies_in, elsewhere}
+use Rattle.jm_blocks.proofs.Placing.{elsewhere}
 use Rattle.jm_copy.specs.Condemned.{objects_at, object_of_store}
 use Rattle.jm_copy.specs.Collected.{survivors, fresh}
-use Rattle.jm_copy.specs.Pointing.{names_lane, points_to}
+use Rattle.jm_copy.specs.Pointing.{points_to}
 use Rattle.jm_copy.proofs.Making.{unequal}
 use Rattle.jm_generations.specs.Collections.{AreSurvivors}
-use Rattle.jm_generations.proofs.Showing.{Told}
 
 -- nurseries that have the survivors have them in the first
 pub first_has : (young : Blocks) (stores : List Blocks) → AreSurvivors young stores → (p : ℕ) → objects_at stores p ≡ objects_in young p

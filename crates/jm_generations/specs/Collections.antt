@@ -15,8 +15,9 @@ use Rattle.jm_blocks.specs.Stores.{Blocks, IsEmpty, objects_in}
 use Rattle.jm_nursery.specs.Nurseries.{AreNurseries, lane_cells, young_cells}
 use Rattle.jm_scan.specs.Image.{IsReached}
 use Rattle.jm_copy.specs.Condemned.{objects_at}
+use Rattle.jm_copy.specs.Collected.{IsCollected}
 use Rattle.jm_copy.specs.Pointing.{points_to}
-use Rattle.jm_generations.specs.Generations.{Generations}
+use Rattle.jm_generations.specs.Generations.{Generations, stores_of, old_lane}
 use Rattle.jm_generations.specs.Residents.{content_of}
 use Rattle.jm_generations.specs.Invariant.{AreGenerations}
 
@@ -31,9 +32,22 @@ pub record AreSurvivors (young : Blocks) (stores : List Blocks) : Type 0 where
 abbrev pub IsWhole : Blocks → Type 0
 IsWhole s = (b : ℕ) (os : List Object) → slice_get s.lists b ≡ Some os → length os ≤ 256
 
--- the generations after a collection
+-- the generations with other objects
 abbrev pub collected_as : Generations → List Blocks → Blocks → List ℕ → Generations
 collected_as g nurseries tenured remembered = record { limit = g.limit; next = g.next; nurseries = nurseries; tenured = tenured; remembered = remembered }
+
+-- all stores were condemned, and the promoted objects put into an empty one
+pub record AreCollected (g h : Generations) (roots moved : List ℕ) : Type 0 where
+  pub limit : h.limit ≡ g.limit
+  pub next : h.next ≡ g.next
+  pub before : Blocks
+  pub lane : before.lane ≡ old_lane
+  pub empty : IsEmpty before
+  pub young : Blocks
+  pub collected : IsCollected (stores_of g) before roots young h.tenured h.remembered moved
+  pub nurseries : AreSurvivors young h.nurseries
+  pub young_whole : IsWhole young
+  pub old_whole : IsWhole h.tenured
 
 -- what is reached is left, as it was, and nothing else; no young object has survived none
 pub record LeavesAllReached (g h : Generations) (roots moved : List ℕ) : Type 0 where
@@ -77,6 +91,26 @@ pub record AreStillRemembered (lane : ℕ) (tenured : Blocks) (listed before aft
   pub only : (p : ℕ) → Among p after → Among p listed ⊎ Among p before
   pub distinct : AllDistinct after
 
+-- what a minor collection starts from: what the machine holds, and the fields of what is remembered
+abbrev pub minor_roots : Generations → List ℕ → List ℕ
+minor_roots g roots = roots ++ fields_of g.tenured g.remembered
+
+-- the nurseries were condemned, the moved fields written back, and what points to young ones remembered
+pub record AreCollectedYoung (g h : Generations) (roots moved : List ℕ) : Type 0 where
+  pub limit : h.limit ≡ g.limit
+  pub next : h.next ≡ g.next
+  pub young : Blocks
+  pub promoted : Blocks
+  pub listed : List ℕ
+  pub fields : List ℕ
+  pub collected : IsCollected g.nurseries g.tenured (minor_roots g roots) young promoted listed (moved ++ fields)
+  pub many : length moved ≡ length roots
+  pub written : AreWrittenBack g.remembered fields promoted h.tenured
+  pub remembered : AreStillRemembered young.lane h.tenured listed g.remembered h.remembered
+  pub nurseries : AreSurvivors young h.nurseries
+  pub young_whole : IsWhole young
+  pub old_whole : IsWhole h.tenured
+
 -- a serial of an old object, or of a young one that roots reach through young ones
 pub record WasOld (g : Generations) (k : ℕ) : Type 0 where
   pub place : ℕ
@@ -90,10 +124,6 @@ pub record WasReached (g : Generations) (roots : List ℕ) (k : ℕ) : Type 0 wh
   pub lies : objects_at g.nurseries place ≡ Some object
   pub reached : IsReached (objects_at g.nurseries) roots place
   pub serial : object.serial ≡ k
-
--- what a minor collection starts from: what the machine holds, and the fields of what is remembered
-abbrev pub minor_roots : Generations → List ℕ → List ℕ
-minor_roots g roots = roots ++ fields_of g.tenured g.remembered
 
 abbrev pub Stays : Generations → List ℕ → ℕ → Type 0
 Stays g roots k = WasOld g k ⊎ WasReached g (minor_roots g roots) k

@@ -3,3 +3,4 @@ pub mod Residents
 pub mod Invariant
 pub mod Steps
 pub mod Collections
+pub mod Laws
