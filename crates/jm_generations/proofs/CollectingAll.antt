@@ -109,7 +109,6 @@ module _ (g : Generations) (v : AreGenerations g) (before young tenured : Blocks
   remembered_after = record {
     covers = λ p q a e k y. covers p q a e k y;
     old = λ p k. let x = c.pointers.sound p k in (x.0, sym (promoted_is p) ∙ x.1);
-    distinct = c.pointers.distinct;
   }
     where
       in_first : (q : ℕ) → IsYoung q → LiesAt (lying h) q → lane_of q ≡ young.lane

@@ -189,7 +189,6 @@ module _ (g : Generations) (v : AreGenerations g) (young promoted tenured : Bloc
   remembered_after = record {
     covers = λ p q a e k y. covers p q a e k y (objects_in g.tenured p) refl;
     old = λ p k. old p (t.only p k);
-    distinct = t.distinct;
   }
     where
       points : (p q : ℕ) (a : Object) → objects_in tenured p ≡ Some a → Among q (stack_shape.refs a.values) → IsYoung q → points_to 1 a.values ≡ true

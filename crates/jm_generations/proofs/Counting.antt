@@ -167,3 +167,15 @@ counted_none g none bare =
     let young = stores_at_most g.nurseries in
     let old = blocks_at_most g.tenured.lane 0 g.tenured.lists in
     omega (arith, all, both, young, old, none, bare)
+
+-- where a store that is whole lies as the old one did, it has as many cells
+pub same_store_cells : (g : Generations) (t : Blocks) → resident_cells (content_of g) ≡ all_cells g → IsWhole t → placed_in_blocks t.lane 0 t.lists ≡ placed_in_blocks g.tenured.lane 0 g.tenured.lists → store_cells t.lists ≡ store_cells g.tenured.lists
+unfolding resident_cells content_of
+same_store_cells g t c w e =
+    let all = resident_placed (serial_name g) (placed_in (stores_of g)) in
+    let both = placed_append g.nurseries g.tenured in
+    let young = stores_at_most g.nurseries in
+    let old = blocks_at_most g.tenured.lane 0 g.tenured.lists in
+    let new = store_whole t w in
+    let same = ap placed_cells e in
+    omega (arith, all, both, young, old, new, same, c)

@@ -17,3 +17,4 @@ pub mod Following
 pub mod Reading
 pub mod Starting
 pub mod Keeping
+pub mod Refusing

@@ -6,7 +6,6 @@ use Rattle.jm_values.specs.declared.value.Value.{Value}
 use Rattle.jm_values.specs.Shape.{Among}
 use Rattle.jm_values.specs.Rename.{stack_shape}
 use Rattle.jm_values.specs.Objects.{ObjectOf, cells_of}
-use Rattle.jm_values.specs.Reach.{AllDistinct}
 use Rattle.jm_values.specs.Content.{Content, IsSound, Kept, AllResident, Reached, serials_of, object_at, name_of}
 use Rattle.jm_values.proofs.Renaming.{stack_is_shape}
 use Rattle.jm_heap.specs.Cells.{class_size, resident_cells}
@@ -185,7 +184,6 @@ module _ (g h : Generations) (v : AreGenerations g) (p : ℕ) (o : Object) (w : 
   remembered_after = record {
     covers = λ q r a e m y. subst (Among q) (sym w.remembered) (v.remembered.covers q r a (ap (λ t. objects_in t q) (sym w.tenured) ∙ e) m y);
     old = λ q a. let x = v.remembered.old q (subst (Among q) w.remembered a) in (x.0, ap (λ t. objects_in t q) w.tenured ∙ x.1);
-    distinct = subst AllDistinct (sym w.remembered) v.remembered.distinct;
   }
 
   counted_after : resident_cells d ≡ all_cells h

@@ -209,7 +209,6 @@ module _ (g h : Generations) (s : AreGenerations g) (p i : ℕ) (v : Value) (w :
   remembered_after = record {
     covers = λ q r a e m y. let z = old_lies h laned_after q a e in let x = before q a z.1 in covered q r a z.0 y x (x.refs_from r m);
     old = λ q a. old q (w.noted.only q a);
-    distinct = w.noted.distinct;
   }
     where
       covered : (q r : ℕ) (a : Object) → lane_of q ≡ old_lane → IsYoung r → (x : Before q a) → Among r (stack_shape.refs x.object.values) ⊎ ((q ≡ p) × Among r (refs v)) → Among q h.remembered

@@ -42,7 +42,7 @@ module _ (limit : ℕ) (nurseries : List Blocks) (tenured : Blocks) (r : AreNurs
     tenured = lane;
     told = record { apart = λ p q a b e f s. absurd (nothing_lies p a e); below = λ p a e. absurd (nothing_lies p a e); closed = λ p q a e k. absurd (nothing_lies p a e) };
     aged = record { young = λ p a e. absurd (no_young p a e); old = λ p a e. absurd (no_old p a e) };
-    remembered = record { covers = λ p q a e k y. absurd (no_old p a e); old = λ p k. absurd k; distinct = tt };
+    remembered = record { covers = λ p q a e k y. absurd (no_old p a e); old = λ p k. absurd k };
     counted = counted_none g none bare;
     within = (omega (arith, none, bare));
   }

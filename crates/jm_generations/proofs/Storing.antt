@@ -10,7 +10,7 @@ use Rattle.jm_values.specs.declared.value.Value.{Value}
 use Rattle.jm_values.specs.Shape.{Among}
 use Rattle.jm_values.specs.Rename.{refs}
 use Rattle.jm_values.specs.Reach.{is_among}
-use Rattle.jm_values.proofs.Reaching.{among_from_test, not_among_from_test}
+use Rattle.jm_values.proofs.Reaching.{among_from_test}
 use Rattle.jm_values.proofs.Among.{among_left, among_right, among_split}
 use Rattle.jm_blocks.specs.Objects.{Object, with_value}
 use Rattle.jm_blocks.specs.Cells.{object_cells}
@@ -27,7 +27,6 @@ use Rattle.jm_generations.specs.Steps.{IsPut, IsNoted, IsWritten, with_nursery, 
 use Rattle.jm_generations.proofs.Showing.{Told}
 use Rattle.jm_generations.proofs.Lanes.{AreLaned, lying_young, lying_old, not_both, same_lying}
 use Rattle.jm_generations.proofs.Making.{laned}
-use Rattle.jm_generations.proofs.Listing.{distinct_append}
 
 -- the lane of a place tells its nursery
 pub in_lane : (p n : ℕ) → nursery_at p ≡ Some n → lane_of p ≡ n + 1 × IsYoung p
@@ -185,7 +184,6 @@ module _ (g : Generations) (v : AreGenerations g) (n : ℕ) (s t : Blocks) (p i 
       covers = λ at q m y. absurd (not_both p (nursery_young g (laned g v) p (with_value o i x) g.next n s t e lane in_its_lane (w o lies)) at);
       keeps = λ q a. a;
       only = λ q a. inl a;
-      distinct = v.remembered.distinct;
     };
     cells = (let set = young_set g.nurseries n s t e in omega (arith, set, cells));
   }
@@ -198,7 +196,7 @@ module _ (g : Generations) (v : AreGenerations g) (t : Blocks) (p i : ℕ) (x : 
   old_laned : (remembered : List ℕ) → AreLaned (with_tenured g t remembered)
   old_laned remembered = record { nurseries = v.nurseries; tenured = lane ∙ v.tenured }
 
-  old_written : (remembered : List ℕ) → IsNoted g (with_tenured g t remembered) p x → IsWritten g (with_tenured g t remembered) p i x
+  pub old_written : (remembered : List ℕ) → IsNoted g (with_tenured g t remembered) p x → IsWritten g (with_tenured g t remembered) p i x
   old_written remembered noted = record {
     limit = refl;
     next = refl;
@@ -213,13 +211,13 @@ module _ (g : Generations) (v : AreGenerations g) (t : Blocks) (p i : ℕ) (x : 
   }
 
   pub old_set : ((q : ℕ) → Among q (refs x) → IsYoung q → ⊥) → IsWritten g (with_tenured g t g.remembered) p i x
-  old_set none = old_written g.remembered (record { covers = λ at q m y. absurd (none q m y); keeps = λ q a. a; only = λ q a. inl a; distinct = v.remembered.distinct })
+  old_set none = old_written g.remembered (record { covers = λ at q m y. absurd (none q m y); keeps = λ q a. a; only = λ q a. inl a })
 
   pub old_set_noted : IsWritten g (with_tenured g t (noted g.remembered p)) p i x
   old_set_noted = by (is_among p g.remembered) refl
     where
       there : is_among p g.remembered ≡ true → IsNoted g (with_tenured g t g.remembered) p x
-      there f = record { covers = λ at q m y. among_from_test p g.remembered f; keeps = λ q a. a; only = λ q a. inl a; distinct = v.remembered.distinct }
+      there f = record { covers = λ at q m y. among_from_test p g.remembered f; keeps = λ q a. a; only = λ q a. inl a }
 
       one : (q : ℕ) → Among q (p ∷ []) → q ≡ p
       one q (inl k) = k
@@ -230,7 +228,6 @@ module _ (g : Generations) (v : AreGenerations g) (t : Blocks) (p i : ℕ) (x : 
         covers = λ at q m y. among_right p g.remembered (p ∷ []) (inl refl);
         keeps = λ q a. among_left q g.remembered (p ∷ []) a;
         only = λ q a. elim (among_split q g.remembered (p ∷ []) a) [ inl k ↦ inl k | inr k ↦ inr (one q k, old_place) ];
-        distinct = distinct_append g.remembered (p ∷ []) v.remembered.distinct (λ a. a, tt) (λ q a b. not_among_from_test p g.remembered f (subst (λ n. Among n g.remembered) (one q b) a));
       }
 
       by : (b : Bool) → is_among p g.remembered ≡ b → IsWritten g (with_tenured g t (cond b g.remembered (g.remembered ++ p ∷ []))) p i x

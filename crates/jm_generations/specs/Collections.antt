@@ -4,7 +4,6 @@ use Rattle.jm_values.specs.declared.value.Value.{Value}
 use Rattle.jm_values.specs.Shape.{Among}
 use Rattle.jm_values.specs.Rename.{stack_shape}
 use Rattle.jm_values.specs.Objects.{ObjectOf}
-use Rattle.jm_values.specs.Reach.{AllDistinct}
 use Rattle.jm_values.specs.Content.{Kept, used_by, object_at}
 use Rattle.jm_heap.specs.Cells.{class_size, resident_cells}
 use Rattle.jm_heap.specs.Collection.{IsAsBefore, LeavesReached}
@@ -89,7 +88,6 @@ pub record AreStillRemembered (lane : ℕ) (tenured : Blocks) (listed before aft
   pub promoted : (p : ℕ) → Among p listed → Among p after
   pub still : (p : ℕ) (o : Object) → Among p before → objects_in tenured p ≡ Some o → points_to lane o.values ≡ true → Among p after
   pub only : (p : ℕ) → Among p after → Among p listed ⊎ Among p before
-  pub distinct : AllDistinct after
 
 -- what a minor collection starts from: what the machine holds, and the fields of what is remembered
 abbrev pub minor_roots : Generations → List ℕ → List ℕ

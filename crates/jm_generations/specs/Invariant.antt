@@ -2,7 +2,6 @@
 use Rattle.std.specs.Prelude.{◌≡◌, ℕ, ◌<◌, ◌≤◌, Some}
 use Rattle.jm_values.specs.Shape.{Among}
 use Rattle.jm_values.specs.Rename.{stack_shape}
-use Rattle.jm_values.specs.Reach.{AllDistinct}
 use Rattle.jm_heap.specs.Cells.{resident_cells}
 use Rattle.jm_blocks.specs.Objects.{Object}
 use Rattle.jm_blocks.specs.Stores.{objects_in, HasObject}
@@ -22,11 +21,10 @@ pub record AreAged (g : Generations) : Type 0 where
   pub young : (p : ℕ) (a : Object) → objects_at g.nurseries p ≡ Some a → a.age ≤ 1
   pub old : (p : ℕ) (a : Object) → objects_in g.tenured p ≡ Some a → a.age ≡ 2
 
--- each old object that names a young one is remembered, and old objects alone, each once
+-- each old object that names a young one is remembered, and old objects alone
 pub record AreRemembered (g : Generations) : Type 0 where
   pub covers : (p q : ℕ) (a : Object) → objects_in g.tenured p ≡ Some a → Among q (stack_shape.refs a.values) → IsYoung q → Among p g.remembered
   pub old : (p : ℕ) → Among p g.remembered → HasObject g.tenured p
-  pub distinct : AllDistinct g.remembered
 
 -- sixteen nurseries and the old objects, whose cells are those of all residents and within the limit
 pub record AreGenerations (g : Generations) : Type 0 where

@@ -2,7 +2,6 @@
 use Rattle.std.specs.Prelude.{◌≡◌, ◌≢◌, ◌⊎◌, ℕ, ◌+◌, ◌<◌, ◌≤◌, ◌^◌, List, [], Some, None, slice_set}
 use Rattle.jm_values.specs.Shape.{Among}
 use Rattle.jm_values.specs.Rename.{refs, stack_shape}
-use Rattle.jm_values.specs.Reach.{AllDistinct}
 use Rattle.jm_values.specs.declared.value.Value.{Value}
 use Rattle.jm_blocks.specs.Objects.{Object, with_value}
 use Rattle.jm_blocks.specs.Cells.{object_cells}
@@ -37,7 +36,6 @@ pub record IsNoted (g h : Generations) (p : ℕ) (v : Value) : Type 0 where
   pub covers : lane_of p ≡ old_lane → (q : ℕ) → Among q (refs v) → IsYoung q → Among p h.remembered
   pub keeps : (q : ℕ) → Among q g.remembered → Among q h.remembered
   pub only : (q : ℕ) → Among q h.remembered → Among q g.remembered ⊎ ((q ≡ p) × (lane_of p ≡ old_lane))
-  pub distinct : AllDistinct h.remembered
 
 -- one value of the object at a place is another
 pub record IsWritten (g h : Generations) (p i : ℕ) (v : Value) : Type 0 where
