@@ -18,7 +18,7 @@ use Rattle.jm_copy.specs.Collected.{IsCollected, survivors, fresh, promoted_in}
 use Rattle.jm_generations.specs.Generations.{Generations, IsYoung, stores_of, lying, old_lane}
 use Rattle.jm_generations.specs.Residents.{content_of}
 use Rattle.jm_generations.specs.Invariant.{AreGenerations, AreAged, AreRemembered}
-use Rattle.jm_generations.specs.Collections.{AreSurvivors, IsWhole, LeavesAllReached, collected_as}
+use Rattle.jm_generations.specs.Collections.{AreSurvivors, IsWhole, HaveAged, LeavesAllReached, collected_as}
 use Rattle.jm_generations.proofs.Showing.{Told}
 use Rattle.jm_generations.proofs.Reaching.{LiesAt, name_is, resident_lies, reached_name}
 use Rattle.jm_generations.proofs.Cells.{left_is_used, used_at_most}
@@ -102,6 +102,14 @@ module _ (g : Generations) (v : AreGenerations g) (before young tenured : Blocks
     old = λ p a e. c.promoted p a (empty p) e;
   }
 
+  have_aged : HaveAged g h
+  have_aged n a e =
+      let to = c.image.onto n a (sym (lies_made n) ∙ e) in
+      let copy = c.image.copied to.0 n to.1 in
+      let both : Some (copy_of c.moved copy.0) ≡ Some a = sym copy.2 ∙ sym (lies_made n) ∙ e in
+      let same : copy_of c.moved copy.0 ≡ a = cc in
+      record { place = to.0; object = copy.0; lay = copy.1; serial = ap (λ x. x.serial) (sym same); age = ap (λ x. x.age) (sym same) }
+
   promoted_is : (p : ℕ) → promoted_in before tenured p ≡ objects_in tenured p
   promoted_is p = ap (λ x. fresh x (objects_in tenured p)) (empty p)
 
@@ -161,5 +169,6 @@ module _ (g : Generations) (v : AreGenerations g) (before young tenured : Blocks
           as_before = before_after g h v laned_after refl refl m S carries all;
           only = only;
           cells = left_cells;
+          aged = have_aged;
           survived = λ p a e. c.first_survival p a (sym (first_has young stores s p) ∙ e);
         }

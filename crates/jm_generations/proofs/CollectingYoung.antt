@@ -16,14 +16,14 @@ use Rattle.jm_blocks.specs.Objects.{Object}
 use Rattle.jm_blocks.specs.Places.{lane_of}
 use Rattle.jm_blocks.specs.Stores.{Blocks, objects_in}
 use Rattle.jm_blocks.proofs.Placing.{lies_in}
-use Rattle.jm_scan.specs.Image.{IsReached, bare_at, renamed, copy_of}
+use Rattle.jm_scan.specs.Image.{IsReached, bare_at, renamed, copy_of, older}
 use Rattle.jm_copy.specs.Condemned.{objects_at}
 use Rattle.jm_copy.specs.Collected.{IsCollected, survivors, fresh, promoted_in}
 use Rattle.jm_copy.specs.Pointing.{points_to}
 use Rattle.jm_generations.specs.Generations.{Generations, IsYoung, lying, old_lane}
 use Rattle.jm_generations.specs.Residents.{content_of}
 use Rattle.jm_generations.specs.Invariant.{AreGenerations, AreAged, AreRemembered}
-use Rattle.jm_generations.specs.Collections.{AreSurvivors, AreWrittenBack, AreStillRemembered, IsWhole, LeavesOldAndReached, Stays, collected_as, fields_of, minor_roots, with_values}
+use Rattle.jm_generations.specs.Collections.{AreSurvivors, AreWrittenBack, AreStillRemembered, IsWhole, AgedFrom, HaveAged, LeavesOldAndReached, Stays, collected_as, fields_of, minor_roots, with_values}
 use Rattle.jm_generations.proofs.Showing.{Told}
 use Rattle.jm_generations.proofs.Reaching.{resident_lies}
 use Rattle.jm_generations.proofs.Lanes.{AreLaned, LiesYoung, LiesOld, lying_young, lying_old, lies_where, young_lies, old_lies, not_both}
@@ -155,21 +155,48 @@ module _ (g : Generations) (v : AreGenerations g) (young promoted tenured : Bloc
   carries : Carries (lying g) (lying h) m S
   carries = record { there = there; over = over }
 
-  all : IsAllCarried (lying h) m S
-  all n a e = by (lies_where h laned_after n a e)
+  -- what lies there was made, or was old before
+  record IsOldStill (n : ℕ) (a : Object) : Type 0 where
+    lane : lane_of n ≡ old_lane
+    old : IsOld n
+    lies : objects_in tenured n ≡ Some a
+
+  made_or_old : (n : ℕ) (a : Object) → lying h n ≡ Some a → (made n ≡ Some a) ⊎ IsOldStill n a
+  made_or_old n a e = by (lies_where h laned_after n a e)
     where
-      of_made : made n ≡ Some a → (p : ℕ) × S p × (m p ≡ n)
-      of_made f = let to = c.image.onto n a f in (to.0, inr (c.image.reached to.0 n to.1), ap (λ x. unwrap_or x to.0) to.1)
+      of_old : lane_of n ≡ old_lane → objects_in tenured n ≡ Some a → (x : Option Object) → objects_in g.tenured n ≡ x → (made n ≡ Some a) ⊎ IsOldStill n a
+      of_old lane f (Some o) k = inr (record { lane = lane; old = (o, k); lies = f })
+      of_old lane f None k = inl (survivors_old young g.tenured promoted n (λ q. absurd (omega (arith, q, lane, c.young_lane))) ∙ ap (λ x. fresh x (objects_in promoted n)) k ∙ sym (not_written n k) ∙ f)
 
-      of_old : lane_of n ≡ old_lane → objects_in tenured n ≡ Some a → (x : Option Object) → objects_in g.tenured n ≡ x → (p : ℕ) × S p × (m p ≡ n)
-      of_old lane f (Some o) k = (n, inl (o, k), old_stays n lane)
-      of_old lane f None k = of_made (survivors_old young g.tenured promoted n (λ q. absurd (omega (arith, q, lane, c.young_lane))) ∙ ap (λ x. fresh x (objects_in promoted n)) k ∙ sym (not_written n k) ∙ f)
-
-      by : LiesYoung h n a ⊎ LiesOld h n a → (p : ℕ) × S p × (m p ≡ n)
+      by : LiesYoung h n a ⊎ LiesOld h n a → (made n ≡ Some a) ⊎ IsOldStill n a
       by (inl y) =
           let here : objects_in young n ≡ Some a = sym (first_has young stores s n) ∙ y.lies in
-          of_made (survivors_young young g.tenured promoted n (lies_in young n a here).lane ∙ here)
+          inl (survivors_young young g.tenured promoted n (lies_in young n a here).lane ∙ here)
       by (inr o) = of_old o.lane o.lies (objects_in g.tenured n) refl
+
+  all : IsAllCarried (lying h) m S
+  all n a e = by (made_or_old n a e)
+    where
+      by : (made n ≡ Some a) ⊎ IsOldStill n a → (p : ℕ) × S p × (m p ≡ n)
+      by (inl f) = let to = c.image.onto n a f in (to.0, inr (c.image.reached to.0 n to.1), ap (λ x. unwrap_or x to.0) to.1)
+      by (inr o) = (n, inl o.old, old_stays n o.lane)
+
+  have_aged : HaveAged g h
+  have_aged n a e = by (made_or_old n a e)
+    where
+      by : (made n ≡ Some a) ⊎ IsOldStill n a → AgedFrom g a
+      by (inl f) =
+          let to = c.image.onto n a f in
+          let copy = c.image.copied to.0 n to.1 in
+          let both : Some (copy_of c.moved copy.0) ≡ Some a = sym copy.2 ∙ f in
+          let same : copy_of c.moved copy.0 ≡ a = cc in
+          record { place = to.0; object = copy.0; lay = (young_lies g (laned g v) to.0 copy.0 copy.1).1; serial = ap (λ x. x.serial) (sym same); age = ap (λ x. x.age) (sym same) }
+      by (inr o) =
+          let k = old_kept n o.old.0 o.old.1 in
+          let both : Some k.new ≡ Some a = sym k.new_is ∙ o.lies in
+          let same : k.new ≡ a = cc in
+          let age = v.aged.old n o.old.0 o.old.1 in
+          record { place = n; object = o.old.0; lay = (old_lies g (laned g v) n o.old.0 o.old.1).1; serial = ap (λ x. x.serial) (sym same) ∙ k.serial; age = ap (λ x. x.age) (sym same) ∙ k.age ∙ age ∙ sym (ap older age) }
 
   aged_after : AreAged h
   aged_after = record {
@@ -273,5 +300,6 @@ module _ (g : Generations) (v : AreGenerations g) (young promoted tenured : Bloc
         as_before = before_after g h v laned_after refl refl m S carries all;
         stays = stays;
         only = only;
+        aged = have_aged;
         survived = λ p a e. c.first_survival p a (sym (first_has young stores s p) ∙ e);
       }

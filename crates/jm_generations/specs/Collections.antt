@@ -12,11 +12,11 @@ use Rattle.jm_heap.specs.declared.heap.Kind.TheVariants.{Full}
 use Rattle.jm_blocks.specs.Objects.{Object}
 use Rattle.jm_blocks.specs.Stores.{Blocks, IsEmpty, objects_in}
 use Rattle.jm_nursery.specs.Nurseries.{AreNurseries, lane_cells, young_cells}
-use Rattle.jm_scan.specs.Image.{IsReached}
+use Rattle.jm_scan.specs.Image.{IsReached, older}
 use Rattle.jm_copy.specs.Condemned.{objects_at}
 use Rattle.jm_copy.specs.Collected.{IsCollected}
 use Rattle.jm_copy.specs.Pointing.{points_to}
-use Rattle.jm_generations.specs.Generations.{Generations, stores_of, old_lane}
+use Rattle.jm_generations.specs.Generations.{Generations, stores_of, lying, old_lane}
 use Rattle.jm_generations.specs.Residents.{content_of}
 use Rattle.jm_generations.specs.Invariant.{AreGenerations}
 
@@ -48,6 +48,17 @@ pub record AreCollected (g h : Generations) (roots moved : List ℕ) : Type 0 wh
   pub young_whole : IsWhole young
   pub old_whole : IsWhole h.tenured
 
+-- each object has survived one collection more, which makes it old at its second
+pub record AgedFrom (g : Generations) (a : Object) : Type 0 where
+  pub place : ℕ
+  pub object : Object
+  pub lay : lying g place ≡ Some object
+  pub serial : a.serial ≡ object.serial
+  pub age : a.age ≡ older object.age
+
+abbrev pub HaveAged : Generations → Generations → Type 0
+HaveAged g h = (p : ℕ) (a : Object) → lying h p ≡ Some a → AgedFrom g a
+
 -- what is reached is left, as it was, and nothing else; no young object has survived none
 pub record LeavesAllReached (g h : Generations) (roots moved : List ℕ) : Type 0 where
   pub generations : AreGenerations h
@@ -56,6 +67,7 @@ pub record LeavesAllReached (g h : Generations) (roots moved : List ℕ) : Type 
   pub as_before : IsAsBefore (content_of g) (content_of h)
   pub only : LeavesReached Full (content_of g) roots (content_of h)
   pub cells : resident_cells (content_of h) ≡ used_by class_size (content_of g) roots
+  pub aged : HaveAged g h
   pub survived : (p : ℕ) (a : Object) → objects_at h.nurseries p ≡ Some a → a.age ≡ 1
 
 -- the references of the object at a place, and of those at places, in order
@@ -74,7 +86,8 @@ with_values o vs = record { serial = o.serial; class = o.class; age = o.age; val
 abbrev pub AreRefilled : List ℕ → List ℕ → Blocks → Blocks → Type 0
 AreRefilled [] names old new = Unit {0}
 AreRefilled (p ∷ ps) names old new =
-    ((o : Object) → objects_in old p ≡ Some o → objects_in new p ≡ Some (with_values o (stack_shape.refill names o.values))) × AreRefilled ps (drop (length (refs_in (objects_in old p))) names) old new
+    ((o : Object) → objects_in old p ≡ Some o → objects_in new p ≡ Some (with_values o (stack_shape.refill names o.values)))
+    × AreRefilled ps (drop (length (refs_in (objects_in old p))) names) old new
 
 -- and nothing else has changed
 pub record AreWrittenBack (places names : List ℕ) (old new : Blocks) : Type 0 where
@@ -135,4 +148,5 @@ pub record LeavesOldAndReached (g h : Generations) (roots moved : List ℕ) : Ty
   pub as_before : IsAsBefore (content_of g) (content_of h)
   pub stays : (k : ℕ) → Stays g roots k → object_at (content_of h) k ≡ object_at (content_of g) k
   pub only : (k : ℕ) (o : ObjectOf ClassId) → object_at (content_of h) k ≡ Some o → Stays g roots k
+  pub aged : HaveAged g h
   pub survived : (p : ℕ) (a : Object) → objects_at h.nurseries p ≡ Some a → a.age ≡ 1
