@@ -23,6 +23,7 @@ use jm_schedule::{RoundRobin, round_robin};
 use output::Output;
 use std::alloc::AllocError;
 use std::process::ExitCode;
+use std::sync::Wait;
 use word::{WordsFault, words};
 
 // A number of the command line, which is from 1 to another.
@@ -69,12 +70,12 @@ fn assemble_job(rt: &HostRuntime, asked: AssembleOptions) -> Job {
     })
 }
 
-// Does a job, with its output where it belongs.
-fn done(rt: &HostRuntime, job: &Job) -> Status {
+// Does a job, with its output where it belongs. A run may wait for its machine's lock.
+fn done(rt: &HostRuntime, wait: &impl Wait, job: &Job) -> Status {
     let mut input = Watched::new(rt.stdin());
     let mut out = Watched::new(Output::of(rt, job));
     let mut err = Watched::new(rt.stderr());
-    execute(rt.alloc(), job, &mut input, &mut out, &mut err)
+    execute(wait, rt.alloc(), job, &mut input, &mut out, &mut err)
 }
 
 // Says that a growth was refused.
@@ -92,7 +93,7 @@ fn refused(rt: &HostRuntime, text: &str) -> Status {
 }
 
 // The status of the command line.
-fn status(rt: &HostRuntime) -> Status {
+fn status(rt: &HostRuntime, wait: &impl Wait) -> Status {
     let words = match words(rt) {
         Ok(words) => words,
         Err(WordsFault::OutOfMemory) => return out_of_memory(rt),
@@ -106,15 +107,15 @@ fn status(rt: &HostRuntime) -> Status {
     }
     match options(rt.alloc(), &texts) {
         Ok(Options::Run(asked)) => match run_job(rt, asked) {
-            Ok(job) => done(rt, &job),
+            Ok(job) => done(rt, wait, &job),
             Err(_) => out_of_memory(rt),
         },
-        Ok(Options::Assemble(asked)) => done(rt, &assemble_job(rt, asked)),
+        Ok(Options::Assemble(asked)) => done(rt, wait, &assemble_job(rt, asked)),
         Err(UsageFault::Usage(text)) => refused(rt, &text),
         Err(UsageFault::OutOfMemory) => out_of_memory(rt),
     }
 }
 
 fn main(rt: HostRuntime) -> ExitCode {
-    ExitCode::from(status(&rt).code())
+    ExitCode::from(status(&rt, &rt).code())
 }

@@ -36,10 +36,10 @@ fn main(rt: HostRuntime) -> io::Result<()> {
     print_class_files(&rt, REFUSED)?;
     print_texts(&rt, TEXTS)?;
     print_bytes(&rt, "sum.j", "sum.class")?;
-    print_programs(&rt, "programs.txt")?;
-    print_runs(&rt, "worked.txt")?;
-    print_runs(&rt, "runs.txt")?;
-    print_tables(&rt, TABLES)
+    print_programs(&rt, &rt, "programs.txt")?;
+    print_runs(&rt, &rt, "worked.txt")?;
+    print_runs(&rt, &rt, "runs.txt")?;
+    print_tables(&rt, &rt, TABLES)
 }
 
 fn print_class_files(rt: &(impl Print + Files + AllocGlobal), files: &[&str]) -> io::Result<()> {

@@ -7,6 +7,7 @@ use crate::jobs::{assembly_job, run_job};
 use jm_execute::{InputFile, Job, Watched, class_of, execute};
 use jm_linker::link;
 use std::io::ErrorKind;
+use std::sync::Wait;
 use std::{fmt, io, str};
 
 /// What a job writes, and how it ends.
@@ -37,26 +38,26 @@ pub fn wanted_of(rt: &HostRuntime, row: &JobRow<'_>) -> io::Result<Outcome> {
 }
 
 /// What comes of a row's job.
-pub fn outcome_of(rt: &HostRuntime, row: &JobRow<'_>) -> io::Result<Outcome> {
+pub fn outcome_of(rt: &HostRuntime, wait: &impl Wait, row: &JobRow<'_>) -> io::Result<Outcome> {
     match row.kind {
         JobKind::Run { heap } => {
             let events = events_of(rt, row.events)?;
             let program = files_of(rt, row.names, row.contents)?;
-            done(rt, &run_job(heap, events, program))
+            done(rt, wait, &run_job(heap, events, program))
         }
         JobKind::Assemble => {
             let text = file_of(rt, row.names, row.contents)?;
-            done(rt, &assembly_job(rt.alloc(), text)?)
+            done(rt, wait, &assembly_job(rt.alloc(), text)?)
         }
         JobKind::Link => linked(rt, &files_of(rt, row.names, row.contents)?),
     }
 }
 
 // What comes of a job that is done over two lists of bytes as its writers.
-fn done(rt: &HostRuntime, job: &Job) -> io::Result<Outcome> {
+fn done(rt: &HostRuntime, wait: &impl Wait, job: &Job) -> io::Result<Outcome> {
     let mut output = Vec::new(rt.alloc());
     let mut lines = Vec::new(rt.alloc());
-    let status = status_over(rt, job, &mut output, &mut lines)?;
+    let status = status_over(rt, wait, job, &mut output, &mut lines)?;
     Ok(Outcome {
         output,
         lines,
@@ -67,6 +68,7 @@ fn done(rt: &HostRuntime, job: &Job) -> io::Result<Outcome> {
 // Does a job that reads nothing, and answers the number of its status. A list that fails is an error.
 fn status_over(
     rt: &HostRuntime,
+    wait: &impl Wait,
     job: &Job,
     output: &mut Vec<u8>,
     lines: &mut Vec<u8>,
@@ -74,7 +76,7 @@ fn status_over(
     let mut input = Watched::new(b"unread".as_slice());
     let mut out = Watched::new(output);
     let mut err = Watched::new(lines);
-    let status = execute(rt.alloc(), job, &mut input, &mut out, &mut err);
+    let status = execute(wait, rt.alloc(), job, &mut input, &mut out, &mut err);
     if out.has_failed() || err.has_failed() {
         return Err(io::Error::from(ErrorKind::OutOfMemory));
     }

@@ -3,7 +3,8 @@
 use crate::events::events_of;
 use crate::jobs::{HEAP, input_file, run_job};
 use crate::name_of;
-use jm_execute::{Contents, Job, RunEvents, Status, Watched, execute};
+use jm_execute::{Contents, InputFile, Job, RunEvents, Status, Watched, execute};
+use std::sync::Wait;
 use std::{fs, io};
 
 // A run that a line of a file lists.
@@ -22,23 +23,23 @@ const TURNS: &str = "@turns 1000000 1";
 
 /// Runs each program of a file whose lines name the files of a program, the main class's first. The
 /// threads take turns.
-pub fn print_programs(rt: &HostRuntime, file: &str) -> io::Result<()> {
+pub fn print_programs(rt: &HostRuntime, wait: &impl Wait, file: &str) -> io::Result<()> {
     let programs = fs::read_to_string(rt, file)?;
     for files in programs.lines() {
         println!(rt; "== {}", name_of(main_file(files)))?;
         let events = events_of(rt, TURNS)?;
-        print_run(rt, &job_of(rt, HEAP, events, files)?)?;
+        print_run(rt, wait, &job_of(rt, HEAP, events, files)?)?;
     }
     Ok(())
 }
 
 /// Runs each program of a file whose lines have the limit of the heap, in cells, how many events of the
 /// first thread are made, or `turns` where the threads take turns, and the files of the program.
-pub fn print_runs(rt: &HostRuntime, file: &str) -> io::Result<()> {
+pub fn print_runs(rt: &HostRuntime, wait: &impl Wait, file: &str) -> io::Result<()> {
     let programs = fs::read_to_string(rt, file)?;
     for line in programs.lines() {
         match listed_run(line) {
-            Some(run) => print_listed_run(rt, &run)?,
+            Some(run) => print_listed_run(rt, wait, &run)?,
             None => println!(rt; "no program: {line}")?,
         }
     }
@@ -57,11 +58,11 @@ fn listed_run(line: &str) -> Option<ListedRun<'_>> {
     })
 }
 
-fn print_listed_run(rt: &HostRuntime, run: &ListedRun<'_>) -> io::Result<()> {
+fn print_listed_run(rt: &HostRuntime, wait: &impl Wait, run: &ListedRun<'_>) -> io::Result<()> {
     let name = name_of(main_file(run.files));
     println!(rt; "== {name}, heap {}, events {}", run.heap, run.events)?;
     let events = listed_events(rt, run.events)?;
-    print_run(rt, &job_of(rt, run.heap, events, run.files)?)
+    print_run(rt, wait, &job_of(rt, run.heap, events, run.files)?)
 }
 
 // So many events of the first thread, or the threads take turns.
@@ -81,25 +82,30 @@ fn main_file(program: &str) -> &str {
     }
 }
 
-// The job of a run.
-fn job_of(rt: &HostRuntime, heap: u32, events: RunEvents, names: &str) -> io::Result<Job> {
+/// The files of these names, with a space between them.
+pub fn files_named(rt: &HostRuntime, names: &str) -> io::Result<Vec<InputFile>> {
     let mut files = Vec::new(rt.alloc());
     for name in names.split(' ') {
         let bytes = fs::read(rt, name)?;
         files.push(input_file(rt.alloc(), name, Contents::Bytes(bytes))?)?;
     }
-    Ok(run_job(heap, events, files))
+    Ok(files)
+}
+
+// The job of a run.
+fn job_of(rt: &HostRuntime, heap: u32, events: RunEvents, names: &str) -> io::Result<Job> {
+    Ok(run_job(heap, events, files_named(rt, names)?))
 }
 
 // Prints the output of a program, the lines on its standard error, and its status.
-fn print_run(rt: &HostRuntime, job: &Job) -> io::Result<()> {
-    println!(rt; "status {}", status_of(rt, job).code())
+fn print_run(rt: &HostRuntime, wait: &impl Wait, job: &Job) -> io::Result<()> {
+    println!(rt; "status {}", status_of(rt, wait, job).code())
 }
 
 // Does a job whose lines for standard error come behind its output.
-fn status_of(rt: &HostRuntime, job: &Job) -> Status {
+fn status_of(rt: &HostRuntime, wait: &impl Wait, job: &Job) -> Status {
     let mut input = Watched::new(rt.stdin());
     let mut out = Watched::new(rt.stdout());
     let mut err = Watched::new(rt.stdout());
-    execute(rt.alloc(), job, &mut input, &mut out, &mut err)
+    execute(wait, rt.alloc(), job, &mut input, &mut out, &mut err)
 }

@@ -2,11 +2,11 @@
 use Rattle.std.proofs.Common.{◌≡◌, ℕ, List, Bool, false, refl, sym, ap, subst, ◌∙◌, Result, Ok, Err}
 use Rattle.std.specs.Prelude.{if◌then◌else◌}
 use Rattle.jm_program.specs.declared.class.ClassParts.{ClassParts}
-use Rattle.jm_world.specs.Loading.{loaded_world, is_too_small}
+use Rattle.jm_world.specs.Loading.{first_thread, is_too_small, loaded_world, main_in}
 use Rattle.jm_world.specs.declared.event.Event.{Event}
 use Rattle.jm_state.specs.Parts.{parts}
 use Rattle.jm_machine.specs.View.{MachineView, MatchesWorld}
-use Rattle.jm_execute.specs.Beginnings.{StandsAtItsBeginning, beginning}
+use Rattle.jm_execute.specs.Beginnings.{HasOneThread, StandsAtItsBeginning, beginning}
 use Rattle.jm_execute.specs.Reasons.{heap_too_small}
 use Rattle.jm_execute.specs.Verdicts.{Cause, Verdict, because, runs, loaded_program}
 use Rattle.jm_execute.specs.Endings.{Ending, completed, interrupted, assembled, exhausted, turned_away, Ends, Allows}
@@ -45,5 +45,10 @@ pub allowed : (v : Verdict) (program : List ClassParts) (limit : ℕ) (events : 
 allowed v program limit events is (completed w) h = record { program = program; limit = limit; events = events; runs_is = is; world_is = h }
 allowed v program limit events is (interrupted w) (made, rest, whole, h) = record { program = program; limit = limit; made = made; rest = rest; runs_is = is ∙ ap (λ es. Ok (runs program limit es)) whole; world_is = h }
 allowed v program limit events is (assembled bytes) h = absurd h
-allowed v program limit events is exhausted h = absurd h
+allowed v program limit events is exhausted h = tt
 allowed v program limit events is (turned_away reason) h = absurd h
+
+-- a loaded world has its main thread
+pub begins_with_main : (program : List ClassParts) (limit : ℕ) → HasOneThread (loaded_world program limit)
+unfolding loaded_world
+begins_with_main program limit = record { thread = first_thread (main_in program); threads = refl; live = refl; goes_on = refl }

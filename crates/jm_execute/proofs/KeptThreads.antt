@@ -1,10 +1,8 @@
--- A step of a thread changes no other thread of a world, so that a thread that has ended stays so.
-use Rattle.std.proofs.Common.{◌≡◌, ℕ, zero, suc, ◌+◌, ◌-◌, ◌^◌, ◌<◌, ◌≤◌, List, [], ◌∷◌, ◌++◌, Option, Some, None, Bool, true, false, refl, sym, ap, subst, ◌∙◌, length, ℤ, pos, negsuc, append-nil, length-append, arith}
+-- A step of a thread changes no other thread of a world, and makes threads that are live; its reply tells how many there are.
+use Rattle.std.proofs.Common.{◌≡◌, ◌≢◌, ℕ, zero, suc, ◌+◌, ◌-◌, ◌^◌, ◌<◌, ◌≤◌, List, [], ◌∷◌, ◌++◌, Option, Some, None, Bool, true, false, refl, sym, ap, ◌∙◌, length, ℤ, pos, negsuc, append-nil, length-append, arith}
 use Rattle.std.specs.Prelude.{slice_get, slice_set, reverse, nat_eq, nat_lt, nat_le, codes}
 use Rattle.jm_program.specs.Names.{same_text}
-use Rattle.jm_program.specs.Flags.{is_static, is_abstract}
-use Rattle.jm_program.specs.declared.class.ClassParts.{ClassParts}
-use Rattle.jm_program.specs.declared.class.Field.{Field}
+use Rattle.jm_program.specs.Flags.{is_abstract}
 use Rattle.jm_program.specs.declared.code.Code.{Code}
 use Rattle.jm_program.specs.declared.constant.Constant.{Constant}
 use Rattle.jm_program.specs.declared.constant.Constant.TheVariants as constant
@@ -41,9 +39,9 @@ use Rattle.jm_values.specs.declared.fault.TagFault.TheVariants.{WrongKind}
 use Rattle.jm_world.specs.Types.{ObjectType, instance_of, array_of, operand_of, narrow, type_of_ref, primitive_type}
 use Rattle.jm_world.specs.Classes.{FoundMethod, MethodName, name_of_method, class_named, method_named, string_class, print_stream_class, thread_class, throwable_class, error_class}
 use Rattle.jm_world.specs.Resolution.{resolve_method, select}
-use Rattle.jm_world.specs.Objects.{Object, size, FieldName, same_field, new_instance, new_array}
+use Rattle.jm_world.specs.Objects.{Object, size, FieldName, new_instance, new_array}
 use Rattle.jm_world.specs.Frames.{Frame, method_frame, initialization_frame, entry_frame}
-use Rattle.jm_world.specs.World.{World, Thread, Static, Literal, Monitor, with_thread, thread_at, is_running, with_state, state_of, reach_cells, literal_in, static_in, set_static_in}
+use Rattle.jm_world.specs.World.{World, Thread, Monitor, with_thread, thread_at, is_running, live_among, with_state, state_of, reach_cells, literal_in, static_in, set_static_in}
 use Rattle.jm_world.specs.Next.{Next, goes, stops, blocks, faults, make, exception, throw}
 use Rattle.jm_world.specs.Here.{Here, with_frames, go_on, go_on_in, throws, push, push_new, with_operand, with_int, with_reference, with_arguments, with_object, with_depth, push_frame, is_ready, all_frames, when_initialized}
 use Rattle.jm_world.specs.Monitors.{monitor_in, with_monitor, recounted, entered, enter, enter_if, left_in, leave, leave_if}
@@ -56,10 +54,12 @@ use Rattle.jm_world.specs.BuiltInMethods.{chars_of_type, with_chars, write, is_c
 use Rattle.jm_world.specs.Invocation.{activation_of, monitor_of, calling, call_code, call_instance, call_found, class_of, is_of_class, with_receiver, invoke_virtual, invoke_interface, found_special, invoke_special, call_static, invoke_found, row_invoke_of, row_invoke}
 use Rattle.jm_world.specs.Returns.{with_result, returned_to, return_from, same_operand, return_value, return_nothing, pop_and_return, row_return}
 use Rattle.jm_world.specs.Throwing.{is_kind_of, handler_in, handlers_of, unwound, unwound_anew, drop_method, unwind_frames, unwind, row_throw}
-use Rattle.jm_world.specs.Initialization.{with_constant, with_constants, constant_value, constants_of, begin, superclass_name, is_done, superclass_first, initializer_of, call_initializer, run_initializer, initialize}
+use Rattle.jm_world.specs.Initialization.{begin, superclass_name, is_done, superclass_first, initializer_of, call_initializer, run_initializer, initialize}
 use Rattle.jm_world.specs.Stepping.{from_outcome, row_monitor, row, instruction_at, instruction_in, run_type, enter_code, enter_found, enter_thread, step_frame, step_thread}
 use Rattle.jm_machine.specs.Threads.{is_live, is_live_thread}
+use Rattle.jm_world.specs.RoundRobin.{is_stopped}
 use Rattle.jm_world.specs.Run.{after, After, answered, after_step, after_thread, after_event}
+use Rattle.jm_world.specs.declared.reply.ReplyKind.{ReplyKind}
 use Rattle.jm_world.specs.declared.reply.ReplyKind.TheVariants as kind
 use Rattle.jm_world.specs.declared.class_state.ClassState.{ClassState}
 use Rattle.jm_world.specs.declared.class_state.ClassState.TheVariants.{NotBegun, InProgress, Done, Failed}
@@ -70,26 +70,35 @@ use Rattle.jm_world.specs.declared.event.Event.TheVariants.{Step, Minor, Full}
 use Rattle.jm_world.specs.declared.stop.Stop.{Stop}
 use Rattle.jm_world.proofs.Fitting.{grown}
 use Rattle.jm_world.proofs.KeepingForm.{with_monitors}
-use Rattle.jm_execute.specs.Passes.{EndedStay}
+use Rattle.jm_execute.specs.Passes.{OthersStay, ended_in, has_stopped}
 
--- of a world's threads only that of a number is another, and new ones may follow
-pub record Alone (number : ℕ) (old new : List Thread) : Type 0 where
+-- of a world's threads only that of a number is another, and new ones, which are live, may follow
+pub record Alone (number : ℕ) (old : List Thread) (old_stop : Option Stop) (new : List Thread) (new_stop : Option Stop) : Type 0 where
   pub thread : Thread
   pub more : List Thread
   pub new_is : new ≡ slice_set old (number - 1) thread ++ more
+  pub live : (k : ℕ) → k < length more → is_live_thread (slice_get more k) ≡ true
+  pub stop_is : new_stop ≡ old_stop
 
-alone : (number : ℕ) (ts : List Thread) (t : Thread) → Alone number ts (slice_set ts (number - 1) t)
-alone number ts t = record { thread = t; more = []; new_is = sym (append-nil (slice_set ts (number - 1) t)) }
+no_more : (k : ℕ) → k < 0 → is_live_thread (slice_get [] k) ≡ true
+no_more k h = absurd (omega arith)
 
-alone_of : (number : ℕ) (ts us : List Thread) (t : Thread) → us ≡ ts → Alone number ts (slice_set us (number - 1) t)
-alone_of number ts us t e = subst (λ xs. Alone number ts (slice_set xs (number - 1) t)) (sym e) (alone number ts t)
+one_more : (u : Thread) → is_running u.ending ≡ true → (k : ℕ) → k < length (u ∷ []) → is_live_thread (slice_get (u ∷ []) k) ≡ true
+one_more u runs zero h = runs
+one_more u runs (suc k) h = absurd (omega arith)
 
-alone_more : (number : ℕ) (ts : List Thread) (t u : Thread) → Alone number ts (slice_set ts (number - 1) t ++ u ∷ [])
-alone_more number ts t u = record { thread = t; more = u ∷ []; new_is = refl }
+alone : (number : ℕ) (ts : List Thread) (s : Option Stop) (t : Thread) → Alone number ts s (slice_set ts (number - 1) t) s
+alone number ts s t = record { thread = t; more = []; new_is = sym (append-nil (slice_set ts (number - 1) t)); live = no_more; stop_is = refl }
+
+alone_of : (number : ℕ) (ts us : List Thread) (r s : Option Stop) (t : Thread) → us ≡ ts → s ≡ r → Alone number ts r (slice_set us (number - 1) t) s
+alone_of number ts us r s t e stop = record { thread = t; more = []; new_is = ap (λ xs. slice_set xs (number - 1) t) e ∙ sym (append-nil (slice_set ts (number - 1) t)); live = no_more; stop_is = stop }
+
+alone_more : (number : ℕ) (ts : List Thread) (s : Option Stop) (t u : Thread) → is_running u.ending ≡ true → Alone number ts s (slice_set ts (number - 1) t ++ u ∷ []) s
+alone_more number ts s t u runs = record { thread = t; more = u ∷ []; new_is = refl; live = one_more u runs; stop_is = refl }
 
 -- what comes of a step of the thread of a number in the world
 abbrev Keeps : ℕ → World → Next → Type 0
-Keeps number w (goes v) = Alone number w.threads v.threads
+Keeps number w (goes v) = Alone number w.threads w.stop v.threads v.stop
 Keeps number w (stops s) = Unit {0}
 Keeps number w blocks = Unit {0}
 
@@ -106,16 +115,16 @@ make_keeps : (number : ℕ) (w v : World) (o : Object) (go : World → ℕ → N
 make_keeps number w v o go g = if_keeps number w (nat_lt v.limit (reach_cells v + size o)) _ _ tt (if_keeps number w (nat_le (2 ^ 63) (length v.heap)) _ _ tt g)
 
 throw_keeps : (w : World) (number : ℕ) (t : Thread) (class : List ℕ) → Keeps number w (throw w number t class)
-throw_keeps w number t class = make_keeps number w w (exception class) (λ made k. goes (with_thread made number (record t { pending = Some k }))) (alone _ _ _)
+throw_keeps w number t class = make_keeps number w w (exception class) (λ made k. goes (with_thread made number (record t { pending = Some k }))) (alone _ _ _ _)
 
 throws_keeps : (here : Here) (class : List ℕ) → Keeps here.number here.world (throws here class)
 throws_keeps here class = throw_keeps here.world here.number here.thread class
 
 push_keeps : (here : Here) (v : Value) (s : List Value) → Keeps here.number here.world (push here v s)
-push_keeps here v s = if_keeps here.number here.world (nat_le (units (v ∷ s)) here.frame.max_stack) _ _ (alone _ _ _) tt
+push_keeps here v s = if_keeps here.number here.world (nat_le (units (v ∷ s)) here.frame.max_stack) _ _ (alone _ _ _ _) tt
 
 push_new_keeps : (here : Here) (o : Object) (s : List Value) → Keeps here.number here.world (push_new here o s)
-push_new_keeps here o s = if_keeps here.number here.world (nat_le (units (Null ∷ s)) here.frame.max_stack) _ _ (make_keeps here.number here.world here.world o (λ made k. go_on_in here made (Ref k ∷ s)) (alone _ _ _)) tt
+push_new_keeps here o s = if_keeps here.number here.world (nat_le (units (Null ∷ s)) here.frame.max_stack) _ _ (make_keeps here.number here.world here.world o (λ made k. go_on_in here made (Ref k ∷ s)) (alone _ _ _ _)) tt
 
 operand_keeps : (number : ℕ) (w : World) (type : OperandType) (s : List Value) (go : Value → List Value → Next) → ((v : Value) (rest : List Value) → Keeps number w (go v rest)) → Keeps number w (with_operand type s go)
 operand_keeps number w type [] go f = tt
@@ -147,7 +156,7 @@ depth_keeps : (w : World) (number : ℕ) (t : Thread) (fs : List Frame) (row : N
 depth_keeps w number t fs row f = if_keeps number w (nat_lt (length fs) 512) _ _ f (throw_keeps w number t (codes "java/lang/StackOverflowError"))
 
 push_frame_keeps : (w : World) (number : ℕ) (t : Thread) (fs : List Frame) (f : Frame) → Keeps number w (push_frame w number t fs f)
-push_frame_keeps w number t fs f = depth_keeps w number t fs (goes (with_frames w number t (f ∷ fs))) (alone _ _ _)
+push_frame_keeps w number t fs f = depth_keeps w number t fs (goes (with_frames w number t (f ∷ fs))) (alone _ _ _ _)
 
 initialized_keeps : (here : Here) (class : List ℕ) (row : Next) → Keeps here.number here.world row → Keeps here.number here.world (when_initialized here class row)
 initialized_keeps here class row f = if_keeps here.number here.world (is_ready (state_of here.world class) here.number) _ _ f
@@ -189,7 +198,7 @@ get_static_keeps here f = option_keeps here.number here.world (static_in here.wo
 
 put_static_keeps : (here : Here) (f : FieldName) → Keeps here.number here.world (put_static here f)
 put_static_keeps here f = operand_keeps here.number here.world (operand_of f.type) here.frame.stack (λ v s. go_on_in here (record here.world { statics = set_static_in here.world.statics f (narrow f.type v) }) s)
-    (λ v s. alone _ _ _)
+    (λ v s. alone _ _ _ _)
 
 place_keeps : (here : Here) (o : Object) (f : FieldName) (go : ℕ → Next) → ((i : ℕ) → Keeps here.number here.world (go i)) → Keeps here.number here.world (with_place here o f go)
 place_keeps here o f go g = option_keeps here.number here.world (place_in here o.type f) _ _ tt g
@@ -208,7 +217,7 @@ put_field_keeps here f = operand_keeps here.number here.world (operand_of f.type
     (λ v below. with_reference below (λ r s. with_object here r (λ k o. with_place here o f (λ i. go_on_in here (with_value_at here.world k o i (narrow f.type v)) s))))
     (λ v below. reference_keeps here.number here.world below (λ r s. with_object here r (λ k o. with_place here o f (λ i. go_on_in here (with_value_at here.world k o i (narrow f.type v)) s)))
     (λ r s. object_keeps here r (λ k o. with_place here o f (λ i. go_on_in here (with_value_at here.world k o i (narrow f.type v)) s))
-    (λ k o. place_keeps here o f (λ i. go_on_in here (with_value_at here.world k o i (narrow f.type v)) s) (λ i. (alone _ _ _)))))
+    (λ k o. place_keeps here o f (λ i. go_on_in here (with_value_at here.world k o i (narrow f.type v)) s) (λ i. (alone _ _ _ _)))))
 
 field_keeps : (here : Here) (op : FieldOp) (f : FieldRef) → Keeps here.number here.world (row_field here op f)
 field_keeps here GetStatic f = with_field_keeps here f (λ name. when_initialized here name.class (get_static here name)) (λ name. initialized_keeps here name.class (get_static here name) (get_static_keeps here name))
@@ -230,7 +239,7 @@ load_keeps here k = int_keeps here.number here.world here.frame.stack
 
 store_in_keeps : (here : Here) (p : ℕ) (o : Object) (type : ObjectType) (v : Value) (i : ℕ) (s : List Value) → Keeps here.number here.world (store_in here p o type v i s)
 store_in_keeps here p o (instance_of class) v i s = tt
-store_in_keeps here p o (array_of component) v i s = if_keeps here.number here.world (can_store here component v) _ _ (alone _ _ _) (throws_keeps here (codes "java/lang/ArrayStoreException"))
+store_in_keeps here p o (array_of component) v i s = if_keeps here.number here.world (can_store here component v) _ _ (alone _ _ _ _) (throws_keeps here (codes "java/lang/ArrayStoreException"))
 
 store_keeps : (here : Here) (k : ArrayKind) → Keeps here.number here.world (store_element here k)
 store_keeps here k = operand_keeps here.number here.world (operand_of_kind k) here.frame.stack
@@ -260,9 +269,9 @@ array_keeps here Length = reference_keeps here.number here.world here.frame.stac
 
 -- anewarray, checkcast, instanceof
 cast_keeps : (here : Here) (t : ClassRef) (r : Option ℕ) (s : List Value) → Keeps here.number here.world (check_cast here t r s)
-cast_keeps here t None s = alone _ _ _
+cast_keeps here t None s = alone _ _ _ _
 cast_keeps here t (Some k) s = object_keeps here (Some k) (λ p o. elim (is_instance here o t) [ true ↦ go_on here (Ref k ∷ s) | false ↦ throws here (codes "java/lang/ClassCastException") ])
-    (λ p o. if_keeps here.number here.world (is_instance here o t) (go_on here (Ref k ∷ s)) (throws here (codes "java/lang/ClassCastException")) (alone _ _ _) (throws_keeps here (codes "java/lang/ClassCastException")))
+    (λ p o. if_keeps here.number here.world (is_instance here o t) (go_on here (Ref k ∷ s)) (throws here (codes "java/lang/ClassCastException")) (alone _ _ _ _) (throws_keeps here (codes "java/lang/ClassCastException")))
 
 instance_keeps : (here : Here) (t : ClassRef) (r : Option ℕ) (s : List Value) → Keeps here.number here.world (instance_test here t r s)
 instance_keeps here t None s = push_keeps here (Int (pos 0)) s
@@ -298,23 +307,23 @@ char_at_keeps here chars (Null ∷ vs) s = throws_keeps here _
 char_at_keeps here chars (Ref i ∷ vs) s = throws_keeps here _
 
 start_keeps : (here : Here) (k : ℕ) (s : List Value) → Keeps here.number here.world (start_thread here k s)
-start_keeps here k s = if_keeps here.number here.world (was_started k here.world.threads) _ _ (throws_keeps here (codes "java/lang/IllegalThreadStateException")) (alone_more _ _ _ _)
+start_keeps here k s = if_keeps here.number here.world (was_started k here.world.threads) _ _ (throws_keeps here (codes "java/lang/IllegalThreadStateException")) (alone_more _ _ _ _ _ refl)
 
 built_in_keeps : (here : Here) (m : MethodName) (k : ℕ) (vs s : List Value) → Keeps here.number here.world (row_built_in here m k vs s)
 built_in_keeps here m k vs s = if_keeps here.number here.world (same_text m.class print_stream_class) _ _
     (printed_keeps here m.descriptor.parameters vs (λ bytes. elim (same_text m.name (codes "println")) [ true ↦ write here (bytes ++ 10 ∷ []) s | false ↦ write here bytes s ])
-    (λ bytes. if_keeps here.number here.world (same_text m.name (codes "println")) _ _ (alone _ _ _) (alone _ _ _)))
+    (λ bytes. if_keeps here.number here.world (same_text m.name (codes "println")) _ _ (alone _ _ _ _) (alone _ _ _ _)))
     (if_keeps here.number here.world (same_text m.class string_class) _ _
     (chars_keep here k (λ chars. elim (same_text m.name (codes "length")) [ true ↦ push here (Int (pos (length chars))) s | false ↦ char_at here chars vs s ])
     (λ chars. if_keeps here.number here.world (same_text m.name (codes "length")) _ _ (push_keeps here (Int (pos (length chars))) s) (char_at_keeps here chars vs s)))
     (if_keeps here.number here.world (same_text m.class thread_class) _ _
-    (if_keeps here.number here.world (same_text m.name (codes "start")) _ _ (start_keeps here k s) (alone _ _ _))
-    (alone _ _ _)))
+    (if_keeps here.number here.world (same_text m.name (codes "start")) _ _ (start_keeps here k s) (alone _ _ _ _))
+    (alone _ _ _ _)))
 
 -- calls
 call_code_keeps : (here : Here) (found : FoundMethod) (code : Code) (vs : List Value) (o : Option ℕ) (s : List Value) → Keeps here.number here.world (call_code here found code vs o s)
 call_code_keeps here found code vs o s = depth_keeps here.world here.number here.thread (calling here s) _
-    (enter_if_keeps here.world here.number o (λ w. goes (with_frames w here.number here.thread (method_frame (name_of_method found) (activation_of code vs) o ∷ calling here s))) (λ ms. (alone _ _ _)))
+    (enter_if_keeps here.world here.number o (λ w. goes (with_frames w here.number here.thread (method_frame (name_of_method found) (activation_of code vs) o ∷ calling here s))) (λ ms. (alone _ _ _ _)))
 
 call_instance_keeps : (here : Here) (found : FoundMethod) (k : ℕ) (vs s : List Value) (code : Option Code) → Keeps here.number here.world (call_instance here found k vs s code)
 call_instance_keeps here found k vs s None = built_in_keeps here (name_of_method found) k vs s
@@ -360,16 +369,16 @@ invoke_keeps here op m = by m.class op
     by (named.Array t) op = tt
 
 -- returns
-returned_keeps : (w v : World) (number : ℕ) (t : Thread) (r : Option Value) (fs : List Frame) → v.threads ≡ w.threads → Keeps number w (returned_to v number t r fs)
-returned_keeps w v number t r [] n = alone_of _ _ _ _ n
-returned_keeps w v number t r (method_frame m a monitor ∷ fs) n = if_keeps number w (nat_le (units (with_result r a.stack)) a.max_stack) _ _ (alone_of _ _ _ _ n) tt
-returned_keeps w v number t r (initialization_frame class stage ∷ fs) n = alone_of _ _ _ _ n
-returned_keeps w v number t r (entry_frame ∷ fs) n = alone_of _ _ _ _ n
+returned_keeps : (w v : World) (number : ℕ) (t : Thread) (r : Option Value) (fs : List Frame) → v.threads ≡ w.threads → v.stop ≡ w.stop → Keeps number w (returned_to v number t r fs)
+returned_keeps w v number t r [] n q = alone_of _ _ _ _ _ _ n q
+returned_keeps w v number t r (method_frame m a monitor ∷ fs) n q = if_keeps number w (nat_le (units (with_result r a.stack)) a.max_stack) _ _ (alone_of _ _ _ _ _ _ n q) tt
+returned_keeps w v number t r (initialization_frame class stage ∷ fs) n q = alone_of _ _ _ _ _ _ n q
+returned_keeps w v number t r (entry_frame ∷ fs) n q = alone_of _ _ _ _ _ _ n q
 
 return_from_keeps : (here : Here) (r : Option Value) → Keeps here.number here.world (return_from here r)
 return_from_keeps here r = leave_if_keeps here.world here.number here.monitor (throws here (codes "java/lang/IllegalMonitorStateException")) (λ w. returned_to w here.number here.thread r here.below)
     (throws_keeps here (codes "java/lang/IllegalMonitorStateException"))
-    (λ ms. returned_keeps here.world (with_monitors here.world ms) here.number here.thread r here.below refl)
+    (λ ms. returned_keeps here.world (with_monitors here.world ms) here.number here.thread r here.below refl refl)
 
 return_value_keeps : (here : Here) (o : OperandType) (t : Option FieldType) (v : Value) → Keeps here.number here.world (return_value here o t v)
 return_value_keeps here o None v = tt
@@ -392,19 +401,19 @@ return_keeps here return.Void = by here.method.descriptor.return_type
 throw_row_keeps : (here : Here) → Keeps here.number here.world (row_throw here)
 throw_row_keeps here = reference_keeps here.number here.world here.frame.stack (λ r s. with_object here r (λ k o. elim (is_kind_of here.world o.type throwable_class) [ true ↦ goes (with_thread here.world here.number (record here.thread { pending = Some k })) | false ↦ faults WrongKind ]))
     (λ r s. object_keeps here r (λ k o. elim (is_kind_of here.world o.type throwable_class) [ true ↦ goes (with_thread here.world here.number (record here.thread { pending = Some k })) | false ↦ faults WrongKind ])
-    (λ k o. if_keeps here.number here.world (is_kind_of here.world o.type throwable_class) _ _ (alone _ _ _) tt))
+    (λ k o. if_keeps here.number here.world (is_kind_of here.world o.type throwable_class) _ _ (alone _ _ _ _) tt))
 
 monitor_keeps : (here : Here) (op : MonitorOp) → Keeps here.number here.world (row_monitor here op)
 monitor_keeps here Enter = reference_keeps here.number here.world here.frame.stack (λ r s. with_object here r (λ k o. enter here.world here.number k (λ w. go_on_in here w s)))
-    (λ r s. object_keeps here r (λ k o. enter here.world here.number k (λ w. go_on_in here w s)) (λ k o. enter_keeps here.world here.number k (λ w. go_on_in here w s) (λ ms. (alone _ _ _))))
+    (λ r s. object_keeps here r (λ k o. enter here.world here.number k (λ w. go_on_in here w s)) (λ k o. enter_keeps here.world here.number k (λ w. go_on_in here w s) (λ ms. (alone _ _ _ _))))
 monitor_keeps here Exit = reference_keeps here.number here.world here.frame.stack (λ r s. with_object here r (λ k o. elim (leave here.world here.number k) [ None ↦ throws here (codes "java/lang/IllegalMonitorStateException") | Some w ↦ go_on_in here w s ]))
     (λ r s. object_keeps here r (λ k o. elim (leave here.world here.number k) [ None ↦ throws here (codes "java/lang/IllegalMonitorStateException") | Some w ↦ go_on_in here w s ])
-    (λ k o. leave_keeps here.world here.number k (throws here (codes "java/lang/IllegalMonitorStateException")) (λ w. go_on_in here w s) (throws_keeps here (codes "java/lang/IllegalMonitorStateException")) (λ ms. (alone _ _ _))))
+    (λ k o. leave_keeps here.world here.number k (throws here (codes "java/lang/IllegalMonitorStateException")) (λ w. go_on_in here w s) (throws_keeps here (codes "java/lang/IllegalMonitorStateException")) (λ ms. (alone _ _ _ _))))
 
 outcome_keeps : (here : Here) (o : Outcome) → Keeps here.number here.world (from_outcome here o)
 outcome_keeps here (outcome.throws class) = throws_keeps here class
 outcome_keeps here (outcome.faults fault) = tt
-outcome_keeps here (outcome.goes a) = alone _ _ _
+outcome_keeps here (outcome.goes a) = alone _ _ _ _
 
 row_keeps : (here : Here) (i : Instr) → Keeps here.number here.world (row here i)
 row_keeps here (instr.Plain op) = outcome_keeps here (row_plain op here.frame)
@@ -423,41 +432,41 @@ instruct_keeps here None = tt
 instruct_keeps here (Some i) = row_keeps here i
 
 -- unwinding
-unwound_keeps : (w v : World) (number : ℕ) (t : Thread) (fs : List Frame) (k : ℕ) (type : ObjectType) → v.threads ≡ w.threads → Keeps number w (unwound v number t fs k type)
-unwound_keeps w v number t [] k type n = alone_of _ _ _ _ n
-unwound_keeps w v number t (f ∷ fs) k type n = alone_of _ _ _ _ n
+unwound_keeps : (w v : World) (number : ℕ) (t : Thread) (fs : List Frame) (k : ℕ) (type : ObjectType) → v.threads ≡ w.threads → v.stop ≡ w.stop → Keeps number w (unwound v number t fs k type)
+unwound_keeps w v number t [] k type n q = alone_of _ _ _ _ _ _ n q
+unwound_keeps w v number t (f ∷ fs) k type n q = alone_of _ _ _ _ _ _ n q
 
-anew_keeps : (w v : World) (number : ℕ) (t : Thread) (fs : List Frame) (class : List ℕ) → v.threads ≡ w.threads → Keeps number w (unwound_anew w v number t fs class)
-anew_keeps w v number t fs class n = make_keeps number w w (exception class) (λ made k. unwound (record v { heap = made.heap }) number t fs k (instance_of class))
-    (unwound_keeps w (record v { heap = (grown w (exception class)).heap }) number t fs (length w.heap) (instance_of class) n)
+anew_keeps : (w v : World) (number : ℕ) (t : Thread) (fs : List Frame) (class : List ℕ) → v.threads ≡ w.threads → v.stop ≡ w.stop → Keeps number w (unwound_anew w v number t fs class)
+anew_keeps w v number t fs class n q = make_keeps number w w (exception class) (λ made k. unwound (record v { heap = made.heap }) number t fs k (instance_of class))
+    (unwound_keeps w (record v { heap = (grown w (exception class)).heap }) number t fs (length w.heap) (instance_of class) n q)
 
 drop_method_keeps : (w : World) (number : ℕ) (t : Thread) (o : Option ℕ) (fs : List Frame) (k : ℕ) (type : ObjectType) → Keeps number w (drop_method w number t o fs k type)
 drop_method_keeps w number t o fs k type = leave_if_keeps w number o (unwound_anew w w number t fs (codes "java/lang/IllegalMonitorStateException")) (λ left. unwound left number t fs k type)
-    (anew_keeps w w number t fs (codes "java/lang/IllegalMonitorStateException") refl) (λ ms. unwound_keeps w (with_monitors w ms) number t fs k type refl)
+    (anew_keeps w w number t fs (codes "java/lang/IllegalMonitorStateException") refl refl) (λ ms. unwound_keeps w (with_monitors w ms) number t fs k type refl refl)
 
 unwind_frames_keeps : (w : World) (number : ℕ) (t : Thread) (fs : List Frame) (k : ℕ) (type : ObjectType) → Keeps number w (unwind_frames w number t fs k type)
-unwind_frames_keeps w number t [] k type = alone _ _ _
+unwind_frames_keeps w number t [] k type = alone _ _ _ _
 unwind_frames_keeps w number t (method_frame m a o ∷ fs) k type = option_keeps number w (handler_in w a.at type (handlers_of (method_named w.program m))) _ _
-    (drop_method_keeps w number t o fs k type) (λ x. if_keeps number w (nat_le 1 a.max_stack) _ _ (alone _ _ _) tt)
+    (drop_method_keeps w number t o fs k type) (λ x. if_keeps number w (nat_le 1 a.max_stack) _ _ (alone _ _ _ _) tt)
 unwind_frames_keeps w number t (initialization_frame class stage ∷ fs) k type = if_keeps number w (is_kind_of w type error_class) _ _
-    (unwound_keeps w (with_state w class Failed) number t fs k type refl)
-    (anew_keeps w (with_state w class Failed) number t fs (codes "java/lang/ExceptionInInitializerError") refl)
-unwind_frames_keeps w number t (entry_frame ∷ fs) k type = unwound_keeps w w number t fs k type refl
+    (unwound_keeps w (with_state w class Failed) number t fs k type refl refl)
+    (anew_keeps w (with_state w class Failed) number t fs (codes "java/lang/ExceptionInInitializerError") refl refl)
+unwind_frames_keeps w number t (entry_frame ∷ fs) k type = unwound_keeps w w number t fs k type refl refl
 
 -- initialization
 begin_keeps : (w : World) (number : ℕ) (t : Thread) (class : List ℕ) (fs : List Frame) (state : ClassState) → Keeps number w (begin w number t class fs state)
-begin_keeps w number t class fs Done = alone _ _ _
-begin_keeps w number t class fs (InProgress owner) = if_keeps number w (nat_eq owner number) _ _ (alone _ _ _) tt
+begin_keeps w number t class fs Done = alone _ _ _ _
+begin_keeps w number t class fs (InProgress owner) = if_keeps number w (nat_eq owner number) _ _ (alone _ _ _ _) tt
 begin_keeps w number t class fs Failed = throw_keeps w number (record t { frames = fs }) (codes "java/lang/NoClassDefFoundError")
-begin_keeps w number t class fs NotBegun = alone _ _ _
+begin_keeps w number t class fs NotBegun = alone _ _ _ _
 
 superclass_keeps : (w : World) (number : ℕ) (t : Thread) (class : List ℕ) (fs : List Frame) (o : Option (List ℕ)) → Keeps number w (superclass_first w number t class fs o)
-superclass_keeps w number t class fs None = alone _ _ _
-superclass_keeps w number t class fs (Some above) = if_keeps number w (is_done (state_of w above)) _ _ (alone _ _ _)
+superclass_keeps w number t class fs None = alone _ _ _ _
+superclass_keeps w number t class fs (Some above) = if_keeps number w (is_done (state_of w above)) _ _ (alone _ _ _ _)
     (push_frame_keeps w number t (initialization_frame class Initializer ∷ fs) (initialization_frame above Begin))
 
 initializer_keeps : (w : World) (number : ℕ) (t : Thread) (class : List ℕ) (fs : List Frame) (o : Option FoundMethod) → Keeps number w (run_initializer w number t class fs o)
-initializer_keeps w number t class fs None = alone _ _ _
+initializer_keeps w number t class fs None = alone _ _ _ _
 initializer_keeps w number t class fs (Some found) = by found.method.code
   where
     by : (code : Option Code) → Keeps number w (call_initializer w number t class fs found code)
@@ -468,12 +477,12 @@ initialize_keeps : (w : World) (number : ℕ) (t : Thread) (class : List ℕ) (s
 initialize_keeps w number t class Begin fs = begin_keeps w number t class fs (state_of w class)
 initialize_keeps w number t class Superclass fs = superclass_keeps w number t class fs (superclass_name (class_named w.program class))
 initialize_keeps w number t class Initializer fs = initializer_keeps w number t class fs (initializer_of (class_named w.program class))
-initialize_keeps w number t class End fs = alone _ _ _
+initialize_keeps w number t class End fs = alone _ _ _ _
 
 -- entries and steps
 enter_code_keeps : (w : World) (number : ℕ) (t : Thread) (fs : List Frame) (found : FoundMethod) (k : ℕ) (code : Option Code) → Keeps number w (enter_code w number t fs found k code)
-enter_code_keeps w number t fs found k None = alone _ _ _
-enter_code_keeps w number t fs found k (Some code) = enter_if_keeps w number (monitor_of found.method k) (λ held. goes (with_frames held number t (method_frame (name_of_method found) (activation_of code (Ref k ∷ [])) (monitor_of found.method k) ∷ fs))) (λ ms. (alone _ _ _))
+enter_code_keeps w number t fs found k None = alone _ _ _ _
+enter_code_keeps w number t fs found k (Some code) = enter_if_keeps w number (monitor_of found.method k) (λ held. goes (with_frames held number t (method_frame (name_of_method found) (activation_of code (Ref k ∷ [])) (monitor_of found.method k) ∷ fs))) (λ ms. (alone _ _ _ _))
 
 enter_found_keeps : (w : World) (number : ℕ) (t : Thread) (fs : List Frame) (k : ℕ) (found : Option FoundMethod) → Keeps number w (enter_found w number t fs k found)
 enter_found_keeps w number t fs k None = throw_keeps w number t (codes "java/lang/AbstractMethodError")
@@ -484,7 +493,7 @@ enter_thread_keeps w number t fs None = tt
 enter_thread_keeps w number t fs (Some k) = option_keeps number w (slice_get w.heap k) _ _ tt (λ o. enter_found_keeps w number t fs k (select w.program (class_of o.type) (codes "run") run_type))
 
 step_frame_keeps : (w : World) (number : ℕ) (t : Thread) (fs : List Frame) → Keeps number w (step_frame w number t fs)
-step_frame_keeps w number t [] = alone _ _ _
+step_frame_keeps w number t [] = alone _ _ _ _
 step_frame_keeps w number t (method_frame m a o ∷ fs) =
     instruct_keeps (record { world = w; number = number; thread = t; method = m; monitor = o; frame = a; below = fs }) (instruction_in (method_named w.program m) a.at)
 step_frame_keeps w number t (initialization_frame class stage ∷ fs) = initialize_keeps w number t class stage fs
@@ -497,7 +506,7 @@ step_thread_keeps w number t = by t.pending
     by None = step_frame_keeps w number t t.frames
     by (Some k) = option_keeps number w (slice_get w.heap k) _ _ tt (λ o. unwind_frames_keeps w number t t.frames k o.type)
 
--- ---- threads that have ended
+-- ---- a thread of a list, and new ones behind it
 
 length_set : (ts : List Thread) (i : ℕ) (t : Thread) → length (slice_set ts i t) ≡ length ts
 length_set [] i t = refl
@@ -509,94 +518,197 @@ with_more [] more k h = absurd (omega arith)
 with_more (x ∷ ts) more zero h = refl
 with_more (x ∷ ts) more (suc k) h = with_more ts more k (omega arith)
 
--- where one that runs is another, what has ended stays
-ended_there : (ts more : List Thread) (i k : ℕ) (t : Thread) → k < length ts → (k ≡ i → is_live_thread (slice_get ts k) ≡ true) → is_live_thread (slice_get ts k) ≡ false
-    → is_live_thread (slice_get (slice_set ts i t ++ more) k) ≡ false
-ended_there [] more i k t h own ended = absurd (omega arith)
-ended_there (x ∷ ts) more zero zero t h own ended = let live = own refl in cc
-ended_there (x ∷ ts) more zero (suc k) t h own ended = ap is_live_thread (with_more ts more k (omega arith)) ∙ ended
-ended_there (x ∷ ts) more (suc i) zero t h own ended = ended
-ended_there (x ∷ ts) more (suc i) (suc k) t h own ended = ended_there ts more i k t (omega arith) (λ e. own (ap suc e)) ended
+among_more : (ts more : List Thread) (k : ℕ) → length ts ≤ k → slice_get (ts ++ more) k ≡ slice_get more (k - length ts)
+among_more [] more k h = ap (slice_get more) (omega arith)
+among_more (x ∷ ts) more zero h = absurd (omega arith)
+among_more (x ∷ ts) more (suc k) h = let same : k - length ts ≡ suc k - length (x ∷ ts) = omega arith in among_more ts more k (omega arith) ∙ ap (slice_get more) same
 
-ended_at : (ts us : List Thread) (number : ℕ) (t : Thread) → slice_get ts (number - 1) ≡ Some t → is_running t.ending ≡ true → Alone number ts us → (k : ℕ) → k < length ts
-    → is_live_thread (slice_get ts k) ≡ false → is_live_thread (slice_get us k) ≡ false
-ended_at ts us number t there runs a k h ended =
-    subst (λ xs. is_live_thread (slice_get xs k) ≡ false) (sym a.new_is)
-    (ended_there ts a.more (number - 1) k a.thread h (λ e. ap (λ j. is_live_thread (slice_get ts j)) e ∙ ap is_live_thread there ∙ runs) ended)
+set_elsewhere : (ts : List Thread) (i k : ℕ) (t : Thread) → k ≢ i → slice_get (slice_set ts i t) k ≡ slice_get ts k
+set_elsewhere [] i k t other = refl
+set_elsewhere (x ∷ ts) zero zero t other = absurd (other refl)
+set_elsewhere (x ∷ ts) zero (suc k) t other = refl
+set_elsewhere (x ∷ ts) (suc i) zero t other = refl
+set_elsewhere (x ∷ ts) (suc i) (suc k) t other = set_elsewhere ts i k t (λ e. other (ap suc e))
 
-numbered : (w : World) (number : ℕ) (t : Thread) → thread_at w number ≡ Some t → slice_get w.threads (number - 1) ≡ Some t
-numbered w zero t there = cc
-numbered w (suc n) t there = let same : suc n - 1 ≡ n = omega arith in ap (slice_get w.threads) same ∙ there
+set_there : (ts : List Thread) (i : ℕ) (t : Thread) → i < length ts → slice_get (slice_set ts i t) i ≡ Some t
+set_there [] i t h = absurd (omega arith)
+set_there (x ∷ ts) zero t h = refl
+set_there (x ∷ ts) (suc i) t h = set_there ts i t (omega arith)
 
-alone_stays : (w v : World) (number : ℕ) (t : Thread) → thread_at w number ≡ Some t → is_running t.ending ≡ true → Alone number w.threads v.threads → EndedStay w v
-alone_stays w v number t there runs a = record { made = more; ended = stay }
+in_range : (ts : List Thread) (i : ℕ) (t : Thread) → slice_get ts i ≡ Some t → i < length ts
+in_range [] i t there = cc
+in_range (x ∷ ts) zero t there = omega arith
+in_range (x ∷ ts) (suc i) t there = let rest = in_range ts i t there in omega arith
+
+-- how many of them are live
+abbrev counted : Bool → ℕ
+counted true = 1
+counted false = 0
+
+abbrev uncounted : Bool → ℕ
+uncounted true = 0
+uncounted false = 1
+
+one_of_both : (b : Bool) → counted b + uncounted b ≡ 1
+one_of_both true = refl
+one_of_both false = refl
+
+live_first : (t : Thread) (ts : List Thread) → live_among (t ∷ ts) ≡ live_among ts + counted (is_running t.ending)
+live_first t ts = by (is_running t.ending)
   where
-    more : length w.threads ≤ length v.threads
-    more = let all = ap length a.new_is ∙ length-append (slice_set w.threads (number - 1) a.thread) a.more in let same = length_set w.threads (number - 1) a.thread in omega arith
+    by : (b : Bool) → (elim b as (λ _. ℕ) [ true ↦ live_among ts + 1 | false ↦ live_among ts ]) ≡ live_among ts + counted b
+    by true = refl
+    by false = omega arith
 
-    stay : (n : ℕ) → n ≤ length w.threads → is_live w n ≡ false → is_live v n ≡ false
-    stay zero h ended = refl
-    stay (suc k) h ended = ended_at w.threads v.threads number t (numbered w number t there) runs a k (omega arith) ended
+live_most : (ts : List Thread) → live_among ts ≤ length ts
+live_most [] = omega arith
+live_most (t ∷ ts) = let rest = live_most ts in let first = live_first t ts in let bit = one_of_both (is_running t.ending) in omega arith
 
-same_stays : (w v : World) → v.threads ≡ w.threads → EndedStay w v
-same_stays w v e = record { made = let same = ap length e in omega arith; ended = stay }
+live_append : (ts us : List Thread) → live_among (ts ++ us) ≡ live_among ts + live_among us
+live_append [] us = omega arith
+live_append (t ∷ ts) us = let rest = live_append ts us in let old = live_first t ts in let new = live_first t (ts ++ us) in omega arith
+
+live_all : (ts : List Thread) → ((k : ℕ) → k < length ts → is_live_thread (slice_get ts k) ≡ true) → live_among ts ≡ length ts
+live_all [] live = refl
+live_all (t ∷ ts) live =
+    let rest = live_all ts (λ k h. live (suc k) (omega arith)) in
+    let first = live_first t ts ∙ ap (λ b. live_among ts + counted b) (live zero (omega arith)) in
+    omega (arith, first, rest)
+
+live_set : (ts : List Thread) (i : ℕ) (t u : Thread) → slice_get ts i ≡ Some t → is_running t.ending ≡ true → live_among (slice_set ts i u) + 1 ≡ live_among ts + counted (is_running u.ending)
+live_set [] i t u there runs = cc
+live_set (x ∷ ts) zero t u there runs =
+    let same : x ≡ t = cc in
+    let old = live_first x ts ∙ ap (λ b. live_among ts + counted b) (ap (λ (y : Thread). is_running y.ending) same ∙ runs) in
+    let new = live_first u ts in
+    omega (arith, old, new)
+live_set (x ∷ ts) (suc i) t u there runs =
+    let rest = live_set ts i t u there runs in
+    let old = live_first x ts in
+    let new = live_first x (slice_set ts i u) in
+    omega (arith, rest, old, new)
+
+-- ---- a step of a live thread
+
+-- what holds of the threads, and how many have ended
+pub record Stepped (w : World) (n : ℕ) (v : World) : Type 0 where
+  pub stay : OthersStay w n v
+  pub lives : is_live v n ≡ true → ended_in v ≡ ended_in w
+  pub ends : is_live v n ≡ false → ended_in v ≡ ended_in w + 1
+
+module _ (w v : World) (i : ℕ) (t : Thread) (there : slice_get w.threads i ≡ Some t) (runs : is_running t.ending ≡ true) (a : Thread) (more : List Thread)
+    (is : v.threads ≡ slice_set w.threads i a ++ more) (live : (k : ℕ) → k < length more → is_live_thread (slice_get more k) ≡ true) where
+  same_length : length (slice_set w.threads i a) ≡ length w.threads
+  same_length = length_set w.threads i a
+
+  grown_by : length v.threads ≡ length w.threads + length more
+  grown_by = ap length is ∙ length-append (slice_set w.threads i a) more ∙ ap (λ n. n + length more) same_length
+
+  within : i < length w.threads
+  within = in_range w.threads i t there
+
+  among : (k : ℕ) → k < length w.threads → slice_get v.threads k ≡ slice_get (slice_set w.threads i a) k
+  among k h = ap (λ ts. slice_get ts k) is ∙ with_more (slice_set w.threads i a) more k (omega (arith, h, same_length))
+
+  others : (k : ℕ) → k ≤ length w.threads → k ≢ suc i → is_live v k ≡ is_live w k
+  others zero h other = refl
+  others (suc k) h other = ap is_live_thread (among k (omega arith) ∙ set_elsewhere w.threads i k a (λ e. other (ap suc e)))
+
+  fresh : (k : ℕ) → length w.threads + 1 ≤ k → k < length v.threads + 1 → is_live v k ≡ true
+  fresh zero low high = absurd (omega arith)
+  fresh (suc k) low high =
+      ap is_live_thread (ap (λ ts. slice_get ts k) is ∙ among_more (slice_set w.threads i a) more k (omega (arith, low, same_length)))
+      ∙ live (k - length (slice_set w.threads i a)) (omega (arith, low, high, grown_by, same_length))
+
+  its_own : is_live v (suc i) ≡ is_running a.ending
+  its_own = ap is_live_thread (among i within ∙ set_there w.threads i a within)
+
+  count : ended_in v ≡ ended_in w + uncounted (is_running a.ending)
+  count =
+      let all = ap live_among is ∙ live_append (slice_set w.threads i a) more in
+      let new = live_all more live in
+      let set = live_set w.threads i t a there runs in
+      let most = live_most w.threads in
+      let bit = one_of_both (is_running a.ending) in
+      omega (arith, all, new, set, most, bit, grown_by)
+
+  set_stepped : Stepped w (suc i) v
+  set_stepped = record {
+    stay = record { made = omega (arith, grown_by); others = others; fresh = fresh };
+    lives = λ h. let all = count ∙ ap (λ b. ended_in w + uncounted b) (sym its_own ∙ h) in omega (arith, all);
+    ends = λ h. count ∙ ap (λ b. ended_in w + uncounted b) (sym its_own ∙ h);
+  }
+
+alone_stepped : (w v : World) (number : ℕ) (t : Thread) → thread_at w number ≡ Some t → is_running t.ending ≡ true → Alone number w.threads w.stop v.threads v.stop → Stepped w number v
+alone_stepped w v zero t there runs a = cc
+alone_stepped w v (suc i) t there runs a =
+    let same : suc i - 1 ≡ i = omega arith in
+    set_stepped w v i t there runs a.thread a.more (a.new_is ∙ ap (λ k. slice_set w.threads k a.thread ++ a.more) same) a.live
+
+same_stepped : (w v : World) (n : ℕ) → is_live w n ≡ true → v.threads ≡ w.threads → Stepped w n v
+same_stepped w v n live e = record {
+  stay = record { made = let same = ap length e in omega arith; others = λ k h other. same_at k; fresh = λ k low high. let same = ap length e in absurd (omega arith) };
+  lives = λ h. ap (λ ts. length ts - live_among ts) e;
+  ends = λ h. let both = sym (same_at n ∙ live) ∙ h in cc;
+}
   where
-    stay : (n : ℕ) → n ≤ length w.threads → is_live w n ≡ false → is_live v n ≡ false
-    stay zero h ended = refl
-    stay (suc k) h ended = ap (λ ts. is_live_thread (slice_get ts k)) e ∙ ended
+    same_at : (k : ℕ) → is_live v k ≡ is_live w k
+    same_at zero = refl
+    same_at (suc k) = ap (λ ts. is_live_thread (slice_get ts k)) e
 
-step_stays : (w : World) (number : ℕ) (t : Thread) → thread_at w number ≡ Some t → is_running t.ending ≡ true → (x : Next) → Keeps number w x → EndedStay w (after_step w x).world
-step_stays w number t there runs (goes v) a = alone_stays w v number t there runs a
-step_stays w number t there runs (stops s) a = same_stays w _ refl
-step_stays w number t there runs blocks a = same_stays w w refl
+next_stepped : (w : World) (number : ℕ) (t : Thread) → is_live w number ≡ true → thread_at w number ≡ Some t → is_running t.ending ≡ true → (x : Next) → Keeps number w x → Stepped w number (after_step w x).world
+next_stepped w number t live there runs (goes v) a = alone_stepped w v number t there runs a
+next_stepped w number t live there runs (stops s) a = same_stepped w _ number live refl
+next_stepped w number t live there runs blocks a = same_stepped w w number live refl
 
-thread_stays : (w : World) (number : ℕ) (o : Option Thread) → thread_at w number ≡ o → EndedStay w (after_thread w number o).world
-thread_stays w number None there = same_stays w w refl
-thread_stays w number (Some t) there = by (is_running t.ending) refl
+thread_stepped : (w : World) (number : ℕ) (o : Option Thread) → is_live w number ≡ true → thread_at w number ≡ o → Stepped w number (after_thread w number o).world
+thread_stepped w number None live there = same_stepped w w number live refl
+thread_stepped w number (Some t) live there = by (is_running t.ending) refl
   where
-    by : (b : Bool) → is_running t.ending ≡ b → EndedStay w (elim b as (λ _. After) [ true ↦ after_step w (step_thread w number t) | false ↦ answered kind.Ended w ]).world
-    by true runs = step_stays w number t there runs (step_thread w number t) (step_thread_keeps w number t)
-    by false ended = same_stays w w refl
+    by : (b : Bool) → is_running t.ending ≡ b → Stepped w number (elim b as (λ _. After) [ true ↦ after_step w (step_thread w number t) | false ↦ answered kind.Ended w ]).world
+    by true runs = next_stepped w number t live there runs (step_thread w number t) (step_thread_keeps w number t)
+    by false ended = same_stepped w w number live refl
 
-event_stays : (w : World) (e : Event) → EndedStay w (after_event w e).world
-event_stays w (Step number) = thread_stays w number (thread_at w number) refl
-event_stays w Minor = same_stays w w refl
-event_stays w Full = same_stays w w refl
-
--- an event wakes no thread that has ended, and loses none
-pub ended_stay : (w : World) (e : Event) → EndedStay w (after w e).world
+pub stepped : (w : World) (number : ℕ) → is_live w number ≡ true → Stepped w number (after w (Step number)).world
 unfolding after
-ended_stay w e = by w.stop
+stepped w number live = by w.stop
   where
-    by : (o : Option Stop) → EndedStay w (elim o as (λ _. After) [ Some s ↦ answered kind.Stopped w | None ↦ after_event w e ]).world
-    by None = event_stays w e
-    by (Some s) = same_stays w w refl
+    by : (o : Option Stop) → Stepped w number (elim o as (λ _. After) [ Some s ↦ answered kind.Stopped w | None ↦ after_event w (Step number) ]).world
+    by None = thread_stepped w number (thread_at w number) live refl
+    by (Some s) = same_stepped w w number live refl
 
--- ---- how many threads a reply tells
+-- ---- what a reply tells of its world
 
-step_told : (w : World) (x : Next) → (after_step w x).reply.made ≡ length (after_step w x).world.threads
-step_told w (goes v) = refl
-step_told w (stops s) = refl
-step_told w blocks = refl
+pub record Told (a : After) : Type 0 where
+  pub made : a.reply.made ≡ length a.world.threads
+  pub live : a.reply.live ≡ live_among a.world.threads
+  pub stopped : is_stopped a.reply.kind ≡ has_stopped a.world.stop
 
-thread_told : (w : World) (number : ℕ) (o : Option Thread) → (after_thread w number o).reply.made ≡ length (after_thread w number o).world.threads
-thread_told w number None = refl
-thread_told w number (Some t) = by (is_running t.ending)
+answer_told : (k : ReplyKind) (w : World) → is_stopped k ≡ has_stopped w.stop → Told (answered k w)
+answer_told k w same = record { made = refl; live = refl; stopped = same }
+
+step_told : (w : World) (number : ℕ) (x : Next) → w.stop ≡ None → Keeps number w x → Told (after_step w x)
+step_told w number (goes v) none a = answer_told kind.Done v (sym (ap has_stopped (a.stop_is ∙ none)))
+step_told w number (stops s) none a = answer_told kind.Stopped (record w { stop = Some s }) refl
+step_told w number blocks none a = answer_told kind.Blocked w (sym (ap has_stopped none))
+
+thread_told : (w : World) (number : ℕ) (o : Option Thread) → w.stop ≡ None → Told (after_thread w number o)
+thread_told w number None none = answer_told kind.None w (sym (ap has_stopped none))
+thread_told w number (Some t) none = by (is_running t.ending)
   where
-    by : (b : Bool) → let a : After = elim b as (λ _. After) [ true ↦ after_step w (step_thread w number t) | false ↦ answered kind.Ended w ] in a.reply.made ≡ length a.world.threads
-    by true = step_told w (step_thread w number t)
-    by false = refl
+    by : (b : Bool) → Told (elim b as (λ _. After) [ true ↦ after_step w (step_thread w number t) | false ↦ answered kind.Ended w ])
+    by true = step_told w number (step_thread w number t) none (step_thread_keeps w number t)
+    by false = answer_told kind.Ended w (sym (ap has_stopped none))
 
-event_told : (w : World) (e : Event) → (after_event w e).reply.made ≡ length (after_event w e).world.threads
-event_told w (Step number) = thread_told w number (thread_at w number)
-event_told w Minor = refl
-event_told w Full = refl
+event_told : (w : World) (e : Event) → w.stop ≡ None → Told (after_event w e)
+event_told w (Step number) none = thread_told w number (thread_at w number) none
+event_told w Minor none = answer_told kind.Done w (sym (ap has_stopped none))
+event_told w Full none = answer_told kind.Done w (sym (ap has_stopped none))
 
--- those of the next world
-pub made_is_told : (w : World) (e : Event) → (after w e).reply.made ≡ length (after w e).world.threads
+pub told : (w : World) (e : Event) → Told (after w e)
 unfolding after
-made_is_told w e = by w.stop
+told w e = by w.stop refl
   where
-    by : (o : Option Stop) → let a : After = elim o as (λ _. After) [ Some s ↦ answered kind.Stopped w | None ↦ after_event w e ] in a.reply.made ≡ length a.world.threads
-    by None = event_told w e
-    by (Some s) = refl
+    by : (o : Option Stop) → w.stop ≡ o → Told (elim o as (λ _. After) [ Some s ↦ answered kind.Stopped w | None ↦ after_event w e ])
+    by None none = event_told w e none
+    by (Some s) some = answer_told kind.Stopped w (sym (ap has_stopped some))

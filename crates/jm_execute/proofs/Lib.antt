@@ -1,5 +1,6 @@
 mod Writing
 mod Turns
+mod Receipts
 mod Folds
 mod Threads
 mod Texts

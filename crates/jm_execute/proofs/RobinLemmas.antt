@@ -1,35 +1,43 @@
 -- The model's round robin, one event more.
-use Rattle.std.proofs.Common.{◌≡◌, ◌≢◌, ℕ, zero, suc, ◌+◌, ◌-◌, ◌<◌, ◌≤◌, length, List, [], ◌∷◌, ◌++◌, Option, Some, None, Bool, true, false, refl, sym, ap, ap₂, subst, ◌∙◌, append_assoc, append-nil, arith}
+use Rattle.std.proofs.Common.{◌≡◌, ◌≢◌, ℕ, zero, suc, ◌+◌, ◌-◌, ◌<◌, ◌==◌, List, [], ◌∷◌, ◌++◌, Option, Some, None, Bool, true, false, refl, sym, ap, ap₂, subst, ◌∙◌, append_assoc, append-nil, arith}
 use Rattle.std.specs.Prelude.{nat_lt}
+use Rattle.std.proofs.Math.Dec.{eqb-suc-zero}
 use Rattle.std.proofs.lemmas.Bool.{ltb-true, ltb-false}
-use Rattle.jm_world.specs.RoundRobin.{Turn, is_blocked, left_for, next_turn, robin, robin_from, turn_in}
-use Rattle.jm_world.specs.Run.{After, after, run_from}
+use Rattle.jm_world.specs.RoundRobin.{Turn, is_blocked, is_stopped, left_for, next_turn, robin, robin_from, turn_in}
+use Rattle.jm_world.specs.Run.{After, after}
 use Rattle.jm_world.specs.World.{World}
 use Rattle.jm_world.specs.declared.event.Event.{Event}
 use Rattle.jm_world.specs.declared.event.Event.TheVariants.{Step}
 use Rattle.jm_world.specs.declared.reply.Reply.{Reply}
 use Rattle.jm_world.specs.declared.reply.ReplyKind.{ReplyKind}
 use Rattle.jm_world.specs.declared.stop.Stop.{Stop}
-use Rattle.jm_shared.specs.Book.{Book}
-use Rattle.jm_shared.specs.Legal.{entry_of, events_of, world_after}
-use Rattle.jm_shared.specs.declared.entry.Entry.{Entry}
-use Rattle.jm_execute.specs.Passes.{EndedStay, Follows, HasTurn, Lists, turn_of}
+use Rattle.jm_machine.specs.Threads.{is_live}
+use Rattle.jm_shared.specs.declared.entry.Receipt.{Receipt}
+use Rattle.jm_execute.specs.Passes.{Follows, HasTurn, Knows, ended_in, following, has_stopped, turn_of}
 use Rattle.jm_execute.specs.Standings.{Ends, FallsShort, Makes, from_after, from_of, left_after, left_of, robin_at, standing_after, standing_by}
-use Rattle.jm_execute.specs.Turns.{Records, RecordsPart}
+use Rattle.jm_execute.specs.Turns.{AreReplies, Records, RecordsPart, events_in, world_by}
 use Rattle.jm_execute.specs.declared.pass.Pass.{Pass}
 use Rattle.jm_execute.specs.declared.pass.Turn as pass
 use Rattle.jm_execute.specs.declared.round_robin.Standing.{Standing}
-use Rattle.jm_execute.proofs.KeptThreads.{ended_stay, made_is_told}
-use Rattle.jm_execute.proofs.PassLemmas.{still_has}
-use Rattle.jm_execute.proofs.Turns.{nothing_recorded, recorded_then, still_recorded, turn_recorded}
+use Rattle.jm_execute.proofs.KeptThreads.{stepped, told}
+use Rattle.jm_execute.proofs.PassLemmas.{first_lives}
+use Rattle.jm_execute.proofs.Turns.{one_made, one_recorded, replies_before, world_turned}
 
 -- ---- whose turn it is
 
-pub stopped_turn : (w : World) (from : ℕ) (moved : Bool) (s : Stop) → w.stop ≡ Some s → turn_in w from moved ≡ None
-stopped_turn w from moved s stop = ap (λ o. elim o as (λ _. Option Turn) [ Some s ↦ None | None ↦ next_turn w from moved ]) stop
+pub stopped_turn : (w : World) (from : ℕ) (moved : Bool) → has_stopped w.stop ≡ true → turn_in w from moved ≡ None
+stopped_turn w from moved h = by w.stop h
+  where
+    by : (o : Option Stop) → has_stopped o ≡ true → (elim o as (λ _. Option Turn) [ Some s ↦ None | None ↦ next_turn w from moved ]) ≡ None
+    by (Some s) h = refl
+    by None h = cc
 
-pub going_turn : (w : World) (from : ℕ) (moved : Bool) → w.stop ≡ None → turn_in w from moved ≡ next_turn w from moved
-going_turn w from moved none = ap (λ o. elim o as (λ _. Option Turn) [ Some s ↦ None | None ↦ next_turn w from moved ]) none
+pub going_turn : (w : World) (from : ℕ) (moved : Bool) → has_stopped w.stop ≡ false → turn_in w from moved ≡ next_turn w from moved
+going_turn w from moved h = by w.stop h
+  where
+    by : (o : Option Stop) → has_stopped o ≡ false → (elim o as (λ _. Option Turn) [ Some s ↦ None | None ↦ next_turn w from moved ]) ≡ next_turn w from moved
+    by (Some s) h = cc
+    by None h = refl
 
 -- ---- the next event
 
@@ -101,151 +109,132 @@ last_is : (blocked : Bool) (turn : pass.Turn) (left : ℕ) → (standing_by bloc
 last_is true turn left = refl
 last_is false turn left = refl
 
-staying : (last left : ℕ) → left ≢ 0 → from_after last left ≡ last
-staying last zero some = absurd (some refl)
-staying last (suc left) some = refl
+-- from where on the next thread is looked for
+from_standing : (blocked : Bool) (turn : pass.Turn) (left : ℕ) → from_of (standing_by blocked turn left) ≡ following turn.thread ((standing_by blocked turn left).left == 0)
+from_standing blocked turn left = by (standing_by blocked turn left).left ∙ ap (λ n. following n ((standing_by blocked turn left).left == 0)) (last_is blocked turn left)
+  where
+    by : (k : ℕ) → from_after (standing_by blocked turn left).last k ≡ following (standing_by blocked turn left).last (k == 0)
+    by zero = refl
+    by (suc k) = ap (following (standing_by blocked turn left).last) (sym (eqb-suc-zero k))
 
--- the turn goes on, or is over
-pub stays : (blocked : Bool) (turn : pass.Turn) (left : ℕ) → (standing_by blocked turn left).left ≢ 0 → from_of (standing_by blocked turn left) ≡ turn.thread
-stays blocked turn left some = staying (standing_by blocked turn left).last (standing_by blocked turn left).left some ∙ last_is blocked turn left
+-- ---- what a pass knows after an event
 
-pub moves_on : (blocked : Bool) (turn : pass.Turn) (left : ℕ) → (standing_by blocked turn left).left ≡ 0 → from_of (standing_by blocked turn left) ≡ turn.thread + 1
-moves_on blocked turn left none = ap (from_after (standing_by blocked turn left).last) none ∙ ap (λ n. n + 1) (last_is blocked turn left)
+pub knows_then : (w v : World) (n : ℕ) (is_over : Bool) (p : Pass) (reply : Reply) → reply ≡ (after w (Step n)).reply → v ≡ (after w (Step n)).world → Follows v (following n is_over) p → p.ended ≡ reply.made - reply.live → p.stopped ≡ is_stopped reply.kind
+    → Knows v (following n is_over) p
+knows_then w v n is_over p reply said there follows ended stopped =
+    let tells = told w (Step n) in
+    record {
+      follows = follows;
+      ended = ended ∙ ap (λ (r : Reply). r.made - r.live) said ∙ (λ i. tells.made i - tells.live i) ∙ ap ended_in (sym there);
+      stopped = stopped ∙ ap (λ (r : Reply). is_stopped r.kind) said ∙ tells.stopped ∙ ap (λ (x : World). has_stopped x.stop) (sym there);
+    }
 
--- ---- the journal
+-- its thread is live where no more have ended
+pub lives_on : (w : World) (n : ℕ) (p : Pass) (reply : Reply) → HasTurn w n p → reply ≡ (after w (Step n)).reply → reply.made - reply.live ≡ ended_in w → is_live (after w (Step n)).world n ≡ true
+lives_on w n p reply has said same = by (is_live (after w (Step n)).world n) refl
+  where
+    by : (b : Bool) → is_live (after w (Step n)).world n ≡ b → is_live (after w (Step n)).world n ≡ true
+    by true h = h
+    by false h =
+        let more = (stepped w n (first_lives w n p has)).ends h in
+        let tells = told w (Step n) in
+        let here : reply.made - reply.live ≡ ended_in (after w (Step n)).world = ap (λ (r : Reply). r.made - r.live) said ∙ (λ i. tells.made i - tells.live i) in
+        absurd (omega (arith, more, here, same))
 
-run_append : (w : World) (es fs : List Event) → run_from w (es ++ fs) ≡ run_from (run_from w es) fs
-run_append w [] fs = refl
-run_append w (e ∷ es) fs = run_append (after w e).world es fs
-
-events_append : (es fs : List Entry) → events_of (es ++ fs) ≡ events_of es ++ events_of fs
-events_append [] fs = refl
-events_append (e ∷ es) fs = ap (λ (xs : List Event). e.event ∷ xs) (events_append es fs)
-
--- the world after one turn more
-pub world_turned : (first : World) (old new : Book) (e : Event) (r : Reply) → new.entries ≡ old.entries ++ entry_of 0 e r ∷ [] → world_after first new.entries ≡ (after (world_after first old.entries) e).world
-world_turned first old new e r more =
-    ap (world_after first) more
-    ∙ ap (run_from first) (events_append old.entries (entry_of 0 e r ∷ []))
-    ∙ run_append first (events_of old.entries) (e ∷ [])
-
-pub one_event : (old new : Book) (e : Event) (r : Reply) → new.entries ≡ old.entries ++ entry_of 0 e r ∷ [] → Records old new (e ∷ [])
-one_event old new e r more = turn_recorded old old new [] e r (nothing_recorded old) more
-
--- no event is made, or only the first
-pub none_made : (old new : Book) (events : List Event) → new.entries ≡ old.entries → RecordsPart old new events
-none_made old new events same = record { made = []; rest = events; whole = refl; records = still_recorded old old new [] (nothing_recorded old) same }
-
-pub one_made : (old new : Book) (events rest : List Event) (e : Event) → Records old new (e ∷ []) → events ≡ e ∷ rest → RecordsPart old new events
-one_made old new events rest e records whole = record { made = e ∷ []; rest = rest; whole = whole; records = records }
+pub has_ended : (w : World) (n : ℕ) (p : Pass) (reply : Reply) → HasTurn w n p → reply ≡ (after w (Step n)).reply → reply.made - reply.live ≢ ended_in w → is_live (after w (Step n)).world n ≡ false
+has_ended w n p reply has said other = by (is_live (after w (Step n)).world n) refl
+  where
+    by : (b : Bool) → is_live (after w (Step n)).world n ≡ b → is_live (after w (Step n)).world n ≡ false
+    by false h = h
+    by true h =
+        let same = (stepped w n (first_lives w n p has)).lives h in
+        let tells = told w (Step n) in
+        let here : reply.made - reply.live ≡ ended_in (after w (Step n)).world = ap (λ (r : Reply). r.made - r.live) said ∙ (λ i. tells.made i - tells.live i) in
+        absurd (other (here ∙ same))
 
 -- ---- an event of a turn
 
-module _ (first : World) (turn : pass.Turn) (reply : Reply) (old new : Book) (more : new.entries ≡ old.entries ++ entry_of 0 (Step turn.thread) reply ∷ [])
-    (said : reply ≡ (after (world_after first old.entries) (Step turn.thread)).reply) where
-  turned : world_after first new.entries ≡ (after (world_after first old.entries) (Step turn.thread)).world
-  turned = world_turned first old new (Step turn.thread) reply more
+module _ (first : World) (turn : pass.Turn) (receipt : Receipt) (old new : List Receipt) (more : new ≡ old ++ receipt ∷ []) (event : receipt.event ≡ Step turn.thread) (are : AreReplies first new) where
+  before : AreReplies first old × (receipt.reply ≡ (after (world_by first old) receipt.event).reply)
+  before = replies_before first old receipt (subst (AreReplies first) more are)
 
-  -- the pass has the turn still, once it has seen the new threads
-  pub keeps_turn : (p q : Pass) → HasTurn (world_after first old.entries) turn.thread p → ((v : World) (low : ℕ) → Lists v low (p.known + 1) p.ahead.items → Lists v low (q.known + 1) q.ahead.items)
-      → (longer : List ℕ) × (q.ahead.items ≡ p.ahead.items ++ longer) → (p.known ≤ reply.made → q.known ≡ reply.made) → q.behind ≡ p.behind → HasTurn (world_after first new.entries) turn.thread q
-  keeps_turn p q has lists longer seen behind =
-      let stay : EndedStay (world_after first old.entries) (world_after first new.entries) = subst (EndedStay (world_after first old.entries)) (sym turned) (ended_stay (world_after first old.entries) (Step turn.thread)) in
-      let told : reply.made ≡ length (world_after first new.entries).threads = ap (λ (r : Reply). r.made) said ∙ made_is_told (world_after first old.entries) (Step turn.thread) ∙ ap (λ (x : World). length x.threads) (sym turned) in
-      let all = has.follows.known in
-      let most = stay.made in
-      let before : p.known ≤ reply.made = omega arith in
-      still_has (world_after first old.entries) (world_after first new.entries) turn.thread p q has stay (lists (world_after first new.entries)) longer (seen before ∙ told) behind
+  pub said : receipt.reply ≡ (after (world_by first old) (Step turn.thread)).reply
+  said = before.1 ∙ ap (λ e. (after (world_by first old) e).reply) event
 
-  module _ (quantum : ℕ) (s : Standing) (is : turn_in (world_after first old.entries) (from_of s) s.moved ≡ Some (turn_of turn)) where
-    its_event : (steps : ℕ) → robin_at (suc steps) quantum (world_after first old.entries) s ≡ Step turn.thread ∷ robin_at steps quantum (world_after first new.entries) (standing_after s turn reply.kind quantum)
-    its_event = event_made (world_after first old.entries) (world_after first new.entries) quantum s turn reply.kind is (ap (λ (r : Reply). r.kind) said) turned
+  recorded : Records old new (Step turn.thread ∷ [])
+  recorded = one_recorded old new (Step turn.thread) receipt more event
+
+  turned : world_by first new ≡ (after (world_by first old) (Step turn.thread)).world
+  turned = world_turned first old new (Step turn.thread) recorded
+
+  module _ (quantum : ℕ) (s : Standing) (is : turn_in (world_by first old) (from_of s) s.moved ≡ Some (turn_of turn)) where
+    its_event : (steps : ℕ) → robin_at (suc steps) quantum (world_by first old) s ≡ Step turn.thread ∷ robin_at steps quantum (world_by first new) (standing_after s turn receipt.reply.kind quantum)
+    its_event = event_made (world_by first old) (world_by first new) quantum s turn receipt.reply.kind is (ap (λ (r : Reply). r.kind) said) turned
 
     pub short_behind : FallsShort first quantum s old new
-    short_behind = λ steps. one_made old new (robin_at (suc steps) quantum (world_after first old.entries) s) (robin_at steps quantum (world_after first new.entries) (standing_after s turn reply.kind quantum)) (Step turn.thread)
-        (one_event old new (Step turn.thread) reply more) (its_event steps)
+    short_behind = λ steps. one_made old new (robin_at (suc steps) quantum (world_by first old) s) (robin_at steps quantum (world_by first new) (standing_after s turn receipt.reply.kind quantum)) (Step turn.thread)
+        recorded (its_event steps)
 
-    module _ (t : Standing) (same : t ≡ standing_after s turn reply.kind quantum) where
-      makes : (q : Pass) → Follows (world_after first new.entries) (from_of t) q → Makes first quantum s t old new q
-      makes q follows = record {
-        event = Step turn.thread;
-        records = one_event old new (Step turn.thread) reply more;
-        events = λ steps. its_event steps ∙ ap (λ (x : Standing). Step turn.thread ∷ robin_at steps quantum (world_after first new.entries) x) (sym same);
-        follows = follows;
-      }
+    pub makes : (t : Standing) → t ≡ standing_after s turn receipt.reply.kind quantum → (q : Pass) → Knows (after (world_by first old) (Step turn.thread)).world (following turn.thread (t.left == 0)) q
+        → Makes first quantum s t old new q
+    makes t same q knows =
+        let at : from_of t ≡ following turn.thread (t.left == 0) = ap from_of same ∙ from_standing (is_blocked receipt.reply.kind) turn (left_for turn.thread (from_of s) (left_of quantum s) quantum)
+        ∙ ap (λ (x : Standing). following turn.thread (x.left == 0)) (sym same) in
+        record {
+          event = Step turn.thread;
+          records = recorded;
+          events = λ steps. its_event steps ∙ ap (λ (x : Standing). Step turn.thread ∷ robin_at steps quantum (world_by first new) x) (sym same);
+          knows = subst (λ (v : World). Knows v (from_of t) q) (sym turned) (subst (λ n. Knows (after (world_by first old) (Step turn.thread)).world n q) (sym at) knows);
+        }
 
-      -- the turn goes on
-      pub makes_within : (q : Pass) → t.left ≢ 0 → HasTurn (world_after first new.entries) turn.thread q → Makes first quantum s t old new q
-      makes_within q some has =
-          let at : from_of t ≡ turn.thread = ap from_of same
-          ∙ stays (is_blocked reply.kind) turn (left_for turn.thread (from_of s) (left_of quantum s) quantum) (λ none. some (ap (λ (x : Standing). x.left) same ∙ none)) in
-          makes q (subst (λ n. Follows (world_after first new.entries) n q) (sym at) has.follows)
-
-      -- or is over
-      pub makes_last : (q : Pass) → t.left ≡ 0 → Follows (world_after first new.entries) (turn.thread + 1) q → Makes first quantum s t old new q
-      makes_last q none follows =
-          let at : from_of t ≡ turn.thread + 1 = ap from_of same
-          ∙ moves_on (is_blocked reply.kind) turn (left_for turn.thread (from_of s) (left_of quantum s) quantum) (sym (ap (λ (x : Standing). x.left) same) ∙ none) in
-          makes q (subst (λ n. Follows (world_after first new.entries) n q) (sym at) follows)
+pub were_replies : (first : World) (old new : List Receipt) (receipt : Receipt) → new ≡ old ++ receipt ∷ [] → AreReplies first new → AreReplies first old
+were_replies first old new receipt more are = (replies_before first old receipt (subst (AreReplies first) more are)).0
 
 -- ---- the events so far
 
-pub record SoFar (first : World) (steps quantum count : ℕ) (s : Standing) (old new : Book) (p : Pass) : Type 0 where
-  pub made : List Event
-  pub records : Records old new made
-  pub events : robin (world_after first old.entries) steps quantum ≡ made ++ robin_at (steps - count) quantum (world_after first new.entries) s
-  pub follows : Follows (world_after first new.entries) (from_of s) p
+pub record SoFar (first : World) (steps quantum count : ℕ) (s : Standing) (new : List Receipt) (p : Pass) : Type 0 where
+  pub events : robin first steps quantum ≡ events_in new ++ robin_at (steps - count) quantum (world_by first new) s
+  pub knows : Knows (world_by first new) (from_of s) p
 
-pub begun : (first : World) (steps quantum : ℕ) (b : Book) (p : Pass) → Follows (world_after first b.entries) 1 p → SoFar first steps quantum 0 (record { last = 0; left = 0; moved = false }) b b p
+pub begun : (first : World) (steps quantum : ℕ) (rs : List Receipt) (p : Pass) → rs ≡ [] → Knows first 1 p → SoFar first steps quantum 0 (record { last = 0; left = 0; moved = false }) rs p
 unfolding robin
-begun first steps quantum b p follows =
+begun first steps quantum rs p none knows =
     let all : steps ≡ steps - 0 = omega arith in
-    record {
-      made = [];
-      records = nothing_recorded b;
-      events = ap (λ n. robin_from n quantum (world_after first b.entries) 1 quantum false) all;
-      follows = follows;
-    }
+    subst (λ (xs : List Receipt). SoFar first steps quantum 0 (record { last = 0; left = 0; moved = false }) xs p) (sym none)
+    (record { events = ap (λ n. robin_from n quantum first 1 quantum false) all; knows = knows })
 
-pub went_on : (first : World) (steps quantum count : ℕ) (s t : Standing) (old middle new : Book) (p q : Pass) → count < steps → SoFar first steps quantum count s old middle p → Makes first quantum s t middle new q → SoFar first steps quantum (count + 1) t old new q
-went_on first steps quantum count s t old middle new p q within so makes =
-    let left : steps - count ≡ suc (steps - (count + 1)) = omega arith in
-    record {
-      made = so.made ++ makes.event ∷ [];
-      records = recorded_then old middle new so.made (makes.event ∷ []) so.records makes.records;
-      events = so.events
-          ∙ ap (λ (n : ℕ). so.made ++ robin_at n quantum (world_after first middle.entries) s) left
-          ∙ ap (λ (es : List Event). so.made ++ es) (makes.events (steps - (count + 1)))
-          ∙ sym (append_assoc so.made (makes.event ∷ []) (robin_at (steps - (count + 1)) quantum (world_after first new.entries) t));
-      follows = makes.follows;
-    }
+module _ (first : World) (steps quantum count : ℕ) (s : Standing) (middle new : List Receipt) (p : Pass) (within : count < steps) (so : SoFar first steps quantum count s middle p) where
+  next : robin first steps quantum ≡ events_in middle ++ robin_at (suc (steps - (count + 1))) quantum (world_by first middle) s
+  next =
+      let left : steps - count ≡ suc (steps - (count + 1)) = omega arith in
+      so.events ∙ ap (λ (n : ℕ). events_in middle ++ robin_at n quantum (world_by first middle) s) left
 
--- no event is left
-pub is_over : (first : World) (steps quantum count : ℕ) (s : Standing) (old middle new : Book) (p : Pass) → count < steps → SoFar first steps quantum count s old middle p → Ends first quantum s middle new → Records old new (robin (world_after first old.entries) steps quantum)
-is_over first steps quantum count s old middle new p within so ends =
-    let left : steps - count ≡ suc (steps - (count + 1)) = omega arith in
-    subst (Records old new)
-    (sym (so.events ∙ ap (λ (n : ℕ). so.made ++ robin_at n quantum (world_after first middle.entries) s) left ∙ ap (λ (es : List Event). so.made ++ es) (ends.events (steps - (count + 1)))))
-    (recorded_then old middle new so.made [] so.records ends.records)
+  pub went_on : (t : Standing) (q : Pass) → Makes first quantum s t middle new q → SoFar first steps quantum (count + 1) t new q
+  went_on t q makes = record {
+    events = next
+        ∙ ap (λ (es : List Event). events_in middle ++ es) (makes.events (steps - (count + 1)))
+        ∙ sym (append_assoc (events_in middle) (makes.event ∷ []) (robin_at (steps - (count + 1)) quantum (world_by first new) t))
+        ∙ ap (λ (es : List Event). es ++ robin_at (steps - (count + 1)) quantum (world_by first new) t) (sym makes.records);
+    knows = makes.knows;
+  }
+
+  -- no event is left
+  pub is_over : Ends first quantum s middle new → Records [] new (robin first steps quantum)
+  is_over ends = ends.records ∙ sym (next ∙ ap (λ (es : List Event). events_in middle ++ es) (ends.events (steps - (count + 1))))
+
+  -- memory was refused
+  pub is_short : FallsShort first quantum s middle new → RecordsPart [] new (robin first steps quantum)
+  is_short short =
+      let part = short (steps - (count + 1)) in
+      record {
+        made = events_in middle ++ part.made;
+        rest = part.rest;
+        whole = next ∙ ap (λ (es : List Event). events_in middle ++ es) part.whole ∙ sym (append_assoc (events_in middle) part.made part.rest);
+        records = part.records;
+      }
 
 -- all steps are made
-pub is_whole : (first : World) (steps quantum count : ℕ) (s : Standing) (old new : Book) (p : Pass) → count ≡ steps → SoFar first steps quantum count s old new p → Records old new (robin (world_after first old.entries) steps quantum)
-is_whole first steps quantum count s old new p all so =
+pub is_whole : (first : World) (steps quantum count : ℕ) (s : Standing) (new : List Receipt) (p : Pass) → count ≡ steps → SoFar first steps quantum count s new p → Records [] new (robin first steps quantum)
+is_whole first steps quantum count s new p all so =
     let none : steps - count ≡ 0 = omega arith in
-    subst (Records old new) (sym (so.events ∙ ap (λ (n : ℕ). so.made ++ robin_at n quantum (world_after first new.entries) s) none ∙ append-nil so.made)) so.records
-
--- memory was refused
-pub is_short : (first : World) (steps quantum count : ℕ) (s : Standing) (old middle new : Book) (p : Pass) → count < steps → SoFar first steps quantum count s old middle p → FallsShort first quantum s middle new
-    → RecordsPart old new (robin (world_after first old.entries) steps quantum)
-is_short first steps quantum count s old middle new p within so short =
-    let left : steps - count ≡ suc (steps - (count + 1)) = omega arith in
-    let part = short (steps - (count + 1)) in
-    record {
-      made = so.made ++ part.made;
-      rest = part.rest;
-      whole = so.events
-          ∙ ap (λ (n : ℕ). so.made ++ robin_at n quantum (world_after first middle.entries) s) left
-          ∙ ap (λ (es : List Event). so.made ++ es) part.whole
-          ∙ sym (append_assoc so.made part.made part.rest);
-      records = recorded_then old middle new so.made part.made so.records part.records;
-    }
+    sym (so.events ∙ ap (λ (n : ℕ). events_in new ++ robin_at n quantum (world_by first new) s) none ∙ append-nil (events_in new))

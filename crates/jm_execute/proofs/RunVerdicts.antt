@@ -1,5 +1,5 @@
 -- The verdict of a run, one step after the other.
-use Rattle.std.proofs.Common.{◌≡◌, ℕ, List, refl, ap, sym, subst, ◌∙◌, Result, Ok}
+use Rattle.std.proofs.Common.{◌≡◌, ℕ, List, refl, ap, sym, subst, ◌∙◌, Ok}
 use Rattle.jm_program.specs.declared.class.ClassParts.{ClassParts}
 use Rattle.jm_world.specs.Loading.{loaded_world}
 use Rattle.jm_world.specs.declared.event.Event.{Event}

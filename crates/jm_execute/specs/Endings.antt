@@ -48,12 +48,12 @@ pub record Assembles (v : Verdict) (bytes : List ℕ) : Type 0 where
   pub assembles_is : v ≡ Ok (assembles class bytes)
   pub spelled : Spells bytes class
 
--- the endings of a run of events from a world on
+-- the endings of a run of events from a world on: memory may be refused at any time
 abbrev pub Ends : World → List Event → Ending → Type 0
 Ends first events (completed w) = w ≡ run_from first events
 Ends first events (interrupted w) = (made : List Event) × (rest : List Event) × (events ≡ made ++ rest) × (w ≡ run_from first made)
 Ends first events (assembled bytes) = ⊥
-Ends first events exhausted = ⊥
+Ends first events exhausted = ⊤
 Ends first events (turned_away reason) = ⊥
 
 -- the endings that the files allow: memory may be refused at any time

@@ -1,14 +1,13 @@
 -- Where a round robin stands, and its next event.
 use Rattle.std.specs.Prelude.{◌≡◌, ℕ, zero, suc, ◌+◌, ◌-◌, List, [], ◌∷◌, Option, Some, None, Result, Ok, Err, Bool, true, false}
 use Rattle.jm_machine.specs.declared.fault.OutOfMemory.{OutOfMemory}
-use Rattle.jm_shared.specs.Book.{Book}
-use Rattle.jm_shared.specs.Legal.{world_after}
+use Rattle.jm_shared.specs.declared.entry.Receipt.{Receipt}
 use Rattle.jm_world.specs.RoundRobin as model
 use Rattle.jm_world.specs.World.{World}
 use Rattle.jm_world.specs.declared.event.Event.{Event}
 use Rattle.jm_world.specs.declared.reply.ReplyKind.{ReplyKind}
-use Rattle.jm_execute.specs.Passes.{Follows}
-use Rattle.jm_execute.specs.Turns.{Records, RecordsPart}
+use Rattle.jm_execute.specs.Passes.{Knows}
+use Rattle.jm_execute.specs.Turns.{Records, RecordsPart, world_by}
 use Rattle.jm_execute.specs.declared.pass.Pass.{Pass}
 use Rattle.jm_execute.specs.declared.pass.Turn.{Turn}
 use Rattle.jm_execute.specs.declared.round_robin.Standing.{Standing}
@@ -46,22 +45,22 @@ standing_after s turn kind quantum = standing_by (model.is_blocked kind) turn (m
 -- ---- the next event of a round robin
 
 -- the event that is made, and what then follows
-pub record Makes (first : World) (quantum : ℕ) (s t : Standing) (old new : Book) (p : Pass) : Type 0 where
+pub record Makes (first : World) (quantum : ℕ) (s t : Standing) (old new : List Receipt) (p : Pass) : Type 0 where
   pub event : Event
   pub records : Records old new (event ∷ [])
-  pub events : (steps : ℕ) → robin_at (suc steps) quantum (world_after first old.entries) s ≡ event ∷ robin_at steps quantum (world_after first new.entries) t
-  pub follows : Follows (world_after first new.entries) (from_of t) p
+  pub events : (steps : ℕ) → robin_at (suc steps) quantum (world_by first old) s ≡ event ∷ robin_at steps quantum (world_by first new) t
+  pub knows : Knows (world_by first new) (from_of t) p
 
 -- no event is left to make
-pub record Ends (first : World) (quantum : ℕ) (s : Standing) (old new : Book) : Type 0 where
+pub record Ends (first : World) (quantum : ℕ) (s : Standing) (old new : List Receipt) : Type 0 where
   pub records : Records old new []
-  pub events : (steps : ℕ) → robin_at (suc steps) quantum (world_after first old.entries) s ≡ []
+  pub events : (steps : ℕ) → robin_at (suc steps) quantum (world_by first old) s ≡ []
 
 -- only some of the events are made, whatever their number
-abbrev pub FallsShort : World → ℕ → Standing → Book → Book → Type 0
-FallsShort first quantum s old new = (steps : ℕ) → RecordsPart old new (robin_at (suc steps) quantum (world_after first old.entries) s)
+abbrev pub FallsShort : World → ℕ → Standing → List Receipt → List Receipt → Type 0
+FallsShort first quantum s old new = (steps : ℕ) → RecordsPart old new (robin_at (suc steps) quantum (world_by first old) s)
 
-abbrev pub Goes : World → ℕ → Standing → Book → Book → Pass → Result (Option Standing) OutOfMemory → Type 0
+abbrev pub Goes : World → ℕ → Standing → List Receipt → List Receipt → Pass → Result (Option Standing) OutOfMemory → Type 0
 Goes first quantum s old new p (Ok (Some t)) = Makes first quantum s t old new p
 Goes first quantum s old new p (Ok None) = Ends first quantum s old new
 Goes first quantum s old new p (Err fault) = FallsShort first quantum s old new

@@ -1,31 +1,32 @@
-// Where the events of a run come from, as turns of a journal.
+// Where the events of a run come from, as turns of a seat.
 
-ghost use Rattle.std.specs.Prelude.{MatchResult, List};
+ghost use Rattle.std.specs.Prelude.{◌≡◌, MatchResult, List, []};
 ghost use Rattle.jm_schedule.specs.Runs.{repeats_of};
-ghost use Rattle.jm_shared.specs.Legal.{world_after};
 ghost use Rattle.jm_world.specs.World.{World};
 ghost use Rattle.jm_world.specs.declared.event.Event.{Event};
+ghost use Rattle.jm_execute.specs.Beginnings.{HasOneThread};
 ghost use Rattle.jm_execute.specs.Sources.{events_made};
-ghost use Rattle.jm_execute.specs.Turns.{Records, RecordsPart};
+ghost use Rattle.jm_execute.specs.Turns.{AreReplies, Records, RecordsPart};
 
 use jm_heap::Heap;
 use jm_machine::OutOfMemory;
 use jm_schedule::{RoundRobin, Run, Schedule};
-use jm_shared::{Journal, Origin};
+use jm_shared::{Seat, SharedMachine, Sharing};
 use std::alloc::Global;
-
-/// The seat of a run that has one worker.
-pub const SEAT: u8 = 0;
+use std::sync::Wait;
 
 // Makes an event as often as a run says.
-fn make_repeats<H: Heap, R: Origin>(
-    journal: &mut Journal<H, R>,
+fn make_repeats<H: Heap, S: Sharing, W: Wait>(
+    rt: &W,
+    machine: &SharedMachine<H, S>,
+    seat: &mut Seat<S>,
     run: Run,
 ) -> Result<(), OutOfMemory>
-    ensures { MatchResult result (λ _. Records journal.old journal.new (repeats_of run)) (λ _. RecordsPart journal.old journal.new (repeats_of run)) }
+    ensures made { MatchResult result (λ _. Records seat.old.receipts seat.new.receipts (repeats_of run)) (λ _. RecordsPart seat.old.receipts seat.new.receipts (repeats_of run)) }
+    ensures number { seat.new.number ≡ seat.old.number }
 {
     for _ in 0..run.count {
-        match journal.turn(SEAT, run.event) {
+        match machine.turn(rt, seat, run.event) {
             Ok(_) => {}
             Err(fault) => return Err(fault),
         }
@@ -33,19 +34,26 @@ fn make_repeats<H: Heap, R: Origin>(
     Ok(())
 }
 
-/// A source of events: which ones it makes is known from the world that it finds.
+/// A source of events: which ones it makes is known from the world in which they begin.
 pub trait EventSource {
     ghost events: { Self → World → List Event };
 
-    /// Makes its events, in order, each in a turn of the first seat. `OutOfMemory`: a growth was
-    /// refused; the journal has the events that were made.
-    fn make_events<H: Heap, R: Origin>(
+    /// Makes its events, in order, each in a turn of a seat that has made none yet. What it makes
+    /// next depends on the replies of the seat's receipts alone, so its events are those of the
+    /// world wherever these replies are the model's: where no other seat makes turns. It may wait.
+    /// `OutOfMemory`: a growth was refused; the seat has the receipts of the events that were made.
+    fn make_events<H: Heap, S: Sharing, W: Wait>(
         &self,
+        rt: &W,
         alloc: Global,
-        journal: &mut Journal<H, R>,
+        machine: &SharedMachine<H, S>,
+        seat: &mut Seat<S>,
     ) -> Result<(), OutOfMemory>
-        ensures { let wanted = events self.now (world_after R.first journal.old.entries) in
-            MatchResult result (λ _. Records journal.old journal.new wanted) (λ _. RecordsPart journal.old journal.new wanted) };
+        requires begins { HasOneThread S.first }
+        requires fresh { seat.old.receipts ≡ [] }
+        ensures made { AreReplies S.first seat.new.receipts →
+            MatchResult result (λ _. Records [] seat.new.receipts (events self.now S.first)) (λ _. RecordsPart [] seat.new.receipts (events self.now S.first)) }
+        ensures number { seat.new.number ≡ seat.old.number };
 }
 
 /// The events of a schedule, whatever the world is.
@@ -53,14 +61,16 @@ pub trait EventSource {
 impl EventSource for Schedule {
     ghost events = { λ schedule _. schedule };
 
-    fn make_events<H: Heap, R: Origin>(
+    fn make_events<H: Heap, S: Sharing, W: Wait>(
         &self,
+        rt: &W,
         _alloc: Global,
-        journal: &mut Journal<H, R>,
+        machine: &SharedMachine<H, S>,
+        seat: &mut Seat<S>,
     ) -> Result<(), OutOfMemory> {
         let runs = self.runs();
         for run in runs {
-            match make_repeats(journal, *run) {
+            match make_repeats(rt, machine, seat, *run) {
                 Ok(()) => {}
                 Err(fault) => return Err(fault),
             }
@@ -81,14 +91,16 @@ pub enum RunSource {
 impl EventSource for RunSource {
     ghost events = { λ source w. events_made source w };
 
-    fn make_events<H: Heap, R: Origin>(
+    fn make_events<H: Heap, S: Sharing, W: Wait>(
         &self,
+        rt: &W,
         alloc: Global,
-        journal: &mut Journal<H, R>,
+        machine: &SharedMachine<H, S>,
+        seat: &mut Seat<S>,
     ) -> Result<(), OutOfMemory> {
         match self {
-            RunSource::Schedule(schedule) => schedule.make_events(alloc, journal),
-            RunSource::RoundRobin(robin) => robin.make_events(alloc, journal),
+            RunSource::Schedule(schedule) => schedule.make_events(rt, alloc, machine, seat),
+            RunSource::RoundRobin(robin) => robin.make_events(rt, alloc, machine, seat),
         }
     }
 }

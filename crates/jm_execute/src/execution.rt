@@ -1,9 +1,12 @@
 // What `jm run` and `jm asm` do.
 
-ghost use Rattle.std.specs.Prelude.{◌≡◌, [], false};
+ghost use Rattle.std.specs.Prelude.{◌≡◌, List, [], ◌++◌, false, MatchResult};
 ghost use Rattle.jm_machine.specs.View.{MatchesWorld};
-ghost use Rattle.jm_shared.specs.Legal.{world_after};
-ghost use Rattle.jm_execute.specs.Endings.{Ending, assembled, completed, interrupted, output_of, Allows, Ends, IsDone, Leaves, Tells};
+ghost use Rattle.jm_shared.specs.Legal.{events_of, world_after};
+ghost use Rattle.jm_shared.specs.Seats.{fresh_hands};
+ghost use Rattle.jm_world.specs.declared.event.Event.{Event};
+ghost use Rattle.jm_execute.specs.Beginnings.{HasOneThread, beginning};
+ghost use Rattle.jm_execute.specs.Endings.{Ending, assembled, completed, exhausted, interrupted, output_of, Allows, Ends, IsDone, Leaves, Tells};
 ghost use Rattle.jm_execute.specs.Refusals.{Hinders};
 ghost use Rattle.jm_execute.specs.Verdicts.{Verdict, assembly_verdict, run_verdict, verdict};
 ghost use Rattle.jm_execute.specs.Written.{words};
@@ -19,11 +22,12 @@ use crate::status::Status;
 use crate::watchable::Watchable;
 use crate::watched::Watched;
 use jm_heap::Heap;
-use jm_machine::Machine;
-use jm_shared::{Journal, Origin};
+use jm_machine::{Machine, OutOfMemory};
+use jm_shared::{Journal, Origin, Seat, SeatTable, SharedMachine, Sharing};
 use std::alloc::Global;
 use std::io::Read;
 use std::marker::Brand;
+use std::sync::Wait;
 
 // Tells of a run whose events were all made.
 fn tell_run<H: Heap, R: Origin, O: Watchable, E: Watchable>(
@@ -73,24 +77,81 @@ fn tell_interrupted<H: Heap, R: Origin, O: Watchable, E: Watchable>(
     }
 }
 
-// Makes the events of a source from the origin on, and tells of the run.
-fn run_events<S: EventSource, H: Heap + Drop, R: Origin, O: Watchable, E: Watchable>(
+/// A journal, and whether a growth was refused before its events were all made.
+type Made<H, N> = (Journal<H, N>, Result<(), OutOfMemory>);
+
+// Makes the events of a source by the only seat of a shared machine, and takes the journal.
+fn make_journal<S: EventSource, H: Heap, N: Sharing, W: Wait>(
+    rt: &W,
+    alloc: Global,
+    machine: SharedMachine<H, N>,
+    mut seats: Vec<Seat<N>>,
+    source: &S,
+) -> Made<H, N>
+    requires one { N.seats ≡ 1 }
+    requires seats { seats.items ≡ fresh_hands 0 1 }
+    requires begins { HasOneThread N.first }
+    ensures { let wanted = S.events source.now N.first in
+        MatchResult result.1 (λ _. events_of result.0.entries ≡ wanted) (λ _. (rest : List Event) × (wanted ≡ events_of result.0.entries ++ rest)) }
+{
+    let made = source.make_events(rt, alloc, &machine, &mut seats[0]);
+    match machine.finish(seats) {
+        Ok(journal) => (journal, made),
+        Err(_) => unreachable!(),
+    }
+}
+
+// Makes the events of a source from the first world on, in turns of one seat, and tells of the run.
+fn run_events<S: EventSource, H: Heap + Drop, N: Sharing, W: Wait, O: Watchable, E: Watchable>(
+    rt: &W,
+    alloc: Global,
+    machine: Machine<H>,
+    table: SeatTable,
+    source: &S,
+    out: &mut Watched<O>,
+    err: &mut Watched<E>,
+) -> Status
+    requires table { (table.table ≡ N.table) × (table.seats ≡ N.seats) }
+    requires one { N.seats ≡ 1 }
+    requires first { MatchesWorld machine N.first }
+    requires begins { HasOneThread N.first }
+    requires out { out.old.failed ≡ false }
+    requires err { err.old.failed ≡ false }
+    ensures { (e : Ending) × Ends N.first (S.events source.now N.first) e
+        × Leaves (words O.contents O.ends) (words E.contents E.ends) e result out.old out.new err.old err.new }
+{
+    match SharedMachine::<H, N>::new(alloc, machine, table) {
+        Ok((machine, seats)) => {
+            let (journal, made) = make_journal(rt, alloc, machine, seats, source);
+            match made {
+                Ok(()) => tell_run(&journal, out, err),
+                Err(_) => tell_interrupted(&journal, out, err),
+            }
+        }
+        Err(_) => tell_exhausted(err),
+    }
+}
+
+// Makes the events of a source from a machine's beginning on, with a table of one seat, and tells of the run.
+fn run_by_one_seat<S: EventSource, H: Heap + Drop, W: Wait, O: Watchable, E: Watchable>(
+    rt: &W,
     alloc: Global,
     machine: Machine<H>,
     source: &S,
     out: &mut Watched<O>,
     err: &mut Watched<E>,
 ) -> Status
-    requires first { MatchesWorld machine R.first }
+    requires first { MatchesWorld machine (beginning machine) }
     requires out { out.old.failed ≡ false }
     requires err { err.old.failed ≡ false }
-    ensures { (e : Ending) × Ends R.first (S.events source.now R.first) e
+    ensures { (e : Ending) × Ends (beginning machine) (S.events source.now (beginning machine)) e
         × Leaves (words O.contents O.ends) (words E.contents E.ends) e result out.old out.new err.old err.new }
 {
-    let mut journal: Journal<H, R> = Journal::new(alloc, machine);
-    match source.make_events(alloc, &mut journal) {
-        Ok(()) => tell_run(&journal, out, err),
-        Err(_) => tell_interrupted(&journal, out, err),
+    match SeatTable::new(alloc, 1) {
+        Ok(table) => {
+            run_events::<S, H, Brand, W, O, E>(rt, alloc, machine, table, source, out, err)
+        }
+        Err(_) => tell_exhausted(err),
     }
 }
 
@@ -114,6 +175,15 @@ fn tell_assembled<O: Watchable, E: Watchable>(
     }
 }
 
+// Tells that a growth was refused before the first event. Nothing is written to the output.
+fn tell_exhausted<E: Watchable>(err: &mut Watched<E>) -> Status
+    requires { err.old.failed ≡ false }
+    ensures { Tells (words E.contents E.ends) exhausted result err.old err.new }
+{
+    let _told = write_out_of_memory(err);
+    Status::OutOfMemory
+}
+
 // Tells why a job is not done. Nothing is written to the output.
 fn tell_obstacle<E: Watchable>(obstacle: Obstacle<'_>, err: &mut Watched<E>) -> Status
     requires { err.old.failed ≡ false }
@@ -126,14 +196,12 @@ fn tell_obstacle<E: Watchable>(obstacle: Obstacle<'_>, err: &mut Watched<E>) -> 
             let _told = err.write_line(refusal);
             status
         }
-        Obstacle::OutOfMemory => {
-            let _told = write_out_of_memory(err);
-            Status::OutOfMemory
-        }
+        Obstacle::OutOfMemory => tell_exhausted(err),
     }
 }
 
-fn execute_run<O: Watchable, E: Watchable>(
+fn execute_run<W: Wait, O: Watchable, E: Watchable>(
+    rt: &W,
     alloc: Global,
     job: &RunJob,
     out: &mut Watched<O>,
@@ -144,7 +212,7 @@ fn execute_run<O: Watchable, E: Watchable>(
     ensures { IsDone (words O.contents O.ends) (words E.contents E.ends) (run_verdict job.now) result out.old out.new err.old err.new }
 {
     match prepare(alloc, job) {
-        Ok((machine, source)) => run_events::<_, _, Brand, O, E>(alloc, machine, &source, out, err),
+        Ok((machine, source)) => run_by_one_seat(rt, alloc, machine, &source, out, err),
         Err(obstacle) => tell_obstacle(obstacle, err),
     }
 }
@@ -170,8 +238,9 @@ fn execute_assemble<O: Watchable, E: Watchable>(
 /// before it is written. Nothing is read from `reader`.
 ///
 /// `Run`: the classes of the program are run by the events of the schedule, or where there is none by
-/// those of the round robin, one after the other, each a turn of the first seat in a journal. What the
-/// Java program prints goes to `out`, once the last event is made. Then `err` gets a line for each
+/// those of the round robin, one after the other, each a turn of the only seat of a shared machine,
+/// which may wait for its lock. What the Java program prints goes to `out`, once the last event is
+/// made. Then `err` gets a line for each
 /// thread that an exception has ended, and one for the stop or for the threads that have not ended, if
 /// any; the status says how the run ended.
 ///
@@ -182,7 +251,8 @@ fn execute_assemble<O: Watchable, E: Watchable>(
 /// no other job but one with a file that could not be read ends so. A failing `err` changes no
 /// status.
 #[tactic(auto, unfolding(crate::specs::Verdicts::verdict))]
-pub fn execute<R: Read, O: Watchable, E: Watchable>(
+pub fn execute<W: Wait, R: Read, O: Watchable, E: Watchable>(
+    rt: &W,
     alloc: Global,
     job: &Job,
     reader: &mut Watched<R>,
@@ -195,7 +265,7 @@ pub fn execute<R: Read, O: Watchable, E: Watchable>(
     ensures reader { reader.new ≡ reader.old }
 {
     match job {
-        Job::Run(run) => execute_run(alloc, run, out, err),
+        Job::Run(run) => execute_run(rt, alloc, run, out, err),
         Job::Assemble(assemble) => execute_assemble(alloc, assemble, out, err),
     }
 }

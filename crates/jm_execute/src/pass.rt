@@ -1,14 +1,16 @@
 // The threads of a pass over the thread numbers.
 
-ghost use Rattle.std.specs.Prelude.{◌≡◌, ◌≤◌, ◌<◌, ◌+◌, ℕ, List, [], ◌∷◌, ◌++◌, length, true, MatchOption, IfSome, OnOk, option_map};
+ghost use Rattle.std.specs.Prelude.{◌≡◌, ◌≤◌, ◌+◌, ℕ, List, ◌++◌, length, Bool, false, true, IfOk, IfSome, OnOk, option_map};
 ghost use Rattle.jm_machine.specs.Threads.{is_live};
-ghost use Rattle.jm_machine.specs.View.{MatchesWorld};
-ghost use Rattle.jm_world.specs.RoundRobin.{next_turn};
+ghost use Rattle.jm_world.specs.RoundRobin.{is_stopped, turn_in};
+ghost use Rattle.jm_world.specs.Run.{after};
 ghost use Rattle.jm_world.specs.World.{World};
-ghost use Rattle.jm_execute.specs.Passes.{EndedStay, Follows, HasTurn, Lists, NoneLive, turn_of};
+ghost use Rattle.jm_world.specs.declared.event.Event.TheVariants.{Step};
+ghost use Rattle.jm_execute.specs.Beginnings.{HasOneThread};
+ghost use Rattle.jm_execute.specs.Passes.{AllLive, Follows, HasTurn, Knows, Lists, OthersStay, ended_in, following, turn_of};
 
-use jm_heap::Heap;
-use jm_machine::{Machine, OutOfMemory};
+use jm_machine::OutOfMemory;
+use jm_world::{Reply, ReplyKind};
 use std::alloc::Global;
 use std::collections::VecDeque;
 use std::mem;
@@ -21,54 +23,83 @@ pub struct Turn {
     pub moved: bool,
 }
 
-/// The live threads, by their numbers, as one pass goes over them. A thread that has ended is found
-/// so once, when its turn would come, and then left out.
+/// The live threads, by their numbers, as one pass goes over them. The replies tell which these are:
+/// an event makes threads and may end the thread that it steps, and no other.
 #[derive(Drop)]
 pub struct Pass {
     /// The threads whose turn comes, or goes on, rising.
     pub ahead: VecDeque<u64>,
     /// Those whose turn is over, rising.
     pub behind: VecDeque<u64>,
-    /// How many threads have been seen.
+    /// How many threads were ever made.
     pub known: u64,
+    /// How many of them have ended.
+    pub ended: u64,
+    /// Whether the machine has stopped.
+    pub stopped: bool,
 }
 
-// The first of some threads that is live. Those before it are left out.
-fn first_live<H: Heap>(threads: &mut VecDeque<u64>, machine: &Machine<H>) -> Option<u64>
-    ensures live { (w : World) (low high : ℕ) → MatchesWorld machine.now w → Lists w low high threads.old.items →
-        MatchOption result (NoneLive w low high) (λ n. (is_live w n ≡ true) × (low ≤ n) × (n < high) × NoneLive w low n × Lists w n high threads.new.items) }
-    ensures first { MatchOption result (threads.new.items ≡ []) (λ n. (rest : List ℕ) × (threads.new.items ≡ n ∷ rest)) }
+fn is_stopped(kind: ReplyKind) -> bool
+    ensures { result ≡ is_stopped kind }
 {
-    while let Some(number) = threads.front().copied() {
-        if machine.is_live(number) {
-            return Some(number);
-        }
-        let _ended = threads.pop_front();
+    match kind {
+        ReplyKind::Stopped => true,
+        _ => false,
     }
-    None
 }
 
 impl Pass {
-    /// The pass before any thread is seen.
-    pub fn new(alloc: Global) -> Pass
-        ensures ahead { result.ahead.items ≡ [] }
-        ensures behind { result.behind.items ≡ [] }
-        ensures known { result.known ≡ 0 }
+    /// The pass of a world with one thread, which is live. `OutOfMemory`: a growth was refused.
+    pub fn of_one_thread(alloc: Global) -> Result<Pass, OutOfMemory>
+        ensures { (w : World) → HasOneThread w → IfOk result (Knows w 1) }
     {
-        Pass {
-            ahead: VecDeque::new(alloc),
+        let mut ahead = VecDeque::new(alloc);
+        let Ok(()) = ahead.push_back(1) else {
+            return Err(OutOfMemory);
+        };
+        Ok(Pass {
+            ahead,
             behind: VecDeque::new(alloc),
-            known: 0,
-        }
+            known: 1,
+            ended: 0,
+            stopped: false,
+        })
     }
 
-    /// Sees the threads up to a number; the new ones take part in this pass. `OutOfMemory`: a growth
-    /// was refused.
-    pub fn see(&mut self, made: u64) -> Result<(), OutOfMemory>
-        ensures ahead { (w : World) (low : ℕ) → Lists w low (self.old.known + 1) self.old.ahead.items → OnOk result (Lists w low (self.new.known + 1) self.new.ahead.items) }
+    /// Whose turn it is: that of the next thread of the pass, or of the first of a new pass, unless
+    /// all events of the pass were blocked. None after a stop.
+    pub fn next_turn(&mut self, moved: bool) -> Option<Turn>
+        ensures turn { (w : World) (from : ℕ) → Knows w from self.old → option_map turn_of result ≡ turn_in w from moved }
+        ensures has { (w : World) (from : ℕ) → Knows w from self.old → IfSome result (λ turn. HasTurn w turn.thread self.new) }
+        ensures ended { self.new.ended ≡ self.old.ended }
+    {
+        if self.stopped {
+            return None;
+        }
+        if let Some(thread) = self.ahead.front().copied() {
+            return Some(Turn { thread, moved });
+        }
+        if !moved {
+            return None;
+        }
+        mem::swap(&mut self.ahead, &mut self.behind);
+        let Some(thread) = self.ahead.front().copied() else {
+            return None;
+        };
+        Some(Turn {
+            thread,
+            moved: false,
+        })
+    }
+
+    // Lists the threads up to a number behind those ahead.
+    fn list_up_to(&mut self, made: u64) -> Result<(), OutOfMemory>
+        ensures ahead { (w : World) (low : ℕ) → Lists w low (self.old.known + 1) self.old.ahead.items → AllLive w (self.old.known + 1) (made + 1) → OnOk result (Lists w low (self.new.known + 1) self.new.ahead.items) }
         ensures more { OnOk result ((more : List ℕ) × (self.new.ahead.items ≡ self.old.ahead.items ++ more)) }
         ensures known { self.old.known ≤ made → OnOk result (self.new.known ≡ made) }
         ensures behind { self.new.behind ≡ self.old.behind }
+        ensures ended { self.new.ended ≡ self.old.ended }
+        ensures stopped { self.new.stopped ≡ self.old.stopped }
     {
         while self.known < made {
             let Ok(()) = self.ahead.push_back(self.known + 1) else {
@@ -79,31 +110,11 @@ impl Pass {
         Ok(())
     }
 
-    /// Whose turn it is: the next live thread of the pass, or the first of a new pass, unless all
-    /// events of the pass were blocked.
-    pub fn next_turn<H: Heap>(&mut self, machine: &Machine<H>, moved: bool) -> Option<Turn>
-        ensures turn { (w : World) (from : ℕ) → MatchesWorld machine.now w → Follows w from self.old → option_map turn_of result ≡ next_turn w from moved }
-        ensures has { (w : World) (from : ℕ) → MatchesWorld machine.now w → Follows w from self.old → IfSome result (λ turn. HasTurn w turn.thread self.new) }
-    {
-        if let Some(thread) = first_live(&mut self.ahead, machine) {
-            return Some(Turn { thread, moved });
-        }
-        if !moved {
-            return None;
-        }
-        mem::swap(&mut self.ahead, &mut self.behind);
-        let Some(thread) = first_live(&mut self.ahead, machine) else {
-            return None;
-        };
-        Some(Turn {
-            thread,
-            moved: false,
-        })
-    }
-
-    /// Ends the turn of the first thread. `OutOfMemory`: a growth was refused.
-    pub fn end_turn(&mut self) -> Result<(), OutOfMemory>
-        ensures { (w : World) (n : ℕ) → HasTurn w n self.old → OnOk result (Follows w (n + 1) self.new) }
+    // Ends the turn of the first thread.
+    fn end_turn(&mut self) -> Result<(), OutOfMemory>
+        ensures turn { (w : World) (n : ℕ) → HasTurn w n self.old → OnOk result (Follows w (n + 1) self.new) }
+        ensures ended { self.new.ended ≡ self.old.ended }
+        ensures stopped { self.new.stopped ≡ self.old.stopped }
     {
         let Some(thread) = self.ahead.pop_front() else {
             return Ok(());
@@ -112,5 +123,53 @@ impl Pass {
             return Err(OutOfMemory);
         };
         Ok(())
+    }
+
+    // After an event that did not end the first thread: its turn goes on, or is over.
+    fn keep_first(&mut self, made: u64, is_over: bool) -> Result<(), OutOfMemory>
+        ensures turn { (w v : World) (n : ℕ) → HasTurn w n self.old → OthersStay w n v → is_live v n ≡ true → made ≡ length v.threads →
+            OnOk result (Follows v (following n is_over) self.new) }
+        ensures ended { self.new.ended ≡ self.old.ended }
+        ensures stopped { self.new.stopped ≡ self.old.stopped }
+    {
+        match self.list_up_to(made) {
+            Ok(()) => {}
+            Err(fault) => return Err(fault),
+        }
+        if is_over {
+            return self.end_turn();
+        }
+        Ok(())
+    }
+
+    // After an event that ended the first thread.
+    fn drop_first(&mut self, made: u64) -> Result<(), OutOfMemory>
+        ensures turn { (w v : World) (n : ℕ) (is_over : Bool) → HasTurn w n self.old → OthersStay w n v → is_live v n ≡ false → made ≡ length v.threads →
+            OnOk result (Follows v (following n is_over) self.new) }
+        ensures ended { self.new.ended ≡ self.old.ended }
+        ensures stopped { self.new.stopped ≡ self.old.stopped }
+    {
+        let _ended = self.ahead.pop_front();
+        match self.list_up_to(made) {
+            Ok(()) => Ok(()),
+            Err(fault) => Err(fault),
+        }
+    }
+
+    /// Sees the reply to an event of the thread whose turn it is; the threads that it made take part
+    /// in this pass. `OutOfMemory`: a growth was refused.
+    pub fn see(&mut self, reply: Reply, is_over: bool) -> Result<(), OutOfMemory>
+        ensures { (w : World) (n : ℕ) → HasTurn w n self.old → self.old.ended ≡ ended_in w → reply ≡ (after w (Step n)).reply →
+            OnOk result (Knows (after w (Step n)).world (following n is_over) self.new) }
+    {
+        let ended = reply.made.saturating_sub(reply.live);
+        let goes_on = ended == self.ended;
+        self.ended = ended;
+        self.stopped = is_stopped(reply.kind);
+        if goes_on {
+            self.keep_first(reply.made, is_over)
+        } else {
+            self.drop_first(reply.made)
+        }
     }
 }

@@ -1,21 +1,21 @@
 // The events of a round robin.
 
-ghost use Rattle.std.specs.Prelude.{◌≡◌, ℕ, Some, IfSome, MatchResult, option_map};
-ghost use Rattle.jm_machine.specs.View.{MatchesWorld};
-ghost use Rattle.jm_shared.specs.Legal.{world_after};
+ghost use Rattle.std.specs.Prelude.{◌≡◌, ℕ, [], Some, MatchResult};
 ghost use Rattle.jm_world.specs.RoundRobin.{left_for, robin, turn_in};
-ghost use Rattle.jm_world.specs.World.{World};
-ghost use Rattle.jm_execute.specs.Passes.{Follows, HasTurn, turn_of};
+ghost use Rattle.jm_execute.specs.Beginnings.{HasOneThread};
+ghost use Rattle.jm_execute.specs.Passes.{HasTurn, Knows, ended_in, turn_of};
 ghost use Rattle.jm_execute.specs.Standings.{FallsShort, Goes, Makes, from_of, left_of, standing_after};
+ghost use Rattle.jm_execute.specs.Turns.{AreReplies, world_by};
 
-use crate::events::{EventSource, SEAT};
+use crate::events::EventSource;
 use crate::pass::{Pass, Turn};
 use jm_heap::Heap;
-use jm_machine::{Machine, OutOfMemory};
+use jm_machine::OutOfMemory;
 use jm_schedule::RoundRobin;
-use jm_shared::{Journal, Origin};
+use jm_shared::{Seat, SharedMachine, Sharing};
 use jm_world::{Event, ReplyKind};
 use std::alloc::Global;
+use std::sync::Wait;
 
 /// Where a round robin stands.
 #[derive(Clone, Copy)]
@@ -58,61 +58,51 @@ fn standing_after(standing: Standing, turn: Turn, kind: ReplyKind, quantum: u32)
     }
 }
 
-// Whose turn it is; None where no event is left to make.
-fn whose_turn<H: Heap>(machine: &Machine<H>, pass: &mut Pass, moved: bool) -> Option<Turn>
-    ensures turn { (w : World) (from : ℕ) → MatchesWorld machine.now w → Follows w from pass.old → option_map turn_of result ≡ turn_in w from moved }
-    ensures has { (w : World) (from : ℕ) → MatchesWorld machine.now w → Follows w from pass.old → IfSome result (λ turn. HasTurn w turn.thread pass.new) }
-{
-    match machine.stop() {
-        Some(_) => None,
-        None => pass.next_turn(machine, moved),
-    }
-}
-
 // Makes an event of a turn, and says where the round robin stands then. `OutOfMemory`: a growth was
 // refused, before the event or after it.
-fn make_event<H: Heap, R: Origin>(
-    journal: &mut Journal<H, R>,
+fn make_event<H: Heap, S: Sharing, W: Wait>(
+    rt: &W,
+    machine: &SharedMachine<H, S>,
+    seat: &mut Seat<S>,
     pass: &mut Pass,
     standing: Standing,
     turn: Turn,
     quantum: u32,
 ) -> Result<Standing, OutOfMemory>
-    ensures { let w = world_after R.first journal.old.entries in
-        MatchesWorld journal.old.machine w → HasTurn w turn.thread pass.old → turn_in w (from_of standing) standing.moved ≡ Some (turn_of turn) →
-        MatchResult result (λ next. Makes R.first quantum standing next journal.old journal.new pass.new) (λ _. FallsShort R.first quantum standing journal.old journal.new) }
+    ensures made { let w = world_by S.first seat.old.receipts in
+        AreReplies S.first seat.new.receipts → HasTurn w turn.thread pass.old → pass.old.ended ≡ ended_in w → turn_in w (from_of standing) standing.moved ≡ Some (turn_of turn) →
+        MatchResult result (λ next. Makes S.first quantum standing next seat.old.receipts seat.new.receipts pass.new) (λ _. FallsShort S.first quantum standing seat.old.receipts seat.new.receipts) }
+    ensures before { AreReplies S.first seat.new.receipts → AreReplies S.first seat.old.receipts }
+    ensures number { seat.new.number ≡ seat.old.number }
 {
-    let receipt = match journal.turn(SEAT, Event::Step(turn.thread)) {
+    let receipt = match machine.turn(rt, seat, Event::Step(turn.thread)) {
         Ok(receipt) => receipt,
         Err(fault) => return Err(fault),
     };
-    match pass.see(receipt.reply.made) {
-        Ok(()) => {}
-        Err(fault) => return Err(fault),
-    }
     let next = standing_after(standing, turn, receipt.reply.kind, quantum);
-    if next.left == 0 {
-        match pass.end_turn() {
-            Ok(()) => {}
-            Err(fault) => return Err(fault),
-        }
+    match pass.see(receipt.reply, next.left == 0) {
+        Ok(()) => Ok(next),
+        Err(fault) => Err(fault),
     }
-    Ok(next)
 }
 
 // Makes the next event, and says where the round robin stands then; None where there is none to
 // make. `OutOfMemory`: a growth was refused, before the event or after it.
-fn make_next<H: Heap, R: Origin>(
-    journal: &mut Journal<H, R>,
+fn make_next<H: Heap, S: Sharing, W: Wait>(
+    rt: &W,
+    machine: &SharedMachine<H, S>,
+    seat: &mut Seat<S>,
     pass: &mut Pass,
     standing: Standing,
     quantum: u32,
 ) -> Result<Option<Standing>, OutOfMemory>
-    ensures { Follows (world_after R.first journal.old.entries) (from_of standing) pass.old →
-        Goes R.first quantum standing journal.old journal.new pass.new result }
+    ensures made { AreReplies S.first seat.new.receipts → Knows (world_by S.first seat.old.receipts) (from_of standing) pass.old →
+        Goes S.first quantum standing seat.old.receipts seat.new.receipts pass.new result }
+    ensures before { AreReplies S.first seat.new.receipts → AreReplies S.first seat.old.receipts }
+    ensures number { seat.new.number ≡ seat.old.number }
 {
-    match whose_turn(journal.machine(), pass, standing.moved) {
-        Some(turn) => match make_event(journal, pass, standing, turn, quantum) {
+    match pass.next_turn(standing.moved) {
+        Some(turn) => match make_event(rt, machine, seat, pass, standing, turn, quantum) {
             Ok(next) => Ok(Some(next)),
             Err(fault) => Err(fault),
         },
@@ -120,27 +110,28 @@ fn make_next<H: Heap, R: Origin>(
     }
 }
 
-/// The events that turns of the threads make, from the world that they find.
+/// The events that turns of the threads make, from a world with one thread on.
 impl EventSource for RoundRobin {
     ghost events = { λ turns w. robin w turns.steps turns.quantum };
 
-    fn make_events<H: Heap, R: Origin>(
+    fn make_events<H: Heap, S: Sharing, W: Wait>(
         &self,
+        rt: &W,
         alloc: Global,
-        journal: &mut Journal<H, R>,
+        machine: &SharedMachine<H, S>,
+        seat: &mut Seat<S>,
     ) -> Result<(), OutOfMemory> {
-        let mut pass = Pass::new(alloc);
-        match pass.see(journal.machine().threads() as u64) {
-            Ok(()) => {}
+        let mut pass = match Pass::of_one_thread(alloc) {
+            Ok(pass) => pass,
             Err(fault) => return Err(fault),
-        }
+        };
         let mut standing = Standing {
             last: 0,
             left: 0,
             moved: false,
         };
         for _ in 0..self.steps {
-            match make_next(journal, &mut pass, standing, self.quantum) {
+            match make_next(rt, machine, seat, &mut pass, standing, self.quantum) {
                 Ok(Some(next)) => standing = next,
                 Ok(None) => return Ok(()),
                 Err(fault) => return Err(fault),

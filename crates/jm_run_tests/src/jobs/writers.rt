@@ -11,6 +11,7 @@ use std::fmt::Display;
 use std::io;
 use std::io::{ErrorKind, Write};
 use std::process::Abort;
+use std::sync::Wait;
 use std::test::Fail;
 
 // Takes so many bytes, one at a call, and then none; where it is closed, as a pipe can be, it answers
@@ -136,7 +137,7 @@ fn line_of(alloc: Global, column: &str) -> Result<String, AllocError> {
 
 // Does a job, and compares whether the two writers have failed, and the status.
 fn check_job(
-    rt: &impl Abort,
+    rt: &(impl Abort + Wait),
     alloc: Global,
     job: &Job,
     output: &mut Narrow,
@@ -148,13 +149,13 @@ fn check_job(
     let mut input = Watched::new(b"unread".as_slice());
     let mut out = Watched::new(output);
     let mut err = Watched::new(told);
-    let status = execute(alloc, job, &mut input, &mut out, &mut err);
+    let status = execute(rt, alloc, job, &mut input, &mut out, &mut err);
     assert!(rt; status.code() == number);
     assert!(rt; out.has_failed() == fails);
     assert!(rt; err.has_failed() == closed);
 }
 
-fn check_row(rt: &impl Abort, alloc: Global, row: &str) -> Result<(), Fail> {
+fn check_row(rt: &(impl Abort + Wait), alloc: Global, row: &str) -> Result<(), Fail> {
     let columns: Vec<&str> = row.split(" | ").collect(alloc)?;
     let [job, room, end, line, status] = columns.as_slice() else {
         return Err(Fail::from("a row without its columns"));

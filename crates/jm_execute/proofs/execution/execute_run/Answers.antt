@@ -7,12 +7,12 @@ use Rattle.jm_execute.proofs.Beginnings.{allowed}
 use Rattle.jm_execute.proofs.Telling.{untouched_told}
 use Rattle.jm_execute.proofs.execution.execute_run.Goals as goal
 
-pub run_events-requires-clause-first : goal.run_events-requires-clause-first
-run_events-requires-clause-first g c = c.in-Ok.ensures.ready.matches
+pub run_by_one_seat-requires-clause-first : goal.run_by_one_seat-requires-clause-first
+run_by_one_seat-requires-clause-first g c = c.in-Ok.ensures.ready.matches
 
 pub returns-in-Ok : goal.returns-in-Ok
 returns-in-Ok g c =
-    let (ending, ends, leaves) = c.run_events.ensures in
+    let (ending, ends, leaves) = c.run_by_one_seat.ensures in
     let m = c.in-Ok.machine in
     let from = subst (λ n. Ends (loaded_world m.linked.program n) (events_made c.in-Ok.source (loaded_world m.linked.program n)) ending) c.in-Ok.ensures.ready.limit_is ends in
     (ending, allowed _ _ _ _ c.in-Ok.ensures.run ending from, leaves)

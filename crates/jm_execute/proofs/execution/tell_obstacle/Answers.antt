@@ -3,7 +3,7 @@ use Rattle.std.proofs.Common.{refl}
 use Rattle.jm_execute.specs.Endings.{exhausted, turned_away}
 use Rattle.jm_execute.specs.Reasons.{reason_line}
 use Rattle.jm_execute.specs.Refusals.{reason_of}
-use Rattle.jm_execute.proofs.Telling.{lines_told, line_told}
+use Rattle.jm_execute.proofs.Telling.{line_told}
 use Rattle.jm_execute.proofs.execution.tell_obstacle.Goals as goal
 
 pub returns-in-Refused : goal.returns-in-Refused
@@ -13,4 +13,4 @@ returns-in-Refused g c = λ v hinders.
     (turned_away reason, rw c.in-Refused.is at hinders, refl, (c.status-status.ensures, told))
 
 pub returns-in-OutOfMemory : goal.returns-in-OutOfMemory
-returns-in-OutOfMemory g c = λ v hinders. (exhausted, tt, refl, (refl, lines_told _ _ _ _ _ c.requires c.write_out_of_memory-told.ensures))
+returns-in-OutOfMemory g c = λ v hinders. (exhausted, tt, refl, c.tell_exhausted.ensures)

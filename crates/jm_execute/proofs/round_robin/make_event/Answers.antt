@@ -1,30 +1,25 @@
--- What is recorded, and what the pass has then.
-use Rattle.jm_execute.proofs.RobinLemmas.{none_made, short_behind, keeps_turn, makes_within, makes_last}
+-- What the seat's receipts tell, and what the pass knows then.
+use Rattle.std.proofs.Common.{ap}
+use Rattle.jm_execute.proofs.RobinLemmas.{makes, said, short_behind, were_replies}
+use Rattle.jm_execute.proofs.Turns.{none_made}
 use Rattle.jm_execute.proofs.round_robin.make_event.Goals as goal
 
-pub returns-in-Err : goal.returns-in-Err
-returns-in-Err g c = λ matches has is steps. none_made _ _ _ c.in-Err.ensures.entries
+pub returns-in-Err-clause-made : goal.returns-in-Err-clause-made
+returns-in-Err-clause-made g c = λ are has ended is steps. none_made _ _ _ (ap (λ h. h.receipts) c.in-Err.ensures.seat)
 
-pub returns-in-Err-see : goal.returns-in-Err-see
-returns-in-Err-see g c = λ matches has is steps.
-    short_behind g.R.Origin.first c.args.turn c.in-Ok.receipt.reply c.args.journal.now c.turn.new.self c.in-Ok.ensures.entries (c.in-Ok.ensures.machine _ matches).1 c.args.quantum c.args.standing is steps
+pub returns-in-Err-see-clause-made : goal.returns-in-Err-see-clause-made
+returns-in-Err-see-clause-made g c = λ are has ended is.
+    short_behind g.S.Origin.first c.args.turn c.in-Ok.receipt c.args.seat.now.receipts c.turn.new.seat.receipts (ap (λ h. h.receipts) c.in-Ok.ensures.seat) c.in-Ok.ensures.receipt.1 are c.args.quantum c.args.standing is
 
-pub returns-in-Err-end_turn : goal.returns-in-Err-end_turn
-returns-in-Err-end_turn g c = λ matches has is steps.
-    short_behind g.R.Origin.first c.args.turn c.in-Ok.receipt.reply c.args.journal.now c.turn.new.self c.in-Ok.ensures.entries (c.in-Ok.ensures.machine _ matches).1 c.args.quantum c.args.standing is steps
+pub returns-in-Ok-see-clause-made : goal.returns-in-Ok-see-clause-made
+returns-in-Ok-see-clause-made g c = λ are has ended is.
+    let more = ap (λ h. h.receipts) c.in-Ok.ensures.seat in
+    let reply = said g.S.Origin.first c.args.turn c.in-Ok.receipt c.args.seat.now.receipts c.turn.new.seat.receipts more c.in-Ok.ensures.receipt.1 are in
+    makes g.S.Origin.first c.args.turn c.in-Ok.receipt c.args.seat.now.receipts c.turn.new.seat.receipts more c.in-Ok.ensures.receipt.1 are c.args.quantum c.args.standing is
+    c.standing_after-next.result c.standing_after-next.ensures c.see.new.self (c.in-Ok-see.ensures _ _ has ended reply)
 
-pub returns-in-Ok-end_turn : goal.returns-in-Ok-end_turn
-returns-in-Ok-end_turn g c = λ matches has is.
-    let said = (c.in-Ok.ensures.machine _ matches).1 in
-    let kept = keeps_turn g.R.Origin.first c.args.turn c.in-Ok.receipt.reply c.args.journal.now c.turn.new.self c.in-Ok.ensures.entries said c.args.pass.now c.see.new.self has
-    c.in-Ok-see.ensures.ahead c.in-Ok-see.ensures.more c.in-Ok-see.ensures.known c.in-Ok-see.ensures.behind in
-    makes_last g.R.Origin.first c.args.turn c.in-Ok.receipt.reply c.args.journal.now c.turn.new.self c.in-Ok.ensures.entries said c.args.quantum c.args.standing is
-    c.standing_after-next.result c.standing_after-next.ensures c.end_turn.new.self c.if-next-eq0.true (c.in-Ok-end_turn.ensures _ _ kept)
+pub returns-in-Ok-see-clause-before : goal.returns-in-Ok-see-clause-before
+returns-in-Ok-see-clause-before g c = λ are. were_replies _ _ _ _ (ap (λ h. h.receipts) c.in-Ok.ensures.seat) are
 
-pub returns-else-next-eq0 : goal.returns-else-next-eq0
-returns-else-next-eq0 g c = λ matches has is.
-    let said = (c.in-Ok.ensures.machine _ matches).1 in
-    let kept = keeps_turn g.R.Origin.first c.args.turn c.in-Ok.receipt.reply c.args.journal.now c.turn.new.self c.in-Ok.ensures.entries said c.args.pass.now c.see.new.self has
-    c.in-Ok-see.ensures.ahead c.in-Ok-see.ensures.more c.in-Ok-see.ensures.known c.in-Ok-see.ensures.behind in
-    makes_within g.R.Origin.first c.args.turn c.in-Ok.receipt.reply c.args.journal.now c.turn.new.self c.in-Ok.ensures.entries said c.args.quantum c.args.standing is
-    c.standing_after-next.result c.standing_after-next.ensures c.see.new.self c.if-next-eq0.false kept
+pub returns-in-Err-see-clause-before : goal.returns-in-Err-see-clause-before
+returns-in-Err-see-clause-before g c = λ are. were_replies _ _ _ _ (ap (λ h. h.receipts) c.in-Ok.ensures.seat) are

@@ -1,16 +1,19 @@
--- Each turn makes the events of one run more.
-use Rattle.std.proofs.Common.{subst, sym}
+-- Each turn of the loop makes the events of one run more.
+use Rattle.std.proofs.Common.{[], refl, sym, ap, subst, ◌∙◌}
 use Rattle.jm_schedule.proofs.RunLemmas.{no_run}
-use Rattle.jm_execute.specs.Turns.{Records, RecordsPart}
-use Rattle.jm_execute.proofs.Turns.{nothing_recorded}
+use Rattle.jm_execute.specs.Turns.{Records, RecordsPart, events_in}
 use Rattle.jm_execute.proofs.Folds.{runs_more, runs_part}
 use Rattle.jm_execute.proofs.events.ScheduleEventSource.make_events.Goals as goal
 
 pub loop-run-init : goal.loop-run-init
-loop-run-init g c = subst (Records _ _) (sym no_run) (nothing_recorded _)
+loop-run-init g c = record { made = subst (Records [] _) (sym no_run) (ap events_in c.requires.fresh); number = refl }
 
 pub loop-run-preserved : goal.loop-run-preserved
-loop-run-preserved g c = runs_more _ _ _ c.runs-runs.result.now c.loop-run.run-index _ c.loop-run-test.true c.loop-run.invariant c.in-Ok.ensures
+loop-run-preserved g c = record {
+  made = runs_more [] _ _ c.runs-runs.result.now c.loop-run.run-index _ c.loop-run-test.true c.loop-run.invariant.made c.in-Ok.ensures.made;
+  number = c.in-Ok.ensures.number ∙ c.loop-run.invariant.number;
+}
 
-pub returns-in-Err : goal.returns-in-Err
-returns-in-Err g c = subst (RecordsPart _ _) c.runs-runs.ensures (runs_part _ _ _ c.runs-runs.result.now c.loop-run.run-index _ c.loop-run-test.true c.loop-run.invariant c.in-Err.ensures)
+pub returns-in-Err-clause-made : goal.returns-in-Err-clause-made
+returns-in-Err-clause-made g c = λ are.
+    subst (RecordsPart [] _) c.runs-runs.ensures (runs_part [] _ _ c.runs-runs.result.now c.loop-run.run-index _ c.loop-run-test.true c.loop-run.invariant.made c.in-Err.ensures.made)

@@ -1,8 +1,11 @@
--- The journal has the runs so far.
-use Rattle.std.proofs.Common.{take}
+-- The seat has the runs so far.
+use Rattle.std.proofs.Common.{◌≡◌, [], take}
 use Rattle.jm_schedule.specs.Runs.{events_of}
 use Rattle.jm_execute.specs.Turns.{Records}
 use Rattle.jm_execute.proofs.events.ScheduleEventSource.make_events.Given as goal
 
 abbrev pub invariant-loop-run : goal.invariant-loop-run
-invariant-loop-run g l = Records l.initial.journal l.journal (events_of (take l.run-index l.runs))
+invariant-loop-run g l = record {
+  made : Records [] l.seat.receipts (events_of (take l.run-index l.runs));
+  number : l.seat.number ≡ l.fn.seat.number;
+}
