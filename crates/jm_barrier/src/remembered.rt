@@ -130,7 +130,7 @@ impl Remembered {
 
     /// Adds a place, unless it is there already: then no memory is taken. A growth that is refused
     /// changes nothing.
-    #[inline]
+    #[inline(always)]
     pub fn note(&mut self, place: Place) -> Result<(), AllocError>
         ensures ok { OnOk result (self.new ≡ noted self.old place) }
         ensures again { IsTrue (is_among place self.old) → IsOk result }

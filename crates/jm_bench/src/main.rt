@@ -1,14 +1,25 @@
 //! The benchmarks' Rattle side: `jm_bench WHICH SIZE ..` does each work that often and prints what
 //! came of it, never a time. The scripts in bench/ time the built program at two sizes.
+//!
+//! `cases SIZE` and `refused SIZE` show what the serial collector leaves: they compare it with what is
+//! wanted, and print the first difference. `bench/refused-allocations` runs the second.
 #![tactic(auto)]
 
+mod barrier;
+mod cases;
+mod collecting;
 mod descriptors;
+mod driver;
 mod forward;
 mod heap;
+mod nurseries;
 mod plain;
 mod read;
+mod refusing;
+mod spaces;
 
 use anyhow::{Context, Result, bail};
+use jm_heap::Kind;
 use std::env;
 use std::thread::Threads;
 
@@ -53,6 +64,54 @@ fn print_heap(rt: &HostRuntime, which: &str, size: u32) -> Result<bool> {
     Ok(true)
 }
 
+// Does a work over a collector that often, and prints what came of it.
+fn print_collections(rt: &HostRuntime, which: &str, size: u32) -> Result<bool> {
+    let alloc = rt.alloc();
+    let cells = match which {
+        "collect" => collecting::collected(alloc, size)?,
+        "minor-1" => collecting::minor(alloc, 10_000, size)?,
+        "minor-10" => collecting::minor(alloc, 100_000, size)?,
+        "minor-100" => collecting::minor(alloc, 1_000_000, size)?,
+        "barrier" => {
+            let places = barrier::noted(alloc, size)?;
+            println!(rt; "barrier {size} places {places}")?;
+            return Ok(true);
+        }
+        _ => return Ok(false),
+    };
+    println!(rt; "{which} {size} cells {cells}")?;
+    Ok(true)
+}
+
+// Does each case of a collector, with lists of so many nodes, and prints what differs from what is wanted.
+fn print_cases(rt: &HostRuntime, size: u32) -> Result<()> {
+    for case in cases::CASES {
+        match cases::run_case(rt.alloc(), case, size as usize) {
+            Ok(()) => println!(rt; "{}: as wanted", case.name)?,
+            Err(fault) => println!(rt; "{}: {fault}", case.name)?,
+        }
+    }
+    match nurseries::workers(rt.alloc()) {
+        Ok(()) => println!(rt; "{}: as wanted", nurseries::NAME)?,
+        Err(fault) => println!(rt; "{}: {fault}", nurseries::NAME)?,
+    }
+    Ok(())
+}
+
+// Shows what a collector does, with lists of so many nodes.
+fn print_shown(rt: &HostRuntime, which: &str, size: u32) -> Result<bool> {
+    match which {
+        "cases" => print_cases(rt, size)?,
+        "refused" => {
+            let minor = refusing::is_refused(rt.alloc(), Kind::Minor, size as usize)?;
+            let full = refusing::is_refused(rt.alloc(), Kind::Full, size as usize)?;
+            println!(rt; "refused {size} minor {minor} full {full}")?;
+        }
+        _ => return Ok(false),
+    }
+    Ok(true)
+}
+
 // Lets copiers claim so many objects, and prints how many claims won.
 fn print_wins(
     rt: &(impl Threads + Sync + Print + AllocGlobal),
@@ -77,9 +136,13 @@ fn main(rt: HostRuntime) -> Result<()> {
             bail!("which size?");
         };
         let size = size.parse().context("the size is a number")?;
-        if !print_reading(&rt, which, size)? && !print_heap(&rt, which, size)? {
-            print_wins(&rt, which, size)?;
+        if print_reading(&rt, which, size)? || print_heap(&rt, which, size)? {
+            continue;
         }
+        if print_collections(&rt, which, size)? || print_shown(&rt, which, size)? {
+            continue;
+        }
+        print_wins(&rt, which, size)?;
     }
     Ok(())
 }

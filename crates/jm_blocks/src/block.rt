@@ -17,6 +17,9 @@ const CELLS: u64 = 512;
 /// The cells of the largest object that shares a block.
 const SHARED: u64 = 256;
 
+/// So many values are few.
+const FEW: usize = 8;
+
 /// An object's header, and where its values lie among the values of its block.
 #[derive(Clone, Copy)]
 struct Entry {
@@ -32,6 +35,23 @@ fn part(values: &[Value], start: usize, count: usize) -> &[Value]
     ensures { result.now ≡ take count (drop start values.now) }
 {
     &values[start..start + count]
+}
+
+// Puts values at the end; a few of them one by one, which takes less than a call that copies them. A
+// growth that is refused changes nothing.
+#[inline(always)]
+fn push_values(values: &mut Vec<Value>, more: &[Value]) -> Result<(), AllocError>
+    ensures ok { OnOk result (values.new.items ≡ values.old.items ++ more.now) }
+    ensures err { OnErr result (values.new.items ≡ values.old.items) }
+{
+    if more.len() > FEW {
+        return values.extend_from_slice(more);
+    }
+    values.reserve(more.len())?;
+    for value in more {
+        values.push_reserved(*value);
+    }
+    Ok(())
 }
 
 // So many copies of a value at the end. A growth that is refused changes nothing.
@@ -146,6 +166,7 @@ impl Block {
     }
 
     /// Puts an object at the end. A growth that is refused changes nothing.
+    #[inline(always)]
     pub fn bump(&mut self, header: Header, values: &[Value]) -> Result<(), AllocError>
         requires short { length values.now < 2 ^ 32 }
         requires room { has_room (sizes_of self.old) (class_size header.class (length values.now)) ≡ true }
@@ -154,7 +175,7 @@ impl Block {
     {
         let start = self.values.len();
         self.entries.reserve(1)?;
-        self.values.extend_from_slice(values)?;
+        push_values(&mut self.values, values)?;
         self.cells += header.class.size(values.len() as u64);
         self.entries.push_reserved(Entry {
             header,

@@ -118,6 +118,7 @@ impl BlockStore {
     }
 
     // Whether the last block has room for so many cells.
+    #[inline]
     fn last_has_room(&self, cells: u64) -> bool
         ensures { result ≡ last_has_room self.now.lists cells }
     {
@@ -128,6 +129,7 @@ impl BlockStore {
     }
 
     // The place of this number in a block.
+    #[inline]
     fn place_in(&self, block: usize, index: usize) -> Place
         requires block { block < 2 ^ 49 }
         requires index { index < 256 }
@@ -143,6 +145,7 @@ impl BlockStore {
 
     /// The place that the next object of so many cells gets: it is reserved for the store's owner,
     /// who may let it go. It is refused only where a lane has 2^49 blocks.
+    #[inline]
     pub fn reserve(&self, cells: u64) -> Result<Place, AllocError>
         requires { 2 ≤ cells }
         ensures ok { IfOk result (λ p. p ≡ next_place self.now cells) }
@@ -161,6 +164,7 @@ impl BlockStore {
 
     /// Puts an object at the place that is reserved for one of its cells, above all others. A growth
     /// that is refused changes nothing.
+    #[inline(always)]
     pub fn fill(
         &mut self,
         alloc: Global,
@@ -229,6 +233,7 @@ impl BlockStore {
     }
 
     /// The place of the first object.
+    #[inline]
     pub fn first(&self) -> Option<Place>
         ensures { MatchOption result (IsEmpty self.now) (λ p. IsFirst self.now p) }
     {

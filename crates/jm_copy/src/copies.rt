@@ -23,6 +23,7 @@ pub struct Copies {
 }
 
 // Puts an object above all others of a store. A growth that is refused changes nothing.
+#[inline(always)]
 fn push(
     alloc: Global,
     store: &mut BlockStore,
@@ -42,6 +43,7 @@ fn push(
 impl Copies {
     /// Copies an object: into the store of the young at its first survival, and else into the old
     /// one. A growth that is refused changes nothing.
+    #[inline(always)]
     pub fn put(
         &mut self,
         alloc: Global,

@@ -15,6 +15,7 @@ pub enum Survival {
 
 impl Survival {
     /// What becomes of the object with this header: its age rises by one, up to 2.
+    #[inline]
     pub fn of(header: Header) -> Survival
         ensures { result ≡ survived header }
     {

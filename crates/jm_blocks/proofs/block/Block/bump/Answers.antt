@@ -15,8 +15,8 @@ pub invariant_of-self-2 : goal.invariant_of-self-2
 invariant_of-self-2 c =
     let sizes = sizes_by c.self.inside.entries.items c.self.inside.values.items c.args.self.now c.self.inside.cells c.self.view_is c.self.invariant in
     let room : has_room (map entry_cells c.self.inside.entries.items) (class_size c.args.header.class (length c.args.values.now)) ≡ true = ap (λ ss. has_room ss (class_size c.args.header.class (length c.args.values.now))) (sym sizes) ∙ c.requires.room in
-    rw (c.push_reserved.ensures.items, c.reserve.ensures.items, c.in_ok-extend_from_slice.ensures.items, c.size.ensures) (block_more c.self.inside.entries.items c.self.inside.values.items c.args.values.now _ c.self.inside.cells c.self.invariant (c.len-start.ensures ∙ c.self.inside.values.ok.0) refl c.requires.short room)
+    rw (c.push_reserved.ensures.items, c.reserve.ensures.items, c.in_ok-push_values.ensures.ok, c.size.ensures) (block_more c.self.inside.entries.items c.self.inside.values.items c.args.values.now _ c.self.inside.cells c.self.invariant (c.len-start.ensures ∙ c.self.inside.values.ok.0) refl c.requires.short room)
 
 pub returns-clause-ok : goal.returns-clause-ok
 returns-clause-ok c =
-    rw (c.push_reserved.ensures.items, c.reserve.ensures.items, c.in_ok-extend_from_slice.ensures.items) (bumped c.args.self.now c.self.inside.entries.items c.self.inside.values.items c.args.values.now _ c.self.view_is c.self.invariant.packed refl)
+    rw (c.push_reserved.ensures.items, c.reserve.ensures.items, c.in_ok-push_values.ensures.ok) (bumped c.args.self.now c.self.inside.entries.items c.self.inside.values.items c.args.values.now _ c.self.view_is c.self.invariant.packed refl)

@@ -1,0 +1,137 @@
+// A collection that is refused a growth, and made again.
+
+use crate::driver::Step::{Collect, Instance, Ints, Link, LinkNewest, List, Root};
+use crate::driver::{Driver, Step};
+use crate::spaces::{Collection, Outcome};
+use anyhow::{Result, bail};
+use jm_blocks::{Block, BlockStore};
+use jm_heap::Kind;
+use std::alloc::Global;
+
+// Old objects, objects that the next collection promotes, one of which names a young one, young ones,
+// large ones, and garbage.
+const STEPS: &[Step] = &[
+    Instance(2),
+    Ints(254),
+    Root(0),
+    Root(1),
+    Collect(Kind::Minor),
+    Collect(Kind::Minor),
+    Instance(2),
+    Instance(2),
+    Link(2, 1, 3),
+    Root(2),
+    List,
+    Collect(Kind::Minor),
+    Ints(300),
+    LinkNewest(2, 0),
+    Instance(1),
+    LinkNewest(3, 0),
+    Ints(9),
+    List,
+    Ints(600),
+];
+
+// What a collection of a kind is given, the same each time.
+fn prepared(alloc: Global, kind: Kind, count: usize) -> Result<Collection> {
+    let mut driver = Driver::new(alloc, count);
+    for step in STEPS {
+        driver.make_step(*step)?;
+    }
+    driver.condemn(kind)
+}
+
+// Compares two blocks object by object.
+fn compare_blocks(found: &Block, wanted: &Block, number: usize) -> Result<()> {
+    if found.len() != wanted.len() {
+        bail!(
+            "block {number} has {} objects, and had {}",
+            found.len(),
+            wanted.len()
+        );
+    }
+    for index in 0..wanted.len() {
+        let Some((header, values)) = found.object(index) else {
+            bail!("object {index} of block {number} is gone");
+        };
+        let Some((old_header, old_values)) = wanted.object(index) else {
+            bail!("object {index} of block {number} was not there");
+        };
+        if header != old_header {
+            bail!("object {index} of block {number} has another header");
+        }
+        if values != old_values {
+            bail!("object {index} of block {number} has other values");
+        }
+    }
+    Ok(())
+}
+
+// Compares two stores place by place.
+fn compare_stores(found: &BlockStore, wanted: &BlockStore) -> Result<()> {
+    if found.lane() != wanted.lane() {
+        bail!(
+            "a store has lane {}, and had {}",
+            found.lane(),
+            wanted.lane()
+        );
+    }
+    if found.len() != wanted.len() {
+        bail!(
+            "a store has {} blocks, and had {}",
+            found.len(),
+            wanted.len()
+        );
+    }
+    for number in 0..wanted.len() {
+        compare_blocks(found.block(number), wanted.block(number), number)?;
+    }
+    Ok(())
+}
+
+// Compares what a refused collection handed back with what such a collection is given.
+fn compare_given(found: &Collection, wanted: &Collection) -> Result<()> {
+    if found.condemned.len() != wanted.condemned.len() {
+        bail!("{} stores came back", found.condemned.len());
+    }
+    for (store, before) in found.condemned.iter().zip(wanted.condemned.as_slice()) {
+        compare_stores(store, before)?;
+    }
+    compare_stores(&found.tenured, &wanted.tenured)?;
+    if found.roots.as_slice() != wanted.roots.as_slice() {
+        bail!("the roots are others");
+    }
+    Ok(())
+}
+
+// Compares what a collection left that was made again with what one leaves that was not refused.
+fn compare_again(alloc: Global, again: Collection, wanted: Collection) -> Result<()> {
+    let Outcome::Collected(found, found_remembered) = again.run(alloc)? else {
+        bail!("the collection was refused again, and no growth was");
+    };
+    let (wanted, wanted_remembered) = wanted.finish(alloc)?;
+    compare_stores(&found.young, &wanted.young)?;
+    compare_stores(&found.tenured, &wanted.tenured)?;
+    if found.roots.as_slice() != wanted.roots.as_slice() {
+        bail!("the roots are others");
+    }
+    if found_remembered.as_slice() != wanted_remembered.as_slice() {
+        bail!("other objects are remembered");
+    }
+    Ok(())
+}
+
+/// Makes a collection, and answers whether it was refused a growth. If it was, all is compared with what
+/// was there before, and it is made again.
+pub fn is_refused(alloc: Global, kind: Kind, count: usize) -> Result<bool> {
+    let before = prepared(alloc, kind, count)?;
+    let collection = prepared(alloc, kind, count)?;
+    match collection.run(alloc)? {
+        Outcome::Collected(_, _) => Ok(false),
+        Outcome::Refused(collection) => {
+            compare_given(&collection, &before)?;
+            compare_again(alloc, collection, before)?;
+            Ok(true)
+        }
+    }
+}
