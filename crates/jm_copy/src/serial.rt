@@ -23,6 +23,7 @@ use std::alloc::{AllocError, Global};
 const YOUNG: u64 = 1;
 
 /// Copies what is reached, on the thread that calls it.
+#[derive(Drop)]
 pub struct SerialCollector;
 
 /// The new places of the roots, and of the promoted objects that point to young ones.

@@ -6,12 +6,13 @@ use Rattle.std.proofs.lemmas.Bool.Decides.{eqb_tells}
 use Rattle.std.proofs.lemmas.List.{length-set}
 use Rattle.std.proofs.lemmas.List.Sums.{sum_by-cons, sum_by_push}
 use Rattle.std.proofs.lemmas.Option.{slice_get_within, slice_get_read}
+use Rattle.jm_values.specs.declared.value.Value.{Value}
 use Rattle.jm_blocks.specs.Objects.{Object}
 use Rattle.jm_blocks.specs.Cells.{object_cells, sizes_of, block_cells, has_room}
-use Rattle.jm_blocks.specs.Places.{lane_of}
-use Rattle.jm_blocks.specs.Stores.{Blocks, store_cells, with_object, next_place, Bumped}
+use Rattle.jm_blocks.specs.Places.{lane_of, block_of, index_of}
+use Rattle.jm_blocks.specs.Stores.{Blocks, HasValue, IsSet, object_of_list, objects_in, store_cells, with_object, next_place, Bumped}
 use Rattle.jm_blocks.proofs.Placing.{get_set_same, get_set_other, get_end, get_before_end}
-use Rattle.jm_nursery.specs.Nurseries.{Young, AreNurseries, IsYoung, IsMade, nursery_at, lane_cells, young_cells}
+use Rattle.jm_nursery.specs.Nurseries.{Young, AreNurseries, IsYoung, IsMade, IsWritten, HasYoungValue, nursery_at, lane_cells, young_cells}
 
 sizes_push : (os : List Object) (o : Object) → block_cells (os ++ o ∷ []) ≡ block_cells os + object_cells o
 sizes_push os o = ap sum (mapped os) ∙ sum_by_push (λ n. n) (sizes_of os) (object_cells o)
@@ -130,3 +131,48 @@ bare_more lanes more n b e = subst (λ ls. AreBare ls (n + 1)) (sym e) (record {
 
 pub bare_all : (lanes : List Blocks) → AreBare lanes 16 → AreNurseries lanes × (young_cells lanes ≡ 0)
 bare_all lanes b = (record { many = b.many; numbered = b.numbered }, b.cells)
+
+-- a store in the place of that of a place's lane, with as many cells
+pub young_written : (limit cells : ℕ) (lanes : List Blocks) (n : ℕ) (store after : Blocks) → IsYoung limit cells lanes → slice_get lanes n ≡ Some store → after.lane ≡ store.lane → store_cells after.lists ≡ store_cells store.lists → IsYoung limit cells (slice_set lanes n after) × (young_cells (slice_set lanes n after) ≡ young_cells lanes)
+young_written limit cells lanes n store after y there lane same =
+    let all = young_set lanes n store after 0 there (omega (arith, same)) in
+    let counted = y.counted in
+    let all_cells : young_cells (slice_set lanes n after) ≡ young_cells lanes = omega (arith, all) in
+    (record { nurseries = nurseries_set lanes n store after y.nurseries there lane; counted = omega (arith, counted, all_cells); within = y.within }, all_cells)
+
+-- a place with a value is in a lane
+pub lane_there : (limit cells : ℕ) (lanes : List Blocks) (p i : ℕ) → IsYoung limit cells lanes → HasYoungValue lanes p i → (1 ≤ lane_of p) × (lane_of p - 1 < length lanes)
+unfolding objects_in
+lane_there limit cells lanes p i y h = by (eqb_tells (lane_of p) h.0.lane)
+  where
+    numbered : h.0.lane ≡ lane_of p - 1 + 1
+    numbered = y.nurseries.numbered (lane_of p - 1) h.0 h.1
+
+    by : ((nat_eq (lane_of p) h.0.lane ≡ true) × (lane_of p ≡ h.0.lane)) ⊎ ((nat_eq (lane_of p) h.0.lane ≡ false) × (lane_of p ≢ h.0.lane)) → (1 ≤ lane_of p) × (lane_of p - 1 < length lanes)
+    by (inl d) = (let e = numbered in omega (arith, e, d.1), slice_get_within lanes (lane_of p - 1) h.0 h.1)
+    by (inr d) = let there = h.2.1 in let none : objects_in h.0 p ≡ None = ap (λ b. cond b (object_of_list (slice_get h.0.lists (block_of p)) (index_of p)) None) d.0 in cc
+
+-- what is read at the number of its lane is the store of the place
+pub store_read : (limit cells : ℕ) (lanes : List Blocks) (p i : ℕ) (cur : Blocks) → IsYoung limit cells lanes → HasYoungValue lanes p i → cur ≡ get_or lanes (lane_of p - 1) cur → slice_get lanes (lane_of p - 1) ≡ Some cur
+store_read limit cells lanes p i cur y h read =
+    let within = (lane_there limit cells lanes p i y h).1 in
+    slice_get_read lanes (length lanes) (lane_of p - 1) cur refl within read
+
+pub value_read : (limit cells : ℕ) (lanes : List Blocks) (p i : ℕ) (cur : Blocks) → IsYoung limit cells lanes → HasYoungValue lanes p i → cur ≡ get_or lanes (lane_of p - 1) cur → HasValue cur p i
+value_read limit cells lanes p i cur y h read =
+    let here = store_read limit cells lanes p i cur y h read in
+    let there = h.1 in
+    let same : h.0 ≡ cur = cc in
+    subst (λ s. HasValue s p i) same h.2
+
+-- a value of the place's object is another
+pub written : (old : Young) (cells : ℕ) (p i : ℕ) (v : Value) (store after : Blocks) → IsYoung old.limit cells old.lanes → slice_get old.lanes (lane_of p - 1) ≡ Some store → IsSet store after p i v → after.lane ≡ store.lane → store_cells after.lists ≡ store_cells store.lists → IsWritten old (record { limit = old.limit; lanes = slice_set old.lanes (lane_of p - 1) after }) p i v
+written old cells p i v store after y there set lane same = record {
+  store = store;
+  after = after;
+  store_is = there;
+  set = set;
+  lane = lane;
+  lanes = refl;
+  cells = (young_written old.limit cells old.lanes (lane_of p - 1) store after y there lane same).1;
+}

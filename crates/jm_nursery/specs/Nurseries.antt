@@ -1,9 +1,10 @@
 -- The nurseries of the workers.
 use Rattle.std.specs.Prelude.{◌≡◌, ℕ, ◌+◌, ◌-◌, ◌/◌, ◌≤◌, ◌&&◌, List, Option, Some, None, nat_le, if◌then◌else◌, slice_get, slice_set, length, sum_by}
+use Rattle.jm_values.specs.declared.value.Value.{Value}
 use Rattle.jm_blocks.specs.Objects.{Object}
 use Rattle.jm_blocks.specs.Cells.{object_cells}
 use Rattle.jm_blocks.specs.Places.{lane_of}
-use Rattle.jm_blocks.specs.Stores.{Blocks, store_cells, store_with, next_place, Bumped}
+use Rattle.jm_blocks.specs.Stores.{Blocks, HasValue, IsSet, store_cells, store_with, next_place, Bumped}
 
 -- the heap's limit in cells, and the blocks of each nursery, by its number
 pub record Young : Type 0 where
@@ -39,6 +40,20 @@ pub record IsMade (old new : Young) (n p : ℕ) (o : Object) : Type 0 where
   pub bumped : Bumped store (store_with store o) p o
   pub lanes : new ≡ record { limit = old.limit; lanes = slice_set old.lanes n (store_with store o) }
   pub cells : young_cells new.lanes ≡ young_cells old.lanes + object_cells o
+
+-- the place lies in the lane of a nursery, and its object has a value of this number
+abbrev pub HasYoungValue : List Blocks → ℕ → ℕ → Type 0
+HasYoungValue lanes p i = (s : Blocks) × (slice_get lanes (lane_of p - 1) ≡ Some s) × HasValue s p i
+
+-- one value of an object in the lane of a nursery is another
+pub record IsWritten (old new : Young) (p i : ℕ) (v : Value) : Type 0 where
+  pub store : Blocks
+  pub after : Blocks
+  pub store_is : slice_get old.lanes (lane_of p - 1) ≡ Some store
+  pub set : IsSet store after p i v
+  pub lane : after.lane ≡ store.lane
+  pub lanes : new ≡ record { limit = old.limit; lanes = slice_set old.lanes (lane_of p - 1) after }
+  pub cells : young_cells new.lanes ≡ young_cells old.lanes
 
 -- what holds of the nurseries' fields
 pub record IsYoung (limit cells : ℕ) (lanes : List Blocks) : Type 0 where

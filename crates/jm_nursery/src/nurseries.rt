@@ -3,7 +3,7 @@
 ghost use Rattle.std.specs.Prelude.{◌≡◌, ℕ, ◌+◌, ◌*◌, ◌/◌, ◌%◌, ◌<◌, ◌≤◌, ◌^◌, [], Some, IfOk, OnErr, length, slice_get, replicate, nat_le};
 ghost use Rattle.jm_blocks.specs.Objects.{object_of};
 ghost use Rattle.jm_blocks.specs.Cells.{object_cells};
-ghost use Rattle.jm_nursery.specs.Nurseries.{Young, AreNurseries, IsMade, quota, young_cells, nursery_at};
+ghost use Rattle.jm_nursery.specs.Nurseries.{Young, AreNurseries, HasYoungValue, IsMade, IsWritten, quota, young_cells, nursery_at};
 
 use jm_blocks::{BlockStore, Header, Position};
 use jm_values::{Place, Value};
@@ -123,6 +123,39 @@ impl Nurseries {
         store.fill_copies(alloc, header, value, count)?;
         self.cells += size;
         Ok(place)
+    }
+
+    /// Makes an object with these values in the nursery of a worker, as `make` does. A growth that is
+    /// refused changes nothing.
+    pub fn make_with(
+        &mut self,
+        alloc: Global,
+        worker: usize,
+        header: Header,
+        values: &[Value],
+    ) -> Result<Place, AllocError>
+        requires short { length values.now < 2 ^ 32 }
+        requires room { young_cells self.old.lanes + object_cells (object_of header values.now) ≤ self.old.limit }
+        ensures ok { IfOk result (λ p. IsMade self.old self.new (worker % 16) p (object_of header values.now)) }
+        ensures err { OnErr result (self.new ≡ self.old) }
+    {
+        let size = header.class.size(values.len() as u64);
+        let store = &mut self.stores[worker % NURSERIES];
+        let place = store.reserve(size)?;
+        store.fill(alloc, header, values)?;
+        self.cells += size;
+        Ok(place)
+    }
+
+    /// Changes one value of the object at a place in the lane of a nursery.
+    #[inline]
+    pub fn set(&mut self, place: Place, number: usize, value: Value)
+        requires { HasYoungValue self.old.lanes place number }
+        ensures { IsWritten self.old self.new place number value }
+    {
+        let position = Position::of(place);
+        let store = &mut self.stores[position.lane as usize - 1];
+        store.set(place, number, value);
     }
 
     /// Puts other stores in the place of those of all nurseries, which it hands over: no block is

@@ -1,0 +1,9 @@
+pub mod Noting
+pub mod Putting
+pub mod Counting
+pub mod Stores
+pub mod Holding
+pub mod Shapes
+pub mod Collecting
+pub mod Allocating
+pub mod Serials

@@ -1,0 +1,21 @@
+// The cells of stores.
+
+ghost use Rattle.std.specs.Prelude.{◌≡◌, ◌<◌, ◌^◌};
+ghost use Rattle.jm_blocks.specs.Stores.{store_cells};
+ghost use Rattle.jm_generations.specs.Collections.{IsWhole};
+
+use jm_blocks::BlockStore;
+
+/// The cells of all objects of a store, where they are fewer than 2^64.
+pub fn store_cells(store: &BlockStore) -> u64
+    ensures value { store_cells store.now.lists < 2 ^ 64 → result ≡ store_cells store.now.lists }
+    ensures short { IsWhole store.now }
+{
+    let mut cells = 0u64;
+    for number in 0..store.len() {
+        let block = store.block(number);
+        let _objects = block.len();
+        cells = cells.saturating_add(block.cells());
+    }
+    cells
+}

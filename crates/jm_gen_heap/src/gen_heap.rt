@@ -1,0 +1,327 @@
+// The generational heap.
+
+ghost use Rattle.std.specs.Prelude.{◌≡◌, ℕ, ◌%◌, ◌+◌, ◌≤◌, [], Some, None, IfOk, IfErr, OnOk, OnErr, IfSome, length};
+ghost use Rattle.jm_values.specs.declared.value.Value.{Value};
+ghost use Rattle.jm_values.specs.Rename.{rename, refs};
+ghost use Rattle.jm_values.specs.Objects.{ObjectOf, size_by};
+ghost use Rattle.jm_values.specs.Content.{AllResident, HasValue, IsSet, Kept, Made, serial_at, object_at, name_of};
+ghost use Rattle.jm_heap.specs.Cells.{class_size, resident_cells};
+ghost use Rattle.jm_heap.specs.NewObject.{new_object};
+ghost use Rattle.jm_heap.specs.Residents.{AreResident};
+ghost use Rattle.jm_heap.specs.Allocation.{IsRefused, IsRefusedHere, MadeHereOrNot};
+ghost use Rattle.jm_heap.specs.Collection.{IsAsBefore, IsAsBeforeMaking, LeavesReached};
+ghost use Rattle.jm_heap.specs.declared.class_id.ClassId.{ClassId};
+ghost use Rattle.jm_nursery.specs.Nurseries.{nursery_at};
+ghost use Rattle.jm_generations.specs.Residents.{content_of};
+ghost use Rattle.jm_generations.specs.Invariant.{AreGenerations};
+ghost use Rattle.jm_gen_heap.specs.Allocating.{AllSurvived, Fits, HasAged, HasNoRoom, Leaves, MadeInNursery, OldStay};
+
+use crate::generations::Generations;
+use crate::request::cells_of;
+use jm_copy::Collector;
+use jm_heap::{ClassId, Heap, HeapFault, Kind, Roots, Shape};
+use jm_values::{Place, Value};
+use std::alloc::{AllocError, Global};
+use std::marker::Model;
+
+/// A heap of two generations. New objects are made in sixteen nurseries, and a collection copies
+/// those that are reached: at its first survival an object stays young, at its second it becomes old.
+/// A minor collection takes the young objects alone, for which the old ones that point to young ones
+/// are remembered; a full one takes all.
+#[derive(Drop)]
+pub struct GenHeap<C> {
+    collector: C,
+    generations: Generations,
+}
+
+impl<C> Model for GenHeap<C> {
+    ghost use Rattle.jm_generations.specs.Generations.{Generations};
+
+    ghost Value = { Generations };
+
+    ghost view = { λ h. h.generations };
+}
+
+impl<C: Collector> GenHeap<C> {
+    /// An empty heap of so many cells, whose next serial is 0, with its collector.
+    pub fn new(alloc: Global, limit: u32, collector: C) -> Result<GenHeap<C>, AllocError>
+    where
+        C: Drop,
+        ensures { IfOk result (λ h. content_of h ≡ record { limit = limit; next = 0; residents = [] }) }
+    {
+        Ok(GenHeap {
+            collector,
+            generations: Generations::new(alloc, limit)?,
+        })
+    }
+
+    /// Makes an object in the nursery of a number modulo 16, where the cells of the young objects and
+    /// its own stay within a quarter of the limit, rounded down, and those of all objects and its own
+    /// within the limit. None: they do not, and nothing has changed. SerialsEnd: there have been 2^63
+    /// objects. OutOfMemory: a growth is refused. Nothing has changed then.
+    #[inline]
+    pub fn allocate_here(
+        &mut self,
+        nursery: usize,
+        shape: Shape<'_>,
+    ) -> Result<Option<Place>, HeapFault>
+        ensures ok { IfOk result (λ made. MadeHereOrNot (content_of self.old) (content_of self.new) made (new_object shape.entry)) }
+        ensures nursery { IfOk result (λ made. MadeInNursery self.old self.new made (nursery % 16)) }
+        ensures keeps { AreGenerations self.old }
+        ensures same { OnErr result (self.new ≡ self.old) }
+        ensures err { IfErr result (IsRefusedHere (content_of self.old) (new_object shape.entry)) }
+    {
+        let cells = cells_of(shape);
+        if !self.generations.fits(cells) {
+            return Ok(None);
+        }
+        if !self.generations.is_within_quota(cells) {
+            return Ok(None);
+        }
+        let place = self.generations.make(nursery, shape)?;
+        Ok(Some(place))
+    }
+
+    // Collects the young objects, or all where an object of so many cells does not fit beside all that
+    // there are.
+    fn make_room(&mut self, roots: &mut Roots, cells: u64) -> Result<(), HeapFault>
+        requires { AllResident (content_of self.old) roots.old }
+        ensures kept { Kept (content_of self.old) roots.old (content_of self.new) roots.new }
+        ensures next { (content_of self.new).next ≡ (content_of self.old).next }
+        ensures as_before { IsAsBefore (content_of self.old) (content_of self.new) }
+        ensures stays { OldStay self.old self.new cells }
+        ensures ok { OnOk result (Fits self.new cells) }
+        ensures survived { OnOk result (AllSurvived self.new) }
+        ensures keeps { AreGenerations self.new }
+        ensures were { AreGenerations self.old }
+        ensures err { IfErr result (HasNoRoom (content_of self.old) roots.old cells) }
+    {
+        if self.generations.fits(cells) {
+            self.generations.collect_young(&self.collector, roots)?;
+            return Ok(());
+        }
+        self.generations.collect_all(&self.collector, roots)?;
+        if self.generations.fits(cells) {
+            return Ok(());
+        }
+        Err(HeapFault::HeapFull)
+    }
+
+    // Makes an object after a collection.
+    fn allocate_collected(
+        &mut self,
+        nursery: usize,
+        roots: &mut Roots,
+        shape: Shape<'_>,
+    ) -> Result<Place, HeapFault>
+        requires { AllResident (content_of self.old) roots.old }
+        ensures ok { IfOk result (λ place. Made class_size (content_of self.old) roots.old (content_of self.new) roots.new place (new_object shape.entry)) }
+        ensures nursery { IfOk result (λ place. nursery_at place ≡ Some (nursery % 16)) }
+        ensures aged { OnOk result (HasAged self.old self.new) }
+        ensures kept { OnErr result (Kept (content_of self.old) roots.old (content_of self.new) roots.new) }
+        ensures next { OnErr result ((content_of self.new).next ≡ (content_of self.old).next) }
+        ensures as_before { IsAsBeforeMaking (content_of self.old) (content_of self.new) }
+        ensures stays { OldStay self.old self.new (size_by class_size (new_object shape.entry)) }
+        ensures err { IfErr result (IsRefused (content_of self.old) roots.old (new_object shape.entry)) }
+    {
+        self.make_room(roots, cells_of(shape))?;
+        self.generations.make(nursery, shape)
+    }
+
+    /// Makes an object with default values in the nursery of a number modulo 16, and answers its
+    /// place. A minor collection comes first where the cells of the young objects and its own would
+    /// pass a quarter of the limit, a full one where those of all objects and its own would pass the
+    /// limit; what the roots reach stays as it is, after a refusal too, and every old object where
+    /// its cells fit beside all.
+    ///
+    /// HeapFull comes exactly where the cells of what the roots reach and those of the object
+    /// pass the limit, SerialsEnd where they do not and there have been 2^63 objects, and
+    /// OutOfMemory where a growth is refused.
+    #[inline]
+    pub fn allocate(
+        &mut self,
+        nursery: usize,
+        roots: &mut Roots,
+        shape: Shape<'_>,
+    ) -> Result<Place, HeapFault>
+        requires { AllResident (content_of self.old) roots.old }
+        ensures ok { IfOk result (λ place. Made class_size (content_of self.old) roots.old (content_of self.new) roots.new place (new_object shape.entry)) }
+        ensures nursery { IfOk result (λ place. nursery_at place ≡ Some (nursery % 16)) }
+        ensures aged { OnOk result (HasAged self.old self.new) }
+        ensures kept { OnErr result (Kept (content_of self.old) roots.old (content_of self.new) roots.new) }
+        ensures next { OnErr result ((content_of self.new).next ≡ (content_of self.old).next) }
+        ensures as_before { IsAsBeforeMaking (content_of self.old) (content_of self.new) }
+        ensures stays { OldStay self.old self.new (size_by class_size (new_object shape.entry)) }
+        ensures err { IfErr result (IsRefused (content_of self.old) roots.old (new_object shape.entry)) }
+    {
+        match self.allocate_here(nursery, shape)? {
+            Some(place) => Ok(place),
+            None => self.allocate_collected(nursery, roots, shape),
+        }
+    }
+
+    /// Gives up objects that the roots do not reach: with `Full` all of them, with `Minor` the young
+    /// ones that no remembered old object reaches either. Where a growth is refused, nothing has
+    /// changed.
+    pub fn collect(&mut self, roots: &mut Roots, kind: Kind) -> Result<(), AllocError>
+        requires { AllResident (content_of self.old) roots.old }
+        ensures kept { Kept (content_of self.old) roots.old (content_of self.new) roots.new }
+        ensures next { (content_of self.new).next ≡ (content_of self.old).next }
+        ensures as_before { IsAsBefore (content_of self.old) (content_of self.new) }
+        ensures ok { OnOk result (LeavesReached kind (content_of self.old) roots.old (content_of self.new)) }
+        ensures exact { OnOk result (Leaves kind self.old self.new roots.old roots.new) }
+        ensures err { OnErr result ((content_of self.new ≡ content_of self.old) × (roots.new ≡ roots.old)) }
+    {
+        let _cells = self.generations.used();
+        match kind {
+            Kind::Minor => self.generations.collect_young(&self.collector, roots),
+            Kind::Full => self.generations.collect_all(&self.collector, roots),
+        }
+    }
+
+    /// The value of a number of the object at a place.
+    #[inline]
+    pub fn get(&self, place: Place, index: u32) -> Value
+        requires { (v : Value) × HasValue (content_of self.now) place index v }
+        ensures value { HasValue (content_of self.now) place index (rename (name_of (content_of self.now)) result) }
+        ensures resident { AllResident (content_of self.now) (refs result) }
+    {
+        self.generations.get(place, index)
+    }
+
+    /// Changes one value of the object at a place. Where a growth is refused, nothing has changed.
+    #[inline]
+    pub fn set(&mut self, place: Place, index: u32, value: Value) -> Result<(), AllocError>
+        requires there { (v : Value) × HasValue (content_of self.old) place index v }
+        requires resident { AllResident (content_of self.old) (refs value) }
+        ensures ok { OnOk result (IsSet (content_of self.old) (content_of self.new) place index value) }
+        ensures err { OnErr result (self.new ≡ self.old) }
+    {
+        self.generations.set(place, index, value)
+    }
+
+    /// How many values the object at a place has.
+    #[inline]
+    pub fn length(&self, place: Place) -> u32
+        requires { (k : ℕ) × (o : ObjectOf ClassId) × (serial_at (content_of self.now) place ≡ Some k) × (object_at (content_of self.now) k ≡ Some o) }
+        ensures { (k : ℕ) (o : ObjectOf ClassId) → serial_at (content_of self.now) place ≡ Some k
+            → object_at (content_of self.now) k ≡ Some o → result ≡ length o.values }
+    {
+        match self.generations.object(place) {
+            Some((_, length)) => length,
+            None => 0,
+        }
+    }
+
+    /// The class or array type of the object at a place.
+    #[inline]
+    pub fn class_of(&self, place: Place) -> ClassId
+        requires { (k : ℕ) × (o : ObjectOf ClassId) × (serial_at (content_of self.now) place ≡ Some k) × (object_at (content_of self.now) k ≡ Some o) }
+        ensures { (k : ℕ) (o : ObjectOf ClassId) → serial_at (content_of self.now) place ≡ Some k
+            → object_at (content_of self.now) k ≡ Some o → result ≡ o.type }
+    {
+        match self.generations.object(place) {
+            Some((header, _)) => header.class,
+            None => ClassId::Instance(0),
+        }
+    }
+
+    /// The serial of the object at a place.
+    #[inline]
+    pub fn serial(&self, place: Place) -> u64
+        requires { (k : ℕ) × (serial_at (content_of self.now) place ≡ Some k) }
+        ensures { serial_at (content_of self.now) place ≡ Some result }
+    {
+        match self.generations.object(place) {
+            Some((header, _)) => header.serial,
+            None => 0,
+        }
+    }
+
+    /// The serials of the residents, rising.
+    pub fn resident(&self) -> Result<Vec<u64>, AllocError>
+        ensures { IfOk result (λ serials. AreResident (content_of self.now) serials.items) }
+    {
+        let mut serials = self.generations.serials()?;
+        serials.sort_unstable();
+        Ok(serials)
+    }
+
+    /// The cells of the residents. Whatever was done before, each old object that names a young one is
+    /// remembered, and what else the generations keep to holds.
+    #[inline]
+    pub fn used(&self) -> u64
+        ensures value { result ≡ resident_cells (content_of self.now) }
+        ensures within { result ≤ (content_of self.now).limit }
+        ensures keeps { AreGenerations self.now }
+    {
+        self.generations.used()
+    }
+
+    /// The limit in cells.
+    #[inline]
+    pub fn limit(&self) -> u64
+        ensures { result ≡ (content_of self.now).limit }
+    {
+        self.generations.limit()
+    }
+}
+
+impl<C: Collector> Heap for GenHeap<C> {
+    ghost content = { λ h. content_of h };
+
+    #[inline]
+    fn allocate(
+        &mut self,
+        nursery: usize,
+        roots: &mut Roots,
+        shape: Shape<'_>,
+    ) -> Result<Place, HeapFault> {
+        GenHeap::allocate(self, nursery, roots, shape)
+    }
+
+    #[inline]
+    fn allocate_here(
+        &mut self,
+        nursery: usize,
+        shape: Shape<'_>,
+    ) -> Result<Option<Place>, HeapFault> {
+        GenHeap::allocate_here(self, nursery, shape)
+    }
+
+    fn get(&self, place: Place, index: u32) -> Value {
+        GenHeap::get(self, place, index)
+    }
+
+    fn set(&mut self, place: Place, index: u32, value: Value) -> Result<(), AllocError> {
+        GenHeap::set(self, place, index, value)
+    }
+
+    fn length(&self, place: Place) -> u32 {
+        GenHeap::length(self, place)
+    }
+
+    fn class_of(&self, place: Place) -> ClassId {
+        GenHeap::class_of(self, place)
+    }
+
+    fn serial(&self, place: Place) -> u64 {
+        GenHeap::serial(self, place)
+    }
+
+    fn collect(&mut self, roots: &mut Roots, kind: Kind) -> Result<(), AllocError> {
+        GenHeap::collect(self, roots, kind)
+    }
+
+    fn resident(&self) -> Result<Vec<u64>, AllocError> {
+        GenHeap::resident(self)
+    }
+
+    fn used(&self) -> u64 {
+        GenHeap::used(self)
+    }
+
+    fn limit(&self) -> u64 {
+        GenHeap::limit(self)
+    }
+}

@@ -1,0 +1,441 @@
+// The young and the old objects of a heap.
+
+ghost use Rattle.std.specs.Prelude.{◌≡◌, ℕ, ◌+◌, ◌%◌, ◌/◌, ◌<◌, ◌≤◌, ◌^◌, ◌++◌, [], Some, true, false};
+ghost use Rattle.std.specs.Prelude.{IfOk, IfErr, IsSomeAnd, OnOk, OnErr, length, take, nat_le};
+ghost use Rattle.jm_values.specs.Rename.{refs, rename};
+ghost use Rattle.jm_values.specs.Reach.{AllDistinct};
+ghost use Rattle.jm_values.specs.Content.{AllResident, IsSet, name_of};
+ghost use Rattle.jm_values.specs.Content.{HasValue as HasContent};
+ghost use Rattle.jm_values.specs.declared.value.Value.{Value};
+ghost use Rattle.jm_heap.specs.Cells.{class_size, resident_cells};
+ghost use Rattle.jm_heap.specs.Allocation.{MadeHere, IsRefusedHere};
+ghost use Rattle.jm_heap.specs.NewObject.{new_object};
+ghost use Rattle.jm_values.specs.Objects.{size_by};
+ghost use Rattle.jm_blocks.specs.Objects.{Object, object_of};
+ghost use Rattle.jm_blocks.specs.Stores.{HasValue, objects_in};
+ghost use Rattle.jm_nursery.specs.Nurseries.{AreNurseries, IsMade, young_cells};
+ghost use Rattle.jm_generations.specs.Generations.{lying, all_cells, old_lane, stores_of};
+ghost use Rattle.jm_generations.specs.Residents.{content_of};
+ghost use Rattle.jm_generations.specs.Invariant.{AreGenerations};
+ghost use Rattle.jm_generations.specs.Steps.{IsWritten};
+ghost use Rattle.jm_generations.specs.Collections.{LeavesAllReached, fields_of};
+ghost use Rattle.jm_barrier.specs.Remembered.{noted};
+ghost use Rattle.jm_gen_heap.specs.Pointers.{IsSettled, StillPoint, names_young};
+ghost use Rattle.jm_gen_heap.specs.Held.{IsPutNew, IsSetOld};
+ghost use Rattle.jm_gen_heap.specs.Minor.{LeavesMinor};
+ghost use Rattle.jm_gen_heap.specs.Serials.{all_serials, block_serials, store_serials};
+
+use crate::cells::store_cells;
+use crate::copying::{Copied, OLD_LANE, Stores, copy_all, copy_young};
+use crate::fields::{add_fields, put_fields};
+use crate::pointers::{Pointers, names_young};
+use crate::request::{default_element, header_of, put_defaults};
+use jm_blocks::{Block, BlockStore, Header};
+use jm_copy::Collector;
+use jm_heap::{HeapFault, Roots, Shape};
+use jm_nursery::{Nurseries, empty_nurseries, nursery_of};
+use jm_values::{Place, Value};
+use std::alloc::{AllocError, Global};
+use std::marker::Model;
+use std::mem;
+
+// How many objects there can be, so that each has a serial.
+const MAX_SERIALS: u64 = 1 << 63;
+
+// The roots, and the references in the fields of the old objects that point to young ones, which are
+// all noted first.
+fn minor_roots(
+    alloc: Global,
+    pointers: &mut Pointers,
+    tenured: &BlockStore,
+    roots: &Roots,
+) -> Result<Vec<Place>, AllocError>
+    ensures still { StillPoint tenured.now pointers.old pointers.new }
+    ensures settled { OnOk result (IsSettled tenured.now pointers.old pointers.new) }
+    ensures distinct { OnOk result (AllDistinct pointers.new.noted) }
+    ensures ok { IfOk result (λ places. places.items ≡ roots.now ++ fields_of tenured.now pointers.new.noted) }
+{
+    pointers.settle(tenured)?;
+    let mut places = list_of(alloc, roots)?;
+    add_fields(&mut places, tenured, pointers.noted())?;
+    Ok(places)
+}
+
+// The roots as a list.
+fn list_of(alloc: Global, roots: &Roots) -> Result<Vec<Place>, AllocError>
+    ensures { IfOk result (λ places. places.items ≡ roots.now) }
+{
+    let mut places = Vec::new(alloc);
+    places.extend_from_slice(roots.as_slice())?;
+    Ok(places)
+}
+
+// Puts the first places of a list in the place of the roots.
+fn put_roots(roots: &mut Roots, places: &Vec<Place>)
+    requires { length roots.old ≤ length places.now.items }
+    ensures { roots.new ≡ take (length roots.old) places.now.items }
+{
+    for number in 0..roots.len() {
+        roots.set(number, places[number]);
+    }
+}
+
+// Notes an old object that gets a value, if that names a young one.
+#[inline]
+fn note_young(pointers: &mut Pointers, place: Place, value: &Value) -> Result<(), AllocError>
+    ensures noted { names_young value.now ≡ true → OnOk result (pointers.new ≡ record { noted = noted pointers.old.noted place; left = pointers.old.left }) }
+    ensures same { names_young value.now ≡ false → pointers.new ≡ pointers.old }
+    ensures err { OnErr result (pointers.new ≡ pointers.old) }
+{
+    if names_young(value) {
+        return pointers.note(place);
+    }
+    Ok(())
+}
+
+// Changes one value of an old object, which is remembered where the value names a young one. Where a
+// growth is refused, nothing has changed.
+#[inline]
+fn set_old(
+    pointers: &mut Pointers,
+    tenured: &mut BlockStore,
+    place: Place,
+    number: usize,
+    value: Value,
+) -> Result<(), AllocError>
+    requires { HasValue tenured.old place number }
+    ensures ok { OnOk result (IsSetOld tenured.old tenured.new pointers.old pointers.new place number value) }
+    ensures err { OnErr result ((tenured.new ≡ tenured.old) × (pointers.new ≡ pointers.old)) }
+{
+    note_young(pointers, place, &value)?;
+    tenured.set(place, number, value);
+    Ok(())
+}
+
+// Puts an object with default values into a nursery. Where a growth is refused, no object is there.
+fn put_new(
+    alloc: Global,
+    young: &mut Nurseries,
+    values: &mut Vec<Value>,
+    nursery: usize,
+    header: Header,
+    shape: Shape<'_>,
+) -> Result<Place, AllocError>
+    requires class { header.class ≡ (new_object shape).type }
+    requires small { young.old.limit < 2 ^ 32 }
+    requires room { young_cells young.old.lanes + size_by class_size (new_object shape) ≤ young.old.limit }
+    ensures ok { IfOk result (λ p. IsMade young.old young.new (nursery % 16) p (object_of header (new_object shape.entry).values)) }
+    ensures err { OnErr result (young.new ≡ young.old) }
+{
+    match shape {
+        Shape::Instance { fields, .. } => {
+            put_defaults(values, fields)?;
+            young.make_with(alloc, nursery, header, values.as_slice())
+        }
+        Shape::Array { component, length } => {
+            young.make(alloc, nursery, header, default_element(component), length)
+        }
+    }
+}
+
+// Takes the stores out, and puts empty ones in their place.
+fn take_stores(
+    alloc: Global,
+    young: &mut Nurseries,
+    tenured: &mut BlockStore,
+    placeholder: Vec<BlockStore>,
+) -> Stores
+    requires nurseries { AreNurseries placeholder.items }
+    requires none { young_cells placeholder.items ≡ 0 }
+    ensures young { result.young.items ≡ young.old.lanes }
+    ensures tenured { result.tenured ≡ tenured.old }
+    ensures nurseries { AreNurseries result.young.items }
+    ensures limit { young.new.limit ≡ young.old.limit }
+{
+    Stores {
+        young: young.exchange(placeholder, 0),
+        tenured: mem::replace(tenured, BlockStore::new(alloc, OLD_LANE)),
+    }
+}
+
+/// The nurseries, the store of the old objects, and the old objects that may point to young ones.
+#[derive(Drop)]
+pub struct Generations {
+    alloc: Global,
+    limit: u32,
+    next: u64,
+    young: Nurseries,
+    tenured: BlockStore,
+    tenured_cells: u64,
+    pointers: Pointers,
+    values: Vec<Value>,
+}
+
+impl Model for Generations {
+    ghost use Rattle.jm_generations.specs.Generations.{Generations};
+    ghost use Rattle.jm_gen_heap.specs.Held.{AreHeld, held};
+
+    ghost Value = { Generations };
+
+    ghost view = { λ g. held g.limit g.next g.young g.tenured g.pointers };
+
+    ghost invariant = { λ g. AreHeld g.limit g.next g.young g.tenured g.tenured_cells g.pointers };
+}
+
+impl Generations {
+    /// No objects, in a heap of so many cells, whose next serial is 0.
+    pub fn new(alloc: Global, limit: u32) -> Result<Generations, AllocError>
+        ensures { IfOk result (λ g. content_of g ≡ record { limit = limit; next = 0; residents = [] }) }
+    {
+        Ok(Generations {
+            alloc,
+            limit,
+            next: 0,
+            young: Nurseries::new(alloc, limit)?,
+            tenured: BlockStore::new(alloc, OLD_LANE),
+            tenured_cells: 0,
+            pointers: Pointers::new(alloc)?,
+            values: Vec::new(alloc),
+        })
+    }
+
+    // The store in whose lane a place is.
+    #[inline]
+    fn store_of(&self, place: Place) -> &BlockStore
+        ensures there { (o : Object) → lying self.now place ≡ Some o → objects_in result.now place ≡ Some o }
+        ensures keeps { AreGenerations self.now }
+    {
+        match nursery_of(place) {
+            Some(number) => &self.young.stores()[number],
+            None => &self.tenured,
+        }
+    }
+
+    /// One value of the object at a place.
+    #[inline]
+    pub fn get(&self, place: Place, index: u32) -> Value
+        requires { (v : Value) × HasContent (content_of self.now) place index v }
+        ensures value { HasContent (content_of self.now) place index (rename (name_of (content_of self.now)) result) }
+        ensures resident { AllResident (content_of self.now) (refs result) }
+    {
+        self.store_of(place).get(place, index as usize)
+    }
+
+    /// The header of the object at a place, and how many values it has.
+    #[inline]
+    pub fn object(&self, place: Place) -> Option<(Header, u32)>
+        ensures there { (o : Object) → lying self.now place ≡ Some o
+            → IsSomeAnd result (λ r. (r.0.serial ≡ o.serial) × (r.0.class ≡ o.class) × (r.1 ≡ length o.values)) }
+        ensures keeps { AreGenerations self.now }
+    {
+        match self.store_of(place).object(place) {
+            Some((header, values)) => Some((header, values.len() as u32)),
+            None => None,
+        }
+    }
+
+    /// Changes one value of the object at a place. An old object that gets a reference to a young one
+    /// is remembered. Where a growth is refused, nothing has changed.
+    #[inline]
+    pub fn set(&mut self, place: Place, index: u32, value: Value) -> Result<(), AllocError>
+        requires there { (v : Value) × HasContent (content_of self.old) place index v }
+        requires names { AllResident (content_of self.old) (refs value) }
+        ensures ok { OnOk result (IsWritten self.old self.new place index value) }
+        ensures set { OnOk result (IsSet (content_of self.old) (content_of self.new) place index value) }
+        ensures err { OnErr result (self.new ≡ self.old) }
+    {
+        match nursery_of(place) {
+            Some(_) => {
+                self.young.set(place, index as usize, value);
+                Ok(())
+            }
+            None => set_old(
+                &mut self.pointers,
+                &mut self.tenured,
+                place,
+                index as usize,
+                value,
+            ),
+        }
+    }
+
+    /// The cells of all objects.
+    #[inline]
+    pub fn used(&self) -> u64
+        ensures value { result ≡ all_cells self.now }
+        ensures cells { result ≡ resident_cells (content_of self.now) }
+        ensures within { result ≤ self.now.limit }
+        ensures keeps { AreGenerations self.now }
+    {
+        self.young.cells() + self.tenured_cells
+    }
+
+    /// The limit in cells.
+    #[inline]
+    pub fn limit(&self) -> u64
+        ensures value { result ≡ self.now.limit }
+        ensures small { result < 2 ^ 32 }
+    {
+        self.limit as u64
+    }
+
+    /// Whether an object of so many cells fits beside all objects.
+    #[inline]
+    pub fn fits(&self, cells: u64) -> bool
+        ensures value { result ≡ nat_le (all_cells self.now + cells) self.now.limit }
+        ensures small { self.now.limit < 2 ^ 32 }
+        ensures keeps { AreGenerations self.now }
+    {
+        cells <= self.limit() - self.used()
+    }
+
+    /// Whether the young objects stay within the quota with one of so many cells more.
+    #[inline]
+    pub fn is_within_quota(&self, cells: u64) -> bool
+        requires { cells < 2 ^ 63 }
+        ensures { result ≡ nat_le (young_cells self.now.nurseries + cells) (self.now.limit / 4) }
+    {
+        self.young.has_room(cells)
+    }
+
+    /// Makes an object in a nursery, which fits beside all objects.
+    #[inline]
+    pub fn make(&mut self, nursery: usize, shape: Shape<'_>) -> Result<Place, HeapFault>
+        requires { all_cells self.old + size_by class_size (new_object shape) ≤ self.old.limit }
+        ensures ok { IfOk result (λ p. IsPutNew self.old self.new p (nursery % 16) (new_object shape.entry)) }
+        ensures made { IfOk result (λ p. MadeHere (content_of self.old) (content_of self.new) p (new_object shape.entry)) }
+        ensures keeps { AreGenerations self.new }
+        ensures same { OnErr result (self.new ≡ self.old) }
+        ensures err { IfErr result (IsRefusedHere (content_of self.old) (new_object shape.entry)) }
+    {
+        if self.next >= MAX_SERIALS {
+            return Err(HeapFault::SerialsEnd);
+        }
+        let header = header_of(shape, self.next);
+        let place = put_new(
+            self.alloc,
+            &mut self.young,
+            &mut self.values,
+            nursery,
+            header,
+            shape,
+        )?;
+        self.next += 1;
+        Ok(place)
+    }
+
+    /// Gives up young objects that the roots and the old objects do not reach. Where a growth is
+    /// refused, nothing has changed.
+    pub fn collect_young<C: Collector>(
+        &mut self,
+        collector: &C,
+        roots: &mut Roots,
+    ) -> Result<(), AllocError>
+        requires { AllResident (content_of self.old) roots.old }
+        ensures ok { OnOk result (LeavesMinor self.old self.new roots.old roots.new) }
+        ensures keeps { AreGenerations self.new }
+        ensures same { OnErr result (content_of self.new ≡ content_of self.old) }
+        ensures roots { OnErr result (roots.new ≡ roots.old) }
+    {
+        let mut places = minor_roots(self.alloc, &mut self.pointers, &self.tenured, roots)?;
+        let placeholder = empty_nurseries(self.alloc)?;
+        let cells = self.young.cells();
+        let stores = take_stores(self.alloc, &mut self.young, &mut self.tenured, placeholder);
+        match copy_young(self.alloc, collector, stores, &mut places) {
+            Ok(copied) => {
+                let Copied { stores, promoted } = copied;
+                let Stores { young, mut tenured } = stores;
+                let before = self.pointers.take();
+                put_fields(&mut tenured, before.as_slice(), &places, roots.len());
+                put_roots(roots, &places);
+                self.tenured_cells = store_cells(&tenured);
+                self.tenured = tenured;
+                let young_cells = store_cells(&young[0]);
+                let _placeholder = self.young.exchange(young, young_cells);
+                self.pointers.put(before, promoted);
+                Ok(())
+            }
+            Err(stores) => {
+                let Stores { young, tenured } = stores;
+                self.tenured_cells = store_cells(&tenured);
+                self.tenured = tenured;
+                let _placeholder = self.young.exchange(young, cells);
+                Err(AllocError)
+            }
+        }
+    }
+
+    /// Gives up all objects that the roots do not reach. Where a growth is refused, nothing has
+    /// changed.
+    pub fn collect_all<C: Collector>(
+        &mut self,
+        collector: &C,
+        roots: &mut Roots,
+    ) -> Result<(), AllocError>
+        requires { AllResident (content_of self.old) roots.old }
+        ensures ok { OnOk result (LeavesAllReached self.old self.new roots.old roots.new) }
+        ensures keeps { AreGenerations self.new }
+        ensures same { OnErr result (self.new ≡ self.old) }
+        ensures roots { OnErr result (roots.new ≡ roots.old) }
+    {
+        let mut places = list_of(self.alloc, roots)?;
+        let placeholder = empty_nurseries(self.alloc)?;
+        let cells = self.young.cells();
+        let stores = take_stores(self.alloc, &mut self.young, &mut self.tenured, placeholder);
+        match copy_all(self.alloc, collector, stores, &mut places) {
+            Ok(copied) => {
+                let Copied { stores, promoted } = copied;
+                let Stores { young, tenured } = stores;
+                put_roots(roots, &places);
+                self.tenured_cells = store_cells(&tenured);
+                self.tenured = tenured;
+                let young_cells = store_cells(&young[0]);
+                let _placeholder = self.young.exchange(young, young_cells);
+                self.pointers.put(promoted, Vec::new(self.alloc));
+                Ok(())
+            }
+            Err(stores) => {
+                let Stores { young, tenured } = stores;
+                self.tenured = tenured;
+                let _placeholder = self.young.exchange(young, cells);
+                Err(AllocError)
+            }
+        }
+    }
+
+    /// The serials of all objects.
+    pub fn serials(&self) -> Result<Vec<u64>, AllocError>
+        ensures all { IfOk result (λ serials. serials.items ≡ all_serials (stores_of self.now)) }
+        ensures keeps { AreGenerations self.now }
+    {
+        let mut serials = Vec::new(self.alloc);
+        for store in self.young.stores() {
+            add_serials(&mut serials, store)?;
+        }
+        add_serials(&mut serials, &self.tenured)?;
+        Ok(serials)
+    }
+}
+
+// Adds the serials of the objects of a block to a list.
+fn add_block(serials: &mut Vec<u64>, block: &Block) -> Result<(), AllocError>
+    ensures { OnOk result (serials.new.items ≡ serials.old.items ++ block_serials (take 256 block.now)) }
+{
+    for index in 0..block.len() {
+        let Some((header, _)) = block.object(index) else {
+            return Ok(());
+        };
+        serials.push(header.serial)?;
+    }
+    Ok(())
+}
+
+// Adds the serials of the objects of a store to a list.
+fn add_serials(serials: &mut Vec<u64>, store: &BlockStore) -> Result<(), AllocError>
+    ensures { OnOk result (serials.new.items ≡ serials.old.items ++ store_serials store.now) }
+{
+    for number in 0..store.len() {
+        add_block(serials, store.block(number))?;
+    }
+    Ok(())
+}
