@@ -2,6 +2,7 @@
 // error of the kind `InvalidData`.
 
 use crate::jobs::input_file;
+use crate::notation::{bytes_of_words, edited};
 use jm_execute::{Contents, InputFile};
 use std::alloc::Global;
 use std::io::ErrorKind;
@@ -13,8 +14,8 @@ fn empty_class(alloc: Global, name: &str) -> io::Result<Vec<u8>> {
     Ok(text.into_bytes())
 }
 
-// The text of a file with instructions for its comment `; here`; ` / ` stands between them.
-fn with_instructions(rt: &HostRuntime, file: &str, instructions: &str) -> io::Result<Vec<u8>> {
+/// The text of a file with instructions for its comment `; here`; ` / ` stands between them.
+pub fn with_instructions(rt: &HostRuntime, file: &str, instructions: &str) -> io::Result<Vec<u8>> {
     let text = fs::read_to_string(rt, file)?;
     let lines = instructions.replace(rt.alloc(), " / ", "\n")?;
     Ok(text.replace(rt.alloc(), "; here", &lines)?.into_bytes())
@@ -31,8 +32,8 @@ fn push_part(bytes: &mut Vec<u8>, part: &str) -> io::Result<()> {
     Ok(())
 }
 
-// The bytes of a text: `~` is the end of a line, and `%FF` a byte.
-fn text_bytes(alloc: Global, text: &str) -> io::Result<Vec<u8>> {
+/// The bytes of a text: `~` is the end of a line, and `%FF` a byte.
+pub fn text_bytes(alloc: Global, text: &str) -> io::Result<Vec<u8>> {
     let text = text.replace(alloc, "~", "\n")?;
     let mut bytes = Vec::new(alloc);
     for (number, part) in text.split('%').enumerate() {
@@ -76,6 +77,9 @@ pub fn bytes_of(rt: &HostRuntime, column: &str) -> io::Result<Vec<u8>> {
         Some(("@print", instructions)) => with_instructions(rt, "jobs/print.j", instructions),
         Some(("@main", instructions)) => with_instructions(rt, "jobs/main.j", instructions),
         Some(("@repeat", rest)) => repetition(rt.alloc(), rest),
+        Some(("@body", instructions)) => with_instructions(rt, "answers/body.j", instructions),
+        Some(("@hex", words)) => bytes_of_words(rt.alloc(), words),
+        Some(("@edits", edits)) => edited(rt.alloc(), &fs::read(rt, "sum.class")?, edits),
         _ => text_bytes(rt.alloc(), column),
     }
 }

@@ -8,18 +8,30 @@
 #![tactic(auto)]
 
 mod again;
+mod answers;
+mod assembled;
+mod class_files;
+mod class_lines;
+mod codes;
 mod columns;
+mod descriptors;
 mod events;
 mod files;
 mod job_rows;
 mod jobs;
+mod notation;
 mod outcomes;
+mod plain_rows;
+mod pools;
 mod programs;
 mod row;
+mod schedules;
 mod tables;
+mod tokens;
+mod values;
 
 use again::read_again;
-use files::{ACCEPTED, REFUSED, TABLES, TEXTS};
+use files::{ACCEPTED, ANSWERS, REFUSED, TABLES, TEXTS};
 use jm_class_reader::read_class;
 use jm_class_writer::write_class;
 use jm_jasmin::assemble;
@@ -28,7 +40,7 @@ use programs::{print_programs, print_runs};
 use row::row_of;
 use std::rt::Files;
 use std::{fs, io};
-use tables::print_tables;
+use tables::{print_answers, print_tables};
 
 fn main(rt: HostRuntime) -> io::Result<()> {
     println!(rt; "file fields methods max_stack max_locals instructions handlers lines again")?;
@@ -39,7 +51,8 @@ fn main(rt: HostRuntime) -> io::Result<()> {
     print_programs(&rt, &rt, "programs.txt")?;
     print_runs(&rt, &rt, "worked.txt")?;
     print_runs(&rt, &rt, "runs.txt")?;
-    print_tables(&rt, &rt, TABLES)
+    print_tables(&rt, &rt, TABLES)?;
+    print_answers(&rt, &rt, ANSWERS)
 }
 
 fn print_class_files(rt: &(impl Print + Files + AllocGlobal), files: &[&str]) -> io::Result<()> {

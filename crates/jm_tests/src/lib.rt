@@ -1,11 +1,7 @@
-//! What no clause says, of all crates but those of files, texts and runs: tables whose expected
-//! values come from outside, printed texts, and that each public call succeeds with ample memory.
-//! The tests stand here, so that no crate below is proved twice.
-//!
-//! The rows of [`plain_instructions`] are instructions: for each the frame before, and what comes
-//! of it. The numbers are what real Java computes (`tests_java/PlainRows.java` prints them), and
-//! the other rows follow from JVMS 6.5 and 2.6. `tests_java/RunRows.java` runs each row that Java's
-//! verifier lets through, and sees that it refuses the others for the reason that the row names.
+//! What no clause says and no row of the tables in `jm_examples` shows: numbers read and written as
+//! bytes, pools that grow, calls on frames, command lines (whose crate would make `jm_examples`
+//! large), and the faults that no row comes to, printed. The tests stand here, so that no crate below
+//! is proved twice.
 #![tactic(auto)]
 
 #[cfg(test)]
@@ -13,11 +9,11 @@ mod bytes;
 #[cfg(test)]
 mod command_lines;
 #[cfg(test)]
-mod plain_instructions;
+mod faults;
 #[cfg(test)]
-mod schedules;
+mod frames;
 #[cfg(test)]
-mod symbolic_programs;
+mod pools;
 #[cfg(test)]
 mod table;
 #[cfg(test)]

@@ -1,0 +1,166 @@
+// Questions that the rows of tables ask, and their answers as texts.
+
+use crate::columns::{bytes_of, text_bytes};
+use crate::notation::expanded;
+use crate::{assembled, class_files, codes, descriptors, plain_rows, pools, schedules, tokens};
+use std::alloc::Global;
+use std::io::ErrorKind;
+use std::{io, str};
+
+/// What the rows of a table ask.
+#[derive(Clone, Copy)]
+pub enum Question {
+    /// What bytes are.
+    Bytes(BytesQuestion),
+    /// What a text is.
+    Text(TextQuestion),
+    /// What a plain instruction does to a frame.
+    Plain,
+    /// How many rows ask of a plain instruction.
+    PlainRows,
+    /// What an index of the worked pool names.
+    LookUp,
+}
+
+/// What is asked of bytes.
+#[derive(Clone, Copy)]
+pub enum BytesQuestion {
+    /// The class of a class file.
+    Class,
+    /// The instructions of the class's codes.
+    Instructions,
+    /// How many class files that differ in one byte are answered.
+    Changes,
+    /// Whether the class is written as the same bytes.
+    Same,
+    /// With which versions the class keeps the rules.
+    Versions,
+    /// The instructions of a code.
+    Code,
+    /// How many instructions a code has.
+    CodeLength,
+    Pool,
+    /// The code units of a text of a pool.
+    Units,
+}
+
+/// What is asked of a text.
+#[derive(Clone, Copy)]
+pub enum TextQuestion {
+    /// Whether it is a class, or why not.
+    Assembly,
+    /// Its class.
+    Class,
+    /// The instructions of its class.
+    Instructions,
+    /// Whether it is a class, or has a fault with a number and a line.
+    IsAnswered,
+    /// Its class, written and read again.
+    Again,
+    /// Some bytes of its class file.
+    ClassFile,
+    Tokens,
+    /// The tokens before a bad one.
+    TokensBefore,
+    /// How many tokens the lines have.
+    TokenLines,
+    Literal,
+    Number,
+    Schedule,
+    /// How many events a schedule has.
+    ScheduleLength,
+    Descriptor,
+    /// The name of the code units.
+    Name,
+}
+
+/// The answer that a row wants: `~` is the end of a line, and `%FF` a byte.
+pub fn wanted_answer(alloc: Global, column: &str) -> io::Result<String> {
+    let column = expanded(alloc, column)?;
+    match String::from_utf8(text_bytes(alloc, &column)?) {
+        Ok(text) => Ok(text),
+        Err(_) => Err(io::Error::from(ErrorKind::InvalidData)),
+    }
+}
+
+/// The answer to a column; `@cut FROM TO COLUMN` asks of the first bytes alone, of each number of
+/// bytes from FROM on and below TO.
+pub fn answer(rt: &HostRuntime, question: Question, column: &str) -> io::Result<String> {
+    match question {
+        Question::Plain => plain_rows::answer(rt, column),
+        Question::PlainRows => plain_rows::count(rt, column),
+        Question::LookUp => pools::looked_up(rt, column),
+        _ => {
+            let column = expanded(rt.alloc(), column)?;
+            match column.strip_prefix("@cut ") {
+                Some(rest) => cut_answer(rt, question, rest),
+                None => answer_of(rt.alloc(), question, &bytes_of(rt, &column)?),
+            }
+        }
+    }
+}
+
+// The one answer to all of the cuts, behind their number, or the first other one and where it is cut.
+fn cut_answer(rt: &HostRuntime, question: Question, cut: &str) -> io::Result<String> {
+    let (from, rest) = cut.split_once(' ').ok_or(ErrorKind::InvalidData)?;
+    let (to, column) = rest.split_once(' ').ok_or(ErrorKind::InvalidData)?;
+    let (Ok(from), Ok(to)) = (from.parse::<usize>(), to.parse::<usize>()) else {
+        return Err(io::Error::from(ErrorKind::InvalidData));
+    };
+    let bytes = bytes_of(rt, column)?;
+    let front = bytes.get(..from).ok_or(ErrorKind::InvalidData)?;
+    let first = answer_of(rt.alloc(), question, front)?;
+    for length in from..to {
+        let front = bytes.get(..length).ok_or(ErrorKind::InvalidData)?;
+        let one = answer_of(rt.alloc(), question, front)?;
+        if one.as_str() != first.as_str() {
+            return Ok(format!(in rt.alloc(); "{one} of {length} bytes")?);
+        }
+    }
+    Ok(format!(in rt.alloc(); "{} times {first}", to.saturating_sub(from))?)
+}
+
+fn answer_of(alloc: Global, question: Question, bytes: &[u8]) -> io::Result<String> {
+    match question {
+        Question::Bytes(question) => answer_to_bytes(alloc, question, bytes),
+        Question::Text(question) => match str::from_utf8(bytes) {
+            Ok(text) => answer_to_text(alloc, question, text),
+            Err(_) => Err(io::Error::from(ErrorKind::InvalidData)),
+        },
+        _ => Err(io::Error::from(ErrorKind::InvalidData)),
+    }
+}
+
+fn answer_to_bytes(alloc: Global, question: BytesQuestion, bytes: &[u8]) -> io::Result<String> {
+    match question {
+        BytesQuestion::Class => class_files::class(alloc, bytes),
+        BytesQuestion::Instructions => class_files::instructions(alloc, bytes),
+        BytesQuestion::Changes => class_files::changes(alloc, bytes),
+        BytesQuestion::Same => class_files::bytes(alloc, bytes),
+        BytesQuestion::Versions => class_files::versions(alloc, bytes),
+        BytesQuestion::Code => codes::code(alloc, bytes),
+        BytesQuestion::CodeLength => codes::code_length(alloc, bytes),
+        BytesQuestion::Pool => pools::pool(alloc, bytes),
+        BytesQuestion::Units => pools::units(alloc, bytes),
+    }
+}
+
+fn answer_to_text(alloc: Global, question: TextQuestion, text: &str) -> io::Result<String> {
+    match question {
+        TextQuestion::Assembly => assembled::assembly(alloc, text),
+        TextQuestion::Class => assembled::class(alloc, text),
+        TextQuestion::Instructions => assembled::instructions(alloc, text),
+        TextQuestion::IsAnswered => assembled::is_answered(alloc, text),
+        TextQuestion::Again => assembled::again(alloc, text),
+        TextQuestion::ClassFile => assembled::class_file(alloc, text),
+        TextQuestion::Tokens => tokens::tokens_of(alloc, text),
+        TextQuestion::TokensBefore => tokens::tokens_before(alloc, text),
+        TextQuestion::TokenLines => tokens::lines(alloc, text),
+        TextQuestion::Literal => tokens::literal_of(alloc, text),
+        TextQuestion::Number => tokens::number_of(alloc, text),
+        TextQuestion::Schedule => schedules::events(alloc, text),
+        TextQuestion::ScheduleLength => schedules::length(alloc, text),
+        TextQuestion::Descriptor => descriptors::descriptor(alloc, text),
+        TextQuestion::Name => descriptors::name(alloc, text),
+    }
+}

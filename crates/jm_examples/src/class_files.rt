@@ -1,0 +1,79 @@
+// What class files are.
+
+use crate::class_lines::{ClassLine, InstructionsLine};
+use crate::notation::Numbers;
+use jm_class_reader::read_class;
+use jm_class_writer::write_class;
+use jm_program::Version;
+use std::alloc::Global;
+use std::io;
+
+/// The class of a class file, or why it has none.
+pub fn class(alloc: Global, bytes: &[u8]) -> io::Result<String> {
+    match read_class(alloc, bytes) {
+        Ok(class) => Ok(format!(in alloc; "{}", ClassLine(class.parts()))?),
+        Err(fault) => Ok(format!(in alloc; "{fault}")?),
+    }
+}
+
+/// The instructions of the class of a class file, or why it has none.
+pub fn instructions(alloc: Global, bytes: &[u8]) -> io::Result<String> {
+    match read_class(alloc, bytes) {
+        Ok(class) => Ok(format!(in alloc; "{}", InstructionsLine(class.parts()))?),
+        Err(fault) => Ok(format!(in alloc; "{fault}")?),
+    }
+}
+
+// Reads a class file with each value for the byte at a place.
+fn change_at(alloc: Global, bytes: &[u8], at: usize) -> io::Result<u32> {
+    let mut changed = bytes.to_vec(alloc)?;
+    let mut answered = 0u32;
+    for value in 0..=255u8 {
+        if let Some(byte) = changed.get_mut(at) {
+            *byte = value;
+        }
+        let _ = read_class(alloc, &changed);
+        answered = answered.saturating_add(1);
+    }
+    Ok(answered)
+}
+
+/// How many class files are answered that differ from this one in at most one byte.
+pub fn changes(alloc: Global, bytes: &[u8]) -> io::Result<String> {
+    let mut answered = 0u32;
+    for at in 0..bytes.len() {
+        answered = answered.saturating_add(change_at(alloc, bytes, at)?);
+    }
+    Ok(format!(in alloc; "{answered}")?)
+}
+
+/// `the same bytes` where the class of a class file is written as that file.
+pub fn bytes(alloc: Global, bytes: &[u8]) -> io::Result<String> {
+    let class = match read_class(alloc, bytes) {
+        Ok(class) => class,
+        Err(fault) => return Ok(format!(in alloc; "{fault}")?),
+    };
+    match write_class(alloc, &class) {
+        Ok(written) if written.as_slice() == bytes => {
+            Ok(String::from_str(alloc, "the same bytes")?)
+        }
+        Ok(_) => Ok(String::from_str(alloc, "other bytes")?),
+        Err(fault) => Ok(format!(in alloc; "{fault}")?),
+    }
+}
+
+/// The major versions, of 40 to 60, with which the class of a class file keeps the rules.
+pub fn versions(alloc: Global, bytes: &[u8]) -> io::Result<String> {
+    let mut parts = match read_class(alloc, bytes) {
+        Ok(class) => class.into_parts(),
+        Err(fault) => return Ok(format!(in alloc; "{fault}")?),
+    };
+    let mut kept = Vec::new(alloc);
+    for major in 40..61u16 {
+        parts.version = Version { major, minor: 0 };
+        if parts.fits() {
+            kept.push(major)?;
+        }
+    }
+    Ok(format!(in alloc; "{}", Numbers(&kept))?)
+}

@@ -1,0 +1,33 @@
+// What descriptors and names are.
+
+use jm_program::{Descriptor, Name};
+use std::alloc::Global;
+use std::io;
+use std::io::ErrorKind;
+
+/// The descriptor of a text, as it prints, or why the text is none; `itself` where it prints as the
+/// text.
+pub fn descriptor(alloc: Global, text: &str) -> io::Result<String> {
+    let printed = match Descriptor::parse(alloc, text) {
+        Ok(descriptor) => format!(in alloc; "{descriptor}")?,
+        Err(fault) => format!(in alloc; "{fault}")?,
+    };
+    if printed.as_str() == text {
+        return Ok(String::from_str(alloc, "itself")?);
+    }
+    Ok(printed)
+}
+
+/// The name of code units as it prints, and whether it names a class, and a field.
+pub fn name(alloc: Global, numbers: &str) -> io::Result<String> {
+    let mut units = Vec::new(alloc);
+    for number in numbers.split_whitespace() {
+        match number.parse::<u16>() {
+            Ok(unit) => units.push(unit)?,
+            Err(_) => return Err(io::Error::from(ErrorKind::InvalidData)),
+        }
+    }
+    let name = Name::new(units);
+    let (of_class, of_field) = (name.is_class_name(), name.is_unqualified());
+    Ok(format!(in alloc; "{name} {of_class} {of_field}")?)
+}

@@ -1,0 +1,104 @@
+// What constant pools and their texts are (JVMS 4.4, 4.4.7).
+
+use crate::notation::Numbers;
+use jm_bytes::Reader;
+use jm_pool::{Member, NameAndType, Pool, code_units};
+use std::alloc::Global;
+use std::io::ErrorKind;
+use std::{fmt, fs, io};
+
+// How many bytes are left behind a pool.
+fn left(alloc: Global, bytes: &[u8]) -> usize {
+    let mut reader = Reader::new(bytes);
+    match Pool::take(alloc, &mut reader) {
+        Ok(_) => reader.len(),
+        Err(_) => 0,
+    }
+}
+
+/// How many entries and bytes a pool has, and how many bytes are left behind it; or why bytes begin
+/// with none.
+pub fn pool(alloc: Global, bytes: &[u8]) -> io::Result<String> {
+    match Pool::read(alloc, bytes) {
+        Ok((pool, taken)) => {
+            let (count, left) = (pool.entries().len(), left(alloc, bytes));
+            Ok(format!(in alloc; "{count} entries of {taken} bytes, {left} left")?)
+        }
+        Err(fault) => Ok(format!(in alloc; "{fault}")?),
+    }
+}
+
+/// The code units of a text of a pool, or why the bytes are none.
+pub fn units(alloc: Global, bytes: &[u8]) -> io::Result<String> {
+    match code_units(alloc, bytes) {
+        Ok(units) => Ok(format!(in alloc; "{}", Numbers(units.as_slice()))?),
+        Err(fault) => Ok(format!(in alloc; "{fault}")?),
+    }
+}
+
+// What an index names.
+#[derive(Clone, Copy)]
+enum Named<'a> {
+    Text(&'a [u16]),
+    Number(i64),
+    NameAndType(NameAndType<'a>),
+    Member(Member<'a>),
+    Entry,
+}
+
+impl fmt::Display for Named<'_> {
+    fn fmt<W: fmt::Write>(&self, f: &mut fmt::Formatter<W>) -> fmt::Result {
+        match self {
+            Named::Text(units) => write!(f, "{}", Numbers(units)),
+            Named::Number(number) => write!(f, "{number}"),
+            Named::NameAndType(texts) => {
+                let (name, descriptor) = (texts.name.units, texts.descriptor.units);
+                write!(f, "{}{}", Numbers(name), Numbers(descriptor))
+            }
+            Named::Member(texts) => {
+                let (class, name) = (texts.class.units, texts.name.units);
+                let descriptor = texts.descriptor.units;
+                write!(
+                    f,
+                    "{}{}{}",
+                    Numbers(class),
+                    Numbers(name),
+                    Numbers(descriptor)
+                )
+            }
+            Named::Entry => f.write_str("some"),
+        }
+    }
+}
+
+// What an index names as an entry of a kind.
+fn look_up<'p>(pool: &'p Pool, kind: &str, index: u16) -> Option<Named<'p>> {
+    match kind {
+        "text" => Some(Named::Text(pool.text(index)?)),
+        "string" => Some(Named::Text(pool.string(index)?)),
+        "class" => Some(Named::Text(pool.class(index)?.units)),
+        "integer" => Some(Named::Number(i64::from(pool.integer(index)?))),
+        "long" => Some(Named::Number(pool.long(index)?)),
+        "name_and_type" => Some(Named::NameAndType(pool.name_and_type(index)?)),
+        "field" => Some(Named::Member(pool.field(index)?)),
+        "method" => Some(Named::Member(pool.method(index)?)),
+        "interface_method" => Some(Named::Member(pool.interface_method(index)?)),
+        _ => pool.entry(index).map(|_| Named::Entry),
+    }
+}
+
+/// What an index of the pool of the file `answers/pool` names, as an entry of a kind.
+pub fn looked_up(rt: &HostRuntime, column: &str) -> io::Result<String> {
+    let (kind, index) = column.split_once(' ').ok_or(ErrorKind::InvalidData)?;
+    let Ok(index) = index.parse::<u16>() else {
+        return Err(io::Error::from(ErrorKind::InvalidData));
+    };
+    let bytes = fs::read(rt, "answers/pool")?;
+    let Ok((pool, _)) = Pool::read(rt.alloc(), &bytes) else {
+        return Err(io::Error::from(ErrorKind::InvalidData));
+    };
+    match look_up(&pool, kind, index) {
+        Some(named) => Ok(format!(in rt.alloc(); "{named}")?),
+        None => Ok(String::from_str(rt.alloc(), "none")?),
+    }
+}

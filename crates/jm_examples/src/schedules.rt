@@ -1,0 +1,43 @@
+// What texts of schedules are.
+
+use jm_schedule::{Run, read_schedule};
+use jm_world::Event;
+use std::alloc::Global;
+use std::{fmt, io};
+
+// The runs of a schedule, each as its event and how often it happens.
+#[derive(Clone, Copy)]
+struct RunsLine<'a>(&'a [Run]);
+
+impl fmt::Display for RunsLine<'_> {
+    fn fmt<W: fmt::Write>(&self, f: &mut fmt::Formatter<W>) -> fmt::Result {
+        for run in self.0 {
+            match run.event {
+                Event::Step(thread) => write!(f, " Step({thread})")?,
+                Event::Minor => write!(f, " Minor")?,
+                Event::Full => write!(f, " Full")?,
+            }
+            write!(f, " {};", run.count)?;
+        }
+        Ok(())
+    }
+}
+
+/// The events of a schedule as runs, or its first bad line.
+pub fn events(alloc: Global, text: &str) -> io::Result<String> {
+    match read_schedule(alloc, text.as_bytes()) {
+        Ok(schedule) => Ok(format!(in alloc; "{}", RunsLine(schedule.runs()))?),
+        Err(fault) => Ok(format!(in alloc; "{fault}")?),
+    }
+}
+
+/// How many events a schedule has, or its first bad line.
+pub fn length(alloc: Global, text: &str) -> io::Result<String> {
+    match read_schedule(alloc, text.as_bytes()) {
+        Ok(schedule) => {
+            let (length, is_empty) = (schedule.len(), schedule.is_empty());
+            Ok(format!(in alloc; "{length} {is_empty}")?)
+        }
+        Err(fault) => Ok(format!(in alloc; "{fault}")?),
+    }
+}
