@@ -1,0 +1,9 @@
+pub mod WordCounts
+pub mod Written
+pub mod Shown
+pub mod FramesWritten
+pub mod ThreadsShown
+pub mod ObjectsShown
+pub mod ClassesNamed
+pub mod MethodTypes
+pub mod Sessions

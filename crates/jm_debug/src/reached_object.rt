@@ -1,0 +1,201 @@
+// An object, with its fields or elements.
+
+ghost use Rattle.std.specs.Prelude.{◌≡◌, ◌++◌, OnOk, IfOk, option_map, codes};
+ghost use Rattle.std.specs.List.{flat_map, zip};
+ghost use Rattle.std.specs.Fmt.{decimal};
+ghost use Rattle.jm_world.specs.Types.{array_of};
+ghost use Rattle.jm_world.specs.Objects.{size};
+ghost use Rattle.jm_world.specs.World.{World};
+ghost use Rattle.jm_machine.specs.Readers.{model_value, model_element, model_type, model_field};
+ghost use Rattle.jm_machine.specs.Seen.{fields_of_type};
+ghost use Rattle.jm_machine.specs.View.{MatchesWorld};
+ghost use Rattle.jm_debug.specs.Texts.{reference_text, object_type_text};
+ghost use Rattle.jm_debug.specs.Views.{lines_from, lines_of, field_lines, element_lines, part_lines, header_text, object_lines_of, object_lines};
+ghost use Rattle.jm_debug.specs.Session.{ended, bytes_of, Shows};
+
+use crate::fault::DebugFault;
+use crate::value::{ValueText, write_element};
+use jm_heap::Heap;
+use jm_machine::{ElementKind, Machine, ObjectKind, WorldField, WorldObject, WorldValue};
+use jm_program::{ElementType, FieldType, Name};
+use std::alloc::{AllocError, Global};
+use std::fmt::Write;
+
+// What the elements of an array are in their last dimension.
+fn element_type(alloc: Global, element: ElementKind<'_>) -> Result<ElementType, AllocError>
+    ensures { IfOk result (λ e. e ≡ model_element element.entry) }
+{
+    match element {
+        ElementKind::Base(base) => Ok(ElementType::Base(base)),
+        ElementKind::Class(name) => Ok(ElementType::Class(Name::shared(alloc, name)?)),
+    }
+}
+
+// Writes the descriptor of an array with such elements.
+#[tactic(auto, using(crate::proofs::ObjectsShown::array_text))]
+fn write_array_type(out: &mut String, component: &FieldType) -> Result<(), AllocError>
+    ensures { OnOk result (out.new.bytes.items ≡ out.old.bytes.items ++ object_type_text (array_of component.now)) }
+{
+    write!(out, "[{component}")
+}
+
+// Writes the class of an object, or the descriptor of an array.
+#[tactic(auto, unfolding(crate::specs::Texts::object_type_text))]
+fn write_type(alloc: Global, out: &mut String, kind: ObjectKind<'_>) -> Result<(), AllocError>
+    ensures { OnOk result (out.new.bytes.items ≡ out.old.bytes.items ++ object_type_text (model_type kind.entry)) }
+{
+    match kind {
+        ObjectKind::Instance { class } => {
+            let class = Name::shared(alloc, class)?;
+            write!(out, "{class}")
+        }
+        ObjectKind::Array {
+            dimensions,
+            element,
+        } => {
+            let element = element_type(alloc, element)?;
+            let component = FieldType {
+                dimensions,
+                element,
+            };
+            write_array_type(out, &component)
+        }
+    }
+}
+
+// The cells of an object.
+#[tactic(auto, unfolding(jm_world::specs::Objects::size_of))]
+fn cells<H: Heap>(object: &WorldObject<'_, H>) -> u64
+    ensures { result ≡ size object.now.object }
+{
+    let length = u64::from(object.length());
+    match object.kind() {
+        ObjectKind::Instance { .. } => 2 + length,
+        ObjectKind::Array { .. } => 3 + length,
+    }
+}
+
+// Writes a field with its value, if there is one.
+#[tactic(auto, using(crate::proofs::Written::one_line), unfolding(crate::specs::Views::field_text))]
+fn write_field(
+    out: &mut String,
+    index: usize,
+    field: Option<WorldField<'_>>,
+) -> Result<(), AllocError>
+    ensures { OnOk result (out.new.bytes.items ≡ out.old.bytes.items ++ flat_map ended (lines_of field_lines index (option_map model_field field.entry))) }
+{
+    let Some(field) = field else {
+        return Ok(());
+    };
+    let class = field.class;
+    let name = field.name;
+    let descriptor = field.descriptor;
+    let value = ValueText(field.value);
+    write!(out, "{class}.{name} {descriptor} = {value}\n")
+}
+
+// Writes an element, if there is one.
+fn write_read_element(
+    out: &mut String,
+    index: usize,
+    value: Option<WorldValue>,
+) -> Result<(), AllocError>
+    ensures { OnOk result (out.new.bytes.items ≡ out.old.bytes.items ++ flat_map ended (lines_of element_lines index (option_map model_value value))) }
+{
+    match value {
+        Some(value) => write_element(out, index, value),
+        None => Ok(()),
+    }
+}
+
+// Writes the fields of an object.
+fn write_fields<H: Heap>(out: &mut String, object: &WorldObject<'_, H>) -> Result<(), AllocError>
+    ensures { OnOk result (out.new.bytes.items ≡ out.old.bytes.items
+        ++ flat_map ended (lines_from field_lines 0 (zip (fields_of_type object.now.program object.now.object.type) object.now.object.values))) }
+{
+    for index in 0..object.length() {
+        write_field(out, index as usize, object.field(index))?;
+    }
+    Ok(())
+}
+
+// Writes the elements of an array.
+fn write_elements<H: Heap>(out: &mut String, object: &WorldObject<'_, H>) -> Result<(), AllocError>
+    ensures { OnOk result (out.new.bytes.items ≡ out.old.bytes.items ++ flat_map ended (lines_from element_lines 0 object.now.object.values)) }
+{
+    for index in 0..object.length() {
+        write_read_element(out, index as usize, object.value(index))?;
+    }
+    Ok(())
+}
+
+// Writes the fields of an object, or the elements of an array.
+#[tactic(auto, using(crate::proofs::ObjectsShown::parts_of_instance, crate::proofs::ObjectsShown::parts_of_array))]
+fn write_parts<H: Heap>(out: &mut String, object: &WorldObject<'_, H>) -> Result<(), AllocError>
+    ensures { OnOk result (out.new.bytes.items
+        ≡ out.old.bytes.items ++ flat_map ended (part_lines object.now.program object.now.object.type object.now.object.values)) }
+{
+    match object.kind() {
+        ObjectKind::Instance { .. } => write_fields(out, object),
+        ObjectKind::Array { .. } => write_elements(out, object),
+    }
+}
+
+#[tactic(auto, unfolding(crate::specs::Texts::reference_text))]
+fn write_number(out: &mut String, number: u64) -> Result<(), AllocError>
+    ensures { OnOk result (out.new.bytes.items ≡ out.old.bytes.items ++ (reference_text number ++ codes " ")) }
+{
+    write!(out, "#{number} ")
+}
+
+fn write_cells(out: &mut String, cells: u64) -> Result<(), AllocError>
+    ensures { OnOk result (out.new.bytes.items ≡ out.old.bytes.items ++ (codes " " ++ decimal cells ++ codes " cells\n")) }
+{
+    write!(out, " {cells} cells\n")
+}
+
+// Writes the line of an object that stands above those of its fields or elements.
+fn write_header<H: Heap>(
+    alloc: Global,
+    out: &mut String,
+    number: u64,
+    object: &WorldObject<'_, H>,
+) -> Result<(), AllocError>
+    ensures { OnOk result (out.new.bytes.items ≡ out.old.bytes.items ++ ended (header_text number object.now.object)) }
+{
+    write_number(out, number)?;
+    write_type(alloc, out, object.kind())?;
+    write_cells(out, cells(object))?;
+    Ok(())
+}
+
+// An object, with its fields or elements.
+fn object_text<H: Heap>(
+    alloc: Global,
+    number: u64,
+    object: &WorldObject<'_, H>,
+) -> Result<String, AllocError>
+    ensures { IfOk result (λ answer. answer.bytes.items ≡ bytes_of (object_lines_of object.now.program number object.now.object)) }
+{
+    let mut out = String::new(alloc);
+    write_header(alloc, &mut out, number, object)?;
+    write_parts(&mut out, object)?;
+    Ok(out)
+}
+
+/// The object of a number, with its fields, those of the topmost superclass first, or its elements.
+/// `NoSuch`: it is not reachable; `OutOfMemory`: a growth was refused. It looks at each reachable
+/// object once at most.
+pub fn object<H: Heap>(
+    alloc: Global,
+    machine: &Machine<H>,
+    number: u64,
+) -> Result<String, DebugFault>
+    ensures { (w : World) → MatchesWorld machine.now w → Shows (λ t. t.bytes.items) result (object_lines w number) }
+{
+    match machine.object(number) {
+        Ok(Some(object)) => Ok(object_text(alloc, number, &object)?),
+        Ok(None) => Err(DebugFault::NoSuch),
+        Err(_) => Err(DebugFault::OutOfMemory),
+    }
+}

@@ -1,0 +1,182 @@
+// Where a thread stands.
+
+ghost use Rattle.std.specs.Prelude.{◌≡◌, ◌++◌, ℕ, List, OnOk, Some};
+ghost use Rattle.std.specs.List.{flat_map};
+ghost use Rattle.std.specs.Option.{option_copied};
+ghost use Rattle.jm_program.specs.declared.class.ClassParts.{ClassParts};
+ghost use Rattle.jm_world.specs.Classes.{method_named};
+ghost use Rattle.jm_world.specs.Frames.{method_frame, initialization_frame, entry_frame};
+ghost use Rattle.jm_world.specs.World.{World, Thread, thread_at};
+ghost use Rattle.jm_machine.specs.Readers.{name_of_frame, model_frame, IsOfProgram};
+ghost use Rattle.jm_machine.specs.View.{MatchesWorld};
+ghost use Rattle.jm_debug.specs.Views.{lines_from, frame_lines, pending_lines, running_lines, end_lines, thread_lines, where_lines};
+ghost use Rattle.jm_debug.specs.Session.{ended, Shows};
+
+use crate::answer::or_none;
+use crate::fault::DebugFault;
+use crate::text::{LineText, PlaceText, StageText, line_of};
+use jm_heap::Heap;
+use jm_machine::{Machine, MethodFrame, WorldFrame};
+use jm_program::{Class, Name};
+use jm_world::Stage;
+use std::alloc::{AllocError, Global};
+use std::fmt::Write;
+
+// Writes where a method's frame stands, with the line of the source if it is known.
+#[tactic(auto, using(crate::proofs::FramesWritten::method_line), unfolding(crate::specs::Texts::frame_text))]
+fn write_method_frame<H: Heap>(
+    out: &mut String,
+    depth: usize,
+    frame: &MethodFrame<'_, H>,
+) -> Result<(), AllocError>
+    ensures { (program : List ClassParts) → method_named program (name_of_frame frame.now) ≡ Some frame.now.method
+        → OnOk result (out.new.bytes.items ≡ out.old.bytes.items
+        ++ flat_map ended (frame_lines program depth (method_frame (name_of_frame frame.now) frame.now.activation frame.now.monitor))) }
+{
+    let class = frame.class();
+    let method = frame.method();
+    let instruction = frame.at() as u64;
+    let place = PlaceText {
+        class: &class.parts().name,
+        method: &method.name,
+        descriptor: &method.descriptor,
+        instruction,
+    };
+    let line = LineText(line_of(method, instruction));
+    write!(out, "{depth} {place}{line}\n")
+}
+
+// Writes where the initialization of a class stands.
+#[tactic(auto, using(crate::proofs::Written::one_line), unfolding(crate::specs::Texts::frame_text))]
+fn write_initialization(
+    out: &mut String,
+    depth: usize,
+    class: &Class,
+    stage: Stage,
+) -> Result<(), AllocError>
+    ensures { (program : List ClassParts) → OnOk result (out.new.bytes.items
+        ≡ out.old.bytes.items ++ flat_map ended (frame_lines program depth (initialization_frame class.now.name stage))) }
+{
+    let class = &class.parts().name;
+    let stage = StageText(stage);
+    write!(out, "{depth} init {class} {stage}\n")
+}
+
+// Writes that a thread has not begun.
+#[tactic(auto, using(crate::proofs::Written::one_line), unfolding(crate::specs::Texts::frame_text))]
+fn write_entry(out: &mut String, depth: usize) -> Result<(), AllocError>
+    ensures { (program : List ClassParts) → OnOk result (out.new.bytes.items ≡ out.old.bytes.items ++ flat_map ended (frame_lines program depth entry_frame)) }
+{
+    write!(out, "{depth} entry\n")
+}
+
+// Writes where a frame stands.
+fn write_frame<H: Heap>(
+    out: &mut String,
+    depth: usize,
+    frame: &WorldFrame<'_, H>,
+) -> Result<(), AllocError>
+    ensures { (program : List ClassParts) → IsOfProgram program frame.now
+        → OnOk result (out.new.bytes.items ≡ out.old.bytes.items ++ flat_map ended (frame_lines program depth (model_frame frame.now))) }
+{
+    match frame {
+        WorldFrame::Method(frame) => write_method_frame(out, depth, frame),
+        WorldFrame::Initialization { class, stage } => {
+            write_initialization(out, depth, class, *stage)
+        }
+        WorldFrame::Entry => write_entry(out, depth),
+    }
+}
+
+// Writes the frames of a thread, with the top one first.
+fn write_frames<H: Heap>(
+    out: &mut String,
+    machine: &Machine<H>,
+    thread: u64,
+) -> Result<(), AllocError>
+    ensures { (w : World) (t : Thread) → MatchesWorld machine.now w → thread_at w thread ≡ Some t
+        → OnOk result (out.new.bytes.items ≡ out.old.bytes.items ++ flat_map ended (lines_from (frame_lines w.program) 0 t.frames)) }
+{
+    for depth in 0..usize::MAX {
+        let Some(frame) = machine.frame(thread, depth) else {
+            return Ok(());
+        };
+        write_frame(out, depth, &frame)?;
+    }
+    Err(AllocError)
+}
+
+// Writes a pending exception, if there is one.
+#[tactic(auto, using(crate::proofs::Written::one_line), unfolding(crate::specs::Texts::reference_text))]
+fn write_pending(out: &mut String, pending: Option<u64>) -> Result<(), AllocError>
+    ensures { OnOk result (out.new.bytes.items ≡ out.old.bytes.items ++ flat_map ended (pending_lines pending)) }
+{
+    match pending {
+        Some(number) => write!(out, "pending #{number}\n"),
+        None => Ok(()),
+    }
+}
+
+// Writes a pending exception and the frames.
+fn write_running<H: Heap>(
+    out: &mut String,
+    machine: &Machine<H>,
+    thread: u64,
+) -> Result<(), AllocError>
+    ensures { (w : World) (t : Thread) → MatchesWorld machine.now w → thread_at w thread ≡ Some t
+        → OnOk result (out.new.bytes.items ≡ out.old.bytes.items ++ flat_map ended (running_lines w.program t)) }
+{
+    write_pending(out, machine.pending(thread))?;
+    write_frames(out, machine, thread)
+}
+
+// Writes how a thread has ended: by an exception of a class, or by its last return.
+#[tactic(auto, using(crate::proofs::Written::one_line))]
+fn write_end(alloc: Global, out: &mut String, class: Option<&[u16]>) -> Result<(), AllocError>
+    ensures { OnOk result (out.new.bytes.items ≡ out.old.bytes.items ++ flat_map ended (end_lines (option_copied class.entry))) }
+{
+    match class {
+        Some(units) => {
+            let class = Name::shared(alloc, units)?;
+            write!(out, "ended by {class}\n")
+        }
+        None => write!(out, "ended\n"),
+    }
+}
+
+// Writes where a thread stands, or how it has ended.
+fn write_thread<H: Heap>(
+    alloc: Global,
+    out: &mut String,
+    machine: &Machine<H>,
+    thread: u64,
+) -> Result<(), AllocError>
+    ensures { (w : World) (t : Thread) → MatchesWorld machine.now w → thread_at w thread ≡ Some t
+        → OnOk result (out.new.bytes.items ≡ out.old.bytes.items ++ flat_map ended (thread_lines w.program t t.ending)) }
+{
+    if machine.is_live(thread) {
+        write_running(out, machine, thread)
+    } else {
+        write_end(alloc, out, machine.ended_by(thread))
+    }
+}
+
+/// Where a thread stands: its pending exception, and its frames with the top one first; or how it has
+/// ended. `NoSuch`: no thread has the number; `OutOfMemory`: a growth was refused.
+pub fn frames<H: Heap>(
+    alloc: Global,
+    machine: &Machine<H>,
+    thread: u64,
+) -> Result<String, DebugFault>
+    ensures { (w : World) → MatchesWorld machine.now w → Shows (λ t. t.bytes.items) result (where_lines w thread) }
+{
+    if thread == 0 {
+        return Err(DebugFault::NoSuch);
+    }
+    if (machine.threads() as u64) < thread {
+        return Err(DebugFault::NoSuch);
+    }
+    let mut out = String::new(alloc);
+    write_thread(alloc, &mut out, machine, thread)?;
+    Ok(or_none(out)?)
+}
