@@ -56,6 +56,8 @@ for old in ("1", "10", "100"):
     print(f"a minor collection beside {int(old) * 10_000:,} old nodes: {ours:.2f} ms beside {twin:.2f} ms, ratio {ratio:.2f}")
 ratio, ours, twin = said(both("barrier", 40_000, 440_000), 256)
 print(f"to set a value of an object and note it: {ours:.1f} ns beside {twin:.1f} ns, ratio {ratio:.2f}")
+ratio, ours, twin = said(both("allocate", 1_000_000, 21_000_000))
+print(f"to make an object of two fields, its collections included: {ours:.1f} ns beside {twin:.1f} ns, ratio {ratio:.2f}")
 built = resident(OURS, "collect", 0)
 collected = resident(OURS, "collect", 1)
 print(f"memory: {built / CELLS:.1f} bytes a cell; with a full collection {collected / CELLS:.1f}, "

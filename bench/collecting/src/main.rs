@@ -1,4 +1,4 @@
-//! The same works as `jm_bench collect SIZE`, `minor-N SIZE` and `barrier SIZE`, in plain Rust: a copying
+//! The same works as `jm_bench collect SIZE`, `minor-N SIZE`, `barrier SIZE` and `allocate SIZE`, in plain Rust: a copying
 //! collector of the same duties over the same blocks. Forwarding words stand in a table beside, and the
 //! old blocks stay whole to the end. `memcpy SIZE` copies the live cells alone, as often.
 
@@ -333,6 +333,83 @@ fn noted(count: u32) -> usize {
     remembered.places.len()
 }
 
+/// A heap of so many cells: the young objects of one lane, up to a quarter of them, and the old ones.
+struct Heap {
+    limit: u64,
+    next: u64,
+    young: Store,
+    young_cells: u64,
+    tenured: Store,
+    tenured_cells: u64,
+}
+
+impl Heap {
+    /// Makes a node, the next one. A minor collection comes first where the young cells would pass the
+    /// quarter, a full one where all would pass the limit.
+    fn allocate(&mut self, roots: &mut [u64]) -> Option<u64> {
+        let cells = 4;
+        if self.young_cells + self.tenured_cells + cells > self.limit || self.young_cells + cells > self.limit / 4 {
+            self.make_room(cells, roots)?;
+        }
+        if self.next >= 1 << 63 {
+            return None;
+        }
+        let header = Header { serial: self.next, class: Class::Instance(1), age: 0 };
+        self.next += 1;
+        self.young_cells += cells;
+        Some(self.young.push(header, &[Value::Int(0), Value::Null]))
+    }
+
+    #[inline(never)]
+    fn make_room(&mut self, cells: u64, roots: &mut [u64]) -> Option<()> {
+        let young = std::mem::replace(&mut self.young, Store::new(1));
+        let tenured = std::mem::replace(&mut self.tenured, Store::new(2));
+        let (young, tenured, _) = if self.young_cells + self.tenured_cells + cells > self.limit {
+            collect(&[young, tenured], Store::new(2), roots)
+        } else {
+            collect(&[young], tenured, roots)
+        };
+        (self.young_cells, self.tenured_cells) = (young.cells(), tenured.cells());
+        (self.young, self.tenured) = (young, tenured);
+        (self.young_cells + self.tenured_cells + cells <= self.limit).then_some(())
+    }
+
+    fn store(&mut self, place: u64) -> &mut Store {
+        if lane_of(place) == 1 { &mut self.young } else { &mut self.tenured }
+    }
+
+    /// How many values the object at a place has.
+    fn length(&mut self, place: u64) -> u32 {
+        self.store(place).blocks[block_of(place)].entries[index_of(place)].length
+    }
+}
+
+/// Makes so many nodes, of which the last 64 are held, and adds up their ints.
+fn allocated(count: u32) -> i32 {
+    let mut heap =
+        Heap { limit: 65_536, next: 0, young: Store::new(1), young_cells: 0, tenured: Store::new(2), tenured_cells: 0 };
+    let mut roots = Vec::new();
+    for _ in 0..LISTS {
+        let place = heap.allocate(&mut roots).unwrap();
+        roots.push(place);
+    }
+    for number in 0..count {
+        let register = number as usize % LISTS;
+        let place = heap.allocate(&mut roots).unwrap();
+        roots[register] = place;
+        assert!(heap.length(place) > 0);
+        heap.store(place).set(place, 0, Value::Int(number as i32));
+    }
+    let mut sum = 0i32;
+    for place in roots {
+        let object = heap.store(place).blocks[block_of(place)].values(index_of(place));
+        if let Value::Int(number) = object[0] {
+            sum = sum.wrapping_add(number);
+        }
+    }
+    sum
+}
+
 fn main() {
     let words: Vec<String> = std::env::args().skip(1).collect();
     let size: u32 = words.get(1).and_then(|word| word.parse().ok()).unwrap_or(1);
@@ -344,6 +421,7 @@ fn main() {
         Some("minor-10") => println!("minor-10 {size} cells {}", minor(100_000, size)),
         Some("minor-100") => println!("minor-100 {size} cells {}", minor(1_000_000, size)),
         Some("barrier") => println!("barrier {size} places {}", noted(size)),
+        Some("allocate") => println!("allocate {size} sum {}", allocated(size)),
         _ => println!("no benchmark of that name"),
     }
 }

@@ -1,9 +1,12 @@
-// Making objects most of which are garbage, and marking those that are not.
+// Making objects most of which are garbage, over either heap, and marking those that are not.
 
 ghost use Rattle.std.specs.Prelude.{IfOk};
+ghost use Rattle.jm_values.specs.Content.{IsSound};
 ghost use Rattle.jm_mutator.specs.Ready.{IsReady};
 
-use jm_heap::{Kind, PlainHeap, Shape};
+use jm_copy::SerialCollector;
+use jm_gen_heap::GenHeap;
+use jm_heap::{Heap, Kind, PlainHeap, Shape};
 use jm_mutator::{Failure, Mutator};
 use jm_program::OperandType;
 use std::alloc::Global;
@@ -22,26 +25,35 @@ fn node<'a>() -> Shape<'a> {
     }
 }
 
-// A heap with so many objects in registers.
-#[tactic(auto, using(jm_mutator::proofs::ReadyLemmas::empty_sound))]
-fn held(alloc: Global, count: usize) -> Result<Mutator<PlainHeap>, Failure>
-    ensures { IfOk result (λ mutator. IsReady mutator.heap mutator.registers) }
+// So many objects in registers, over a heap.
+fn held<H: Heap + Drop>(alloc: Global, heap: H, count: usize) -> Result<Mutator<H>, Failure>
+    requires { IsSound (H.content heap) }
+    ensures { IfOk result (λ mutator. IsReady (H.content mutator.heap) mutator.registers) }
 {
-    let mut mutator = Mutator::new(alloc, PlainHeap::new(alloc, LIMIT));
+    let mut mutator = Mutator::new(alloc, heap);
     for _ in 0..count {
         mutator.make(node())?;
     }
     Ok(mutator)
 }
 
-/// Makes so many objects, of which the last 64 are held, and adds up their ints.
-pub fn garbage(alloc: Global, count: u32) -> Result<i32, Failure> {
-    let mut mutator = held(alloc, HELD)?;
+// Makes so many objects, of which the last 64 are held.
+fn make_garbage<H: Heap>(mutator: &mut Mutator<H>, count: u32) -> Result<(), Failure>
+    requires { IsReady (H.content mutator.old.heap) mutator.old.registers }
+    ensures { IsReady (H.content mutator.new.heap) mutator.new.registers }
+{
     for number in 0..count {
         let register = number as usize % HELD;
         mutator.make_again(register, node())?;
         mutator.set_int(register, 0, number.cast_signed())?;
     }
+    Ok(())
+}
+
+// The sum of the ints of the 64 objects that are held.
+fn sum_held<H: Heap>(mutator: &Mutator<H>) -> Result<i32, Failure>
+    requires { IsReady (H.content mutator.now.heap) mutator.now.registers }
+{
     let mut sum = 0i32;
     for register in 0..HELD {
         sum = sum.wrapping_add(mutator.int(register, 0)?);
@@ -49,9 +61,27 @@ pub fn garbage(alloc: Global, count: u32) -> Result<i32, Failure> {
     Ok(sum)
 }
 
+/// Makes so many objects in a plain heap, of which the last 64 are held, and adds up their ints.
+#[tactic(auto, using(jm_mutator::proofs::ReadyLemmas::empty_sound))]
+pub fn garbage(alloc: Global, count: u32) -> Result<i32, Failure> {
+    let mut mutator = held(alloc, PlainHeap::new(alloc, LIMIT), HELD)?;
+    make_garbage(&mut mutator, count)?;
+    sum_held(&mutator)
+}
+
+/// The same in a generational heap.
+#[tactic(auto, using(jm_mutator::proofs::ReadyLemmas::empty_sound))]
+pub fn allocated(alloc: Global, count: u32) -> Result<i32, Failure> {
+    let heap = GenHeap::new(alloc, LIMIT, SerialCollector)?;
+    let mut mutator = held(alloc, heap, HELD)?;
+    make_garbage(&mut mutator, count)?;
+    sum_held(&mutator)
+}
+
 /// Collects so often in a heap that a chain of objects fills, and counts what is left.
+#[tactic(auto, using(jm_mutator::proofs::ReadyLemmas::empty_sound))]
 pub fn marked(alloc: Global, count: u32) -> Result<u64, Failure> {
-    let mut mutator = held(alloc, 2)?;
+    let mut mutator = held(alloc, PlainHeap::new(alloc, LIMIT), 2)?;
     for _ in 0..LIMIT / 4 - 3 {
         mutator.make_again(1, node())?;
         mutator.link(1, 1, 0)?;

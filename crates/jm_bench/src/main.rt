@@ -53,6 +53,12 @@ fn print_heap(rt: &HostRuntime, which: &str, size: u32) -> Result<bool> {
             };
             println!(rt; "heap {size} sum {sum}")?;
         }
+        "allocate" => {
+            let Ok(sum) = heap::allocated(rt.alloc(), size) else {
+                bail!("the heap refused an object");
+            };
+            println!(rt; "allocate {size} sum {sum}")?;
+        }
         "mark" => {
             let Ok(cells) = heap::marked(rt.alloc(), size) else {
                 bail!("the heap refused an object");
