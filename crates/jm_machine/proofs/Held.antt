@@ -1,5 +1,6 @@
 -- Held monitors that are told one after the other.
-use Rattle.std.proofs.Common.{◌≡◌, ◌≢◌, ◌⊎◌, ℕ, List, [], ◌∷◌, ◌++◌, Option, Some, None, true, false, refl, sym, ap, ◌∙◌, subst, inl, inr, arith, append_assoc, append-nil}
+use Rattle.std.proofs.Common.{◌≡◌, ◌≢◌, ◌⊎◌, ℕ, List, [], ◌∷◌, ◌++◌, Option, Some, None, true, false, refl, sym, ap, ◌∙◌, subst, inl, inr, arith}
+use Rattle.std.proofs.Common.{append_assoc, append-nil}
 use Rattle.std.specs.Prelude.{map, nat_eq}
 use Rattle.std.proofs.lemmas.Bool.Decides.{eqb_tells}
 use Rattle.std.proofs.lemmas.List.{map-append}
@@ -31,8 +32,10 @@ pub record ToldBefore (hs : List HeldMonitor) (told : List WorldMonitor) (places
 pub none_told : (hs : List HeldMonitor) (told : List WorldMonitor) (left : List ℕ) → told ≡ [] → left ≡ places_of_held hs → ToldBefore hs told left
 none_told hs told left none all = record { before = []; after = hs; whole = refl; same = ap (map model_monitor) none; left = sym all }
 
-pub all_told : (hs : List HeldMonitor) (told : List WorldMonitor) (left : List ℕ) → ToldBefore hs told left → left ≡ [] → map model_monitor told ≡ monitors_of hs
-all_told hs told left t none = t.same ∙ ap monitors_of (sym (append-nil t.before) ∙ ap (λ hs. t.before ++ hs) (sym (no_more t.after (t.left ∙ none))) ∙ t.whole)
+pub all_told : (hs : List HeldMonitor) (told : List WorldMonitor) (left : List ℕ) → ToldBefore hs told left → left ≡ []
+    → map model_monitor told ≡ monitors_of hs
+all_told hs told left t none =
+    t.same ∙ ap monitors_of (sym (append-nil t.before) ∙ ap (λ hs. t.before ++ hs) (sym (no_more t.after (t.left ∙ none))) ∙ t.whole)
   where
     no_more : (hs : List HeldMonitor) → places_of_held hs ≡ [] → hs ≡ []
     no_more [] e = refl
@@ -91,7 +94,8 @@ place_among : (before after : List HeldMonitor) (h : HeldMonitor) → Among h.pl
 place_among [] after h = inl refl
 place_among (x ∷ before) after h = inr (place_among before after h)
 
-module _ {T : Type 0} (c : Content T) (hs : List HeldMonitor) (told : List WorldMonitor) (p : ℕ) (rest left : List ℕ) (t : ToldBefore hs told left) (split : left ≡ p ∷ rest) where
+module _ {T : Type 0} (c : Content T) (hs : List HeldMonitor) (told : List WorldMonitor) (p : ℕ) (rest left : List ℕ) (t : ToldBefore hs told left)
+    (split : left ≡ p ∷ rest) where
   next : IsNext t.after p rest
   next = next_is t.after p rest (t.left ∙ split)
 
@@ -99,7 +103,9 @@ module _ {T : Type 0} (c : Content T) (hs : List HeldMonitor) (told : List World
   parted = sym t.whole ∙ ap (λ xs. t.before ++ xs) next.is
 
   pub place_resident : AllResident c (places_of_held hs) → (k : ℕ) × (serial_at c p ≡ Some k)
-  place_resident all = all p (subst (λ xs. Among p (places_of_held xs)) (sym parted) (subst (λ n. Among n (places_of_held (t.before ++ next.held ∷ next.after))) next.place (place_among t.before next.after next.held)))
+  place_resident all =
+      let here = subst (λ n. Among n (places_of_held (t.before ++ next.held ∷ next.after))) next.place (place_among t.before next.after next.held) in
+      all p (subst (λ xs. Among p (places_of_held xs)) (sym parted) here)
 
   module _ (named : AreNamed c hs) (are : AreHeld hs) (k : ℕ) (lies : serial_at c p ≡ Some k) where
     serial_is : next.held.serial ≡ k

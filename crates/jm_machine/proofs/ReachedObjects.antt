@@ -1,5 +1,6 @@
 -- Objects at places in order beside those that a world reaches.
-use Rattle.std.proofs.Common.{◌≡◌, ◌≢◌, ◌⊎◌, ◌↔◌, ℕ, suc, ◌+◌, ◌-◌, ◌<◌, ◌≤◌, List, [], ◌∷◌, Option, Some, Bool, true, false, cond, refl, sym, ap, ◌∙◌, subst, inl, inr, length, arith}
+use Rattle.std.proofs.Common.{◌≡◌, ◌≢◌, ◌⊎◌, ◌↔◌, ℕ, suc, ◌+◌, ◌-◌, ◌<◌, ◌≤◌, List, [], ◌∷◌, Option, Some, Bool, true, false, cond, refl, sym, ap}
+use Rattle.std.proofs.Common.{◌∙◌, subst, inl, inr, length, arith}
 use Rattle.std.specs.Prelude.{map, nat_eq, nat_lt, slice_get, sum_by, option_map, if◌then◌else◌}
 use Rattle.std.specs.List.{AllByRecursion}
 use Rattle.std.specs.List.Sorted.{IsStrictlySortedBy}
@@ -127,7 +128,8 @@ module _ (f : ℕ → Object) (ns : List ℕ) where
   listed k [] (j ∷ js) p = let low = p.from j (inl refl) in let high = p.to j (inl refl) in absurd (omega arith)
   listed k (o ∷ os) ks p = by (is_among k ns) refl ks p (λ js q. listed (k + 1) os js q)
     where
-      by : (b : Bool) → is_among k ns ≡ b → (js : List ℕ) → IsPart k (o ∷ os) js → ((is : List ℕ) → IsPart (k + 1) os is → numbered f is ≡ numbered_among ns (k + 1) os)
+      by : (b : Bool) → is_among k ns ≡ b → (js : List ℕ) → IsPart k (o ∷ os) js
+          → ((is : List ℕ) → IsPart (k + 1) os is → numbered f is ≡ numbered_among ns (k + 1) os)
           → numbered f js ≡ (if b then (k, o) ∷ numbered_among ns (k + 1) os else numbered_among ns (k + 1) os)
       by true e [] q later = absurd ((q.same k (omega arith)).1 (among_from_test k ns e))
       by true e (j ∷ js) q later =

@@ -57,7 +57,8 @@ impl<'a, H: Heap> WorldObjects<'a, H> {
 
     /// The object of an index, from 0, with its number, if there is one.
     pub fn get(&self, index: usize) -> Option<NumberedObject<'a, H>>
-        ensures object { MatchOption result (slice_get self.now.objects index ≡ None) (λ found. slice_get self.now.objects index ≡ Some (found.number, found.object.object)) }
+        ensures object { MatchOption result (slice_get self.now.objects index ≡ None)
+            (λ found. slice_get self.now.objects index ≡ Some (found.number, found.object.object)) }
         ensures program { IfSome result (λ found. found.object.program ≡ self.now.program) }
     {
         let place = *self.places.get(index)?;

@@ -1,6 +1,7 @@
 // The journal.
 
-ghost use Rattle.std.specs.Prelude.{◌≡◌, ◌+◌, ◌<◌, ◌≤◌, ◌^◌, ◌++◌, ◌∷◌, [], length, map, slice_get, take, vec_capacity, vec_len, IsTrue, IfErr, IfOk, OnErr, OnOk, MatchResult};
+ghost use Rattle.std.specs.Prelude.{◌≡◌, ◌+◌, ◌<◌, ◌≤◌, ◌^◌, ◌++◌, ◌∷◌, [], length, map, slice_get, take, vec_capacity, vec_len, IsTrue, IfErr, IfOk};
+ghost use Rattle.std.specs.Prelude.{OnErr, OnOk, MatchResult};
 ghost use Rattle.jm_world.specs.World.{World};
 ghost use Rattle.jm_world.specs.Run.{after, reply, run_from};
 ghost use Rattle.jm_world.specs.declared.reply.ReplyKind.TheVariants.{Done};

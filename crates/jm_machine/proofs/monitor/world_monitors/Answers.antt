@@ -18,7 +18,8 @@ serial-object-requires g c =
 pub loop-place-preserved-in_default : goal.loop-place-preserved-in_default
 loop-place-preserved-in_default g c =
     absurd (not_none (g.H.Heap.content c.args.heap.now) c.args.monitors.now c.loop-place.told.items c.in-Some.place c.next.new.self c.loop-place.place-iterator
-    c.loop-place.invariant.told c.in-Some.ensures.steps c.requires.named c.len.ensures.held c.serial-object.result c.serial-object.ensures c.in_default.ensures.held)
+    c.loop-place.invariant.told c.in-Some.ensures.steps c.requires.named c.len.ensures.held c.serial-object.result c.serial-object.ensures
+    c.in_default.ensures.held)
 
 pub loop-place-preserved : goal.loop-place-preserved
 loop-place-preserved g c = record {

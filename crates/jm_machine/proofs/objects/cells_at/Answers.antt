@@ -31,4 +31,6 @@ loop-place-preserved g c =
     omega arith
 
 pub returns : goal.returns
-returns g c = c.loop-place.invariant ∙ cells_told c.args.linked.now (g.H.Heap.content c.args.heap.now) c.args.places.now c.loop-place.place-index c.loop-place-test.false
+returns g c =
+    c.loop-place.invariant
+    ∙ cells_told c.args.linked.now (g.H.Heap.content c.args.heap.now) c.args.places.now c.loop-place.place-index c.loop-place-test.false
