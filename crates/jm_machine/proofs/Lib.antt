@@ -16,3 +16,8 @@ pub mod Parted
 pub mod Told
 pub mod Reading
 pub mod Collected
+pub mod Marked
+pub mod ReachedObjects
+pub mod ObjectCells
+pub mod Held
+pub mod ManySteps

@@ -16,7 +16,7 @@ use Rattle.jm_world.specs.World.{World, Monitor, thread_at, object_at, reach}
 use Rattle.jm_world.proofs.Reaching.{reach_is_least}
 use Rattle.jm_heap.specs.declared.class_id.ClassId.{ClassId}
 use Rattle.jm_linked.specs.Links.{LinkedView}
-use Rattle.jm_monitors.specs.HeldMonitors.{HeldMonitor, held_in, monitor_of, monitors_of}
+use Rattle.jm_monitors.specs.HeldMonitors.{HeldMonitor, held_in, held_shape, monitor_of, monitors_of}
 use Rattle.jm_monitors.proofs.InTheModel.{held_is_monitor}
 use Rattle.jm_state.specs.Parts.{parts, monitor_part, frame_part, thread_part, named_type}
 use Rattle.jm_state.specs.Places.{HeldThread, stack_frame_shape, live_object, held_thread, held_thread_shape, places_of}
@@ -25,6 +25,7 @@ use Rattle.jm_state.specs.declared.thread.StackFrame.{StackFrame}
 use Rattle.jm_state.specs.declared.thread.Thread as held
 use Rattle.jm_state.proofs.Made.{all_resident}
 use Rattle.jm_state.specs.View.{StateView}
+use Rattle.jm_machine.specs.Held.{AreNamed}
 use Rattle.jm_machine.specs.Readers.{TellsObject, frame_at, pending_of}
 use Rattle.jm_machine.specs.Seen.{ObjectView, object_seen, statics_seen, view_of_object}
 use Rattle.jm_machine.specs.Threads.{thread_numbered, frame_below, frame_numbered, pending_in, pending_numbered}
@@ -71,6 +72,11 @@ same_monitors f (h ∷ hs) e =
     let rest : map (λ (x : HeldMonitor). x.serial) hs ≡ map (λ (x : Monitor). x.object) ((list_shape monitor_shape).rename f (map monitor_part hs)) = cc in
     λ i. record { object = first i; owner = h.owner; count = h.count } ∷ same_monitors f hs rest i
 
+names_renamed : (f : ℕ → ℕ) (hs : List HeldMonitor)
+    → map (λ (x : Monitor). x.object) ((list_shape monitor_shape).rename f (map monitor_part hs)) ≡ map (λ (h : HeldMonitor). f h.place) hs
+names_renamed f [] = refl
+names_renamed f (h ∷ hs) = ap (λ ks. f h.place ∷ ks) (names_renamed f hs)
+
 module _ (l : LinkedView) (c : Content ClassId) (v : StateView) (w : World) (m : Matches (parts l c v) w) where
   frames_read : (n depth : ℕ) → frame_at (thread_at w n) depth ≡ option_map (rename_frame (name_of c)) (option_map (frame_part l) (frame_numbered v.threads n depth))
   frames_read n depth = ap (λ u. frame_at u depth) (thread_is l c v w m n) ∙ by (thread_numbered v.threads n)
@@ -98,7 +104,11 @@ module _ (l : LinkedView) (c : Content ClassId) (v : StateView) (w : World) (m :
   unfolding parts
   statics_read = m.statics
 
-  monitors_are : monitors_of v.monitors ≡ w.monitors
+  pub monitors_named : AreNamed c v.monitors
+  unfolding parts
+  monitors_named = m.monitor_serials ∙ ap (map (λ (x : Monitor). x.object)) (sym m.monitors) ∙ names_renamed (name_of c) v.monitors
+
+  pub monitors_are : monitors_of v.monitors ≡ w.monitors
   unfolding parts
   monitors_are =
       same_monitors (name_of c) v.monitors (m.monitor_serials ∙ ap (map (λ (x : Monitor). x.object)) (sym m.monitors)) ∙ m.monitors
@@ -111,7 +121,7 @@ module _ (l : LinkedView) (c : Content ClassId) (v : StateView) (w : World) (m :
   unfolding parts
   is_sound = m.sound
 
-  object_read : (k p : ℕ) → Among k (reach w) → serial_at c p ≡ Some k → object_at w k ≡ Some (object_seen l c p)
+  pub object_read : (k p : ℕ) → Among k (reach w) → serial_at c p ≡ Some k → object_at w k ≡ Some (object_seen l c p)
   unfolding parts
   object_read k p a e =
       let there = object l c p m.sound (k, e) in
@@ -144,6 +154,12 @@ module _ (l : LinkedView) (c : Content ClassId) (v : StateView) (w : World) (m :
     pending_resident n p e =
         let f = pending_found (thread_numbered v.threads n) p e in
         thread_resident n f.0 f.1 p (among_right p (optional_number_shape.refs (live_object f.0.ending f.0.object)) _ (among_left p (optional_number_shape.refs f.0.pending) ((list_shape stack_frame_shape).refs (reverse f.0.frames.items)) (subst (λ (x : Option ℕ). Among p (optional_number_shape.refs x)) (sym f.2) (inl refl))))
+
+    pub monitors_resident : AllResident c ((list_shape held_shape).refs v.monitors)
+    unfolding places_of
+    monitors_resident = λ p a.
+        all_here p (among_right p ((list_shape held_thread_shape).refs (map held_thread v.threads)) _
+        (among_right p (stack_shape.refs v.statics) _ (among_left p ((list_shape held_shape).refs v.monitors) _ a)))
 
     pub statics_resident : AllResident c (stack_shape.refs v.statics)
     unfolding places_of

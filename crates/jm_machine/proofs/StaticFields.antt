@@ -1,6 +1,6 @@
 -- The static fields of a program, their names and the values with which they begin.
-use Rattle.std.proofs.Common.{◌≡◌, ℕ, zero, suc, List, [], ◌∷◌, ◌++◌, Option, Some, None, refl, sym, ap, ◌∙◌, length, arith}
-use Rattle.std.specs.Prelude.{map, slice_get, option_map}
+use Rattle.std.proofs.Common.{◌≡◌, ℕ, zero, suc, List, [], ◌∷◌, ◌++◌, Some, refl, sym, ap, ◌∙◌, length}
+use Rattle.std.specs.Prelude.{map, slice_get}
 use Rattle.std.specs.List.{AllByRecursion, flat_map}
 use Rattle.std.proofs.lemmas.List.{map-append, length-map}
 use Rattle.jm_program.specs.declared.class.ClassParts.{ClassParts}
@@ -8,7 +8,7 @@ use Rattle.jm_program.specs.declared.class.Field.{Field}
 use Rattle.jm_program.specs.declared.instruction.operation.OperandType.{OperandType}
 use Rattle.jm_program.specs.declared.instruction.operation.OperandType.TheVariants as operand
 use Rattle.jm_values.specs.Objects.{default_of}
-use Rattle.jm_values.specs.Rename.{rename, refs, value_shape, stack_shape}
+use Rattle.jm_values.specs.Rename.{rename, refs}
 use Rattle.jm_values.specs.Shape.{list_shape}
 use Rattle.jm_values.specs.declared.value.Value.{Value}
 use Rattle.jm_values.specs.declared.value.Value.TheVariants.{Ref}

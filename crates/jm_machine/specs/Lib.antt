@@ -9,4 +9,8 @@ pub mod FirstObjects
 pub mod Start
 pub mod MethodFrames
 pub mod Seen
+pub mod Held
+pub mod Marked
+pub mod ReachedObjects
 pub mod Readers
+pub mod ManySteps

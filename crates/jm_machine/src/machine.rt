@@ -1,12 +1,14 @@
 // The machine.
 
-ghost use Rattle.std.specs.Prelude.{◌≡◌, ℕ, List, MatchResult, OnOk, MatchOption, Some, None, take, length, option_map, IfSome, IfOk, IfErr, ◌≤◌};
+ghost use Rattle.std.specs.Prelude.{◌≡◌, ℕ, List, MatchResult, OnOk, MatchOption, Some, None, take, length, option_map, IfSome, IfOk, IfErr, ◌≤◌, map};
 ghost use Rattle.jm_world.specs.Monitors.{monitor_in};
 ghost use Rattle.jm_world.specs.World.{World, live_among, thread_at};
 ghost use Rattle.jm_world.specs.Run.{after, run_from, replies_from};
 ghost use Rattle.jm_state.specs.Reached.{AreReachable};
 ghost use Rattle.jm_machine.specs.Collected.{LeavesAfter};
 ghost use Rattle.jm_machine.specs.Readers.{model_frame, model_monitor, frame_at, pending_of, IsOfProgram, TellsObject};
+ghost use Rattle.jm_machine.specs.ReachedObjects.{TellsReached};
+ghost use Rattle.jm_machine.specs.ManySteps.{AreSteps, EndsBy};
 ghost use Rattle.jm_machine.specs.Threads.{class_ended_by, is_live};
 ghost use Rattle.jm_machine.specs.View.{MatchesWorld};
 
@@ -15,15 +17,18 @@ use crate::event::{ending_of, make_event, reply_of};
 use crate::fault::{Interrupted, LoadFault, OutOfMemory};
 use crate::frame::{WorldFrame, world_frame};
 use crate::load::{is_too_small, make_first_state};
-use crate::monitor::WorldMonitor;
+use crate::monitor::{WorldMonitor, world_monitors};
 use crate::object::WorldObject;
+use crate::objects::WorldObjects;
+use crate::reached::reached_places;
 use crate::statics::WorldStatics;
+use crate::steps::{Steps, StepsEnd};
 use crate::thread::{frame_of, pending_of};
 use jm_heap::Heap;
 use jm_linked::Linked;
 use jm_program::Class;
 use jm_state::{Ending, State, find_reachable, reachable};
-use jm_world::{Event, Reply, Stop};
+use jm_world::{Event, Reply, ReplyKind, Stop};
 use std::alloc::Global;
 use std::marker::Model;
 
@@ -98,6 +103,38 @@ impl<H: Heap> Machine<H> {
         ensures leaves { (w : World) → MatchesWorld self.old w → OnOk result (LeavesAfter event self.new.content w) }
     {
         self.step_at(0, event)
+    }
+
+    /// Makes steps of one thread, one after the other, at most so many; objects that they make are
+    /// made in the nursery of that number. They end before that only by a step that answers
+    /// otherwise than done, or makes or ends a thread, which is made, or where a growth was refused;
+    /// the machine is where the steps that were made lead.
+    pub fn step_many(&mut self, nursery: usize, thread: u64, most: usize) -> Steps
+        ensures steps { (w : World) → MatchesWorld self.old w → AreSteps w thread self.new result }
+        ensures ends { EndsBy most result }
+    {
+        let reply = reply_of(&self.state, ReplyKind::Done);
+        for alike in 0..most {
+            let Ok(next) = self.step_at(nursery, Event::Step(thread)) else {
+                return Steps {
+                    alike,
+                    reply,
+                    end: StepsEnd::OutOfMemory,
+                };
+            };
+            if next != reply {
+                return Steps {
+                    alike,
+                    reply,
+                    end: StepsEnd::Other(next),
+                };
+            }
+        }
+        Steps {
+            alike: most,
+            reply,
+            end: StepsEnd::AllMade,
+        }
     }
 
     /// Makes events, one after the other, and answers their replies. `Interrupted`: a growth was
@@ -238,6 +275,28 @@ impl<H: Heap> Machine<H> {
                 Ok(Some(object))
             }
             Ok(None) => Ok(None),
+            Err(_) => Err(OutOfMemory),
+        }
+    }
+
+    /// The objects that are reachable (JVMS 2.5.3), each with its number, in the order of the
+    /// numbers. It looks at each of them once. `OutOfMemory`: a growth was refused.
+    pub fn objects(&self) -> Result<WorldObjects<'_, H>, OutOfMemory>
+        ensures { (w : World) → MatchesWorld self.now w → IfOk result (TellsReached w) }
+    {
+        match reached_places(self.alloc, &self.linked, &self.state) {
+            Ok(places) => Ok(WorldObjects::new(&self.state.heap, &self.linked, places)),
+            Err(_) => Err(OutOfMemory),
+        }
+    }
+
+    /// The monitors that threads hold (JVMS 2.11.10), in the order of the numbers of their objects.
+    /// `OutOfMemory`: a growth was refused.
+    pub fn monitors(&self) -> Result<Vec<WorldMonitor>, OutOfMemory>
+        ensures { (w : World) → MatchesWorld self.now w → IfOk result (λ monitors. map model_monitor monitors.items ≡ w.monitors) }
+    {
+        match world_monitors(self.alloc, &self.state.heap, &self.state.monitors) {
+            Ok(monitors) => Ok(monitors),
             Err(_) => Err(OutOfMemory),
         }
     }

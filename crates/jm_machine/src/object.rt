@@ -3,6 +3,7 @@
 ghost use Rattle.std.specs.Prelude.{◌≡◌, ℕ, length, option_map, slice_get, Some};
 ghost use Rattle.jm_values.specs.Content.{IsSound, serial_at};
 ghost use Rattle.jm_world.specs.Types.{instance_of};
+ghost use Rattle.jm_world.specs.Objects.{size};
 ghost use Rattle.jm_linked.specs.Links.{class_name_of};
 ghost use Rattle.jm_state.specs.Parts.{named_type, element_named};
 ghost use Rattle.jm_machine.specs.DeclaredFields.{name_of_declared};
@@ -97,6 +98,19 @@ impl<'a, H: Heap> WorldObject<'a, H> {
         ensures { result ≡ length self.now.object.values }
     {
         self.heap.length(self.place)
+    }
+
+    /// The cells that it takes: an instance 2 and one for each field, an array 3 and one for each
+    /// element, where a long is one.
+    #[tactic(auto, unfolding(jm_world::specs::Objects::size_of))]
+    pub fn cells(&self) -> u64
+        ensures { result ≡ size self.now.object }
+    {
+        let length = u64::from(self.length());
+        match self.kind() {
+            ObjectKind::Instance { .. } => 2 + length,
+            ObjectKind::Array { .. } => 3 + length,
+        }
     }
 
     /// The value of a field, of those of the topmost superclass first, in a class as declared, or

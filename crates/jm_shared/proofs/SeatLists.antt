@@ -1,15 +1,22 @@
 -- The receipts of a seat, and seats in order, as lists.
-use Rattle.std.proofs.Common.{◌≡◌, ◌≢◌, ℕ, zero, suc, ◌+◌, ◌-◌, ◌<◌, ◌≤◌, ◌==◌, Bool, true, false, cond, eq-eqb, ne_eqb, List, [], ◌∷◌, ◌++◌, map, length}
+use Rattle.std.proofs.Common.{◌≡◌, ◌≢◌, ℕ, zero, suc, ◌+◌, ◌-◌, ◌<◌, ◌≤◌, ◌==◌, Bool, true, false, cond, eq-eqb, ne_eqb, List, [], ◌∷◌, ◌++◌, map}
+use Rattle.std.proofs.Common.{length, replicate}
 use Rattle.std.proofs.Common.{refl, sym, ap, ◌∙◌, subst, arith, append_assoc, append-nil}
 use mathlib.Core.Logic.{dite}
 use native.Mathlib.Decide.{ℕ_discrete}
 use Rattle.std.specs.List.{All}
-use Rattle.std.proofs.lemmas.List.Elements.{All-nil, All-cons, All-head, All-tail, All-weaker}
+use Rattle.std.proofs.lemmas.List.Elements.{All-nil, All-cons, All-head, All-tail, All-append, All-weaker}
+use Rattle.jm_world.specs.declared.event.Event.{Event}
+use Rattle.jm_world.specs.declared.event.Event.TheVariants.{Step}
+use Rattle.jm_world.specs.declared.reply.Reply.{Reply}
+use Rattle.jm_machine.specs.ManySteps.{other_replies}
 use Rattle.jm_forward.proofs.Totals.{one_at_same, one_at_other}
 use Rattle.jm_shared.specs.declared.entry.Entry.{Entry}
 use Rattle.jm_shared.specs.declared.entry.Receipt.{Receipt}
+use Rattle.jm_shared.specs.declared.entry.Receipts.{Receipts}
 use Rattle.jm_shared.specs.declared.rule.Hand.{Hand}
-use Rattle.jm_shared.specs.Legal.{receipt_of}
+use Rattle.jm_shared.specs.Legal.{entry_of, receipt_of}
+use Rattle.jm_shared.specs.ManyTurns.{entries_of_turns, receipts_from}
 use Rattle.jm_shared.specs.Seats.{of_seat, hand, fresh_hands, times}
 use Rattle.jm_shared.specs.SeatRule.{IsOf, noted}
 
@@ -28,6 +35,29 @@ of_seat-append k n (e ∷ es) fs =
 
 pub of_seat_own : (k n : ℕ) (e : Entry) → k ≡ e.seat → of_seat k n (e ∷ []) ≡ receipt_of n e ∷ []
 of_seat_own k n e is = ap (λ b. cond b (receipt_of n e ∷ []) []) (eq-eqb k e.seat is)
+
+-- those of entries that are all its own
+pub of_seat_all : (k n : ℕ) (es : List Entry) → All (λ (e : Entry). e.seat ≡ k) es → of_seat k n es ≡ receipts_from n es
+of_seat_all k n [] own = refl
+of_seat_all k n (e ∷ es) own =
+    ap (λ b. cond b (receipt_of n e ∷ of_seat k (n + 1) es) (of_seat k (n + 1) es)) (eq-eqb k e.seat (sym (All-head (λ (x : Entry). x.seat ≡ k) e es own)))
+    ∙ ap (λ rs. receipt_of n e ∷ rs) (of_seat_all k (n + 1) es (All-tail (λ (x : Entry). x.seat ≡ k) e es own))
+
+-- the entries of turns are all of their seat
+replicate_of_seat : (k n : ℕ) (e : Entry) → e.seat ≡ k → All (λ (x : Entry). x.seat ≡ k) (replicate n e)
+replicate_of_seat k zero e is = All-nil (λ (x : Entry). x.seat ≡ k)
+replicate_of_seat k (suc n) e is = All-cons (λ (x : Entry). x.seat ≡ k) e (replicate n e) is (replicate_of_seat k n e is)
+
+told_of_seat : (k : ℕ) (event : Event) (rs : List Reply) → All (λ (x : Entry). x.seat ≡ k) (map (entry_of k event) rs)
+told_of_seat k event [] = All-nil (λ (x : Entry). x.seat ≡ k)
+told_of_seat k event (r ∷ rs) = All-cons (λ (x : Entry). x.seat ≡ k) (entry_of k event r) (map (entry_of k event) rs) refl (told_of_seat k event rs)
+
+pub turns_of_seat : (t : Receipts) → All (λ (x : Entry). x.seat ≡ t.seat) (entries_of_turns t)
+turns_of_seat t =
+    All-append (λ (x : Entry). x.seat ≡ t.seat) (replicate t.steps.alike (entry_of t.seat (Step t.thread) t.steps.reply))
+    (map (entry_of t.seat (Step t.thread)) (other_replies t.steps.end))
+    (replicate_of_seat t.seat t.steps.alike (entry_of t.seat (Step t.thread) t.steps.reply) refl)
+    (told_of_seat t.seat (Step t.thread) (other_replies t.steps.end))
 
 of_seat_others : (k n : ℕ) (es : List Entry) → All (λ (e : Entry). k ≢ e.seat) es → of_seat k n es ≡ []
 of_seat_others k n [] others = refl

@@ -1,4 +1,4 @@
--- Stretches with one turn more, and the entry of a number.
+-- Stretches with more turns, and the entry of a number.
 use Rattle.std.proofs.Common.{◌≡◌, ℕ, zero, suc, ◌+◌, ◌-◌, ◌≤◌, ◌<◌, List, [], ◌∷◌, ◌++◌, refl, sym, ap, subst, ◌∙◌, replicate, append_assoc, append-nil, length, arith, Some, None}
 use Rattle.std.specs.Prelude.{slice_get, slice_index_or}
 use Rattle.std.specs.List.Sorted.{IsNonDecreasingBy}
@@ -18,54 +18,62 @@ pub empty_rises : (ss : List Stretch) (c : Stretch) → ss ≡ [] → Rises ss c
 unfolding Rises
 empty_rises ss c none = subst (λ xs. RisesFrom 0 (xs ++ c ∷ [])) (sym none) (omega arith, tt)
 
--- ---- one turn more of the last stretch
+-- ---- more turns of the last stretch
 
-more_from : (start : ℕ) (ss : List Stretch) (c d : Stretch) → RisesFrom start (ss ++ c ∷ []) → entry_in c ≡ entry_in d → d.end ≡ c.end + 1 → entries_from start (ss ++ d ∷ []) ≡ entries_from start (ss ++ c ∷ []) ++ entry_in d ∷ []
-more_from start [] c d rises same end =
-    let size : d.end - start ≡ (c.end - start) + 1 = let low = rises.0 in omega arith in
+more_from : (start : ℕ) (ss : List Stretch) (c d : Stretch) (n : ℕ) → RisesFrom start (ss ++ c ∷ []) → entry_in c ≡ entry_in d → d.end ≡ c.end + n
+    → entries_from start (ss ++ d ∷ []) ≡ entries_from start (ss ++ c ∷ []) ++ replicate n (entry_in d)
+more_from start [] c d n rises same end =
+    let size : d.end - start ≡ (c.end - start) + n = let low = rises.0 in omega arith in
     append-nil (replicate (d.end - start) (entry_in d))
-    ∙ ap (λ n. replicate n (entry_in d)) size
-    ∙ sym (replicate-append-replicate (c.end - start) 1 (entry_in d))
-    ∙ ap (λ e. replicate (c.end - start) e ++ entry_in d ∷ []) (sym same)
-    ∙ ap (λ es. es ++ entry_in d ∷ []) (sym (append-nil (replicate (c.end - start) (entry_in c))))
-more_from start (s ∷ ss) c d rises same end =
-    ap (λ es. replicate (s.end - start) (entry_in s) ++ es) (more_from s.end ss c d rises.1 same end)
-    ∙ sym (append_assoc (replicate (s.end - start) (entry_in s)) (entries_from s.end (ss ++ c ∷ [])) (entry_in d ∷ []))
+    ∙ ap (λ k. replicate k (entry_in d)) size
+    ∙ sym (replicate-append-replicate (c.end - start) n (entry_in d))
+    ∙ ap (λ e. replicate (c.end - start) e ++ replicate n (entry_in d)) (sym same)
+    ∙ ap (λ es. es ++ replicate n (entry_in d)) (sym (append-nil (replicate (c.end - start) (entry_in c))))
+more_from start (s ∷ ss) c d n rises same end =
+    ap (λ es. replicate (s.end - start) (entry_in s) ++ es) (more_from s.end ss c d n rises.1 same end)
+    ∙ sym (append_assoc (replicate (s.end - start) (entry_in s)) (entries_from s.end (ss ++ c ∷ [])) (replicate n (entry_in d)))
 
 rises_more : (start : ℕ) (ss : List Stretch) (c d : Stretch) → RisesFrom start (ss ++ c ∷ []) → c.end ≤ d.end → RisesFrom start (ss ++ d ∷ [])
 rises_more start [] c d rises end = (let low = rises.0 in omega arith, tt)
 rises_more start (s ∷ ss) c d rises end = (rises.0, rises_more s.end ss c d rises.1 end)
 
-pub one_more : (ss : List Stretch) (c d : Stretch) → Rises ss c → entry_in c ≡ entry_in d → d.end ≡ c.end + 1 → entries_of ss d ≡ entries_of ss c ++ entry_in d ∷ []
+pub some_more : (ss : List Stretch) (c d : Stretch) (n : ℕ) → Rises ss c → entry_in c ≡ entry_in d → d.end ≡ c.end + n
+    → entries_of ss d ≡ entries_of ss c ++ replicate n (entry_in d)
 unfolding entries_of Rises
-one_more ss c d rises same end = more_from 0 ss c d rises same end
+some_more ss c d n rises same end = more_from 0 ss c d n rises same end
 
-pub still_rises : (ss : List Stretch) (c d : Stretch) → Rises ss c → d.end ≡ c.end + 1 → Rises ss d
+pub still_rises : (ss : List Stretch) (c d : Stretch) (n : ℕ) → Rises ss c → d.end ≡ c.end + n → Rises ss d
 unfolding Rises
-still_rises ss c d rises end = rises_more 0 ss c d rises (omega arith)
+still_rises ss c d n rises end = rises_more 0 ss c d rises (omega arith)
 
--- ---- a new stretch of one turn
+pub none_more : (ss : List Stretch) (c : Stretch) (e : Entry) (n : ℕ) → n ≡ 0 → entries_of ss c ≡ entries_of ss c ++ replicate n e
+none_more ss c e n none = sym (append-nil (entries_of ss c)) ∙ ap (λ k. entries_of ss c ++ replicate k e) (sym none)
 
-new_from : (start : ℕ) (ss : List Stretch) (c d : Stretch) → d.end ≡ c.end + 1 → entries_from start ((ss ++ c ∷ []) ++ d ∷ []) ≡ entries_from start (ss ++ c ∷ []) ++ entry_in d ∷ []
-new_from start [] c d end =
-    let one : d.end - c.end ≡ 1 = omega arith in
-    ap (λ n. replicate (c.end - start) (entry_in c) ++ (replicate n (entry_in d) ++ [])) one
-    ∙ ap (λ es. es ++ entry_in d ∷ []) (sym (append-nil (replicate (c.end - start) (entry_in c))))
-new_from start (s ∷ ss) c d end =
-    ap (λ es. replicate (s.end - start) (entry_in s) ++ es) (new_from s.end ss c d end)
-    ∙ sym (append_assoc (replicate (s.end - start) (entry_in s)) (entries_from s.end (ss ++ c ∷ [])) (entry_in d ∷ []))
+-- ---- a new stretch
+
+new_from : (start : ℕ) (ss : List Stretch) (c d : Stretch) (n : ℕ) → d.end ≡ c.end + n
+    → entries_from start ((ss ++ c ∷ []) ++ d ∷ []) ≡ entries_from start (ss ++ c ∷ []) ++ replicate n (entry_in d)
+new_from start [] c d n end =
+    let size : d.end - c.end ≡ n = omega arith in
+    ap (λ k. replicate (c.end - start) (entry_in c) ++ (replicate k (entry_in d) ++ [])) size
+    ∙ ap (λ es. replicate (c.end - start) (entry_in c) ++ es) (append-nil (replicate n (entry_in d)))
+    ∙ ap (λ es. es ++ replicate n (entry_in d)) (sym (append-nil (replicate (c.end - start) (entry_in c))))
+new_from start (s ∷ ss) c d n end =
+    ap (λ es. replicate (s.end - start) (entry_in s) ++ es) (new_from s.end ss c d n end)
+    ∙ sym (append_assoc (replicate (s.end - start) (entry_in s)) (entries_from s.end (ss ++ c ∷ [])) (replicate n (entry_in d)))
 
 rises_new : (start : ℕ) (ss : List Stretch) (c d : Stretch) → RisesFrom start (ss ++ c ∷ []) → c.end ≤ d.end → RisesFrom start ((ss ++ c ∷ []) ++ d ∷ [])
 rises_new start [] c d rises end = (rises.0, (end, tt))
 rises_new start (s ∷ ss) c d rises end = (rises.0, rises_new s.end ss c d rises.1 end)
 
-pub one_new : (ss ts : List Stretch) (c d : Stretch) → ts ≡ ss ++ c ∷ [] → d.end ≡ c.end + 1 → entries_of ts d ≡ entries_of ss c ++ entry_in d ∷ []
+pub some_new : (ss ts : List Stretch) (c d : Stretch) (n : ℕ) → ts ≡ ss ++ c ∷ [] → d.end ≡ c.end + n
+    → entries_of ts d ≡ entries_of ss c ++ replicate n (entry_in d)
 unfolding entries_of
-one_new ss ts c d is end = ap (λ xs. entries_from 0 (xs ++ d ∷ [])) is ∙ new_from 0 ss c d end
+some_new ss ts c d n is end = ap (λ xs. entries_from 0 (xs ++ d ∷ [])) is ∙ new_from 0 ss c d n end
 
-pub new_rises : (ss ts : List Stretch) (c d : Stretch) → ts ≡ ss ++ c ∷ [] → Rises ss c → d.end ≡ c.end + 1 → Rises ts d
+pub new_rises : (ss ts : List Stretch) (c d : Stretch) (n : ℕ) → ts ≡ ss ++ c ∷ [] → Rises ss c → d.end ≡ c.end + n → Rises ts d
 unfolding Rises
-new_rises ss ts c d is rises end = subst (λ xs. RisesFrom 0 (xs ++ d ∷ [])) (sym is) (rises_new 0 ss c d rises (omega arith))
+new_rises ss ts c d n is rises end = subst (λ xs. RisesFrom 0 (xs ++ d ∷ [])) (sym is) (rises_new 0 ss c d rises (omega arith))
 
 -- ---- how many there are
 

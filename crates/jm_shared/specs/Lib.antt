@@ -2,4 +2,5 @@ pub mod Book
 pub mod Legal
 pub mod Stretches
 pub mod Seats
+pub mod ManyTurns
 pub mod SeatRule

@@ -1,8 +1,10 @@
 // What a journal tells of a turn, and what the turn answers.
 
 ghost use Rattle.std.specs.Prelude.{◌≡◌};
+ghost use Rattle.jm_world.specs.declared.event.Event.TheVariants.{Step};
 ghost use Rattle.jm_shared.specs.Legal.{entry_of, reply_of};
 
+use jm_machine::Steps;
 use jm_world::{Event, Reply, ReplyKind};
 
 /// What a journal tells of a turn.
@@ -52,6 +54,34 @@ impl Receipt {
             made: self.reply.made,
             live: self.reply.live,
             kind: self.reply.kind,
+            seat: self.seat,
+        }
+    }
+}
+
+/// What steps of one thread answer to the seat that made them, one turn after the other: the
+/// receipts of all of them.
+#[derive(Clone, Copy)]
+pub struct Receipts {
+    /// The number of the seat.
+    pub seat: u8,
+    /// The number of the first turn's entry in the journal, from 0.
+    pub number: usize,
+    /// The number of the thread.
+    pub thread: u64,
+    pub steps: Steps,
+}
+
+impl Receipts {
+    /// The journal's entry of a turn that answered so.
+    pub fn entry(self, reply: Reply) -> Entry
+        ensures { result ≡ entry_of self.seat (Step self.thread) reply }
+    {
+        Entry {
+            event: Event::Step(self.thread),
+            made: reply.made,
+            live: reply.live,
+            kind: reply.kind,
             seat: self.seat,
         }
     }

@@ -1,18 +1,22 @@
 // The journal.
 
-ghost use Rattle.std.specs.Prelude.{◌≡◌, ◌++◌, ◌∷◌, [], length, map, slice_get, take, IfErr, IfOk, OnErr, OnOk, MatchResult};
+ghost use Rattle.std.specs.Prelude.{◌≡◌, ◌+◌, ◌<◌, ◌≤◌, ◌^◌, ◌++◌, ◌∷◌, [], length, map, slice_get, take, vec_capacity, vec_len, IsTrue, IfErr, IfOk};
+ghost use Rattle.std.specs.Prelude.{OnErr, OnOk, MatchResult};
 ghost use Rattle.jm_world.specs.World.{World};
-ghost use Rattle.jm_world.specs.Run.{after, run_from};
+ghost use Rattle.jm_world.specs.Run.{after, reply, run_from};
+ghost use Rattle.jm_world.specs.declared.reply.ReplyKind.TheVariants.{Done};
+ghost use Rattle.jm_machine.specs.ManySteps.{AreSteps, EndsBy};
 ghost use Rattle.jm_machine.specs.View.{MatchesWorld};
 ghost use Rattle.jm_shared.specs.Book.{IsRunFrom};
+ghost use Rattle.jm_shared.specs.ManyTurns.{entries_of_turns};
 ghost use Rattle.jm_shared.specs.Legal.{IsLegal, world_after, entry_of, events_of, receipt_of, reply_of};
 
-use crate::entry::{Entry, Receipt};
+use crate::entry::{Entry, Receipt, Receipts};
 use crate::origin::Origin;
-use crate::stretch::{Stretch, add, entry_at, events_in};
+use crate::stretch::{Stretch, add, add_turns, entry_at, events_in};
 use jm_heap::Heap;
-use jm_machine::{Interrupted, Machine, OutOfMemory};
-use jm_world::{Event, Reply};
+use jm_machine::{Interrupted, Machine, OutOfMemory, Steps, StepsEnd};
+use jm_world::{Event, Reply, ReplyKind};
 use std::alloc::{AllocError, Global};
 use std::marker::{Model, PhantomData};
 
@@ -39,6 +43,32 @@ impl<H: Heap, R: Origin> Model for Journal<H, R> {
     ghost view = { λ j. book j.machine (entries_of j.stretches.items j.last) };
 
     ghost invariant = { λ j. Rises j.stretches.items j.last × IsRunFrom R.first (book j.machine (entries_of j.stretches.items j.last)) };
+}
+
+// Makes room for two stretches more, where so many turns more have numbers.
+fn make_room(stretches: &mut Vec<Stretch>, number: usize, most: usize) -> bool
+    ensures items { stretches.new.items ≡ stretches.old.items }
+    ensures room { IsTrue result → vec_len stretches.new + 2 ≤ vec_capacity stretches.new }
+    ensures numbers { IsTrue result → number + most < 2 ^ 64 }
+{
+    number.checked_add(most).is_some() && stretches.reserve(2).is_ok()
+}
+
+// No steps of a thread, since a growth was refused.
+fn no_steps<H: Heap>(machine: &Machine<H>) -> Steps
+    ensures none { (result.alike ≡ 0) × (result.end ≡ StepsEnd.OutOfMemory) }
+    ensures reply { (w : World) → MatchesWorld machine.now w → result.reply ≡ reply Done w }
+{
+    let reply = Reply {
+        kind: ReplyKind::Done,
+        made: machine.threads() as u64,
+        live: machine.live() as u64,
+    };
+    Steps {
+        alike: 0,
+        reply,
+        end: StepsEnd::OutOfMemory,
+    }
 }
 
 impl<H: Heap, R: Origin> Journal<H, R> {
@@ -77,13 +107,50 @@ impl<H: Heap, R: Origin> Journal<H, R> {
             kind: reply.kind,
             seat,
         };
-        add(&mut self.stretches, &mut self.last, Stretch::of(entry, end));
+        add(
+            &mut self.stretches,
+            &mut self.last,
+            Stretch::of(entry, end),
+            1,
+        );
         Ok(Receipt {
             seat,
             number,
             event,
             reply,
         })
+    }
+
+    /// Makes steps of one thread for a seat, one after the other, at most so many, each in a turn
+    /// of its own: each adds one entry. They end before that only by a step that answers otherwise
+    /// than done, or makes or ends a thread, which is made, or by 61: where a growth was refused,
+    /// or where fewer numbers of turns are left than were asked for. The machine is then where the
+    /// steps that were made lead.
+    pub fn turns(&mut self, seat: u8, thread: u64, most: usize) -> Receipts
+        requires { 0 < most }
+        ensures receipts { (result.seat ≡ seat) × (result.number ≡ length self.old.entries) × (result.thread ≡ thread) }
+        ensures ends { EndsBy most result.steps }
+        ensures entries { self.new.entries ≡ self.old.entries ++ entries_of_turns result }
+        ensures machine { (w : World) → MatchesWorld self.old.machine w → AreSteps w thread self.new.machine result.steps }
+    {
+        let number = self.last.end;
+        if !make_room(&mut self.stretches, number, most) {
+            return Receipts {
+                seat,
+                number,
+                thread,
+                steps: no_steps(&self.machine),
+            };
+        }
+        let steps = self.machine.step_many(usize::from(seat), thread, most);
+        let receipts = Receipts {
+            seat,
+            number,
+            thread,
+            steps,
+        };
+        add_turns(&mut self.stretches, &mut self.last, receipts);
+        receipts
     }
 
     /// The machine, which matches the world to which the journal's events lead.

@@ -2,11 +2,9 @@
 
 ghost use Rattle.std.specs.Prelude.{◌≡◌, ℕ, ◌<◌, ◌≤◌, ◌++◌, ◌∷◌, [], length, IfOk};
 ghost use Rattle.std.specs.List.{All};
-ghost use Rattle.jm_shared.specs.Legal.{receipt_of};
-ghost use Rattle.jm_shared.specs.Seats.{hand, keeper_with, fresh_hands, of_seat, times};
+ghost use Rattle.jm_shared.specs.Seats.{entries_in, hand, keeper_with, fresh_hands, of_seat, times};
 
-use crate::entry::Entry;
-use crate::rule::{Compare, DealHand, Note, Record, Repeated, SeatRule, TakeIn, View};
+use crate::rule::{Compare, DealHand, Note, Record, SeatRule, TakeIn, View};
 use crate::seat::Seat;
 use crate::sharing::Sharing;
 use atomic_table::{Badge, Table};
@@ -118,20 +116,19 @@ pub(crate) fn deal_seats<S: Sharing>(
 }
 
 impl<S: Sharing> SeatTies<S> {
-    /// Notes an entry of a seat: the keeper knows it, and the seat has its receipt. One join, one
-    /// atomic step and one split; it takes no memory.
-    pub(crate) fn note(&self, keeper: &mut Keeper<S>, seat: &mut Seat<S>, entry: Entry)
-        requires { entry.seat ≡ seat.old.number }
-        ensures keeper { keeper.new ≡ keeper.old ++ entry ∷ [] }
-        ensures seat { seat.new ≡ hand seat.old.number (seat.old.receipts ++ receipt_of (length keeper.old) entry ∷ []) }
+    /// Notes entries of a seat: the keeper knows them, and the seat has their receipts. One join,
+    /// one atomic step and one split; it takes no memory.
+    pub(crate) fn note(&self, keeper: &mut Keeper<S>, seat: &mut Seat<S>, note: &Note)
+        requires { All (λ e. e.seat ≡ seat.old.number) (entries_in note.now) }
+        ensures keeper { keeper.new ≡ keeper.old ++ entries_in note.now }
+        ensures seat { seat.new ≡ hand seat.old.number (seat.old.receipts ++ of_seat seat.old.number (length keeper.old) (entries_in note.now)) }
         ensures above { All (λ receipt. receipt.number < length keeper.old) seat.old.receipts }
     {
         let shared = &self.table.shared;
         let mut all = mem::replace(&mut keeper.token, Badge::blank()).into_seat::<Note>();
         let mine = shared.split_seat::<DealHand>(&mut seat.token);
         shared.join_seat::<TakeIn>(&mut all, mine);
-        let note = [Repeated { entry, times: 1 }];
-        shared.compare_exchange_with::<Record>(&mut all, 0, 0, 0, &note);
+        shared.compare_exchange_with::<Record>(&mut all, 0, 0, 0, note);
         seat.token = shared.split_seat::<DealHand>(&mut all);
         keeper.token = all.into_badge();
     }

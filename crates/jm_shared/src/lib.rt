@@ -25,10 +25,11 @@ mod shared_machine;
 mod sharing;
 mod stretch;
 
-pub use entry::{Entry, Receipt};
+pub use entry::{Entry, Receipt, Receipts};
 pub use jm_linker::{LinkFault, link};
 pub use jm_machine::{
-    Interrupted, LoadFault, Machine, OutOfMemory, Schedule, ScheduleFault, read_schedule,
+    Interrupted, LoadFault, Machine, OutOfMemory, Schedule, ScheduleFault, Steps, StepsEnd,
+    read_schedule,
 };
 pub use journal::Journal;
 pub use keeper::SeatTable;

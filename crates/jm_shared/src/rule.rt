@@ -1,7 +1,12 @@
 // The rule of the seats, and the steps by which they move.
 
-use crate::entry::{Entry, Receipt};
+ghost use Rattle.std.specs.Prelude.{◌≡◌, ◌∷◌, []};
+ghost use Rattle.jm_shared.specs.ManyTurns.{entries_of_turns};
+ghost use Rattle.jm_shared.specs.Seats.{entries_in};
+
+use crate::entry::{Entry, Receipt, Receipts};
 use atomic_table::{Join, Play, Split, TableRule};
+use jm_machine::StepsEnd;
 use std::collections::LinkedList;
 
 /// An entry, and how many times it stands in a row.
@@ -11,8 +16,36 @@ pub struct Repeated {
     pub times: usize,
 }
 
-/// What a turn notes: its entries in order, each with how many times it stands in a row.
-pub(crate) type Note = [Repeated; 1];
+/// What is noted in one step: entries in order, each with how many times it stands in a row, which
+/// may be 0.
+pub(crate) type Note = [Repeated; 2];
+
+/// The note of one entry.
+pub(crate) fn once(entry: Entry) -> Note
+    ensures { entries_in result ≡ entry ∷ [] }
+{
+    [Repeated { entry, times: 1 }, Repeated { entry, times: 0 }]
+}
+
+/// The note of several turns.
+pub(crate) fn note_of(turns: Receipts) -> Note
+    ensures { entries_in result ≡ entries_of_turns turns }
+{
+    let steps = turns.steps;
+    let alike = Repeated {
+        entry: turns.entry(steps.reply),
+        times: steps.alike,
+    };
+    let other = match steps.end {
+        StepsEnd::Other(reply) => Repeated {
+            entry: turns.entry(reply),
+            times: 1,
+        },
+        StepsEnd::AllMade => Repeated { times: 0, ..alike },
+        StepsEnd::OutOfMemory => Repeated { times: 0, ..alike },
+    };
+    [alike, other]
+}
 
 /// What a seat knows: its number, and the receipts of its turns in order. No value of it is made.
 pub struct Hand {

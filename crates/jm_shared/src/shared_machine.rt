@@ -3,13 +3,16 @@
 ghost use Rattle.std.specs.Prelude.{◌≡◌, ◌<◌, ◌++◌, ◌∷◌, [], length, IfErr, IfOk, MatchResult, OnErr, OnOk};
 ghost use Rattle.std.specs.List.{All};
 ghost use Rattle.jm_machine.specs.View.{MatchesWorld};
+ghost use Rattle.jm_machine.specs.ManySteps.{EndsBy};
 ghost use Rattle.jm_shared.specs.Book.{IsRunFrom};
+ghost use Rattle.jm_shared.specs.ManyTurns.{entries_of_turns, receipts_of_turns};
 ghost use Rattle.jm_shared.specs.Legal.{entry_of, receipt_of};
 ghost use Rattle.jm_shared.specs.Seats.{AreAll, LacksOne, fresh_hands, hand, of_seat};
 
-use crate::entry::Receipt;
+use crate::entry::{Receipt, Receipts};
 use crate::journal::Journal;
 use crate::keeper::{Keeper, SeatTable, SeatTies, deal_seats};
+use crate::rule::{note_of, once};
 use crate::seat::Seat;
 use crate::sharing::Sharing;
 use jm_heap::Heap;
@@ -53,8 +56,28 @@ impl<H: Heap, S: Sharing> LockedJournal<H, S> {
         ensures seat { MatchResult result (λ receipt. seat.new ≡ hand seat.old.number (seat.old.receipts ++ receipt ∷ [])) (λ _. seat.new ≡ seat.old) }
     {
         let receipt = self.journal.turn(seat.number(), event)?;
-        ties.note(&mut self.keeper, seat, receipt.entry());
+        ties.note(&mut self.keeper, seat, &once(receipt.entry()));
         Ok(receipt)
+    }
+
+    // Makes steps of one thread for a seat, and notes them.
+    fn turns(
+        &mut self,
+        ties: &SeatTies<S>,
+        seat: &mut Seat<S>,
+        thread: u64,
+        most: usize,
+    ) -> Receipts
+        requires { 0 < most }
+        ensures receipts { (result.seat ≡ seat.old.number) × (result.number ≡ length self.old.entries) × (result.thread ≡ thread) }
+        ensures ends { EndsBy most result.steps }
+        ensures entries { self.new.entries ≡ self.old.entries ++ entries_of_turns result }
+        ensures above { All (λ earlier. earlier.number < result.number) seat.old.receipts }
+        ensures seat { seat.new ≡ hand seat.old.number (seat.old.receipts ++ receipts_of_turns result) }
+    {
+        let receipts = self.journal.turns(seat.number(), thread, most);
+        ties.note(&mut self.keeper, seat, &note_of(receipts));
+        receipts
     }
 }
 
@@ -115,6 +138,21 @@ impl<H: Heap, S: Sharing> SharedMachine<H, S> {
         ensures seat { MatchResult result (λ receipt. seat.new ≡ hand seat.old.number (seat.old.receipts ++ receipt ∷ [])) (λ _. seat.new ≡ seat.old) }
     {
         self.lock.lock(rt).turn(&self.ties, seat, event)
+    }
+
+    /// Makes steps of one thread for a seat, one after the other, at most so many, in one hold of
+    /// the lock: each in a turn of its own, as [`SharedMachine::turn`] does it. They end before that
+    /// only by a step that answers otherwise than done, or makes or ends a thread, which is made, or
+    /// by 61: where a growth was refused, or where fewer numbers of turns are left than were asked
+    /// for. It may wait for other turns.
+    pub fn turns<R: Wait>(&self, rt: &R, seat: &mut Seat<S>, thread: u64, most: usize) -> Receipts
+        requires { 0 < most }
+        ensures receipts { (result.seat ≡ seat.old.number) × (result.thread ≡ thread) }
+        ensures ends { EndsBy most result.steps }
+        ensures above { All (λ earlier. earlier.number < result.number) seat.old.receipts }
+        ensures seat { seat.new ≡ hand seat.old.number (seat.old.receipts ++ receipts_of_turns result) }
+    {
+        self.lock.lock(rt).turns(&self.ties, seat, thread, most)
     }
 
     /// The machine with its journal, once every seat is given back: then the receipts of each seat

@@ -1,10 +1,13 @@
 // Equal turns in a row, kept once.
 
-ghost use Rattle.std.specs.Prelude.{◌≡◌, ◌+◌, ◌≤◌, ◌++◌, ◌∷◌, [], IfOk, IsTrue, slice_get, vec_capacity, vec_len};
+ghost use Rattle.std.specs.Prelude.{◌≡◌, ◌+◌, ◌<◌, ◌≤◌, ◌^◌, ◌++◌, IfOk, IsTrue, replicate, slice_get, vec_capacity, vec_len};
+ghost use Rattle.jm_machine.specs.ManySteps.{made_of_steps};
 ghost use Rattle.jm_shared.specs.Legal.{events_of};
+ghost use Rattle.jm_shared.specs.ManyTurns.{entries_of_turns};
 ghost use Rattle.jm_shared.specs.Stretches.{Rises, entries_of, entry_in, event_of};
 
-use crate::entry::Entry;
+use crate::entry::{Entry, Receipts};
+use jm_machine::StepsEnd;
 use jm_world::{Event, ReplyKind};
 use std::alloc::{AllocError, Global};
 
@@ -117,18 +120,42 @@ impl Stretch {
     }
 }
 
-/// Adds one turn behind the last of some stretches.
-pub(crate) fn add(stretches: &mut Vec<Stretch>, last: &mut Stretch, turn: Stretch)
+/// Adds equal turns behind the last of some stretches, so many.
+pub(crate) fn add(stretches: &mut Vec<Stretch>, last: &mut Stretch, turns: Stretch, count: usize)
     requires room { vec_len stretches.old + 1 ≤ vec_capacity stretches.old }
-    requires next { turn.end ≡ last.old.end + 1 }
+    requires next { turns.end ≡ last.old.end + count }
     requires rises { Rises stretches.old.items last.old }
-    ensures entries { entries_of stretches.new.items last.new ≡ entries_of stretches.old.items last.old ++ entry_in turn ∷ [] }
+    ensures entries { entries_of stretches.new.items last.new ≡ entries_of stretches.old.items last.old ++ replicate count (entry_in turns) }
+    ensures end { last.new.end ≡ turns.end }
     ensures rises { Rises stretches.new.items last.new }
+    ensures one_more { vec_len stretches.new ≤ vec_len stretches.old + 1 }
+    ensures capacity { vec_capacity stretches.new ≡ vec_capacity stretches.old }
 {
-    if !last.is_like(&turn) {
+    if count == 0 {
+        return;
+    }
+    if !last.is_like(&turns) {
         stretches.push_reserved(*last);
     }
-    *last = turn;
+    *last = turns;
+}
+
+/// Adds the turns of a thread's steps behind the last of some stretches.
+pub(crate) fn add_turns(stretches: &mut Vec<Stretch>, last: &mut Stretch, turns: Receipts)
+    requires room { vec_len stretches.old + 2 ≤ vec_capacity stretches.old }
+    requires numbers { last.old.end + made_of_steps turns.steps < 2 ^ 64 }
+    requires rises { Rises stretches.old.items last.old }
+    ensures entries { entries_of stretches.new.items last.new ≡ entries_of stretches.old.items last.old ++ entries_of_turns turns }
+    ensures rises { Rises stretches.new.items last.new }
+{
+    let steps = turns.steps;
+    let end = last.end + steps.alike;
+    let alike = Stretch::of(turns.entry(steps.reply), end);
+    add(stretches, last, alike, steps.alike);
+    if let StepsEnd::Other(reply) = steps.end {
+        let other = Stretch::of(turns.entry(reply), end + 1);
+        add(stretches, last, other, 1);
+    }
 }
 
 /// The entry of a number, from 0, among those of stretches and of the last; None past that.

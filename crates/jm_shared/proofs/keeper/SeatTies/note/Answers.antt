@@ -1,7 +1,6 @@
--- The seat's hand is with the keeper while the entry is noted.
-use Rattle.std.proofs.Common.{◌≡◌, ◌==◌, ◌<◌, List, [], ◌∷◌, length, refl, sym, ap, ◌∙◌, subst}
+-- The seat's hand is with the keeper while the entries are noted.
+use Rattle.std.proofs.Common.{◌==◌, ◌<◌, List, length, sym, ap, ◌∙◌, subst}
 use Rattle.std.specs.List.{All}
-use Rattle.std.proofs.lemmas.List.Elements.{All-nil, All-cons}
 use prog.Atomic.{either}
 use Rattle.jm_shared.specs.declared.entry.Entry.{Entry}
 use Rattle.jm_shared.specs.declared.entry.Receipt.{Receipt}
@@ -29,16 +28,15 @@ join_seat-requires g c =
 pub compare_exchange_with-requires : goal.compare_exchange_with-requires
 compare_exchange_with-requires g c =
     let named = c.args.self.now.named in
-    let entry = c.args.entry in
     let h = its_hand c.seat.inside.token.me in
     let joined = keeper_with_one _ _ _ _ _ _ _ h (ap (λ b. b.views) c.replace.ensures.value) c.keeper.invariant.1 c.into_seat-all.ensures.2 c.seat.invariant.1.0
     (ap (λ m. m.0) c.split_seat-mine.ensures.4) (ap (λ m. m.0) c.join_seat.ensures.2) in
-    let number = c.requires ∙ ap (λ h. h.number) (sym c.seat.view_is) in (
+    let number = ap (λ h. h.number) (sym c.seat.view_is) in (
       c.join_seat.ensures.0 ∙ c.into_seat-all.ensures.0 ∙ ap (λ b. b.table_id) c.replace.ensures.value ∙ c.keeper.invariant.0 ∙ sym named.0,
       named.1,
-      notes _ _ _ entry.seat (record { entry = entry; times = 1 } ∷ []) (λ n. either (n == 0) 0 n) _ (ap (λ v. v.keeps) joined)
-          (subst (λ (v : View). 0 < times entry.seat v.hands) (sym joined) (times_alone entry.seat h number))
-          (All-cons (λ (e : Entry). e.seat ≡ entry.seat) entry [] refl (All-nil (λ (e : Entry). e.seat ≡ entry.seat))),
+      notes _ _ _ c.args.seat.now.number c.args.note.now (λ n. either (n == 0) 0 n) _ (ap (λ v. v.keeps) joined)
+          (subst (λ (v : View). 0 < times c.args.seat.now.number v.hands) (sym joined) (times_alone c.args.seat.now.number h number))
+          c.requires,
     )
 
 pub split_seat-requires : goal.split_seat-requires

@@ -1,0 +1,24 @@
+// What comes of several steps of one thread.
+
+use jm_world::Reply;
+
+/// Why steps of a thread ended.
+#[derive(Clone, Copy)]
+pub enum StepsEnd {
+    /// As many were made as were asked for.
+    AllMade,
+    /// One step more was made, and answered so: it was not done, or it made or ended a thread.
+    Other(Reply),
+    /// A growth was refused: one step more was not made, and may be tried again.
+    OutOfMemory,
+}
+
+/// What comes of steps of one thread, one after the other.
+#[derive(Clone, Copy)]
+pub struct Steps {
+    /// How many were done, and neither made nor ended a thread.
+    pub alike: usize,
+    /// What each of these answered.
+    pub reply: Reply,
+    pub end: StepsEnd,
+}
