@@ -22,7 +22,8 @@ fn make_repeats<H: Heap, S: Sharing, W: Wait>(
     seat: &mut Seat<S>,
     run: Run,
 ) -> Result<(), OutOfMemory>
-    ensures made { MatchResult result (λ _. Records seat.old.receipts seat.new.receipts (repeats_of run)) (λ _. RecordsPart seat.old.receipts seat.new.receipts (repeats_of run)) }
+    ensures made { MatchResult result (λ _. Records seat.old.receipts seat.new.receipts (repeats_of run))
+        (λ _. RecordsPart seat.old.receipts seat.new.receipts (repeats_of run)) }
     ensures number { seat.new.number ≡ seat.old.number }
 {
     for _ in 0..run.count {

@@ -14,7 +14,7 @@
 //! `events` and `round_robin` make the events, the latter over the threads that a `pass` keeps,
 //! `report` and `ends` say how a run ended, and `assembly` goes from a text to a class file. The
 //! crate stands on `jm_class_reader`, `jm_jasmin`, `jm_class_writer`, `jm_linker`, `jm_machine`,
-//! `jm_heap` and `jm_schedule`.
+//! `jm_gen_heap` and `jm_schedule`.
 #![tactic(auto)]
 
 mod assembly;
@@ -42,7 +42,7 @@ pub use execution::execute;
 pub use files::{bytes_of, check_read};
 pub use job::{AssembleJob, Contents, InputFile, Job, RunEvents, RunJob};
 pub use laws::class_of_its_text;
-pub use preparation::{Ready, machine_of, prepare};
+pub use preparation::{Ready, RunHeap, machine_of, prepare};
 pub use program_file::{class_in_file, class_in_text, class_of};
 pub use refusal::{Obstacle, Refusal};
 pub use report::{write_out_of_memory, write_report};

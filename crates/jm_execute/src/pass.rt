@@ -94,7 +94,8 @@ impl Pass {
 
     // Lists the threads up to a number behind those ahead.
     fn list_up_to(&mut self, made: u64) -> Result<(), OutOfMemory>
-        ensures ahead { (w : World) (low : ℕ) → Lists w low (self.old.known + 1) self.old.ahead.items → AllLive w (self.old.known + 1) (made + 1) → OnOk result (Lists w low (self.new.known + 1) self.new.ahead.items) }
+        ensures ahead { (w : World) (low : ℕ) → Lists w low (self.old.known + 1) self.old.ahead.items → AllLive w (self.old.known + 1) (made + 1) →
+            OnOk result (Lists w low (self.new.known + 1) self.new.ahead.items) }
         ensures more { OnOk result ((more : List ℕ) × (self.new.ahead.items ≡ self.old.ahead.items ++ more)) }
         ensures known { self.old.known ≤ made → OnOk result (self.new.known ≡ made) }
         ensures behind { self.new.behind ≡ self.old.behind }

@@ -1,9 +1,10 @@
 // From a job's files to a machine and the events that it is to make.
 
-ghost use Rattle.std.specs.Prelude.{◌≡◌, None, IfOk};
+ghost use Rattle.std.specs.Prelude.{◌≡◌, None, [], IfErr, IfOk};
 ghost use Rattle.jm_world.specs.Loading.{loaded_world};
 ghost use Rattle.jm_world.specs.World.{World};
 ghost use Rattle.jm_linked.specs.Later.{later_part};
+ghost use Rattle.jm_generations.specs.Residents.{content_of};
 ghost use Rattle.jm_machine.specs.Start.{IsEmpty};
 ghost use Rattle.jm_execute.specs.Beginnings.{StandsAtItsBeginning};
 ghost use Rattle.jm_execute.specs.Refusals.{Gives};
@@ -15,7 +16,9 @@ use crate::files::{bytes_of, check_read};
 use crate::job::{InputFile, RunEvents, RunJob};
 use crate::program_file::class_of;
 use crate::refusal::{Obstacle, Refusal};
-use jm_heap::{Heap, PlainHeap};
+use jm_copy::SerialCollector;
+use jm_gen_heap::GenHeap;
+use jm_heap::Heap;
 use jm_linked::Linked;
 use jm_linker::{LinkFault, link};
 use jm_machine::{LoadFault, Machine};
@@ -122,8 +125,22 @@ fn source_of(alloc: Global, events: &RunEvents) -> Result<RunSource, Obstacle<'_
     }
 }
 
+/// The heap of a run: of two generations, of which one thread copies what is reached.
+pub type RunHeap = GenHeap<SerialCollector>;
+
+// An empty heap of so many cells.
+fn empty_heap<'a>(alloc: Global, limit: u32) -> Result<RunHeap, Obstacle<'a>>
+    ensures empty { IfOk result (λ heap. content_of heap ≡ record { limit = limit; next = 0; residents = [] }) }
+    ensures memory { IfErr result (λ obstacle. obstacle ≡ Obstacle.OutOfMemory) }
+{
+    match GenHeap::new(alloc, limit, SerialCollector) {
+        Ok(heap) => Ok(heap),
+        Err(_) => Err(Obstacle::OutOfMemory),
+    }
+}
+
 /// A machine before its first event, and where its events come from.
-pub type Ready = (Machine<PlainHeap>, RunSource);
+pub type Ready = (Machine<RunHeap>, RunSource);
 
 /// The machine that a job's program begins with, and where its events come from. A schedule that could
 /// not be read is the first obstacle; then those of the program, and last what is wrong with the
@@ -135,7 +152,7 @@ pub fn prepare(alloc: Global, job: &RunJob) -> Result<Ready, Obstacle<'_>>
     ensures ready { IfOk result (λ ready. StandsAtItsBeginning job.now.heap ready.0) }
 {
     check_events(&job.events)?;
-    let heap = PlainHeap::new(alloc, job.heap);
+    let heap = empty_heap(alloc, job.heap)?;
     let machine = machine_of(alloc, &job.program, heap)?;
     let source = source_of(alloc, &job.events)?;
     Ok((machine, source))

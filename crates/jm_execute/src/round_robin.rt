@@ -70,8 +70,10 @@ fn make_event<H: Heap, S: Sharing, W: Wait>(
     quantum: u32,
 ) -> Result<Standing, OutOfMemory>
     ensures made { let w = world_by S.first seat.old.receipts in
-        AreReplies S.first seat.new.receipts → HasTurn w turn.thread pass.old → pass.old.ended ≡ ended_in w → turn_in w (from_of standing) standing.moved ≡ Some (turn_of turn) →
-        MatchResult result (λ next. Makes S.first quantum standing next seat.old.receipts seat.new.receipts pass.new) (λ _. FallsShort S.first quantum standing seat.old.receipts seat.new.receipts) }
+        AreReplies S.first seat.new.receipts → HasTurn w turn.thread pass.old → pass.old.ended ≡ ended_in w
+        → turn_in w (from_of standing) standing.moved ≡ Some (turn_of turn)
+        → MatchResult result (λ next. Makes S.first quantum standing next seat.old.receipts seat.new.receipts pass.new)
+        (λ _. FallsShort S.first quantum standing seat.old.receipts seat.new.receipts) }
     ensures before { AreReplies S.first seat.new.receipts → AreReplies S.first seat.old.receipts }
     ensures number { seat.new.number ≡ seat.old.number }
 {

@@ -14,16 +14,16 @@ returns-in_err-check_events-clause-run c =
 pub returns-in_err-machine-clause-run : goal.returns-in_err-machine-clause-run
 returns-in_err-machine-clause-run c =
     let p = err_from_is_err_and c.from_residual-in_err-machine.result c.from_residual-in_err-machine.ensures.1 in
-    let limit = ap (λ (h : Content ClassId). h.limit) c.new-heap.ensures in
+    let limit = ap (λ (h : Content ClassId). h.limit) c.in_ok-heap.ensures.empty in
     rw (p.1, p.2) (no_program _ c.in_ok-check_events.ensures _ _ limit c.deref.ensures.value _ c.in_err-machine.ensures.program)
 
 pub returns-in_err-source-clause-run : goal.returns-in_err-source-clause-run
 returns-in_err-source-clause-run c =
     let p = err_from_is_err_and c.from_residual-in_err-source.result c.from_residual-in_err-source.ensures.1 in
-    let limit = ap (λ (h : Content ClassId). h.limit) c.new-heap.ensures in
+    let limit = ap (λ (h : Content ClassId). h.limit) c.in_ok-heap.ensures.empty in
     rw (p.1, p.2) (no_events _ c.in_ok-check_events.ensures _ _ limit c.deref.ensures.value _ c.in_ok-machine.ensures.program _ (c.in_err-source.ensures _))
 
 pub returns-clause-run : goal.returns-clause-run
 returns-clause-run c =
-    let limit = ap (λ (h : Content ClassId). h.limit) c.new-heap.ensures in
+    let limit = ap (λ (h : Content ClassId). h.limit) c.in_ok-heap.ensures.empty in
     prepared _ c.in_ok-check_events.ensures _ _ limit c.deref.ensures.value _ c.in_ok-machine.ensures.program _ (c.in_ok-source.ensures _)
