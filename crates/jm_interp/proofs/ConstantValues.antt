@@ -1,17 +1,16 @@
 -- The constants with which static fields begin, in the state and in every world beside it.
-use Rattle.std.proofs.Common.{◌≡◌, ℕ, zero, suc, ◌+◌, ◌<◌, ◌≤◌, ◌^◌, List, [], ◌∷◌, Option, Some, None, Bool, true, false, refl, sym, ap, ◌∙◌, subst, length}
+use Rattle.std.proofs.Common.{◌≡◌, ℕ, zero, suc, ◌+◌, ◌<◌, ◌≤◌, List, [], ◌∷◌, Option, Some, None, Bool, true, false, refl, sym, ap, ◌∙◌, subst, length}
 use Rattle.std.proofs.Common.{arith, take}
 use Rattle.std.proofs.lemmas.List.{length-map, take_all}
 use Rattle.std.proofs.lemmas.Option.{slice_get-get_or}
-use Rattle.std.specs.Prelude.{map, slice_get, slice_index_or, vec_len, Ok}
+use Rattle.std.specs.Prelude.{slice_get, slice_index_or, vec_len, Ok}
 use Rattle.jm_program.specs.Flags.{is_static}
 use Rattle.jm_program.specs.declared.class.ClassParts.{ClassParts}
 use Rattle.jm_program.specs.declared.class.Field.{Field}
 use Rattle.jm_program.specs.declared.constant.Constant.{Constant}
-use Rattle.jm_program.specs.declared.constant.Constant.TheVariants as constant
 use Rattle.jm_values.specs.Content.{Content, name_of}
 use Rattle.jm_values.specs.Rename.{rename, refs}
-use Rattle.jm_values.specs.Shape.{Among, list_shape}
+use Rattle.jm_values.specs.Shape.{Among}
 use Rattle.jm_values.specs.declared.value.Value.{Value}
 use Rattle.jm_values.specs.declared.value.Value.TheVariants.{Null, Ref}
 use Rattle.jm_values.proofs.Lists.{get_at, get_there, got_within}
@@ -22,23 +21,20 @@ use Rattle.jm_world.specs.Loading.{first_statics, literal_texts}
 use Rattle.jm_world.specs.Matches.{Matches}
 use Rattle.jm_world.specs.Next.{goes}
 use Rattle.jm_world.specs.Objects.{FieldName, place_of_field, same_field}
-use Rattle.jm_world.specs.Renaming.{literal_shape}
 use Rattle.jm_world.specs.Types.{array_of, narrow}
-use Rattle.jm_world.specs.World.{World, Thread, Static, Literal, literal_in, set_static_in}
+use Rattle.jm_world.specs.World.{World, Static, Literal, literal_in, set_static_in}
 use Rattle.jm_heap.specs.declared.class_id.ClassId.{ClassId}
 use Rattle.jm_tables.specs.Layouts.{static_fields}
 use Rattle.jm_linked.specs.Links.{LinkedView, IsLinked, IsFieldOf}
-use Rattle.jm_linked.specs.Named.{named_literals, named_statics}
+use Rattle.jm_linked.specs.Named.{named_statics}
 use Rattle.jm_linked.specs.Tables.{AreConstants, IsConstant, IsConstantOf, static_constant}
-use Rattle.jm_linked.specs.declared.instruction.MemberNumber.{MemberNumber}
 use Rattle.jm_linked.specs.declared.method.LinkedConstant.{LinkedConstant}
 use Rattle.jm_linked.specs.declared.method.LinkedConstant.TheVariants as linked
 use Rattle.jm_state.specs.Parts.{parts, program_class_name}
 use Rattle.jm_state.specs.declared.halt.StepEnd.TheVariants.{Done}
 use Rattle.jm_state.specs.declared.state.State.{State}
-use Rattle.jm_state.specs.declared.thread.StackFrame.{StackFrame}
 use Rattle.jm_interp.specs.declared.at.At.{At}
-use Rattle.jm_interp.specs.At.{parts_at, HoldsAll, Holds, OnThread, OnFrames, Does}
+use Rattle.jm_interp.specs.At.{parts_at, Holds, OnFrames, Does}
 use Rattle.jm_interp.specs.ConstantValues.{HasString, IsConstantValue, HasNumbers, BeginsWith, gives_constant, gives_constants}
 use Rattle.jm_interp.proofs.ArrayStores.{narrowed_renamed, narrowed_refs}
 use Rattle.jm_interp.proofs.After.{seen_after, then_does}

@@ -1,21 +1,16 @@
 -- A thread that has ended.
 use Rattle.std.proofs.Common.{◌≡◌, ℕ, ◌+◌, ◌<◌, arith, List, [], Option, None, false, refl, sym, ap, ◌∙◌, subst}
-use Rattle.std.specs.Prelude.{slice_set, map, option_map, Ok}
-use Rattle.jm_values.specs.Shape.{Among}
-use Rattle.jm_world.specs.Frames.{optional_number_shape}
+use Rattle.std.specs.Prelude.{slice_set, map, Ok}
 use Rattle.std.specs.Vec.{with_item}
-use Rattle.jm_program.specs.declared.class.ClassParts.{ClassParts}
-use Rattle.jm_values.specs.Content.{Content, name_of}
+use Rattle.jm_values.specs.Content.{Content}
 use Rattle.jm_world.specs.Next.{goes}
-use Rattle.jm_world.specs.Renaming.{rename_object}
-use Rattle.jm_world.specs.World.{Thread, is_running, live_among, with_thread, returned, object_refs}
+use Rattle.jm_world.specs.World.{Thread, is_running, live_among, with_thread, returned}
 use Rattle.jm_heap.specs.declared.class_id.ClassId.{ClassId}
 use Rattle.jm_state.specs.Parts.{parts, thread_part, ending_part}
 use Rattle.jm_state.specs.Runnable.{ThreadRuns, StateRuns, is_started}
 use Rattle.jm_state.specs.declared.halt.StepEnd.TheVariants.{Done}
 use Rattle.jm_state.specs.declared.state.State.{State}
 use Rattle.jm_state.specs.declared.thread.Ending as code
-use Rattle.jm_state.specs.declared.thread.Ending.TheVariants.{Running, Returned, EndedBy}
 use Rattle.jm_state.specs.declared.thread.StackFrame.{StackFrame}
 use Rattle.jm_state.specs.declared.thread.Thread as held
 use Rattle.jm_interp.specs.declared.at.At.{At}

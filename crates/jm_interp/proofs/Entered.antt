@@ -4,7 +4,7 @@ use Rattle.std.specs.Prelude.{slice_get, nat_eq, nat_lt, Result, Ok, Err}
 use Rattle.jm_values.specs.Content.{Content}
 use Rattle.jm_values.specs.declared.fault.TagFault.TheVariants.{MonitorCount}
 use Rattle.jm_world.specs.Matches.{Parts, Matches}
-use Rattle.jm_world.specs.Monitors.{enter_if, entered, monitor_in, with_monitor, recounted, leave, leave_if, left_in}
+use Rattle.jm_world.specs.Monitors.{enter_if, entered, monitor_in, with_monitor, recounted, leave, left_in}
 use Rattle.jm_world.specs.Next.{Next, goes, stops, blocks, faults}
 use Rattle.jm_world.specs.World.{World, Thread, Monitor}
 use Rattle.jm_heap.specs.declared.class_id.ClassId.{ClassId}

@@ -1,6 +1,6 @@
 -- The entry of a thread, where it stands.
-use Rattle.std.proofs.Common.{◌≡◌, ℕ, ◌+◌, ◌<◌, ◌≤◌, arith, List, [], ◌∷◌, ◌++◌, Option, Some, None, Bool, true, false, refl, sym, ap, ◌∙◌, subst, inl, inr, drop, length}
-use Rattle.std.specs.Prelude.{map, option_map, codes, slice_get, slice_index_or, Result, Ok, Err}
+use Rattle.std.proofs.Common.{◌≡◌, ℕ, ◌+◌, ◌<◌, arith, List, [], ◌∷◌, ◌++◌, Option, Some, None, Bool, true, false, refl, sym, ap, ◌∙◌, subst, inl, inr, drop, length}
+use Rattle.std.specs.Prelude.{map, option_map, codes, slice_get, Result, Ok, Err}
 use Rattle.jm_program.specs.Flags.{is_abstract}
 use Rattle.jm_program.specs.declared.class.ClassParts.{ClassParts}
 use Rattle.jm_program.specs.declared.class.Method.{Method as Declared}
@@ -10,29 +10,26 @@ use Rattle.jm_program.specs.declared.descriptor.MethodDescriptor.{MethodDescript
 use Rattle.jm_builtins.specs.List.{the_builtins}
 use Rattle.jm_frames.specs.FrameView.{FrameView}
 use Rattle.jm_values.specs.Content.{Content, name_of}
-use Rattle.jm_values.specs.Rename.{rename, rename_activation, locals_shape, stack_shape}
+use Rattle.jm_values.specs.Rename.{rename_activation, locals_shape}
 use Rattle.jm_values.specs.Shape.{Among}
 use Rattle.jm_values.specs.declared.fault.TagFault.TheVariants.{WrongKind}
 use Rattle.jm_values.specs.declared.value.Value.TheVariants.{Ref}
-use Rattle.jm_values.proofs.Among.{among_right, among_split}
+use Rattle.jm_values.proofs.Among.{among_split}
 use Rattle.jm_values.proofs.Lists.{got_within}
 use Rattle.jm_world.specs.Classes.{FoundMethod, name_of_method}
-use Rattle.jm_world.specs.Frames.{Frame, frames_shape, rename_frame, method_frame, optional_number_shape}
+use Rattle.jm_world.specs.Frames.{frames_shape, method_frame, optional_number_shape}
 use Rattle.jm_world.specs.Here.{with_frames}
 use Rattle.jm_world.specs.Invocation.{activation_of, class_of, locals_of, monitor_of}
-use Rattle.jm_world.specs.Matches.{Matches}
 use Rattle.jm_world.specs.Monitors.{enter_if}
 use Rattle.jm_world.specs.Next as next
 use Rattle.jm_world.specs.Next.{Next, throw, faults}
-use Rattle.jm_world.specs.Objects.{Object}
 use Rattle.jm_world.specs.Resolution.{select}
-use Rattle.jm_world.specs.Returns.{ended}
 use Rattle.jm_world.specs.Stepping.{step_thread, enter_code, enter_found, enter_thread, run_type}
 use Rattle.jm_world.specs.World.{World, Thread, held_shape, returned}
 use Rattle.jm_world.specs.declared.stop.Stop.TheVariants as why
 use Rattle.jm_calls.specs.Arguments.{beginning}
 use Rattle.jm_heap.specs.declared.class_id.ClassId.{ClassId}
-use Rattle.jm_linked.specs.Links.{IsMethodOf, IsSelected, MethodLinks, class_name_of, name_of_number}
+use Rattle.jm_linked.specs.Links.{IsMethodOf, IsSelected, class_name_of}
 use Rattle.jm_linked.specs.Methods.{all_methods, selector_of}
 use Rattle.jm_linked.specs.Tables.{all_names}
 use Rattle.jm_linked.specs.declared.instruction.MemberNumber.{MemberNumber}
@@ -42,22 +39,21 @@ use Rattle.jm_linked.proofs.HeldTypes.{named_at}
 use Rattle.jm_tables.specs.Numbering as numbering
 use Rattle.jm_state.specs.Parts.{named_type, parts, frame_part}
 use Rattle.jm_state.specs.declared.halt.Halt.{Halt}
-use Rattle.jm_state.specs.declared.halt.Halt.TheVariants.{Stopped, OutOfMemory}
+use Rattle.jm_state.specs.declared.halt.Halt.TheVariants.{Stopped}
 use Rattle.jm_state.specs.declared.halt.StepEnd.{StepEnd}
 use Rattle.jm_state.specs.declared.halt.StepEnd.TheVariants.{Done}
 use Rattle.jm_state.specs.declared.state.State.{State}
-use Rattle.jm_state.specs.declared.thread.Ending.TheVariants.{Returned}
 use Rattle.jm_state.specs.declared.thread.StackFrame.{StackFrame}
 use Rattle.jm_state.specs.declared.thread.StackFrame.TheVariants.{Entry, Method}
 use Rattle.jm_state.specs.declared.thread.Thread as held
 use Rattle.jm_interp.specs.declared.at.At.{At}
-use Rattle.jm_interp.specs.At.{parts_at, HoldsAll, OnThread, OnFrames, Does, Steps}
+use Rattle.jm_interp.specs.At.{HoldsAll, OnThread, OnFrames, Does, Steps}
 use Rattle.jm_interp.specs.Calls.{HasParameters, IsCalled, callee_with}
 use Rattle.jm_interp.specs.Ending.{ended_as}
 use Rattle.jm_interp.specs.Entering.{BeginsWith, BeginsCode, BeginsWithoutCode, BeginsSelected, HasLocals}
 use Rattle.jm_interp.specs.Invoking.{IsInstanceMethod}
 use Rattle.jm_interp.specs.Locking.{OnlyMonitors}
-use Rattle.jm_interp.specs.Standing.{ThreadRest, Stands, running}
+use Rattle.jm_interp.specs.Standing.{Stands, running}
 use Rattle.jm_interp.proofs.Called.{padded_refs, arguments_refs, activation_begins, method_named_is}
 use Rattle.jm_interp.proofs.Entered.{IsNotMade, enters, then_made, then_not, then_stands}
 use Rattle.jm_interp.proofs.InstanceCalls.{own, found_code, found_called, concrete, room, monitor_is, monitor_among}

@@ -4,7 +4,6 @@ use Rattle.std.proofs.Common.{inl, inr, ◌⊎◌, length, drop, arith, length-s
 use Rattle.std.specs.Prelude.{map, slice_get, slice_set, nat_eq, nat_lt, codes, Result, Err}
 use Rattle.std.specs.List.{AllByRecursion}
 use Rattle.jm_program.specs.declared.class.ClassParts.{ClassParts}
-use Rattle.jm_program.specs.declared.class.Field.{Field}
 use Rattle.jm_program.specs.declared.code.Code.{Code}
 use Rattle.std.proofs.lemmas.Bool.{eq-eqb}
 use Rattle.std.proofs.lemmas.List.{length-map}
@@ -19,7 +18,7 @@ use Rattle.jm_world.specs.Initialization.{constants_of, at_stage, finish}
 use Rattle.jm_world.specs.Next as next
 use Rattle.jm_world.specs.Next.{Next, goes, throw}
 use Rattle.jm_world.specs.Classes.{FoundMethod, class_named}
-use Rattle.jm_world.specs.World.{World, Thread, Static, Literal, with_thread, with_state, state_of, state_in, set_state_in, held_shape, live_among}
+use Rattle.jm_world.specs.World.{World, Thread, with_thread, with_state, state_of, state_in, set_state_in, held_shape, live_among}
 use Rattle.jm_values.specs.Content.{Content, name_of}
 use Rattle.jm_world.specs.Matches.{Matches}
 use Rattle.jm_world.specs.Stepping.{step_thread}
@@ -53,7 +52,7 @@ use Rattle.jm_interp.specs.Standing.{OwnObject, Stands, running}
 use Rattle.jm_interp.proofs.OnThread.{Leads, thread_as, thread_there, model, read, does_as, blocks, held_frames, held_pending}
 use Rattle.jm_interp.proofs.OnThread.{part_here, runs_with, same_matches, ChangedTo, with_thread_at}
 use Rattle.jm_interp.proofs.OnThread as thread
-use Rattle.jm_values.proofs.Lists.{get_there, get_at, set_there}
+use Rattle.jm_values.proofs.Lists.{get_there, set_there}
 use Rattle.jm_interp.proofs.Threads.{part_refs, PartRuns, without_top, with_top, with_more, dropped_part, dropped_refs, count_is}
 use Rattle.jm_state.specs.Runnable.{StateRuns}
 use Rattle.jm_state.specs.declared.halt.Halt.{Halt}

@@ -12,6 +12,7 @@ pub mod HeldMonitors
 pub mod Locked
 pub mod Entered
 pub mod PlainRow
+pub mod PlainRuns
 pub mod LiteralRow
 pub mod PushRow
 pub mod Replaced
@@ -51,6 +52,10 @@ pub mod StaticRow
 pub mod ThrowRow
 pub mod Instructions
 pub mod Tops
+pub mod Runs
+pub mod RowsAlone
+pub mod PlainWorlds
+pub mod PlainThreads
 pub mod NewRow
 pub mod DeclaredMethods
 pub mod ReceiverRows

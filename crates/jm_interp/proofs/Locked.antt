@@ -1,18 +1,17 @@
 -- A state beside its world after a thread has entered or left a monitor.
 use Rattle.std.proofs.Common.{◌≡◌, ℕ, ◌+◌, List, [], ◌∷◌, ◌++◌, Option, Some, None, Bool, true, false, refl, sym, ap, ◌∙◌, subst, inl}
-use Rattle.std.specs.Prelude.{map, slice_get, option_map, is_some, nat_eq, Result, Ok, Err, if◌then◌else◌}
+use Rattle.std.specs.Prelude.{map, slice_get, option_map, is_some, nat_eq, Result, Ok, Err}
 use Rattle.std.specs.List.{AllByRecursion}
 use Rattle.jm_values.specs.Content.{Content, name_of, serial_at}
 use Rattle.jm_values.specs.Reach.{Reach}
-use Rattle.jm_values.specs.Shape.{Among, list_shape}
+use Rattle.jm_values.specs.Shape.{list_shape}
 use Rattle.jm_values.specs.declared.fault.TagFault.TheVariants.{MonitorCount}
 use Rattle.jm_values.proofs.Among.{among_left, among_right}
 use Rattle.jm_values.proofs.SoundContents.{name_is}
 use Rattle.jm_world.specs.Loading.{first_statics}
 use Rattle.jm_world.specs.Matches.{Matches}
-use Rattle.jm_world.specs.Monitors.{enter, enter_if, leave, leave_if, left_in, monitor_in}
-use Rattle.jm_world.specs.Next as next
-use Rattle.jm_world.specs.Next.{Next, goes, blocks, faults}
+use Rattle.jm_world.specs.Monitors.{enter, leave, left_in, monitor_in}
+use Rattle.jm_world.specs.Next.{goes}
 use Rattle.jm_world.specs.Renaming.{thread_shape, static_shape, monitor_shape}
 use Rattle.jm_world.specs.World.{World, Thread, Monitor, Progress, roots}
 use Rattle.jm_world.specs.declared.stop.Stop.TheVariants as stop

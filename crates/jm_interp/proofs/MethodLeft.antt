@@ -27,7 +27,7 @@ use Rattle.jm_state.specs.declared.halt.StepEnd.TheVariants.{Done}
 use Rattle.jm_state.specs.declared.state.State.{State}
 use Rattle.jm_state.specs.declared.thread.Thread as held
 use Rattle.jm_interp.specs.declared.at.At.{At}
-use Rattle.jm_interp.specs.At.{parts_at, HoldsAll, InMethod, OnThread, Does, Steps, in_method}
+use Rattle.jm_interp.specs.At.{parts_at, HoldsAll, InMethod, Does, Steps, in_method}
 use Rattle.jm_interp.specs.Locking.{BesideAny, LiesIf, LeftAs}
 use Rattle.jm_interp.specs.Returned.{HandsOn}
 use Rattle.jm_interp.specs.Standing.{InAnyMethod}

@@ -5,7 +5,7 @@ use Rattle.jm_program.specs.declared.instruction.operation.MonitorOp.TheVariants
 use Rattle.jm_values.specs.Content.{Content, name_of}
 use Rattle.jm_values.specs.Shape.{Among}
 use Rattle.jm_values.specs.declared.value.Value.{Value}
-use Rattle.jm_world.specs.Here.{Here, go_on, go_on_in, throws}
+use Rattle.jm_world.specs.Here.{go_on, go_on_in, throws}
 use Rattle.jm_world.specs.Matches.{Matches, places}
 use Rattle.jm_world.specs.Monitors.{enter, leave}
 use Rattle.jm_world.specs.Next.{Next, goes, throw}
@@ -29,7 +29,7 @@ use Rattle.jm_interp.proofs.Entered.{IsNotMade, then_made, then_not, then_stands
 use Rattle.jm_interp.proofs.Here as row_here
 use Rattle.jm_interp.proofs.Here.{place}
 use Rattle.jm_interp.proofs.Objects.{IsObject}
-use Rattle.jm_interp.proofs.OnThread.{Leads, model, thread_there, does, does_as}
+use Rattle.jm_interp.proofs.OnThread.{Leads, model, does, does_as}
 use Rattle.jm_interp.proofs.OnTop.{by, with_found, object_is, operands, object_refused, object_known, its_place, its_object}
 use Rattle.jm_interp.proofs.OnTop.{is_refused, goes_by, with_its}
 

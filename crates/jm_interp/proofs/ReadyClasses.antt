@@ -8,7 +8,7 @@ use Rattle.jm_program.specs.declared.class.ClassParts.{ClassParts}
 use Rattle.jm_builtins.specs.List.{the_builtins}
 use Rattle.jm_builtins.specs.Numbers.{built_in_names}
 use Rattle.jm_values.specs.Content.{Content, name_of}
-use Rattle.jm_values.proofs.Lists.{get_at, get_map}
+use Rattle.jm_values.proofs.Lists.{get_map}
 use Rattle.jm_world.specs.Classes.{as_class, built_in_named}
 use Rattle.jm_world.specs.Frames.{Frame, initialization_frame, rename_frame}
 use Rattle.jm_world.specs.Here.{is_ready, when_initialized, with_frames}

@@ -1,7 +1,7 @@
 -- A return, where it stands.
 use Rattle.std.proofs.Common.{◌≡◌, ℕ, zero, suc, ◌+◌, ◌<◌, ◌≤◌, ◌⊎◌, List, [], ◌∷◌, ◌++◌, Option, Some, None, Bool, true, false}
 use Rattle.std.proofs.Common.{refl, sym, ap, ◌∙◌, subst, inl, inr, arith, length}
-use Rattle.std.specs.Prelude.{Result, map, option_map, nat_le, Ok, Err, vec_len, codes, slice_get, slice_index_or, ℤ}
+use Rattle.std.specs.Prelude.{Result, map, option_map, nat_le, Ok, Err, vec_len, slice_get, slice_index_or, ℤ}
 use Rattle.jm_program.specs.declared.descriptor.BaseType.TheVariants as base
 use Rattle.jm_program.specs.declared.descriptor.ElementType.{ElementType}
 use Rattle.jm_program.specs.declared.descriptor.ElementType.TheVariants.{Base, Class}

@@ -1,5 +1,5 @@
 -- A thread that was started, behind the others.
-use Rattle.std.proofs.Common.{◌≡◌, ℕ, zero, suc, ◌+◌, ◌-◌, ◌<◌, ◌≤◌, ◌^◌, arith, List, [], ◌∷◌, ◌++◌, Option, Some, None, Bool, true, false, refl, sym, ap, ◌∙◌, subst, inl, inr, length}
+use Rattle.std.proofs.Common.{◌≡◌, ℕ, zero, suc, ◌+◌, ◌≤◌, arith, List, [], ◌∷◌, ◌++◌, Option, Some, None, Bool, true, false, refl, sym, ap, ◌∙◌, subst, inl, inr, length}
 use Rattle.std.specs.Prelude.{◌||◌, cond, slice_get, slice_set, map, nat_eq, nat_lt}
 use Rattle.std.specs.Ordering.{nat_cmp, is_eq}
 use Rattle.std.specs.declared.cmp.Ordering.TheVariants.{Less, Equal, Greater}
@@ -9,16 +9,14 @@ use Rattle.std.specs.List.{AllByRecursion, list_any}
 use Rattle.std.proofs.lemmas.Grind.{flat_map-append}
 use Rattle.std.proofs.lemmas.List.{map-append}
 use Rattle.jm_values.specs.Content.{Content, name_of, serial_at}
-use Rattle.jm_values.specs.Reach.{Reach}
 use Rattle.jm_values.specs.Shape.{Among, list_shape}
 use Rattle.jm_values.proofs.Among.{among_left, among_right, among_split}
-use Rattle.jm_values.proofs.Lists.{got_within}
 use Rattle.jm_values.proofs.SoundContents.{name_is}
 use Rattle.jm_world.specs.BuiltInMethods.{is_object_of, was_started, new_thread, with_new_thread}
 use Rattle.jm_world.specs.Loading.{first_statics}
 use Rattle.jm_world.specs.Matches.{Matches}
 use Rattle.jm_world.specs.Renaming.{thread_shape, static_shape, monitor_shape, rename_thread}
-use Rattle.jm_world.specs.World.{World, Thread, Monitor, Progress, is_running, live_among, refs_thread, roots}
+use Rattle.jm_world.specs.World.{World, Thread, Monitor, Progress, is_running, live_among, refs_thread}
 use Rattle.jm_world.proofs.Changed.{Change, reach_shared, place_stands, changed}
 use Rattle.jm_world.proofs.Changed as beside
 use Rattle.jm_heap.specs.declared.class_id.ClassId.{ClassId}
@@ -26,7 +24,7 @@ use Rattle.jm_linked.specs.Links.{LinkedView}
 use Rattle.jm_linked.specs.Named.{named_states, named_statics}
 use Rattle.jm_monitors.specs.HeldMonitors.{HeldMonitor}
 use Rattle.jm_state.specs.Parts.{parts, state_parts, thread_part, monitor_part}
-use Rattle.jm_state.specs.Places.{HeldThread, held_thread}
+use Rattle.jm_state.specs.Places.{held_thread}
 use Rattle.jm_state.specs.Runnable.{ThreadRuns, IsRunnable, StateRuns, is_among, is_started}
 use Rattle.jm_state.specs.View.{StateView, view_of}
 use Rattle.jm_state.specs.declared.state.State.{State}
@@ -34,9 +32,9 @@ use Rattle.jm_state.specs.declared.thread.StackFrame.{StackFrame}
 use Rattle.jm_state.specs.declared.thread.StackFrame.TheVariants.{Entry}
 use Rattle.jm_state.specs.declared.thread.Thread as held
 use Rattle.jm_interp.specs.declared.at.At.{At}
-use Rattle.jm_interp.specs.At.{parts_at, HoldsAll, OnThread}
+use Rattle.jm_interp.specs.At.{parts_at, OnThread}
 use Rattle.jm_interp.specs.Standing.{ThreadRest, running, part_of}
-use Rattle.jm_interp.specs.Starting.{IsNew, Added}
+use Rattle.jm_interp.specs.Starting.{Added}
 use Rattle.jm_interp.proofs.Locked.{reached}
 use Rattle.jm_interp.proofs.OnThread.{model, thread_there}
 use Rattle.jm_interp.proofs.Threads.{held_is, part_is}

@@ -1,15 +1,14 @@
 -- Thread.start: the thread of an object begins behind the others, or it was started before.
-use Rattle.std.proofs.Common.{◌≡◌, ℕ, ◌+◌, ◌-◌, ◌<◌, ◌^◌, arith, List, [], ◌∷◌, ◌++◌, Some, Bool, true, false, refl, sym, ap, ◌∙◌, subst, inl, drop}
+use Rattle.std.proofs.Common.{◌≡◌, ℕ, ◌+◌, ◌-◌, ◌<◌, ◌^◌, arith, List, [], ◌∷◌, Some, Bool, true, false, refl, sym, ap, ◌∙◌, subst, inl, drop}
 use Rattle.std.specs.Prelude.{codes, slice_get, map, Result, Ok, Err}
 use Rattle.jm_values.specs.Content.{Content, name_of, serial_at}
-use Rattle.jm_values.specs.Reach.{Reach}
 use Rattle.jm_values.proofs.SoundContents.{name_is}
 use Rattle.jm_world.specs.BuiltInMethods.{start_thread, was_started, new_thread, with_new_thread}
-use Rattle.jm_world.specs.Here.{Here, go_on, moved_on, topped, throws}
+use Rattle.jm_world.specs.Here.{moved_on, topped, throws}
 use Rattle.jm_world.specs.Matches.{Matches}
 use Rattle.jm_world.specs.Next.{Next, goes, throw}
 use Rattle.jm_world.specs.Stepping.{step_thread}
-use Rattle.jm_world.specs.World.{World, Thread, roots}
+use Rattle.jm_world.specs.World.{World}
 use Rattle.jm_world.proofs.Changed.{reach_shared, place_stands}
 use Rattle.jm_heap.specs.declared.class_id.ClassId.{ClassId}
 use Rattle.jm_state.specs.Parts.{parts}
@@ -22,7 +21,7 @@ use Rattle.jm_state.specs.declared.halt.StepEnd.TheVariants.{Done}
 use Rattle.jm_state.specs.declared.state.State.{State}
 use Rattle.jm_state.specs.declared.thread.Thread as held
 use Rattle.jm_interp.specs.declared.at.At.{At}
-use Rattle.jm_interp.specs.At.{parts_at, HoldsAll, InMethod, OnFrames, Does, Steps}
+use Rattle.jm_interp.specs.At.{parts_at, HoldsAll, InMethod, Does, Steps}
 use Rattle.jm_interp.specs.Starting.{Added, LooksAlike}
 use Rattle.jm_interp.specs.TopObject.{StepIs}
 use Rattle.jm_interp.proofs.After.{then_does}

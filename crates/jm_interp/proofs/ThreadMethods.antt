@@ -12,17 +12,15 @@ use Rattle.jm_builtins.specs.Numbers.{number_of}
 use Rattle.jm_builtins.specs.declared.built_in_class.BuiltInClass.TheVariants.{Thread}
 use Rattle.jm_values.specs.Content.{Content, name_of}
 use Rattle.jm_values.specs.Rename.{value_shape}
-use Rattle.jm_values.specs.Shape.{Among}
 use Rattle.jm_values.specs.declared.value.Value.{Value}
 use Rattle.jm_values.specs.declared.value.Value.TheVariants.{Ref}
 use Rattle.jm_values.proofs.Lists.{refs_in}
 use Rattle.jm_world.specs.BuiltInMethods.{row_built_in, thread_method, start_thread}
-use Rattle.jm_world.specs.Classes.{FoundMethod, MethodName, as_class, name_of_method, thread_class}
+use Rattle.jm_world.specs.Classes.{MethodName, as_class, name_of_method, thread_class}
 use Rattle.jm_world.specs.Here.{Here, go_on}
 use Rattle.jm_world.specs.Next.{Next}
 use Rattle.jm_world.specs.Stepping.{step_thread}
 use Rattle.jm_heap.specs.declared.class_id.ClassId.{ClassId}
-use Rattle.jm_linked.specs.Links.{IsMethodOf}
 use Rattle.jm_state.specs.declared.state.State.{State}
 use Rattle.jm_interp.specs.declared.at.At.{At}
 use Rattle.jm_interp.specs.At.{HoldsAll, InMethod}

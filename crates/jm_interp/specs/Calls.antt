@@ -6,7 +6,7 @@ use Rattle.jm_program.specs.declared.class.Method.{Method as Declared}
 use Rattle.jm_program.specs.declared.code.Code.{Code}
 use Rattle.jm_program.specs.declared.descriptor.FieldType.{FieldType}
 use Rattle.jm_builtins.specs.List.{the_builtins}
-use Rattle.jm_frames.specs.FrameView.{FrameView, with_stack}
+use Rattle.jm_frames.specs.FrameView.{FrameView}
 use Rattle.jm_values.specs.Content.{Content}
 use Rattle.jm_values.specs.Rename.{stack_shape}
 use Rattle.jm_values.specs.Shape.{Among}

@@ -24,3 +24,4 @@ pub mod Athrow
 pub mod Locking
 pub mod Starting
 pub mod Entering
+pub mod PlainRuns

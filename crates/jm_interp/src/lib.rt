@@ -20,7 +20,8 @@
 //! before they are used, `initialization` the stages of a class, with its `superclass`, its `initializers` and its
 //! `constant_values`, over the calls on
 //! one thread in `top_frame`, `top_object`, `frames` and `print_operands`. A plain instruction looks up
-//! its thread, its top frame and its code, and takes no memory. The crate stands on `jm_state`,
+//! its thread, its top frame and its code, and takes no memory; [`run_plain`] looks these up once for
+//! as many as stand in a row (`plain_runs`). The crate stands on `jm_state`,
 //! `jm_linked`, `jm_tables`, `jm_calls`, `jm_ops`, `jm_text` and `jm_heap`'s trait.
 #![tactic(auto)]
 
@@ -47,6 +48,7 @@ mod monitors;
 mod narrowing;
 mod object_kind;
 mod plain;
+mod plain_runs;
 mod print_operands;
 mod readiness;
 mod receivers;
@@ -68,5 +70,6 @@ mod top_object;
 mod type_checks;
 mod unwinding;
 
+pub use plain_runs::run_plain;
 pub use stages::{init_stage, unwind_stage};
 pub use stepping::step_thread;

@@ -20,4 +20,5 @@ pub mod Marked
 pub mod ReachedObjects
 pub mod ObjectCells
 pub mod Held
+pub mod Counts
 pub mod ManySteps

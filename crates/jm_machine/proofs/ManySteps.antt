@@ -1,37 +1,24 @@
 -- One step more of a thread.
-use Rattle.std.proofs.Common.{◌≡◌, ℕ, zero, suc, ◌+◌, [], ◌∷◌, ◌++◌, refl, sym, ap, ◌∙◌, subst, replicate, arith, add-one, append-nil}
+use Rattle.std.proofs.Common.{◌≡◌, ℕ, ◌+◌, [], ◌∷◌, ◌++◌, refl, sym, ap, ◌∙◌, subst, replicate, arith, append-nil}
+use Rattle.std.proofs.lemmas.List.{replicate_more, replicate-append-replicate}
 use Rattle.jm_world.specs.World.{World}
 use Rattle.jm_world.specs.Run.{after, reply, run_from, replies_from}
-use Rattle.jm_world.specs.declared.event.Event.{Event}
 use Rattle.jm_world.specs.declared.event.Event.TheVariants.{Step}
 use Rattle.jm_world.specs.declared.reply.Reply.{Reply}
 use Rattle.jm_world.specs.declared.reply.ReplyKind.TheVariants.{Done}
-use Rattle.jm_machine.specs.View.{MachineView, MatchesWorld}
+use Rattle.jm_interp.specs.PlainRuns.{MakesDone}
+use Rattle.jm_machine.specs.View.{MachineView, MatchesWorld, machine_parts}
 use Rattle.jm_machine.specs.ManySteps.{AreSteps, steps_of}
 use Rattle.jm_machine.specs.declared.steps.StepsEnd.TheVariants.{AllMade, Other, OutOfMemory}
-
-world_after_suc : (w : World) (e : Event) (n : ℕ) → (after (run_from w (replicate n e)) e).world ≡ run_from w (replicate (suc n) e)
-world_after_suc w e zero = refl
-world_after_suc w e (suc n) = world_after_suc (after w e).world e n
-
-replies_after_suc : (w : World) (e : Event) (n : ℕ)
-    → replies_from w (replicate n e) ++ (after (run_from w (replicate n e)) e).reply ∷ [] ≡ replies_from w (replicate (suc n) e)
-replies_after_suc w e zero = refl
-replies_after_suc w e (suc n) = ap (λ rs. (after w e).reply ∷ rs) (replies_after_suc (after w e).world e n)
-
-repeat_more : {A : Type 0} (n : ℕ) (x : A) → replicate n x ++ x ∷ [] ≡ replicate (suc n) x
-repeat_more zero x = refl
-repeat_more (suc n) x = ap (λ xs. x ∷ xs) (repeat_more n x)
+use Rattle.jm_machine.proofs.Counts.{counts_after, world_after, replies_after}
 
 more_world : (w : World) (thread n : ℕ) (new : MachineView) → MatchesWorld new (after (run_from w (steps_of thread n)) (Step thread)).world
     → MatchesWorld new (run_from w (steps_of thread (n + 1)))
-more_world w thread n new m =
-    subst (MatchesWorld new) (world_after_suc w (Step thread) n ∙ ap (λ k. run_from w (steps_of thread k)) (sym (add-one n))) m
+more_world w thread n new m = subst (MatchesWorld new) (world_after w (Step thread) (n + 1) n 1 refl) m
 
 more_replies : (w : World) (thread n : ℕ) (r other : Reply) → replicate n r ≡ replies_from w (steps_of thread n)
     → other ≡ (after (run_from w (steps_of thread n)) (Step thread)).reply → replicate n r ++ other ∷ [] ≡ replies_from w (steps_of thread (n + 1))
-more_replies w thread n r other before is =
-    (λ i. before i ++ is i ∷ []) ∙ replies_after_suc w (Step thread) n ∙ ap (λ k. replies_from w (steps_of thread k)) (sym (add-one n))
+more_replies w thread n r other before is = (λ i. before i ++ is i ∷ []) ∙ replies_after w (Step thread) (n + 1) n 1 refl
 
 still_world : (w : World) (thread n : ℕ) (new : MachineView) → MatchesWorld new (run_from w (steps_of thread n))
     → MatchesWorld new (run_from w (steps_of thread (n + 0)))
@@ -49,8 +36,9 @@ pub record AreAlike (w : World) (thread : ℕ) (now : MachineView) (n : ℕ) (r 
   pub replies : replicate n r ≡ replies_from w (steps_of thread n)
   pub reply : r ≡ reply Done w
 
-pub none_alike : (w : World) (thread : ℕ) (now : MachineView) (r : Reply) → MatchesWorld now w → r ≡ reply Done w → AreAlike w thread now 0 r
-none_alike w thread now r m is = record { world = m; replies = refl; reply = is }
+pub first_alike : (w : World) (thread n : ℕ) (now : MachineView) (r : Reply) → MakesDone (machine_parts now) thread n w → r ≡ reply Done w
+    → AreAlike w thread now n r
+first_alike w thread n now r made is = record { world = made.world; replies = ap (replicate n) is ∙ sym made.replies; reply = is }
 
 module _ {w : World} {thread n : ℕ} {now : MachineView} {r : Reply} (a : AreAlike w thread now n r) (new : MachineView) where
   -- one step more, with any reply
@@ -59,13 +47,25 @@ module _ {w : World} {thread n : ℕ} {now : MachineView} {r : Reply} (a : AreAl
     pub one_alike : other ≡ r → AreAlike w thread new (n + 1) r
     one_alike same = record {
       world = more_world w thread n new m;
-      replies = ap (λ k. replicate k r) (add-one n) ∙ sym (repeat_more n r) ∙ ap (λ x. replicate n r ++ x ∷ []) (sym same)
+      replies = sym (replicate_more n r) ∙ ap (λ x. replicate n r ++ x ∷ []) (sym same)
           ∙ more_replies w thread n r other a.replies is;
       reply = a.reply;
     }
 
     pub other_made : AreSteps w thread new (record { alike = n; reply = r; end = Other other })
     other_made = record { world = more_world w thread n new m; replies = more_replies w thread n r other a.replies is; reply = a.reply }
+
+  -- more steps that were alike
+  pub more_alike : {k : ℕ} → MakesDone (machine_parts new) thread k (run_from w (steps_of thread n)) → AreAlike w thread new (n + k) r
+  more_alike {k} made =
+      let e = Step thread in
+      let same : r ≡ reply Done (run_from w (steps_of thread n)) = counts_after n w e r a.reply a.replies in
+      let more : replicate k r ≡ replies_from (run_from w (steps_of thread n)) (steps_of thread k) = ap (replicate k) same ∙ sym made.replies in
+      record {
+        world = subst (MatchesWorld new) (world_after w e (n + k) n k refl) made.world;
+        replies = sym (replicate-append-replicate n k r) ∙ (λ i. a.replies i ++ more i) ∙ replies_after w e (n + k) n k refl;
+        reply = a.reply;
+      }
 
   -- no step more
   module _ (m : MatchesWorld new (run_from w (steps_of thread n))) where

@@ -1,6 +1,6 @@
 // One event.
 
-ghost use Rattle.std.specs.Prelude.{◌≡◌, ◌+◌, ◌<◌, ◌^◌, ℕ, MatchResult, OnOk, Some, None, length};
+ghost use Rattle.std.specs.Prelude.{◌≡◌, ◌+◌, ◌<◌, ◌≤◌, ◌^◌, ℕ, MatchResult, OnOk, Some, None, length};
 ghost use Rattle.jm_world.specs.World.{World, Thread as ModelThread, thread_at};
 ghost use Rattle.jm_world.specs.Matches.{Matches};
 ghost use Rattle.jm_world.specs.Run.{after, after_event, after_step};
@@ -10,13 +10,14 @@ ghost use Rattle.jm_state.specs.Parts.{state_parts};
 ghost use Rattle.jm_state.specs.Reached.{LeavesReachable};
 ghost use Rattle.jm_state.specs.Runnable.{StateRuns};
 ghost use Rattle.jm_state.specs.declared.thread.Ending.TheVariants.{Running};
+ghost use Rattle.jm_interp.specs.PlainRuns.{MakesDone};
 ghost use Rattle.jm_machine.specs.Answered.{IsAnswered};
 ghost use Rattle.jm_machine.specs.Collected.{LeavesAfter};
 ghost use Rattle.jm_machine.specs.Threads.{ending_numbered};
 
 use crate::fault::OutOfMemory;
 use jm_heap::{Heap, Kind};
-use jm_interp::step_thread;
+use jm_interp::{run_plain, step_thread};
 use jm_linked::Linked;
 use jm_state::{Ending, Halt, State, StepEnd, Thread, collect};
 use jm_world::{Event, Reply, ReplyKind};
@@ -131,5 +132,32 @@ pub(crate) fn make_event<H: Heap>(
         Event::Step(number) => step_numbered(alloc, linked, state, nursery, number),
         Event::Minor => collect_kind(alloc, linked, state, Kind::Minor),
         Event::Full => collect_kind(alloc, linked, state, Kind::Full),
+    }
+}
+
+// Makes steps of a thread, one after the other, while they are instructions that touch one frame
+// alone and go on, at most so many, and answers how many: none where the machine has stopped, or
+// where there is no such thread or it has ended.
+#[inline]
+pub(crate) fn make_plain<H: Heap>(
+    linked: &Linked,
+    state: &mut State<H>,
+    number: u64,
+    most: usize,
+) -> usize
+    requires runs { StateRuns linked.now state.old }
+    requires matched { (w : World) × Matches (state_parts H.content linked.now state.old) w }
+    ensures steps { (w : World) → Matches (state_parts H.content linked.now state.old) w → MakesDone (state_parts H.content linked.now state.new) number result w }
+    ensures runs { StateRuns linked.now state.new }
+    ensures most { result ≤ most }
+{
+    if state.stop.is_some() {
+        return 0;
+    }
+    match ending_of(&state.threads, number) {
+        Some(Ending::Running) => run_plain(linked, state, number, most),
+        Some(Ending::Returned) => 0,
+        Some(Ending::EndedBy(_)) => 0,
+        None => 0,
     }
 }

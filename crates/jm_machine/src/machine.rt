@@ -5,15 +5,16 @@ ghost use Rattle.jm_world.specs.Monitors.{monitor_in};
 ghost use Rattle.jm_world.specs.World.{World, live_among, thread_at};
 ghost use Rattle.jm_world.specs.Run.{after, run_from, replies_from};
 ghost use Rattle.jm_state.specs.Reached.{AreReachable};
+ghost use Rattle.jm_interp.specs.PlainRuns.{MakesDone};
 ghost use Rattle.jm_machine.specs.Collected.{LeavesAfter};
 ghost use Rattle.jm_machine.specs.Readers.{model_frame, model_monitor, frame_at, pending_of, IsOfProgram, TellsObject};
 ghost use Rattle.jm_machine.specs.ReachedObjects.{TellsReached};
 ghost use Rattle.jm_machine.specs.ManySteps.{AreSteps, EndsBy};
 ghost use Rattle.jm_machine.specs.Threads.{class_ended_by, is_live};
-ghost use Rattle.jm_machine.specs.View.{MatchesWorld};
+ghost use Rattle.jm_machine.specs.View.{MatchesWorld, machine_parts};
 
 use crate::class::class_name;
-use crate::event::{ending_of, make_event, reply_of};
+use crate::event::{ending_of, make_event, make_plain, reply_of};
 use crate::fault::{Interrupted, LoadFault, OutOfMemory};
 use crate::frame::{WorldFrame, world_frame};
 use crate::load::{is_too_small, make_first_state};
@@ -114,7 +115,8 @@ impl<H: Heap> Machine<H> {
         ensures ends { EndsBy most result }
     {
         let reply = reply_of(&self.state, ReplyKind::Done);
-        for alike in 0..most {
+        let mut alike = self.run_plain(thread, most);
+        while alike < most {
             let Ok(next) = self.step_at(nursery, Event::Step(thread)) else {
                 return Steps {
                     alike,
@@ -129,12 +131,24 @@ impl<H: Heap> Machine<H> {
                     end: StepsEnd::Other(next),
                 };
             }
+            alike += 1;
+            alike += self.run_plain(thread, most - alike);
         }
         Steps {
-            alike: most,
+            alike,
             reply,
             end: StepsEnd::AllMade,
         }
+    }
+
+    // Makes steps of one thread, one after the other, while they are instructions that touch one
+    // frame alone and go on, at most so many, and answers how many.
+    #[inline]
+    fn run_plain(&mut self, thread: u64, most: usize) -> usize
+        ensures steps { (w : World) → MatchesWorld self.old w → MakesDone (machine_parts self.new) thread result w }
+        ensures most { result ≤ most }
+    {
+        make_plain(&self.linked, &mut self.state, thread, most)
     }
 
     /// Makes events, one after the other, and answers their replies. `Interrupted`: a growth was

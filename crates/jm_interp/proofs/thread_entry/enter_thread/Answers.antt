@@ -1,4 +1,4 @@
-use Rattle.std.proofs.Common.{◌≡◌, Option, Some, None, ℕ, sym, ap, ◌∙◌}
+use Rattle.std.proofs.Common.{sym, ap, ◌∙◌}
 use Rattle.jm_world.specs.Invocation.{class_of}
 use Rattle.jm_state.specs.Parts.{named_type}
 use Rattle.jm_interp.specs.Standing.{ThreadRest}
