@@ -6,4 +6,14 @@ pub mod ThreadsShown
 pub mod ObjectsShown
 pub mod ClassesNamed
 pub mod MethodTypes
+pub mod SamePlaces
+pub mod Instructions
+pub mod LiveTurns
+pub mod KeptThreads
+pub mod Repeats
+pub mod Stepped
+pub mod Continues
+pub mod LongTurns
+pub mod HeapShown
+pub mod Obeying
 pub mod Sessions

@@ -4,6 +4,7 @@ use Rattle.std.specs.Prelude.{◌≡◌, ℕ, zero, suc, ◌+◌, ◌-◌, List,
 use Rattle.std.specs.List.{filter, flat_map, list_any}
 use Rattle.std.specs.Fmt.{decimal}
 use Rattle.jm_program.specs.Names.{same_text}
+use Rattle.jm_program.specs.declared.class.ClassParts.{ClassParts}
 use Rattle.jm_program.specs.declared.class.Method.{Method}
 use Rattle.jm_world.specs.Types.{same_method_type}
 use Rattle.jm_world.specs.Classes.{method_named}
@@ -13,10 +14,13 @@ use Rattle.jm_world.specs.Run.{After, after}
 use Rattle.jm_world.specs.RoundRobin.{live_from, is_blocked, is_stopped}
 use Rattle.jm_world.specs.declared.event.Event.{Event}
 use Rattle.jm_world.specs.declared.event.Event.TheVariants as event
+use Rattle.jm_world.specs.declared.reply.ReplyKind.{ReplyKind}
 use Rattle.jm_debug.specs.Commands.{command}
 use Rattle.jm_debug.specs.Texts.{place_text, place_in, kind_text}
 use Rattle.jm_debug.specs.Views.{Lines, where_lines, locals_lines, stack_lines, statics_lines, object_lines, heap_lines, monitor_lines}
 use Rattle.jm_debug.specs.declared.place.Place.{Place}
+use Rattle.jm_debug.specs.declared.turn.Turn.{Turn}
+use Rattle.jm_debug.specs.declared.turn.Turn.TheVariants as turn
 use Rattle.jm_debug.specs.declared.command.Command.{Command}
 use Rattle.jm_debug.specs.declared.command.Command.TheVariants.{Break, Clear, Step, Minor, Full, Continue, Where, Locals, Stack, Statics, Object, Heap, Monitors}
 use Rattle.jm_debug.specs.declared.fault.DebugFault.{DebugFault}
@@ -77,8 +81,8 @@ views (Some lines) s = lists lines s
 
 abbrev pub same_place : Place → Place → Bool
 same_place p q =
-    same_text p.class q.class && same_text p.method q.method && same_method_type p.descriptor q.descriptor
-    && nat_eq p.instruction q.instruction
+    nat_eq p.instruction q.instruction && same_text p.class q.class && same_text p.method q.method
+    && same_method_type p.descriptor q.descriptor
 
 abbrev pub holds_break : List Place → Place → Bool
 holds_break breaks p = list_any (same_place p) breaks
@@ -88,11 +92,14 @@ abbrev pub has_instruction : ℕ → Option Method → Bool
 has_instruction number None = false
 has_instruction number (Some m) = elim m.code [ None ↦ false | Some code ↦ nat_lt number (length code.instructions) ]
 
+abbrev pub is_place_of : List ClassParts → Place → Bool
+is_place_of program p = has_instruction p.instruction (method_named program (record { class = p.class; name = p.method; descriptor = p.descriptor }))
+
 abbrev pub is_place : World → Place → Bool
-is_place w p = has_instruction p.instruction (method_named w.program (record { class = p.class; name = p.method; descriptor = p.descriptor }))
+is_place w p = is_place_of w.program p
 
 abbrev pub with_break : Place → List Place → List Place
-with_break p breaks = if holds_break breaks p then breaks else p ∷ breaks
+with_break p breaks = if holds_break breaks p then breaks else breaks ++ (p ∷ [])
 
 abbrev pub without_break : Place → List Place → List Place
 without_break p breaks = filter (λ q. not (same_place p q)) breaks
@@ -118,11 +125,14 @@ abbrev pub live_in_turn : World → ℕ → Option ℕ
 live_in_turn w cursor = elim (live_from cursor 1 w.threads) [ Some n ↦ Some n | None ↦ live_from 1 1 w.threads ]
 
 -- where a thread stands, if its top frame is a method's
+abbrev pub place_of_frame : Frame → Option Place
+place_of_frame (method_frame m a monitor) = Some (place_in m a.at)
+place_of_frame (initialization_frame class stage) = None
+place_of_frame entry_frame = None
+
 abbrev pub place_of_frames : List Frame → Option Place
 place_of_frames [] = None
-place_of_frames (method_frame m a monitor ∷ fs) = Some (place_in m a.at)
-place_of_frames (initialization_frame class stage ∷ fs) = None
-place_of_frames (entry_frame ∷ fs) = None
+place_of_frames (f ∷ fs) = place_of_frame f
 
 abbrev pub place_of_thread : Option Thread → Option Place
 place_of_thread None = None
@@ -138,31 +148,41 @@ break_before s first n = if first then None else break_at s.breaks (place_of_thr
 
 -- whose turn it is, or why it is no thread's: none is live, or as many events in a row as threads are
 -- live were blocked
-pub data Turn : Type 0 where
-  over : List ℕ → Turn
-  turn : ℕ → Turn
-
 abbrev pub turn_of : Session → ℕ → Turn
 turn_of s blocked = elim (live_in_turn s.world s.cursor) [
-  | None ↦ over (codes "ended")
-  | Some n ↦ if nat_eq blocked (live_among s.world.threads) then over (codes "blocked") else turn n
+  | None ↦ turn.Ended
+  | Some n ↦ if nat_eq blocked (live_among s.world.threads) then turn.Blocked else turn.Of n
 ]
 
 -- a break with its thread; the thread's turn is still to come
+abbrev pub break_text : ℕ → Place → List ℕ
+break_text n p = codes "break t" ++ decimal n ++ codes " " ++ place_text p
+
 abbrev pub breaks_at : ℕ → Place → Session → Shown
-breaks_at n p s = says (codes "break t" ++ decimal n ++ codes " " ++ place_text p) (record s { cursor = n })
+breaks_at n p s = says (break_text n p) (record s { cursor = n })
+
+-- a session after an event of the thread whose turn it was
+abbrev pub turned : ℕ → Session → Session
+turned n s = record s { world = (after s.world (event.Step n)).world; cursor = n + 1 }
+
+-- how many events in a row were blocked, after one more
+abbrev pub blocked_after : ReplyKind → ℕ → ℕ
+blocked_after kind blocked = if is_blocked kind then blocked + 1 else 0
 
 -- at most so many events; whether none was made yet, and how many in a row were blocked
-abbrev pub continue_from : ℕ → Bool → ℕ → Session → Shown
-continue_from zero first blocked s = elim (turn_of s blocked) [ over why ↦ says why s | turn n ↦ says (codes "limit") s ]
+unfoldable pub continue_from : ℕ → Bool → ℕ → Session → Shown
+continue_from zero first blocked s = elim (turn_of s blocked) [
+  | turn.Ended ↦ says (codes "ended") s
+  | turn.Blocked ↦ says (codes "blocked") s
+  | turn.Of n ↦ says (codes "limit") s
+]
 continue_from (suc left) first blocked s = elim (turn_of s blocked) [
-  | over why ↦ says why s
-  | turn n ↦ elim (break_before s first n) [
+  | turn.Ended ↦ says (codes "ended") s
+  | turn.Blocked ↦ says (codes "blocked") s
+  | turn.Of n ↦ elim (break_before s first n) [
     | Some p ↦ breaks_at n p s
-    | None ↦ let made : After = after s.world (event.Step n) in
-        let next : Session = record s { world = made.world; cursor = n + 1 } in
-        if is_stopped made.reply.kind then says (codes "stopped") next
-        else continue_from left false (if is_blocked made.reply.kind then blocked + 1 else 0) next
+    | None ↦ let kind : ReplyKind = (after s.world (event.Step n)).reply.kind in
+        if is_stopped kind then says (codes "stopped") (turned n s) else continue_from left false (blocked_after kind blocked) (turned n s)
   ]
 ]
 

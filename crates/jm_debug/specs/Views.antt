@@ -138,10 +138,16 @@ object_lines w k = if is_among k (reach w) then option_map (object_lines_of w.pr
 abbrev pub reached_lines : List ℕ → ℕ → Object → Lines
 reached_lines numbers k o = if is_among k numbers then object_text k o ∷ [] else []
 
+-- how many objects are reachable, the cells that they take, and how many there may be
+unfoldable pub heap_text : ℕ → ℕ → ℕ → List ℕ
+heap_text objects cells limit = codes "reachable " ++ decimal objects ++ codes " objects " ++ decimal cells ++ codes " cells limit " ++ decimal limit
+
 unfoldable pub heap_lines : World → Lines
-heap_lines w =
-    (codes "reachable " ++ decimal (length (reach w)) ++ codes " objects " ++ decimal (reach_cells w) ++ codes " cells limit " ++ decimal w.limit)
-    ∷ lines_from (reached_lines (reach w)) 0 w.heap
+heap_lines w = heap_text (length (reach w)) (reach_cells w) w.limit ∷ lines_from (reached_lines (reach w)) 0 w.heap
+
+-- the line of an object that has its number with it
+abbrev pub numbered_lines : ℕ → ℕ × Object → Lines
+numbered_lines index o = object_text o.0 o.1 ∷ []
 
 -- ---- monitors
 

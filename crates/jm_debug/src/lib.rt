@@ -4,28 +4,40 @@
 //! `jm_world`: a session is a world, the places that hold a break, and whose turn it is; a line
 //! denotes a [`Command`] or none; and a command answers bytes and leaves the next session, or is
 //! refused. `proofs/Sessions` computes sessions of programs that are written out, byte for byte.
-//! [`Command::parse`] reads a line; [`frames`], [`locals`], [`stack`], [`statics`] and [`object`] show
-//! parts of the world that a machine matches, in the bytes of the answer.
+//! A [`Debugger`] has a machine, and is at a session of each world that the machine matches: what
+//! [`Debugger::command`] answers to a line, and where it is then, is what that definition says, session
+//! after session. [`Command::parse`] reads the line; [`frames`], [`locals`], [`stack`], [`statics`],
+//! [`object`], [`heap`] and [`monitors`] show parts of the world, in the bytes of the answer.
 //!
 //! The crate stands on the readers of `jm_machine`, and its proofs on lemmas of `jm_schedule` too.
 #![tactic(auto)]
 
 mod answer;
+mod breaks;
 mod command;
+mod debugger;
+mod events;
 mod fault;
 mod frame;
+mod held_monitors;
+mod instruction;
 mod place;
 mod reached_object;
+mod reached_objects;
 mod static_fields;
 pub mod text;
 mod thread;
+mod turn;
 mod value;
 mod word;
 
 pub use command::Command;
+pub use debugger::Debugger;
 pub use fault::DebugFault;
 pub use frame::{locals, stack};
+pub use held_monitors::monitors;
 pub use place::Place;
 pub use reached_object::object;
+pub use reached_objects::heap;
 pub use static_fields::statics;
 pub use thread::frames;

@@ -2,8 +2,10 @@
 
 ghost use Rattle.std.specs.Prelude.{◌≡◌, ◌<◌, length, IfSome};
 ghost use Rattle.jm_debug.specs.Commands.{Reads, method_type, first_of, last_of, member, class_member, place};
+ghost use Rattle.jm_debug.specs.Answering.{model_place};
 
 use crate::fault::DebugFault;
+use crate::text::PlaceText;
 use crate::word::{name, number};
 use jm_program::{Descriptor, DescriptorFault, MethodDescriptor, Name};
 use std::alloc::Global;
@@ -93,6 +95,18 @@ fn class_member(alloc: Global, units: &[u16], instruction: u64) -> Result<Place,
 }
 
 impl Place {
+    /// The place, to be written.
+    pub(crate) fn text(&self) -> PlaceText<'_>
+        ensures { model_place result ≡ self.now }
+    {
+        PlaceText {
+            class: &self.class,
+            method: &self.method,
+            descriptor: &self.descriptor,
+            instruction: self.instruction,
+        }
+    }
+
     /// The place that a word names, CLASS.METHODDESC:N. `BadCommand`: it names none; `OutOfMemory`:
     /// a growth was refused.
     pub(crate) fn read(alloc: Global, units: &[u16]) -> Result<Place, DebugFault>

@@ -4,7 +4,6 @@ ghost use Rattle.std.specs.Prelude.{◌≡◌, ◌++◌, OnOk, IfOk, option_map,
 ghost use Rattle.std.specs.List.{flat_map, zip};
 ghost use Rattle.std.specs.Fmt.{decimal};
 ghost use Rattle.jm_world.specs.Types.{array_of};
-ghost use Rattle.jm_world.specs.Objects.{size};
 ghost use Rattle.jm_world.specs.World.{World};
 ghost use Rattle.jm_machine.specs.Readers.{model_value, model_element, model_type, model_field};
 ghost use Rattle.jm_machine.specs.Seen.{fields_of_type};
@@ -39,9 +38,9 @@ fn write_array_type(out: &mut String, component: &FieldType) -> Result<(), Alloc
     write!(out, "[{component}")
 }
 
-// Writes the class of an object, or the descriptor of an array.
+/// Writes the class of an object, or the descriptor of an array.
 #[tactic(auto, unfolding(crate::specs::Texts::object_type_text))]
-fn write_type(alloc: Global, out: &mut String, kind: ObjectKind<'_>) -> Result<(), AllocError>
+pub fn write_type(alloc: Global, out: &mut String, kind: ObjectKind<'_>) -> Result<(), AllocError>
     ensures { OnOk result (out.new.bytes.items ≡ out.old.bytes.items ++ object_type_text (model_type kind.entry)) }
 {
     match kind {
@@ -60,18 +59,6 @@ fn write_type(alloc: Global, out: &mut String, kind: ObjectKind<'_>) -> Result<(
             };
             write_array_type(out, &component)
         }
-    }
-}
-
-// The cells of an object.
-#[tactic(auto, unfolding(jm_world::specs::Objects::size_of))]
-fn cells<H: Heap>(object: &WorldObject<'_, H>) -> u64
-    ensures { result ≡ size object.now.object }
-{
-    let length = u64::from(object.length());
-    match object.kind() {
-        ObjectKind::Instance { .. } => 2 + length,
-        ObjectKind::Array { .. } => 3 + length,
     }
 }
 
@@ -141,8 +128,9 @@ fn write_parts<H: Heap>(out: &mut String, object: &WorldObject<'_, H>) -> Result
     }
 }
 
+/// Writes the number of an object, and a blank.
 #[tactic(auto, unfolding(crate::specs::Texts::reference_text))]
-fn write_number(out: &mut String, number: u64) -> Result<(), AllocError>
+pub fn write_number(out: &mut String, number: u64) -> Result<(), AllocError>
     ensures { OnOk result (out.new.bytes.items ≡ out.old.bytes.items ++ (reference_text number ++ codes " ")) }
 {
     write!(out, "#{number} ")
@@ -165,7 +153,7 @@ fn write_header<H: Heap>(
 {
     write_number(out, number)?;
     write_type(alloc, out, object.kind())?;
-    write_cells(out, cells(object))?;
+    write_cells(out, object.cells())?;
     Ok(())
 }
 

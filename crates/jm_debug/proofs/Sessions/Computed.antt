@@ -16,13 +16,13 @@ use Rattle.jm_world.specs.Loading.{loaded_world}
 use Rattle.jm_world.specs.Run.{after}
 use Rattle.jm_debug.specs.Commands.{command}
 use Rattle.jm_debug.specs.Texts.{reference_text, value_text, object_type_text, place_text, line_text, stage_text, frame_text, kind_text}
-use Rattle.jm_debug.specs.Views.{where_lines, locals_lines, stack_lines, static_text, statics_lines, field_text, object_text, header_text, object_lines_of, object_lines, heap_lines, monitor_text, monitor_lines}
-use Rattle.jm_debug.specs.Session.{session_of, obeyed, shown, answers}
+use Rattle.jm_debug.specs.Views.{where_lines, locals_lines, stack_lines, static_text, statics_lines, field_text, object_text, header_text, object_lines_of, object_lines, heap_text, heap_lines, monitor_text, monitor_lines}
+use Rattle.jm_debug.specs.Session.{session_of, continue_from, obeyed, shown, answers}
 
 -- the answers to lines, one after the other, from the load of a program on with so many cells; its name
 -- opens every word that a session computes with
 unfoldable pub answers_within : ℕ → List ClassParts → List (List ℕ) → List (List ℕ)
-unfolding command digits encode_utf8 base_of class_at letter_at element_at field_at parameters_at whole_field whole_return whole_method whole_descriptor escape_text unit_text pair_text lone_text after_text step_text text_from element_line type_line return_line method_line reached reached_cells class_named chain is_subclass resolve_field resolve_method select select_special instance_fields size_of reach reach_cells loaded_world after reference_text value_text object_type_text place_text line_text stage_text frame_text kind_text where_lines locals_lines stack_lines static_text statics_lines field_text object_text header_text object_lines_of object_lines heap_lines monitor_text monitor_lines obeyed shown
+unfolding command digits encode_utf8 base_of class_at letter_at element_at field_at parameters_at whole_field whole_return whole_method whole_descriptor escape_text unit_text pair_text lone_text after_text step_text text_from element_line type_line return_line method_line reached reached_cells class_named chain is_subclass resolve_field resolve_method select select_special instance_fields size_of reach reach_cells loaded_world after reference_text value_text object_type_text place_text line_text stage_text frame_text kind_text where_lines locals_lines stack_lines static_text statics_lines field_text object_text header_text object_lines_of object_lines heap_text heap_lines monitor_text monitor_lines continue_from obeyed shown
 answers_within limit program lines = answers (session_of (loaded_world program limit)) lines
 
 -- a line, and what is printed for it

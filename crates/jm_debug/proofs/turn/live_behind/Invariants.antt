@@ -1,0 +1,9 @@
+-- No thread that was asked is live.
+use Rattle.std.proofs.Common.{◌+◌}
+use Rattle.jm_world.specs.World.{World}
+use Rattle.jm_machine.specs.View.{MatchesWorld}
+use Rattle.jm_debug.proofs.LiveTurns.{NoneLive}
+use Rattle.jm_debug.proofs.turn.live_behind.Given as goal
+
+abbrev pub invariant-loop-before : goal.invariant-loop-before
+invariant-loop-before g l = (w : World) → MatchesWorld l.machine w → NoneLive w (l.last + 1) (l.before + 1)
