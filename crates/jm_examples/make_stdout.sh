@@ -3,8 +3,8 @@
 # the class files, and of what the real Jasmin made of the texts. Each class is equal when it is
 # written and read again, and the worked text has the bytes of the worked class file. Each program
 # prints what a real Java printed, or is refused for what comes later (expected_runs.py). Each row of
-# the tables of jobs and of questions is as it should be. Needs javap and python3. No check runs
-# this: stdout is committed.
+# the tables of jobs and of questions is as it should be, and so is what four workers do, in whatever
+# order. Needs javap and python3. No check runs this: stdout is committed.
 set -eu
 cd "$(dirname "$0")"
 {
@@ -15,8 +15,12 @@ cd "$(dirname "$0")"
     sed 's/$/ equal/' data/texts/expected.txt
     echo "sum.j has the $(wc -c < data/sum.class) bytes of sum.class"
     python3 expected_runs.py
+    # (the answers are those of the first row of data/jobs/sessions.txt, and by docs/DEBUGGER.md)
+    printf '%s\n' "conversation: status 0, 6 answers" "ok" "break t1 Main.main([Ljava/lang/String;)V:3" \
+        "0 = #0" "1 = int 2" "2 = int 3" "? 81 NoSuch" "? 80 BadCommand" "ended"
     for table in data/jobs/*.txt data/answers/*.txt; do
         rows=$(grep -cv '^#' "$table")
         echo "${table#data/}: $rows of $rows rows are as they should be"
     done
+    cat data/workers/expected.txt
 } > stdout

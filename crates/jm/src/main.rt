@@ -1,5 +1,6 @@
 //! `jm`: runs the program of some class files and assembler texts, by turns of its threads or by the
-//! events of a schedule, and assembles texts into class files.
+//! events of a schedule, assembles texts into class files, and answers the commands of a session of
+//! the debugger.
 //!
 //! The command line is read by `jm_options`, and what a job does is `jm_execute`'s. What stands
 //! here reads the files, hands both over with the standard streams or the file to write, and ends
@@ -14,10 +15,10 @@ mod word;
 
 use files::{input_file, input_files};
 use jm_execute::{
-    AssembleJob, Job, RunEvents, RunJob, Status, Watched, execute, write_out_of_memory,
+    AssembleJob, DebugJob, Job, RunEvents, RunJob, Status, Watched, execute, write_out_of_memory,
 };
 use jm_options::{
-    AssembleOptions, MAX_QUANTUM, MAX_STEPS, Options, RunOptions, UsageFault, options,
+    AssembleOptions, DebugOptions, MAX_QUANTUM, MAX_STEPS, Options, RunOptions, UsageFault, options,
 };
 use jm_schedule::{RoundRobin, round_robin};
 use output::Output;
@@ -60,6 +61,7 @@ fn run_job(rt: &HostRuntime, asked: RunOptions) -> Result<Job, AllocError> {
         heap: asked.heap,
         events: events_of(rt, asked.schedule, turns),
         program: input_files(rt, asked.files)?,
+        show_heap: asked.show_heap,
     }))
 }
 
@@ -70,7 +72,15 @@ fn assemble_job(rt: &HostRuntime, asked: AssembleOptions) -> Job {
     })
 }
 
-// Does a job, with its output where it belongs. A run may wait for its machine's lock.
+fn debug_job(rt: &HostRuntime, asked: DebugOptions) -> Result<Job, AllocError> {
+    Ok(Job::Debug(DebugJob {
+        heap: asked.heap,
+        program: input_files(rt, asked.files)?,
+    }))
+}
+
+// Does a job, with its output where it belongs. A run may wait for its machine's lock, and a session
+// for a line.
 fn done(rt: &HostRuntime, wait: &impl Wait, job: &Job) -> Status {
     let mut input = Watched::new(rt.stdin());
     let mut out = Watched::new(Output::of(rt, job));
@@ -111,6 +121,10 @@ fn status(rt: &HostRuntime, wait: &impl Wait) -> Status {
             Err(_) => out_of_memory(rt),
         },
         Ok(Options::Assemble(asked)) => done(rt, wait, &assemble_job(rt, asked)),
+        Ok(Options::Debug(asked)) => match debug_job(rt, asked) {
+            Ok(job) => done(rt, wait, &job),
+            Err(_) => out_of_memory(rt),
+        },
         Err(UsageFault::Usage(text)) => refused(rt, &text),
         Err(UsageFault::OutOfMemory) => out_of_memory(rt),
     }

@@ -2,7 +2,9 @@
 
 ghost use Rattle.std.specs.Prelude.{⊤};
 
-use jm_execute::{AssembleJob, Job, Watchable, WriteFailed, put_by_write, put_line_by_write};
+use jm_execute::{
+    AssembleJob, Job, Watchable, WriteFailed, put_by_write, put_line_by_write, put_through_by_flush,
+};
 use std::fmt::Display;
 use std::fs::File;
 use std::io;
@@ -46,7 +48,7 @@ impl<'a> Output<'a> {
     /// The output of a job. Nothing is opened yet.
     pub fn of(rt: &'a HostRuntime, job: &'a Job) -> Output<'a> {
         match job {
-            Job::Run(_) => Output::Standard(rt.stdout()),
+            Job::Run(_) | Job::Debug(_) => Output::Standard(rt.stdout()),
             Job::Assemble(AssembleJob { output, .. }) => Output::ClassFile(OutputFile {
                 rt,
                 name: output,
@@ -82,5 +84,9 @@ impl Watchable for Output<'_> {
 
     fn put_line<D: Display + Drop>(&mut self, text: D) -> Result<(), WriteFailed> {
         put_line_by_write(self, text)
+    }
+
+    fn put_through(&mut self) -> Result<(), WriteFailed> {
+        put_through_by_flush(self)
     }
 }

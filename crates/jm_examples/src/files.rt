@@ -180,6 +180,7 @@ pub const TABLES: &[&str] = &[
     "jobs/methods.txt",
     "jobs/program_files.txt",
     "jobs/runs.txt",
+    "jobs/sessions.txt",
     "jobs/several_files.txt",
     "jobs/strings.txt",
     "jobs/threads.txt",

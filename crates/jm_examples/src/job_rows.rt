@@ -5,8 +5,10 @@ use crate::jobs::HEAP;
 /// What is done with the files of a row.
 #[derive(Clone, Copy)]
 pub enum JobKind {
-    /// Their program is run, with a heap of so many cells.
-    Run { heap: u32 },
+    /// Their program is run, with a heap of so many cells, which is shown at the end or not.
+    Run { heap: u32, show_heap: bool },
+    /// The commands of a session of the debugger are answered, with a heap of so many cells.
+    Debug { heap: u32 },
     /// The class file of the text is made.
     Assemble,
     /// The classes are linked.
@@ -21,7 +23,7 @@ pub struct JobRow<'a> {
     pub names: &'a str,
     /// What stands in the files.
     pub contents: &'a str,
-    /// Which events are made.
+    /// Which events are made, or the commands.
     pub events: &'a str,
     pub output: &'a str,
     /// The lines on standard error.
@@ -29,17 +31,34 @@ pub struct JobRow<'a> {
     pub status: u8,
 }
 
-// What a word says to do; behind `run` the heap's cells may stand.
+// How many cells stand behind a word in a text, or as many as a heap has where none are named.
+fn cells_behind(word: &str, text: &str) -> Option<u32> {
+    match text.strip_prefix(word)? {
+        "" => Some(HEAP),
+        rest => rest.strip_prefix(" ")?.parse().ok(),
+    }
+}
+
+// What a word says to do; behind `run`, `show` and `debug` the heap's cells may stand.
 fn kind_of(word: &str) -> Option<JobKind> {
     match word {
-        "run" => Some(JobKind::Run { heap: HEAP }),
-        "asm" => Some(JobKind::Assemble),
-        "link" => Some(JobKind::Link),
-        _ => {
-            let heap = word.strip_prefix("run ")?.parse().ok()?;
-            Some(JobKind::Run { heap })
-        }
+        "asm" => return Some(JobKind::Assemble),
+        "link" => return Some(JobKind::Link),
+        _ => {}
     }
+    if let Some(heap) = cells_behind("debug", word) {
+        return Some(JobKind::Debug { heap });
+    }
+    if let Some(heap) = cells_behind("show", word) {
+        return Some(JobKind::Run {
+            heap,
+            show_heap: true,
+        });
+    }
+    Some(JobKind::Run {
+        heap: cells_behind("run", word)?,
+        show_heap: false,
+    })
 }
 
 /// The row of a line whose columns have ` | ` between them.

@@ -1,6 +1,7 @@
-// The jobs that are done: a program of files that is run, and a text that is assembled.
+// The jobs that are done: a program of files that is run or shown by the debugger, and a text that is
+// assembled.
 
-use jm_execute::{AssembleJob, Contents, InputFile, Job, RunEvents, RunJob};
+use jm_execute::{AssembleJob, Contents, DebugJob, InputFile, Job, RunEvents, RunJob};
 use std::alloc::{AllocError, Global};
 
 /// The limit of the heap where none is named, in cells.
@@ -14,13 +15,20 @@ pub fn input_file(alloc: Global, name: &str, contents: Contents) -> Result<Input
     })
 }
 
-/// The run of a program's files by these events, with a heap of so many cells.
-pub fn run_job(heap: u32, events: RunEvents, program: Vec<InputFile>) -> Job {
+/// The run of a program's files by these events, with a heap of so many cells, which is shown at the
+/// end or not.
+pub fn run_job(heap: u32, events: RunEvents, program: Vec<InputFile>, show_heap: bool) -> Job {
     Job::Run(RunJob {
         heap,
         events,
         program,
+        show_heap,
     })
+}
+
+/// A session of the debugger over a program's files, with a heap of so many cells.
+pub fn debug_job(heap: u32, program: Vec<InputFile>) -> Job {
+    Job::Debug(DebugJob { heap, program })
 }
 
 /// The class file `Sum.class` of a text.

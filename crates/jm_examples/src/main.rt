@@ -3,8 +3,10 @@
 //! the rows of the codes, of the exception tables and of the line number tables, and whether it is
 //! equal when it is written and read again; for each file that is refused why. Then a line compares
 //! the bytes of the worked text with the worked class file. Then it runs the programs among its data,
-//! and prints what each prints and how it ends. Last it does the jobs of the tables in jobs/, and
-//! prints how many rows of each are as they should be, and those that are not.
+//! and prints what each prints and how it ends. It does the jobs of the tables in jobs/ and answers the
+//! rows of those in answers/, and prints how many rows of each are as they should be, and those that are
+//! not. Last four workers share the machine of two printing threads, whose journal is run again. With
+//! words it makes turns through the lock instead, for `bench/shared`.
 #![tactic(auto)]
 
 mod again;
@@ -14,11 +16,13 @@ mod class_files;
 mod class_lines;
 mod codes;
 mod columns;
+mod conversation;
 mod descriptors;
 mod events;
 mod files;
 mod job_rows;
 mod jobs;
+mod journals;
 mod notation;
 mod outcomes;
 mod plain_rows;
@@ -26,11 +30,15 @@ mod pools;
 mod programs;
 mod row;
 mod schedules;
+mod shared_run;
 mod tables;
 mod tokens;
+mod turns;
 mod values;
+mod workers;
 
 use again::read_again;
+use conversation::print_conversation;
 use files::{ACCEPTED, ANSWERS, REFUSED, TABLES, TEXTS};
 use jm_class_reader::read_class;
 use jm_class_writer::write_class;
@@ -38,11 +46,17 @@ use jm_jasmin::assemble;
 use jm_program::Class;
 use programs::{print_programs, print_runs};
 use row::row_of;
+use shared_run::print_workers;
 use std::rt::Files;
-use std::{fs, io};
+use std::{env, fs, io};
 use tables::{print_answers, print_tables};
+use turns::print_turns;
 
 fn main(rt: HostRuntime) -> io::Result<()> {
+    let words: Vec<String> = env::args(&rt)?.skip(1).collect(rt.alloc())?;
+    if !words.is_empty() {
+        return print_turns(&rt, &rt, &words);
+    }
     println!(rt; "file fields methods max_stack max_locals instructions handlers lines again")?;
     print_class_files(&rt, ACCEPTED)?;
     print_class_files(&rt, REFUSED)?;
@@ -51,8 +65,10 @@ fn main(rt: HostRuntime) -> io::Result<()> {
     print_programs(&rt, &rt, "programs.txt")?;
     print_runs(&rt, &rt, "worked.txt")?;
     print_runs(&rt, &rt, "runs.txt")?;
+    print_conversation(&rt, &rt, "sum.class")?;
     print_tables(&rt, &rt, TABLES)?;
-    print_answers(&rt, &rt, ANSWERS)
+    print_answers(&rt, &rt, ANSWERS)?;
+    print_workers(&rt, &rt, "workers/Main.j workers/W.j")
 }
 
 fn print_class_files(rt: &(impl Print + Files + AllocGlobal), files: &[&str]) -> io::Result<()> {

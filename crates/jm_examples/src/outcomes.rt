@@ -3,7 +3,7 @@
 use crate::columns::{bytes_of, file_of, files_of};
 use crate::events::events_of;
 use crate::job_rows::{JobKind, JobRow};
-use crate::jobs::{assembly_job, run_job};
+use crate::jobs::{assembly_job, debug_job, run_job};
 use jm_execute::{InputFile, Job, Watched, class_of, execute};
 use jm_linker::link;
 use std::io::ErrorKind;
@@ -40,24 +40,39 @@ pub fn wanted_of(rt: &HostRuntime, row: &JobRow<'_>) -> io::Result<Outcome> {
 /// What comes of a row's job.
 pub fn outcome_of(rt: &HostRuntime, wait: &impl Wait, row: &JobRow<'_>) -> io::Result<Outcome> {
     match row.kind {
-        JobKind::Run { heap } => {
+        JobKind::Run { heap, show_heap } => {
             let events = events_of(rt, row.events)?;
             let program = files_of(rt, row.names, row.contents)?;
-            done(rt, wait, &run_job(heap, events, program))
+            done(
+                rt,
+                wait,
+                &run_job(heap, events, program, show_heap),
+                b"unread".as_slice(),
+            )
+        }
+        JobKind::Debug { heap } => {
+            let commands = bytes_of(rt, row.events)?;
+            let program = files_of(rt, row.names, row.contents)?;
+            done(rt, wait, &debug_job(heap, program), &commands)
         }
         JobKind::Assemble => {
             let text = file_of(rt, row.names, row.contents)?;
-            done(rt, wait, &assembly_job(rt.alloc(), text)?)
+            done(
+                rt,
+                wait,
+                &assembly_job(rt.alloc(), text)?,
+                b"unread".as_slice(),
+            )
         }
         JobKind::Link => linked(rt, &files_of(rt, row.names, row.contents)?),
     }
 }
 
-// What comes of a job that is done over two lists of bytes as its writers.
-fn done(rt: &HostRuntime, wait: &impl Wait, job: &Job) -> io::Result<Outcome> {
+// What comes of a job that is done over these bytes as its input and two lists as its writers.
+fn done(rt: &HostRuntime, wait: &impl Wait, job: &Job, input: &[u8]) -> io::Result<Outcome> {
     let mut output = Vec::new(rt.alloc());
     let mut lines = Vec::new(rt.alloc());
-    let status = status_over(rt, wait, job, &mut output, &mut lines)?;
+    let status = status_over(rt, wait, job, input, &mut output, &mut lines)?;
     Ok(Outcome {
         output,
         lines,
@@ -65,15 +80,16 @@ fn done(rt: &HostRuntime, wait: &impl Wait, job: &Job) -> io::Result<Outcome> {
     })
 }
 
-// Does a job that reads nothing, and answers the number of its status. A list that fails is an error.
+// Does a job, and answers the number of its status. A list that fails is an error.
 fn status_over(
     rt: &HostRuntime,
     wait: &impl Wait,
     job: &Job,
+    input: &[u8],
     output: &mut Vec<u8>,
     lines: &mut Vec<u8>,
 ) -> io::Result<u8> {
-    let mut input = Watched::new(b"unread".as_slice());
+    let mut input = Watched::new(input);
     let mut out = Watched::new(output);
     let mut err = Watched::new(lines);
     let status = execute(wait, rt.alloc(), job, &mut input, &mut out, &mut err);

@@ -94,7 +94,7 @@ pub fn files_named(rt: &HostRuntime, names: &str) -> io::Result<Vec<InputFile>> 
 
 // The job of a run.
 fn job_of(rt: &HostRuntime, heap: u32, events: RunEvents, names: &str) -> io::Result<Job> {
-    Ok(run_job(heap, events, files_named(rt, names)?))
+    Ok(run_job(heap, events, files_named(rt, names)?, false))
 }
 
 // Prints the output of a program, the lines on its standard error, and its status.

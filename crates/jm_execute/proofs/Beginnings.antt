@@ -8,8 +8,10 @@ use Rattle.jm_state.specs.Parts.{parts}
 use Rattle.jm_machine.specs.View.{MachineView, MatchesWorld}
 use Rattle.jm_execute.specs.Beginnings.{HasOneThread, StandsAtItsBeginning, beginning}
 use Rattle.jm_execute.specs.Reasons.{heap_too_small}
-use Rattle.jm_execute.specs.Verdicts.{Cause, Verdict, because, runs, loaded_program}
-use Rattle.jm_execute.specs.Endings.{Ending, completed, interrupted, assembled, exhausted, turned_away, Ends, Allows}
+use Rattle.jm_execute.specs.Verdicts.{Cause, Verdict, because, debugs, runs, loaded_program}
+use Rattle.jm_debug.specs.Session.{session_of}
+use Rattle.jm_execute.specs.Endings.{Ending, completed, interrupted, assembled, answered, exhausted, turned_away, Debugs, Ends, Allows}
+use Rattle.jm_execute.specs.Talks.{Talk}
 
 -- a loaded world has its program and its limit
 program_of : (program : List ClassParts) (limit : ℕ) → (loaded_world program limit).program ≡ program
@@ -41,14 +43,30 @@ loads m program limit fits h =
     ap answer fits ∙ ap Ok (sym (same_program m program limit h))
 
 -- the endings of the run are those that the files allow
-pub allowed : (v : Verdict) (program : List ClassParts) (limit : ℕ) (events : List Event) → v ≡ Ok (runs program limit events) → (e : Ending) → Ends (loaded_world program limit) events e → Allows v e
-allowed v program limit events is (completed w) h = record { program = program; limit = limit; events = events; runs_is = is; world_is = h }
-allowed v program limit events is (interrupted w) (made, rest, whole, h) = record { program = program; limit = limit; made = made; rest = rest; runs_is = is ∙ ap (λ es. Ok (runs program limit es)) whole; world_is = h }
-allowed v program limit events is (assembled bytes) h = absurd h
-allowed v program limit events is exhausted h = tt
-allowed v program limit events is (turned_away reason) h = absurd h
+pub allowed : (v : Verdict) (program : List ClassParts) (limit : ℕ) (events : List Event) (shows : Bool) → v ≡ Ok (runs program limit events shows)
+    → (e : Ending) → Ends shows (loaded_world program limit) events e → Allows v e
+allowed v program limit events shows is (completed shown w) (same, h) =
+    record { program = program; limit = limit; events = events; runs_is = is ∙ ap (λ b. Ok (runs program limit events b)) (sym same); world_is = h }
+allowed v program limit events shows is (interrupted w) (made, rest, whole, h) = record {
+  program = program;
+  limit = limit;
+  made = made;
+  rest = rest;
+  shows = shows;
+  runs_is = is ∙ ap (λ es. Ok (runs program limit es shows)) whole;
+  world_is = h;
+}
+allowed v program limit events shows is (assembled bytes) h = absurd h
+allowed v program limit events shows is (answered t) h = absurd h
+allowed v program limit events shows is exhausted h = tt
+allowed v program limit events shows is (turned_away reason) h = absurd h
 
 -- a loaded world has its main thread
 pub begins_with_main : (program : List ClassParts) (limit : ℕ) → HasOneThread (loaded_world program limit)
 unfolding loaded_world
 begins_with_main program limit = record { thread = first_thread (main_in program); threads = refl; live = refl; goes_on = refl }
+
+-- a session begins where its machine does
+pub session_begins : (v : Verdict) (m : MachineView) (limit : ℕ) (t : Talk) → v ≡ Ok (debugs m.linked.program limit) → m.content.limit ≡ limit → t.first ≡ session_of (beginning m) → Debugs v t
+session_begins v m limit t is limit_is first =
+    record { program = m.linked.program; limit = limit; debugs_is = is; first_is = first ∙ ap (λ n. session_of (loaded_world m.linked.program n)) limit_is }

@@ -1,4 +1,5 @@
 mod Writing
+mod LineLemmas
 mod Turns
 mod Receipts
 mod Folds
@@ -10,9 +11,14 @@ mod FileLists
 mod Assemblies
 mod Beginnings
 mod Telling
+mod StayingSessions
+mod TalkLemmas
 mod Statuses
 mod Rooms
 mod RobinLemmas
 mod PassLemmas
-mod KeptThreads
+mod Lefts
+mod DoneEvents
+mod RobinSteps
+mod ManyReceipts
 pub mod Calls

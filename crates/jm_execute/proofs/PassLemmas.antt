@@ -7,7 +7,8 @@ use Rattle.jm_machine.specs.Threads.{is_live, is_live_thread}
 use Rattle.jm_world.specs.RoundRobin.{Turn, live_from, next_turn}
 use Rattle.jm_world.specs.World.{World, Thread, is_running, live_among}
 use Rattle.jm_execute.specs.Beginnings.{HasOneThread}
-use Rattle.jm_execute.specs.Passes.{AllLive, Follows, HasTurn, Knows, Lists, NoneLive, OthersStay, following, has_stopped}
+use Rattle.jm_debug.specs.Kept.{OthersStay, has_stopped}
+use Rattle.jm_execute.specs.Passes.{AllLive, Follows, HasTurn, Knows, Lists, NoneLive, following}
 use Rattle.jm_execute.specs.declared.pass.Pass.{Pass}
 
 -- what follows where there is a value

@@ -1,5 +1,5 @@
 -- The model's round robin, one event more.
-use Rattle.std.proofs.Common.{◌≡◌, ◌≢◌, ℕ, zero, suc, ◌+◌, ◌-◌, ◌<◌, ◌==◌, List, [], ◌∷◌, ◌++◌, Option, Some, None, Bool, true, false, refl, sym, ap, ap₂, subst, ◌∙◌, append_assoc, append-nil, arith}
+use Rattle.std.proofs.Common.{◌≡◌, ◌≢◌, ℕ, zero, suc, ◌+◌, ◌-◌, ◌<◌, ◌==◌, List, [], ◌∷◌, ◌++◌, Option, Some, None, Bool, true, false, refl, sym, ap, ap₂, subst, ◌∙◌, append_assoc, arith}
 use Rattle.std.specs.Prelude.{nat_lt}
 use Rattle.std.proofs.Math.Dec.{eqb-suc-zero}
 use Rattle.std.proofs.lemmas.Bool.{ltb-true, ltb-false}
@@ -13,15 +13,15 @@ use Rattle.jm_world.specs.declared.reply.ReplyKind.{ReplyKind}
 use Rattle.jm_world.specs.declared.stop.Stop.{Stop}
 use Rattle.jm_machine.specs.Threads.{is_live}
 use Rattle.jm_shared.specs.declared.entry.Receipt.{Receipt}
-use Rattle.jm_execute.specs.Passes.{Follows, HasTurn, Knows, ended_in, following, has_stopped, turn_of}
-use Rattle.jm_execute.specs.Standings.{Ends, FallsShort, Makes, from_after, from_of, left_after, left_of, robin_at, standing_after, standing_by}
-use Rattle.jm_execute.specs.Turns.{AreReplies, Records, RecordsPart, events_in, world_by}
+use Rattle.jm_debug.specs.Kept.{ended_in, has_stopped}
+use Rattle.jm_execute.specs.Passes.{Follows, HasTurn, Knows, following, turn_of}
+use Rattle.jm_execute.specs.Standings.{from_after, from_of, left_after, left_of, robin_at, standing_after, standing_behind, standing_by}
+use Rattle.jm_execute.specs.Turns.{RecordsPart, events_in, world_by}
 use Rattle.jm_execute.specs.declared.pass.Pass.{Pass}
 use Rattle.jm_execute.specs.declared.pass.Turn as pass
 use Rattle.jm_execute.specs.declared.round_robin.Standing.{Standing}
-use Rattle.jm_execute.proofs.KeptThreads.{stepped, told}
+use Rattle.jm_debug.proofs.KeptThreads.{stepped, told}
 use Rattle.jm_execute.proofs.PassLemmas.{first_lives}
-use Rattle.jm_execute.proofs.Turns.{one_made, one_recorded, replies_before, world_turned}
 
 -- ---- whose turn it is
 
@@ -65,9 +65,6 @@ made_by steps quantum w from left o = elim o as (λ _. List Event) [
       ]
 ]
 
-pub no_event : (w : World) (quantum : ℕ) (s : Standing) → turn_in w (from_of s) s.moved ≡ None → (steps : ℕ) → robin_at (suc steps) quantum w s ≡ []
-no_event w quantum s none steps = ap (made_by steps quantum w (from_of s) (left_of quantum s)) none
-
 left_standing : (steps quantum : ℕ) (v : World) (n left : ℕ)
     → (elim (nat_lt 1 left) as (λ _. List Event) [ true ↦ robin_from steps quantum v n (left - 1) true | false ↦ robin_from steps quantum v (n + 1) quantum true ])
     ≡ robin_from steps quantum v (from_after n (left - 1)) (left_after quantum (left - 1)) true
@@ -105,17 +102,16 @@ event_made w v quantum s turn kind is said world steps =
 
 -- ---- where it stands
 
-last_is : (blocked : Bool) (turn : pass.Turn) (left : ℕ) → (standing_by blocked turn left).last ≡ turn.thread
-last_is true turn left = refl
-last_is false turn left = refl
-
 -- from where on the next thread is looked for
-from_standing : (blocked : Bool) (turn : pass.Turn) (left : ℕ) → from_of (standing_by blocked turn left) ≡ following turn.thread ((standing_by blocked turn left).left == 0)
-from_standing blocked turn left = by (standing_by blocked turn left).left ∙ ap (λ n. following n ((standing_by blocked turn left).left == 0)) (last_is blocked turn left)
-  where
-    by : (k : ℕ) → from_after (standing_by blocked turn left).last k ≡ following (standing_by blocked turn left).last (k == 0)
-    by zero = refl
-    by (suc k) = ap (following (standing_by blocked turn left).last) (sym (eqb-suc-zero k))
+from_left : (last left : ℕ) → from_after last left ≡ following last (left == 0)
+from_left last zero = refl
+from_left last (suc k) = ap (following last) (sym (eqb-suc-zero k))
+
+pub from_behind : (s t : Standing) (turn : pass.Turn) (count quantum : ℕ) → 0 < count → t ≡ standing_behind quantum count s turn
+    → from_of t ≡ following turn.thread (t.left == 0)
+from_behind s t turn zero quantum some same = absurd (omega arith)
+from_behind s t turn (suc k) quantum some same =
+    ap from_of same ∙ from_left turn.thread (standing_behind quantum (suc k) s turn).left ∙ ap (λ (x : Standing). following turn.thread (x.left == 0)) (sym same)
 
 -- ---- what a pass knows after an event
 
@@ -152,89 +148,25 @@ has_ended w n p reply has said other = by (is_live (after w (Step n)).world n) r
         let here : reply.made - reply.live ≡ ended_in (after w (Step n)).world = ap (λ (r : Reply). r.made - r.live) said ∙ (λ i. tells.made i - tells.live i) in
         absurd (other (here ∙ same))
 
--- ---- an event of a turn
-
-module _ (first : World) (turn : pass.Turn) (receipt : Receipt) (old new : List Receipt) (more : new ≡ old ++ receipt ∷ []) (event : receipt.event ≡ Step turn.thread) (are : AreReplies first new) where
-  before : AreReplies first old × (receipt.reply ≡ (after (world_by first old) receipt.event).reply)
-  before = replies_before first old receipt (subst (AreReplies first) more are)
-
-  pub said : receipt.reply ≡ (after (world_by first old) (Step turn.thread)).reply
-  said = before.1 ∙ ap (λ e. (after (world_by first old) e).reply) event
-
-  recorded : Records old new (Step turn.thread ∷ [])
-  recorded = one_recorded old new (Step turn.thread) receipt more event
-
-  turned : world_by first new ≡ (after (world_by first old) (Step turn.thread)).world
-  turned = world_turned first old new (Step turn.thread) recorded
-
-  module _ (quantum : ℕ) (s : Standing) (is : turn_in (world_by first old) (from_of s) s.moved ≡ Some (turn_of turn)) where
-    its_event : (steps : ℕ) → robin_at (suc steps) quantum (world_by first old) s ≡ Step turn.thread ∷ robin_at steps quantum (world_by first new) (standing_after s turn receipt.reply.kind quantum)
-    its_event = event_made (world_by first old) (world_by first new) quantum s turn receipt.reply.kind is (ap (λ (r : Reply). r.kind) said) turned
-
-    pub short_behind : FallsShort first quantum s old new
-    short_behind = λ steps. one_made old new (robin_at (suc steps) quantum (world_by first old) s) (robin_at steps quantum (world_by first new) (standing_after s turn receipt.reply.kind quantum)) (Step turn.thread)
-        recorded (its_event steps)
-
-    pub makes : (t : Standing) → t ≡ standing_after s turn receipt.reply.kind quantum → (q : Pass) → Knows (after (world_by first old) (Step turn.thread)).world (following turn.thread (t.left == 0)) q
-        → Makes first quantum s t old new q
-    makes t same q knows =
-        let at : from_of t ≡ following turn.thread (t.left == 0) = ap from_of same ∙ from_standing (is_blocked receipt.reply.kind) turn (left_for turn.thread (from_of s) (left_of quantum s) quantum)
-        ∙ ap (λ (x : Standing). following turn.thread (x.left == 0)) (sym same) in
-        record {
-          event = Step turn.thread;
-          records = recorded;
-          events = λ steps. its_event steps ∙ ap (λ (x : Standing). Step turn.thread ∷ robin_at steps quantum (world_by first new) x) (sym same);
-          knows = subst (λ (v : World). Knows v (from_of t) q) (sym turned) (subst (λ n. Knows (after (world_by first old) (Step turn.thread)).world n q) (sym at) knows);
-        }
-
-pub were_replies : (first : World) (old new : List Receipt) (receipt : Receipt) → new ≡ old ++ receipt ∷ [] → AreReplies first new → AreReplies first old
-were_replies first old new receipt more are = (replies_before first old receipt (subst (AreReplies first) more are)).0
-
 -- ---- the events so far
 
-pub record SoFar (first : World) (steps quantum count : ℕ) (s : Standing) (new : List Receipt) (p : Pass) : Type 0 where
-  pub events : robin first steps quantum ≡ events_in new ++ robin_at (steps - count) quantum (world_by first new) s
+pub record SoFar (first : World) (steps quantum left : ℕ) (s : Standing) (new : List Receipt) (p : Pass) : Type 0 where
+  pub events : robin first steps quantum ≡ events_in new ++ robin_at left quantum (world_by first new) s
   pub knows : Knows (world_by first new) (from_of s) p
 
-pub begun : (first : World) (steps quantum : ℕ) (rs : List Receipt) (p : Pass) → rs ≡ [] → Knows first 1 p → SoFar first steps quantum 0 (record { last = 0; left = 0; moved = false }) rs p
+pub begun : (first : World) (steps quantum : ℕ) (rs : List Receipt) (p : Pass) → rs ≡ [] → Knows first 1 p
+    → SoFar first steps quantum steps (record { last = 0; left = 0; moved = false }) rs p
 unfolding robin
 begun first steps quantum rs p none knows =
-    let all : steps ≡ steps - 0 = omega arith in
-    subst (λ (xs : List Receipt). SoFar first steps quantum 0 (record { last = 0; left = 0; moved = false }) xs p) (sym none)
-    (record { events = ap (λ n. robin_from n quantum first 1 quantum false) all; knows = knows })
+    subst (λ (xs : List Receipt). SoFar first steps quantum steps (record { last = 0; left = 0; moved = false }) xs p) (sym none)
+    (record { events = refl; knows = knows })
 
-module _ (first : World) (steps quantum count : ℕ) (s : Standing) (middle new : List Receipt) (p : Pass) (within : count < steps) (so : SoFar first steps quantum count s middle p) where
-  next : robin first steps quantum ≡ events_in middle ++ robin_at (suc (steps - (count + 1))) quantum (world_by first middle) s
-  next =
-      let left : steps - count ≡ suc (steps - (count + 1)) = omega arith in
-      so.events ∙ ap (λ (n : ℕ). events_in middle ++ robin_at n quantum (world_by first middle) s) left
-
-  pub went_on : (t : Standing) (q : Pass) → Makes first quantum s t middle new q → SoFar first steps quantum (count + 1) t new q
-  went_on t q makes = record {
-    events = next
-        ∙ ap (λ (es : List Event). events_in middle ++ es) (makes.events (steps - (count + 1)))
-        ∙ sym (append_assoc (events_in middle) (makes.event ∷ []) (robin_at (steps - (count + 1)) quantum (world_by first new) t))
-        ∙ ap (λ (es : List Event). es ++ robin_at (steps - (count + 1)) quantum (world_by first new) t) (sym makes.records);
-    knows = makes.knows;
-  }
-
-  -- no event is left
-  pub is_over : Ends first quantum s middle new → Records [] new (robin first steps quantum)
-  is_over ends = ends.records ∙ sym (next ∙ ap (λ (es : List Event). events_in middle ++ es) (ends.events (steps - (count + 1))))
-
-  -- memory was refused
-  pub is_short : FallsShort first quantum s middle new → RecordsPart [] new (robin first steps quantum)
-  is_short short =
-      let part = short (steps - (count + 1)) in
-      record {
-        made = events_in middle ++ part.made;
-        rest = part.rest;
-        whole = next ∙ ap (λ (es : List Event). events_in middle ++ es) part.whole ∙ sym (append_assoc (events_in middle) part.made part.rest);
-        records = part.records;
-      }
-
--- all steps are made
-pub is_whole : (first : World) (steps quantum count : ℕ) (s : Standing) (new : List Receipt) (p : Pass) → count ≡ steps → SoFar first steps quantum count s new p → Records [] new (robin first steps quantum)
-is_whole first steps quantum count s new p all so =
-    let none : steps - count ≡ 0 = omega arith in
-    sym (so.events ∙ ap (λ (n : ℕ). events_in new ++ robin_at n quantum (world_by first new) s) none ∙ append-nil (events_in new))
+-- memory was refused
+pub is_short : (first : World) (steps quantum left : ℕ) (s : Standing) (middle new : List Receipt) (p : Pass) → SoFar first steps quantum left s middle p
+    → RecordsPart middle new (robin_at left quantum (world_by first middle) s) → RecordsPart [] new (robin first steps quantum)
+is_short first steps quantum left s middle new p so part = record {
+  made = events_in middle ++ part.made;
+  rest = part.rest;
+  whole = so.events ∙ ap (λ (es : List Event). events_in middle ++ es) part.whole ∙ sym (append_assoc (events_in middle) part.made part.rest);
+  records = part.records;
+}

@@ -1,5 +1,5 @@
 -- A list of bytes that has room for a text, or for the output of an ending, does not fail at it.
-use Rattle.std.proofs.Common.{◌≡◌, ℕ, ◌+◌, ◌≤◌, List, [], ◌∷◌, ◌++◌, ◌∙◌, ap, subst, length, length-append, arith, Option, Bool, true, false, refl}
+use Rattle.std.proofs.Common.{◌≡◌, ℕ, ◌+◌, ◌≤◌, inl, inr, List, [], ◌∷◌, ◌++◌, ◌∙◌, ap, subst, length, length-append, arith, Option, Bool, true, false, refl}
 use Rattle.std.specs.List.{FoldsTo, concat}
 use Rattle.std.specs.Prelude.{Vec, vec_len, vec_capacity}
 use Rattle.jm_execute.specs.CallEnds.{took, vec_ends}
@@ -37,5 +37,5 @@ pub does_not_fail : {A E : Type 0} (contents : Vec ℕ A → Option (List ℕ)) 
 does_not_fail contents says e ended out new_out err new_err room leaves =
     let fails : new_out.failed ≡ true → ⊥ = λ failed.
     let told = subst (λ b. LeavesIf b (words contents vec_ends) says e ended out new_out err new_err) failed leaves in
-    room_for contents out new_out (output_of e) room told.0 in
+    elim told.0 [ inl broken ↦ room_for contents out new_out (output_of e) room broken | inr flushed ↦ flushed.1.call ] in
     false_where_not_true new_out.failed fails

@@ -1,18 +1,19 @@
 -- The verdict of a run, one step after the other.
-use Rattle.std.proofs.Common.{◌≡◌, ℕ, List, refl, ap, sym, subst, ◌∙◌, Ok}
+use Rattle.std.proofs.Common.{◌≡◌, ℕ, List, refl, ap, sym, subst, ◌∙◌, Result, Ok, Err}
 use Rattle.jm_program.specs.declared.class.ClassParts.{ClassParts}
 use Rattle.jm_world.specs.Loading.{loaded_world}
 use Rattle.jm_world.specs.declared.event.Event.{Event}
-use Rattle.jm_execute.specs.Refusals.{Hinders}
-use Rattle.jm_execute.specs.Verdicts.{Verdict, events_read, events_of, program_of, run_verdict, runs, ◌>>=◌}
+use Rattle.jm_execute.specs.Refusals.{Gives, Hinders}
+use Rattle.jm_execute.specs.Verdicts.{Verdict, debug_verdict, debugs, events_read, events_of, program_of, run_verdict, runs, ◌>>=◌}
 use Rattle.jm_execute.specs.declared.job.InputFile.{InputFile}
+use Rattle.jm_execute.specs.declared.job.DebugJob.{DebugJob}
 use Rattle.jm_execute.specs.declared.job.RunJob.{RunJob}
 use Rattle.jm_execute.specs.declared.refusal.Obstacle.{Obstacle}
 use Rattle.jm_execute.proofs.Chains.{hindered}
 
 -- the steps behind the program, and behind what says the events
 abbrev behind_program : RunJob → List ClassParts → Verdict
-behind_program job program = events_of job.events (loaded_world program job.heap) >>= (λ events. Ok (runs program job.heap events))
+behind_program job program = events_of job.events (loaded_world program job.heap) >>= (λ events. Ok (runs program job.heap events job.show_heap))
 
 abbrev behind_reading : RunJob → Unit {0} → Verdict
 behind_reading job read = program_of job.heap job.program.items >>= behind_program job
@@ -44,7 +45,22 @@ module _ (job : RunJob) where
       pub no_events : (o : Obstacle) → Hinders (events_of job.events (loaded_world program job.heap)) o → Hinders (run_verdict job) o
       no_events o h =
           let events = events_of job.events (loaded_world program job.heap) in
-          subst (λ v. Hinders v o) (sym goes_further) (hindered events (λ es. Ok (runs program job.heap es)) o h)
+          subst (λ v. Hinders v o) (sym goes_further) (hindered events (λ es. Ok (runs program job.heap es job.show_heap)) o h)
 
-      pub prepared : (events : List Event) → events_of job.events (loaded_world program job.heap) ≡ Ok events → run_verdict job ≡ Ok (runs program job.heap events)
-      prepared events is = goes_further ∙ ap (λ step. step >>= (λ es. Ok (runs program job.heap es))) is
+      pub prepared : (events : List Event) → events_of job.events (loaded_world program job.heap) ≡ Ok events → run_verdict job ≡ Ok (runs program job.heap events job.show_heap)
+      prepared events is = goes_further ∙ ap (λ step. step >>= (λ es. Ok (runs program job.heap es job.show_heap))) is
+
+-- ---- a session
+
+debug_steps : (job : DebugJob) → debug_verdict job ≡ (program_of job.heap job.program.items >>= (λ program. Ok (debugs program job.heap)))
+unfolding debug_verdict
+debug_steps job = refl
+
+module _ (job : DebugJob) (limit : ℕ) (files : List InputFile) (limit_is : limit ≡ job.heap) (files_are : files ≡ job.program.items) where
+  same_files : program_of limit files ≡ program_of job.heap job.program.items
+  same_files = ap (λ n. program_of n files) limit_is ∙ ap (program_of job.heap) files_are
+
+  pub debugged : {M : Type 0} (program : M → List ClassParts) (r : Result M Obstacle) → Gives r (program_of limit files) program → Gives r (debug_verdict job) (λ m. debugs (program m) job.heap)
+  debugged program (Ok m) is = debug_steps job ∙ ap (λ step. step >>= (λ program. Ok (debugs program job.heap))) (sym same_files ∙ is)
+  debugged program (Err o) h =
+      subst (λ v. Hinders v o) (sym (debug_steps job)) (hindered (program_of job.heap job.program.items) (λ program. Ok (debugs program job.heap)) o (subst (λ v. Hinders v o) same_files h))

@@ -1,10 +1,12 @@
 -- Where a job ends with the status of files.
-use Rattle.std.proofs.Common.{◌≡◌, ℕ, zero, suc, List, refl, ap, subst, ◌∙◌, Option, Some, None, Err, Bool, true, false}
-use Rattle.std.specs.Prelude.{⊤}
+use Rattle.std.proofs.Common.{◌≡◌, ℕ, zero, suc, List, inl, inr, refl, ap, subst, ◌∙◌, Option, Some, None, Err, Bool, true, false}
+use Rattle.std.specs.Prelude.{◌⊎◌, ⊤}
 use Rattle.jm_world.specs.World.{World, live_among}
 use Rattle.jm_world.specs.declared.stop.Stop.{Stop}
 use Rattle.jm_world.specs.declared.stop.Stop.TheVariants.{TagFault, HeapFull, SerialsEnd}
-use Rattle.jm_execute.specs.Endings.{Ending, completed, interrupted, assembled, exhausted, turned_away, Allows, status_after}
+use Rattle.jm_execute.specs.Endings.{Ending, completed, interrupted, assembled, answered, exhausted, turned_away, Allows, Hears, status_after}
+use Rattle.jm_execute.specs.Talks.{Close, ClosesBy, close_status, call_failed, input_ended, memory_refused}
+use Rattle.jm_execute.specs.Written.{Reads, Watch}
 use Rattle.jm_execute.specs.Reasons.{Reason, not_read, no_class, no_class_file, not_linked, heap_too_small, no_event, reason_status}
 use Rattle.jm_execute.specs.Reports.{any_ended_by, end_status, status_of}
 use Rattle.jm_execute.specs.Verdicts.{Verdict, because}
@@ -43,10 +45,21 @@ of_a_file (not_linked fault) h = absurd h
 of_a_file heap_too_small h = absurd h
 of_a_file (no_event line) h = absurd h
 
--- of the endings only that of a file that could not be read has it
-pub not_read_where_files : (v : Verdict) (e : Ending) → Allows v e → ends.Files ≡ status_after e → (name : List ℕ) × (v ≡ Err (because (not_read name)))
-not_read_where_files v (completed w) allows h = absurd (of_no_world w (subst IsFiles h tt))
-not_read_where_files v (interrupted w) allows h = absurd (subst IsFiles h tt)
-not_read_where_files v (assembled bytes) allows h = absurd (subst IsFiles h tt)
-not_read_where_files v exhausted allows h = absurd (subst IsFiles h tt)
-not_read_where_files v (turned_away reason) allows h = let (name, is) = of_a_file reason (subst IsFiles h tt) in (name, allows ∙ ap (λ r. Err (because r)) is)
+-- a session has it only where a call failed
+of_a_call : {R : Type 0} (r : Reads R) (close : Close) (bytes : List ℕ) (rest : List (Option (List ℕ))) (reader new_reader : Watch R) → IsFiles (close_status close)
+    → ClosesBy r false close bytes rest reader new_reader → new_reader.failed ≡ true
+of_a_call r input_ended bytes rest reader new_reader h closes = absurd h
+of_a_call r memory_refused bytes rest reader new_reader h closes = absurd h
+of_a_call r call_failed bytes rest reader new_reader h closes = closes.0.failed
+
+-- of the endings only that of a file that could not be read has it, or a session whose reader failed
+pub not_read_where_files : {R : Type 0} (r : Reads R) (v : Verdict) (e : Ending) (failed : Bool) (reader new_reader : Watch R) → failed ≡ false → Allows v e → Hears r failed e reader new_reader
+    → ends.Files ≡ status_after e → ((name : List ℕ) × (v ≡ Err (because (not_read name)))) ⊎ (new_reader.failed ≡ true)
+not_read_where_files r v (completed shows w) failed reader new_reader whole allows hears h = absurd (of_no_world w (subst IsFiles h tt))
+not_read_where_files r v (interrupted w) failed reader new_reader whole allows hears h = absurd (subst IsFiles h tt)
+not_read_where_files r v (assembled bytes) failed reader new_reader whole allows hears h = absurd (subst IsFiles h tt)
+not_read_where_files r v (answered t) failed reader new_reader whole allows hears h =
+    inr (of_a_call r t.close hears.bytes hears.rest reader new_reader (subst IsFiles h tt) (subst (λ b. ClosesBy r b t.close hears.bytes hears.rest reader new_reader) whole hears.close))
+not_read_where_files r v exhausted failed reader new_reader whole allows hears h = absurd (subst IsFiles h tt)
+not_read_where_files r v (turned_away reason) failed reader new_reader whole allows hears h =
+    let (name, is) = of_a_file reason (subst IsFiles h tt) in inl (name, allows ∙ ap (λ r. Err (because r)) is)

@@ -1,8 +1,12 @@
 -- What is told of an ending.
-use Rattle.std.proofs.Common.{◌≡◌, ℕ, List, [], refl, sym, subst, ◌∙◌, Option, Some, None, Result, Ok, Err, false, MatchResult}
+use Rattle.std.proofs.Common.{◌≡◌, ℕ, List, [], inl, inr, refl, sym, subst, ◌∙◌, true, Bool, Option, Some, None, Result, Ok, Err, false, MatchResult}
 use Rattle.std.specs.Prelude.{IfSome, OnOk}
-use Rattle.jm_execute.specs.Written.{Watch, Words, AllWritten, Broken, LinesWritten, LineFailed, WritesLines}
-use Rattle.jm_execute.specs.Endings.{Ending, Leaves, LeavesIf, LinesTold, Tells, output_of, lines_at_failure}
+use Rattle.jm_execute.specs.Written.{Watch, Words, AllWritten, Broken, LinesWritten, LineFailed, Reads, WritesLines}
+use Rattle.jm_world.specs.World.{World}
+use Rattle.jm_world.specs.declared.event.Event.{Event}
+use Rattle.jm_execute.specs.Endings.{Ending, completed, interrupted, assembled, answered, exhausted, turned_away, Ends, Hears, IsDone, IsDoneUnread, IsTalk, Leaves, LeavesIf, LinesTold, Tells, output_of, lines_at_failure}
+use Rattle.jm_execute.specs.Talks.{Talk, TalkLeft, TalkLeftIf}
+use Rattle.jm_execute.specs.Verdicts.{Verdict}
 use Rattle.jm_execute.specs.declared.status.Status.{Status}
 use Rattle.jm_execute.specs.declared.status.Status.TheVariants as ends
 use Rattle.jm_execute.proofs.Writing.{nothing_written, no_lines}
@@ -29,7 +33,7 @@ module _ {O E : Type 0} (o : Words O) (w : Words E) where
 
   pub broken_told : (e : Ending) (out new_out : Watch O) (err new_err : Watch E) → Broken o out new_out (output_of e) → LinesTold w (lines_at_failure e) new_err.failed err new_err
       → Leaves o w e ends.Files out new_out err new_err
-  broken_told e out new_out err new_err broken lines = subst (λ b. LeavesIf b o w e ends.Files out new_out err new_err) (sym broken.failed) (broken, refl, lines)
+  broken_told e out new_out err new_err broken lines = subst (λ b. LeavesIf b o w e ends.Files out new_out err new_err) (sym broken.failed) (inl broken, refl, lines)
 
   -- where there is nothing to write
   pub untouched_told : (e : Ending) (status : Status) (out : Watch O) (err new_err : Watch E) → out.failed ≡ false → output_of e ≡ [] → Tells w e status err new_err
@@ -39,3 +43,35 @@ module _ {O E : Type 0} (o : Words O) (w : Words E) where
   -- where the output has not failed, the status is the ending's, and the lines are told
   pub told_whole : (e : Ending) (status : Status) (out new_out : Watch O) (err new_err : Watch E) → new_out.failed ≡ false → Leaves o w e status out new_out err new_err → Tells w e status err new_err
   told_whole e status out new_out err new_err whole leaves = (subst (λ b. LeavesIf b o w e status out new_out err new_err) whole leaves).1
+
+  -- what a session leaves, where nothing is told
+  session_told_if : (b : Bool) (t : Talk) (status : Status) (out new_out : Watch O) (err : Watch E) → err.failed ≡ false → TalkLeftIf b o t status out new_out → LeavesIf b o w (answered t) status out new_out err err
+  session_told_if false t status out new_out err fresh left = (left.0, (left.1, no_lines_told w err fresh))
+  session_told_if true t status out new_out err fresh left =
+      (elim left.0 [ inl broken ↦ inl broken | inr unflushed ↦ inr (tt, unflushed) ], left.1, no_lines_told w err fresh)
+
+  pub session_told : (t : Talk) (status : Status) (out new_out : Watch O) (err : Watch E) → err.failed ≡ false → TalkLeft o t status out new_out → Leaves o w (answered t) status out new_out err err
+  session_told t status out new_out err fresh left = session_told_if new_out.failed t status out new_out err fresh left
+
+-- ---- where nothing is read
+
+pub unheard : {R : Type 0} (r : Reads R) (failed : Bool) (e : Ending) (reader : Watch R) → (IsTalk e → ⊥) → Hears r failed e reader reader
+unheard r failed (completed shows w) reader silent = refl
+unheard r failed (interrupted w) reader silent = refl
+unheard r failed (assembled bytes) reader silent = refl
+unheard r failed (answered t) reader silent = absurd (silent tt)
+unheard r failed exhausted reader silent = refl
+unheard r failed (turned_away reason) reader silent = refl
+
+-- a run is no session
+pub no_talk : (shows : Bool) (first : World) (events : List Event) (e : Ending) → Ends shows first events e → IsTalk e → ⊥
+no_talk shows first events (completed shown w) ends talk = talk
+no_talk shows first events (interrupted w) ends talk = talk
+no_talk shows first events (assembled bytes) ends talk = talk
+no_talk shows first events (answered t) ends talk = ends
+no_talk shows first events exhausted ends talk = talk
+no_talk shows first events (turned_away reason) ends talk = talk
+
+pub done_unread : {R O E : Type 0} (r : Reads R) (o : Words O) (w : Words E) (v : Verdict) (status : Status) (reader : Watch R) (out new_out : Watch O) (err new_err : Watch E)
+    → IsDoneUnread o w v status out new_out err new_err → IsDone r o w v status reader reader out new_out err new_err
+done_unread r o w v status reader out new_out err new_err (e, allows, silent, leaves) = (e, allows, unheard r new_out.failed e reader silent, leaves)

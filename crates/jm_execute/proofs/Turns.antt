@@ -1,11 +1,12 @@
 -- What a seat's receipts tell after several turns.
-use Rattle.std.proofs.Common.{◌≡◌, List, [], ◌∷◌, ◌++◌, refl, sym, ap, subst, ◌∙◌, append_assoc, append-nil}
+use Rattle.std.proofs.Common.{◌≡◌, List, [], ◌∷◌, ◌++◌, refl, sym, ap, ◌∙◌, append_assoc, append-nil}
 use Rattle.std.proofs.lemmas.List.{map-append}
-use Rattle.jm_world.specs.Run.{after, run_from}
+use Rattle.jm_world.specs.Run.{after, replies_from, run_from}
 use Rattle.jm_world.specs.World.{World}
 use Rattle.jm_world.specs.declared.event.Event.{Event}
+use Rattle.jm_world.specs.declared.reply.Reply.{Reply}
 use Rattle.jm_shared.specs.declared.entry.Receipt.{Receipt}
-use Rattle.jm_execute.specs.Turns.{AreReplies, Records, RecordsPart, events_in, world_by}
+use Rattle.jm_execute.specs.Turns.{AreReplies, Records, RecordsPart, events_in, replies_in, world_by}
 
 pub nothing_recorded : (rs : List Receipt) → Records rs rs []
 nothing_recorded rs = sym (append-nil (events_in rs))
@@ -20,13 +21,6 @@ one_recorded a b e r more is = ap events_in more ∙ map-append (λ (x : Receipt
 pub turn_recorded : (a b c : List Receipt) (made : List Event) (e : Event) (r : Receipt) → Records a b made → c ≡ b ++ r ∷ [] → r.event ≡ e → Records a c (made ++ e ∷ [])
 turn_recorded a b c made e r p more is = recorded_then a b c made (e ∷ []) p (one_recorded b c e r more is)
 
--- no turn more, or only the first
-pub none_made : (old new : List Receipt) (events : List Event) → new ≡ old → RecordsPart old new events
-none_made old new events same = record { made = []; rest = events; whole = refl; records = subst (λ rs. Records old rs []) (sym same) (nothing_recorded old) }
-
-pub one_made : (old new : List Receipt) (events rest : List Event) (e : Event) → Records old new (e ∷ []) → events ≡ e ∷ rest → RecordsPart old new events
-one_made old new events rest e records whole = record { made = e ∷ []; rest = rest; whole = whole; records = records }
-
 -- the events of a beginning, with some of those that follow
 pub part_recorded : (a b c : List Receipt) (first second rest : List Event) → Records a b first → RecordsPart b c second → RecordsPart a c (first ++ (second ++ rest))
 part_recorded a b c first second rest p s = record {
@@ -38,18 +32,23 @@ part_recorded a b c first second rest p s = record {
 
 -- ---- the model's replies
 
--- without the last receipt they are the model's too, and the last tells the model's reply there
-pub replies_before : (first : World) (rs : List Receipt) (r : Receipt) → AreReplies first (rs ++ r ∷ []) → AreReplies first rs × (r.reply ≡ (after (world_by first rs) r.event).reply)
-replies_before first [] r are = (refl, cc)
-replies_before first (x ∷ rs) r are =
+-- those before some replies are the model's too, and these are the model's where they lead
+split_replies : (first : World) (rs : List Receipt) (events : List Event) (replies : List Reply) → replies_in rs ++ replies ≡ replies_from first (events_in rs ++ events)
+    → AreReplies first rs × (replies ≡ replies_from (world_by first rs) events)
+split_replies first [] events replies are = (refl, are)
+split_replies first (x ∷ rs) events replies are =
     let here : x.reply ≡ (after first x.event).reply = cc in
-    let there : AreReplies (after first x.event).world (rs ++ r ∷ []) = cc in
-    let rest = replies_before (after first x.event).world rs r there in
+    let there : replies_in rs ++ replies ≡ replies_from (after first x.event).world (events_in rs ++ events) = cc in
+    let rest = split_replies (after first x.event).world rs events replies there in
     ((λ i. here i ∷ rest.0 i), rest.1)
 
-run_append : (w : World) (es fs : List Event) → run_from w (es ++ fs) ≡ run_from (run_from w es) fs
+pub many_replies : (first : World) (old new : List Receipt) (events : List Event) (replies : List Reply) → Records old new events → replies_in new ≡ replies_in old ++ replies → AreReplies first new
+    → AreReplies first old × (replies ≡ replies_from (world_by first old) events)
+many_replies first old new events replies records more are = split_replies first old events replies (sym more ∙ are ∙ ap (replies_from first) records)
+
+pub run_append : (w : World) (es fs : List Event) → run_from w (es ++ fs) ≡ run_from (run_from w es) fs
 run_append w [] fs = refl
 run_append w (e ∷ es) fs = run_append (after w e).world es fs
 
-pub world_turned : (first : World) (old new : List Receipt) (e : Event) → Records old new (e ∷ []) → world_by first new ≡ (after (world_by first old) e).world
-world_turned first old new e records = ap (run_from first) records ∙ run_append first (events_in old) (e ∷ [])
+pub world_ran : (first : World) (old new : List Receipt) (events : List Event) → Records old new events → world_by first new ≡ run_from (world_by first old) events
+world_ran first old new events records = ap (run_from first) records ∙ run_append first (events_in old) events

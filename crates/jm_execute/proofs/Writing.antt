@@ -1,12 +1,12 @@
 -- What stands in a writer after several writes.
-use Rattle.std.proofs.Common.{◌≡◌, ℕ, ◌<◌, List, [], ◌++◌, refl, sym, ap, ◌∙◌, append_assoc, append-nil, take, drop, take-append-drop, length, ◌-◌, arith, Option, Some, None}
+use Rattle.std.proofs.Common.{◌≡◌, ℕ, ◌<◌, List, [], ◌++◌, inl, inr, refl, sym, ap, subst, ◌∙◌, append_assoc, append-nil, take, drop, take-append-drop, length, ◌-◌, arith, Option, Some, None}
 use Rattle.std.proofs.lemmas.Grind.{common_steps}
 use Rattle.std.proofs.KnownBytes.{Appends-nil, Appends-trans}
 use Rattle.std.proofs.Output.{writes_in_calls_nil, writes_in_calls_single, writes_in_calls_append}
 use Rattle.std.specs.Io.KnownBytes.{Appends, Keeps}
-use Rattle.jm_execute.specs.CallEnds.{took, refused}
-use Rattle.jm_execute.specs.Written.{Watch, Words, AllWritten, Broken, LinesWritten}
-use Rattle.std.specs.Prelude.{true}
+use Rattle.jm_execute.specs.CallEnds.{took, refused, line_refused}
+use Rattle.jm_execute.specs.Written.{Watch, Words, AllWritten, Broken, BreaksOff, LineFailed, LinesWritten, Unflushed, Writes, WritesLines}
+use Rattle.std.specs.Prelude.{Result, Ok, Err, true}
 
 -- what kept its bytes wrote none
 pub kept_none : (a b : Option (List ℕ)) → Keeps a b → Appends a b []
@@ -61,7 +61,36 @@ module _ {W : Type 0} (says : Words W) where
     failed = q.failed;
   }
 
+  unflushed_after : (a b c : Watch W) (done rest : List ℕ) → AllWritten says a b done → Unflushed says b c rest → Unflushed says a c (done ++ rest)
+  unflushed_after a b c done rest p q = record {
+    bytes = Appends-trans (says.contents a.inner) (says.contents b.inner) (says.contents c.inner) done rest p.bytes q.bytes;
+    before = q.before;
+    taken = writes_in_calls_append _ a.inner done b.inner rest q.before p.taken q.taken;
+    call = q.call;
+    failed = q.failed;
+  }
+
+  pub breaks_after : (a b c : Watch W) (done rest : List ℕ) → AllWritten says a b done → BreaksOff says b c rest → BreaksOff says a c (done ++ rest)
+  breaks_after a b c done rest p q = elim q [
+    | inl broken ↦ inl (broken_after a b c (done ++ rest) done rest refl p broken)
+    | inr unflushed ↦ inr (unflushed_after a b c done rest p unflushed)
+  ]
+
+  -- bytes that are handed on
+  pub handed_on : (a b c : Watch W) (text : List ℕ) → AllWritten says a b text → AllWritten says b c [] → AllWritten says a c text
+  handed_on a b c text p q = subst (AllWritten says a c) (append-nil text) (written_then a b c text [] p q)
+
+  pub not_handed_on : (a b c : Watch W) (text : List ℕ) → AllWritten says a b text → Unflushed says b c [] → BreaksOff says a c text
+  not_handed_on a b c text p q = subst (BreaksOff says a c) (append-nil text) (inr (unflushed_after a b c text [] p q))
+
   -- lines
+  pub line_failed : (before : W) (b : Watch W) → says.ends before line_refused b.inner → b.failed ≡ true → LineFailed says b
+  line_failed before b call failed = record { before = before; call = inl call; failed = failed }
+
+  pub lines_by_writes : {A E : Type 0} (r : Result A E) (a b : Watch W) (text : List ℕ) → Writes says r a b text → WritesLines says r a b text
+  lines_by_writes (Ok x) a b text h = record { bytes = h.bytes; same = h.same }
+  lines_by_writes (Err e) a b text h = record { before = h.before; call = inr (h.rest, h.left, h.call); failed = h.failed }
+
   pub no_lines : (a : Watch W) → LinesWritten says a a []
   no_lines a = record { bytes = Appends-nil (says.contents a.inner); same = refl }
 
@@ -71,7 +100,7 @@ module _ {W : Type 0} (says : Words W) where
     same = q.same ∙ p.same;
   }
 
-all_left : (xs : List ℕ) (n : ℕ) → take (length xs - n) (drop n xs) ≡ drop n xs
+pub all_left : (xs : List ℕ) (n : ℕ) → take (length xs - n) (drop n xs) ≡ drop n xs
 all_left xs n = grind (arith, common_steps)
 
 pub split_more : (text done rest : List ℕ) (n : ℕ) → text ≡ done ++ rest → text ≡ (done ++ take n rest) ++ take (length rest - n) (drop n rest)

@@ -1,36 +1,40 @@
 -- How a job ends, and what is told of it.
-use Rattle.std.specs.Prelude.{◌≡◌, ℕ, List, [], ◌++◌, Option, Some, None, Ok, Err, Bool, true, false, ⊤}
+use Rattle.std.specs.Prelude.{◌≡◌, ◌⊎◌, ℕ, List, [], ◌++◌, Option, Some, None, Ok, Err, Bool, true, false, ⊤}
 use Rattle.jm_program.specs.declared.class.ClassParts.{ClassParts}
 use Rattle.jm_class_format.specs.ClassFile.{Spells}
 use Rattle.jm_world.specs.World.{World}
 use Rattle.jm_world.specs.Loading.{loaded_world}
 use Rattle.jm_world.specs.Run.{run_from}
 use Rattle.jm_world.specs.declared.event.Event.{Event}
-use Rattle.jm_execute.specs.Reports.{report, memory_line, failure_line, status_of}
+use Rattle.jm_execute.specs.Reports.{report, heap_shown, memory_line, failure_line, status_of}
 use Rattle.jm_execute.specs.Reasons.{Reason, reason_status, reason_line}
-use Rattle.jm_execute.specs.Verdicts.{Verdict, because, runs, assembles}
-use Rattle.jm_execute.specs.Written.{Watch, Words, AllWritten, Broken, LinesWritten, LineFailed}
+use Rattle.jm_debug.specs.Session.{session_of}
+use Rattle.jm_execute.specs.Talks.{Heard, Talk, close_status, talk_output}
+use Rattle.jm_execute.specs.Verdicts.{Verdict, because, runs, assembles, debugs}
+use Rattle.jm_execute.specs.Written.{Watch, Reads, Words, AllWritten, Broken, Unflushed, LinesWritten, LineFailed}
 use Rattle.jm_execute.specs.declared.status.Status.{Status}
 use Rattle.jm_execute.specs.declared.status.Status.TheVariants as ends
 
 pub data Ending : Type 0 where
-  -- all events were made: the world to which they lead
-  completed : World → Ending
-  -- memory was refused at an event: the world to which those before it lead
+  -- all events were made: whether the heap is shown, and the world to which they lead
+  completed : Bool → World → Ending
+  -- memory was refused at an event, or at the view of the heap: the world to which those before it lead
   interrupted : World → Ending
   -- these bytes of a class file were made
   assembled : List ℕ → Ending
-  -- memory was refused before the first event, or before the class file was whole
+  -- lines were answered in a session of the debugger
+  answered : Talk → Ending
+  -- memory was refused before the first event, before the class file was whole, or before the first line was read
   exhausted : Ending
-  -- there was neither a run nor a class file, for this reason
+  -- there was neither a run, nor a class file, nor a session, for this reason
   turned_away : Reason → Ending
 
 -- the run that a world is the last of
-pub record Completes (v : Verdict) (w : World) : Type 0 where
+pub record Completes (v : Verdict) (shows : Bool) (w : World) : Type 0 where
   pub program : List ClassParts
   pub limit : ℕ
   pub events : List Event
-  pub runs_is : v ≡ Ok (runs program limit events)
+  pub runs_is : v ≡ Ok (runs program limit events shows)
   pub world_is : w ≡ run_from (loaded_world program limit) events
 
 -- the run that a world is within
@@ -39,7 +43,8 @@ pub record StopsShort (v : Verdict) (w : World) : Type 0 where
   pub limit : ℕ
   pub made : List Event
   pub rest : List Event
-  pub runs_is : v ≡ Ok (runs program limit (made ++ rest))
+  pub shows : Bool
+  pub runs_is : v ≡ Ok (runs program limit (made ++ rest) shows)
   pub world_is : w ≡ run_from (loaded_world program limit) made
 
 -- the bytes are a class file's, and spell the class that the text denotes (JVMS 4)
@@ -48,51 +53,82 @@ pub record Assembles (v : Verdict) (bytes : List ℕ) : Type 0 where
   pub assembles_is : v ≡ Ok (assembles class bytes)
   pub spelled : Spells bytes class
 
--- the endings of a run of events from a world on: memory may be refused at any time
-abbrev pub Ends : World → List Event → Ending → Type 0
-Ends first events (completed w) = w ≡ run_from first events
-Ends first events (interrupted w) = (made : List Event) × (rest : List Event) × (events ≡ made ++ rest) × (w ≡ run_from first made)
-Ends first events (assembled bytes) = ⊥
-Ends first events exhausted = ⊤
-Ends first events (turned_away reason) = ⊥
+-- the session begins with the first world of its program
+pub record Debugs (v : Verdict) (t : Talk) : Type 0 where
+  pub program : List ClassParts
+  pub limit : ℕ
+  pub debugs_is : v ≡ Ok (debugs program limit)
+  pub first_is : t.first ≡ session_of (loaded_world program limit)
+
+-- the endings of a run of events from a world on, whose heap is shown or not: memory may be refused at any time
+abbrev pub Ends : Bool → World → List Event → Ending → Type 0
+Ends shows first events (completed shown w) = (shown ≡ shows) × (w ≡ run_from first events)
+Ends shows first events (interrupted w) = (made : List Event) × (rest : List Event) × (events ≡ made ++ rest) × (w ≡ run_from first made)
+Ends shows first events (assembled bytes) = ⊥
+Ends shows first events (answered t) = ⊥
+Ends shows first events exhausted = ⊤
+Ends shows first events (turned_away reason) = ⊥
 
 -- the endings that the files allow: memory may be refused at any time
 abbrev pub Allows : Verdict → Ending → Type 0
-Allows v (completed w) = Completes v w
+Allows v (completed shows w) = Completes v shows w
 Allows v (interrupted w) = StopsShort v w
 Allows v (assembled bytes) = Assembles v bytes
+Allows v (answered t) = Debugs v t
 Allows v exhausted = ⊤
 Allows v (turned_away reason) = v ≡ Err (because reason)
 
 abbrev pub output_of : Ending → List ℕ
-output_of (completed w) = w.output
+output_of (completed shows w) = w.output
 output_of (interrupted w) = w.output
 output_of (assembled bytes) = bytes
+output_of (answered t) = talk_output t
 output_of exhausted = []
 output_of (turned_away reason) = []
 
 abbrev pub status_after : Ending → Status
-status_after (completed w) = status_of w
+status_after (completed shows w) = status_of w
 status_after (interrupted w) = ends.OutOfMemory
 status_after (assembled bytes) = ends.Done
+status_after (answered t) = close_status t.close
 status_after exhausted = ends.OutOfMemory
 status_after (turned_away reason) = reason_status reason
 
 -- the lines on standard error, where definitions say what they are
 abbrev pub lines_after : Ending → Option (List ℕ)
-lines_after (completed w) = Some (report w)
+lines_after (completed shows w) = Some (report w ++ heap_shown shows w)
 lines_after (interrupted w) = Some memory_line
 lines_after (assembled bytes) = Some []
+lines_after (answered t) = Some []
 lines_after exhausted = Some memory_line
 lines_after (turned_away reason) = reason_line reason
 
 -- the lines where the output could not be written whole; the name of a class file's output stands in no ending
 abbrev pub lines_at_failure : Ending → Option (List ℕ)
-lines_at_failure (completed w) = Some failure_line
+lines_at_failure (completed shows w) = Some failure_line
 lines_at_failure (interrupted w) = Some failure_line
 lines_at_failure (assembled bytes) = None
+lines_at_failure (answered t) = Some []
 lines_at_failure exhausted = None
 lines_at_failure (turned_away reason) = None
+
+-- it is that of a session, which alone reads, and flushes what it writes
+abbrev pub IsTalk : Ending → Type 0
+IsTalk (completed shows w) = ⊥
+IsTalk (interrupted w) = ⊥
+IsTalk (assembled bytes) = ⊥
+IsTalk (answered t) = ⊤
+IsTalk exhausted = ⊥
+IsTalk (turned_away reason) = ⊥
+
+-- what was read in a session; at any other ending nothing was
+abbrev pub Hears : {R : Type 0} → Reads R → Bool → Ending → Watch R → Watch R → Type 0
+Hears r out_failed (completed shows w) reader new_reader = new_reader ≡ reader
+Hears r out_failed (interrupted w) reader new_reader = new_reader ≡ reader
+Hears r out_failed (assembled bytes) reader new_reader = new_reader ≡ reader
+Hears r out_failed (answered t) reader new_reader = Heard r out_failed t reader new_reader
+Hears r out_failed exhausted reader new_reader = new_reader ≡ reader
+Hears r out_failed (turned_away reason) reader new_reader = new_reader ≡ reader
 
 -- lines are told, or a call for one of them failed
 abbrev pub LinesTold : {W : Type 0} → Words W → Option (List ℕ) → Bool → Watch W → Watch W → Type 0
@@ -106,7 +142,8 @@ Tells says e status err new_err = (status ≡ status_after e) × LinesTold says 
 
 abbrev pub LeavesIf : {O E : Type 0} → Bool → Words O → Words E → Ending → Status → Watch O → Watch O → Watch E → Watch E → Type 0
 LeavesIf false o w e status out new_out err new_err = AllWritten o out new_out (output_of e) × Tells w e status err new_err
-LeavesIf true o w e status out new_out err new_err = Broken o out new_out (output_of e) × (status ≡ ends.Files)
+LeavesIf true o w e status out new_out err new_err =
+    (Broken o out new_out (output_of e) ⊎ (IsTalk e × Unflushed o out new_out (output_of e))) × (status ≡ ends.Files)
     × LinesTold w (lines_at_failure e) new_err.failed err new_err
 
 -- What a job leaves behind: the output is written, then the lines, and the status is the ending's.
@@ -114,6 +151,11 @@ LeavesIf true o w e status out new_out err new_err = Broken o out new_out (outpu
 abbrev pub Leaves : {O E : Type 0} → Words O → Words E → Ending → Status → Watch O → Watch O → Watch E → Watch E → Type 0
 Leaves o w e status out new_out err new_err = LeavesIf new_out.failed o w e status out new_out err new_err
 
--- A job with this verdict is done: it ends as the verdict allows, and leaves that ending's output, status and lines.
-abbrev pub IsDone : {O E : Type 0} → Words O → Words E → Verdict → Status → Watch O → Watch O → Watch E → Watch E → Type 0
-IsDone o w v status out new_out err new_err = (e : Ending) × Allows v e × Leaves o w e status out new_out err new_err
+-- A job with this verdict is done: it ends as the verdict allows, has read what that ending says, and leaves its output, status and lines.
+abbrev pub IsDone : {R O E : Type 0} → Reads R → Words O → Words E → Verdict → Status → Watch R → Watch R → Watch O → Watch O → Watch E → Watch E → Type 0
+IsDone r o w v status reader new_reader out new_out err new_err =
+    (e : Ending) × Allows v e × Hears r new_out.failed e reader new_reader × Leaves o w e status out new_out err new_err
+
+-- the same of a job for which nothing is read
+abbrev pub IsDoneUnread : {O E : Type 0} → Words O → Words E → Verdict → Status → Watch O → Watch O → Watch E → Watch E → Type 0
+IsDoneUnread o w v status out new_out err new_err = (e : Ending) × Allows v e × (IsTalk e → ⊥) × Leaves o w e status out new_out err new_err

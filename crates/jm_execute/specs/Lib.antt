@@ -1,5 +1,7 @@
 pub mod CallEnds
 pub mod Written
+pub mod Lines
+pub mod LineReading
 pub mod Reports
 pub mod Codes
 pub mod Turns
@@ -10,5 +12,7 @@ pub mod Beginnings
 pub mod ProgramFiles
 pub mod Reasons
 pub mod Verdicts
+pub mod Talks
 pub mod Endings
 pub mod Refusals
+pub mod ViewsAgain

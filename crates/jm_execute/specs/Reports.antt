@@ -5,6 +5,8 @@ use Rattle.jm_values.specs.FaultNames.{fault_name}
 use Rattle.jm_world.specs.Text.{utf8_text}
 use Rattle.jm_world.specs.World.{World, Thread, live_among}
 use Rattle.jm_world.specs.declared.stop.Stop.{Stop}
+use Rattle.jm_debug.specs.Session.{bytes_of}
+use Rattle.jm_debug.specs.Views.{heap_lines}
 use Rattle.jm_world.specs.declared.stop.Stop.TheVariants.{TagFault, HeapFull, SerialsEnd}
 use Rattle.jm_machine.specs.Threads.{class_of_ending}
 use Rattle.jm_execute.specs.declared.status.Status.{Status}
@@ -40,6 +42,11 @@ last_line None live = live_line live
 
 unfoldable pub report : World → List ℕ
 report w = thread_lines 1 w.threads ++ last_line w.stop (live_among w.threads)
+
+-- the view of a world's heap, where it is shown
+abbrev pub heap_shown : Bool → World → List ℕ
+heap_shown true w = bytes_of (heap_lines w)
+heap_shown false w = []
 
 abbrev pub memory_line : List ℕ
 memory_line = codes "jm: 61 OutOfMemory\n"

@@ -1,6 +1,6 @@
--- What the files of a job say: a run of a program, a class with the bytes of its file, or why there is neither. Each is a chain of steps;
--- the first step that has no answer says why.
-use Rattle.std.specs.Prelude.{ℕ, List, [], ◌∷◌, Option, Some, None, Result, Ok, Err, if◌then◌else◌}
+-- What the files of a job say: a run of a program, a class with the bytes of its file, a session of the debugger, or why there is none.
+-- Each is a chain of steps; the first step that has no answer says why.
+use Rattle.std.specs.Prelude.{ℕ, List, [], ◌∷◌, Option, Some, None, Result, Ok, Err, Bool, if◌then◌else◌}
 use Rattle.std.specs.String.{string_bytes}
 use Rattle.jm_bytes.specs.Reading.{and_then, fault_as}
 use Rattle.jm_program.specs.declared.class.ClassParts.{ClassParts}
@@ -22,16 +22,19 @@ use Rattle.jm_execute.specs.declared.job.RunEvents.{RunEvents}
 use Rattle.jm_execute.specs.declared.job.RunEvents.TheVariants.{Schedule, RoundRobin}
 use Rattle.jm_execute.specs.declared.job.RunJob.{RunJob}
 use Rattle.jm_execute.specs.declared.job.Job.{Job}
-use Rattle.jm_execute.specs.declared.job.Job.TheVariants.{Run, Assemble}
+use Rattle.jm_execute.specs.declared.job.DebugJob.{DebugJob}
+use Rattle.jm_execute.specs.declared.job.Job.TheVariants.{Run, Assemble, Debug}
 use Rattle.jm_class_format.specs.ClassFile.{class_file}
 use Rattle.jm_execute.specs.ProgramFiles.{in_text, in_class_file, is_text_name, text_class}
 use Rattle.jm_execute.specs.Reasons as reason
 
 pub data Work : Type 0 where
-  -- the run of a program, over a heap of this limit, by these events
-  runs : List ClassParts → ℕ → List Event → Work
+  -- the run of a program, over a heap of this limit, by these events, and whether its heap is shown at the end
+  runs : List ClassParts → ℕ → List Event → Bool → Work
   -- a class, and the bytes that are written for it
   assembles : ClassParts → List ℕ → Work
+  -- a session of the debugger over a program and a heap of this limit
+  debugs : List ClassParts → ℕ → Work
 
 -- why there is none
 pub data Cause : Type 0 where
@@ -157,7 +160,7 @@ run_verdict job = do
   read ← events_read job.events
   program ← program_of job.heap job.program.items
   events ← events_of job.events (loaded_world program job.heap)
-  Ok (runs program job.heap events)
+  Ok (runs program job.heap events job.show_heap)
 
 -- ---- a class file from a text
 
@@ -172,6 +175,16 @@ assembly_verdict file = do
   bytes ← written_class (string_bytes file.name) class
   Ok (assembles class bytes)
 
+-- ---- a session of the debugger
+
+unfoldable pub debug_verdict : DebugJob → Verdict
+debug_verdict job = do
+  program ← program_of job.heap job.program.items
+  Ok (debugs program job.heap)
+
+-- ---- a job
+
 unfoldable pub verdict : Job → Verdict
 verdict (Run job) = run_verdict job
 verdict (Assemble job) = assembly_verdict job.text
+verdict (Debug job) = debug_verdict job

@@ -1,6 +1,7 @@
 // Where the events of a run come from, as turns of a seat.
 
 ghost use Rattle.std.specs.Prelude.{◌≡◌, MatchResult, List, []};
+ghost use Rattle.jm_machine.specs.ManySteps.{steps_of};
 ghost use Rattle.jm_schedule.specs.Runs.{repeats_of};
 ghost use Rattle.jm_world.specs.World.{World};
 ghost use Rattle.jm_world.specs.declared.event.Event.{Event};
@@ -11,12 +12,16 @@ ghost use Rattle.jm_execute.specs.Turns.{AreReplies, Records, RecordsPart};
 use jm_heap::Heap;
 use jm_machine::OutOfMemory;
 use jm_schedule::{RoundRobin, Run, Schedule};
-use jm_shared::{Seat, SharedMachine, Sharing};
+use jm_shared::{Seat, SharedMachine, Sharing, StepsEnd};
+use jm_world::Event;
 use std::alloc::Global;
 use std::sync::Wait;
 
-// Makes an event as often as a run says.
-fn make_repeats<H: Heap, S: Sharing, W: Wait>(
+// From how many repeats on steps of a thread are made several in one hold of the lock.
+const MANY: u32 = 4;
+
+// Makes an event as often as a run says, each in a hold of the lock of its own.
+fn make_each<H: Heap, S: Sharing, W: Wait>(
     rt: &W,
     machine: &SharedMachine<H, S>,
     seat: &mut Seat<S>,
@@ -33,6 +38,49 @@ fn make_repeats<H: Heap, S: Sharing, W: Wait>(
         }
     }
     Ok(())
+}
+
+// Makes so many steps of a thread, in as few holds of the lock as may be.
+fn make_steps<H: Heap, S: Sharing, W: Wait>(
+    rt: &W,
+    machine: &SharedMachine<H, S>,
+    seat: &mut Seat<S>,
+    thread: u64,
+    count: usize,
+) -> Result<(), OutOfMemory>
+    ensures made { MatchResult result (λ _. Records seat.old.receipts seat.new.receipts (steps_of thread count))
+        (λ _. RecordsPart seat.old.receipts seat.new.receipts (steps_of thread count)) }
+    ensures number { seat.new.number ≡ seat.old.number }
+{
+    let mut left = count;
+    while left != 0 {
+        let steps = machine.turns(rt, seat, thread, left).steps;
+        match steps.end {
+            StepsEnd::AllMade => return Ok(()),
+            StepsEnd::Other(_) => left -= steps.alike + 1,
+            StepsEnd::OutOfMemory => return Err(OutOfMemory),
+        }
+    }
+    Ok(())
+}
+
+// Makes an event as often as a run says.
+fn make_repeats<H: Heap, S: Sharing, W: Wait>(
+    rt: &W,
+    machine: &SharedMachine<H, S>,
+    seat: &mut Seat<S>,
+    run: Run,
+) -> Result<(), OutOfMemory>
+    ensures made { MatchResult result (λ _. Records seat.old.receipts seat.new.receipts (repeats_of run))
+        (λ _. RecordsPart seat.old.receipts seat.new.receipts (repeats_of run)) }
+    ensures number { seat.new.number ≡ seat.old.number }
+{
+    match run.event {
+        Event::Step(thread) if run.count >= MANY => {
+            make_steps(rt, machine, seat, thread, run.count as usize)
+        }
+        _ => make_each(rt, machine, seat, run),
+    }
 }
 
 /// A source of events: which ones it makes is known from the world in which they begin.

@@ -1,49 +1,53 @@
-// What `jm run` and `jm asm` do.
+// What `jm run`, `jm asm` and `jm debug` do.
 
-ghost use Rattle.std.specs.Prelude.{◌≡◌, List, [], ◌++◌, false, MatchResult};
+ghost use Rattle.std.specs.Prelude.{◌≡◌, List, [], ◌++◌, Bool, false, MatchResult};
 ghost use Rattle.jm_machine.specs.View.{MatchesWorld};
 ghost use Rattle.jm_shared.specs.Legal.{events_of, world_after};
 ghost use Rattle.jm_shared.specs.Seats.{fresh_hands};
+ghost use Rattle.jm_world.specs.World.{World};
 ghost use Rattle.jm_world.specs.declared.event.Event.{Event};
 ghost use Rattle.jm_execute.specs.Beginnings.{HasOneThread, beginning};
-ghost use Rattle.jm_execute.specs.Endings.{Ending, assembled, completed, exhausted, interrupted, output_of, Allows, Ends, IsDone, Leaves, Tells};
+ghost use Rattle.jm_execute.specs.Endings.{Ending, assembled, completed, exhausted, interrupted, output_of, Allows, Ends, IsDone, IsDoneUnread, IsTalk, Leaves, Tells};
+ghost use Rattle.jm_execute.specs.Reports.{heap_shown};
 ghost use Rattle.jm_execute.specs.Refusals.{Hinders};
-ghost use Rattle.jm_execute.specs.Verdicts.{Verdict, assembly_verdict, run_verdict, verdict};
-ghost use Rattle.jm_execute.specs.Written.{words};
+ghost use Rattle.jm_execute.specs.Verdicts.{Verdict, assembly_verdict, debug_verdict, run_verdict, verdict};
+ghost use Rattle.jm_execute.specs.Written.{reads, words};
 
 use crate::assembly::assemble_file;
 use crate::ends::status_of;
 use crate::events::EventSource;
-use crate::job::{AssembleJob, Job, RunJob};
-use crate::preparation::prepare;
+use crate::job::{AssembleJob, DebugJob, Job, RunJob};
+use crate::preparation::{prepare, prepare_session};
+use crate::readable::Readable;
 use crate::refusal::Obstacle;
-use crate::report::{write_out_of_memory, write_report};
+use crate::report::{heap_view, write_end, write_out_of_memory};
+use crate::session::answer_lines;
 use crate::status::Status;
 use crate::watchable::Watchable;
 use crate::watched::Watched;
+use jm_debug::Debugger;
 use jm_heap::Heap;
 use jm_machine::{Machine, OutOfMemory};
 use jm_shared::{Journal, Origin, Seat, SeatTable, SharedMachine, Sharing};
 use std::alloc::Global;
-use std::io::Read;
 use std::marker::Brand;
 use std::sync::Wait;
 
-// Tells of a run whose events were all made.
-fn tell_run<H: Heap, R: Origin, O: Watchable, E: Watchable>(
-    journal: &Journal<H, R>,
+// Tells of a run whose events were all made, with the view of its heap.
+fn tell_completed<H: Heap, O: Watchable, E: Watchable>(
+    machine: &Machine<H>,
+    view: &str,
     out: &mut Watched<O>,
     err: &mut Watched<E>,
 ) -> Status
     requires out { out.old.failed ≡ false }
     requires err { err.old.failed ≡ false }
-    ensures { Leaves (words O.contents O.ends) (words E.contents E.ends)
-        (completed (world_after R.first journal.now.entries)) result out.old out.new err.old err.new }
+    ensures { (w : World) (shows : Bool) → MatchesWorld machine.now w → view.now ≡ heap_shown shows w
+        → Leaves (words O.contents O.ends) (words E.contents E.ends) (completed shows w) result out.old out.new err.old err.new }
 {
-    let machine = journal.machine();
     match out.write_all(machine.output()) {
         Ok(()) => {
-            let _told = write_report(machine, err);
+            let _told = write_end(machine, view, err);
             status_of(machine)
         }
         Err(_) => {
@@ -74,6 +78,27 @@ fn tell_interrupted<H: Heap, R: Origin, O: Watchable, E: Watchable>(
             let _told = err.write_line("jm: write failed");
             Status::Files
         }
+    }
+}
+
+// Tells of a run whose events were all made. The view of its heap, where it is shown, is made before
+// anything is written; where a growth is refused then, the run is told of as at an event.
+fn tell_run<H: Heap, R: Origin, O: Watchable, E: Watchable>(
+    alloc: Global,
+    journal: &Journal<H, R>,
+    show_heap: bool,
+    out: &mut Watched<O>,
+    err: &mut Watched<E>,
+) -> Status
+    requires out { out.old.failed ≡ false }
+    requires err { err.old.failed ≡ false }
+    ensures { (e : Ending) × Ends show_heap R.first (events_of journal.now.entries) e
+        × Leaves (words O.contents O.ends) (words E.contents E.ends) e result out.old out.new err.old err.new }
+{
+    let machine = journal.machine();
+    match heap_view(alloc, machine, show_heap) {
+        Ok(view) => tell_completed(machine, &view, out, err),
+        Err(_) => tell_interrupted(journal, out, err),
     }
 }
 
@@ -108,6 +133,7 @@ fn run_events<S: EventSource, H: Heap + Drop, N: Sharing, W: Wait, O: Watchable,
     machine: Machine<H>,
     table: SeatTable,
     source: &S,
+    show_heap: bool,
     out: &mut Watched<O>,
     err: &mut Watched<E>,
 ) -> Status
@@ -117,14 +143,14 @@ fn run_events<S: EventSource, H: Heap + Drop, N: Sharing, W: Wait, O: Watchable,
     requires begins { HasOneThread N.first }
     requires out { out.old.failed ≡ false }
     requires err { err.old.failed ≡ false }
-    ensures { (e : Ending) × Ends N.first (S.events source.now N.first) e
+    ensures { (e : Ending) × Ends show_heap N.first (S.events source.now N.first) e
         × Leaves (words O.contents O.ends) (words E.contents E.ends) e result out.old out.new err.old err.new }
 {
     match SharedMachine::<H, N>::new(alloc, machine, table) {
         Ok((machine, seats)) => {
             let (journal, made) = make_journal(rt, alloc, machine, seats, source);
             match made {
-                Ok(()) => tell_run(&journal, out, err),
+                Ok(()) => tell_run(alloc, &journal, show_heap, out, err),
                 Err(_) => tell_interrupted(&journal, out, err),
             }
         }
@@ -138,18 +164,21 @@ fn run_by_one_seat<S: EventSource, H: Heap + Drop, W: Wait, O: Watchable, E: Wat
     alloc: Global,
     machine: Machine<H>,
     source: &S,
+    show_heap: bool,
     out: &mut Watched<O>,
     err: &mut Watched<E>,
 ) -> Status
     requires first { MatchesWorld machine (beginning machine) }
     requires out { out.old.failed ≡ false }
     requires err { err.old.failed ≡ false }
-    ensures { (e : Ending) × Ends (beginning machine) (S.events source.now (beginning machine)) e
+    ensures { (e : Ending) × Ends show_heap (beginning machine) (S.events source.now (beginning machine)) e
         × Leaves (words O.contents O.ends) (words E.contents E.ends) e result out.old out.new err.old err.new }
 {
     match SeatTable::new(alloc, 1) {
         Ok(table) => {
-            run_events::<S, H, Brand, W, O, E>(rt, alloc, machine, table, source, out, err)
+            run_events::<S, H, Brand, W, O, E>(
+                rt, alloc, machine, table, source, show_heap, out, err,
+            )
         }
         Err(_) => tell_exhausted(err),
     }
@@ -187,7 +216,7 @@ fn tell_exhausted<E: Watchable>(err: &mut Watched<E>) -> Status
 // Tells why a job is not done. Nothing is written to the output.
 fn tell_obstacle<E: Watchable>(obstacle: Obstacle<'_>, err: &mut Watched<E>) -> Status
     requires { err.old.failed ≡ false }
-    ensures { (v : Verdict) → Hinders v obstacle.entry → (e : Ending) × Allows v e × (output_of e ≡ [])
+    ensures { (v : Verdict) → Hinders v obstacle.entry → (e : Ending) × Allows v e × (IsTalk e → ⊥) × (output_of e ≡ [])
         × Tells (words E.contents E.ends) e result err.old err.new }
 {
     match obstacle {
@@ -209,10 +238,18 @@ fn execute_run<W: Wait, O: Watchable, E: Watchable>(
 ) -> Status
     requires out { out.old.failed ≡ false }
     requires err { err.old.failed ≡ false }
-    ensures { IsDone (words O.contents O.ends) (words E.contents E.ends) (run_verdict job.now) result out.old out.new err.old err.new }
+    ensures { IsDoneUnread (words O.contents O.ends) (words E.contents E.ends) (run_verdict job.now) result out.old out.new err.old err.new }
 {
     match prepare(alloc, job) {
-        Ok((machine, source)) => run_by_one_seat(rt, alloc, machine, &source, out, err),
+        Ok((machine, source)) => run_by_one_seat(
+            rt,
+            alloc,
+            machine,
+            &source,
+            job.show_heap,
+            out,
+            err,
+        ),
         Err(obstacle) => tell_obstacle(obstacle, err),
     }
 }
@@ -225,7 +262,7 @@ fn execute_assemble<O: Watchable, E: Watchable>(
 ) -> Status
     requires out { out.old.failed ≡ false }
     requires err { err.old.failed ≡ false }
-    ensures { IsDone (words O.contents O.ends) (words E.contents E.ends) (assembly_verdict job.now.text) result out.old out.new err.old err.new }
+    ensures { IsDoneUnread (words O.contents O.ends) (words E.contents E.ends) (assembly_verdict job.now.text) result out.old out.new err.old err.new }
 {
     match assemble_file(alloc, &job.text) {
         Ok(bytes) => tell_assembled(&bytes, &job.output, out, err),
@@ -233,25 +270,55 @@ fn execute_assemble<O: Watchable, E: Watchable>(
     }
 }
 
+fn execute_debug<W: Wait, R: Readable, O: Watchable, E: Watchable>(
+    rt: &W,
+    alloc: Global,
+    job: &DebugJob,
+    reader: &mut Watched<R>,
+    out: &mut Watched<O>,
+    err: &mut Watched<E>,
+) -> Status
+    requires out { out.old.failed ≡ false }
+    requires err { err.old.failed ≡ false }
+    ensures { IsDone (reads R.remaining R.fails) (words O.contents O.ends) (words E.contents E.ends) (debug_verdict job.now)
+        result reader.old reader.new out.old out.new err.old err.new }
+{
+    match prepare_session(alloc, job) {
+        Ok(machine) => {
+            let mut debugger = Debugger::new(alloc, machine);
+            answer_lines(rt, alloc, &mut debugger, reader, out)
+        }
+        Err(obstacle) => tell_obstacle(obstacle, err),
+    }
+}
+
 /// Does what a job says. A job that cannot be done gets a line on `err` that says why, and writes
 /// nothing to `out`; where a growth was refused that is one line, and the output of the events made
-/// before it is written. Nothing is read from `reader`.
+/// before it is written. Only a session of the debugger reads from `reader`.
 ///
 /// `Run`: the classes of the program are run by the events of the schedule, or where there is none by
 /// those of the round robin, one after the other, each a turn of the only seat of a shared machine,
 /// which may wait for its lock. What the Java program prints goes to `out`, once the last event is
-/// made. Then `err` gets a line for each
-/// thread that an exception has ended, and one for the stop or for the threads that have not ended, if
-/// any; the status says how the run ended.
+/// made. Then `err` gets a line for each thread that an exception has ended, one for the stop or for
+/// the threads that have not ended, if any, and the view of the heap, where the job says so; the
+/// status says how the run ended. The view is made before anything is written; where a growth is
+/// refused then, all of the output is written, and the line and the status are those of want of
+/// memory.
 ///
 /// `Assemble`: the bytes of the class file of the class that the text denotes go to `out`, once they
 /// stand whole in memory, and the status is `Done`.
 ///
+/// `Debug`: the lines of `reader` are commands of the debugger, from the first world of the program
+/// on. Each answer goes to `out`, and is handed on, before the next line is read; a refusal as
+/// `? NUMBER NAME`, also of a line that is not UTF-8. What the Java program prints is not written.
+/// The status is `Done` at the end of `reader`, and `Files` where it fails; the line for want of
+/// memory is the last, and then the status is `OutOfMemory`.
+///
 /// Where a write to `out` fails, a beginning of the output stands in it, and the status is `Files`;
-/// no other job but one with a file that could not be read ends so. A failing `err` changes no
+/// no other job ends so but one with a file that could not be read, or a session whose reader failed. A failing `err` changes no
 /// status.
 #[tactic(auto, unfolding(crate::specs::Verdicts::verdict))]
-pub fn execute<W: Wait, R: Read, O: Watchable, E: Watchable>(
+pub fn execute<W: Wait, R: Readable, O: Watchable, E: Watchable>(
     rt: &W,
     alloc: Global,
     job: &Job,
@@ -261,11 +328,12 @@ pub fn execute<W: Wait, R: Read, O: Watchable, E: Watchable>(
 ) -> Status
     requires out { out.old.failed ≡ false }
     requires err { err.old.failed ≡ false }
-    ensures done { IsDone (words O.contents O.ends) (words E.contents E.ends) (verdict job.now) result out.old out.new err.old err.new }
-    ensures reader { reader.new ≡ reader.old }
+    ensures { IsDone (reads R.remaining R.fails) (words O.contents O.ends) (words E.contents E.ends) (verdict job.now)
+        result reader.old reader.new out.old out.new err.old err.new }
 {
     match job {
         Job::Run(run) => execute_run(rt, alloc, run, out, err),
         Job::Assemble(assemble) => execute_assemble(alloc, assemble, out, err),
+        Job::Debug(debug) => execute_debug(rt, alloc, debug, reader, out, err),
     }
 }

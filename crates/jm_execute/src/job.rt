@@ -24,6 +24,8 @@ pub enum Job {
     Run(RunJob),
     /// `jm asm`
     Assemble(AssembleJob),
+    /// `jm debug`
+    Debug(DebugJob),
 }
 
 /// Where the events of a run come from.
@@ -44,6 +46,8 @@ pub struct RunJob {
     /// The files of the classes, the main class's first: each a class file, or an assembler text
     /// where its name ends in `.j`.
     pub program: Vec<InputFile>,
+    /// Whether the objects that are reachable at the end are shown.
+    pub show_heap: bool,
 }
 
 /// To write the class that an assembler text denotes as a class file.
@@ -53,4 +57,15 @@ pub struct AssembleJob {
     pub text: InputFile,
     /// The name of the class file, for the line that says that it could not be written.
     pub output: String,
+}
+
+/// To answer the commands of a session of the debugger, which begins before the first event of a
+/// program.
+#[derive(Drop)]
+pub struct DebugJob {
+    /// The limit of the heap, in cells.
+    pub heap: u32,
+    /// The files of the classes, the main class's first: each a class file, or an assembler text
+    /// where its name ends in `.j`.
+    pub program: Vec<InputFile>,
 }

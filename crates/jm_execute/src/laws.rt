@@ -1,16 +1,27 @@
-// What a class file that was written says of its text, and what the status of files says.
+// What a class file that was written says of its text, what the status of files says, what a session
+// answers to texts, and what is shown when a journal's events are run again.
 
-ghost use Rattle.std.specs.Prelude.{◌≡◌, ◌+◌, ◌≤◌, ℕ, List, Err, Ok, Option, Vec, false, length, vec_capacity, vec_len};
+ghost use Rattle.std.specs.Prelude.{◌≡◌, ◌≢◌, ◌+◌, ◌≤◌, ◌⊎◌, ℕ, List, Err, Ok, Option, Result, Some, Vec, false, length, map, true, vec_capacity, vec_len};
+ghost use Rattle.std.specs.List.{concat};
 ghost use Rattle.std.specs.declared.alloc.Global.{Global};
 ghost use Rattle.jm_class_format.specs.ClassFile.{Spells, class_file};
 ghost use Rattle.jm_class_writer.specs.ClassParts.{written};
 ghost use Rattle.jm_program.specs.declared.class.ClassParts.{ClassParts};
+ghost use Rattle.jm_debug.specs.Answering.{Answers, DebuggerView};
+ghost use Rattle.jm_debug.specs.Session.{Session, answers, session_of};
+ghost use Rattle.jm_debug.specs.declared.fault.DebugFault.{DebugFault};
+ghost use Rattle.jm_debug.specs.declared.fault.DebugFault.TheVariants.{OutOfMemory};
+ghost use Rattle.jm_shared.specs.Legal.{world_after};
+ghost use Rattle.jm_shared.specs.declared.entry.Entry.{Entry};
+ghost use Rattle.jm_world.specs.World.{World};
 ghost use Rattle.jm_execute.specs.CallEnds.{vec_ends};
 ghost use Rattle.jm_execute.specs.Endings.{Allows, Ending, IsDone, Leaves, assembled, output_of};
 ghost use Rattle.jm_execute.specs.ProgramFiles.{text_class};
 ghost use Rattle.jm_execute.specs.Reasons.{not_read};
+ghost use Rattle.jm_execute.specs.Talks.{printed_for};
 ghost use Rattle.jm_execute.specs.Verdicts.{because, verdict};
-ghost use Rattle.jm_execute.specs.Written.{Watch, words};
+ghost use Rattle.jm_execute.specs.ViewsAgain.{told};
+ghost use Rattle.jm_execute.specs.Written.{Watch, reads, words};
 ghost use Rattle.jm_execute.specs.declared.job.AssembleJob.{AssembleJob};
 ghost use Rattle.jm_execute.specs.declared.job.Contents.TheVariants as contents;
 ghost use Rattle.jm_execute.specs.declared.job.Job.{Job};
@@ -18,21 +29,25 @@ ghost use Rattle.jm_execute.specs.declared.job.Job.TheVariants as job;
 ghost use Rattle.jm_execute.specs.declared.status.Status.{Status};
 ghost use Rattle.jm_execute.specs.declared.status.Status.TheVariants as status;
 
+use crate::readable::Readable;
 use crate::watchable::Watchable;
 
 /// The bytes that an assembly leaves in its output are those that are written for the class that its
 /// text denotes; they spell that class, and reading them as a class file gives it back.
 pub fn class_of_its_text()
-    ensures { (assembly : AssembleJob) (text : Vec ℕ Global) (bytes : List ℕ) → assembly.text.contents ≡ contents.Bytes text → Allows (verdict (job.Assemble assembly)) (assembled bytes)
+    ensures { (assembly : AssembleJob) (text : Vec ℕ Global) (bytes : List ℕ) → assembly.text.contents ≡ contents.Bytes text
+        → Allows (verdict (job.Assemble assembly)) (assembled bytes)
         → (class : ClassParts) × (text_class text.items ≡ Ok class) × (written class ≡ Ok bytes) × Spells bytes class × (class_file.read bytes ≡ Ok class) }
 {}
 
 /// A job that ends with the status of files, and whose output did not fail, has a file that could not
-/// be read. (Where the output failed, what the job leaves names the call that did.)
-pub fn status_of_files<O: Watchable, E: Watchable>()
-    ensures { (asked : Job) (out new_out : Watch O) (err new_err : Watch E) → new_out.failed ≡ false
-        → IsDone (words O.contents O.ends) (words E.contents E.ends) (verdict asked) status.Files out new_out err new_err
-        → (name : List ℕ) × (verdict asked ≡ Err (because (not_read name))) }
+/// be read, or its reader failed. (Where the output or the reader failed, what the job leaves names
+/// the call that did.)
+pub fn status_of_files<R: Readable, O: Watchable, E: Watchable>()
+    ensures { (asked : Job) (reader new_reader : Watch R) (out new_out : Watch O) (err new_err : Watch E) → new_out.failed ≡ false
+        → IsDone (reads R.remaining R.fails) (words O.contents O.ends) (words E.contents E.ends) (verdict asked)
+        status.Files reader new_reader out new_out err new_err
+        → ((name : List ℕ) × (verdict asked ≡ Err (because (not_read name)))) ⊎ (new_reader.failed ≡ true) }
 {}
 
 /// An output in memory that has room for what is written to it does not fail.
@@ -41,4 +56,20 @@ pub fn room_for_the_output<E: Watchable>()
         → vec_len out.inner + length (output_of e) ≤ vec_capacity out.inner
         → Leaves (words contents vec_ends) (words E.contents E.ends) e ended out new_out err new_err
         → new_out.failed ≡ false }
+{}
+
+/// What is printed for lines that are texts are the session's answers to them, one after the other.
+pub fn answers_to_texts()
+    ensures { (s : Session) (texts : List (List ℕ)) → printed_for s (map (λ text. Some text) texts) ≡ concat (answers s texts) }
+{}
+
+/// A journal's events run again give equal views. A debugger of the journal's machine and one of a machine
+/// of any heap that has run the events again (`Journal::run_again` of `jm_shared`) are both at the session
+/// of the world to which these events lead (`Debugger::new` of `jm_debug`); what they answer to a line is
+/// the same, unless one of them is refused memory.
+pub fn equal_views()
+    ensures { (first : World) (entries : List Entry) (line : List ℕ) (d e : DebuggerView) (r q : Result (Vec ℕ Global) DebugFault)
+        → Answers (λ v. v.items) d (session_of (world_after first entries)) line r
+        → Answers (λ v. v.items) e (session_of (world_after first entries)) line q
+        → told r ≢ Err OutOfMemory → told q ≢ Err OutOfMemory → told r ≡ told q }
 {}

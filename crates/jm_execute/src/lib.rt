@@ -1,20 +1,23 @@
-//! What `jm run` and `jm asm` do with the files that they were given.
+//! What `jm run`, `jm asm` and `jm debug` do with the files that they were given.
 //!
 //! [`execute`] does a [`Job`] and answers the [`Status`] of the program. It runs the classes of a
 //! program's files by the events of a schedule, or by turns of its threads where there is none, and
 //! writes what the Java program prints and how the run ended; or it writes the class file of the
-//! class that an assembler text denotes. It knows no file and no terminal: the files' bytes stand in
-//! the job, and the two writers are any that are [`Watchable`], each [`Watched`], so that its
-//! contract can say which bytes are written, and that a writer failed only where one of its calls
+//! class that an assembler text denotes; or it answers the lines of a reader as the debugger does. It
+//! knows no file and no terminal: the files' bytes stand in the job, the reader is any that is
+//! [`Readable`] and the two writers any that are [`Watchable`], each [`Watched`], so that its contract
+//! can say which bytes are read and written, and that one of them failed only where one of its calls
 //! did. The output and the lines of a run are those of the model's run (`jm_world`) over the events
 //! that the schedule spells, or that the model's round robin chooses; the bytes of a class file spell
-//! the class of its text (`jm_class_format`, `jm_jasmin`).
+//! the class of its text (`jm_class_format`, `jm_jasmin`); the answers are those of the debugger's
+//! definition (`jm_debug`) to the lines that the reader's bytes spell, one after the other.
 //!
 //! `program_file` says which class a file holds, `preparation` goes from files to a machine,
 //! `events` and `round_robin` make the events, the latter over the threads that a `pass` keeps,
-//! `report` and `ends` say how a run ended, and `assembly` goes from a text to a class file. The
+//! `report` and `ends` say how a run ended, `assembly` goes from a text to a class file, `lines` from a
+//! reader to its lines, and `session` from these to their answers. The
 //! crate stands on `jm_class_reader`, `jm_jasmin`, `jm_class_writer`, `jm_linker`, `jm_machine`,
-//! `jm_gen_heap` and `jm_schedule`.
+//! `jm_gen_heap`, `jm_schedule` and `jm_debug`.
 #![tactic(auto)]
 
 mod assembly;
@@ -24,13 +27,16 @@ mod execution;
 mod files;
 mod job;
 mod laws;
+mod lines;
 mod number;
 mod pass;
 mod preparation;
 mod program_file;
+mod readable;
 mod refusal;
 mod report;
 mod round_robin;
+mod session;
 mod status;
 mod watchable;
 mod watched;
@@ -40,12 +46,17 @@ pub use ends::status_of;
 pub use events::{EventSource, RunSource};
 pub use execution::execute;
 pub use files::{bytes_of, check_read};
-pub use job::{AssembleJob, Contents, InputFile, Job, RunEvents, RunJob};
-pub use laws::class_of_its_text;
-pub use preparation::{Ready, RunHeap, machine_of, prepare};
+pub use job::{AssembleJob, Contents, DebugJob, InputFile, Job, RunEvents, RunJob};
+pub use laws::{class_of_its_text, equal_views};
+pub use lines::{LineFault, NextLine, Unread};
+pub use preparation::{Ready, RunHeap, machine_of, prepare, prepare_session};
 pub use program_file::{class_in_file, class_in_text, class_of};
+pub use readable::{ReadFailed, Readable, get_by_read};
 pub use refusal::{Obstacle, Refusal};
-pub use report::{write_out_of_memory, write_report};
+pub use report::{heap_view, write_end, write_out_of_memory, write_report};
+pub use session::answer_lines;
 pub use status::Status;
-pub use watchable::{Watchable, WriteFailed, put_by_write, put_line_by_write};
-pub use watched::{ReadFailed, Watched};
+pub use watchable::{
+    Watchable, WriteFailed, put_by_write, put_line_by_write, put_through_by_flush,
+};
+pub use watched::Watched;

@@ -1,13 +1,15 @@
 // The threads of a pass over the thread numbers.
 
-ghost use Rattle.std.specs.Prelude.{◌≡◌, ◌≤◌, ◌+◌, ℕ, List, ◌++◌, length, Bool, false, true, IfOk, IfSome, OnOk, option_map};
+ghost use Rattle.std.specs.Prelude.{◌≡◌, ◌≤◌, ◌+◌, ℕ, List, ◌++◌, length, Bool, false, true, IfOk, IfSome, IsTrue, OnOk, option_map};
 ghost use Rattle.jm_machine.specs.Threads.{is_live};
 ghost use Rattle.jm_world.specs.RoundRobin.{is_stopped, turn_in};
-ghost use Rattle.jm_world.specs.Run.{after};
+ghost use Rattle.jm_world.specs.Run.{after, reply};
 ghost use Rattle.jm_world.specs.World.{World};
 ghost use Rattle.jm_world.specs.declared.event.Event.TheVariants.{Step};
+ghost use Rattle.jm_world.specs.declared.reply.ReplyKind.TheVariants.{Done};
 ghost use Rattle.jm_execute.specs.Beginnings.{HasOneThread};
-ghost use Rattle.jm_execute.specs.Passes.{AllLive, Follows, HasTurn, Knows, Lists, OthersStay, ended_in, following, turn_of};
+ghost use Rattle.jm_debug.specs.Kept.{OthersStay, ended_in, has_stopped};
+ghost use Rattle.jm_execute.specs.Passes.{AllLive, Follows, HasTurn, IsAlone, Knows, Lists, following, turn_of};
 
 use jm_machine::OutOfMemory;
 use jm_world::{Reply, ReplyKind};
@@ -72,6 +74,7 @@ impl Pass {
         ensures turn { (w : World) (from : ℕ) → Knows w from self.old → option_map turn_of result ≡ turn_in w from moved }
         ensures has { (w : World) (from : ℕ) → Knows w from self.old → IfSome result (λ turn. HasTurn w turn.thread self.new) }
         ensures ended { self.new.ended ≡ self.old.ended }
+        ensures stopped { self.new.stopped ≡ self.old.stopped }
     {
         if self.stopped {
             return None;
@@ -90,6 +93,24 @@ impl Pass {
             thread,
             moved: false,
         })
+    }
+
+    /// Whether the first thread is the only one that is live.
+    pub fn is_alone(&self) -> bool
+        ensures { IsTrue result → IsAlone self.now }
+    {
+        self.ahead.len() == 1 && self.behind.is_empty()
+    }
+
+    /// The reply to an event that is done, and makes and ends no thread.
+    pub fn done(&self) -> Reply
+        ensures { (w : World) → self.now.known ≡ length w.threads → self.now.ended ≡ ended_in w → result ≡ reply Done w }
+    {
+        Reply {
+            kind: ReplyKind::Done,
+            made: self.known,
+            live: self.known.saturating_sub(self.ended),
+        }
     }
 
     // Lists the threads up to a number behind those ahead.
@@ -155,6 +176,18 @@ impl Pass {
             Ok(()) => Ok(()),
             Err(fault) => Err(fault),
         }
+    }
+
+    /// After events of the first thread that were done, and made and ended no thread: its turn goes
+    /// on, or is over. `OutOfMemory`: a growth was refused.
+    pub fn go_on(&mut self, is_over: bool) -> Result<(), OutOfMemory>
+        ensures { (w : World) (n : ℕ) → HasTurn w n self.old → self.old.ended ≡ ended_in w → self.old.stopped ≡ has_stopped w.stop →
+            OnOk result (Knows w (following n is_over) self.new) }
+    {
+        if is_over {
+            return self.end_turn();
+        }
+        Ok(())
     }
 
     /// Sees the reply to an event of the thread whose turn it is; the threads that it made take part

@@ -9,11 +9,11 @@ ghost use Rattle.jm_machine.specs.Start.{IsEmpty};
 ghost use Rattle.jm_execute.specs.Beginnings.{StandsAtItsBeginning};
 ghost use Rattle.jm_execute.specs.Refusals.{Gives};
 ghost use Rattle.jm_execute.specs.Sources.{events_made};
-ghost use Rattle.jm_execute.specs.Verdicts.{classes_of, events_in, events_of, events_read, linked_program, loaded_program, program_of, run_verdict, runs};
+ghost use Rattle.jm_execute.specs.Verdicts.{classes_of, debug_verdict, debugs, events_in, events_of, events_read, linked_program, loaded_program, program_of, run_verdict, runs};
 
 use crate::events::RunSource;
 use crate::files::{bytes_of, check_read};
-use crate::job::{InputFile, RunEvents, RunJob};
+use crate::job::{DebugJob, InputFile, RunEvents, RunJob};
 use crate::program_file::class_of;
 use crate::refusal::{Obstacle, Refusal};
 use jm_copy::SerialCollector;
@@ -148,7 +148,7 @@ pub type Ready = (Machine<RunHeap>, RunSource);
 #[tactic(auto, unfolding(crate::specs::Verdicts::run_verdict))]
 pub fn prepare(alloc: Global, job: &RunJob) -> Result<Ready, Obstacle<'_>>
     ensures run { Gives result (run_verdict job.now) (λ ready.
-        runs ready.0.linked.program job.now.heap (events_made ready.1 (loaded_world ready.0.linked.program job.now.heap))) }
+        runs ready.0.linked.program job.now.heap (events_made ready.1 (loaded_world ready.0.linked.program job.now.heap)) job.now.show_heap) }
     ensures ready { IfOk result (λ ready. StandsAtItsBeginning job.now.heap ready.0) }
 {
     check_events(&job.events)?;
@@ -156,4 +156,15 @@ pub fn prepare(alloc: Global, job: &RunJob) -> Result<Ready, Obstacle<'_>>
     let machine = machine_of(alloc, &job.program, heap)?;
     let source = source_of(alloc, &job.events)?;
     Ok((machine, source))
+}
+
+/// The machine with which a session begins. A file that could not be read is the first obstacle; then
+/// those of the program.
+#[tactic(auto, unfolding(crate::specs::Verdicts::debug_verdict))]
+pub fn prepare_session(alloc: Global, job: &DebugJob) -> Result<Machine<RunHeap>, Obstacle<'_>>
+    ensures session { Gives result (debug_verdict job.now) (λ machine. debugs machine.linked.program job.now.heap) }
+    ensures ready { IfOk result (StandsAtItsBeginning job.now.heap) }
+{
+    let heap = empty_heap(alloc, job.heap)?;
+    machine_of(alloc, &job.program, heap)
 }

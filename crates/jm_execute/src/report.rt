@@ -1,19 +1,21 @@
 // What standard error says of a run.
 
-ghost use Rattle.std.specs.Prelude.{Some};
+ghost use Rattle.std.specs.Prelude.{◌≡◌, Some, ◌++◌, IfOk, string_bytes};
 ghost use Rattle.jm_world.specs.World.{World, live_among, thread_at};
 ghost use Rattle.jm_machine.specs.Threads.{class_ended_by};
 ghost use Rattle.jm_machine.specs.View.{MatchesWorld};
 ghost use Rattle.jm_execute.specs.Written.{WritesLines, words};
-ghost use Rattle.jm_execute.specs.Reports.{ended_line, thread_line, thread_lines, stop_text, live_line, last_line, report, memory_line};
+ghost use Rattle.jm_execute.specs.Reports.{ended_line, thread_line, thread_lines, stop_text, live_line, last_line, report, heap_shown, memory_line};
 
 use crate::number::Number;
 use crate::watchable::{Watchable, WriteFailed};
 use crate::watched::Watched;
+use jm_debug::heap;
 use jm_heap::Heap;
-use jm_machine::Machine;
+use jm_machine::{Machine, OutOfMemory};
 use jm_text::Utf8;
 use jm_world::Stop;
+use std::alloc::Global;
 use std::fmt;
 use std::fmt::Display;
 
@@ -116,6 +118,36 @@ pub fn write_report<H: Heap, W: Watchable>(
 {
     write_threads(machine, err)?;
     write_last(machine, err)
+}
+
+/// The view of a machine's heap, where it is to be shown, and else an empty text. `OutOfMemory`: a
+/// growth was refused.
+pub fn heap_view<H: Heap>(
+    alloc: Global,
+    machine: &Machine<H>,
+    show_heap: bool,
+) -> Result<String, OutOfMemory>
+    ensures { (w : World) → MatchesWorld machine.now w → IfOk result (λ view. string_bytes view ≡ heap_shown show_heap w) }
+{
+    if !show_heap {
+        return Ok(String::new(alloc));
+    }
+    match heap(alloc, machine) {
+        Ok(view) => Ok(view),
+        Err(_) => Err(OutOfMemory),
+    }
+}
+
+/// Writes how a run ended, and behind it the view of its heap, which may be empty.
+pub fn write_end<H: Heap, W: Watchable>(
+    machine: &Machine<H>,
+    view: &str,
+    err: &mut Watched<W>,
+) -> Result<(), WriteFailed>
+    ensures { (w : World) → MatchesWorld machine.now w → WritesLines (words W.contents W.ends) result err.old err.new (report w ++ view.now) }
+{
+    write_report(machine, err)?;
+    err.write_lines(view.as_bytes())
 }
 
 /// Writes that a growth was refused.

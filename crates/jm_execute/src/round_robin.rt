@@ -1,19 +1,24 @@
 // The events of a round robin.
 
-ghost use Rattle.std.specs.Prelude.{◌≡◌, ℕ, [], Some, MatchResult};
-ghost use Rattle.jm_world.specs.RoundRobin.{left_for, robin, turn_in};
+ghost use Rattle.std.specs.Prelude.{◌≡◌, ◌≤◌, ◌<◌, ◌⊎◌, ℕ, [], Some, IfOk, IfSome, MatchResult};
+ghost use Rattle.jm_machine.specs.ManySteps.{EndsBy, made_of_steps, steps_of};
+ghost use Rattle.jm_world.specs.RoundRobin.{robin};
+ghost use Rattle.jm_world.specs.Run.{after, reply};
+ghost use Rattle.jm_world.specs.World.{World};
+ghost use Rattle.jm_world.specs.declared.event.Event.TheVariants.{Step};
+ghost use Rattle.jm_world.specs.declared.reply.ReplyKind.TheVariants.{Done};
 ghost use Rattle.jm_execute.specs.Beginnings.{HasOneThread};
-ghost use Rattle.jm_execute.specs.Passes.{HasTurn, Knows, ended_in, turn_of};
-ghost use Rattle.jm_execute.specs.Standings.{FallsShort, Goes, Makes, from_of, left_of, standing_after};
-ghost use Rattle.jm_execute.specs.Turns.{AreReplies, world_by};
+ghost use Rattle.jm_execute.specs.Passes.{IsAlone, Knows};
+ghost use Rattle.jm_execute.specs.Standings.{Answer, Goes, IsTurn, LeadsTo, Makes, from_of, left_behind, left_in, robin_at, standing_after, standing_behind, turn_behind};
+ghost use Rattle.jm_execute.specs.Turns.{AreReplies, Records, RecordsPart, world_by};
 
 use crate::events::EventSource;
 use crate::pass::{Pass, Turn};
 use jm_heap::Heap;
 use jm_machine::OutOfMemory;
 use jm_schedule::RoundRobin;
-use jm_shared::{Seat, SharedMachine, Sharing};
-use jm_world::{Event, ReplyKind};
+use jm_shared::{Seat, SharedMachine, Sharing, Steps, StepsEnd};
+use jm_world::{Event, Reply, ReplyKind};
 use std::alloc::Global;
 use std::sync::Wait;
 
@@ -23,14 +28,24 @@ pub struct Standing {
     /// The thread that made the last event; 0 before the first.
     pub last: u64,
     /// How many more events it may make in its turn; 0 once its turn is over.
-    pub left: u32,
+    pub left: usize,
     /// Whether an event of the pass was not blocked.
     pub moved: bool,
 }
 
+/// Events that were made.
+#[derive(Clone, Copy)]
+pub struct Made {
+    pub count: usize,
+    /// Where the round robin stands then.
+    pub standing: Standing,
+}
+
 // How many events a turn has left.
-fn left_for(standing: Standing, turn: Turn, quantum: u32) -> u32
-    ensures { result ≡ left_for turn.thread (from_of standing) (left_of quantum standing) quantum }
+fn left_in(standing: Standing, turn: Turn, quantum: usize) -> usize
+    requires { 0 < quantum }
+    ensures left { result ≡ left_in quantum standing turn }
+    ensures some { 0 < result }
 {
     if turn.thread == standing.last && standing.left != 0 {
         standing.left
@@ -40,10 +55,11 @@ fn left_for(standing: Standing, turn: Turn, quantum: u32) -> u32
 }
 
 // Where the round robin stands after an event.
-fn standing_after(standing: Standing, turn: Turn, kind: ReplyKind, quantum: u32) -> Standing
+fn standing_after(standing: Standing, turn: Turn, kind: ReplyKind, quantum: usize) -> Standing
+    requires { 0 < quantum }
     ensures { result ≡ standing_after standing turn kind quantum }
 {
-    let left = left_for(standing, turn, quantum);
+    let left = left_in(standing, turn, quantum);
     match kind {
         ReplyKind::Blocked => Standing {
             last: turn.thread,
@@ -52,62 +68,213 @@ fn standing_after(standing: Standing, turn: Turn, kind: ReplyKind, quantum: u32)
         },
         _ => Standing {
             last: turn.thread,
-            left: left.saturating_sub(1),
+            left: left - 1,
             moved: true,
         },
     }
 }
 
-// Makes an event of a turn, and says where the round robin stands then. `OutOfMemory`: a growth was
-// refused, before the event or after it.
-fn make_event<H: Heap, S: Sharing, W: Wait>(
+// What a turn of so many events has left after some of its thread's, where the turns behind it are
+// that thread's too.
+fn left_behind(left: usize, count: usize, quantum: usize) -> usize
+    requires { 0 < quantum }
+    ensures { result ≡ left_behind quantum count left }
+{
+    if count <= left {
+        return left - count;
+    }
+    let over = (count - left) % quantum;
+    if over == 0 { 0 } else { quantum - over }
+}
+
+// Where the round robin stands after so many events of a turn's thread that were done, and made and
+// ended no thread, and the turn in which its next event is then.
+fn after_done(standing: Standing, turn: Turn, count: usize, quantum: usize) -> (Standing, Turn)
+    requires { 0 < quantum }
+    ensures standing { result.0 ≡ standing_behind quantum count standing turn }
+    ensures turn { result.1 ≡ turn_behind quantum count standing turn }
+{
+    if count == 0 {
+        return (standing, turn);
+    }
+    let left = left_behind(left_in(standing, turn, quantum) - 1, count - 1, quantum);
+    let standing = Standing {
+        last: turn.thread,
+        left,
+        moved: true,
+    };
+    let turn = Turn {
+        thread: turn.thread,
+        moved: left != 0,
+    };
+    (standing, turn)
+}
+
+// How many events of a turn may be made at once: those that it has left, or all steps where no other
+// thread is live.
+fn most_at_once(pass: &Pass, left: usize, steps: usize) -> usize
+    requires { (0 < left) × (0 < steps) }
+    ensures some { 0 < result }
+    ensures within { result ≤ steps }
+    ensures turn { (result ≤ left) ⊎ IsAlone pass.now }
+{
+    if pass.is_alone() {
+        steps
+    } else {
+        steps.min(left)
+    }
+}
+
+// Sees the reply to an event of a turn, and says where the round robin stands then. `OutOfMemory`: a
+// growth was refused.
+fn see_event(
+    pass: &mut Pass,
+    standing: Standing,
+    turn: Turn,
+    reply: Reply,
+    quantum: usize,
+) -> Result<Standing, OutOfMemory>
+    requires { 0 < quantum }
+    ensures { (w : World) → IsTurn w standing turn pass.old → reply ≡ (after w (Step turn.thread)).reply →
+        IfOk result (λ next. (next ≡ standing_after standing turn reply.kind quantum) × Knows (after w (Step turn.thread)).world (from_of next) pass.new) }
+{
+    let next = standing_after(standing, turn, reply.kind, quantum);
+    match pass.see(reply, next.left == 0) {
+        Ok(()) => Ok(next),
+        Err(fault) => Err(fault),
+    }
+}
+
+// Sees what steps of a turn's thread answered, and says where the round robin stands then.
+// `OutOfMemory`: a growth was refused, here or at one of the steps.
+fn see_steps(
+    pass: &mut Pass,
+    standing: Standing,
+    turn: Turn,
+    made: Steps,
+    most: usize,
+    quantum: usize,
+) -> Result<Made, OutOfMemory>
+    requires some { 0 < most }
+    requires ends { EndsBy most made }
+    requires quantum { 0 < quantum }
+    ensures leads { (w : World) → IsTurn w standing turn pass.old → Answer w turn.thread made → (most ≤ left_in quantum standing turn) ⊎ IsAlone pass.old →
+        IfOk result (λ m. LeadsTo w quantum turn.thread standing m pass.new) }
+    ensures count { IfOk result (λ m. (m.count ≡ made_of_steps made) × (0 < m.count) × (m.count ≤ most)) }
+{
+    let (behind, next) = after_done(standing, turn, made.alike, quantum);
+    match made.end {
+        StepsEnd::AllMade => match pass.go_on(behind.left == 0) {
+            Ok(()) => Ok(Made {
+                count: made.alike,
+                standing: behind,
+            }),
+            Err(fault) => Err(fault),
+        },
+        StepsEnd::Other(reply) => match see_event(pass, behind, next, reply, quantum) {
+            Ok(standing) => Ok(Made {
+                count: made.alike + 1,
+                standing,
+            }),
+            Err(fault) => Err(fault),
+        },
+        StepsEnd::OutOfMemory => Err(OutOfMemory),
+    }
+}
+
+// Makes steps of one thread, at most so many. They end before that only by one that answers
+// otherwise than is said, which is made, or where a growth was refused.
+fn make_steps<H: Heap, S: Sharing, W: Wait>(
+    rt: &W,
+    machine: &SharedMachine<H, S>,
+    seat: &mut Seat<S>,
+    thread: u64,
+    most: usize,
+    done: Reply,
+) -> Steps
+    requires { 0 < most }
+    ensures ends { EndsBy most result }
+    ensures records { Records seat.old.receipts seat.new.receipts (steps_of thread (made_of_steps result)) }
+    ensures answer { let w = world_by S.first seat.old.receipts in AreReplies S.first seat.new.receipts → done ≡ reply Done w → Answer w thread result }
+    ensures before { AreReplies S.first seat.new.receipts → AreReplies S.first seat.old.receipts }
+    ensures number { seat.new.number ≡ seat.old.number }
+{
+    for alike in 0..most {
+        let Ok(receipt) = machine.turn(rt, seat, Event::Step(thread)) else {
+            return Steps {
+                alike,
+                reply: done,
+                end: StepsEnd::OutOfMemory,
+            };
+        };
+        if receipt.reply != done {
+            return Steps {
+                alike,
+                reply: done,
+                end: StepsEnd::Other(receipt.reply),
+            };
+        }
+    }
+    Steps {
+        alike: most,
+        reply: done,
+        end: StepsEnd::AllMade,
+    }
+}
+
+// Makes events of a turn, of so many steps that are left, and says where the round robin stands
+// then. `OutOfMemory`: a growth was refused, before one of the events or after it.
+fn make_turn<H: Heap, S: Sharing, W: Wait>(
     rt: &W,
     machine: &SharedMachine<H, S>,
     seat: &mut Seat<S>,
     pass: &mut Pass,
     standing: Standing,
     turn: Turn,
-    quantum: u32,
-) -> Result<Standing, OutOfMemory>
-    ensures made { let w = world_by S.first seat.old.receipts in
-        AreReplies S.first seat.new.receipts → HasTurn w turn.thread pass.old → pass.old.ended ≡ ended_in w
-        → turn_in w (from_of standing) standing.moved ≡ Some (turn_of turn)
-        → MatchResult result (λ next. Makes S.first quantum standing next seat.old.receipts seat.new.receipts pass.new)
-        (λ _. FallsShort S.first quantum standing seat.old.receipts seat.new.receipts) }
+    steps: usize,
+    quantum: usize,
+) -> Result<Made, OutOfMemory>
+    requires some { 0 < steps }
+    requires quantum { 0 < quantum }
+    ensures made { let w = world_by S.first seat.old.receipts in AreReplies S.first seat.new.receipts → IsTurn w standing turn pass.old →
+        MatchResult result (λ m. Makes S.first steps quantum standing m seat.old.receipts seat.new.receipts pass.new)
+        (λ _. RecordsPart seat.old.receipts seat.new.receipts (robin_at steps quantum w standing)) }
+    ensures count { IfOk result (λ m. (0 < m.count) × (m.count ≤ steps)) }
     ensures before { AreReplies S.first seat.new.receipts → AreReplies S.first seat.old.receipts }
     ensures number { seat.new.number ≡ seat.old.number }
 {
-    let receipt = match machine.turn(rt, seat, Event::Step(turn.thread)) {
-        Ok(receipt) => receipt,
-        Err(fault) => return Err(fault),
-    };
-    let next = standing_after(standing, turn, receipt.reply.kind, quantum);
-    match pass.see(receipt.reply, next.left == 0) {
-        Ok(()) => Ok(next),
-        Err(fault) => Err(fault),
-    }
+    let most = most_at_once(pass, left_in(standing, turn, quantum), steps);
+    let made = make_steps(rt, machine, seat, turn.thread, most, pass.done());
+    see_steps(pass, standing, turn, made, most, quantum)
 }
 
-// Makes the next event, and says where the round robin stands then; None where there is none to
-// make. `OutOfMemory`: a growth was refused, before the event or after it.
+// Makes the next events, of so many steps that are left, and says where the round robin stands then;
+// None where there is none to make. `OutOfMemory`: a growth was refused, before one of the events or
+// after it.
 fn make_next<H: Heap, S: Sharing, W: Wait>(
     rt: &W,
     machine: &SharedMachine<H, S>,
     seat: &mut Seat<S>,
     pass: &mut Pass,
     standing: Standing,
-    quantum: u32,
-) -> Result<Option<Standing>, OutOfMemory>
+    steps: usize,
+    quantum: usize,
+) -> Result<Option<Made>, OutOfMemory>
+    requires some { 0 < steps }
+    requires quantum { 0 < quantum }
     ensures made { AreReplies S.first seat.new.receipts → Knows (world_by S.first seat.old.receipts) (from_of standing) pass.old →
-        Goes S.first quantum standing seat.old.receipts seat.new.receipts pass.new result }
+        Goes S.first steps quantum standing seat.old.receipts seat.new.receipts pass.new result }
+    ensures count { IfOk result (λ next. IfSome next (λ m. (0 < m.count) × (m.count ≤ steps))) }
     ensures before { AreReplies S.first seat.new.receipts → AreReplies S.first seat.old.receipts }
     ensures number { seat.new.number ≡ seat.old.number }
 {
     match pass.next_turn(standing.moved) {
-        Some(turn) => match make_event(rt, machine, seat, pass, standing, turn, quantum) {
-            Ok(next) => Ok(Some(next)),
-            Err(fault) => Err(fault),
-        },
+        Some(turn) => {
+            match make_turn(rt, machine, seat, pass, standing, turn, steps, quantum) {
+                Ok(made) => Ok(Some(made)),
+                Err(fault) => Err(fault),
+            }
+        }
         None => Ok(None),
     }
 }
@@ -132,9 +299,14 @@ impl EventSource for RoundRobin {
             left: 0,
             moved: false,
         };
-        for _ in 0..self.steps {
-            match make_next(rt, machine, seat, &mut pass, standing, self.quantum) {
-                Ok(Some(next)) => standing = next,
+        let quantum = self.quantum as usize;
+        let mut left = self.steps as usize;
+        while left != 0 {
+            match make_next(rt, machine, seat, &mut pass, standing, left, quantum) {
+                Ok(Some(made)) => {
+                    standing = made.standing;
+                    left -= made.count;
+                }
                 Ok(None) => return Ok(()),
                 Err(fault) => return Err(fault),
             }

@@ -1,9 +1,9 @@
 // Writers that can be watched.
 
-ghost use Rattle.std.specs.Prelude.{◌≡◌, ◌<◌, ◌≤◌, length, take, IfOk, IfSome, MatchResult, OnErr, OnOk, ⊤};
+ghost use Rattle.std.specs.Prelude.{◌≡◌, ◌<◌, ◌≤◌, [], length, take, IfOk, IfSome, MatchResult, OnErr, OnOk, ⊤};
 ghost use Rattle.std.specs.Fmt.{with_newline};
-ghost use Rattle.std.specs.Io.KnownBytes.{Appends, WriteAppends};
-ghost use Rattle.jm_execute.specs.CallEnds.{CallEnd, took, refused, line_refused, vec_ends};
+ghost use Rattle.std.specs.Io.KnownBytes.{Appends, Keeps, WriteAppends};
+ghost use Rattle.jm_execute.specs.CallEnds.{CallEnd, took, refused, line_refused, flush_refused, vec_ends};
 
 use std::alloc::Allocator;
 use std::fmt::Display;
@@ -32,6 +32,11 @@ pub trait Watchable: Write {
     fn put_line<D: Display + Drop>(&mut self, text: D) -> Result<(), WriteFailed>
         ensures bytes { OnOk result (IfSome (with_newline (D.output text)) (Appends (Self.contents self.old) (Self.contents self.new))) }
         ensures ended { OnErr result (ends self.old line_refused self.new) };
+
+    /// Hands on what was written, where the writer keeps it back. It writes no bytes of its own.
+    fn put_through(&mut self) -> Result<(), WriteFailed>
+        ensures bytes { Keeps (Self.contents self.old) (Self.contents self.new) }
+        ensures ended { MatchResult result (λ _. ends self.old (took []) self.new) (λ _. ends self.old flush_refused self.new) };
 }
 
 /// Writes some of the bytes with one call, at least one, and answers how many. An error says that
@@ -61,6 +66,16 @@ pub fn put_line_by_write<W: Write, D: Display + Drop>(
     }
 }
 
+/// Hands on what was written by a call of `flush`. An error says that the call answered one.
+pub fn put_through_by_flush<W: Write>(writer: &mut W) -> Result<(), WriteFailed>
+    ensures { Keeps (W.contents writer.old) (W.contents writer.new) }
+{
+    match writer.flush() {
+        Ok(()) => Ok(()),
+        Err(_) => Err(WriteFailed),
+    }
+}
+
 impl<W: Watchable> Watchable for &mut W {
     ghost ends = { λ old end new. W.ends old.now end new.now };
 
@@ -71,10 +86,14 @@ impl<W: Watchable> Watchable for &mut W {
     fn put_line<D: Display + Drop>(&mut self, text: D) -> Result<(), WriteFailed> {
         Watchable::put_line(&mut **self, text)
     }
+
+    fn put_through(&mut self) -> Result<(), WriteFailed> {
+        Watchable::put_through(&mut **self)
+    }
 }
 
 /// It takes all bytes at each call, and refuses them only where memory is refused and they have no
-/// room in what it has.
+/// room in what it has. It keeps nothing back.
 impl<A: Allocator> Watchable for Vec<u8, A> {
     ghost ends = { vec_ends };
 
@@ -87,6 +106,10 @@ impl<A: Allocator> Watchable for Vec<u8, A> {
 
     fn put_line<D: Display + Drop>(&mut self, text: D) -> Result<(), WriteFailed> {
         put_line_by_write(self, text)
+    }
+
+    fn put_through(&mut self) -> Result<(), WriteFailed> {
+        Ok(())
     }
 }
 
@@ -101,6 +124,10 @@ impl Watchable for Stdout {
     fn put_line<D: Display + Drop>(&mut self, text: D) -> Result<(), WriteFailed> {
         put_line_by_write(self, text)
     }
+
+    fn put_through(&mut self) -> Result<(), WriteFailed> {
+        put_through_by_flush(self)
+    }
 }
 
 /// What it does with bytes is not known.
@@ -113,5 +140,9 @@ impl Watchable for Stderr {
 
     fn put_line<D: Display + Drop>(&mut self, text: D) -> Result<(), WriteFailed> {
         put_line_by_write(self, text)
+    }
+
+    fn put_through(&mut self) -> Result<(), WriteFailed> {
+        put_through_by_flush(self)
     }
 }

@@ -1,19 +1,15 @@
 // Readers and writers that remember whether they have failed.
 
-ghost use Rattle.std.specs.Prelude.{◌≡◌, ◌<◌, ◌≤◌, length, take, true, false, IfOk, IfSome, MatchResult, OnOk};
+ghost use Rattle.std.specs.Prelude.{◌≡◌, ◌<◌, ◌≤◌, [], length, take, true, false, IfOk, IfSome, MatchResult, OnOk};
 ghost use Rattle.std.specs.Fmt.{with_newline};
 ghost use Rattle.std.specs.Io.{ReadsAtMost};
 ghost use Rattle.std.specs.Io.KnownBytes.{ReadConsumes};
-ghost use Rattle.jm_execute.specs.Written.{AllWritten, Broken, LineFailed, LinesWritten, Writes, fresh, words};
+ghost use Rattle.jm_execute.specs.Written.{AllWritten, Broken, Flushes, LineFailed, LinesWritten, ReadingBroke, Writes, WritesLines, fresh, reads, words};
 
+use crate::readable::{ReadFailed, Readable};
 use crate::watchable::{Watchable, WriteFailed};
 use std::fmt::Display;
-use std::io::Read;
 use std::marker::Model;
-
-/// The reader failed: a call answered an error.
-#[derive(Clone, Copy, PartialEq, Eq)]
-pub struct ReadFailed;
 
 /// A reader or a writer with a flag that is set once a call has failed: it answered an error, or a
 /// write of at least one byte took none.
@@ -52,19 +48,19 @@ impl<T> Watched<T> {
     }
 }
 
-impl<R: Read> Watched<R> {
+impl<R: Readable> Watched<R> {
     /// Reads some bytes into the front of a buffer, and answers how many: none only at the end, or
     /// where the buffer has no room. After an error the flag is set, and no byte is lost.
     pub fn read(&mut self, buf: &mut [u8]) -> Result<usize, ReadFailed>
         ensures bound { ReadsAtMost result buf.new }
         ensures bytes { ReadConsumes (R.remaining self.old.inner) (R.remaining self.new.inner) result buf.new }
-        ensures failed { MatchResult result (λ _. self.new.failed ≡ self.old.failed) (λ _. self.new.failed ≡ true) }
+        ensures failed { MatchResult result (λ _. self.new.failed ≡ self.old.failed) (λ _. ReadingBroke (reads R.remaining R.fails) [] self.old self.new) }
     {
-        match self.inner.read(buf) {
+        match self.inner.get(buf) {
             Ok(read) => Ok(read),
-            Err(_) => {
+            Err(fault) => {
                 self.failed = true;
-                Err(ReadFailed)
+                Err(fault)
             }
         }
     }
@@ -100,6 +96,27 @@ impl<W: Watchable> Watched<W> {
             }
         }
         Ok(())
+    }
+
+    /// Hands on what was written, where the writer keeps it back. An error says that the call
+    /// failed, and then the flag is set.
+    pub fn flush(&mut self) -> Result<(), WriteFailed>
+        ensures { Flushes (words W.contents W.ends) result self.old self.new }
+    {
+        match self.inner.put_through() {
+            Ok(()) => Ok(()),
+            Err(fault) => {
+                self.failed = true;
+                Err(fault)
+            }
+        }
+    }
+
+    /// Writes lines that stand in memory. An error says that a call failed, and then the flag is set.
+    pub fn write_lines(&mut self, lines: &[u8]) -> Result<(), WriteFailed>
+        ensures { WritesLines (words W.contents W.ends) result self.old self.new lines.now }
+    {
+        self.write_all(lines)
     }
 
     /// Writes a text and a line feed. An error says that the call failed, and then the flag is set.

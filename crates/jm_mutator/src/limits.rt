@@ -51,3 +51,16 @@ pub fn fills_to_the_limit<H: Heap>(mutator: &mut Mutator<H>) -> Result<(), Failu
     }
     expect(Quantity::Int, mutator.int(0, 0)?.unsigned_abs() as u64, 42)
 }
+
+/// Makes an array of so many ints without a collection, in register 0, and compares whether it was made.
+pub fn expect_here<H: Heap>(
+    mutator: &mut Mutator<H>,
+    length: u32,
+    wanted: bool,
+) -> Result<(), Failure>
+    requires { IsReady (H.content mutator.old.heap) mutator.old.registers }
+    ensures { IsReady (H.content mutator.new.heap) mutator.new.registers }
+{
+    let made = mutator.make_here(0, ints(length))?;
+    expect(Quantity::Residents, u64::from(made), u64::from(wanted))
+}

@@ -1,11 +1,11 @@
 -- What some command lines ask for, and what is wrong with others.
-use Rattle.std.proofs.Common.{◌≡◌, List, [], ◌∷◌, Option, Some, None, refl, codes}
+use Rattle.std.proofs.Common.{◌≡◌, List, [], ◌∷◌, Option, Some, None, Bool, true, false, refl, codes}
 use Rattle.std.specs.Prelude.{option_map}
 use Rattle.clap.specs.Words.{Kinds, Text, all_of, fault_of, first_of, one_of, subcommand_of}
 use Rattle.clap.specs.declared.error.kind.ErrorKind.TheVariants as kind
 use Rattle.clap.proofs.OnLiterals.{clap_on_literals}
 use Rattle.jm_options.specs.CommandLine.{jm}
-use Rattle.jm_options.specs.Asked.{Subcommand}
+use Rattle.jm_options.specs.Asked.{Subcommand, is_set}
 
 abbrev held : Subcommand → Text × Option Text × Option Text × Option (List Text)
 held s = (s.0, one_of (codes "heap") s.1, first_of (codes "schedule") s.1, all_of (codes "file") s.1)
@@ -91,6 +91,30 @@ too_large_a_quantum : fault (codes "--quantum=1000001" ∷ codes "A.class" ∷ [
 unfolding jm clap_on_literals
 too_large_a_quantum = refl
 
+-- whether the heap is shown
+abbrev shows : List Text → Option Bool
+shows words = option_map (λ (s : Subcommand). is_set (first_of (codes "show-heap") s.1)) (subcommand_of jm (codes "jm" ∷ codes "run" ∷ words))
+
+not_shown : shows (codes "A.class" ∷ []) ≡ Some false
+unfolding jm clap_on_literals
+not_shown = refl
+
+shown : shows (codes "A.class" ∷ codes "--show-heap" ∷ codes "B.class" ∷ []) ≡ Some true
+unfolding jm clap_on_literals
+shown = refl
+
+no_fault_shown : fault (codes "A.class" ∷ codes "--show-heap" ∷ codes "B.class" ∷ []) ≡ []
+unfolding jm clap_on_literals
+no_fault_shown = refl
+
+shown_by_a_value : fault (codes "--show-heap=true" ∷ codes "A.class" ∷ []) ≡ kind.TooManyValues ∷ []
+unfolding jm clap_on_literals
+shown_by_a_value = refl
+
+shown_twice : fault (codes "--show-heap" ∷ codes "--show-heap" ∷ codes "A.class" ∷ []) ≡ kind.ArgumentConflict ∷ []
+unfolding jm clap_on_literals
+shown_twice = refl
+
 two_files : run (codes "--schedule=s" ∷ codes "A.class" ∷ codes "B.class" ∷ []) ≡ asked_of (codes "65536") (codes "A.class" ∷ codes "B.class" ∷ [])
 unfolding jm clap_on_literals
 two_files = refl
@@ -150,3 +174,30 @@ one_word_more = refl
 an_option_of_run : assembly_fault (codes "--heap=16" ∷ codes "A.j" ∷ codes "A.class" ∷ []) ≡ kind.UnknownArgument ∷ []
 unfolding jm clap_on_literals
 an_option_of_run = refl
+
+-- the words after jm debug
+abbrev debugged : List Text → Option (Text × Option Text × Option (List Text))
+debugged words = option_map (λ (s : Subcommand). (s.0, one_of (codes "heap") s.1, all_of (codes "file") s.1)) (subcommand_of jm (codes "jm" ∷ codes "debug" ∷ words))
+
+abbrev debugger_fault : List Text → Kinds
+debugger_fault words = fault_of jm (codes "jm" ∷ codes "debug" ∷ words)
+
+a_session : debugged (codes "A.class" ∷ codes "B.j" ∷ []) ≡ Some (codes "debug", Some (codes "65536"), Some (codes "A.class" ∷ codes "B.j" ∷ []))
+unfolding jm clap_on_literals
+a_session = refl
+
+no_session_fault : debugger_fault (codes "A.class" ∷ codes "B.j" ∷ []) ≡ []
+unfolding jm clap_on_literals
+no_session_fault = refl
+
+a_session_with_a_limit : debugged (codes "--heap=16" ∷ codes "A.class" ∷ []) ≡ Some (codes "debug", Some (codes "16"), Some (codes "A.class" ∷ []))
+unfolding jm clap_on_literals
+a_session_with_a_limit = refl
+
+no_program : debugger_fault [] ≡ kind.MissingRequiredArgument ∷ []
+unfolding jm clap_on_literals
+no_program = refl
+
+steps_of_run : debugger_fault (codes "--steps=9" ∷ codes "A.class" ∷ []) ≡ kind.UnknownArgument ∷ []
+unfolding jm clap_on_literals
+steps_of_run = refl

@@ -8,12 +8,13 @@ use Rattle.clap.specs.declared.parser.matches.ArgMatches.{ArgMatches}
 use Rattle.clap.specs.declared.parser.matches.ArgMatches.TheViews.{out-ArgMatches, out-SubCommand}
 use Rattle.clap.specs.declared.error.Error.{Error}
 use Rattle.clap.specs.declared.error.kind.ErrorKind.TheVariants as kind
-use Rattle.jm_options.specs.Asked.{SpellsNumber, HoldsRun, HoldsAssemble, Holds, Subcommand, Finds, FindsRun, FindsAssemble, Answers}
+use Rattle.jm_options.specs.Asked.{SpellsNumber, HoldsRun, HoldsAssemble, HoldsDebug, Holds, Subcommand, Finds, FindsRun, FindsAssemble, FindsDebug, Answers}
 use Rattle.jm_options.specs.CommandLine.{jm}
 use Rattle.jm_options.specs.declared.request.Options.{Options}
-use Rattle.jm_options.specs.declared.request.Options.TheVariants.{Run, Assemble}
+use Rattle.jm_options.specs.declared.request.Options.TheVariants.{Run, Assemble, Debug}
 use Rattle.jm_options.specs.declared.request.RunOptions.{RunOptions}
 use Rattle.jm_options.specs.declared.request.AssembleOptions.{AssembleOptions}
+use Rattle.jm_options.specs.declared.request.DebugOptions.{DebugOptions}
 use Rattle.jm_options.specs.declared.fault.UsageFault.{UsageFault}
 use Rattle.jm_options.specs.declared.fault.UsageFault.TheVariants.{Usage, OutOfMemory}
 
@@ -64,6 +65,15 @@ pub none_assembled : (rows : List Row) (fault : UsageFault) → ((o : AssembleOp
 none_assembled rows (Usage text) none = none
 none_assembled rows OutOfMemory none = tt
 
+-- ---- the options of a debugger's command
+
+pub no_program : (rows : List Row) → None ≡ all_of (codes "file") rows → (o : DebugOptions) → HoldsDebug rows o → ⊥
+no_program rows none o holds = let some = none ∙ holds.files in cc
+
+pub none_debugged : (rows : List Row) (fault : UsageFault) → ((o : DebugOptions) → HoldsDebug rows o → ⊥) → FindsDebug rows (Err fault)
+none_debugged rows (Usage text) none = none
+none_debugged rows OutOfMemory none = tt
+
 -- ---- the subcommand
 
 firsts : {A : Type 0} (f : A → Text) (g : A → List Row) (o : Option A) → option_map f o ≡ option_map (λ (p : Subcommand). p.0) (option_map (λ a. (f a, g a)) o)
@@ -86,9 +96,10 @@ pub subcommand_is : (m : ArgMatches) (name : Text) (rows : List Row) → subcomm
 subcommand_is m name rows named is = is_pair (subcommand_rows_of m) name rows (sym (name_of_rows m) ∙ named) is
 
 pub other_subcommand : (m : ArgMatches) → (subcommand_name_of m ≡ Some (codes "run") → ⊥) → (subcommand_name_of m ≡ Some (codes "asm") → ⊥)
-    → (o : Options) → Holds (subcommand_rows_of m) o → ⊥
-other_subcommand m not_run not_asm (Run o) holds = not_run (name_of_rows m ∙ ap (option_map (λ (p : Subcommand). p.0)) holds.1)
-other_subcommand m not_run not_asm (Assemble o) holds = not_asm (name_of_rows m ∙ ap (option_map (λ (p : Subcommand). p.0)) holds.1)
+    → (subcommand_name_of m ≡ Some (codes "debug") → ⊥) → (o : Options) → Holds (subcommand_rows_of m) o → ⊥
+other_subcommand m not_run not_asm not_debug (Run o) holds = not_run (name_of_rows m ∙ ap (option_map (λ (p : Subcommand). p.0)) holds.1)
+other_subcommand m not_run not_asm not_debug (Assemble o) holds = not_asm (name_of_rows m ∙ ap (option_map (λ (p : Subcommand). p.0)) holds.1)
+other_subcommand m not_run not_asm not_debug (Debug o) holds = not_debug (name_of_rows m ∙ ap (option_map (λ (p : Subcommand). p.0)) holds.1)
 
 pub nothing_found : (s : Option Subcommand) (fault : UsageFault) → ((o : Options) → Holds s o → ⊥) → Finds s (Err fault)
 nothing_found s (Usage text) none = none
@@ -103,15 +114,28 @@ same_rows s p q first second = sym (ap (λ (x : Option Subcommand). (unwrap_or x
 run_is_not_asm : codes "run" ≡ codes "asm" → ⊥
 run_is_not_asm same = let first : 114 ≡ 97 = ap (λ (t : List ℕ). slice_index t 0) same in absurd (omega (arith, first))
 
+run_is_not_debug : codes "run" ≡ codes "debug" → ⊥
+run_is_not_debug same = let first : 114 ≡ 100 = ap (λ (t : List ℕ). slice_index t 0) same in absurd (omega (arith, first))
+
+asm_is_not_debug : codes "asm" ≡ codes "debug" → ⊥
+asm_is_not_debug same = let first : 97 ≡ 100 = ap (λ (t : List ℕ). slice_index t 0) same in absurd (omega (arith, first))
+
 no_run : (s : Option Subcommand) (rows : List Row) → s ≡ Some (codes "run", rows) → ((o : RunOptions) → HoldsRun rows o → ⊥) → (o : Options) → Holds s o → ⊥
 no_run s rows is none (Run o) holds = none o (subst (λ (x : List Row). HoldsRun x o) (same_rows s _ _ is holds.1) holds.2)
 no_run s rows is none (Assemble o) holds = run_is_not_asm (same_name s _ _ is holds.1)
+no_run s rows is none (Debug o) holds = run_is_not_debug (same_name s _ _ is holds.1)
 
 no_assembly : (s : Option Subcommand) (rows : List Row) → s ≡ Some (codes "asm", rows) → ((o : AssembleOptions) → HoldsAssemble rows o → ⊥) → (o : Options) → Holds s o → ⊥
 no_assembly s rows is none (Run o) holds = run_is_not_asm (same_name s _ _ holds.1 is)
 no_assembly s rows is none (Assemble o) holds = none o (subst (λ (x : List Row). HoldsAssemble x o) (same_rows s _ _ is holds.1) holds.2)
+no_assembly s rows is none (Debug o) holds = asm_is_not_debug (same_name s _ _ is holds.1)
 
--- what a run, or an assembly, finds is what the subcommand finds
+no_debugger : (s : Option Subcommand) (rows : List Row) → s ≡ Some (codes "debug", rows) → ((o : DebugOptions) → HoldsDebug rows o → ⊥) → (o : Options) → Holds s o → ⊥
+no_debugger s rows is none (Run o) holds = run_is_not_debug (same_name s _ _ holds.1 is)
+no_debugger s rows is none (Assemble o) holds = asm_is_not_debug (same_name s _ _ holds.1 is)
+no_debugger s rows is none (Debug o) holds = none o (subst (λ (x : List Row). HoldsDebug x o) (same_rows s _ _ is holds.1) holds.2)
+
+-- what a run, an assembly or a debugger's command finds is what the subcommand finds
 pub finds_run : (s : Option Subcommand) (rows : List Row) (r : Result RunOptions UsageFault) (found : Result Options UsageFault) → s ≡ Some (codes "run", rows) → FindsRun rows r
     → MatchResult r (λ o. IsOkAnd found (λ given. given ≡ Run o)) (λ fault. found ≡ Err fault) → Finds s found
 finds_run s rows (Ok o) (Ok given) is holds same = rw same (rows, is, holds)
@@ -125,6 +149,13 @@ finds_assembly s rows (Ok o) (Ok given) is holds same = rw same (rows, is, holds
 finds_assembly s rows (Ok o) (Err fault) is holds same = absurd same
 finds_assembly s rows (Err (Usage text)) found is none same = rw same (no_assembly s rows is none)
 finds_assembly s rows (Err OutOfMemory) found is none same = rw same tt
+
+pub finds_debugger : (s : Option Subcommand) (rows : List Row) (r : Result DebugOptions UsageFault) (found : Result Options UsageFault) → s ≡ Some (codes "debug", rows) → FindsDebug rows r
+    → MatchResult r (λ o. IsOkAnd found (λ given. given ≡ Debug o)) (λ fault. found ≡ Err fault) → Finds s found
+finds_debugger s rows (Ok o) (Ok given) is holds same = rw same (rows, is, holds)
+finds_debugger s rows (Ok o) (Err fault) is holds same = absurd same
+finds_debugger s rows (Err (Usage text)) found is none same = rw same (no_debugger s rows is none)
+finds_debugger s rows (Err OutOfMemory) found is none same = rw same tt
 
 -- ---- the words
 

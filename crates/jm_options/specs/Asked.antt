@@ -1,12 +1,14 @@
 -- What words ask of jm.
-use Rattle.std.specs.Prelude.{◌≡◌, ◌≤◌, ℕ, List, Option, Some, [], Result, Ok, Err, ⊤, codes, map, option_map, string_bytes}
+use Rattle.std.specs.Prelude.{◌≡◌, ◌≤◌, ℕ, List, Option, Some, None, [], Result, Ok, Err, ⊤, Bool, false, codes, map, option_map, string_bytes}
+use Rattle.std.specs.Str.{bytes_eq}
 use Rattle.std.specs.Str.Parse.{IsNumeral, digits_value, without_leading_plus}
 use Rattle.clap.specs.Words.{Row, Text, all_of, first_of, one_of, fault_of, subcommand_of}
 use Rattle.jm_options.specs.CommandLine.{jm}
 use Rattle.jm_options.specs.declared.request.Options.{Options}
-use Rattle.jm_options.specs.declared.request.Options.TheVariants.{Run, Assemble}
+use Rattle.jm_options.specs.declared.request.Options.TheVariants.{Run, Assemble, Debug}
 use Rattle.jm_options.specs.declared.request.RunOptions.{RunOptions}
 use Rattle.jm_options.specs.declared.request.AssembleOptions.{AssembleOptions}
+use Rattle.jm_options.specs.declared.request.DebugOptions.{DebugOptions}
 use Rattle.jm_options.specs.declared.fault.UsageFault.{UsageFault}
 use Rattle.jm_options.specs.declared.fault.UsageFault.TheVariants.{Usage, OutOfMemory}
 
@@ -27,12 +29,18 @@ pub record HoldsNumber (name : Text) (low high : ℕ) (matches : List Row) (n : 
   pub at_least : low ≤ n
   pub at_most : n ≤ high
 
+-- a flag is set where its text says so: `true` for one that was given, and `false` for another
+abbrev pub is_set : Option Text → Bool
+is_set None = false
+is_set (Some text) = bytes_eq text (codes "true")
+
 -- the options are what the matches of a run hold, and within the limits
 pub record HoldsRun (matches : List Row) (o : RunOptions) : Type 0 where
   pub heap : HoldsNumber (codes "heap") 16 16777216 matches o.heap
   pub schedule : first_of (codes "schedule") matches ≡ option_map string_bytes o.schedule
   pub steps : HoldsNumber (codes "steps") 1 10000000 matches o.steps
   pub quantum : HoldsNumber (codes "quantum") 1 1000000 matches o.quantum
+  pub show_heap : o.show_heap ≡ is_set (first_of (codes "show-heap") matches)
   pub files : all_of (codes "file") matches ≡ Some (map string_bytes o.files.items)
 
 -- the options are what the matches of an assembly hold
@@ -40,10 +48,16 @@ pub record HoldsAssemble (matches : List Row) (o : AssembleOptions) : Type 0 whe
   pub input : first_of (codes "input") matches ≡ Some (string_bytes o.input)
   pub output : first_of (codes "output") matches ≡ Some (string_bytes o.output)
 
+-- the options are what the matches of a debugger's command hold, and within the limits
+pub record HoldsDebug (matches : List Row) (o : DebugOptions) : Type 0 where
+  pub heap : HoldsNumber (codes "heap") 16 16777216 matches o.heap
+  pub files : all_of (codes "file") matches ≡ Some (map string_bytes o.files.items)
+
 -- the options are what the subcommand and its matches hold
 abbrev pub Holds : Option Subcommand → Options → Type 0
 Holds s (Run o) = (matches : List Row) × (s ≡ Some (codes "run", matches)) × HoldsRun matches o
 Holds s (Assemble o) = (matches : List Row) × (s ≡ Some (codes "asm", matches)) × HoldsAssemble matches o
+Holds s (Debug o) = (matches : List Row) × (s ≡ Some (codes "debug", matches)) × HoldsDebug matches o
 
 -- the words, of which the first is the program's name, are without a fault and ask for these options
 pub record Asks (words : List Text) (o : Options) : Type 0 where
@@ -57,7 +71,7 @@ Answers words (Ok o) = Asks words o
 Answers words (Err (Usage text)) = (o : Options) → ¬ (Asks words o)
 Answers words (Err OutOfMemory) = ⊤
 
--- the same of a subcommand, and of the matches of a run and of an assembly
+-- the same of a subcommand, and of the matches of a run, of an assembly and of a debugger's command
 abbrev pub Finds : Option Subcommand → Result Options UsageFault → Type 0
 Finds s (Ok o) = Holds s o
 Finds s (Err (Usage text)) = (o : Options) → ¬ (Holds s o)
@@ -72,6 +86,11 @@ abbrev pub FindsAssemble : List Row → Result AssembleOptions UsageFault → Ty
 FindsAssemble matches (Ok o) = HoldsAssemble matches o
 FindsAssemble matches (Err (Usage text)) = (o : AssembleOptions) → ¬ (HoldsAssemble matches o)
 FindsAssemble matches (Err OutOfMemory) = ⊤
+
+abbrev pub FindsDebug : List Row → Result DebugOptions UsageFault → Type 0
+FindsDebug matches (Ok o) = HoldsDebug matches o
+FindsDebug matches (Err (Usage text)) = (o : DebugOptions) → ¬ (HoldsDebug matches o)
+FindsDebug matches (Err OutOfMemory) = ⊤
 
 -- the status that the program ends with
 abbrev pub status_of : UsageFault → ℕ

@@ -4,7 +4,7 @@ use Rattle.clap.specs.Words.{App, Rule, Shape, app_of, new_app, new_rule, with_r
 use Rattle.clap.specs.Simple.{on_top}
 use Rattle.clap.specs.declared.builder.command.Command.{Command}
 use Rattle.clap.specs.declared.builder.command.Command.TheViews.{out-Command}
-use Rattle.clap.specs.declared.builder.action.ArgAction.TheVariants.{Append}
+use Rattle.clap.specs.declared.builder.action.ArgAction.TheVariants.{Append, SetTrue}
 use Rattle.clap.specs.declared.builder.value_parser.ValueParser.TheVariants as vp
 
 -- --heap N: a number of cells within the limits, 65,536 where it is left out
@@ -38,14 +38,23 @@ quantum_argument = record (new_rule (codes "quantum")) {
   parser = Some (vp.Signed (pos 1) (pos 1000000));
 }
 
+-- --show-heap
+abbrev pub show_heap_argument : Rule
+show_heap_argument = record (new_rule (codes "show-heap")) { long = Some (codes "show-heap"); action = Some SetTrue }
+
 -- FILE.., of which one has to be there
 abbrev pub file_argument : Rule
 file_argument = record (new_rule (codes "file")) { value_names = 1; required = true; action = Some Append }
 
--- run [--heap N] [--schedule FILE] [--steps N] [--quantum N] FILE..
+-- the options of run
+abbrev pub run_options : App
+run_options =
+    with_rule (with_rule (with_rule (with_rule (with_rule (new_app (codes "run")) heap_argument) schedule_argument) steps_argument) quantum_argument)
+    show_heap_argument
+
+-- run [--heap N] [--schedule FILE] [--steps N] [--quantum N] [--show-heap] FILE..
 abbrev pub run_command : App
-run_command =
-    with_rule (with_rule (with_rule (with_rule (with_rule (new_app (codes "run")) heap_argument) schedule_argument) steps_argument) quantum_argument) file_argument
+run_command = with_rule run_options file_argument
 
 -- IN, which has to be there
 abbrev pub input_argument : Rule
@@ -59,12 +68,16 @@ output_argument = record (new_rule (codes "output")) { value_names = 1; required
 abbrev pub assemble_command : App
 assemble_command = with_rule (with_rule (new_app (codes "asm")) input_argument) output_argument
 
+-- debug [--heap N] FILE..
+abbrev pub debug_command : App
+debug_command = with_rule (with_rule (new_app (codes "debug")) heap_argument) file_argument
+
 -- jm, which does nothing without a subcommand
 abbrev pub top_command : App
 top_command = on_top (λ (s : Shape). record s { subcommand_required = true; arg_required_else_help = true }) (new_app (codes "jm"))
 
 unfoldable pub jm : App
-jm = with_subcommand (with_subcommand top_command run_command.top) assemble_command.top
+jm = with_subcommand (with_subcommand (with_subcommand top_command run_command.top) assemble_command.top) debug_command.top
 
 -- a command that clap sees so, with no argument that its subcommands share
 pub record IsSeenAs (c : Command) (a : App) : Type 0 where

@@ -2,7 +2,7 @@
 
 ghost use Rattle.std.specs.Prelude.{◌≡◌, false, IfOk};
 ghost use Rattle.clap.specs.Words.{rule_of};
-ghost use Rattle.jm_options.specs.CommandLine.{heap_argument, schedule_argument, steps_argument, quantum_argument, file_argument, run_command, input_argument, output_argument, assemble_command, top_command, jm, IsSeenAs};
+ghost use Rattle.jm_options.specs.CommandLine.{heap_argument, schedule_argument, steps_argument, quantum_argument, show_heap_argument, file_argument, run_command, input_argument, output_argument, assemble_command, debug_command, top_command, jm, IsSeenAs};
 
 use clap::{Arg, ArgAction, Command, value_parser};
 use std::alloc::{AllocError, Global};
@@ -57,6 +57,16 @@ fn quantum_argument<'a>(alloc: Global) -> Arg<'a>
         .help("Most events of a thread's turn, from 1 to 1000000; no effect beside a schedule")
 }
 
+fn show_heap_argument<'a>(alloc: Global) -> Arg<'a>
+    ensures rule { rule_of result ≡ show_heap_argument }
+    ensures local { result.global ≡ false }
+{
+    Arg::new(alloc, "show-heap")
+        .long("show-heap")
+        .action(ArgAction::SetTrue)
+        .help("Also show, on standard error, the objects that are reachable at the end")
+}
+
 fn file_argument<'a>(alloc: Global) -> Arg<'a>
     ensures rule { rule_of result ≡ file_argument }
     ensures local { result.global ≡ false }
@@ -77,6 +87,7 @@ fn run_command<'a>(alloc: Global) -> Result<Command<'a>, AllocError>
         .arg(schedule_argument(alloc))?
         .arg(steps_argument(alloc))?
         .arg(quantum_argument(alloc))?
+        .arg(show_heap_argument(alloc))?
         .arg(file_argument(alloc))
 }
 
@@ -109,6 +120,15 @@ fn assemble_command<'a>(alloc: Global) -> Result<Command<'a>, AllocError>
         .arg(output_argument(alloc))
 }
 
+fn debug_command<'a>(alloc: Global) -> Result<Command<'a>, AllocError>
+    ensures { IfOk result (λ c. IsSeenAs c debug_command) }
+{
+    Command::new(alloc, "debug")
+        .about("Show a program at any event: commands are read from standard input, a line each")
+        .arg(heap_argument(alloc))?
+        .arg(file_argument(alloc))
+}
+
 fn top_command<'a>(alloc: Global) -> Command<'a>
     ensures { IsSeenAs result top_command }
 {
@@ -125,5 +145,6 @@ pub fn command<'a>(alloc: Global) -> Result<Command<'a>, AllocError>
 {
     top_command(alloc)
         .subcommand(run_command(alloc)?)?
-        .subcommand(assemble_command(alloc)?)
+        .subcommand(assemble_command(alloc)?)?
+        .subcommand(debug_command(alloc)?)
 }

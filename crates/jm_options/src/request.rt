@@ -17,6 +17,8 @@ pub enum Options {
     Run(RunOptions),
     /// `jm asm`: to assemble a text into a class file.
     Assemble(AssembleOptions),
+    /// `jm debug`: to show a program at any event.
+    Debug(DebugOptions),
 }
 
 /// What `jm run` is given.
@@ -30,6 +32,8 @@ pub struct RunOptions {
     pub steps: u32,
     /// The most events of a thread's turn without a schedule, from 1 to [`MAX_QUANTUM`].
     pub quantum: u32,
+    /// Whether the objects that are reachable at the end are shown.
+    pub show_heap: bool,
     /// The files of the classes, the main class's first: a class file, or the text of a class if its
     /// name ends in `.j`.
     pub files: Vec<String>,
@@ -42,4 +46,14 @@ pub struct AssembleOptions {
     pub input: String,
     /// The class file to write.
     pub output: String,
+}
+
+/// What `jm debug` is given.
+#[derive(Drop)]
+pub struct DebugOptions {
+    /// The limit of the heap, in cells.
+    pub heap: u32,
+    /// The files of the classes, the main class's first: a class file, or the text of a class if its
+    /// name ends in `.j`.
+    pub files: Vec<String>,
 }

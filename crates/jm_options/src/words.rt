@@ -1,14 +1,14 @@
 // Words as clap reads them.
 
 ghost use Rattle.std.specs.Prelude.{◌≡◌, ℕ, MatchOption, MatchResult, map, option_map, string_bytes};
-ghost use Rattle.clap.specs.Words.{found_of, kind_of, rows_of, subcommand_rows_of};
+ghost use Rattle.clap.specs.Words.{first_of, found_of, kind_of, rows_of, subcommand_rows_of};
 ghost use Rattle.clap.specs.declared.error.kind.ErrorKind.TheVariants as kind;
-ghost use Rattle.jm_options.specs.Asked.{Answers, Finds, FindsAssemble, FindsRun, HoldsNumber};
+ghost use Rattle.jm_options.specs.Asked.{Answers, Finds, FindsAssemble, FindsDebug, FindsRun, HoldsNumber, is_set};
 
 use crate::command::command;
 use crate::fault::UsageFault;
 use crate::request::{
-    AssembleOptions, MAX_HEAP, MAX_QUANTUM, MAX_STEPS, MIN_HEAP, Options, RunOptions,
+    AssembleOptions, DebugOptions, MAX_HEAP, MAX_QUANTUM, MAX_STEPS, MIN_HEAP, Options, RunOptions,
 };
 use clap::error::ErrorKind;
 use clap::{ArgMatches, Error};
@@ -48,6 +48,16 @@ fn number_within(matches: &ArgMatches<'_>, name: &str, low: u32, high: u32) -> O
         Some(number)
     } else {
         None
+    }
+}
+
+// Whether the flag of a name is set.
+fn is_set(matches: &ArgMatches<'_>, name: &str) -> bool
+    ensures { result ≡ is_set (first_of name.now (rows_of (found_of matches.now))) }
+{
+    match matches.get_str(name) {
+        Some(text) => text == "true",
+        None => false,
     }
 }
 
@@ -92,6 +102,7 @@ fn run_options(alloc: Global, matches: &ArgMatches<'_>) -> Result<RunOptions, Us
         schedule: string_of(alloc, matches.get_str("schedule"))?,
         steps,
         quantum,
+        show_heap: is_set(matches, "show-heap"),
         files: strings_of(alloc, files)?,
     })
 }
@@ -111,6 +122,21 @@ fn assemble_options(alloc: Global, matches: &ArgMatches<'_>) -> Result<AssembleO
     })
 }
 
+fn debug_options(alloc: Global, matches: &ArgMatches<'_>) -> Result<DebugOptions, UsageFault>
+    ensures { FindsDebug (rows_of (found_of matches.now)) result }
+{
+    let Some(heap) = number_within(matches, "heap", MIN_HEAP, MAX_HEAP) else {
+        return Err(nothing_asked(alloc));
+    };
+    let Some(files) = matches.get_strs("file") else {
+        return Err(nothing_asked(alloc));
+    };
+    Ok(DebugOptions {
+        heap,
+        files: strings_of(alloc, files)?,
+    })
+}
+
 fn found_options(alloc: Global, matches: &ArgMatches<'_>) -> Result<Options, UsageFault>
     ensures { Finds (subcommand_rows_of matches.now) result }
 {
@@ -119,6 +145,9 @@ fn found_options(alloc: Global, matches: &ArgMatches<'_>) -> Result<Options, Usa
     }
     if let Some(assemble) = matches.subcommand_matches("asm") {
         return assemble_options(alloc, assemble).map(Options::Assemble);
+    }
+    if let Some(debug) = matches.subcommand_matches("debug") {
+        return debug_options(alloc, debug).map(Options::Debug);
     }
     Err(nothing_asked(alloc))
 }

@@ -5,6 +5,7 @@ use jm_calls::{Callee, arguments_on, called_frame, test_arguments};
 use jm_frames::Frame;
 use jm_program::OperandType;
 use jm_values::{Place, TagFault, Value};
+use std::alloc::Global;
 use std::test::Fail;
 
 const CALLEE: Callee = Callee {
@@ -14,29 +15,58 @@ const CALLEE: Callee = Callee {
     max_locals: 5,
 };
 
+const TYPES: &[OperandType] = &[OperandType::Long, OperandType::Int, OperandType::Reference];
+
+const WRONG: &[OperandType] = &[OperandType::Long, OperandType::Long];
+
+const MANY: &[OperandType] = &[
+    OperandType::Long,
+    OperandType::Int,
+    OperandType::Reference,
+    OperandType::Int,
+];
+
+// A frame whose operands are a reference, an int and a long, the long on top.
+fn caller(alloc: Global) -> Result<Frame, Fail> {
+    let mut caller = Frame::new(alloc, 0, None, 5, 0)?;
+    for value in [Value::Ref(Place::new(9)), Value::Int(7), Value::Long(8)] {
+        if caller.push(value).is_err() {
+            return Err(Fail::from("an operand without room"));
+        }
+    }
+    Ok(caller)
+}
+
+fn are_refused(caller: &Frame) -> bool {
+    test_arguments(caller, WRONG) == Err(TagFault::WrongTag)
+        && test_arguments(caller, MANY) == Err(TagFault::Underflow)
+}
+
+fn are_read(caller: &Frame) -> bool {
+    if let Ok(()) = test_arguments(caller, TYPES) {
+        let arguments = arguments_on(caller, 3);
+        arguments.first() == Some(&Value::Ref(Place::new(9)))
+            && arguments.last() == Some(&Value::Long(8))
+    } else {
+        false
+    }
+}
+
 #[test]
 fn operands_are_tested_from_the_top(rt: HostRuntime) -> Result<(), Fail> {
-    let mut caller = Frame::new(rt.alloc(), 0, None, 5, 0)?;
-    assert!(rt; caller.push(Value::Ref(Place::new(9))).is_ok());
-    assert!(rt; caller.push(Value::Int(7)).is_ok());
-    assert!(rt; caller.push(Value::Long(8)).is_ok());
-    let types = [OperandType::Long, OperandType::Int, OperandType::Reference];
-    assert!(rt; test_arguments(&caller, &types).is_ok());
-    let wrong = [OperandType::Long, OperandType::Long];
-    assert!(rt; test_arguments(&caller, &wrong) == Err(TagFault::WrongTag));
-    let many = [
-        OperandType::Long,
-        OperandType::Int,
-        OperandType::Reference,
-        OperandType::Int,
-    ];
-    assert!(rt; test_arguments(&caller, &many) == Err(TagFault::Underflow));
-    if let Ok(()) = test_arguments(&caller, &types) {
-        let arguments = arguments_on(&caller, 3);
-        assert!(rt; arguments.first() == Some(&Value::Ref(Place::new(9))));
-        assert!(rt; arguments.last() == Some(&Value::Long(8)));
-    }
+    let caller = caller(rt.alloc())?;
+    assert!(rt; are_refused(&caller));
+    assert!(rt; are_read(&caller));
     Ok(())
+}
+
+fn has_locals(frame: &Frame) -> bool {
+    frame.local(0) == Some(Some(Value::Ref(Place::new(9))))
+        && frame.local(1) == Some(Some(Value::Long(8)))
+        && frame.local(2) == Some(None)
+        && frame.local(3) == Some(Some(Value::Int(7)))
+        && frame.local(4) == Some(None)
+        && frame.local(5).is_none()
 }
 
 #[test]
@@ -44,12 +74,7 @@ fn arguments_are_the_first_locals(rt: HostRuntime) -> Result<(), Fail> {
     let arguments = [Value::Ref(Place::new(9)), Value::Long(8), Value::Int(7)];
     let frame = called_frame(rt.alloc(), CALLEE, &arguments)?;
     assert!(rt; frame.method() == 3 && frame.at() == 0);
-    assert!(rt; frame.local(0) == Some(Some(Value::Ref(Place::new(9)))));
-    assert!(rt; frame.local(1) == Some(Some(Value::Long(8))));
-    assert!(rt; frame.local(2) == Some(None));
-    assert!(rt; frame.local(3) == Some(Some(Value::Int(7))));
-    assert!(rt; frame.local(4) == Some(None));
-    assert!(rt; frame.local(5).is_none());
+    assert!(rt; has_locals(&frame));
     assert!(rt; frame.operand(0).is_none());
     Ok(())
 }

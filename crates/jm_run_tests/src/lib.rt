@@ -3,9 +3,10 @@
 //! `jm asm`. Programs that are run, assembled or linked stand in the tables of `jm_examples`, which cost
 //! no proof.
 //!
-//! `calls` hands arguments over, `heap` runs the functions of `jm_mutator` for each kind of heap,
-//! `machine` makes events and reads the machine after each, `jobs` does jobs over readers and writers
-//! in memory.
+//! `calls` hands arguments over, `heap` puts each kind of heap through the cases of `jm_mutator`,
+//! `machine` makes events over the heap that `jm run` has, and reads the machine after each, `jobs` does
+//! jobs over readers and writers in memory. A machine is owned by functions that are generic in its heap:
+//! to let go of one of a known heap is proved anew in this crate, part by part.
 #![tactic(auto)]
 
 #[cfg(test)]

@@ -1,6 +1,11 @@
-// Machines: runs with what is told after each event, the readers, and journals.
+// Machines: what is told after each event, the readers, collections, and journals.
 
+mod cases;
+mod collections;
 mod journals;
+mod programs;
 mod readers;
+mod replies;
+mod rows;
 mod runs;
 mod threads;

@@ -1,6 +1,8 @@
 // Readers that are watched.
 
-use jm_execute::{ReadFailed, Watched};
+ghost use Rattle.std.specs.Prelude.{⊤};
+
+use jm_execute::{ReadFailed, Readable, Watched, get_by_read};
 use std::io;
 use std::io::{ErrorKind, Read};
 use std::test::Fail;
@@ -21,6 +23,14 @@ impl Read for Torn {
             }
             _ => Err(io::Error::from(ErrorKind::BrokenPipe)),
         }
+    }
+}
+
+impl Readable for Torn {
+    ghost fails = { λ _ _. ⊤ };
+
+    fn get(&mut self, buf: &mut [u8]) -> Result<usize, ReadFailed> {
+        get_by_read(self, buf)
     }
 }
 

@@ -4,7 +4,7 @@ ghost use Rattle.std.specs.Prelude.{⊤};
 
 use jm_execute::{
     AssembleJob, Contents, InputFile, Job, RunEvents, RunJob, Watchable, Watched, WriteFailed,
-    execute, put_by_write, put_line_by_write,
+    execute, put_by_write, put_line_by_write, put_through_by_flush,
 };
 use std::alloc::{AllocError, Global};
 use std::fmt::Display;
@@ -49,6 +49,10 @@ impl Watchable for Narrow {
 
     fn put_line<D: Display + Drop>(&mut self, text: D) -> Result<(), WriteFailed> {
         put_line_by_write(self, text)
+    }
+
+    fn put_through(&mut self) -> Result<(), WriteFailed> {
+        put_through_by_flush(self)
     }
 }
 
@@ -98,6 +102,7 @@ fn run_job(alloc: Global, schedule: &str) -> Result<Job, AllocError> {
         heap: 100,
         events: RunEvents::Schedule(file(alloc, schedule)?),
         program: vec![in alloc; file(alloc, FIVE)?]?,
+        show_heap: false,
     }))
 }
 

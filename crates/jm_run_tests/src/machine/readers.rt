@@ -1,48 +1,35 @@
-// What the readers tell of Main's runs over the plain heap. The answers are worked out by hand: the
-// stream of System.out is object 0, main's empty array object 1 and an exception object 2.
+// What the readers tell of Main's runs. The answers are worked out by hand: the stream of System.out is
+// object 0, main's empty array object 1 and an exception object 2.
 
-use crate::machine::runs::{BY_ZERO, STEP, SUM, loaded};
-use jm_heap::PlainHeap;
-use jm_jasmin::assemble;
-use jm_linker::link;
+use crate::machine::replies::STEP;
+use jm_heap::Heap;
 use jm_machine::{
     ElementKind, Machine, MethodFrame, ObjectKind, OutOfMemory, WorldFrame, WorldObject, WorldValue,
 };
 use jm_program::is_text;
 use jm_world::Stage;
-use std::alloc::Global;
+use std::process::Abort;
 use std::test::Fail;
 
-// Two classes, each with static fields.
-const MAIN: &str = ".class Main
+/// Two classes, each with static fields.
+pub const STATICS: &str = ".class Main
 .super java/lang/Object
 .field static x J
 .field y I
 .method static main([Ljava/lang/String;)V
 return
 .end method
-";
 
-const OTHER: &str = ".class A
+.class A
 .super Main
 .field static y [I
 .field z Z
 .field static z C
 ";
 
-/// The machine from which the run of a program of these texts begins.
-pub fn loaded_texts(alloc: Global, texts: &[&str]) -> Result<Machine<PlainHeap>, Fail> {
-    let mut classes = Vec::new(alloc);
-    for text in texts {
-        classes.push(assemble(alloc, text)?)?;
-    }
-    let linked = link(alloc, classes)?;
-    Ok(Machine::load(alloc, linked, PlainHeap::new(alloc, 65536))?)
-}
-
 // The static field of a number has this class, name and value.
-fn has_static(
-    machine: &Machine<PlainHeap>,
+fn has_static<H: Heap>(
+    machine: &Machine<H>,
     number: usize,
     class: &[u8],
     name: &[u8],
@@ -56,7 +43,7 @@ fn has_static(
     }
 }
 
-fn begins_main(machine: &Machine<PlainHeap>) -> bool {
+fn begins_main<H: Heap>(machine: &Machine<H>) -> bool {
     match machine.frame(1, 0) {
         Some(WorldFrame::Initialization { class, stage }) => {
             matches!(stage, Stage::Begin) && class.parts().name.is_text(b"Main")
@@ -65,18 +52,18 @@ fn begins_main(machine: &Machine<PlainHeap>) -> bool {
     }
 }
 
-fn is_of_main(frame: &MethodFrame<PlainHeap>) -> bool {
+fn is_of_main<H: Heap>(frame: &MethodFrame<H>) -> bool {
     frame.class().parts().name.is_text(b"Main") && frame.method().name.is_text(b"main")
 }
 
-fn has_first_locals(frame: &MethodFrame<PlainHeap>) -> bool {
+fn has_first_locals<H: Heap>(frame: &MethodFrame<H>) -> bool {
     frame.max_locals() == 2
         && frame.local(0) == Some(Some(WorldValue::Ref(1)))
         && frame.local(1) == Some(None)
         && frame.local(2).is_none()
 }
 
-fn has_operands_of_sum(frame: &MethodFrame<PlainHeap>) -> bool {
+fn has_operands_of_sum<H: Heap>(frame: &MethodFrame<H>) -> bool {
     frame.operands() == 3
         && frame.operand(0) == Some(WorldValue::Int(3))
         && frame.operand(1) == Some(WorldValue::Int(2))
@@ -85,7 +72,7 @@ fn has_operands_of_sum(frame: &MethodFrame<PlainHeap>) -> bool {
 }
 
 // Main's frame stands below the initialization of its class.
-fn is_at_start(machine: &Machine<PlainHeap>) -> bool {
+fn is_at_start<H: Heap>(machine: &Machine<H>) -> bool {
     match machine.frame(1, 1) {
         Some(WorldFrame::Method(frame)) => {
             begins_main(machine) && is_of_main(&frame) && has_first_locals(&frame)
@@ -95,7 +82,7 @@ fn is_at_start(machine: &Machine<PlainHeap>) -> bool {
 }
 
 // Both numbers are pushed, and not added yet.
-fn is_at_sum(machine: &Machine<PlainHeap>) -> bool {
+fn is_at_sum<H: Heap>(machine: &Machine<H>) -> bool {
     match machine.frame(1, 0) {
         Some(WorldFrame::Method(frame)) => {
             frame.at() == 3
@@ -107,7 +94,7 @@ fn is_at_sum(machine: &Machine<PlainHeap>) -> bool {
     }
 }
 
-fn has_system_out(machine: &Machine<PlainHeap>) -> bool {
+fn has_system_out<H: Heap>(machine: &Machine<H>) -> bool {
     let statics = machine.statics();
     match statics.get(0) {
         Some(out) => {
@@ -120,7 +107,7 @@ fn has_system_out(machine: &Machine<PlainHeap>) -> bool {
     }
 }
 
-fn is_array_of_strings(object: &WorldObject<PlainHeap>) -> bool {
+fn is_array_of_strings<H: Heap>(object: &WorldObject<H>) -> bool {
     match object.kind() {
         ObjectKind::Array {
             dimensions,
@@ -130,7 +117,7 @@ fn is_array_of_strings(object: &WorldObject<PlainHeap>) -> bool {
     }
 }
 
-fn has_empty_array(machine: &Machine<PlainHeap>) -> Result<bool, OutOfMemory> {
+fn has_empty_array<H: Heap>(machine: &Machine<H>) -> Result<bool, OutOfMemory> {
     match machine.object(1)? {
         Some(object) => Ok(
             is_array_of_strings(&object) && object.length() == 0 && object.value(0).is_none(),
@@ -139,7 +126,7 @@ fn has_empty_array(machine: &Machine<PlainHeap>) -> Result<bool, OutOfMemory> {
     }
 }
 
-fn has_exception(machine: &Machine<PlainHeap>) -> Result<bool, OutOfMemory> {
+fn has_exception<H: Heap>(machine: &Machine<H>) -> Result<bool, OutOfMemory> {
     match machine.object(2)? {
         Some(object) => match object.kind() {
             ObjectKind::Instance { class } => Ok(is_text(class, b"java/lang/ArithmeticException")),
@@ -149,33 +136,29 @@ fn has_exception(machine: &Machine<PlainHeap>) -> Result<bool, OutOfMemory> {
     }
 }
 
-#[test]
-fn frames_and_statics_are_told(rt: HostRuntime) -> Result<(), Fail> {
-    let mut machine = loaded(rt.alloc(), SUM, 65536)?;
-    assert!(rt; is_at_start(&machine));
+/// The frames and the statics before the first event, and before the sum is made.
+pub fn check_frames<H: Heap>(rt: &impl Abort, machine: &mut Machine<H>) -> Result<(), Fail> {
+    assert!(rt; is_at_start(machine));
     let _ = machine.run(&[STEP; 6])?;
-    assert!(rt; is_at_sum(&machine));
-    assert!(rt; has_system_out(&machine));
+    assert!(rt; is_at_sum(machine));
+    assert!(rt; has_system_out(machine));
     Ok(())
 }
 
-#[test]
-fn static_fields_begin_with_zero_or_null(rt: HostRuntime) -> Result<(), Fail> {
-    let machine = loaded_texts(rt.alloc(), &[MAIN, OTHER])?;
-    assert!(rt; has_static(&machine, 1, b"Main", b"x", WorldValue::Long(0)));
-    assert!(rt; has_static(&machine, 2, b"A", b"y", WorldValue::Null));
-    assert!(rt; has_static(&machine, 3, b"A", b"z", WorldValue::Int(0)));
+/// The static fields before the first event.
+pub fn check_statics<H: Heap>(rt: &impl Abort, machine: &Machine<H>) {
+    assert!(rt; has_static(machine, 1, b"Main", b"x", WorldValue::Long(0)));
+    assert!(rt; has_static(machine, 2, b"A", b"y", WorldValue::Null));
+    assert!(rt; has_static(machine, 3, b"A", b"z", WorldValue::Int(0)));
     assert!(rt; machine.statics().get(4).is_none());
-    Ok(())
 }
 
-#[test]
-fn objects_are_told(rt: HostRuntime) -> Result<(), Fail> {
-    let mut machine = loaded(rt.alloc(), BY_ZERO, 65536)?;
+/// The objects where an exception is pending.
+pub fn check_objects<H: Heap>(rt: &impl Abort, machine: &mut Machine<H>) -> Result<(), Fail> {
     let _ = machine.run(&[STEP; 6])?;
     assert!(rt; machine.pending(1) == Some(2));
-    assert!(rt; has_empty_array(&machine)?);
-    assert!(rt; has_exception(&machine)?);
+    assert!(rt; has_empty_array(machine)?);
+    assert!(rt; has_exception(machine)?);
     assert!(rt; machine.reachable()?.len() == 3);
     Ok(())
 }

@@ -2,16 +2,16 @@
 // In the first program the stream of System.out is object 0, main's empty array object 1, the K object
 // 2, the threads' objects 3 and 4, and the first exception object 5.
 
-use crate::machine::readers::loaded_texts;
-use crate::machine::runs::{kind_name, thread_of};
-use jm_heap::PlainHeap;
-use jm_machine::{Machine, MethodFrame, WorldFrame, read_schedule};
+use crate::machine::rows::{kind_name, make_events, thread_of};
+use jm_heap::Heap;
+use jm_machine::{Machine, MethodFrame, WorldFrame};
 use jm_world::Stage;
 use std::alloc::{AllocError, Global};
 use std::process::Abort;
 use std::test::Fail;
 
-const STARTS_TWO: &str = ".class Main
+/// Two threads call a synchronized method of one object, which throws.
+pub const SYNCHRONIZED: &str = ".class Main
 .super java/lang/Object
 .field static k LK;
 .method static main([Ljava/lang/String;)V
@@ -24,9 +24,8 @@ new W
 invokevirtual java/lang/Thread/start()V
 return
 .end method
-";
 
-const CALLS_K: &str = ".class W
+.class W
 .super java/lang/Thread
 .method run()V
 .limit stack 1
@@ -34,9 +33,8 @@ getstatic Main/k LK;
 invokevirtual K/f()V
 return
 .end method
-";
 
-const THROWS: &str = ".class K
+.class K
 .super java/lang/Object
 .method synchronized f()V
 .limit stack 2
@@ -51,7 +49,7 @@ return
 // A row is a line of columns with ` | ` between them: events as a schedule's line, all of one thread;
 // and what is told after the last of them: the reply, the monitor of object 2, and of the thread its
 // pending exception and its frames, the top first.
-const SYNCHRONIZED_ROWS: &str = "\
+pub const SYNCHRONIZED_ROWS: &str = "\
 t 1 x 18 | Done | none | none | none
 t 2 x 3 | Done | t2 x1 | none | K.f:0 W.run:1
 t 3 x 3 | Blocked | t2 x1 | none | W.run:1
@@ -59,7 +57,8 @@ t 2 x 4 | Done | none | #5 | W.run:1
 t 3 | Done | t3 x1 | none | K.f:0 W.run:1
 ";
 
-const STARTS_ONE: &str = ".class Main
+/// Two threads begin with the two ends of a cycle of initializers.
+pub const INITIALIZERS: &str = ".class Main
 .super java/lang/Object
 .method static main([Ljava/lang/String;)V
 .limit stack 1
@@ -69,9 +68,8 @@ getstatic A/a I
 pop
 return
 .end method
-";
 
-const READS_B: &str = ".class W
+.class W
 .super java/lang/Thread
 .method run()V
 .limit stack 1
@@ -79,9 +77,8 @@ getstatic B/b I
 pop
 return
 .end method
-";
 
-const A_READS_B: &str = ".class A
+.class A
 .super java/lang/Object
 .field static a I
 .method static <clinit>()V
@@ -92,9 +89,8 @@ iadd
 putstatic A/a I
 return
 .end method
-";
 
-const B_READS_A: &str = ".class B
+.class B
 .super java/lang/Object
 .field static b I
 .method static <clinit>()V
@@ -108,7 +104,7 @@ return
 ";
 
 // Each thread initializes the class that the other one waits for.
-const INITIALIZER_ROWS: &str = "\
+pub const INITIALIZER_ROWS: &str = "\
 t 1 x 9 | Done | none | none | Main.main:2
 t 2 x 4 | Done | none | none | init-B-clinit W.run:0
 t 1 x 5 | Done | none | none | init-B-begin A.<clinit>:0 init-A-end Main.main:2
@@ -127,14 +123,14 @@ fn stage_name(stage: Stage) -> &'static str {
     }
 }
 
-fn method_text(alloc: Global, frame: &MethodFrame<PlainHeap>) -> Result<String, AllocError> {
+fn method_text<H: Heap>(alloc: Global, frame: &MethodFrame<H>) -> Result<String, AllocError> {
     let class = &frame.class().parts().name;
     let name = &frame.method().name;
     let at = frame.at();
     format!(in alloc; "{class}.{name}:{at}")
 }
 
-fn frame_text(alloc: Global, frame: &WorldFrame<PlainHeap>) -> Result<String, AllocError> {
+fn frame_text<H: Heap>(alloc: Global, frame: &WorldFrame<H>) -> Result<String, AllocError> {
     match frame {
         WorldFrame::Method(frame) => method_text(alloc, frame),
         WorldFrame::Initialization { class, stage } => {
@@ -147,9 +143,9 @@ fn frame_text(alloc: Global, frame: &WorldFrame<PlainHeap>) -> Result<String, Al
 }
 
 // The frames of a thread, the top first.
-fn frames_text(
+fn frames_text<H: Heap>(
     alloc: Global,
-    machine: &Machine<PlainHeap>,
+    machine: &Machine<H>,
     thread: u64,
 ) -> Result<String, AllocError> {
     let mut frames = String::new(alloc);
@@ -168,16 +164,16 @@ fn frames_text(
 }
 
 // The monitor of object 2.
-fn monitor_text(alloc: Global, machine: &Machine<PlainHeap>) -> Result<String, AllocError> {
+fn monitor_text<H: Heap>(alloc: Global, machine: &Machine<H>) -> Result<String, AllocError> {
     match machine.monitor(2) {
         Some(held) => format!(in alloc; "t{} x{}", held.owner, held.count),
         None => String::from_str(alloc, "none"),
     }
 }
 
-fn pending_text(
+fn pending_text<H: Heap>(
     alloc: Global,
-    machine: &Machine<PlainHeap>,
+    machine: &Machine<H>,
     thread: u64,
 ) -> Result<String, AllocError> {
     match machine.pending(thread) {
@@ -187,38 +183,27 @@ fn pending_text(
 }
 
 // Makes the events of a row, of which there is one line, and tells what is there after them.
-fn told(alloc: Global, machine: &mut Machine<PlainHeap>, events: &str) -> Result<String, Fail> {
-    let schedule = read_schedule(alloc, events.as_bytes())?;
-    let run = schedule.runs().first().ok_or("a row without events")?;
-    let mut kind = "no reply";
-    for _ in 0..run.count {
-        kind = kind_name(machine.step(run.event)?.kind);
-    }
-    let thread = thread_of(run.event);
+fn told<H: Heap>(alloc: Global, machine: &mut Machine<H>, events: &str) -> Result<String, Fail> {
+    let (event, reply) = make_events(alloc, machine, events)?;
+    let kind = kind_name(reply.kind);
+    let thread = thread_of(event);
     let monitor = monitor_text(alloc, machine)?;
     let pending = pending_text(alloc, machine, thread)?;
     let frames = frames_text(alloc, machine, thread)?;
     Ok(format!(in alloc; "{kind} | {monitor} | {pending} | {frames}")?)
 }
 
-fn check_rows(rt: &impl Abort, alloc: Global, texts: &[&str], rows: &str) -> Result<(), Fail> {
-    let mut machine = loaded_texts(alloc, texts)?;
+/// Makes the events of rows, and compares what is told after each of them.
+pub fn check_threads<H: Heap>(
+    rt: &impl Abort,
+    alloc: Global,
+    machine: &mut Machine<H>,
+    rows: &str,
+) -> Result<(), Fail> {
     for row in rows.lines() {
         let (events, want) = row.split_once(" | ").ok_or("a row without events")?;
-        let told = told(alloc, &mut machine, events)?;
+        let told = told(alloc, machine, events)?;
         assert!(rt; told.as_str() == want, "{row}");
     }
     Ok(())
-}
-
-#[test]
-fn a_synchronized_method_throws_in_two_threads(rt: HostRuntime) -> Result<(), Fail> {
-    let texts = [STARTS_TWO, CALLS_K, THROWS];
-    check_rows(&rt, rt.alloc(), &texts, SYNCHRONIZED_ROWS)
-}
-
-#[test]
-fn two_initializers_wait_for_one_another(rt: HostRuntime) -> Result<(), Fail> {
-    let texts = [STARTS_ONE, READS_B, A_READS_B, B_READS_A];
-    check_rows(&rt, rt.alloc(), &texts, INITIALIZER_ROWS)
 }

@@ -25,6 +25,13 @@ jm|run|--steps=10000000|--quantum=1000000|Main.class => run of Main.class by 100
 jm|run|Main.class|--quantum|2|Other.class => run of Main.class, Other.class by 1000000 steps in turns of 2 with 65536
 jm|run|--steps=9|--quantum=2|--schedule=s.txt|Main.class => run of Main.class by s.txt with 65536
 jm|run|asm|A.j|A.class => run of asm, A.j, A.class by 1000000 steps in turns of 1 with 65536
+jm|run|--show-heap|Main.class => run of Main.class by 1000000 steps in turns of 1 with 65536, its heap shown
+jm|run|Main.class|--schedule=s.txt|--show-heap|--heap=16 => run of Main.class by s.txt with 16, its heap shown
+jm|run|--|--show-heap => run of --show-heap by 1000000 steps in turns of 1 with 65536
+jm|debug|Main.class => debug of Main.class with 65536
+jm|debug|--heap=16|Main.class|A.j => debug of Main.class, A.j with 16
+jm|debug|Main.class|--heap|16777216|--|--heap => debug of Main.class, --heap with 16777216
+jm|debug|debug => debug of debug with 65536
 jm|asm|Main.j|Main.class => assembly of Main.j to Main.class
 jm|asm|-|out => assembly of - to out
 jm|asm|--|-Main.j|--help => assembly of -Main.j to --help
@@ -60,12 +67,23 @@ fn answer(alloc: Global, words: &str) -> Result<String, Fail> {
         Options::Run(run) => {
             let files = list_of(alloc, &run.files)?;
             let events = events_of(alloc, run)?;
-            let heap = run.heap;
-            format!(in alloc; "run of {files} by {events} with {heap}")
+            let (heap, shown) = (
+                run.heap,
+                if run.show_heap {
+                    ", its heap shown"
+                } else {
+                    ""
+                },
+            );
+            format!(in alloc; "run of {files} by {events} with {heap}{shown}")
         }
         Options::Assemble(files) => {
             let (input, output) = (&files.input, &files.output);
             format!(in alloc; "assembly of {input} to {output}")
+        }
+        Options::Debug(debug) => {
+            let (files, heap) = (list_of(alloc, &debug.files)?, debug.heap);
+            format!(in alloc; "debug of {files} with {heap}")
         }
     }?)
 }
@@ -77,6 +95,6 @@ fn words_ask_for_this(rt: HostRuntime) -> Result<(), Fail> {
         let answer = answer(rt.alloc(), words)?;
         assert!(rt; answer.as_str() == want, "{row}");
     }
-    assert!(rt; ASKED.lines().count() == 21);
+    assert!(rt; ASKED.lines().count() == 28);
     Ok(())
 }

@@ -17,7 +17,7 @@ jm run --help => 1 Run a program: its threads take turns, or a schedule says whi
 jm help run => 1 Run a program: its threads take turns, or a schedule says which events are made
 jm --version => 1 error: unexpected argument '--version' found
 jm replay r A.class => 1 error: unrecognized subcommand 'replay'
-jm debug A.class => 1 error: unrecognized subcommand 'debug'
+jm debg A.class => 1 error: unrecognized subcommand 'debg'
 jm A.class => 1 error: unrecognized subcommand 'A.class'
 jm run => 1 error: the following required arguments were not provided:
 jm run --schedule s => 1 error: the following required arguments were not provided:
@@ -41,9 +41,18 @@ jm run --shedule s A.class => 1 error: unexpected argument '--shedule' found
 jm run --copiers 2 --schedule=s A.class => 1 error: unexpected argument '--copiers' found
 jm run --workers=2 --schedule=s A.class => 1 error: unexpected argument '--workers' found
 jm run --record r --schedule=s A.class => 1 error: unexpected argument '--record' found
-jm run --show-heap --schedule=s A.class => 1 error: unexpected argument '--show-heap' found
+jm run --show-heap --show-heap A.class => 1 error: the argument '--show-heap' cannot be used multiple times
+jm run --show-heap=1 A.class => 1 error: unexpected value '1' for '--show-heap' found; no more were expected
+jm run --show-heaps A.class => 1 error: unexpected argument '--show-heaps' found
 jm run --stress=minor --schedule=s A.class => 1 error: unexpected argument '--stress' found
 jm --heap=16 run --schedule=s A.class => 1 error: unexpected argument '--heap' found
+jm debug => 1 error: the following required arguments were not provided:
+jm debug --help => 1 Show a program at any event: commands are read from standard input, a line each
+jm debug --heap 15 A.class => 1 error: invalid value '15' for '--heap <N>': 15 is not in 16..=16777216
+jm debug --steps 9 A.class => 1 error: unexpected argument '--steps' found
+jm debug --quantum 9 A.class => 1 error: unexpected argument '--quantum' found
+jm debug --schedule s A.class => 1 error: unexpected argument '--schedule' found
+jm debug --show-heap A.class => 1 error: unexpected argument '--show-heap' found
 jm asm --help => 1 Assemble a text in Jasmin's syntax into a class file
 jm asm -h => 1 Assemble a text in Jasmin's syntax into a class file
 jm help asm => 1 Assemble a text in Jasmin's syntax into a class file
@@ -61,8 +70,9 @@ jm asn A.j A.class => 1 error: unrecognized subcommand 'asn'";
 /// Words that are refused, and behind ` => ` a part of the text, whose line ends are written `/`.
 const PARTS: &str = "\
 jm => Usage: jm <COMMAND>
-jm --help =>   run   Run a program: its threads take turns, or a schedule says which events are made
-jm --help =>   asm   Assemble a text in Jasmin's syntax into a class file
+jm --help =>   run    Run a program: its threads take turns, or a schedule says which events are made
+jm --help =>   asm    Assemble a text in Jasmin's syntax into a class file
+jm --help =>   debug  Show a program at any event: commands are read from standard input, a line each
 jm run -h => Class files, or texts ending in .j; the first one's `main` is run
 jm asm -h => Usage: jm asm <IN> <OUT>
 jm asm -h =>   <IN>   Text of a class in Jasmin's syntax
@@ -74,6 +84,11 @@ jm asm -A.j A.class => to pass '-A' as a value, use '-- -A'
 jm asn => a similar subcommand exists: 'asm'
 jm as => a similar subcommand exists: 'asm'
 jm run -h => Usage: jm run [OPTIONS] <FILE>...
+jm run -h => Also show, on standard error, the objects that are reachable at the end
+jm debug -h => Usage: jm debug [OPTIONS] <FILE>...
+jm debug -h => Class files, or texts ending in .j; the first one's `main` is run
+jm debg => a similar subcommand exists: 'debug'
+jm run --show-heaps A.class => a similar argument exists: '--show-heap'
 jm run -h => [default: 65536]
 jm run -h => [default: 1000000]
 jm run -h => [default: 1]
@@ -100,7 +115,7 @@ fn refusals_name_the_word(rt: HostRuntime) -> Result<(), Fail> {
         let said = first_line(rt.alloc(), words)?;
         assert!(rt; said.as_str() == want, "{row}");
     }
-    assert!(rt; REFUSED.lines().count() == 49);
+    assert!(rt; REFUSED.lines().count() == 58);
     Ok(())
 }
 
@@ -118,7 +133,7 @@ fn refusals_say_what_to_write(rt: HostRuntime) -> Result<(), Fail> {
         let (words, part) = row_of(row)?;
         assert!(rt; says(rt.alloc(), words, part)?, "{row}");
     }
-    assert!(rt; PARTS.lines().count() == 19);
+    assert!(rt; PARTS.lines().count() == 25);
     Ok(())
 }
 

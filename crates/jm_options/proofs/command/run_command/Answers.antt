@@ -1,4 +1,4 @@
--- Five arguments, one after the other.
+-- Six arguments, one after the other.
 use Rattle.std.proofs.Common.{ap, ◌∙◌, codes}
 use Rattle.std.proofs.lemmas.Result.{IfOk-weaker}
 use Rattle.clap.specs.Words.{new_app}
@@ -14,4 +14,5 @@ returns c =
     let two = one_more _ _ _ _ _ one c.in_ok-arg-2.ensures c.schedule_argument.ensures.rule c.schedule_argument.ensures.local in
     let three = one_more _ _ _ _ _ two c.in_ok-arg-3.ensures c.steps_argument.ensures.rule c.steps_argument.ensures.local in
     let four = one_more _ _ _ _ _ three c.in_ok-arg-4.ensures c.quantum_argument.ensures.rule c.quantum_argument.ensures.local in
-    IfOk-weaker _ _ _ (λ command adds. one_more _ _ _ _ _ four adds c.file_argument.ensures.rule c.file_argument.ensures.local) c.arg-5.ensures
+    let five = one_more _ _ _ _ _ four c.in_ok-arg-5.ensures c.show_heap_argument.ensures.rule c.show_heap_argument.ensures.local in
+    IfOk-weaker _ _ _ (λ command adds. one_more _ _ _ _ _ five adds c.file_argument.ensures.rule c.file_argument.ensures.local) c.arg-6.ensures

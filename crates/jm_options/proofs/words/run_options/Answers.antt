@@ -27,5 +27,6 @@ returns c =
       schedule = sym (first_value-rows (found_of c.args.matches.now) (codes "schedule")) ∙ sym c.get_str.ensures ∙ sym c.in_ok-string_of.ensures;
       steps = c.in-Some-number_within.ensures;
       quantum = c.in-Some-number_within-2.ensures;
+      show_heap = c.is_set.ensures;
       files = sym (raw_values-rows (found_of c.args.matches.now) (codes "file")) ∙ sym files ∙ ap Some (sym c.in_ok-strings_of.ensures);
     }

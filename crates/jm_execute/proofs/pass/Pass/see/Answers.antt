@@ -3,7 +3,7 @@ use Rattle.std.proofs.Common.{◌≡◌, ◌≢◌, ◌-◌, refl, sym, ap, ◌�
 use Rattle.std.proofs.lemmas.Grind.{common_steps}
 use Rattle.jm_world.specs.Run.{after}
 use Rattle.jm_world.specs.declared.event.Event.TheVariants.{Step}
-use Rattle.jm_execute.proofs.KeptThreads.{stepped, told}
+use Rattle.jm_debug.proofs.KeptThreads.{stepped, told}
 use Rattle.jm_execute.proofs.PassLemmas.{first_lives, on_ok, same_turn}
 use Rattle.jm_execute.proofs.RobinLemmas.{has_ended, knows_then, lives_on}
 use Rattle.jm_execute.proofs.pass.Pass.see.Goals as goal

@@ -4,8 +4,11 @@ use Rattle.jm_execute.specs.Turns.{AreReplies}
 use Rattle.jm_execute.proofs.RobinLemmas.{SoFar}
 use Rattle.jm_execute.proofs.round_robin.RoundRobinEventSource.make_events.Given as goal
 
-abbrev pub invariant-loop : goal.invariant-loop
-invariant-loop g l = record {
-  made : AreReplies g.S.Origin.first l.seat.receipts → SoFar g.S.Origin.first l.self.steps l.self.quantum l.counter l.standing l.seat.receipts l.pass;
+abbrev pub invariant-loop-left : goal.invariant-loop-left
+invariant-loop-left g l = record {
+  made : AreReplies g.S.Origin.first l.seat.receipts → SoFar g.S.Origin.first l.self.steps l.self.quantum l.left l.standing l.seat.receipts l.pass;
   number : l.seat.number ≡ l.fn.seat.number;
 }
+
+abbrev pub decreases-loop-left : goal.decreases-loop-left
+decreases-loop-left g l = l.left

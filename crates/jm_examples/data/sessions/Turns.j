@@ -1,0 +1,12 @@
+.class public Main
+.super java/lang/Object
+.method public static main([Ljava/lang/String;)V
+    .limit stack 8
+    .limit locals 8
+    new Steps
+    invokevirtual java/lang/Thread/start()V
+    nop
+    nop
+    nop
+    return
+.end method

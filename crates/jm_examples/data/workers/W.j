@@ -1,0 +1,14 @@
+.class public W
+.super java/lang/Thread
+
+.method public run()V
+    .limit stack 8
+    .limit locals 8
+    getstatic java/lang/System/out Ljava/io/PrintStream;
+    iconst_1
+    invokevirtual java/io/PrintStream/println(I)V
+    getstatic java/lang/System/out Ljava/io/PrintStream;
+    iconst_2
+    invokevirtual java/io/PrintStream/println(I)V
+    return
+.end method

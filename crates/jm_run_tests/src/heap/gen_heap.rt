@@ -1,0 +1,65 @@
+// What the generational heap alone does, with the collector of one thread.
+
+ghost use Rattle.std.specs.Prelude.{IfOk};
+ghost use Rattle.jm_generations.specs.Residents.{content_of};
+ghost use Rattle.jm_mutator.specs.Ready.{IsReady};
+
+use jm_copy::SerialCollector;
+use jm_gen_heap::GenHeap;
+use jm_heap::{Heap, Kind};
+use jm_mutator::{Failure, Mutator, Quantity, expect, expect_here, node};
+use std::alloc::{AllocError, Global};
+
+/// No registers, over an empty generational heap.
+#[tactic(auto, using(jm_mutator::proofs::ReadyLemmas::empty_sound))]
+pub fn generational(
+    alloc: Global,
+    limit: u32,
+) -> Result<Mutator<GenHeap<SerialCollector>>, AllocError>
+    ensures { IfOk result (λ mutator. IsReady (content_of mutator.heap) mutator.registers) }
+{
+    let heap = GenHeap::new(alloc, limit, SerialCollector)?;
+    Ok(Mutator::new(alloc, heap))
+}
+
+// Without roots an object is made exactly where the young objects and it stay within a quarter of the
+// limit, which is 64: garbage or not.
+fn fills_a_quarter<H: Heap>(mutator: &mut Mutator<H>) -> Result<(), Failure>
+    requires { IsReady (H.content mutator.old.heap) mutator.old.registers }
+    ensures { IsReady (H.content mutator.new.heap) mutator.new.registers }
+{
+    mutator.make(node())?;
+    expect_here(mutator, 10, false)?;
+    expect_here(mutator, 9, true)?;
+    expect_here(mutator, 0, false)?;
+    expect(Quantity::Used, mutator.used(), 16)
+}
+
+#[test]
+fn an_object_is_made_here_up_to_a_quarter(rt: HostRuntime) -> Result<(), Failure> {
+    let mut mutator = generational(rt.alloc(), 64)?;
+    fills_a_quarter(&mut mutator)
+}
+
+// A minor collection gives up young garbage; what has survived two collections is old, and goes at a full one.
+fn gives_up_what_is_young<H: Heap>(mutator: &mut Mutator<H>) -> Result<(), Failure>
+    requires { IsReady (H.content mutator.old.heap) mutator.old.registers }
+    ensures { IsReady (H.content mutator.new.heap) mutator.new.registers }
+{
+    mutator.make(node())?;
+    mutator.collect(Kind::Minor)?;
+    mutator.make(node())?;
+    mutator.collect(Kind::Minor)?;
+    mutator.clear();
+    expect(Quantity::Used, mutator.used(), 8)?;
+    mutator.collect(Kind::Minor)?;
+    expect(Quantity::Used, mutator.used(), 4)?;
+    mutator.collect(Kind::Full)?;
+    expect(Quantity::Used, mutator.used(), 0)
+}
+
+#[test]
+fn a_minor_collection_gives_up_what_is_young(rt: HostRuntime) -> Result<(), Failure> {
+    let mut mutator = generational(rt.alloc(), 64)?;
+    gives_up_what_is_young(&mut mutator)
+}
