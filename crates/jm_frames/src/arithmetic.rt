@@ -28,7 +28,7 @@ pub enum Computed {
 impl Frame {
     /// The int that is so many below the top. `Underflow`: there is no operand. `WrongTag`: it is
     /// of another type.
-    #[inline]
+    #[inline(always)]
     pub fn int(&self, depth: usize) -> Result<i32, TagFault>
         ensures value { result ≡ int_of (slice_get self.now.activation.stack depth) }
         ensures room { units self.now.activation.stack ≤ self.now.activation.max_stack }
@@ -42,7 +42,7 @@ impl Frame {
 
     /// The long that is so many below the top. `Underflow`: there is no operand. `WrongTag`: it is
     /// of another type.
-    #[inline]
+    #[inline(always)]
     pub fn long(&self, depth: usize) -> Result<i64, TagFault>
         ensures value { result ≡ long_of (slice_get self.now.activation.stack depth) }
         ensures room { units self.now.activation.stack ≤ self.now.activation.max_stack }
@@ -55,7 +55,7 @@ impl Frame {
     }
 
     // Puts the result in the place of the operand on top, and goes on.
-    #[inline]
+    #[inline(always)]
     fn answer_one(&mut self, result_value: Value)
         requires at { self.old.activation.at + 1 < 2 ^ 64 }
         requires room { units (result_value ∷ drop 1 self.old.activation.stack) ≤ self.old.activation.max_stack }
@@ -67,7 +67,7 @@ impl Frame {
     }
 
     // Puts the result in the place of the two operands on top, and goes on.
-    #[inline]
+    #[inline(always)]
     fn answer_two(&mut self, result_value: Value)
         requires at { self.old.activation.at + 1 < 2 ^ 64 }
         requires room { units (result_value ∷ drop 2 self.old.activation.stack) ≤ self.old.activation.max_stack }
@@ -81,7 +81,7 @@ impl Frame {
 
     /// Makes `iadd` to `lrem` (JVMS 6.5), and goes on to the next instruction, unless the divisor
     /// is 0. `Underflow`: there are fewer operands. `WrongTag`: they are of another type.
-    #[inline]
+    #[inline(always)]
     pub fn arithmetic(&mut self, op: Arithmetic, integral: Integral) -> Result<Computed, TagFault>
         requires { self.old.activation.at + 1 < 2 ^ 64 }
         ensures row { row_arithmetic op integral self.old.activation ≡ computed result self.new.activation }
@@ -95,7 +95,7 @@ impl Frame {
         }
     }
 
-    #[inline]
+    #[inline(always)]
     fn int_arithmetic(&mut self, op: Arithmetic) -> Result<Computed, TagFault>
         requires { self.old.activation.at + 1 < 2 ^ 64 }
         ensures row { row_arithmetic op Integral.Int self.old.activation ≡ computed result self.new.activation }
@@ -112,7 +112,7 @@ impl Frame {
         Ok(Computed::Pushed)
     }
 
-    #[inline]
+    #[inline(always)]
     fn long_arithmetic(&mut self, op: Arithmetic) -> Result<Computed, TagFault>
         requires { self.old.activation.at + 1 < 2 ^ 64 }
         ensures row { row_arithmetic op Integral.Long self.old.activation ≡ computed result self.new.activation }
@@ -131,7 +131,7 @@ impl Frame {
 
     /// Makes `ineg` or `lneg` (JVMS 6.5), and goes on to the next instruction. `Underflow`: there
     /// is no operand. `WrongTag`: it is of another type.
-    #[inline]
+    #[inline(always)]
     pub fn negate(&mut self, integral: Integral) -> Result<(), TagFault>
         requires { self.old.activation.at + 1 < 2 ^ 64 }
         ensures row { row_negate integral self.old.activation ≡ outcome result self.new.activation }
@@ -148,7 +148,7 @@ impl Frame {
 
     /// Makes `ishl` to `lushr` (JVMS 6.5), and goes on to the next instruction. `Underflow`: there
     /// are fewer operands. `WrongTag`: the count is no int, or the number of another type.
-    #[inline]
+    #[inline(always)]
     pub fn shift(&mut self, op: Shift, integral: Integral) -> Result<(), TagFault>
         requires { self.old.activation.at + 1 < 2 ^ 64 }
         ensures row { row_shift op integral self.old.activation ≡ outcome result self.new.activation }
@@ -171,7 +171,7 @@ impl Frame {
 
     /// Makes `iand` to `lxor` (JVMS 6.5), and goes on to the next instruction. `Underflow`: there
     /// are fewer operands. `WrongTag`: they are of another type.
-    #[inline]
+    #[inline(always)]
     pub fn bitwise(&mut self, op: Bitwise, integral: Integral) -> Result<(), TagFault>
         requires { self.old.activation.at + 1 < 2 ^ 64 }
         ensures row { row_bitwise op integral self.old.activation ≡ outcome result self.new.activation }
@@ -195,7 +195,7 @@ impl Frame {
 
     /// Makes `lcmp` (JVMS 6.5), and goes on to the next instruction. `Underflow`: there are fewer
     /// operands. `WrongTag`: they are no longs.
-    #[inline]
+    #[inline(always)]
     pub fn compare_longs(&mut self) -> Result<(), TagFault>
         requires { self.old.activation.at + 1 < 2 ^ 64 }
         ensures row { row_compare_longs self.old.activation ≡ outcome result self.new.activation }
@@ -211,7 +211,7 @@ impl Frame {
     /// Makes a conversion between integers (JVMS 6.5 i2l, l2i, i2b, i2c, i2s), and goes on to the
     /// next instruction. `Underflow`: there is no operand. `WrongTag`: it is of another type.
     /// `Overflow`: `max_stack` has no room for a long.
-    #[inline]
+    #[inline(always)]
     pub fn convert(&mut self, op: Conversion) -> Result<(), TagFault>
         requires { self.old.activation.at + 1 < 2 ^ 64 }
         ensures row { row_convert op self.old.activation ≡ outcome result self.new.activation }

@@ -65,7 +65,7 @@ impl Frame {
     }
 
     /// The number of the method, as the frame was given it.
-    #[inline]
+    #[inline(always)]
     pub fn method(&self) -> usize
         ensures { result ≡ self.now.method }
     {
@@ -80,7 +80,7 @@ impl Frame {
     }
 
     /// The number of the instruction, counted from the first one of the method, which is 0.
-    #[inline]
+    #[inline(always)]
     pub fn at(&self) -> usize
         ensures { result ≡ self.now.activation.at }
     {
@@ -89,7 +89,7 @@ impl Frame {
 
     /// The value of a local variable: the outer `None` is that there is none of that number, the
     /// inner one that it is not set (JVMS 2.6.1).
-    #[inline]
+    #[inline(always)]
     pub fn local(&self, number: usize) -> Option<Option<Value>>
         ensures { result ≡ slice_get self.now.activation.locals number }
     {
@@ -97,7 +97,7 @@ impl Frame {
     }
 
     /// The operand that is so many below the top, if there is one.
-    #[inline]
+    #[inline(always)]
     pub fn operand(&self, depth: usize) -> Option<Value>
         ensures value { result ≡ slice_get self.now.activation.stack depth }
         ensures room { units self.now.activation.stack ≤ self.now.activation.max_stack }
@@ -111,7 +111,7 @@ impl Frame {
     }
 
     /// Pops the operand on top. `Underflow`: there is none, and the frame stays as it was.
-    #[inline]
+    #[inline(always)]
     pub fn pop(&mut self) -> Result<Value, TagFault>
         ensures value { MatchResult result (λ value. slice_get self.old.activation.stack 0 ≡ Some value) (λ fault. (fault ≡ TagFault.Underflow) × (self.old.activation.stack ≡ [])) }
         ensures frame { self.new ≡ with_stack self.old (drop 1 self.old.activation.stack) }
@@ -125,7 +125,7 @@ impl Frame {
 
     /// Pushes an operand. `Overflow`: `max_stack` has no room for it (JVMS 2.6.2), and the frame
     /// stays as it was.
-    #[inline]
+    #[inline(always)]
     #[tactic(auto, using(crate::proofs::Units::length_le_units_reverse))]
     pub fn push(&mut self, value: Value) -> Result<(), TagFault>
         ensures result { result ≡ (if nat_le (units (value ∷ self.old.activation.stack)) self.old.activation.max_stack then Ok tt else Err TagFault.Overflow) }
@@ -140,7 +140,7 @@ impl Frame {
     }
 
     /// Pops so many operands, or all where there are fewer.
-    #[inline]
+    #[inline(always)]
     pub fn drop_operands(&mut self, count: usize)
         ensures { self.new ≡ with_stack self.old (drop count self.old.activation.stack) }
     {
@@ -151,7 +151,7 @@ impl Frame {
 
     /// Puts an operand in the place of so many that are on top, where `max_stack` has room for it
     /// (JVMS 2.6.2).
-    #[inline]
+    #[inline(always)]
     pub fn replace(&mut self, count: usize, value: Value)
         requires { units (value ∷ drop count self.old.activation.stack) ≤ self.old.activation.max_stack }
         ensures { self.new ≡ with_stack self.old (value ∷ drop count self.old.activation.stack) }
@@ -161,7 +161,7 @@ impl Frame {
     }
 
     /// Whether `max_stack` has room for so many more units (JVMS 2.6.2).
-    #[inline]
+    #[inline(always)]
     pub fn has_room(&self, more: usize) -> bool
         ensures { result ≡ nat_le (units self.now.activation.stack + more) self.now.activation.max_stack }
     {
@@ -169,19 +169,19 @@ impl Frame {
     }
 
     // Pushes an operand that `max_stack` has room for.
-    #[inline]
+    #[inline(always)]
     #[tactic(auto, using(crate::proofs::Units::length_le_units_reverse))]
     pub(crate) fn put(&mut self, value: Value)
         requires { units (value ∷ self.old.activation.stack) ≤ self.old.activation.max_stack }
         ensures { self.new ≡ with_stack self.old (value ∷ self.old.activation.stack) }
     {
         self.used += category(&value);
-        self.stack.push(value).unwrap();
+        self.stack.push_reserved(value);
     }
 
     /// Sets a local variable, or unsets it, and touches no other one. Its number is below
     /// `max_locals`.
-    #[inline]
+    #[inline(always)]
     pub fn set_local(&mut self, number: usize, value: Option<Value>)
         requires { number < length self.old.activation.locals }
         ensures { self.new ≡ with_locals_of self.old (slice_set self.old.activation.locals number value) }
@@ -190,7 +190,7 @@ impl Frame {
     }
 
     /// How many local variables there are, set or not.
-    #[inline]
+    #[inline(always)]
     pub fn max_locals(&self) -> usize
         ensures { result ≡ length self.now.activation.locals }
     {
@@ -229,7 +229,7 @@ impl Frame {
     }
 
     /// Goes to an instruction, by its number.
-    #[inline]
+    #[inline(always)]
     pub fn go_to(&mut self, at: usize)
         ensures { self.new ≡ gone_to self.old at }
     {
@@ -237,7 +237,7 @@ impl Frame {
     }
 
     /// Goes on to the next instruction.
-    #[inline]
+    #[inline(always)]
     pub fn go_on(&mut self)
         requires { self.old.activation.at + 1 < 2 ^ 64 }
         ensures { self.new ≡ gone_to self.old (self.old.activation.at + 1) }
@@ -255,7 +255,7 @@ impl Frame {
 }
 
 // The category of a value's type (JVMS 2.11.1).
-#[inline]
+#[inline(always)]
 pub(crate) fn category(value: &Value) -> usize
     ensures { result ≡ category value.now }
 {

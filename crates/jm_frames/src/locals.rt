@@ -13,7 +13,7 @@ use jm_program::OperandType;
 use jm_values::{TagFault, Value};
 
 // Whether a value is of the type that a letter names (JVMS 2.11.1).
-#[inline]
+#[inline(always)]
 pub(crate) fn is_of(operand_type: OperandType, value: &Value) -> bool
     ensures { result ≡ is_of operand_type value.now }
 {
@@ -37,7 +37,7 @@ pub(crate) fn is_of(operand_type: OperandType, value: &Value) -> bool
 impl Frame {
     /// The operand that is so many below the top. `Underflow`: there is none. `WrongTag`: it is of
     /// another type.
-    #[inline]
+    #[inline(always)]
     pub fn operand_of(&self, operand_type: OperandType, depth: usize) -> Result<Value, TagFault>
         ensures { result ≡ operand_of operand_type (slice_get self.now.activation.stack depth) }
     {
@@ -54,7 +54,7 @@ impl Frame {
     }
 
     // Whether the local variables of a value of the type are there from this one on.
-    #[inline]
+    #[inline(always)]
     fn has_places(&self, operand_type: OperandType, number: u16) -> bool
         ensures { result ≡ nat_le (number + places operand_type) (length self.now.activation.locals) }
     {
@@ -68,7 +68,7 @@ impl Frame {
     /// Pushes a local variable of the type, and goes on to the next instruction (JVMS 6.5 iload).
     /// `BadLocal`: there is no such local variable, or it is not set. `WrongTag`: it is of another
     /// type. `Overflow`: `max_stack` has no room.
-    #[inline]
+    #[inline(always)]
     pub fn load(&mut self, operand_type: OperandType, number: u16) -> Result<(), TagFault>
         requires { self.old.activation.at + 1 < 2 ^ 64 }
         ensures row { row_load operand_type number self.old.activation ≡ outcome result self.new.activation }
@@ -92,7 +92,7 @@ impl Frame {
     /// Adds a constant to a local variable that is an int, and goes on to the next instruction
     /// (JVMS 6.5 iinc). `BadLocal`: there is no such local variable, or it is not set. `WrongTag`:
     /// it is no int.
-    #[inline]
+    #[inline(always)]
     pub fn increment(&mut self, number: u16, constant: i16) -> Result<(), TagFault>
         requires { self.old.activation.at + 1 < 2 ^ 64 }
         ensures row { row_increment number constant self.old.activation ≡ outcome result self.new.activation }
@@ -116,7 +116,7 @@ impl Frame {
     /// 6.5 istore). A long that the store cuts in two is no longer set (JVMS 2.6.1). `BadLocal`:
     /// there is no such local variable. `Underflow`: there is no operand. `WrongTag`: it is of
     /// another type.
-    #[inline]
+    #[inline(always)]
     pub fn store(&mut self, operand_type: OperandType, number: u16) -> Result<(), TagFault>
         requires { self.old.activation.at + 1 < 2 ^ 64 }
         ensures row { row_store operand_type number self.old.activation ≡ outcome result self.new.activation }
@@ -135,7 +135,7 @@ impl Frame {
 
     /// Stores a value in a local variable and, of a long, in the one after it; a long that this
     /// cuts in two is no longer set (JVMS 2.6.1).
-    #[inline]
+    #[inline(always)]
     pub fn store_value(&mut self, number: u16, value: Value)
         requires { number + category value ≤ length self.old.activation.locals }
         ensures { self.new ≡ with_locals_of self.old (stored value number self.old.activation.locals) }
@@ -149,7 +149,7 @@ impl Frame {
     }
 
     // Unsets the long of which this local variable is the second.
-    #[inline]
+    #[inline(always)]
     fn unset_long_before(&mut self, number: usize)
         ensures { self.new ≡ with_locals_of self.old (without_long_before number self.old.activation.locals) }
     {

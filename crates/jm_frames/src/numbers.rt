@@ -12,7 +12,7 @@ use jm_program::{Arithmetic, Bitwise, Comparison, Shift};
 
 /// The result on ints, which wraps; none where the divisor is 0 (JVMS 6.5 iadd, isub, imul, idiv,
 /// irem).
-#[inline]
+#[inline(always)]
 pub fn int_arithmetic(op: Arithmetic, x: i32, y: i32) -> Option<i32>
     ensures { result ≡ arithmetic_of op w32 x y }
 {
@@ -28,7 +28,7 @@ pub fn int_arithmetic(op: Arithmetic, x: i32, y: i32) -> Option<i32>
 
 /// The result on longs, which wraps; none where the divisor is 0 (JVMS 6.5 ladd, lsub, lmul, ldiv,
 /// lrem).
-#[inline]
+#[inline(always)]
 pub fn long_arithmetic(op: Arithmetic, first: i64, second: i64) -> Option<i64>
     ensures { result ≡ arithmetic_of op w64 first second }
 {
@@ -43,7 +43,7 @@ pub fn long_arithmetic(op: Arithmetic, first: i64, second: i64) -> Option<i64>
 }
 
 /// An int shifted by the low 5 bits of the count (JVMS 6.5 ishl, ishr, iushr).
-#[inline]
+#[inline(always)]
 pub fn int_shift(op: Shift, x: i32, count: i32) -> i32
     ensures { result ≡ shift_of op w32 x (distance Integral.Int count) }
 {
@@ -56,7 +56,7 @@ pub fn int_shift(op: Shift, x: i32, count: i32) -> i32
 }
 
 /// A long shifted by the low 6 bits of the count (JVMS 6.5 lshl, lshr, lushr).
-#[inline]
+#[inline(always)]
 pub fn long_shift(op: Shift, x: i64, count: i32) -> i64
     ensures { result ≡ shift_of op w64 x (distance Integral.Long count) }
 {
@@ -69,7 +69,7 @@ pub fn long_shift(op: Shift, x: i64, count: i32) -> i64
 }
 
 /// The bits of two ints together (JVMS 6.5 iand, ior, ixor).
-#[inline]
+#[inline(always)]
 pub fn int_bitwise(op: Bitwise, x: i32, y: i32) -> i32
     ensures { result ≡ bitwise_of op w32 x y }
 {
@@ -81,7 +81,7 @@ pub fn int_bitwise(op: Bitwise, x: i32, y: i32) -> i32
 }
 
 /// The bits of two longs together (JVMS 6.5 land, lor, lxor).
-#[inline]
+#[inline(always)]
 pub fn long_bitwise(op: Bitwise, x: i64, y: i64) -> i64
     ensures { result ≡ bitwise_of op w64 x y }
 {
@@ -93,7 +93,7 @@ pub fn long_bitwise(op: Bitwise, x: i64, y: i64) -> i64
 }
 
 /// The low 32 bits of a long (JVMS 6.5 l2i).
-#[inline]
+#[inline(always)]
 pub fn low_int(n: i64) -> i32
     ensures { result ≡ conversion_of LongToInt n }
 {
@@ -101,7 +101,7 @@ pub fn low_int(n: i64) -> i32
 }
 
 /// The low 8 bits of an int, with their sign (JVMS 6.5 i2b).
-#[inline]
+#[inline(always)]
 pub fn to_byte(n: i32) -> i32
     ensures { result ≡ conversion_of IntToByte n }
 {
@@ -109,7 +109,7 @@ pub fn to_byte(n: i32) -> i32
 }
 
 /// The low 16 bits of an int, without a sign (JVMS 6.5 i2c).
-#[inline]
+#[inline(always)]
 pub fn to_char(n: i32) -> i32
     ensures { result ≡ conversion_of IntToChar n }
 {
@@ -117,7 +117,7 @@ pub fn to_char(n: i32) -> i32
 }
 
 /// The low 16 bits of an int, with their sign (JVMS 6.5 i2s).
-#[inline]
+#[inline(always)]
 pub fn to_short(n: i32) -> i32
     ensures { result ≡ conversion_of IntToShort n }
 {
@@ -125,7 +125,7 @@ pub fn to_short(n: i32) -> i32
 }
 
 /// 1, 0 or -1, as the first is greater, equal or less (JVMS 6.5 lcmp).
-#[inline]
+#[inline(always)]
 pub fn order(x: i64, y: i64) -> i32
     ensures { result ≡ order_of x y }
 {
@@ -139,7 +139,7 @@ pub fn order(x: i64, y: i64) -> i32
 }
 
 /// Whether the condition of a branch holds of two ints (JVMS 6.5 if_icmp).
-#[inline]
+#[inline(always)]
 pub fn compare(op: Comparison, x: i32, y: i32) -> bool
     ensures { result ≡ comparison_of op x y }
 {

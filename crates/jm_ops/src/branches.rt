@@ -12,7 +12,7 @@ use jm_frames::{Frame, Value, numbers};
 use jm_program::{Branch, Comparison, Equality, OperandType};
 
 // Whether two references are the same one, or both null.
-#[inline]
+#[inline(always)]
 fn is_same(x: &Value, y: &Value) -> bool
     ensures { result ≡ is_same x.now y.now }
 {
@@ -30,7 +30,7 @@ fn is_same(x: &Value, y: &Value) -> bool
 }
 
 // Whether the condition of a branch holds of two references.
-#[inline]
+#[inline(always)]
 fn equality(op: Equality, x: &Value, y: &Value) -> bool
     ensures { result ≡ equality_of op x.now y.now }
 {
@@ -41,7 +41,7 @@ fn equality(op: Equality, x: &Value, y: &Value) -> bool
 }
 
 // Goes to the target if the condition holds, else on.
-#[inline]
+#[inline(always)]
 fn branch(frame: &mut Frame, target: u32, holds: bool) -> Flow
     requires { frame.old.activation.at + 1 < 2 ^ 64 }
     ensures row { branch frame.old.activation target holds frame.old.activation.stack ≡ flow_outcome (Ok result) frame.new.activation }
@@ -57,7 +57,7 @@ fn branch(frame: &mut Frame, target: u32, holds: bool) -> Flow
     }
 }
 
-#[inline]
+#[inline(always)]
 fn branch_if(frame: &mut Frame, op: Comparison, target: u32) -> Result<Flow, Fault>
     requires { frame.old.activation.at + 1 < 2 ^ 64 }
     ensures row { row_branch (If op) target frame.old.activation ≡ flow_outcome result frame.new.activation }
@@ -69,7 +69,7 @@ fn branch_if(frame: &mut Frame, op: Comparison, target: u32) -> Result<Flow, Fau
     Ok(branch(frame, target, numbers::compare(op, x, 0)))
 }
 
-#[inline]
+#[inline(always)]
 fn branch_if_ints(frame: &mut Frame, op: Comparison, target: u32) -> Result<Flow, Fault>
     requires { frame.old.activation.at + 1 < 2 ^ 64 }
     ensures row { row_branch (IfInts op) target frame.old.activation ≡ flow_outcome result frame.new.activation }
@@ -83,7 +83,7 @@ fn branch_if_ints(frame: &mut Frame, op: Comparison, target: u32) -> Result<Flow
     Ok(branch(frame, target, numbers::compare(op, x, y)))
 }
 
-#[inline]
+#[inline(always)]
 fn branch_if_references(frame: &mut Frame, op: Equality, target: u32) -> Result<Flow, Fault>
     requires { frame.old.activation.at + 1 < 2 ^ 64 }
     ensures row { row_branch (IfReferences op) target frame.old.activation ≡ flow_outcome result frame.new.activation }
@@ -97,7 +97,7 @@ fn branch_if_references(frame: &mut Frame, op: Equality, target: u32) -> Result<
     Ok(branch(frame, target, equality(op, &x, &y)))
 }
 
-#[inline]
+#[inline(always)]
 fn branch_if_null(frame: &mut Frame, op: Equality, target: u32) -> Result<Flow, Fault>
     requires { frame.old.activation.at + 1 < 2 ^ 64 }
     ensures row { row_branch (IfNull op) target frame.old.activation ≡ flow_outcome result frame.new.activation }
@@ -112,7 +112,7 @@ fn branch_if_null(frame: &mut Frame, op: Equality, target: u32) -> Result<Flow, 
 /// Makes a branch: the frame goes to the target where its condition holds, else on to the next
 /// instruction (JVMS 6.5 if, if_icmp, if_acmp, ifnull, goto, goto_w). `Underflow`: there are fewer
 /// operands. `WrongTag`: they are of another type.
-#[inline]
+#[inline(always)]
 pub(crate) fn step_branch(frame: &mut Frame, op: Branch, target: u32) -> Result<Flow, Fault>
     requires { frame.old.activation.at + 1 < 2 ^ 64 }
     ensures row { row_branch op target frame.old.activation ≡ flow_outcome result frame.new.activation }

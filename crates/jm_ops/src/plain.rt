@@ -14,7 +14,7 @@ use crate::switches::{step_lookup_switch, step_table_switch};
 use jm_frames::{Computed, Frame, Value};
 use jm_program::{Constant, Instr, Plain, ShortIndex, Simple, SmallInt, SmallLong};
 
-#[inline]
+#[inline(always)]
 fn small_int(constant: SmallInt) -> i32
     ensures { result ≡ small_int constant }
 {
@@ -29,7 +29,7 @@ fn small_int(constant: SmallInt) -> i32
     }
 }
 
-#[inline]
+#[inline(always)]
 fn small_long(constant: SmallLong) -> i64
     ensures { result ≡ small_long constant }
 {
@@ -39,7 +39,7 @@ fn small_long(constant: SmallLong) -> i64
     }
 }
 
-#[inline]
+#[inline(always)]
 fn short_index(index: ShortIndex) -> u16
     ensures { result ≡ short_index index }
 {
@@ -53,7 +53,7 @@ fn short_index(index: ShortIndex) -> u16
 
 /// Pushes a constant, and goes on to the next instruction (JVMS 6.5 ldc). `Overflow`: `max_stack`
 /// has no room for it, and the frame stays as it was.
-#[inline]
+#[inline(always)]
 pub fn push_constant(frame: &mut Frame, value: Value) -> Result<Flow, Fault>
     requires { frame.old.activation.at + 1 < 2 ^ 64 }
     ensures row { push_constant value frame.old.activation ≡ flow_outcome result frame.new.activation }
@@ -66,7 +66,7 @@ pub fn push_constant(frame: &mut Frame, value: Value) -> Result<Flow, Fault>
 }
 
 // An instruction of one byte.
-#[inline]
+#[inline(always)]
 fn step_simple(frame: &mut Frame, op: Simple) -> Result<Flow, Fault>
     requires { frame.old.activation.at + 1 < 2 ^ 64 }
     ensures row { row_simple op frame.old.activation ≡ flow_outcome result frame.new.activation }
@@ -107,7 +107,7 @@ fn step_simple(frame: &mut Frame, op: Simple) -> Result<Flow, Fault>
 /// `Overflow`: `max_stack` has no room for what is pushed. Of several faults the first comes: the
 /// local variable's, then each operand's from the top, then `Overflow`. At a fault and at
 /// [`Flow::Throw`] the frame stays as it was.
-#[inline]
+#[inline(always)]
 pub fn step(frame: &mut Frame, op: &Plain) -> Result<Flow, Fault>
     requires at { frame.old.activation.at + 1 < 2 ^ 64 }
     requires ordered { IsOrdered op.now }
