@@ -55,6 +55,8 @@ pub mod Tops
 pub mod Runs
 pub mod RowsAlone
 pub mod PlainWorlds
+pub mod MethodRuns
+pub mod GoingOn
 pub mod PlainThreads
 pub mod NewRow
 pub mod DeclaredMethods

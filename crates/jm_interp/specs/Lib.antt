@@ -25,3 +25,4 @@ pub mod Locking
 pub mod Starting
 pub mod Entering
 pub mod PlainRuns
+pub mod MethodRuns

@@ -47,6 +47,7 @@ mod invocation;
 mod monitors;
 mod narrowing;
 mod object_kind;
+mod object_rows;
 mod plain;
 mod plain_runs;
 mod print_operands;
