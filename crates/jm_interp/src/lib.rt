@@ -8,7 +8,7 @@
 //! make the first and the last of these by themselves.
 //!
 //! `at` says where a step is made, and `specs/At` what it does: the words of all contracts. The files
-//! are named as the model's (`jm_world`): `stepping` chooses what is to be done; `plain`, `constants`,
+//! are named as the model's (`jm_world`): `stepping` chooses what is to be done, and `families` among instructions of one kind; `plain`, `constants`,
 //! `arrays`, `instances`, `fields`, `static_fields`, `type_checks`, `invocation`, `selections`,
 //! `special_calls`, `returns` and `built_in_methods` are the instructions, with the text of Strings in
 //! `strings` and what variables keep of values in `narrowing`. Of an invoke, `receivers` tests the
@@ -36,6 +36,7 @@ mod constant_values;
 mod constants;
 mod declared;
 mod ending;
+mod families;
 mod fields;
 mod frames;
 mod handlers;
