@@ -1,11 +1,12 @@
 // Arithmetic, conversions and lcmp on the operands of a frame (JVMS 2.11.3, 2.11.4).
 
-ghost use Rattle.std.specs.Prelude.{◌+◌, ◌<◌, ◌≡◌, ◌^◌, ◌≤◌, Ok, OnErr, drop, slice_get, ◌∷◌};
+ghost use Rattle.std.specs.Prelude.{◌+◌, ◌<◌, ◌≡◌, ◌^◌, ◌≤◌, ℤ, Ok, OnErr, Some, drop, slice_get, ◌∷◌};
 ghost use Rattle.jm_values.specs.Activation.{units};
 ghost use Rattle.jm_values.specs.Arithmetic.{row_arithmetic, row_negate, row_shift, row_bitwise};
 ghost use Rattle.jm_values.specs.Comparisons.{row_compare_longs};
 ghost use Rattle.jm_values.specs.Conversions.{row_convert};
 ghost use Rattle.jm_program.specs.declared.instruction.operation.Integral.TheVariants as Integral;
+ghost use Rattle.jm_values.specs.declared.value.Value.TheVariants as value;
 ghost use Rattle.jm_frames.specs.FrameView.{FrameView, with_stack, gone_to};
 ghost use Rattle.jm_frames.specs.Made.{outcome};
 ghost use Rattle.jm_frames.specs.Computed.{computed};
@@ -79,6 +80,19 @@ impl Frame {
         self.go_on();
     }
 
+    // Puts an int in the place of the two ints on top, and goes on.
+    #[inline(always)]
+    fn answer_ints(&mut self, number: i32)
+        requires at { self.old.activation.at + 1 < 2 ^ 64 }
+        requires top { (n : ℤ) × (slice_get self.old.activation.stack 0 ≡ Some (value.Int n)) }
+        requires below { (n : ℤ) × (slice_get self.old.activation.stack 1 ≡ Some (value.Int n)) }
+        ensures { self.new ≡ gone_to (with_stack self.old (value.Int number ∷ drop 2 self.old.activation.stack)) (self.old.activation.at + 1) }
+    {
+        self.drop_ints();
+        self.put(Value::Int(number));
+        self.go_on();
+    }
+
     /// Makes `iadd` to `lrem` (JVMS 6.5), and goes on to the next instruction, unless the divisor
     /// is 0. `Underflow`: there are fewer operands. `WrongTag`: they are of another type.
     #[inline(always)]
@@ -108,7 +122,7 @@ impl Frame {
         let Some(number) = numbers::int_arithmetic(op, x, y) else {
             return Ok(Computed::ZeroDivisor);
         };
-        self.answer_two(Value::Int(number));
+        self.answer_ints(number);
         Ok(Computed::Pushed)
     }
 
@@ -159,7 +173,7 @@ impl Frame {
         match integral {
             Integral::Int => {
                 let x = self.int(1)?;
-                self.answer_two(Value::Int(numbers::int_shift(op, x, count)));
+                self.answer_ints(numbers::int_shift(op, x, count));
             }
             Integral::Long => {
                 let x = self.long(1)?;
@@ -182,7 +196,7 @@ impl Frame {
             Integral::Int => {
                 let y = self.int(0)?;
                 let x = self.int(1)?;
-                self.answer_two(Value::Int(numbers::int_bitwise(op, x, y)));
+                self.answer_ints(numbers::int_bitwise(op, x, y));
             }
             Integral::Long => {
                 let y = self.long(0)?;

@@ -1,9 +1,10 @@
 // The frame of a method that runs.
 
-ghost use Rattle.std.specs.Prelude.{◌≡◌, ◌+◌, ◌<◌, ◌≤◌, ◌^◌, [], ◌∷◌, drop, length, replicate, reverse, slice_get, slice_set, Some, None, Ok, Err, IfOk, if◌then◌else◌, nat_le, MatchResult, OnOk, OnErr};
+ghost use Rattle.std.specs.Prelude.{◌≡◌, ◌+◌, ◌<◌, ◌≤◌, ◌^◌, ℤ, [], ◌∷◌, drop, length, replicate, reverse, slice_get, slice_set, Some, None, Ok, Err, IfOk, if◌then◌else◌, nat_le, MatchResult, OnOk, OnErr};
 ghost use Rattle.std.specs.Slice.Iter.{iter_rest};
 ghost use Rattle.jm_values.specs.Activation.{category, units};
 ghost use Rattle.jm_values.specs.Shape.{option_shape};
+ghost use Rattle.jm_values.specs.declared.value.Value.TheVariants.{Int};
 ghost use Rattle.jm_values.specs.Rename.{refs, refill, value_shape, locals_shape, stack_shape, activation_shape};
 ghost use Rattle.jm_frames.specs.FrameView.{FrameView, with_stack, with_locals_of, gone_to};
 
@@ -121,6 +122,29 @@ impl Frame {
         };
         self.used -= category(&value);
         Ok(value)
+    }
+
+    // Drops the operand on top, which is this value: its category is known without a look at it.
+    #[inline(always)]
+    pub(crate) fn drop_value(&mut self, value: &Value)
+        requires { slice_get self.old.activation.stack 0 ≡ Some value.now }
+        ensures { self.new ≡ with_stack self.old (drop 1 self.old.activation.stack) }
+    {
+        let _ = self.stack.pop();
+        self.used -= category(value);
+    }
+
+    /// Drops the two operands on top, which are ints.
+    #[inline(always)]
+    pub fn drop_ints(&mut self)
+        requires top { (n : ℤ) × (slice_get self.old.activation.stack 0 ≡ Some (Int n)) }
+        requires below { (n : ℤ) × (slice_get self.old.activation.stack 1 ≡ Some (Int n)) }
+        ensures frame { self.new ≡ with_stack self.old (drop 2 self.old.activation.stack) }
+        ensures room { units self.new.activation.stack + 2 ≤ self.new.activation.max_stack }
+    {
+        let _ = self.stack.pop();
+        let _ = self.stack.pop();
+        self.used -= 2;
     }
 
     /// Pushes an operand. `Overflow`: `max_stack` has no room for it (JVMS 2.6.2), and the frame

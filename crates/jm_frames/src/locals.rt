@@ -65,11 +65,9 @@ impl Frame {
         usize::from(number) + places <= self.max_locals()
     }
 
-    /// Pushes a local variable of the type, and goes on to the next instruction (JVMS 6.5 iload).
-    /// `BadLocal`: there is no such local variable, or it is not set. `WrongTag`: it is of another
-    /// type. `Overflow`: `max_stack` has no room.
+    // The same for a type that the compiler knows, so that its tests are made for that type alone.
     #[inline(always)]
-    pub fn load(&mut self, operand_type: OperandType, number: u16) -> Result<(), TagFault>
+    fn load_of(&mut self, operand_type: OperandType, number: u16) -> Result<(), TagFault>
         requires { self.old.activation.at + 1 < 2 ^ 64 }
         ensures row { row_load operand_type number self.old.activation ≡ outcome result self.new.activation }
         ensures err { OnErr result (self.new ≡ self.old) }
@@ -87,6 +85,23 @@ impl Frame {
         self.push(value)?;
         self.go_on();
         Ok(())
+    }
+
+    /// Pushes a local variable of the type, and goes on to the next instruction (JVMS 6.5 iload).
+    /// `BadLocal`: there is no such local variable, or it is not set. `WrongTag`: it is of another
+    /// type. `Overflow`: `max_stack` has no room.
+    #[inline(always)]
+    pub fn load(&mut self, operand_type: OperandType, number: u16) -> Result<(), TagFault>
+        requires { self.old.activation.at + 1 < 2 ^ 64 }
+        ensures row { row_load operand_type number self.old.activation ≡ outcome result self.new.activation }
+        ensures err { OnErr result (self.new ≡ self.old) }
+        ensures frame { self.new ≡ record self.old { activation = self.new.activation } }
+    {
+        match operand_type {
+            OperandType::Int => self.load_of(OperandType::Int, number),
+            OperandType::Long => self.load_of(OperandType::Long, number),
+            OperandType::Reference => self.load_of(OperandType::Reference, number),
+        }
     }
 
     /// Adds a constant to a local variable that is an int, and goes on to the next instruction
@@ -112,6 +127,24 @@ impl Frame {
         }
     }
 
+    // The same for a type that the compiler knows, so that its tests are made for that type alone.
+    #[inline(always)]
+    fn store_of(&mut self, operand_type: OperandType, number: u16) -> Result<(), TagFault>
+        requires { self.old.activation.at + 1 < 2 ^ 64 }
+        ensures row { row_store operand_type number self.old.activation ≡ outcome result self.new.activation }
+        ensures err { OnErr result (self.new ≡ self.old) }
+        ensures frame { self.new ≡ record self.old { activation = self.new.activation } }
+    {
+        if !self.has_places(operand_type, number) {
+            return Err(TagFault::BadLocal);
+        }
+        let value = self.operand_of(operand_type, 0)?;
+        self.drop_value(&value);
+        self.store_value(number, value);
+        self.go_on();
+        Ok(())
+    }
+
     /// Pops a value of the type into a local variable, and goes on to the next instruction (JVMS
     /// 6.5 istore). A long that the store cuts in two is no longer set (JVMS 2.6.1). `BadLocal`:
     /// there is no such local variable. `Underflow`: there is no operand. `WrongTag`: it is of
@@ -123,14 +156,11 @@ impl Frame {
         ensures err { OnErr result (self.new ≡ self.old) }
         ensures frame { self.new ≡ record self.old { activation = self.new.activation } }
     {
-        if !self.has_places(operand_type, number) {
-            return Err(TagFault::BadLocal);
+        match operand_type {
+            OperandType::Int => self.store_of(OperandType::Int, number),
+            OperandType::Long => self.store_of(OperandType::Long, number),
+            OperandType::Reference => self.store_of(OperandType::Reference, number),
         }
-        let value = self.operand_of(operand_type, 0)?;
-        self.store_value(number, value);
-        let _ = self.pop();
-        self.go_on();
-        Ok(())
     }
 
     /// Stores a value in a local variable and, of a long, in the one after it; a long that this

@@ -78,8 +78,7 @@ fn branch_if_ints(frame: &mut Frame, op: Comparison, target: u32) -> Result<Flow
 {
     let y = frame.int(0)?;
     let x = frame.int(1)?;
-    let _ = frame.pop();
-    let _ = frame.pop();
+    frame.drop_ints();
     Ok(branch(frame, target, numbers::compare(op, x, y)))
 }
 
