@@ -15,6 +15,7 @@ pub mod PlainRow
 pub mod PlainRuns
 pub mod LiteralRow
 pub mod PushRow
+pub mod Pushed
 pub mod Replaced
 pub mod Stored
 pub mod StoredOnTop

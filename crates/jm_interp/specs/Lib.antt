@@ -17,6 +17,7 @@ pub mod Storing
 pub mod ArrayRows
 pub mod Readiness
 pub mod FieldRows
+pub mod StaticRows
 pub mod Creating
 pub mod ConstantValues
 pub mod Invoking
