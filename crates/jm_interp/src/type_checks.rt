@@ -73,6 +73,7 @@ pub(crate) fn is_instance(linked: &Linked, id: ClassId, to: LinkedType) -> Optio
 
 /// What checkcast leaves of the reference on top: the reference itself. OutOfMemory: no class has its
 /// object's number.
+#[inline(always)]
 pub(crate) fn cast_on_top<H: Heap>(
     at: At<'_>,
     state: &State<H>,
@@ -107,6 +108,7 @@ pub(crate) fn check_cast<H: Heap>(
 }
 
 /// What instanceof makes of the reference on top. OutOfMemory: no class has its object's number.
+#[inline(always)]
 pub(crate) fn test_on_top<H: Heap>(
     at: At<'_>,
     state: &State<H>,
