@@ -21,4 +21,5 @@ mod Lefts
 mod DoneEvents
 mod RobinSteps
 mod ManyReceipts
+mod OnlySeat
 pub mod Calls

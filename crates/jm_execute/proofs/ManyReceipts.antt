@@ -2,7 +2,7 @@
 use Rattle.std.proofs.Common.{◌≡◌, ℕ, zero, suc, ◌+◌, ◌-◌, ◌≤◌, ◌<◌, List, [], ◌∷◌, ◌++◌, refl, sym, ap, subst, ◌∙◌, length, replicate, map, append_assoc}
 use Rattle.std.proofs.Common.{append-nil, arith}
 use Rattle.std.proofs.lemmas.List.{map-append, replicate-append-replicate}
-use Rattle.jm_machine.specs.ManySteps.{EndsBy, EndsFor, made_of_steps, other_replies, steps_of}
+use Rattle.jm_machine.specs.ManySteps.{EndsBy, EndsFor, made_of_steps, other_replies, replies_of_steps, steps_of}
 use Rattle.jm_machine.specs.declared.steps.Steps.{Steps}
 use Rattle.jm_machine.specs.declared.steps.StepsEnd.{StepsEnd}
 use Rattle.jm_machine.specs.declared.steps.StepsEnd.TheVariants.{AllMade, Other, OutOfMemory}
@@ -12,7 +12,7 @@ use Rattle.jm_world.specs.declared.event.Event.{Event}
 use Rattle.jm_world.specs.declared.event.Event.TheVariants.{Step}
 use Rattle.jm_world.specs.declared.reply.Reply.{Reply}
 use Rattle.jm_world.specs.declared.reply.ReplyKind.TheVariants.{Done}
-use Rattle.jm_shared.specs.Legal.{entry_of, events_of}
+use Rattle.jm_shared.specs.Legal.{entry_of, events_of, reply_of}
 use Rattle.jm_shared.specs.ManyTurns.{entries_of_turns, receipts_from, receipts_of_turns}
 use Rattle.jm_shared.specs.Seats.{hand}
 use Rattle.jm_shared.specs.declared.entry.Entry.{Entry}
@@ -22,6 +22,12 @@ use Rattle.jm_shared.specs.declared.rule.Hand.{Hand}
 use Rattle.jm_execute.specs.Standings.{Answer}
 use Rattle.jm_execute.specs.Turns.{AreReplies, Records, RecordsPart, events_in, replies_in, world_by}
 use Rattle.jm_execute.proofs.Turns.{many_replies, recorded_then, turn_recorded}
+
+-- behind the old receipts there are those of so many steps that answered alike, and of the one that ended them
+abbrev pub Told : List Receipt → List Receipt → ℕ → ℕ → Reply → StepsEnd → Type 0
+Told old new thread alike done end =
+    Records old new (steps_of thread (alike + length (other_replies end)))
+    × (replies_in new ≡ replies_in old ++ (replicate alike done ++ other_replies end))
 
 events_from : (number : ℕ) (es : List Entry) → events_in (receipts_from number es) ≡ events_of es
 events_from number [] = refl
@@ -54,6 +60,38 @@ turns_recorded old new thread t is more =
 
 pub same_number : (new : Hand) (number before : ℕ) (rs : List Receipt) → new ≡ hand number rs → number ≡ before → new.number ≡ before
 same_number new number before rs is same = ap (λ (h : Hand). h.number) is ∙ same
+
+replies_from_entries : (number : ℕ) (es : List Entry) → replies_in (receipts_from number es) ≡ map reply_of es
+replies_from_entries number [] = refl
+replies_from_entries number (e ∷ es) = ap (λ (xs : List Reply). reply_of e ∷ xs) (replies_from_entries (number + 1) es)
+
+alike_replies : (n : ℕ) (e : Entry) → map reply_of (replicate n e) ≡ replicate n (reply_of e)
+alike_replies zero e = refl
+alike_replies (suc n) e = ap (λ (xs : List Reply). reply_of e ∷ xs) (alike_replies n e)
+
+other_entries : (seat : ℕ) (event : Event) (rs : List Reply) → map reply_of (map (entry_of seat event) rs) ≡ rs
+other_entries seat event [] = refl
+other_entries seat event (r ∷ rs) = ap (λ (xs : List Reply). r ∷ xs) (other_entries seat event rs)
+
+turns_replies : (t : Receipts) → replies_in (receipts_of_turns t) ≡ replies_of_steps t.steps
+turns_replies t =
+    let alike = replicate t.steps.alike (entry_of t.seat (Step t.thread) t.steps.reply) in
+    let others = other_replies t.steps.end in
+    replies_from_entries t.number (entries_of_turns t)
+    ∙ map-append reply_of alike (map (entry_of t.seat (Step t.thread)) others)
+    ∙ (λ i. alike_replies t.steps.alike (entry_of t.seat (Step t.thread) t.steps.reply) i ++ other_entries t.seat (Step t.thread) others i)
+
+turns_replied : (old new : Hand) (t : Receipts) → new ≡ hand old.number (old.receipts ++ receipts_of_turns t)
+    → replies_in new.receipts ≡ replies_in old.receipts ++ replies_of_steps t.steps
+turns_replied old new t more =
+    ap (λ (h : Hand). replies_in h.receipts) more
+    ∙ map-append (λ (r : Receipt). r.reply) old.receipts (receipts_of_turns t)
+    ∙ ap (λ (rs : List Reply). replies_in old.receipts ++ rs) (turns_replies t)
+
+-- and their replies
+pub turns_told : (old new : Hand) (thread : ℕ) (t : Receipts) → t.thread ≡ thread → new ≡ hand old.number (old.receipts ++ receipts_of_turns t)
+    → Told old.receipts new.receipts thread t.steps.alike t.steps.reply t.steps.end
+turns_told old new thread t is more = (turns_recorded old new thread t is more, turns_replied old new t more)
 
 -- ---- how many they are
 
@@ -117,11 +155,6 @@ other_more old middle new thread alike done r records replies more is = (
       ∙ ap (λ (rs : List Reply). rs ++ r.reply ∷ []) replies
       ∙ append_assoc (replies_in old) (replicate alike done) (r.reply ∷ []),
 )
-
-abbrev pub Told : List Receipt → List Receipt → ℕ → ℕ → Reply → StepsEnd → Type 0
-Told old new thread alike done end =
-    Records old new (steps_of thread (alike + length (other_replies end)))
-    × (replies_in new ≡ replies_in old ++ (replicate alike done ++ other_replies end))
 
 pub were_replies : (first : World) (old new : List Receipt) (events : List Event) (replies : List Reply)
     → Records old new events × (replies_in new ≡ replies_in old ++ replies) → AreReplies first new → AreReplies first old

@@ -182,9 +182,9 @@ fn see_steps(
     }
 }
 
-// Makes steps of one thread, at most so many. They end before that only by one that answers
-// otherwise than is said, which is made, or where a growth was refused.
-fn make_steps<H: Heap, S: Sharing, W: Wait>(
+// Makes steps of one thread, at most so many, each in a hold of the lock of its own. They end before
+// that only by one that answers otherwise than is said, which is made, or where a growth was refused.
+fn make_one_by_one<H: Heap, S: Sharing, W: Wait>(
     rt: &W,
     machine: &SharedMachine<H, S>,
     seat: &mut Seat<S>,
@@ -219,6 +219,32 @@ fn make_steps<H: Heap, S: Sharing, W: Wait>(
         alike: most,
         reply: done,
         end: StepsEnd::AllMade,
+    }
+}
+
+// Makes steps of one thread, at most so many. They end before that only by one that answers
+// otherwise than is said, which is made, or where a growth was refused. Where there is no other seat
+// they are made in one hold of the lock; the turns of others may make and end threads between two
+// steps, so beside them each reply is looked at by itself.
+fn make_steps<H: Heap, S: Sharing, W: Wait>(
+    rt: &W,
+    machine: &SharedMachine<H, S>,
+    seat: &mut Seat<S>,
+    thread: u64,
+    most: usize,
+    done: Reply,
+) -> Steps
+    requires { 0 < most }
+    ensures ends { EndsBy most result }
+    ensures records { Records seat.old.receipts seat.new.receipts (steps_of thread (made_of_steps result)) }
+    ensures answer { let w = world_by S.first seat.old.receipts in AreReplies S.first seat.new.receipts → done ≡ reply Done w → Answer w thread result }
+    ensures before { AreReplies S.first seat.new.receipts → AreReplies S.first seat.old.receipts }
+    ensures number { seat.new.number ≡ seat.old.number }
+{
+    if machine.seats() == 1 {
+        machine.turns(rt, seat, thread, most).steps
+    } else {
+        make_one_by_one(rt, machine, seat, thread, most, done)
     }
 }
 

@@ -14,7 +14,7 @@ use Rattle.jm_shared.specs.declared.entry.Receipt.{Receipt}
 use Rattle.jm_shared.specs.declared.rule.Hand.{Hand}
 use Rattle.jm_shared.specs.declared.rule.View.{View}
 use Rattle.jm_shared.specs.declared.rule.Repeated.{Repeated}
-use Rattle.jm_shared.specs.Seats.{entries_in, seated, keeper_with, fresh_hands, hand, hand_of, times}
+use Rattle.jm_shared.specs.Seats.{entries_in, seated, keeper_with, fresh_hands, hand, hand_of, of_seat, times}
 use Rattle.jm_shared.specs.SeatRule.{IsOf, Fits, keepers, IsKept, noted, with_entries, with_note, Finds, first_hand, other_hands, dealt, kept_back, taken_in}
 use Rattle.jm_shared.proofs.SeatLists.{IsOf_noted, IsOf_low, IsOf_others, times_noted, IsOf_fresh, times_fresh}
 
@@ -170,7 +170,13 @@ keeper_with_one taken kept v u mine joined es h same is alone seat cut together 
     let one : mine ≡ seated (h ∷ []) = cut ∙ ap dealt seat in
     together ∙ (λ i. taken_in (all i) (one i))
 
--- the receipts of a seat that is with the keeper have numbers below the number of entries
+-- a seat that is with the keeper has the receipts of its entries
+pub found_own : (v : View) (es : List Entry) (h : Hand) → v ≡ keeper_with es (h ∷ []) → Finds v → h.receipts ≡ of_seat h.number 0 es
+found_own v es h is found =
+    let here : All (IsOf es) (h ∷ []) = subst Finds is found refl in
+    All-head (IsOf es) h [] here
+
+-- and they have numbers below the number of entries
 pub found_low : (v : View) (es : List Entry) (h : Hand) → v ≡ keeper_with es (h ∷ []) → Finds v → All (λ (r : Receipt). r.number < length es) h.receipts
 found_low v es h is found =
     let here : All (IsOf es) (h ∷ []) = subst Finds is found refl in

@@ -132,6 +132,8 @@ impl<H: Heap, R: Origin> Journal<H, R> {
         ensures ends { EndsBy most result.steps }
         ensures entries { self.new.entries ≡ self.old.entries ++ entries_of_turns result }
         ensures machine { (w : World) → MatchesWorld self.old.machine w → AreSteps w thread self.new.machine result.steps }
+        ensures legal { IsLegal R.first self.old.entries }
+        ensures reply { result.steps.reply ≡ reply Done (world_after R.first self.old.entries) }
     {
         let number = self.last.end;
         if !make_room(&mut self.stretches, number, most) {

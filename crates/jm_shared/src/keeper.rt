@@ -123,6 +123,7 @@ impl<S: Sharing> SeatTies<S> {
         ensures keeper { keeper.new ≡ keeper.old ++ entries_in note.now }
         ensures seat { seat.new ≡ hand seat.old.number (seat.old.receipts ++ of_seat seat.old.number (length keeper.old) (entries_in note.now)) }
         ensures above { All (λ receipt. receipt.number < length keeper.old) seat.old.receipts }
+        ensures lists { seat.old.receipts ≡ of_seat seat.old.number 0 keeper.old }
     {
         let shared = &self.table.shared;
         let mut all = mem::replace(&mut keeper.token, Badge::blank()).into_seat::<Note>();

@@ -5,7 +5,7 @@ ghost use Rattle.std.specs.List.{All};
 ghost use Rattle.jm_machine.specs.View.{MatchesWorld};
 ghost use Rattle.jm_machine.specs.ManySteps.{EndsBy};
 ghost use Rattle.jm_shared.specs.Book.{IsRunFrom};
-ghost use Rattle.jm_shared.specs.ManyTurns.{entries_of_turns, receipts_of_turns};
+ghost use Rattle.jm_shared.specs.ManyTurns.{Behind, entries_of_turns, receipts_of_turns};
 ghost use Rattle.jm_shared.specs.Legal.{entry_of, receipt_of};
 ghost use Rattle.jm_shared.specs.Seats.{AreAll, LacksOne, fresh_hands, hand, of_seat};
 
@@ -73,6 +73,7 @@ impl<H: Heap, S: Sharing> LockedJournal<H, S> {
         ensures ends { EndsBy most result.steps }
         ensures entries { self.new.entries ≡ self.old.entries ++ entries_of_turns result }
         ensures above { All (λ earlier. earlier.number < result.number) seat.old.receipts }
+        ensures behind { Behind S.first S.seats seat.old result }
         ensures seat { seat.new ≡ hand seat.old.number (seat.old.receipts ++ receipts_of_turns result) }
     {
         let receipts = self.journal.turns(seat.number(), thread, most);
@@ -124,6 +125,13 @@ impl<H: Heap + Drop, S: Sharing> SharedMachine<H, S> {
 }
 
 impl<H: Heap, S: Sharing> SharedMachine<H, S> {
+    /// How many seats it is shared by.
+    pub fn seats(&self) -> u8
+        ensures { result ≡ S.seats }
+    {
+        self.seats
+    }
+
     /// Makes one event for a seat, in the nursery of the seat's number, and adds one entry to the
     /// journal and its receipt to the seat's. It may wait for other turns. `OutOfMemory`: the
     /// event was not made and may be tried again, and the seat is as it was.
@@ -150,6 +158,7 @@ impl<H: Heap, S: Sharing> SharedMachine<H, S> {
         ensures receipts { (result.seat ≡ seat.old.number) × (result.thread ≡ thread) }
         ensures ends { EndsBy most result.steps }
         ensures above { All (λ earlier. earlier.number < result.number) seat.old.receipts }
+        ensures behind { Behind S.first S.seats seat.old result }
         ensures seat { seat.new ≡ hand seat.old.number (seat.old.receipts ++ receipts_of_turns result) }
     {
         self.lock.lock(rt).turns(&self.ties, seat, thread, most)

@@ -1,8 +1,10 @@
 -- The journal has the entries of the turns more.
-use Rattle.std.proofs.Common.{◌∙◌, ap, sym, refl, subst, length}
+use Rattle.std.proofs.Common.{◌≡◌, ◌∙◌, ap, sym, refl, subst, length}
 use Rattle.jm_machine.specs.View.{MatchesWorld}
+use Rattle.jm_world.specs.Run.{reply}
+use Rattle.jm_world.specs.declared.reply.ReplyKind.TheVariants.{Done}
 use Rattle.jm_shared.specs.Book.{Book}
-use Rattle.jm_shared.specs.Legal.{world_after}
+use Rattle.jm_shared.specs.Legal.{IsLegal, world_after}
 use Rattle.jm_shared.specs.Stretches.{entries_of}
 use Rattle.jm_shared.specs.declared.entry.Receipts.{Receipts}
 use Rattle.jm_shared.proofs.Stretches.{how_many}
@@ -31,3 +33,20 @@ invariant_of-self-2 g c =
 
 pub returns-clause-receipts : goal.returns-clause-receipts
 returns-clause-receipts g c = (refl, sym (how_many _ _ c.self.invariant.0) ∙ ap (λ (b : Book). length b.entries) c.self.view_is, refl)
+
+pub returns-then-not-make_room-clause-legal : goal.returns-then-not-make_room-clause-legal
+returns-then-not-make_room-clause-legal g c = subst (λ (b : Book). IsLegal g.R.Origin.first b.entries) c.self.view_is c.self.invariant.1.0
+
+pub returns-then-not-make_room-clause-reply : goal.returns-then-not-make_room-clause-reply
+returns-then-not-make_room-clause-reply g c =
+    subst (λ (b : Book). c.no_steps.result.reply ≡ reply Done (world_after g.R.Origin.first b.entries)) c.self.view_is
+    (c.no_steps.ensures.reply _ c.self.invariant.1.1)
+
+pub returns-clause-legal : goal.returns-clause-legal
+returns-clause-legal g c = subst (λ (b : Book). IsLegal g.R.Origin.first b.entries) c.self.view_is c.self.invariant.1.0
+
+pub returns-clause-reply : goal.returns-clause-reply
+returns-clause-reply g c =
+    let entries = entries_of c.self.inside.stretches.items c.self.inside.last in
+    let made = c.step_many-steps.ensures.steps (world_after g.R.Origin.first entries) c.self.invariant.1.1 in
+    subst (λ (b : Book). c.step_many-steps.result.reply ≡ reply Done (world_after g.R.Origin.first b.entries)) c.self.view_is made.reply

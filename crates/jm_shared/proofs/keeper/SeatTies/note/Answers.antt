@@ -1,14 +1,14 @@
 -- The seat's hand is with the keeper while the entries are noted.
-use Rattle.std.proofs.Common.{◌==◌, ◌<◌, List, length, sym, ap, ◌∙◌, subst}
+use Rattle.std.proofs.Common.{◌≡◌, ◌==◌, ◌<◌, List, length, sym, ap, ◌∙◌, subst}
 use Rattle.std.specs.List.{All}
 use prog.Atomic.{either}
 use Rattle.jm_shared.specs.declared.entry.Entry.{Entry}
 use Rattle.jm_shared.specs.declared.entry.Receipt.{Receipt}
 use Rattle.jm_shared.specs.declared.rule.Hand.{Hand}
 use Rattle.jm_shared.specs.declared.rule.View.{View}
-use Rattle.jm_shared.specs.Seats.{its_hand, times}
+use Rattle.jm_shared.specs.Seats.{its_hand, of_seat, times}
 use Rattle.jm_shared.proofs.SeatLists.{times_alone}
-use Rattle.jm_shared.proofs.SeatSteps.{splits, joins, notes, keeper_with_one, found_low}
+use Rattle.jm_shared.proofs.SeatSteps.{splits, joins, notes, keeper_with_one, found_low, found_own}
 use Rattle.jm_shared.proofs.keeper.SeatTies.note.Goals as goal
 
 pub split_seat-mine-requires : goal.split_seat-mine-requires
@@ -55,3 +55,12 @@ returns-clause-above g c =
     let low = found_low _ _ h joined c.compare_exchange_with.ensures.2.2 in
     subst (λ (x : Hand). All (λ (r : Receipt). r.number < length c.args.keeper.now) x.receipts) c.seat.view_is
     (subst (λ (es : List Entry). All (λ (r : Receipt). r.number < length es) h.receipts) c.keeper.view_is low)
+
+pub returns-clause-lists : goal.returns-clause-lists
+returns-clause-lists g c =
+    let h = its_hand c.seat.inside.token.me in
+    let joined = keeper_with_one _ _ _ _ _ _ _ h (ap (λ b. b.views) c.replace.ensures.value) c.keeper.invariant.1 c.into_seat-all.ensures.2 c.seat.invariant.1.0
+    (ap (λ m. m.0) c.split_seat-mine.ensures.4) (ap (λ m. m.0) c.join_seat.ensures.2) in
+    let own = found_own _ _ h joined c.compare_exchange_with.ensures.2.2 in
+    subst (λ (x : Hand). x.receipts ≡ of_seat x.number 0 c.args.keeper.now) c.seat.view_is
+    (subst (λ (es : List Entry). h.receipts ≡ of_seat h.number 0 es) c.keeper.view_is own)

@@ -40,3 +40,17 @@ returns-clause-seat g c =
     ∙ of_seat_all seat.number (length entries) (entries_of_turns receipts) own
     ∙ ap (λ n. receipts_from n (entries_of_turns receipts)) (sym c.turns-receipts.ensures.receipts.1) in
     c.note.ensures.seat ∙ ap (λ rs. hand seat.number (seat.receipts ++ rs)) told
+
+pub returns-clause-behind : goal.returns-clause-behind
+returns-clause-behind g c =
+    let seat = c.args.seat.now in
+    let receipts = c.turns-receipts.ensures in
+    record {
+      entries = c.self.inside.journal.entries;
+      number = receipts.receipts.1;
+      legal = receipts.legal;
+      known = c.self.invariant.1;
+      lists = c.note.ensures.lists ∙ ap (of_seat seat.number 0) c.self.invariant.0;
+      below = subst (λ k. k < g.S.Sharing.seats) c.number.ensures.number c.number.ensures.below;
+      reply = receipts.reply;
+    }

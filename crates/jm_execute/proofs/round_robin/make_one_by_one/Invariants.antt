@@ -2,7 +2,7 @@
 use Rattle.std.proofs.Common.{◌≡◌, ◌++◌, replicate}
 use Rattle.jm_machine.specs.ManySteps.{steps_of}
 use Rattle.jm_execute.specs.Turns.{Records, replies_in}
-use Rattle.jm_execute.proofs.round_robin.make_steps.Given as goal
+use Rattle.jm_execute.proofs.round_robin.make_one_by_one.Given as goal
 
 abbrev pub invariant-loop-alike : goal.invariant-loop-alike
 invariant-loop-alike g l = record {
