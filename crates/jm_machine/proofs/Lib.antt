@@ -22,3 +22,5 @@ pub mod ObjectCells
 pub mod Held
 pub mod Counts
 pub mod ManySteps
+pub mod CodePlaces
+pub mod UpToPlaces

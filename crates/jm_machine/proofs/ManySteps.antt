@@ -36,6 +36,9 @@ pub record AreAlike (w : World) (thread : ℕ) (now : MachineView) (n : ℕ) (r 
   pub replies : replicate n r ≡ replies_from w (steps_of thread n)
   pub reply : r ≡ reply Done w
 
+pub none_alike : (w : World) (thread : ℕ) (now : MachineView) (r : Reply) → MatchesWorld now w → r ≡ reply Done w → AreAlike w thread now 0 r
+none_alike w thread now r m is = record { world = m; replies = refl; reply = is }
+
 pub first_alike : (w : World) (thread n : ℕ) (now : MachineView) (r : Reply) → MakesDone (machine_parts now) thread n w → r ≡ reply Done w
     → AreAlike w thread now n r
 first_alike w thread n now r made is = record { world = made.world; replies = ap (replicate n) is ∙ sym made.replies; reply = is }

@@ -14,3 +14,5 @@ pub mod Marked
 pub mod ReachedObjects
 pub mod Readers
 pub mod ManySteps
+pub mod CodePlaces
+pub mod UpToPlaces

@@ -11,6 +11,7 @@ ghost use Rattle.jm_state.specs.Runnable.{FrameRuns};
 ghost use Rattle.jm_linked.specs.Links.{name_of_number};
 ghost use Rattle.jm_machine.specs.Readers.{model_value, model_frame, name_of_frame, IsOfProgram};
 
+use crate::code_method::{CodeMethod, code_method};
 use crate::value::{WorldValue, world_local, world_value};
 use jm_frames::Frame;
 use jm_heap::Heap;
@@ -130,11 +131,7 @@ fn method_frame<'a, H: Heap>(
     ensures named { name_of_number linked.now frame.now.method ≡ name_of_frame result }
     ensures found { method_named linked.now.program (name_of_frame result) ≡ Some result.method }
 {
-    let number = frame.method();
-    let entry = &linked.methods()[number];
-    let class = &linked.classes()[entry.class as usize];
-    let members = class.parts().methods.as_slice();
-    let method = &members[entry.member as usize];
+    let CodeMethod { class, method } = code_method(linked, frame.method());
     MethodFrame {
         heap,
         class,

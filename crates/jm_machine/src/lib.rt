@@ -11,6 +11,8 @@
 #![tactic(auto)]
 
 mod class;
+mod code_method;
+mod code_place;
 mod declared_field;
 mod event;
 mod fault;
@@ -29,6 +31,8 @@ mod steps;
 mod thread;
 mod value;
 
+pub use code_method::CodeMethod;
+pub use code_place::CodePlace;
 pub use fault::{Interrupted, LoadFault, OutOfMemory};
 pub use frame::{MethodFrame, WorldFrame};
 pub use jm_schedule::{Schedule, ScheduleFault, read_schedule};
@@ -37,5 +41,5 @@ pub use monitor::WorldMonitor;
 pub use object::{ElementKind, ObjectKind, WorldField, WorldObject};
 pub use objects::{NumberedObject, WorldObjects};
 pub use statics::{WorldStatic, WorldStatics};
-pub use steps::{Steps, StepsEnd};
+pub use steps::{Steps, StepsEnd, StepsUpTo};
 pub use value::WorldValue;

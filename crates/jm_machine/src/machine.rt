@@ -1,19 +1,24 @@
 // The machine.
 
-ghost use Rattle.std.specs.Prelude.{◌≡◌, ℕ, List, MatchResult, OnOk, MatchOption, Some, None, take, length, option_map, IfSome, IfOk, IfErr, ◌≤◌, map};
+ghost use Rattle.std.specs.Prelude.{◌≡◌, ℕ, List, MatchResult, OnOk, MatchOption, Some, None, take, length, option_map, IfSome, IfOk, IfErr, ◌≤◌, ◌<◌, map};
 ghost use Rattle.jm_world.specs.Monitors.{monitor_in};
 ghost use Rattle.jm_world.specs.World.{World, live_among, thread_at};
 ghost use Rattle.jm_world.specs.Run.{after, run_from, replies_from};
 ghost use Rattle.jm_state.specs.Reached.{AreReachable};
 ghost use Rattle.jm_interp.specs.PlainRuns.{MakesDone};
+ghost use Rattle.jm_linked.specs.Links.{name_of_number};
+ghost use Rattle.jm_machine.specs.CodePlaces.{AreFree, name_of_code, top_stands_at};
 ghost use Rattle.jm_machine.specs.Collected.{LeavesAfter};
 ghost use Rattle.jm_machine.specs.Readers.{model_frame, model_monitor, frame_at, pending_of, IsOfProgram, TellsObject};
 ghost use Rattle.jm_machine.specs.ReachedObjects.{TellsReached};
 ghost use Rattle.jm_machine.specs.ManySteps.{AreSteps, EndsBy};
+ghost use Rattle.jm_machine.specs.UpToPlaces.{AreStepsUpTo, EndsUpTo};
 ghost use Rattle.jm_machine.specs.Threads.{class_ended_by, is_live};
 ghost use Rattle.jm_machine.specs.View.{MatchesWorld, machine_parts};
 
 use crate::class::class_name;
+use crate::code_method::{CodeMethod, code_method};
+use crate::code_place::{CodePlace, free_steps};
 use crate::event::{ending_of, make_event, make_plain, reply_of};
 use crate::fault::{Interrupted, LoadFault, OutOfMemory};
 use crate::frame::{WorldFrame, world_frame};
@@ -23,7 +28,7 @@ use crate::object::WorldObject;
 use crate::objects::WorldObjects;
 use crate::reached::reached_places;
 use crate::statics::WorldStatics;
-use crate::steps::{Steps, StepsEnd};
+use crate::steps::{Steps, StepsEnd, StepsUpTo};
 use crate::thread::{frame_of, pending_of};
 use jm_heap::Heap;
 use jm_linked::Linked;
@@ -92,6 +97,7 @@ impl<H: Heap> Machine<H> {
     pub fn step_at(&mut self, nursery: usize, event: Event) -> Result<Reply, OutOfMemory>
         ensures next { (w : World) → MatchesWorld self.old w → MatchResult result (λ reply. MatchesWorld self.new (after w event).world × (reply ≡ (after w event).reply)) (λ _. MatchesWorld self.new w) }
         ensures leaves { (w : World) → MatchesWorld self.old w → OnOk result (LeavesAfter event self.new.content w) }
+        ensures linked { self.new.linked ≡ self.old.linked }
     {
         let alloc = self.alloc;
         let kind = make_event(alloc, &self.linked, &mut self.state, nursery, event)?;
@@ -102,6 +108,7 @@ impl<H: Heap> Machine<H> {
     pub fn step(&mut self, event: Event) -> Result<Reply, OutOfMemory>
         ensures next { (w : World) → MatchesWorld self.old w → MatchResult result (λ reply. MatchesWorld self.new (after w event).world × (reply ≡ (after w event).reply)) (λ _. MatchesWorld self.new w) }
         ensures leaves { (w : World) → MatchesWorld self.old w → OnOk result (LeavesAfter event self.new.content w) }
+        ensures linked { self.new.linked ≡ self.old.linked }
     {
         self.step_at(0, event)
     }
@@ -141,12 +148,60 @@ impl<H: Heap> Machine<H> {
         }
     }
 
+    /// Makes steps of one thread as [`Machine::step_many`] does, but none that would begin where the
+    /// thread's top frame stands at one of some places: there they end, also before the first one.
+    /// In a method without such a place nothing is compared while instructions go on in it.
+    pub fn step_up_to(
+        &mut self,
+        nursery: usize,
+        thread: u64,
+        most: usize,
+        places: &[CodePlace],
+    ) -> StepsUpTo
+        ensures steps { (w : World) → MatchesWorld self.old w → AreStepsUpTo self.old.linked places.now w thread self.new result }
+        ensures ends { EndsUpTo most result }
+        ensures linked { self.new.linked ≡ self.old.linked }
+    {
+        let reply = reply_of(&self.state, ReplyKind::Done);
+        let mut made = 0;
+        while made < most {
+            let free = self.free_steps(thread, most - made, places);
+            if free == 0 {
+                return StepsUpTo::AtPlace(made);
+            }
+            let run = self.run_plain(thread, free);
+            made += run;
+            if run < free {
+                let Ok(answer) = self.step_at(nursery, Event::Step(thread)) else {
+                    return StepsUpTo::ended(made, reply, StepsEnd::OutOfMemory);
+                };
+                if answer != reply {
+                    return StepsUpTo::ended(made, reply, StepsEnd::Other(answer));
+                }
+                made += 1;
+            }
+        }
+        StepsUpTo::ended(made, reply, StepsEnd::AllMade)
+    }
+
+    // How many steps of a thread may be made, at most so many, before its top frame is to be compared
+    // with some places again.
+    #[inline]
+    fn free_steps(&self, thread: u64, most: usize, places: &[CodePlace]) -> usize
+        requires { 0 < most }
+        ensures free { (w : World) → MatchesWorld self.now w → AreFree self.now.linked places.now result (top_stands_at w thread) }
+        ensures most { result ≤ most }
+    {
+        free_steps(&self.state.threads, thread, most, places)
+    }
+
     // Makes steps of one thread, one after the other, while they are instructions that touch one
     // frame alone and go on, at most so many, and answers how many.
     #[inline]
     fn run_plain(&mut self, thread: u64, most: usize) -> usize
         ensures steps { (w : World) → MatchesWorld self.old w → MakesDone (machine_parts self.new) thread result w }
         ensures most { result ≤ most }
+        ensures linked { self.new.linked ≡ self.old.linked }
     {
         make_plain(&self.linked, &mut self.state, thread, most)
     }
@@ -174,6 +229,21 @@ impl<H: Heap> Machine<H> {
         ensures { (w : World) → MatchesWorld self.now w → result.now ≡ w.program }
     {
         self.linked.classes()
+    }
+
+    /// How many methods with code the program has. They are numbered from 0.
+    pub fn methods(&self) -> usize
+        ensures { result ≡ length self.now.linked.methods }
+    {
+        self.linked.methods().len()
+    }
+
+    /// The method with code of a number.
+    pub fn method(&self, number: usize) -> CodeMethod<'_>
+        requires { number < length self.now.linked.methods }
+        ensures { name_of_number self.now.linked number ≡ name_of_code result }
+    {
+        code_method(&self.linked, number)
     }
 
     /// The heap.

@@ -1,5 +1,7 @@
 // What comes of several steps of one thread.
 
+ghost use Rattle.std.specs.Prelude.{◌≡◌};
+
 use jm_world::Reply;
 
 /// Why steps of a thread ended.
@@ -21,4 +23,23 @@ pub struct Steps {
     /// What each of these answered.
     pub reply: Reply,
     pub end: StepsEnd,
+}
+
+/// What comes of steps of one thread up to a place.
+#[derive(Clone, Copy)]
+pub enum StepsUpTo {
+    /// No place ended them.
+    Ended(Steps),
+    /// So many were done, and neither made nor ended a thread; the thread's top frame stands at one of
+    /// the places.
+    AtPlace(usize),
+}
+
+impl StepsUpTo {
+    // No place ended them.
+    pub(crate) fn ended(alike: usize, reply: Reply, end: StepsEnd) -> StepsUpTo
+        ensures { result ≡ StepsUpTo.Ended (record { alike = alike; reply = reply; end = end }) }
+    {
+        StepsUpTo::Ended(Steps { alike, reply, end })
+    }
 }
