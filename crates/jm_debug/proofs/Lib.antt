@@ -14,6 +14,7 @@ pub mod Repeats
 pub mod Stepped
 pub mod Continues
 pub mod LongTurns
+pub mod BreakMarks
 pub mod HeapShown
 pub mod Obeying
 pub mod Sessions

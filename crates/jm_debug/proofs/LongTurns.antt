@@ -1,4 +1,4 @@
--- A turn of a continue that makes several events: those of the only thread that is live, where no break is set.
+-- A turn of a continue that makes several events: those of the only thread that is live, of which none but the first follows on a break.
 use Rattle.std.proofs.Common.{◌≡◌, ◌≢◌, ℕ, zero, suc, ◌+◌, ◌-◌, ◌≤◌, ◌<◌, List, [], ◌∷◌, ◌++◌, Option, Some, None, Bool, true, false, Ok, length, replicate, nat_eq, refl, sym, ap, subst, ◌∙◌, arith, inl, inr, ◌⊎◌}
 use Rattle.std.specs.Prelude.{slice_get, if◌then◌else◌}
 use Rattle.std.proofs.lemmas.Bool.{cases_lt}
@@ -20,8 +20,7 @@ use Rattle.jm_machine.specs.declared.steps.StepsEnd.{StepsEnd}
 use Rattle.jm_machine.specs.declared.steps.StepsEnd.TheVariants.{AllMade, Other, OutOfMemory}
 use Rattle.jm_debug.specs.Answering.{DebuggerView, IsAlone, Moves, MovesBy}
 use Rattle.jm_debug.specs.Kept.{ended_in}
-use Rattle.jm_debug.specs.Session.{Session, break_at, break_before, continue_from, live_in_turn, place_of_thread, turn_of, turned}
-use Rattle.jm_debug.specs.declared.place.Place.{Place}
+use Rattle.jm_debug.specs.Session.{Session, break_before, continue_from, live_in_turn, turn_of, turned}
 use Rattle.jm_debug.specs.declared.turn.Moved.{Moved}
 use Rattle.jm_debug.specs.declared.turn.Moved.TheVariants.{On}
 use Rattle.jm_debug.specs.declared.turn.Turn.{Turn}
@@ -103,14 +102,6 @@ turn_is s n one live =
 
 -- ---- the turn
 
-no_break_at : (o : Option Place) → break_at [] o ≡ None
-no_break_at None = refl
-no_break_at (Some p) = refl
-
-no_break : (s : Session) (first : Bool) (n : ℕ) → s.breaks ≡ [] → break_before s first n ≡ None
-no_break s true n none = refl
-no_break s false n none = rw none (no_break_at (place_of_thread (thread_at s.world n)))
-
 -- a session after so many turns of a thread
 abbrev pub turns : ℕ → ℕ → Session → Session
 turns zero n s = s
@@ -128,6 +119,10 @@ turns_cursor (suc (suc k)) n s some = turns_cursor (suc k) n (turned n s) (omega
 pub turns_breaks : (k n : ℕ) (s : Session) → (turns k n s).breaks ≡ s.breaks
 turns_breaks zero n s = refl
 turns_breaks (suc k) n s = turns_breaks k n (turned n s)
+
+-- before none of the first so many of a thread's turns it stands at a break
+abbrev pub Passes : Session → ℕ → ℕ → Type 0
+Passes s n count = (k : ℕ) → k < count → break_before (turns k n s) false n ≡ None
 
 reply_is : (r : Reply) (w : World) → r.kind ≡ kind.Done → r.made ≡ length w.threads → r.live ≡ live_among w.threads → r ≡ reply kind.Done w
 reply_is r w done made live = λ i. record { kind = done i; made = made i; live = live i }
@@ -147,61 +142,53 @@ one_done s n alone is =
     let same : ended_in v ≡ ended_in w = λ i. made i - living i in
     let was = done_is_live w n (ap (λ (r : Reply). r.kind) is) in
     let live = still_live w v n (is_live v n) refl (stepped w n was).ends same in
-    record { none = alone.none; one = living ∙ alone.one; turn = turn_is (turned n s) n (living ∙ alone.one) live }
+    record { one = living ∙ alone.one; turn = turn_is (turned n s) n (living ∙ alone.one) live }
 
-one_turn : (s : Session) (first : Bool) (n left : ℕ) → IsAlone s n → (after s.world (event.Step n)).reply.kind ≡ kind.Done
-    → continue_from (suc left) first 0 s ≡ continue_from left false 0 (turned n s)
-one_turn s first n left alone is = an_event s first 0 n left alone.turn (no_break s first n alone.none) (rw is refl) ∙ rw is refl
-
--- whether no event was made yet, behind some
-abbrev pub first_behind : ℕ → Bool → Bool
-first_behind zero first = first
-first_behind (suc k) first = false
+one_turn : (s : Session) (n left : ℕ) → IsAlone s n → break_before s false n ≡ None → (after s.world (event.Step n)).reply.kind ≡ kind.Done
+    → continue_from (suc left) false 0 s ≡ continue_from left false 0 (turned n s)
+one_turn s n left alone none is = an_event s false 0 n left alone.turn none (rw is refl) ∙ rw is refl
 
 -- events that answer alike, and the replies behind them
-pub record LedBy (k n : ℕ) (s : Session) (first : Bool) (rest : List Reply) (more : List Event) : Type 0 where
+pub record LedBy (k n : ℕ) (s : Session) (rest : List Reply) (more : List Event) : Type 0 where
   pub alone : IsAlone (turns k n s) n
-  pub led : (left : ℕ) → continue_from (k + left) first 0 s ≡ continue_from left (first_behind k first) 0 (turns k n s)
+  pub led : (left : ℕ) → continue_from (k + left) false 0 s ≡ continue_from left false 0 (turns k n s)
   pub replies : rest ≡ replies_from (turns k n s).world more
 
-later_still : (k : ℕ) → first_behind k false ≡ false
-later_still zero = refl
-later_still (suc k) = refl
-
-pub led_by : (k n : ℕ) (s : Session) (first : Bool) (r : Reply) (rest : List Reply) (more : List Event) → IsAlone s n → r ≡ reply kind.Done s.world
-    → replicate k r ++ rest ≡ replies_from s.world (replicate k (event.Step n) ++ more) → LedBy k n s first rest more
-led_by zero n s first r rest more alone is h =
-    record { alone = alone; led = λ left. let same : 0 + left ≡ left = omega arith in ap (λ m. continue_from m first 0 s) same; replies = h }
-led_by (suc k) n s first r rest more alone is h =
+pub led_by : (k n : ℕ) (s : Session) (r : Reply) (rest : List Reply) (more : List Event) → IsAlone s n → Passes s n k → r ≡ reply kind.Done s.world
+    → replicate k r ++ rest ≡ replies_from s.world (replicate k (event.Step n) ++ more) → LedBy k n s rest more
+led_by zero n s r rest more alone passes is h =
+    record { alone = alone; led = λ left. let same : 0 + left ≡ left = omega arith in ap (λ m. continue_from m false 0 s) same; replies = h }
+led_by (suc k) n s r rest more alone passes is h =
     let v = (after s.world (event.Step n)).world in
     let here : r ≡ (after s.world (event.Step n)).reply = cc in
     let there : replicate k r ++ rest ≡ replies_from v (replicate k (event.Step n) ++ more) = cc in
     let tells = told s.world (event.Step n) in
     let again = reply_is r v (ap (λ (x : Reply). x.kind) is) (ap (λ (x : Reply). x.made) here ∙ tells.made) (ap (λ (x : Reply). x.live) here ∙ tells.live) in
     let done = sym here ∙ is in
-    let next = led_by k n (turned n s) false r rest more (one_done s n alone done) again there in
+    let next = led_by k n (turned n s) r rest more (one_done s n alone done) (λ i below. passes (suc i) (omega arith)) again there in
     record {
       alone = next.alone;
       led = λ left.
           let number : suc k + left ≡ suc (k + left) = omega arith in
-          ap (λ m. continue_from m first 0 s) number ∙ one_turn s first n (k + left) alone (ap (λ (x : Reply). x.kind) done) ∙ next.led left
-          ∙ ap (λ b. continue_from left b 0 (turns k n (turned n s))) (later_still k);
+          ap (λ m. continue_from m false 0 s) number
+          ∙ one_turn s n (k + left) alone (passes 0 (omega arith)) (ap (λ (x : Reply). x.kind) done) ∙ next.led left;
       replies = next.replies;
     }
 
-module _ (s : Session) (n : ℕ) (first : Bool) (alone : IsAlone s n) (alike : ℕ) (r : Reply) (new : MachineView) where
+module _ (s : Session) (n : ℕ) (alone : IsAlone s n) (alike : ℕ) (r : Reply) (new : MachineView) where
   -- steps that came to an end
-  ended_by : (end : StepsEnd) → AreSteps s.world n new (record { alike = alike; reply = r; end = end })
-      → LedBy alike n s first (other_replies end) (steps_of n (length (other_replies end)))
-  ended_by end are =
-      led_by alike n s first r (other_replies end) (steps_of n (length (other_replies end))) alone are.reply
+  ended_by : (end : StepsEnd) → Passes s n alike → AreSteps s.world n new (record { alike = alike; reply = r; end = end })
+      → LedBy alike n s (other_replies end) (steps_of n (length (other_replies end)))
+  ended_by end passes are =
+      led_by alike n s r (other_replies end) (steps_of n (length (other_replies end))) alone passes are.reply
       (are.replies ∙ ap (replies_from s.world) (sym (replicate-append-replicate alike (length (other_replies end)) (event.Step n))))
 
   -- all of them done: they lead on
-  pub all_on : (most : ℕ) (d : DebuggerView) (end : StepsEnd) → other_replies end ≡ [] → 0 < alike → AreSteps s.world n new (record { alike = alike; reply = r; end = end })
-      → d.machine ≡ new → d.breaks ≡ s.breaks → d.cursor ≡ n + 1 → Moves most s first 0 d (Ok (On alike 0))
-  all_on most d end none some are machine breaks cursor =
-      let led = ended_by end are in
+  pub all_on : (most : ℕ) (d : DebuggerView) (end : StepsEnd) → other_replies end ≡ [] → 0 < alike → Passes s n alike
+      → AreSteps s.world n new (record { alike = alike; reply = r; end = end })
+      → d.machine ≡ new → d.breaks ≡ s.breaks → d.cursor ≡ n + 1 → Moves most s false 0 d (Ok (On alike 0))
+  all_on most d end none some passes are machine breaks cursor =
+      let led = ended_by end passes are in
       let number : alike + length (other_replies end) ≡ alike = ap (λ (rs : List Reply). alike + length rs) none ∙ omega arith in
       let world : (turns alike n s).world ≡ run_from s.world (steps_of n (alike + length (other_replies end))) =
       turns_run alike n s ∙ ap (λ m. run_from s.world (steps_of n m)) (sym number) in (
@@ -211,26 +198,19 @@ module _ (s : Session) (n : ℕ) (first : Bool) (alone : IsAlone s n) (alike : �
           breaks = breaks ∙ sym (turns_breaks alike n s);
           cursor = cursor ∙ sym (turns_cursor alike n s some);
         },
-        λ left. led.led left ∙ ap (λ b. continue_from left b 0 (turns alike n s)) (behind some),
+        led.led,
       )
-    where
-      behind : 0 < alike → first_behind alike first ≡ false
-      behind = by alike
-        where
-          by : (k : ℕ) → 0 < k → first_behind k first ≡ false
-          by zero some = absurd (omega arith)
-          by (suc k) some = refl
 
   -- behind them the one that answered otherwise
-  pub other_last : (most : ℕ) (d : DebuggerView) (other : Reply) (moved : Moved) → alike < most
+  pub other_last : (most : ℕ) (d : DebuggerView) (other : Reply) (moved : Moved) → alike < most → Passes s n (alike + 1)
       → AreSteps s.world n new (record { alike = alike; reply = r; end = Other other })
-      → d.machine ≡ new → d.breaks ≡ s.breaks → d.cursor ≡ n + 1 → MovesBy (alike + 1) other.kind 0 moved → Moves most s first 0 d (Ok moved)
-  other_last most d other moved few are machine breaks cursor by =
-      let led = ended_by (Other other) are in
+      → d.machine ≡ new → d.breaks ≡ s.breaks → d.cursor ≡ n + 1 → MovesBy (alike + 1) other.kind 0 moved → Moves most s false 0 d (Ok moved)
+  other_last most d other moved few passes are machine breaks cursor by =
+      let led = ended_by (Other other) (λ k below. passes k (omega arith)) are in
       let t = turns alike n s in
       let number : suc alike ≡ alike + 1 = omega arith in
       let is : other ≡ (after t.world (event.Step n)).reply = let rest = led.replies in cc in
-      last_event most alike d s first 0 t (first_behind alike first) 0 n other.kind moved few led.led led.alone.turn (no_break t (first_behind alike first) n led.alone.none)
+      last_event most alike d s false 0 t false 0 n other.kind moved few led.led led.alone.turn (passes alike (omega arith))
       (ap (λ (x : Reply). x.kind) is)
       (record {
         world = subst (λ m. MatchesWorld m (turned n t).world) (sym machine) (subst (MatchesWorld new) (sym (one_behind alike s ∙ ap (λ m. run_from s.world (steps_of n m)) number)) are.world);

@@ -1,14 +1,19 @@
 -- What contracts see of a debugger, the sessions that it is at, and what a line comes to.
-use Rattle.std.specs.Prelude.{◌≡◌, ◌+◌, ◌-◌, ◌≤◌, ◌<◌, ℕ, zero, suc, List, [], Bool, true, false, Option, Some, None, Result, Ok, Err, codes}
+use Rattle.std.specs.Prelude.{◌≡◌, ◌+◌, ◌-◌, ◌≤◌, ◌<◌, ℕ, zero, suc, List, Bool, true, false, ◌&&◌, ◌||◌, Option, Some, None, Result, Ok, Err, codes, length, nat_eq}
+use Rattle.jm_world.specs.Classes.{MethodName}
 use Rattle.jm_world.specs.World.{World, live_among}
 use Rattle.jm_world.specs.Run.{after}
 use Rattle.jm_world.specs.declared.event.Event.{Event}
 use Rattle.jm_world.specs.declared.event.Event.TheVariants as event
 use Rattle.jm_world.specs.declared.reply.ReplyKind.{ReplyKind}
 use Rattle.jm_world.specs.RoundRobin.{is_stopped}
+use Rattle.jm_linked.specs.Links.{LinkedView, name_of_number}
+use Rattle.jm_machine.specs.CodePlaces.{is_place}
 use Rattle.jm_machine.specs.View.{MachineView, MatchesWorld}
+use Rattle.jm_machine.specs.declared.code_place.CodePlace.{CodePlace}
 use Rattle.jm_debug.specs.Commands.{command}
-use Rattle.jm_debug.specs.Session.{Session, Shown, blocked_after, continue_from, obeyed, shown, turn_of}
+use Rattle.jm_debug.specs.Session.{Session, Shown, blocked_after, continue_from, holds_break, obeyed, shown, turn_of}
+use Rattle.jm_debug.specs.Texts.{place_in}
 use Rattle.jm_debug.specs.declared.place.Place.{Place}
 use Rattle.jm_debug.specs.declared.command.Command.{Command}
 use Rattle.jm_debug.specs.declared.command.Command.TheVariants.{Break, Clear, Step, Minor, Full, Continue, Where, Locals, Stack, Statics, Object, Heap, Monitors}
@@ -123,8 +128,26 @@ Moves most s first blocked d (Ok (On made count)) =
     (t : Session) × IsSession d t × ((left : ℕ) → continue_from (made + left) first blocked s ≡ continue_from left false count t)
 Moves most s first blocked d (Err fault) = (fault ≡ OutOfMemory) × IsSession d s
 
--- a session in which no break is set and one thread is live, whose turn it is
+-- a session in which one thread is live, whose turn it is
 pub record IsAlone (s : Session) (n : ℕ) : Type 0 where
-  pub none : s.breaks ≡ []
   pub one : live_among s.world.threads ≡ 1
   pub turn : turn_of s 0 ≡ Of n
+
+-- ---- breaks by the numbers of a program's code
+
+-- some places are others, and beside them the breaks in a method, by its number
+abbrev pub AddsMarks : List CodePlace → List CodePlace → ℕ → MethodName → List Place → Type 0
+AddsMarks new old number m breaks = (n at : ℕ) → is_place new n at ≡ (is_place old n at || (nat_eq n number && holds_break breaks (place_in m at)))
+
+-- they are all breaks
+abbrev pub AreMarks : LinkedView → List Place → List CodePlace → Type 0
+AreMarks l breaks marks = (n at : ℕ) → n < length l.methods → is_place marks n at ≡ holds_break breaks (place_in (name_of_number l n) at)
+
+-- those of a debugger
+abbrev pub IsMarked : DebuggerView → List CodePlace → Type 0
+IsMarked d marks = AreMarks d.machine.linked d.breaks marks
+
+-- and of each that has the same code and the same breaks
+pub record StaysMarked (old new : DebuggerView) : Type 0 where
+  pub linked : new.machine.linked ≡ old.machine.linked
+  pub breaks : new.breaks ≡ old.breaks

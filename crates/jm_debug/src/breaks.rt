@@ -18,7 +18,7 @@ use std::fmt::Write;
 
 // Whether a place is another. The instruction's number tells most of them apart.
 #[tactic(auto, using(crate::proofs::SamePlaces::same_descriptor))]
-fn is_same(place: PlaceText<'_>, other: &Place) -> bool
+pub(crate) fn is_same(place: PlaceText<'_>, other: &Place) -> bool
     ensures { result ≡ same_place (model_place place.entry) other.now }
 {
     place.instruction == other.instruction

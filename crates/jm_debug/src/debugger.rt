@@ -1,13 +1,13 @@
 // The debugger.
 
-ghost use Rattle.std.specs.Prelude.{◌≡◌, ◌<◌, ◌-◌, ◌^◌, Bool, [], true, MatchResult, option_map};
+ghost use Rattle.std.specs.Prelude.{◌≡◌, ◌<◌, ◌-◌, ◌^◌, ℕ, false, true, MatchResult, option_map};
 ghost use Rattle.jm_program.specs.Texts.{utf16_of};
 ghost use Rattle.jm_world.specs.Run.{after};
-ghost use Rattle.jm_world.specs.World.{World, live_among};
+ghost use Rattle.jm_world.specs.World.{World};
 ghost use Rattle.jm_world.specs.declared.event.Event.TheVariants.{Step};
 ghost use Rattle.jm_machine.specs.View.{MatchesWorld};
 ghost use Rattle.jm_debug.specs.Session.{Session, session_of, continue_from, ended, more, replies, with_break, without_break, with_breaks, break_before, break_text, turn_of, turned};
-ghost use Rattle.jm_debug.specs.Answering.{IsSession, Answers, Comes, ContinuesWithin, IsAlone, IsFew, Moves, Obeys, RepeatsWithin};
+ghost use Rattle.jm_debug.specs.Answering.{IsSession, Answers, Comes, ContinuesWithin, IsAlone, IsFew, IsMarked, Moves, Obeys, RepeatsWithin, StaysMarked};
 
 use crate::breaks::{break_line, put_break, take_break};
 use crate::command::Command;
@@ -16,6 +16,7 @@ use crate::fault::DebugFault;
 use crate::frame::{locals, stack};
 use crate::held_monitors::monitors;
 use crate::instruction::is_place;
+use crate::marks::marks_of;
 use crate::place::Place;
 use crate::reached_object::object;
 use crate::reached_objects::heap;
@@ -23,7 +24,7 @@ use crate::static_fields::statics;
 use crate::thread::frames;
 use crate::turn::{Moved, Turn, last_line, moved_by, turn_of};
 use jm_heap::Heap;
-use jm_machine::{Machine, StepsEnd};
+use jm_machine::{CodePlace, Machine, StepsEnd, StepsUpTo};
 use jm_world::{Event, ReplyKind};
 use std::alloc::Global;
 use std::marker::Model;
@@ -137,23 +138,59 @@ impl<H: Heap> Debugger<H> {
 
     // Makes the event of the thread whose turn it is.
     fn make_turn(&mut self, thread: u64) -> Result<ReplyKind, DebugFault>
-        ensures { (s : Session) → IsSession self.old s → MatchResult result
+        ensures made { (s : Session) → IsSession self.old s → MatchResult result
             (λ kind. (kind ≡ (after s.world (Step thread)).reply.kind) × IsSession self.new (turned thread s))
             (λ fault. (fault ≡ DebugFault.OutOfMemory) × IsSession self.new s) }
+        ensures marked { StaysMarked self.old self.new }
     {
         let reply = self.machine.step(Event::Step(thread))?;
         self.last = thread;
         Ok(reply.kind)
     }
 
-    // Makes events of the only live thread, where no break is set, up to one that is not done, or that
-    // makes or ends a thread. Want of memory is told where it comes before the first of them.
-    fn make_turns(&mut self, thread: u64, most: usize) -> Result<Moved, DebugFault>
-        requires { 0 < most }
-        ensures moves { (s : Session) (first : Bool) → IsSession self.old s → IsAlone s thread → Moves most s first 0 self.new result }
-        ensures few { IsFew most 0 result }
+    // Stops at a break, or makes the event of the thread whose turn it is.
+    fn make_one(&mut self, first: bool, thread: u64, blocked: usize) -> Result<Moved, DebugFault>
+        requires some { 0 < thread }
+        requires few { blocked < 2 ^ 32 }
+        ensures moves { (s : Session) (most : ℕ) → IsSession self.old s → 0 < most → turn_of s blocked ≡ Turn.Of thread → Moves most s first blocked self.new result }
+        ensures few { IsFew 1 blocked result }
+        ensures marked { StaysMarked self.old self.new }
     {
-        let steps = self.machine.step_many(0, thread, most);
+        match self.line_before(first, thread)? {
+            Some(line) => {
+                self.last = thread - 1;
+                Ok(Moved::AtBreak(line))
+            }
+            None => {
+                let kind = self.make_turn(thread)?;
+                Ok(moved_by(1, kind, blocked))
+            }
+        }
+    }
+
+    // Makes events of the only live thread, up to a break, or to one that is not done, or that makes or
+    // ends a thread. Want of memory is told where it comes before the first of them.
+    fn make_turns(
+        &mut self,
+        thread: u64,
+        most: usize,
+        marks: &[CodePlace],
+    ) -> Result<Moved, DebugFault>
+        requires some { 0 < thread }
+        requires left { 0 < most }
+        requires marked { IsMarked self.old marks.now }
+        ensures moves { (s : Session) → IsSession self.old s → IsAlone s thread → Moves most s false 0 self.new result }
+        ensures few { IsFew most 0 result }
+        ensures marked { StaysMarked self.old self.new }
+    {
+        let steps = match self.machine.step_up_to(0, thread, most, marks) {
+            StepsUpTo::AtPlace(0) => return self.make_one(false, thread, 0),
+            StepsUpTo::AtPlace(made) => {
+                self.last = thread;
+                return Ok(Moved::On(made, 0));
+            }
+            StepsUpTo::Ended(steps) => steps,
+        };
         match steps.end {
             StepsEnd::Other(reply) => {
                 self.last = thread;
@@ -167,55 +204,49 @@ impl<H: Heap> Debugger<H> {
         }
     }
 
-    // Whether nothing can come between the events of the thread whose turn it is: no break is set, and no
-    // other thread is live.
-    fn is_alone(&self) -> bool
-        ensures { (s : Session) → IsSession self.now s → result ≡ true → (s.breaks ≡ []) × (live_among s.world.threads ≡ 1) }
-    {
-        self.breaks.is_empty() && self.machine.live() == 1
-    }
-
-    // Stops at a break, or makes the event of the thread whose turn it is, or several where nothing can
-    // come between them.
+    // Stops at a break, or makes the event of the thread whose turn it is, or several where no other
+    // thread is live. Before the first event no break counts.
     fn take_turn(
         &mut self,
         most: usize,
         first: bool,
         thread: u64,
         blocked: usize,
+        marks: &[CodePlace],
     ) -> Result<Moved, DebugFault>
         requires some { 0 < thread }
         requires left { 0 < most }
         requires few { blocked < 2 ^ 32 }
+        requires marked { IsMarked self.old marks.now }
         ensures moves { (s : Session) → IsSession self.old s → turn_of s blocked ≡ Turn.Of thread → Moves most s first blocked self.new result }
         ensures few { IsFew most blocked result }
+        ensures marked { StaysMarked self.old self.new }
     {
-        if blocked == 0 && self.is_alone() {
-            return self.make_turns(thread, most);
+        if !first && blocked == 0 && self.machine.live() == 1 {
+            return self.make_turns(thread, most, marks);
         }
-        match self.line_before(first, thread)? {
-            Some(line) => {
-                self.last = thread - 1;
-                Ok(Moved::AtBreak(line))
-            }
-            None => {
-                let kind = self.make_turn(thread)?;
-                Ok(moved_by(1, kind, blocked))
-            }
-        }
+        self.make_one(first, thread, blocked)
     }
 
     // The next turn of a `continue` that has so many events left.
-    fn turn(&mut self, most: usize, first: bool, blocked: usize) -> Result<Moved, DebugFault>
+    fn turn(
+        &mut self,
+        most: usize,
+        first: bool,
+        blocked: usize,
+        marks: &[CodePlace],
+    ) -> Result<Moved, DebugFault>
         requires left { 0 < most }
         requires few { blocked < 2 ^ 32 }
+        requires marked { IsMarked self.old marks.now }
         ensures moves { (s : Session) → IsSession self.old s → Moves most s first blocked self.new result }
         ensures few { IsFew most blocked result }
+        ensures marked { StaysMarked self.old self.new }
     {
         match turn_of(&self.machine, self.last, blocked) {
             Turn::Ended => Ok(Moved::Over("ended\n")),
             Turn::Blocked => Ok(Moved::Over("blocked\n")),
-            Turn::Of(thread) => self.take_turn(most, first, thread, blocked),
+            Turn::Of(thread) => self.take_turn(most, first, thread, blocked, marks),
         }
     }
 
@@ -223,11 +254,12 @@ impl<H: Heap> Debugger<H> {
     fn go_on(&mut self, most: u32) -> Result<String, DebugFault>
         ensures { (s : Session) → IsSession self.old s → Comes (λ t. t.bytes.items) self.new s (continue_from most true 0 s) (ContinuesWithin most s) result }
     {
+        let marks = marks_of(self.alloc, &self.machine, self.breaks.as_slice())?;
         let all = most as usize;
         let mut made = 0;
         let mut blocked = 0;
         while made < all {
-            match self.turn(all - made, made == 0, blocked)? {
+            match self.turn(all - made, made == 0, blocked, marks.as_slice())? {
                 Moved::Over(line) => return Ok(String::from_str(self.alloc, line)?),
                 Moved::AtBreak(line) => return Ok(line),
                 Moved::On(some, count) => {

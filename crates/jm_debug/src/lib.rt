@@ -9,7 +9,8 @@
 //! after session. [`Command::parse`] reads the line; [`frames`], [`locals`], [`stack`], [`statics`],
 //! [`object`], [`heap`] and [`monitors`] show parts of the world, in the bytes of the answer.
 //!
-//! The crate stands on the readers of `jm_machine`, and its proofs on lemmas of `jm_schedule` too.
+//! The crate stands on `jm_machine`, its contracts on the names of methods by number in `jm_linked`, and
+//! its proofs on lemmas of `jm_schedule` too.
 #![tactic(auto)]
 
 mod answer;
@@ -21,6 +22,7 @@ mod fault;
 mod frame;
 mod held_monitors;
 mod instruction;
+mod marks;
 mod place;
 mod reached_object;
 mod reached_objects;

@@ -1,16 +1,20 @@
 -- Each turn goes on from the session that the turns before have led to.
-use Rattle.std.proofs.Common.{◌≡◌, ◌-◌, ◌∙◌, Ok, nat_eq, sym, ap, subst, arith}
+use Rattle.std.proofs.Common.{◌≡◌, ◌-◌, ◌∙◌, Ok, true, nat_eq, sym, ap, subst, arith}
 use Rattle.jm_debug.specs.Answering.{DebuggerView, IsFew, IsSession, Moves}
-use Rattle.jm_debug.proofs.Continues.{refused_at, over_at, goes_on, lost_at, all_made, left_at}
+use Rattle.jm_debug.proofs.BreakMarks.{stays_marked}
+use Rattle.jm_debug.proofs.Continues.{refused_at, over_at, goes_on, lost_at, all_made, left_at, stays}
 use Rattle.jm_debug.proofs.Obeying.{want_of_memory, want_again}
 use Rattle.jm_debug.proofs.debugger.Debugger.go_on.Goals as goal
+
+pub returns-in_err-marks : goal.returns-in_err-marks
+returns-in_err-marks g c = λ s at. want_of_memory _ _ s s _ _ _ c.from_residual.ensures.1 (0, omega arith, sym (stays s true 0)) at
 
 pub returns-in_err-line : goal.returns-in_err-line
 returns-in_err-line g c = λ s at.
     let on = c.loop-made.invariant.on s at in
     let moved = c.in_err-line.ensures.moves on.session on.is in
     let left = refused_at s c.loop-made.made c.loop-made.blocked c.args.most _ c.turn.new.self (omega arith) on moved.1 in
-    want_again _ _ s left.0 _ _ _ _ c.from_residual.ensures.1 moved.0 left.1 left.2
+    want_again _ _ s left.0 _ _ _ _ c.from_residual-in_err-line.ensures.1 moved.0 left.1 left.2
 
 pub returns-in_err-from_str-in-Over : goal.returns-in_err-from_str-in-Over
 returns-in_err-from_str-in-Over g c = λ s at.
@@ -59,6 +63,7 @@ loop-made-preserved g c =
     record {
       within = omega (arith, high);
       few = omega (arith, low, row);
+      marked = stays_marked c.in_ok-marks.marks.items c.turn.ensures.marked c.loop-made.invariant.marked;
       on = λ s at.
           let on = c.loop-made.invariant.on s at in
           let next = subst (λ m. Moves left on.session (nat_eq c.loop-made.made 0) c.loop-made.blocked c.turn.new.self (Ok m))
