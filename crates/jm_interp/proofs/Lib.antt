@@ -15,6 +15,7 @@ pub mod PlainRow
 pub mod PlainRuns
 pub mod LiteralRow
 pub mod PushRow
+pub mod Pushed
 pub mod Replaced
 pub mod Stored
 pub mod StoredOnTop
@@ -55,6 +56,8 @@ pub mod Tops
 pub mod Runs
 pub mod RowsAlone
 pub mod PlainWorlds
+pub mod MethodRuns
+pub mod GoingOn
 pub mod PlainThreads
 pub mod NewRow
 pub mod DeclaredMethods

@@ -17,6 +17,7 @@ pub mod Storing
 pub mod ArrayRows
 pub mod Readiness
 pub mod FieldRows
+pub mod StaticRows
 pub mod Creating
 pub mod ConstantValues
 pub mod Invoking
@@ -25,3 +26,4 @@ pub mod Locking
 pub mod Starting
 pub mod Entering
 pub mod PlainRuns
+pub mod MethodRuns

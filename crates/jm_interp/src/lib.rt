@@ -21,7 +21,8 @@
 //! `constant_values`, over the calls on
 //! one thread in `top_frame`, `top_object`, `frames` and `print_operands`. A plain instruction looks up
 //! its thread, its top frame and its code, and takes no memory; [`run_plain`] looks these up once for
-//! as many as stand in a row (`plain_runs`). The crate stands on `jm_state`,
+//! as many as stand in a row (`plain_runs`), and makes those between them that touch one object or one
+//! static field too (`object_rows`). The crate stands on `jm_state`,
 //! `jm_linked`, `jm_tables`, `jm_calls`, `jm_ops`, `jm_text` and `jm_heap`'s trait.
 #![tactic(auto)]
 
@@ -47,6 +48,7 @@ mod invocation;
 mod monitors;
 mod narrowing;
 mod object_kind;
+mod object_rows;
 mod plain;
 mod plain_runs;
 mod print_operands;

@@ -71,9 +71,14 @@ pub(crate) fn is_instance(linked: &Linked, id: ClassId, to: LinkedType) -> Optio
     Some(linked.is_assignable(from, to))
 }
 
-// What checkcast leaves of the reference on top: the reference itself. OutOfMemory: no class has its
-// object's number.
-fn cast_on_top<H: Heap>(at: At<'_>, state: &State<H>, to: LinkedType) -> Result<Value, Refusal>
+/// What checkcast leaves of the reference on top: the reference itself. OutOfMemory: no class has its
+/// object's number.
+#[inline(always)]
+pub(crate) fn cast_on_top<H: Heap>(
+    at: At<'_>,
+    state: &State<H>,
+    to: LinkedType,
+) -> Result<Value, Refusal>
     requires { StandsOn H.content at state.now (Links at.linked.now (linked_instr.Type type_op.CheckCast to)) }
     ensures { ComesTo H.content at.entry state.now 1 result }
 {
@@ -102,8 +107,13 @@ pub(crate) fn check_cast<H: Heap>(
     replace(at, state, 1, cast)
 }
 
-// What instanceof makes of the reference on top. OutOfMemory: no class has its object's number.
-fn test_on_top<H: Heap>(at: At<'_>, state: &State<H>, to: LinkedType) -> Result<Value, Refusal>
+/// What instanceof makes of the reference on top. OutOfMemory: no class has its object's number.
+#[inline(always)]
+pub(crate) fn test_on_top<H: Heap>(
+    at: At<'_>,
+    state: &State<H>,
+    to: LinkedType,
+) -> Result<Value, Refusal>
     requires { StandsOn H.content at state.now (Links at.linked.now (linked_instr.Type type_op.InstanceOf to)) }
     ensures { ComesTo H.content at.entry state.now 1 result }
 {
