@@ -8,13 +8,14 @@ use Rattle.jm_interp.proofs.constants.try_push.Goals as goal
 
 pub replace_top-requires : goal.replace_top-requires
 replace_top-requires g c =
-    let h = c.requires.here.0 in (
+    let h = c.requires.here.0 in
+    let s = c.args.state.now in (
       _,
       _,
       _,
       read h.on c.index_mut.ensures.value,
       c.requires.here.1,
-      fits {content = g.H.Heap.content} {at = c.args.at} {old = c.args.state.now} c.args.value c.index.ensures c.has_room_for.ensures c.if-not-has_room_for.false h,
+      fits {content = g.H.Heap.content} {at = c.args.at} {old = s} c.args.value c.index.ensures c.has_room_for.ensures c.if-not-has_room_for.false h,
     )
 
 pub returns : goal.returns
