@@ -40,8 +40,8 @@ no_break l breaks marks are (Some i) apart =
     (ap (λ m. holds_break breaks (place_in m i.at)) (sym apart.named) ∙ sym (are apart.number i.at apart.within) ∙ apart.place)
 
 -- turns of a thread that stands apart from them pass no break
-pub passes : {d : DebuggerView} {s : Session} (marks : List CodePlace) (n count : ℕ) → IsSession d s → IsMarked d marks → StandApart d.machine.linked marks s.world n count
-    → Passes s n count
+pub passes : {d : DebuggerView} {s : Session} (marks : List CodePlace) (n count : ℕ) → IsSession d s → IsMarked d marks
+    → StandApart d.machine.linked marks s.world n count → Passes s n count
 passes {d} {s} marks n count at are apart = λ k below.
     ap (λ breaks. break_at breaks (place_of_thread (thread_at (turns k n s).world n))) (turns_breaks k n s ∙ sym at.breaks)
     ∙ ap (λ w. break_at d.breaks (place_of_thread (thread_at w n))) (turns_run k n s)

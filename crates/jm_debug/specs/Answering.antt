@@ -1,5 +1,6 @@
 -- What contracts see of a debugger, the sessions that it is at, and what a line comes to.
-use Rattle.std.specs.Prelude.{◌≡◌, ◌+◌, ◌-◌, ◌≤◌, ◌<◌, ℕ, zero, suc, List, Bool, true, false, ◌&&◌, ◌||◌, Option, Some, None, Result, Ok, Err, codes, length, nat_eq}
+use Rattle.std.specs.Prelude.{◌≡◌, ◌+◌, ◌-◌, ◌≤◌, ◌<◌, ℕ, zero, suc, List, Bool, true, false, ◌&&◌, ◌||◌, Option, Some, None}
+use Rattle.std.specs.Prelude.{Result, Ok, Err, codes, length, nat_eq}
 use Rattle.jm_world.specs.Classes.{MethodName}
 use Rattle.jm_world.specs.World.{World, live_among}
 use Rattle.jm_world.specs.Run.{after}

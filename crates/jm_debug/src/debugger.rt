@@ -152,7 +152,8 @@ impl<H: Heap> Debugger<H> {
     fn make_one(&mut self, first: bool, thread: u64, blocked: usize) -> Result<Moved, DebugFault>
         requires some { 0 < thread }
         requires few { blocked < 2 ^ 32 }
-        ensures moves { (s : Session) (most : ℕ) → IsSession self.old s → 0 < most → turn_of s blocked ≡ Turn.Of thread → Moves most s first blocked self.new result }
+        ensures moves { (s : Session) (most : ℕ) → IsSession self.old s → 0 < most → turn_of s blocked ≡ Turn.Of thread
+            → Moves most s first blocked self.new result }
         ensures few { IsFew 1 blocked result }
         ensures marked { StaysMarked self.old self.new }
     {

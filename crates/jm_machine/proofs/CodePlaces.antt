@@ -20,8 +20,8 @@ use Rattle.jm_machine.specs.declared.code_place.CodePlace.{CodePlace}
 use Rattle.jm_machine.proofs.Reading.{frame_read, frame_runs, no_frame}
 
 -- what is free of the frame on top is free of the world's
-pub free_on_top : (l : LinkedView) (c : Content ClassId) (v : StateView) (w : World) → Matches (parts l c v) w → IsRunnable l v → (places : List CodePlace) (n free : ℕ)
-    → IsFreeIn places free (frame_numbered v.threads n 0) → AreFree l places free (top_stands_at w n)
+pub free_on_top : (l : LinkedView) (c : Content ClassId) (v : StateView) (w : World) → Matches (parts l c v) w → IsRunnable l v
+    → (places : List CodePlace) (n free : ℕ) → IsFreeIn places free (frame_numbered v.threads n 0) → AreFree l places free (top_stands_at w n)
 free_on_top l c v w m runs places n free is = by (frame_numbered v.threads n 0) refl is
   where
     by : (o : Option StackFrame) → frame_numbered v.threads n 0 ≡ o → IsFreeIn places free o → AreFree l places free (top_stands_at w n)

@@ -34,8 +34,9 @@ apart_after l places w thread n k before more = λ i below. by i below (cases_lt
         subst (λ v. Stands l places false (top_stands_at v thread)) (world_after w (Step thread) i n (i - n) split) (more (i - n) (omega arith))
 
 -- a run of so many steps, of which so many were free, begins apart from places; and so does one step behind it
-run_apart : (l : LinkedView) (places : List CodePlace) (v : World) (thread free run count : ℕ) (new : MachineView) → AreFree l places free (top_stands_at v thread)
-    → MakesDone (machine_parts new) thread run v → count ≤ free → count ≤ run + 1 → StandApart l places v thread count
+run_apart : (l : LinkedView) (places : List CodePlace) (v : World) (thread free run count : ℕ) (new : MachineView)
+    → AreFree l places free (top_stands_at v thread) → MakesDone (machine_parts new) thread run v
+    → count ≤ free → count ≤ run + 1 → StandApart l places v thread count
 run_apart l places v thread free run count new are made few many zero below = stands_apart l places free _ are (omega arith)
 run_apart l places v thread free run count new are made few many (suc k) below =
     stays_apart l places free v (run_from v (steps_of thread (suc k))) thread are (omega arith) (made.stays (suc k) (omega arith))

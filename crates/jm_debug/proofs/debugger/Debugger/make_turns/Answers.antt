@@ -33,7 +33,8 @@ returns-in-Other-clause-moves g c = λ s at alone.
     let here = subst (λ (d : DebuggerView). IsSession d s) (sym c.self.view_is) at in
     let marked = subst (λ (d : DebuggerView). IsMarked d c.args.marks.now) (sym c.self.view_is) c.requires.marked in
     let ends = subst (EndsFor c.args.most steps) c.in-Other.is c.in-Ended.ensures.ends in
-    let are = subst (λ end. EndApart c.self.inside.machine.linked c.args.marks.now s.world c.args.thread new (record { alike = steps.alike; reply = steps.reply; end = end })) c.in-Other.is
+    let are = subst (λ end. EndApart c.self.inside.machine.linked c.args.marks.now s.world c.args.thread new
+    (record { alike = steps.alike; reply = steps.reply; end = end })) c.in-Other.is
     (c.in-Ended.ensures.steps s.world here.world) in
     other_last s c.args.thread alone steps.alike steps.reply new c.args.most _ c.in-Other.reply _ ends.0
     (passes c.args.marks.now c.args.thread (steps.alike + 1) here marked are.apart) are.steps refl here.breaks refl c.moved_by.ensures

@@ -12,5 +12,6 @@ returns-clause-free g c = λ w m.
     let l = c.self.inside.linked in
     let heap = g.H.Heap.content s.heap in
     subst (λ (v : MachineView). AreFree v.linked c.args.places.now c.free_steps.result (top_stands_at w c.args.thread)) c.self.view_is
-    (free_on_top l heap (view_of s) w (subst (λ v. MatchesWorld v w) (sym c.self.view_is) m) c.self.invariant.runs c.args.places.now c.args.thread c.free_steps.result
+    (free_on_top l heap (view_of s) w (subst (λ v. MatchesWorld v w) (sym c.self.view_is) m) c.self.invariant.runs
+    c.args.places.now c.args.thread c.free_steps.result
     (subst (λ ts. IsFreeIn c.args.places.now c.free_steps.result (frame_numbered ts c.args.thread 0)) c.deref.ensures.value c.free_steps.ensures.free))

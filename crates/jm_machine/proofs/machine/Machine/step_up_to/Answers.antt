@@ -16,7 +16,8 @@ loop-made-init g c = record {
       record {
         alike = none_alike w c.args.thread _ c.reply_of-reply.result m
             (c.reply_of-reply.ensures
-            ∙ sym (reply_is c.self.inside.linked heap (view_of s) w (subst (λ v. MatchesWorld v w) (sym c.self.view_is) m) s.live Done c.self.invariant.runs.live));
+            ∙ sym (reply_is c.self.inside.linked heap (view_of s) w (subst (λ v. MatchesWorld v w) (sym c.self.view_is) m)
+            s.live Done c.self.invariant.runs.live));
         apart = none_apart _ _ w c.args.thread;
       };
   within = omega arith;
@@ -35,7 +36,8 @@ returns-in_default-clause-steps g c = λ w m.
     let are = c.free_steps-free.ensures.free _ before.alike.world in
     let made = c.run_plain-run.ensures.steps _ before.alike.world in
     let run = run_made before c.loop-made.invariant.linked c.free_steps-free.result are _ c.run_plain-run.new.self made c.run_plain-run.ensures.most in
-    let ended = step_none before c.loop-made.invariant.linked c.free_steps-free.result are _ c.run_plain-run.new.self made c.if-run-free.true c.step_at.new.self (c.in_default.ensures.next _ run.alike.world) in
+    let ended = step_none before c.loop-made.invariant.linked c.free_steps-free.result are _ c.run_plain-run.new.self made
+    c.if-run-free.true c.step_at.new.self (c.in_default.ensures.next _ run.alike.world) in
     subst (AreStepsUpTo c.args.self.now.linked c.args.places.now w c.args.thread c.step_at.new.self) (sym c.ended.ensures) ended
 
 pub returns-then-ne-clause-steps : goal.returns-then-ne-clause-steps
@@ -45,7 +47,8 @@ returns-then-ne-clause-steps g c = λ w m.
     let made = c.run_plain-run.ensures.steps _ before.alike.world in
     let run = run_made before c.loop-made.invariant.linked c.free_steps-free.result are _ c.run_plain-run.new.self made c.run_plain-run.ensures.most in
     let next = c.in-Ok.ensures.next _ run.alike.world in
-    let ended = step_other before c.loop-made.invariant.linked c.free_steps-free.result are _ c.run_plain-run.new.self made c.if-run-free.true c.step_at.new.self c.in-Ok.answer next.0 next.1 in
+    let ended = step_other before c.loop-made.invariant.linked c.free_steps-free.result are _ c.run_plain-run.new.self made
+    c.if-run-free.true c.step_at.new.self c.in-Ok.answer next.0 next.1 in
     subst (AreStepsUpTo c.args.self.now.linked c.args.places.now w c.args.thread c.step_at.new.self) (sym c.ended-then-ne.ensures) ended
 
 pub loop-made-preserved-then-run-free : goal.loop-made-preserved-then-run-free
@@ -57,7 +60,8 @@ loop-made-preserved-then-run-free g c = record {
       let run = run_made before c.loop-made.invariant.linked c.free_steps-free.result are _ c.run_plain-run.new.self made c.run_plain-run.ensures.most in
       let next = c.in-Ok.ensures.next _ run.alike.world in
       let same : c.in-Ok.answer ≡ c.reply_of-reply.result = search rules in
-      step_alike before c.loop-made.invariant.linked c.free_steps-free.result are _ c.run_plain-run.new.self made c.if-run-free.true c.step_at.new.self c.in-Ok.answer next.0 next.1 same;
+      step_alike before c.loop-made.invariant.linked c.free_steps-free.result are _ c.run_plain-run.new.self made
+      c.if-run-free.true c.step_at.new.self c.in-Ok.answer next.0 next.1 same;
   within = let few = c.free_steps-free.ensures.most in let less = c.if-run-free.true in omega arith;
   linked = c.step_at.ensures.linked ∙ c.run_plain-run.ensures.linked ∙ c.loop-made.invariant.linked;
 }
