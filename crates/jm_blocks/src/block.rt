@@ -154,6 +154,20 @@ impl Block {
         ))
     }
 
+    /// The object of this number, which is there: its header and its values, which are fewer than 2^32.
+    #[inline(always)]
+    pub fn object_at(&self, index: usize) -> (Header, &[Value])
+        requires { (o : Object) × (slice_get self.now index ≡ Some o) }
+        ensures short { length result.1.now < 2 ^ 32 }
+        ensures value { slice_get self.now index ≡ Some (object_of result.0 result.1.now) }
+    {
+        let entry = self.entries[index];
+        (
+            entry.header,
+            part(self.values.as_slice(), entry.start, entry.length as usize),
+        )
+    }
+
     /// One value of the object of this number.
     #[inline]
     pub fn get(&self, index: usize, number: usize) -> Value

@@ -93,6 +93,18 @@ impl BlockStore {
         block.object(position.index)
     }
 
+    /// The object at a place, where one is: its header and its values, which are fewer than 2^32.
+    #[inline(always)]
+    pub fn object_at(&self, place: Place) -> (Header, &[Value])
+        requires { HasObject self.now place }
+        ensures short { length result.1.now < 2 ^ 32 }
+        ensures value { objects_in self.now place ≡ Some (object_of result.0 result.1.now) }
+    {
+        let position = Position::of(place);
+        let block = &self.blocks[position.block];
+        block.object_at(position.index)
+    }
+
     /// One value of the object at a place.
     #[inline]
     pub fn get(&self, place: Place, number: usize) -> Value

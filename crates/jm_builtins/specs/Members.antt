@@ -9,6 +9,8 @@ use Rattle.jm_program.specs.declared.descriptor.BaseType.TheVariants as base
 use Rattle.jm_builtins.specs.declared.row.MemberType.{MemberType}
 use Rattle.jm_builtins.specs.declared.row.MemberType.TheVariants.{Int, Long, Char, Chars, String, PrintStream}
 use Rattle.jm_builtins.specs.declared.row.MethodRow.{MethodRow}
+use Rattle.jm_builtins.specs.declared.row.MethodRows.{MethodRows}
+use Rattle.jm_builtins.specs.declared.row.MethodRows.TheVariants.{Constructor, Rows}
 use Rattle.jm_builtins.specs.declared.row.FieldRow.{FieldRow}
 use Rattle.jm_builtins.specs.declared.row.ClassRow.{ClassRow}
 use Rattle.jm_builtins.specs.declared.built_in.BuiltIn.{BuiltIn}
@@ -41,6 +43,19 @@ the_method row = record {
   code = None;
 }
 
+-- `<init>()V`
+abbrev pub the_constructor : Method
+the_constructor = record {
+  flags = record { bits = 0x0001 };
+  name = codes "<init>";
+  descriptor = record { parameters = []; return_type = None };
+  code = None;
+}
+
+abbrev pub the_methods : MethodRows → List Method
+the_methods Constructor = the_constructor ∷ []
+the_methods (Rows rows) = map the_method rows.now
+
 abbrev pub the_field : FieldRow → Field
 the_field row = record {
   flags = record { bits = row.flags };
@@ -56,5 +71,5 @@ the_class row = record {
   superclass = option_copied row.superclass;
   interfaces = option_to_list (option_copied row.interface);
   fields = map the_field row.fields.now;
-  methods = map the_method row.methods.now;
+  methods = the_methods row.methods;
 }

@@ -1,15 +1,50 @@
 // The fields and methods of a built-in class, from their rows of the table.
 
-ghost use Rattle.std.specs.Prelude.{◌≡◌, IfOk, map};
-ghost use Rattle.jm_builtins.specs.Members.{the_type, the_parameters, the_result, the_method, the_field};
+ghost use Rattle.std.specs.Prelude.{◌≡◌, [], IfOk, codes, map};
+ghost use Rattle.jm_builtins.specs.Members.{the_type, the_parameters, the_result, the_method, the_constructor, the_methods, the_field};
 
-use crate::row::{FieldRow, MemberType, MethodRow};
+use crate::row::{FieldRow, MemberType, MethodRow, MethodRows};
 use crate::text::name_of;
 use jm_program::{
-    AccessFlags, BaseType, ElementType, Field, FieldType, Method, MethodDescriptor, Sequence,
+    AccessFlags, BaseType, ElementType, Field, FieldType, Method, MethodDescriptor, Name, Sequence,
     Shared,
 };
 use std::alloc::{AllocError, Global};
+
+/// What the constructors without parameters share, so that it is made once.
+#[derive(Drop)]
+pub struct Constructor {
+    name: Name,
+    parameters: Shared<Sequence<FieldType>>,
+    ghost named: { name ≡ codes "<init>" },
+    ghost plain: { parameters ≡ [] },
+}
+
+impl Constructor {
+    pub fn new(alloc: Global) -> Result<Constructor, AllocError> {
+        let name = name_of(alloc, "<init>")?;
+        Ok(Constructor {
+            name: Name::shared(alloc, name.units())?,
+            parameters: Shared::new(alloc, Sequence::new(Vec::new(alloc)))?,
+        })
+    }
+
+    fn method(&self, alloc: Global) -> Result<Method, AllocError>
+        ensures { IfOk result (λ m. m ≡ the_constructor) }
+    {
+        Ok(Method {
+            flags: AccessFlags {
+                bits: AccessFlags::PUBLIC,
+            },
+            name: self.name.copy(alloc)?,
+            descriptor: MethodDescriptor {
+                parameters: self.parameters.share()?,
+                return_type: None,
+            },
+            code: None,
+        })
+    }
+}
 
 /// What the type holds in its last dimension.
 fn element_of(alloc: Global, member_type: MemberType) -> Result<ElementType, AllocError>
@@ -45,11 +80,11 @@ fn parameters_of(
 ) -> Result<Sequence<FieldType>, AllocError>
     ensures { IfOk result (λ p. p ≡ the_parameters parameter) }
 {
-    let mut parameters = Vec::new(alloc);
-    if let Some(member_type) = parameter {
-        let parameter = type_of(alloc, member_type)?;
-        parameters.push(parameter)?;
-    }
+    let Some(member_type) = parameter else {
+        return Ok(Sequence::new(Vec::new(alloc)));
+    };
+    let mut parameters = Vec::with_capacity(alloc, 1)?;
+    parameters.push(type_of(alloc, member_type)?)?;
     Ok(Sequence::new(parameters))
 }
 
@@ -95,23 +130,41 @@ fn field_of(alloc: Global, row: &FieldRow) -> Result<Field, AllocError>
     })
 }
 
-/// The methods of the rows, in order.
-pub fn methods_of(alloc: Global, rows: &[MethodRow]) -> Result<Sequence<Method>, AllocError>
-    ensures { IfOk result (λ methods. methods ≡ map the_method rows.now) }
+// The methods of the rows, in order.
+fn methods_in(alloc: Global, rows: &[MethodRow]) -> Result<Vec<Method>, AllocError>
+    ensures { IfOk result (λ methods. methods.items ≡ map the_method rows.now) }
 {
-    let mut methods = Vec::new(alloc);
+    let mut methods = Vec::with_capacity(alloc, rows.len())?;
     for row in rows {
         let method = method_of(alloc, row)?;
         methods.push(method)?;
     }
-    Ok(Sequence::new(methods))
+    Ok(methods)
+}
+
+/// The methods of a class, in order.
+pub fn methods_of(
+    alloc: Global,
+    constructor: &Constructor,
+    rows: &MethodRows,
+) -> Result<Sequence<Method>, AllocError>
+    ensures { IfOk result (λ methods. methods ≡ the_methods rows.now) }
+{
+    match rows {
+        MethodRows::Constructor => {
+            let mut methods = Vec::with_capacity(alloc, 1)?;
+            methods.push(constructor.method(alloc)?)?;
+            Ok(Sequence::new(methods))
+        }
+        MethodRows::Rows(rows) => Ok(Sequence::new(methods_in(alloc, rows)?)),
+    }
 }
 
 /// The fields of the rows, in order.
 pub fn fields_of(alloc: Global, rows: &[FieldRow]) -> Result<Sequence<Field>, AllocError>
     ensures { IfOk result (λ fields. fields ≡ map the_field rows.now) }
 {
-    let mut fields = Vec::new(alloc);
+    let mut fields = Vec::with_capacity(alloc, rows.len())?;
     for row in rows {
         let field = field_of(alloc, row)?;
         fields.push(field)?;

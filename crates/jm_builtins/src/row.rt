@@ -17,6 +17,13 @@ pub struct MethodRow {
     pub result: Option<MemberType>,
 }
 
+/// The methods of a built-in class.
+pub enum MethodRows {
+    /// `<init>()V` alone.
+    Constructor,
+    Rows(&'static [MethodRow]),
+}
+
 /// A field of a built-in class.
 pub struct FieldRow {
     pub flags: u16,
@@ -31,5 +38,5 @@ pub struct ClassRow {
     pub superclass: Option<&'static str>,
     pub interface: Option<&'static str>,
     pub fields: &'static [FieldRow],
-    pub methods: &'static [MethodRow],
+    pub methods: MethodRows,
 }

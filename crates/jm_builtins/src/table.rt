@@ -1,6 +1,6 @@
 //! The table of the built-in classes, their members and their superclasses.
 
-use crate::row::{ClassRow, FieldRow, MemberType, MethodRow};
+use crate::row::{ClassRow, FieldRow, MemberType, MethodRow, MethodRows};
 use jm_program::AccessFlags;
 
 const CLASS: u16 = AccessFlags::PUBLIC | AccessFlags::SUPER;
@@ -20,11 +20,7 @@ pub static CLASSES: [ClassRow; 29] = [
         superclass: None,
         interface: None,
         fields: &[],
-        methods: &[MethodRow {
-            name: "<init>",
-            parameter: None,
-            result: None,
-        }],
+        methods: MethodRows::Constructor,
     },
     ClassRow {
         flags: FINAL_CLASS,
@@ -36,7 +32,7 @@ pub static CLASSES: [ClassRow; 29] = [
             name: "value",
             field_type: MemberType::Chars,
         }],
-        methods: &[
+        methods: MethodRows::Rows(&[
             MethodRow {
                 name: "length",
                 parameter: None,
@@ -47,7 +43,7 @@ pub static CLASSES: [ClassRow; 29] = [
                 parameter: Some(MemberType::Int),
                 result: Some(MemberType::Char),
             },
-        ],
+        ]),
     },
     ClassRow {
         flags: INTERFACE,
@@ -55,7 +51,7 @@ pub static CLASSES: [ClassRow; 29] = [
         superclass: Some("java/lang/Object"),
         interface: None,
         fields: &[],
-        methods: &[],
+        methods: MethodRows::Rows(&[]),
     },
     ClassRow {
         flags: INTERFACE,
@@ -63,7 +59,7 @@ pub static CLASSES: [ClassRow; 29] = [
         superclass: Some("java/lang/Object"),
         interface: None,
         fields: &[],
-        methods: &[],
+        methods: MethodRows::Rows(&[]),
     },
     ClassRow {
         flags: FINAL_CLASS,
@@ -75,7 +71,7 @@ pub static CLASSES: [ClassRow; 29] = [
             name: "out",
             field_type: MemberType::PrintStream,
         }],
-        methods: &[],
+        methods: MethodRows::Rows(&[]),
     },
     ClassRow {
         flags: CLASS,
@@ -83,7 +79,7 @@ pub static CLASSES: [ClassRow; 29] = [
         superclass: Some("java/lang/Object"),
         interface: None,
         fields: &[],
-        methods: &[
+        methods: MethodRows::Rows(&[
             MethodRow {
                 name: "print",
                 parameter: Some(MemberType::Int),
@@ -129,7 +125,7 @@ pub static CLASSES: [ClassRow; 29] = [
                 parameter: None,
                 result: None,
             },
-        ],
+        ]),
     },
     ClassRow {
         flags: CLASS,
@@ -137,7 +133,7 @@ pub static CLASSES: [ClassRow; 29] = [
         superclass: Some("java/lang/Object"),
         interface: None,
         fields: &[],
-        methods: &[
+        methods: MethodRows::Rows(&[
             MethodRow {
                 name: "<init>",
                 parameter: None,
@@ -153,7 +149,7 @@ pub static CLASSES: [ClassRow; 29] = [
                 parameter: None,
                 result: None,
             },
-        ],
+        ]),
     },
     ClassRow {
         flags: CLASS,
@@ -161,11 +157,7 @@ pub static CLASSES: [ClassRow; 29] = [
         superclass: Some("java/lang/Object"),
         interface: Some("java/io/Serializable"),
         fields: &[],
-        methods: &[MethodRow {
-            name: "<init>",
-            parameter: None,
-            result: None,
-        }],
+        methods: MethodRows::Constructor,
     },
     ClassRow {
         flags: CLASS,
@@ -173,11 +165,7 @@ pub static CLASSES: [ClassRow; 29] = [
         superclass: Some("java/lang/Throwable"),
         interface: None,
         fields: &[],
-        methods: &[MethodRow {
-            name: "<init>",
-            parameter: None,
-            result: None,
-        }],
+        methods: MethodRows::Constructor,
     },
     ClassRow {
         flags: CLASS,
@@ -185,11 +173,7 @@ pub static CLASSES: [ClassRow; 29] = [
         superclass: Some("java/lang/Throwable"),
         interface: None,
         fields: &[],
-        methods: &[MethodRow {
-            name: "<init>",
-            parameter: None,
-            result: None,
-        }],
+        methods: MethodRows::Constructor,
     },
     ClassRow {
         flags: CLASS,
@@ -197,11 +181,7 @@ pub static CLASSES: [ClassRow; 29] = [
         superclass: Some("java/lang/Exception"),
         interface: None,
         fields: &[],
-        methods: &[MethodRow {
-            name: "<init>",
-            parameter: None,
-            result: None,
-        }],
+        methods: MethodRows::Constructor,
     },
     ClassRow {
         flags: CLASS,
@@ -209,11 +189,7 @@ pub static CLASSES: [ClassRow; 29] = [
         superclass: Some("java/lang/RuntimeException"),
         interface: None,
         fields: &[],
-        methods: &[MethodRow {
-            name: "<init>",
-            parameter: None,
-            result: None,
-        }],
+        methods: MethodRows::Constructor,
     },
     ClassRow {
         flags: CLASS,
@@ -221,11 +197,7 @@ pub static CLASSES: [ClassRow; 29] = [
         superclass: Some("java/lang/RuntimeException"),
         interface: None,
         fields: &[],
-        methods: &[MethodRow {
-            name: "<init>",
-            parameter: None,
-            result: None,
-        }],
+        methods: MethodRows::Constructor,
     },
     ClassRow {
         flags: CLASS,
@@ -233,11 +205,7 @@ pub static CLASSES: [ClassRow; 29] = [
         superclass: Some("java/lang/RuntimeException"),
         interface: None,
         fields: &[],
-        methods: &[MethodRow {
-            name: "<init>",
-            parameter: None,
-            result: None,
-        }],
+        methods: MethodRows::Constructor,
     },
     ClassRow {
         flags: CLASS,
@@ -245,11 +213,7 @@ pub static CLASSES: [ClassRow; 29] = [
         superclass: Some("java/lang/RuntimeException"),
         interface: None,
         fields: &[],
-        methods: &[MethodRow {
-            name: "<init>",
-            parameter: None,
-            result: None,
-        }],
+        methods: MethodRows::Constructor,
     },
     ClassRow {
         flags: CLASS,
@@ -257,11 +221,7 @@ pub static CLASSES: [ClassRow; 29] = [
         superclass: Some("java/lang/RuntimeException"),
         interface: None,
         fields: &[],
-        methods: &[MethodRow {
-            name: "<init>",
-            parameter: None,
-            result: None,
-        }],
+        methods: MethodRows::Constructor,
     },
     ClassRow {
         flags: CLASS,
@@ -269,11 +229,7 @@ pub static CLASSES: [ClassRow; 29] = [
         superclass: Some("java/lang/RuntimeException"),
         interface: None,
         fields: &[],
-        methods: &[MethodRow {
-            name: "<init>",
-            parameter: None,
-            result: None,
-        }],
+        methods: MethodRows::Constructor,
     },
     ClassRow {
         flags: CLASS,
@@ -281,11 +237,7 @@ pub static CLASSES: [ClassRow; 29] = [
         superclass: Some("java/lang/RuntimeException"),
         interface: None,
         fields: &[],
-        methods: &[MethodRow {
-            name: "<init>",
-            parameter: None,
-            result: None,
-        }],
+        methods: MethodRows::Constructor,
     },
     ClassRow {
         flags: CLASS,
@@ -293,11 +245,7 @@ pub static CLASSES: [ClassRow; 29] = [
         superclass: Some("java/lang/RuntimeException"),
         interface: None,
         fields: &[],
-        methods: &[MethodRow {
-            name: "<init>",
-            parameter: None,
-            result: None,
-        }],
+        methods: MethodRows::Constructor,
     },
     ClassRow {
         flags: CLASS,
@@ -305,11 +253,7 @@ pub static CLASSES: [ClassRow; 29] = [
         superclass: Some("java/lang/IndexOutOfBoundsException"),
         interface: None,
         fields: &[],
-        methods: &[MethodRow {
-            name: "<init>",
-            parameter: None,
-            result: None,
-        }],
+        methods: MethodRows::Constructor,
     },
     ClassRow {
         flags: CLASS,
@@ -317,11 +261,7 @@ pub static CLASSES: [ClassRow; 29] = [
         superclass: Some("java/lang/IndexOutOfBoundsException"),
         interface: None,
         fields: &[],
-        methods: &[MethodRow {
-            name: "<init>",
-            parameter: None,
-            result: None,
-        }],
+        methods: MethodRows::Constructor,
     },
     ClassRow {
         flags: CLASS,
@@ -329,11 +269,7 @@ pub static CLASSES: [ClassRow; 29] = [
         superclass: Some("java/lang/IllegalArgumentException"),
         interface: None,
         fields: &[],
-        methods: &[MethodRow {
-            name: "<init>",
-            parameter: None,
-            result: None,
-        }],
+        methods: MethodRows::Constructor,
     },
     ClassRow {
         flags: CLASS,
@@ -341,11 +277,7 @@ pub static CLASSES: [ClassRow; 29] = [
         superclass: Some("java/lang/Error"),
         interface: None,
         fields: &[],
-        methods: &[MethodRow {
-            name: "<init>",
-            parameter: None,
-            result: None,
-        }],
+        methods: MethodRows::Constructor,
     },
     ClassRow {
         flags: CLASS,
@@ -353,11 +285,7 @@ pub static CLASSES: [ClassRow; 29] = [
         superclass: Some("java/lang/Error"),
         interface: None,
         fields: &[],
-        methods: &[MethodRow {
-            name: "<init>",
-            parameter: None,
-            result: None,
-        }],
+        methods: MethodRows::Constructor,
     },
     ClassRow {
         flags: CLASS,
@@ -365,11 +293,7 @@ pub static CLASSES: [ClassRow; 29] = [
         superclass: Some("java/lang/LinkageError"),
         interface: None,
         fields: &[],
-        methods: &[MethodRow {
-            name: "<init>",
-            parameter: None,
-            result: None,
-        }],
+        methods: MethodRows::Constructor,
     },
     ClassRow {
         flags: CLASS,
@@ -377,11 +301,7 @@ pub static CLASSES: [ClassRow; 29] = [
         superclass: Some("java/lang/LinkageError"),
         interface: None,
         fields: &[],
-        methods: &[MethodRow {
-            name: "<init>",
-            parameter: None,
-            result: None,
-        }],
+        methods: MethodRows::Constructor,
     },
     ClassRow {
         flags: CLASS,
@@ -389,11 +309,7 @@ pub static CLASSES: [ClassRow; 29] = [
         superclass: Some("java/lang/LinkageError"),
         interface: None,
         fields: &[],
-        methods: &[MethodRow {
-            name: "<init>",
-            parameter: None,
-            result: None,
-        }],
+        methods: MethodRows::Constructor,
     },
     ClassRow {
         flags: CLASS,
@@ -401,11 +317,7 @@ pub static CLASSES: [ClassRow; 29] = [
         superclass: Some("java/lang/IncompatibleClassChangeError"),
         interface: None,
         fields: &[],
-        methods: &[MethodRow {
-            name: "<init>",
-            parameter: None,
-            result: None,
-        }],
+        methods: MethodRows::Constructor,
     },
     ClassRow {
         flags: CLASS,
@@ -413,10 +325,6 @@ pub static CLASSES: [ClassRow; 29] = [
         superclass: Some("java/lang/VirtualMachineError"),
         interface: None,
         fields: &[],
-        methods: &[MethodRow {
-            name: "<init>",
-            parameter: None,
-            result: None,
-        }],
+        methods: MethodRows::Constructor,
     },
 ];

@@ -9,9 +9,10 @@ use std::alloc::{AllocError, Global};
 pub fn name_of(alloc: Global, text: &str) -> Result<Name, AllocError>
     ensures { IfOk result (λ n. n ≡ text.now) }
 {
-    let mut units = Vec::new(alloc);
-    for byte in text.as_bytes() {
-        units.push(u16::from(*byte))?;
+    let bytes = text.as_bytes();
+    let mut units = vec![in alloc; 0; bytes.len()]?;
+    for (index, byte) in bytes.iter().enumerate() {
+        units[index] = u16::from(*byte);
     }
     Ok(Name::new(units))
 }

@@ -6,7 +6,7 @@ ghost use Rattle.jm_values.specs.Steps.{is_of};
 ghost use Rattle.jm_world.specs.Invocation.{locals_of};
 ghost use Rattle.jm_calls.specs.Arguments.{beginning, on_top, popped};
 
-use jm_frames::Frame;
+use jm_frames::{Frame, Spare};
 use jm_program::OperandType;
 use jm_values::{Place, TagFault, Value};
 use std::alloc::{AllocError, Global};
@@ -81,8 +81,21 @@ pub fn called_frame(alloc: Global, callee: Callee, arguments: &[Value]) -> Resul
     requires { length (locals_of arguments.now) ≤ callee.max_locals }
     ensures { IfOk result (λ frame. frame ≡ beginning callee arguments.now) }
 {
-    let mut frame = Frame::new(
-        alloc,
+    called_frame_in(Spare::new(alloc), callee, arguments)
+}
+
+/// The same, in the memory of a frame that ended, if there is one.
+#[inline]
+pub fn called_frame_in(
+    spare: Spare,
+    callee: Callee,
+    arguments: &[Value],
+) -> Result<Frame, AllocError>
+    requires { length (locals_of arguments.now) ≤ callee.max_locals }
+    ensures { IfOk result (λ frame. frame ≡ beginning callee arguments.now) }
+{
+    let mut frame = Frame::begin(
+        spare,
         callee.method,
         callee.monitor,
         callee.max_stack,

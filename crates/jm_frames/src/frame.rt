@@ -8,6 +8,7 @@ ghost use Rattle.jm_values.specs.declared.value.Value.TheVariants.{Int};
 ghost use Rattle.jm_values.specs.Rename.{refs, refill, value_shape, locals_shape, stack_shape, activation_shape};
 ghost use Rattle.jm_frames.specs.FrameView.{FrameView, with_stack, with_locals_of, gone_to};
 
+use crate::spare::{Memory, Spare};
 use jm_values::{Place, TagFault, Value};
 use std::alloc::{AllocError, Global};
 use std::marker::Model;
@@ -25,6 +26,8 @@ pub struct Frame {
     used: usize,
     locals: Vec<Option<Value>>,
     stack: Vec<Value>,
+    // memory for the frames that are called from this one
+    spare: Spare,
 }
 
 impl Model for Frame {
@@ -43,6 +46,7 @@ impl Frame {
     /// The frame of a method that begins: at instruction 0, no operand, no local variable set, and
     /// the room for both reserved. `max_stack` is in units, of which a long takes two (JVMS 4.7.3).
     /// `AllocError`: there was no memory for that room.
+    #[inline]
     pub fn new(
         alloc: Global,
         method: usize,
@@ -52,17 +56,55 @@ impl Frame {
     ) -> Result<Frame, AllocError>
         ensures { IfOk result (λ frame. frame ≡ record { method = method; monitor = monitor; activation = record { at = 0; max_stack = max_stack; locals = replicate max_locals None; stack = [] } }) }
     {
-        let locals = vec![in alloc; None; usize::from(max_locals)]?;
-        let stack = Vec::with_capacity(alloc, usize::from(max_stack))?;
+        Frame::begin(Spare::new(alloc), method, monitor, max_stack, max_locals)
+    }
+
+    /// The same, in the memory of a frame that ended, if there is one. The frame keeps what else there
+    /// is for the frames that are called from it. `AllocError`: what there is does not do, and there
+    /// was no memory for more.
+    #[inline]
+    pub fn begin(
+        mut spare: Spare,
+        method: usize,
+        monitor: Option<Place>,
+        max_stack: u16,
+        max_locals: u16,
+    ) -> Result<Frame, AllocError>
+        ensures { IfOk result (λ frame. frame ≡ record { method = method; monitor = monitor; activation = record { at = 0; max_stack = max_stack; locals = replicate max_locals None; stack = [] } }) }
+    {
+        let memory = spare.take(usize::from(max_stack), usize::from(max_locals))?;
         Ok(Frame {
             method,
             monitor,
             at: 0,
             max_stack: usize::from(max_stack),
             used: 0,
-            locals,
-            stack,
+            locals: memory.locals,
+            stack: memory.stack,
+            spare,
         })
+    }
+
+    /// Takes the memory that the frame keeps for those that are called from it.
+    #[inline]
+    pub fn take_spare(&mut self) -> Spare
+        ensures { self.new ≡ self.old }
+    {
+        let alloc = *self.stack.allocator();
+        std::mem::replace(&mut self.spare, Spare::new(alloc))
+    }
+
+    /// Keeps the memory of a frame that was called from this one and has ended, with all that it kept.
+    #[inline]
+    pub fn keep(&mut self, ended: Frame)
+        ensures { self.new ≡ self.old }
+    {
+        let mut spare = ended.spare;
+        spare.put(Memory {
+            locals: ended.locals,
+            stack: ended.stack,
+        });
+        self.spare = spare;
     }
 
     /// The number of the method, as the frame was given it.
@@ -132,6 +174,16 @@ impl Frame {
     {
         let _ = self.stack.pop();
         self.used -= category(value);
+    }
+
+    /// Drops the operand on top, which is an int.
+    #[inline(always)]
+    pub fn drop_int(&mut self)
+        requires { (n : ℤ) × (slice_get self.old.activation.stack 0 ≡ Some (Int n)) }
+        ensures { self.new ≡ with_stack self.old (drop 1 self.old.activation.stack) }
+    {
+        let _ = self.stack.pop();
+        self.used -= 1;
     }
 
     /// Drops the two operands on top, which are ints.

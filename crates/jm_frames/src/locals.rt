@@ -4,6 +4,7 @@ ghost use Rattle.std.specs.Prelude.{◌≡◌, ◌+◌, ◌<◌, ◌^◌, ◌≤
 ghost use Rattle.jm_values.specs.Activation.{category, units};
 ghost use Rattle.jm_values.specs.LoadsAndStores.{row_load, row_store, row_increment, stored, without_long_before};
 ghost use Rattle.jm_values.specs.Steps.{is_of, places};
+ghost use Rattle.jm_program.specs.declared.instruction.operation.OperandType.TheVariants as OperandType;
 ghost use Rattle.jm_frames.specs.FrameView.{FrameView, with_locals_of};
 ghost use Rattle.jm_frames.specs.Made.{outcome};
 ghost use Rattle.jm_frames.specs.Operands.{operand_of};
@@ -87,6 +88,25 @@ impl Frame {
         Ok(())
     }
 
+    // The same for an int, of which only the number is copied.
+    #[inline(always)]
+    fn load_int(&mut self, number: u16) -> Result<(), TagFault>
+        requires { self.old.activation.at + 1 < 2 ^ 64 }
+        ensures row { row_load OperandType.Int number self.old.activation ≡ outcome result self.new.activation }
+        ensures err { OnErr result (self.new ≡ self.old) }
+        ensures frame { self.new ≡ record self.old { activation = self.new.activation } }
+    {
+        match self.local(usize::from(number)) {
+            Some(Some(Value::Int(value))) => {
+                self.push(Value::Int(value))?;
+                self.go_on();
+                Ok(())
+            }
+            Some(Some(_)) => Err(TagFault::WrongTag),
+            _ => Err(TagFault::BadLocal),
+        }
+    }
+
     /// Pushes a local variable of the type, and goes on to the next instruction (JVMS 6.5 iload).
     /// `BadLocal`: there is no such local variable, or it is not set. `WrongTag`: it is of another
     /// type. `Overflow`: `max_stack` has no room.
@@ -98,7 +118,7 @@ impl Frame {
         ensures frame { self.new ≡ record self.old { activation = self.new.activation } }
     {
         match operand_type {
-            OperandType::Int => self.load_of(OperandType::Int, number),
+            OperandType::Int => self.load_int(number),
             OperandType::Long => self.load_of(OperandType::Long, number),
             OperandType::Reference => self.load_of(OperandType::Reference, number),
         }

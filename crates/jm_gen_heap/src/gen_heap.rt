@@ -1,6 +1,6 @@
 // The generational heap.
 
-ghost use Rattle.std.specs.Prelude.{◌≡◌, ℕ, ◌%◌, ◌+◌, ◌≤◌, [], Some, None, IfOk, IfErr, OnOk, OnErr, IfSome, length};
+ghost use Rattle.std.specs.Prelude.{◌≡◌, ℕ, ◌%◌, ◌+◌, ◌<◌, ◌≤◌, ◌^◌, [], Some, None, IfOk, IfErr, OnOk, OnErr, IfSome, length, slice_get};
 ghost use Rattle.jm_values.specs.declared.value.Value.{Value};
 ghost use Rattle.jm_values.specs.Rename.{rename, refs};
 ghost use Rattle.jm_values.specs.Objects.{ObjectOf, size_by};
@@ -179,6 +179,22 @@ impl<C: Collector> GenHeap<C> {
         }
     }
 
+    /// The class or array type of the object at a place, and its values, which are fewer than 2^32.
+    #[inline]
+    pub fn object(&self, place: Place) -> (ClassId, &[Value])
+        requires { (k : ℕ) × (o : ObjectOf ClassId) × (serial_at (content_of self.now) place ≡ Some k) × (object_at (content_of self.now) k ≡ Some o) }
+        ensures class { (k : ℕ) (o : ObjectOf ClassId) → serial_at (content_of self.now) place ≡ Some k
+            → object_at (content_of self.now) k ≡ Some o → result.0 ≡ o.type }
+        ensures length { (k : ℕ) (o : ObjectOf ClassId) → serial_at (content_of self.now) place ≡ Some k
+            → object_at (content_of self.now) k ≡ Some o → length result.1.now ≡ length o.values }
+        ensures short { length result.1.now < 2 ^ 32 }
+        ensures values { (i : ℕ) (v : Value) → slice_get result.1.now i ≡ Some v → HasValue (content_of self.now) place i (rename (name_of (content_of self.now)) v) }
+        ensures resident { (i : ℕ) (v : Value) → slice_get result.1.now i ≡ Some v → AllResident (content_of self.now) (refs v) }
+    {
+        let (header, values) = self.generations.object_at(place);
+        (header.class, values)
+    }
+
     /// The value of a number of the object at a place.
     #[inline]
     pub fn get(&self, place: Place, index: u32) -> Value
@@ -207,10 +223,8 @@ impl<C: Collector> GenHeap<C> {
         ensures { (k : ℕ) (o : ObjectOf ClassId) → serial_at (content_of self.now) place ≡ Some k
             → object_at (content_of self.now) k ≡ Some o → result ≡ length o.values }
     {
-        match self.generations.object(place) {
-            Some((_, length)) => length,
-            None => 0,
-        }
+        let (_, values) = self.generations.object_at(place);
+        values.len() as u32
     }
 
     /// The class or array type of the object at a place.
@@ -220,10 +234,8 @@ impl<C: Collector> GenHeap<C> {
         ensures { (k : ℕ) (o : ObjectOf ClassId) → serial_at (content_of self.now) place ≡ Some k
             → object_at (content_of self.now) k ≡ Some o → result ≡ o.type }
     {
-        match self.generations.object(place) {
-            Some((header, _)) => header.class,
-            None => ClassId::Instance(0),
-        }
+        let (header, _) = self.generations.object_at(place);
+        header.class
     }
 
     /// The serial of the object at a place.
@@ -232,10 +244,8 @@ impl<C: Collector> GenHeap<C> {
         requires { (k : ℕ) × (serial_at (content_of self.now) place ≡ Some k) }
         ensures { serial_at (content_of self.now) place ≡ Some result }
     {
-        match self.generations.object(place) {
-            Some((header, _)) => header.serial,
-            None => 0,
-        }
+        let (header, _) = self.generations.object_at(place);
+        header.serial
     }
 
     /// The serials of the residents, rising.
@@ -289,22 +299,32 @@ impl<C: Collector> Heap for GenHeap<C> {
         GenHeap::allocate_here(self, nursery, shape)
     }
 
+    #[inline]
+    fn object(&self, place: Place) -> (ClassId, &[Value]) {
+        GenHeap::object(self, place)
+    }
+
+    #[inline]
     fn get(&self, place: Place, index: u32) -> Value {
         GenHeap::get(self, place, index)
     }
 
+    #[inline]
     fn set(&mut self, place: Place, index: u32, value: Value) -> Result<(), AllocError> {
         GenHeap::set(self, place, index, value)
     }
 
+    #[inline]
     fn length(&self, place: Place) -> u32 {
         GenHeap::length(self, place)
     }
 
+    #[inline]
     fn class_of(&self, place: Place) -> ClassId {
         GenHeap::class_of(self, place)
     }
 
+    #[inline]
     fn serial(&self, place: Place) -> u64 {
         GenHeap::serial(self, place)
     }

@@ -1,10 +1,10 @@
 // The young and the old objects of a heap.
 
 ghost use Rattle.std.specs.Prelude.{◌≡◌, ℕ, ◌+◌, ◌%◌, ◌/◌, ◌<◌, ◌≤◌, ◌^◌, ◌++◌, [], Some, true, false};
-ghost use Rattle.std.specs.Prelude.{IfOk, IfErr, IsSomeAnd, OnOk, OnErr, length, take, nat_le};
+ghost use Rattle.std.specs.Prelude.{IfOk, IfErr, OnOk, OnErr, length, take, nat_le};
 ghost use Rattle.jm_values.specs.Rename.{refs, rename};
 ghost use Rattle.jm_values.specs.Reach.{AllDistinct};
-ghost use Rattle.jm_values.specs.Content.{AllResident, IsSet, name_of};
+ghost use Rattle.jm_values.specs.Content.{AllResident, IsSet, name_of, serial_at};
 ghost use Rattle.jm_values.specs.Content.{HasValue as HasContent};
 ghost use Rattle.jm_values.specs.declared.value.Value.{Value};
 ghost use Rattle.jm_heap.specs.Cells.{class_size, resident_cells};
@@ -221,17 +221,15 @@ impl Generations {
         self.store_of(place).get(place, index as usize)
     }
 
-    /// The header of the object at a place, and how many values it has.
-    #[inline]
-    pub fn object(&self, place: Place) -> Option<(Header, u32)>
-        ensures there { (o : Object) → lying self.now place ≡ Some o
-            → IsSomeAnd result (λ r. (r.0.serial ≡ o.serial) × (r.0.class ≡ o.class) × (r.1 ≡ length o.values)) }
+    /// The object at a place: its header and its values, which are fewer than 2^32.
+    #[inline(always)]
+    pub fn object_at(&self, place: Place) -> (Header, &[Value])
+        requires { (k : ℕ) × (serial_at (content_of self.now) place ≡ Some k) }
+        ensures short { length result.1.now < 2 ^ 32 }
+        ensures value { lying self.now place ≡ Some (object_of result.0 result.1.now) }
         ensures keeps { AreGenerations self.now }
     {
-        match self.store_of(place).object(place) {
-            Some((header, values)) => Some((header, values.len() as u32)),
-            None => None,
-        }
+        self.store_of(place).object_at(place)
     }
 
     /// Changes one value of the object at a place. An old object that gets a reference to a young one

@@ -1,6 +1,6 @@
 // What a heap promises.
 
-ghost use Rattle.std.specs.Prelude.{◌≡◌, ℕ, ◌<◌, ◌≤◌, IfOk, OnOk, OnErr, IfErr, Some, length};
+ghost use Rattle.std.specs.Prelude.{◌≡◌, ℕ, ◌<◌, ◌≤◌, ◌^◌, IfOk, OnOk, OnErr, IfErr, Some, length, slice_get};
 ghost use Rattle.jm_values.specs.Rename.{rename, refs};
 ghost use Rattle.jm_values.specs.declared.value.Value.{Value};
 ghost use Rattle.jm_values.specs.Objects.{ObjectOf};
@@ -73,6 +73,17 @@ pub trait Heap {
         ensures ok { IfOk result (λ made. MadeHereOrNot (content self.old) (content self.new) made (new_object shape.entry)) }
         ensures same { OnErr result (content self.new ≡ content self.old) }
         ensures err { IfErr result (IsRefusedHere (content self.old) (new_object shape.entry)) };
+
+    /// The class or array type of the object at a place, and its values, which are fewer than 2^32: the
+    /// fields of an instance, in the order of its shape, or the elements of an array. It takes no
+    /// memory.
+    fn object(&self, place: Place) -> (ClassId, &[Value])
+        requires { (k : ℕ) × (o : ObjectOf ClassId) × (serial_at (content self.now) place ≡ Some k) × (object_at (content self.now) k ≡ Some o) }
+        ensures class { (k : ℕ) (o : ObjectOf ClassId) → serial_at (content self.now) place ≡ Some k → object_at (content self.now) k ≡ Some o → result.0 ≡ o.type }
+        ensures length { (k : ℕ) (o : ObjectOf ClassId) → serial_at (content self.now) place ≡ Some k → object_at (content self.now) k ≡ Some o → length result.1.now ≡ length o.values }
+        ensures short { length result.1.now < 2 ^ 32 }
+        ensures values { (i : ℕ) (v : Value) → slice_get result.1.now i ≡ Some v → HasValue (content self.now) place i (rename (name_of (content self.now)) v) }
+        ensures resident { (i : ℕ) (v : Value) → slice_get result.1.now i ≡ Some v → AllResident (content self.now) (refs v) };
 
     /// The value of a number of the object at a place: a field of an instance, in the order of
     /// its shape, or an element of an array. It takes no memory.

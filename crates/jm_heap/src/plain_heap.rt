@@ -1,6 +1,6 @@
 // The heap that never moves an object.
 
-ghost use Rattle.std.specs.Prelude.{[], OnOk, OnErr, IfOk, IfErr, ◌≡◌, ◌≤◌, ◌<◌, ℕ, List, Some, None, length};
+ghost use Rattle.std.specs.Prelude.{[], OnOk, OnErr, IfOk, IfErr, ◌≡◌, ◌≤◌, ◌<◌, ◌^◌, ℕ, List, Some, None, length, slice_get};
 ghost use Rattle.jm_values.specs.declared.value.Value.{Value};
 ghost use Rattle.jm_values.specs.Rename.{rename, refs};
 ghost use Rattle.jm_heap.specs.Cells.{class_size, resident_cells};
@@ -21,7 +21,7 @@ use crate::resident::serials;
 use crate::roots::Roots;
 use crate::shape::Shape;
 use crate::slot::Slot;
-use crate::slots::{class_at, serial_at, store, values_at, write};
+use crate::slots::{class_at, object_at, serial_at, store, values_at, write};
 use crate::sweep::sweep;
 use jm_values::{Place, Value};
 use std::alloc::{AllocError, Global};
@@ -78,6 +78,19 @@ impl PlainHeap {
         ensures resident { AllResident self.now (refs result) }
     {
         values_at(&self.slots, place)[index as usize]
+    }
+
+    /// The class or array type of the object at a place, and its values, which are fewer than 2^32.
+    #[inline]
+    pub fn object(&self, place: Place) -> (ClassId, &[Value])
+        requires { (k : ℕ) × (o : ObjectOf ClassId) × (serial_at self.now place ≡ Some k) × (object_at self.now k ≡ Some o) }
+        ensures class { (k : ℕ) (o : ObjectOf ClassId) → serial_at self.now place ≡ Some k → object_at self.now k ≡ Some o → result.0 ≡ o.type }
+        ensures length { (k : ℕ) (o : ObjectOf ClassId) → serial_at self.now place ≡ Some k → object_at self.now k ≡ Some o → length result.1.now ≡ length o.values }
+        ensures short { length result.1.now < 2 ^ 32 }
+        ensures values { (i : ℕ) (v : Value) → slice_get result.1.now i ≡ Some v → HasValue self.now place i (rename (name_of self.now) v) }
+        ensures resident { (i : ℕ) (v : Value) → slice_get result.1.now i ≡ Some v → AllResident self.now (refs v) }
+    {
+        object_at(&self.slots, place)
     }
 
     /// Changes one value of the object at a place.
@@ -283,6 +296,11 @@ impl Heap for PlainHeap {
         ensures err { IfErr result (IsRefusedHere self.old (new_object shape.entry)) }
     {
         PlainHeap::allocate_here(self, nursery, shape)
+    }
+
+    #[inline]
+    fn object(&self, place: Place) -> (ClassId, &[Value]) {
+        PlainHeap::object(self, place)
     }
 
     fn get(&self, place: Place, index: u32) -> Value {

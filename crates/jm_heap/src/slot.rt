@@ -1,7 +1,7 @@
 // A slot of a plain heap.
 
 ghost use Rattle.std.specs.Prelude.{◌≡◌, ◌<◌, ◌↔◌, IsSome, None, Some, length};
-ghost use Rattle.jm_heap.specs.Slots.{class_of, serial_of, values_of, with_value};
+ghost use Rattle.jm_heap.specs.Slots.{Object, class_of, serial_of, values_of, with_value};
 ghost use Rattle.jm_heap.specs.Layout.{all_values};
 
 use crate::class_id::ClassId;
@@ -128,6 +128,29 @@ impl Slot {
             State::One { form, number, .. } | State::Many { form, number, .. } => {
                 Some(form.with_number(*number))
             }
+        }
+    }
+
+    /// The class or array type of what lies in the slot, and its values.
+    #[inline]
+    pub fn object(&self) -> (ClassId, &[Value])
+        requires { (a : Object) × (self.now ≡ Some a) }
+        ensures { (a : Object) → self.now ≡ Some a → (result.0 ≡ a.class) × (result.1.now ≡ a.values) }
+    {
+        match &self.state {
+            State::Free { .. } => unreachable!(),
+            State::One {
+                form,
+                number,
+                value,
+                ..
+            } => (form.with_number(*number), slice::from_ref(value)),
+            State::Many {
+                form,
+                number,
+                values,
+                ..
+            } => (form.with_number(*number), values.as_slice()),
         }
     }
 

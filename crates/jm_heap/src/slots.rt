@@ -26,6 +26,16 @@ pub fn values_at(slots: &Vec<Slot>, place: Place) -> &[Value]
     }
 }
 
+/// The class or array type of the object at a place, and its values.
+#[inline]
+pub fn object_at(slots: &Vec<Slot>, place: Place) -> (ClassId, &[Value])
+    requires { (a : Object) × (object_in slots.now.items place ≡ Some a) }
+    ensures { (a : Object) → object_in slots.now.items place ≡ Some a → (result.0 ≡ a.class) × (result.1.now ≡ a.values) }
+{
+    let number = place.number();
+    slots[number as usize - 1].object()
+}
+
 /// The class or array type of the object at a place.
 #[inline]
 pub fn class_at(slots: &Vec<Slot>, place: Place) -> Option<ClassId>

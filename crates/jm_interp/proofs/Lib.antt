@@ -11,6 +11,7 @@ pub mod Ended
 pub mod HeldMonitors
 pub mod Locked
 pub mod Entered
+pub mod PlainForms
 pub mod PlainRow
 pub mod PlainRuns
 pub mod LiteralRow
@@ -58,6 +59,7 @@ pub mod RowsAlone
 pub mod PlainWorlds
 pub mod MethodRuns
 pub mod GoingOn
+pub mod ThreadRuns
 pub mod PlainThreads
 pub mod NewRow
 pub mod DeclaredMethods

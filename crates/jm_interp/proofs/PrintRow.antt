@@ -50,11 +50,14 @@ use Rattle.jm_interp.specs.declared.print_operands.Text.TheVariants as text
 use Rattle.jm_interp.specs.Printing.{printing_of, left_by, arguments_of, with_bytes, string_in, line_bytes, is_print_stream, TextAmong, TextGives, TextHalts}
 use Rattle.jm_interp.proofs.Arguments.{IsOf, int, long, char, string, Fits, AllFit, received, receives, all_fit}
 use Rattle.jm_linked.proofs.PrintStreams.{ref_is, stream_selects, stream_below_itself, no_stream, other_name}
-use Rattle.std.specs.Prelude.{slice_index_or, Result}
+use Rattle.std.specs.Prelude.{slice_index_or, Result, Vec}
+use Rattle.std.specs.declared.alloc.Global.{Global}
 use Rattle.jm_linked.specs.Links.{Links}
 use Rattle.jm_frames.specs.FrameView.{FrameView}
 use Rattle.jm_world.specs.declared.stop.Stop.TheVariants as why
+use Rattle.jm_state.specs.Ends.{Ended}
 use Rattle.jm_state.specs.Runnable.{StateRuns}
+use Rattle.jm_state.proofs.Runs.{runs_still}
 use Rattle.jm_state.specs.declared.halt.Halt.{Halt}
 use Rattle.jm_state.specs.declared.halt.Halt.TheVariants.{Stopped, OutOfMemory}
 use Rattle.jm_state.specs.declared.halt.StepEnd.{StepEnd}
@@ -141,6 +144,17 @@ left_refs EndLine s q a = drop_refs s q a
 abbrev pub FindsOperands : PrintMethod → held.Thread → Result Printing TagFault → Type 0
 FindsOperands p d result =
     (f : FrameView) (below : List StackFrame) (r : ThreadRest) → Stands d (Method f ∷ below) r → result ≡ printing_of p f.activation.stack
+
+-- a step is the same where the output has come back to what it was
+pub output_back : {H : Type 0} {content : H → Content ClassId} {at : At} {old : State H} {result : Result StepEnd Halt} (output : Vec ℕ Global)
+    → output.items ≡ old.output.items → Steps content at old result old → Steps content at old result (record old { output = output })
+unfolding parts
+output_back {content = content} {at = at} {old = old} {result = result} output same done = record {
+  runs = runs_still output.items old.stop done.runs;
+  ends = λ w t m is.
+      subst (λ bytes. Ended result (record (parts_at content at old) { output = bytes }) w (step_thread w (at.index + 1) t)) (sym same)
+      (done.ends w t m is);
+}
 
 module _ {H : Type 0} {content : H → Content ClassId} {at : At} {old : State H} (p : PrintMethod)
     (h : StandsOn content at old (Links at.linked.now (linked.Print p))) where

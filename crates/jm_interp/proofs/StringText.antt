@@ -1,6 +1,7 @@
 -- The text of a String, in the heap and in every world.
-use Rattle.std.proofs.Common.{◌≡◌, ℕ, zero, suc, ◌≤◌, ◌%◌, ◌^◌, List, [], ◌∷◌, ◌++◌, Option, Some, None, Bool, true, false, refl, sym, ap, ◌∙◌, subst, inl, length, take, arith}
+use Rattle.std.proofs.Common.{◌≡◌, ℕ, zero, suc, ◌≤◌, ◌%◌, ◌^◌, List, [], ◌∷◌, ◌++◌, Option, Some, None, Bool, true, false, refl, sym, ap, ◌∙◌, subst, inl, length, take, append_assoc, arith}
 use Rattle.std.specs.Prelude.{slice_get, unwrap_or, option_map, nat_eq}
+use Rattle.std.proofs.Math.Seq.{take-append_seam}
 use Rattle.std.proofs.lemmas.Bool.{eqb-true}
 use Rattle.std.specs.Int.{w32, cast_unsigned}
 use Rattle.jm_program.specs.Names.{same_text}
@@ -23,7 +24,7 @@ use Rattle.jm_world.specs.Loads.{Loads}
 use Rattle.jm_world.specs.Matches.{Matches, places, as_named}
 use Rattle.jm_world.specs.Next.{Next, faults, stops}
 use Rattle.jm_world.specs.Objects.{Object}
-use Rattle.jm_world.specs.Text.{utf8_text, units_of}
+use Rattle.jm_world.specs.Text.{utf8_text, utf8_after, units_of}
 use Rattle.jm_world.specs.World.{World, roots}
 use Rattle.jm_world.specs.declared.stop.Stop.{Stop}
 use Rattle.jm_heap.specs.declared.class_id.ClassId.{ClassId}
@@ -37,6 +38,7 @@ use Rattle.jm_interp.specs.declared.at.At.{At}
 use Rattle.jm_interp.specs.declared.print_operands.Text.{Text}
 use Rattle.jm_interp.specs.declared.print_operands.Text.TheVariants as text
 use Rattle.jm_interp.specs.At.{parts_at, InMethod}
+use Rattle.jm_interp.specs.Characters.{Continues, WritesUnits}
 use Rattle.jm_interp.specs.Printing.{string_in, with_bytes, TextAmong, TextLies, TextGives, TextHalts}
 use Rattle.jm_interp.specs.Strings.{is_string, chars_of, first_named, TextOf}
 use Rattle.jm_interp.proofs.Objects.{IsObject, object_of, lies}
@@ -111,6 +113,20 @@ units_one_more (Int n ∷ vs) (suc i) e = ap (λ us. cast_unsigned w32 n % 2 ^ 1
 units_one_more (Long n ∷ vs) (suc i) e = units_one_more vs i e
 units_one_more (Null ∷ vs) (suc i) e = units_one_more vs i e
 units_one_more (Ref k ∷ vs) (suc i) e = units_one_more vs i e
+
+-- what was written before stays in front of what two calls write
+pub further : (old mid new : List ℕ) → Continues old mid → Continues mid new → Continues old new
+further old mid new first second = (first.0 ++ second.0, second.1 ∙ ap (λ bytes. bytes ++ second.0) first.1 ∙ append_assoc old first.0 second.0)
+
+-- and is what is left where they are cut off
+pub cut_back : (old new : List ℕ) {n : ℕ} → Continues old new → n ≡ length old → take n new ≡ old
+cut_back old new h e = ap (λ k. take k new) e ∙ ap (take (length old)) h.1 ∙ take-append_seam old h.0
+
+-- the code units that two calls write
+pub more_units : (old us vs mid new : List ℕ) (before half waits : Option ℕ) → WritesUnits old before us mid half
+    → WritesUnits mid half vs new waits → WritesUnits old before (us ++ vs) new waits
+more_units old us vs mid new before half waits first second rest =
+    second rest ∙ first (vs ++ rest) ∙ ap (λ units. old ++ utf8_after before units) (sym (append_assoc us vs rest))
 
 pub all_taken : (vs : List Value) (n : ℕ) → length vs ≤ n → take n vs ≡ vs
 all_taken [] zero e = refl

@@ -8,6 +8,7 @@ pub mod Calls
 pub mod Pushing
 pub mod Narrowing
 pub mod Returned
+pub mod Characters
 pub mod Strings
 pub mod StringMethods
 pub mod Printing
@@ -27,3 +28,4 @@ pub mod Starting
 pub mod Entering
 pub mod PlainRuns
 pub mod MethodRuns
+pub mod ThreadRuns

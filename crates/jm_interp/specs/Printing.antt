@@ -1,5 +1,5 @@
 -- What is printed.
-use Rattle.std.specs.Prelude.{◌≡◌, ℕ, List, [], ◌∷◌, Option, Some, None, Result, Ok, Err, Bool, false, nat_eq, slice_get, drop, codes}
+use Rattle.std.specs.Prelude.{◌≡◌, ℕ, List, [], ◌∷◌, ◌++◌, Option, Some, None, Result, Ok, Err, Bool, false, nat_eq, slice_get, drop, codes}
 use Rattle.jm_builtins.specs.Numbers.{number_of}
 use Rattle.jm_builtins.specs.declared.built_in_class.BuiltInClass.TheVariants.{PrintStream}
 use Rattle.jm_values.specs.Content.{Content}
@@ -124,6 +124,10 @@ abbrev pub line_bytes : PrintMethod → List ℕ
 line_bytes (Print k) = []
 line_bytes (Println k) = 10 ∷ []
 line_bytes EndLine = 10 ∷ []
+
+-- the text of the argument is behind what was written before, and the end of the line behind it
+abbrev pub SaysLine : Content ClassId → Text → PrintMethod → List ℕ → List ℕ → Type 0
+SaysLine c t method old new = (said : List ℕ) × TextGives c t (string_in t) said × (new ≡ old ++ (said ++ line_bytes method))
 
 -- the mark of java/io/PrintStream
 abbrev pub is_print_stream : ClassId → Bool

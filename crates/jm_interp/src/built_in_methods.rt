@@ -9,7 +9,7 @@ ghost use Rattle.jm_interp.specs.Printing.{is_print_stream};
 use crate::at::At;
 use crate::class_number::{PRINT_STREAM, null_pointer_exception};
 use crate::print_operands::{operands_of, pop_operands};
-use crate::text::{text_bytes, with_line_end};
+use crate::text::print_text;
 use crate::throwing::throws;
 use jm_heap::{ClassId, Heap};
 use jm_linked::PrintMethod;
@@ -27,8 +27,8 @@ fn is_print_stream(id: ClassId) -> bool
     }
 }
 
-/// Makes invokevirtual of a method of a print stream: it writes at the end of the output, whose
-/// growth comes before any change. Null throws NullPointerException.
+/// Makes invokevirtual of a method of a print stream: it writes at the end of the output,
+/// which is as it was where a growth is refused. Null throws NullPointerException.
 #[inline(never)]
 pub(crate) fn print<H: Heap>(
     at: At<'_>,
@@ -48,18 +48,11 @@ pub(crate) fn print<H: Heap>(
     if !is_print_stream(state.heap.class_of(receiver)) {
         return Err(Halt::Stopped(Stop::TagFault(TagFault::WrongKind)));
     }
-    let bytes = match text_bytes(at.alloc, &state.heap, printing.text) {
-        Ok(bytes) => bytes,
-        Err(halt) => return Err(halt),
-    };
-    let Ok(line) = with_line_end(bytes, method) else {
-        return Err(Halt::OutOfMemory);
-    };
-    match state.output.extend_from_slice(line.as_slice()) {
+    match print_text(&mut state.output, &state.heap, printing.text, method) {
         Ok(()) => {
             pop_operands(&mut state.threads[at.index], method);
             Ok(StepEnd::Done)
         }
-        Err(_) => Err(Halt::OutOfMemory),
+        Err(halt) => Err(halt),
     }
 }

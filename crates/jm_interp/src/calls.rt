@@ -16,9 +16,9 @@ ghost use Rattle.jm_interp.specs.Standing.{ThreadRest, Stands, RunsMethod, InAny
 use crate::at::At;
 use crate::monitors::enter_if;
 use crate::throwing::throws;
-use crate::top_frame::top_method;
+use crate::top_frame::{take_spare, top_method};
 use jm_builtins::BuiltInClass;
-use jm_calls::{Callee, arguments_on, called_frame};
+use jm_calls::{Callee, arguments_on, called_frame_in};
 use jm_frames::Frame;
 use jm_heap::Heap;
 use jm_state::{Halt, StackFrame, State, StepEnd, Thread};
@@ -60,8 +60,9 @@ pub(crate) fn call<H: Heap>(
     }
 }
 
-// The frame of a method that is called by the top frame, with so many of its operands; the thread has
-// room for it then, and its frames stay. `AllocError`: a growth was refused.
+// The frame of a method that is called by the top frame, with so many of its operands, in memory that
+// the top frame keeps, if it keeps some; the thread has room for it then, and its frames stay. `AllocError`: a growth was refused.
+#[inline]
 fn frame_of(
     at: At<'_>,
     thread: &mut Thread,
@@ -82,12 +83,14 @@ fn frame_of(
         max_stack: linked.max_stack,
         max_locals: linked.max_locals,
     };
-    let frame = called_frame(at.alloc, callee, arguments_on(top_method(thread), count))?;
+    let spare = take_spare(thread);
+    let frame = called_frame_in(spare, callee, arguments_on(top_method(thread), count))?;
     thread.frames.reserve(1)?;
     Ok(frame)
 }
 
 // Puts a frame, for which there is room, above the top one, a method's, which loses so many operands.
+#[inline]
 fn push_called(thread: &mut Thread, frame: Frame, count: usize)
     requires method { RunsMethod thread.old }
     requires room { vec_len thread.old.frames < vec_capacity thread.old.frames }

@@ -116,6 +116,36 @@ fn take_result(frame: &mut Frame, value: Option<Value>) -> Result<(), TagFault>
     }
 }
 
+// Keeps the memory of a frame that has ended in the frame on top, if that is a method's.
+#[inline]
+fn keep_memory(thread: &mut Thread, ended: Frame)
+    ensures { (fs : List StackFrame) (r : ThreadRest) → Stands thread.old fs r → Stands thread.new fs r }
+{
+    let Some(top) = thread.frames.last_mut() else {
+        return;
+    };
+    match top {
+        StackFrame::Method(caller) => caller.keep(ended),
+        StackFrame::Initialization { class: _, stage: _ } => {}
+        StackFrame::Entry => {}
+    }
+}
+
+// Drops the top frame, if there is one; the frame below keeps its memory, if both are methods'.
+#[inline]
+fn end_top(thread: &mut Thread)
+    ensures { (fs : List StackFrame) (r : ThreadRest) → Stands thread.old fs r → Stands thread.new (drop 1 fs) r }
+{
+    let Some(top) = thread.frames.pop() else {
+        return;
+    };
+    match top {
+        StackFrame::Method(ended) => keep_memory(thread, ended),
+        StackFrame::Initialization { class: _, stage: _ } => {}
+        StackFrame::Entry => {}
+    }
+}
+
 /// Returns to the frame below the top one: if a method runs in it, it takes the result, if there is
 /// one, and moves on; the frame of an initialization stays as it is. `Overflow` where the operands do
 /// not fit. OutOfMemory: its instruction has no number after it, which no code that fits in memory
@@ -133,7 +163,7 @@ pub(crate) fn leave_top(thread: &mut Thread, value: Option<Value>) -> Result<(),
             }
             match take_result(frame, value) {
                 Ok(()) => {
-                    let _top = thread.frames.pop();
+                    end_top(thread);
                     Ok(())
                 }
                 Err(fault) => Err(Halt::Stopped(Stop::TagFault(fault))),

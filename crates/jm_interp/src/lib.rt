@@ -11,7 +11,7 @@
 //! are named as the model's (`jm_world`): `stepping` chooses what is to be done, and `families` among instructions of one kind; `plain`, `constants`,
 //! `arrays`, `instances`, `fields`, `static_fields`, `type_checks`, `invocation`, `selections`,
 //! `special_calls`, `returns` and `built_in_methods` are the instructions, with the text of Strings in
-//! `strings` and what variables keep of values in `narrowing`. Of an invoke, `receivers` tests the
+//! `strings`, over `characters`, and what variables keep of values in `narrowing`. Of an invoke, `receivers` tests the
 //! receiver and the arguments, `declared` finds methods by their numbers, and `calls`, `instance_calls`,
 //! `codeless_calls` and `string_methods` do what is called: a method with code, an abstract one or one of
 //! a built-in class;
@@ -21,9 +21,9 @@
 //! `constant_values`, over the calls on
 //! one thread in `top_frame`, `top_object`, `frames` and `print_operands`. A plain instruction looks up
 //! its thread, its top frame and its code, and takes no memory; [`run_plain`] looks these up once for
-//! as many as stand in a row (`plain_runs`), and makes those between them that touch one object or one
+//! as many as stand in a row (`plain_runs`; `frequent` has those that programs make most), and makes those between them that touch one object or one
 //! static field too (`object_rows`). The crate stands on `jm_state`,
-//! `jm_linked`, `jm_tables`, `jm_calls`, `jm_ops`, `jm_text` and `jm_heap`'s trait.
+//! `jm_linked`, `jm_tables`, `jm_calls`, `jm_ops` and `jm_heap`'s trait.
 #![tactic(auto)]
 
 mod arrays;
@@ -31,6 +31,7 @@ mod at;
 mod athrow;
 mod built_in_methods;
 mod calls;
+mod characters;
 mod class_number;
 mod codeless_calls;
 mod constant_values;
@@ -40,6 +41,7 @@ mod ending;
 mod families;
 mod fields;
 mod frames;
+mod frequent;
 mod handlers;
 mod initialization;
 mod initializers;
@@ -66,6 +68,7 @@ mod strings;
 mod superclass;
 mod text;
 mod thread_entry;
+mod thread_runs;
 mod thread_starts;
 mod throwing;
 mod top_frame;
@@ -76,3 +79,4 @@ mod unwinding;
 pub use plain_runs::run_plain;
 pub use stages::{init_stage, unwind_stage};
 pub use stepping::step_thread;
+pub use thread_runs::{Run, run_thread};

@@ -1,19 +1,20 @@
 // The chars of a String (JVMS 2.4, 5.1).
 
-ghost use Rattle.std.specs.Prelude.{◌≡◌, ℕ, [], ◌∷◌, ◌++◌, IfOk, OnOk, IfSome, MatchResult, Some, option_map};
+ghost use Rattle.std.specs.Prelude.{◌≡◌, ℕ, [], ◌∷◌, ◌++◌, IfOk, IfSome, MatchResult, Some, option_map};
 ghost use Rattle.jm_values.specs.Content.{AllResident, name_of, serial_at, object_at};
 ghost use Rattle.jm_values.specs.Objects.{ObjectOf};
 ghost use Rattle.jm_world.specs.Text.{units_of, utf8_text};
 ghost use Rattle.jm_heap.specs.declared.class_id.ClassId.{ClassId};
-ghost use Rattle.jm_interp.specs.Strings.{is_string, chars_of, LiesAt, StringGives, StringHalts};
+ghost use Rattle.jm_interp.specs.Characters.{Continues, IsHalf, Said, WritesUnits};
+ghost use Rattle.jm_interp.specs.Strings.{is_string, chars_of, LiesAt, OfObject, StringGives, StringHalts};
 
+use crate::characters::{char_of, write_end, write_unit};
 use jm_builtins::BuiltInClass;
 use jm_heap::{ClassId, Heap};
 use jm_state::Halt;
-use jm_text::Utf8;
 use jm_values::{Place, TagFault, Value};
 use jm_world::Stop;
-use std::alloc::{AllocError, Global};
+use std::alloc::AllocError;
 
 const STRING: u32 = BuiltInClass::String as u32;
 
@@ -46,51 +47,60 @@ pub(crate) fn chars_of<H: Heap>(heap: &H, string: Place) -> Option<Place>
     }
 }
 
-// Puts the code unit of an element behind the others: the low 16 bits of an int.
-fn push_unit(units: &mut Vec<u16>, element: Value) -> Result<(), AllocError>
-    ensures { OnOk result (units.new.items ≡ units.old.items ++ units_of (element ∷ [])) }
+// Writes the code unit of an element, if it is one, behind a first half that waits.
+fn write_element(
+    output: &mut Vec<u8>,
+    half: Option<u16>,
+    element: Value,
+) -> Result<Option<u16>, AllocError>
+    requires { IsHalf half }
+    ensures behind { Continues output.old.items output.new.items }
+    ensures half { IfOk result IsHalf }
+    ensures text { IfOk result (WritesUnits output.old.items half (units_of (element ∷ [])) output.new.items) }
 {
-    if let Value::Int(n) = element {
-        units.push((n.cast_unsigned() % 0x1_0000) as u16)?;
+    match element {
+        Value::Int(n) => write_unit(output, half, char_of(n)),
+        Value::Long(_) | Value::Ref(_) | Value::Null => Ok(half),
     }
-    Ok(())
 }
 
-// The code units of the array of chars at a place. The one error is that memory was refused.
-fn units_of<H: Heap>(alloc: Global, heap: &H, array: Place) -> Result<Vec<u16>, AllocError>
+// Writes the text of the array of chars at a place. The one error is that memory was refused.
+fn write_chars<H: Heap>(output: &mut Vec<u8>, heap: &H, array: Place) -> Result<(), AllocError>
     requires { LiesAt (H.content heap.now) array }
-    ensures { IfOk result (λ units. (k : ℕ) (o : ObjectOf ClassId) → serial_at (H.content heap.now) array ≡ Some k
-        → object_at (H.content heap.now) k ≡ Some o → units.items ≡ units_of o.values) }
+    ensures { MatchResult result
+        (λ done. OfObject (H.content heap.now) array (λ o. output.new.items ≡ output.old.items ++ utf8_text (units_of o.values)))
+        (λ e. Continues output.old.items output.new.items) }
 {
-    let mut units = Vec::new(alloc);
+    let mut half = None;
     for index in 0..heap.length(array) {
-        push_unit(&mut units, heap.get(array, index))?;
+        half = match write_element(output, half, heap.get(array, index)) {
+            Ok(half) => half,
+            Err(refused) => return Err(refused),
+        };
     }
-    Ok(units)
+    match write_end(output, half) {
+        Ok(()) => Ok(()),
+        Err(refused) => Err(refused),
+    }
 }
 
-// The text in UTF-8. The one error is that memory was refused.
-fn utf8_of(alloc: Global, units: &[u16]) -> Result<Vec<u8>, AllocError>
-    ensures { IfOk result (λ bytes. bytes.items ≡ utf8_text units.now) }
-{
-    let text = Utf8(units).to_string(alloc)?;
-    Ok(text.into_bytes())
-}
-
-/// The text of the String at a place, in UTF-8. `WrongKind`: the object is no String. OutOfMemory: a
-/// growth was refused.
-pub(crate) fn string_bytes<H: Heap>(alloc: Global, heap: &H, string: Place) -> Result<Vec<u8>, Halt>
+/// Writes the text of the String at a place, in UTF-8. `WrongKind`: the object is no String.
+/// OutOfMemory: a growth was refused.
+pub(crate) fn write_string<H: Heap>(
+    output: &mut Vec<u8>,
+    heap: &H,
+    string: Place,
+) -> Result<(), Halt>
     requires { LiesAt (H.content heap.now) string }
-    ensures { MatchResult result (λ bytes. StringGives (H.content heap.now) string bytes.items) (StringHalts (H.content heap.now) string) }
+    ensures { MatchResult result
+        (λ done. Said output.old.items output.new.items (StringGives (H.content heap.now) string))
+        (λ halt. StringHalts (H.content heap.now) string halt × Continues output.old.items output.new.items) }
 {
     let Some(chars) = chars_of(heap, string) else {
         return Err(Halt::Stopped(Stop::TagFault(TagFault::WrongKind)));
     };
-    let Ok(units) = units_of(alloc, heap, chars) else {
-        return Err(Halt::OutOfMemory);
-    };
-    match utf8_of(alloc, units.as_slice()) {
-        Ok(bytes) => Ok(bytes),
+    match write_chars(output, heap, chars) {
+        Ok(()) => Ok(()),
         Err(_) => Err(Halt::OutOfMemory),
     }
 }

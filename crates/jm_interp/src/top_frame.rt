@@ -13,7 +13,7 @@ ghost use Rattle.jm_state.specs.declared.thread.StackFrame.TheVariants.{Method};
 ghost use Rattle.jm_interp.specs.Standing.{ThreadRest, Stands, RunsMethod, MayGoOn, InAnyMethod};
 ghost use Rattle.jm_interp.specs.Stepped.{IsStepped};
 
-use jm_frames::Frame;
+use jm_frames::{Frame, Spare};
 use jm_ops::{Fault, Flow, step};
 use jm_program::Plain;
 use jm_state::{StackFrame, Thread};
@@ -30,6 +30,22 @@ pub(crate) fn top_method(thread: &Thread) -> &Frame
     };
     match top {
         StackFrame::Method(frame) => frame,
+        StackFrame::Initialization { class: _, stage: _ } => unreachable!(),
+        StackFrame::Entry => unreachable!(),
+    }
+}
+
+/// Takes the memory that the top frame, a method's, keeps for those that are called from it.
+#[inline]
+pub(crate) fn take_spare(thread: &mut Thread) -> Spare
+    requires { RunsMethod thread.old }
+    ensures { (fs : List StackFrame) (r : ThreadRest) → Stands thread.old fs r → Stands thread.new fs r }
+{
+    let Some(top) = thread.frames.last_mut() else {
+        unreachable!();
+    };
+    match top {
+        StackFrame::Method(frame) => frame.take_spare(),
         StackFrame::Initialization { class: _, stage: _ } => unreachable!(),
         StackFrame::Entry => unreachable!(),
     }

@@ -1,3 +1,4 @@
+pub mod FrequentRows
 pub mod Whole
 pub mod BuiltInNumbers
 pub mod BuiltIns

@@ -2,6 +2,7 @@ pub mod Later
 pub mod Kinds
 pub mod Methods
 pub mod Tables
+pub mod Frequent
 pub mod Links
 pub mod LaterTexts
 pub mod Named

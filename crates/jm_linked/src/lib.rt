@@ -5,11 +5,15 @@
 //! kept by the type (`specs/Links`), so that whoever runs the table runs the classes. Classes are
 //! numbered with the built-in ones first, in their order, and then the program's.
 //!
+//! The plain instructions that programs make most are in a form of their own ([`Frequent`]), which one
+//! look at a tag tells apart.
+//!
 //! What is in a program that the machine cannot run yet is a [`LaterPart`]; a linked program may
 //! have some. The crate stands on `jm_program`, `jm_builtins`, `jm_world` and `jm_tables`.
 #![tactic(auto)]
 
 mod assignability;
+mod frequent;
 mod instruction;
 mod kind;
 mod later;
@@ -17,6 +21,7 @@ mod linked;
 mod method;
 mod tables;
 
+pub use frequent::Frequent;
 pub use instruction::{
     InvokedMethod, LinkedElement, LinkedInstr, LinkedType, MemberNumber, PrintMethod, Printed,
 };

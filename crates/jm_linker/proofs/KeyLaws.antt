@@ -1,5 +1,5 @@
 -- Keys are equal exactly where names and types are the same.
-use Rattle.std.proofs.Common.{◌≡◌, ℕ, ◌+◌, ◌<◌, Bool, ◌&&◌, List, [], ◌∷◌, ◌++◌, Option, Some, None, length, get_or, take, refl, sym, subst, ◌∙◌}
+use Rattle.std.proofs.Common.{◌≡◌, ℕ, ◌+◌, ◌<◌, Bool, ◌&&◌, List, [], ◌∷◌, ◌++◌, Option, Some, None, length, get_or, take, refl, sym, ap, subst, ◌∙◌, arith, eqb}
 use Rattle.std.proofs.lemmas.List.{take_more}
 use Rattle.std.specs.Prelude.{nat_eq}
 use Rattle.std.specs.Ordering.{is_eq, nat_cmp, ordering_then}
@@ -15,6 +15,7 @@ use Rattle.jm_program.specs.declared.descriptor.ElementType.TheVariants as eleme
 use Rattle.jm_program.specs.declared.descriptor.FieldType.{FieldType}
 use Rattle.jm_program.specs.declared.descriptor.MethodDescriptor.{MethodDescriptor}
 use Rattle.jm_world.specs.Types.{same_element, same_type, same_types, same_result, same_method_type}
+use Rattle.jm_linker.proofs.TypeLaws.{same_types_none}
 use Rattle.jm_linker.specs.declared.key.ElementKey.{ElementKey}
 use Rattle.jm_linker.specs.declared.key.ElementKey.TheVariants.{Base, Class}
 use Rattle.jm_linker.specs.declared.key.TypeKey.{TypeKey}
@@ -65,7 +66,7 @@ elements_tied (Base a) (Class b) (element.Base s) (element.Base u) h g = absurd 
 elements_tied (Class a) (Base b) (element.Class s) (element.Class u) h g = absurd g
 elements_tied (Class a) (Class b) (element.Class s) (element.Base u) h g = absurd g
 
-types_tied : (k l : TypeKey) (t u : FieldType) → IsTypeKey k t → IsTypeKey l u → is_eq ((type_ord.ghosts).cmp k l) ≡ same_type t u
+pub types_tied : (k l : TypeKey) (t u : FieldType) → IsTypeKey k t → IsTypeKey l u → is_eq ((type_ord.ghosts).cmp k l) ≡ same_type t u
 types_tied k l t u h g =
     tied_then (nat_cmp k.dimensions l.dimensions) ((element_ord.ghosts).cmp k.element l.element)
     ∙ both _ _ _ _ (numbers_tied _ _ _ _ h.0 g.0) (elements_tied k.element l.element t.element u.element h.1 g.1)
@@ -106,3 +107,9 @@ methods_tied k l m n t u h i =
     ∙ both _ _ _ _ (texts_tied _ _ _ _ h.0 i.0)
     (tied_then (slice_cmp (type_ord.ghosts).cmp k.parameters.items l.parameters.items) (option_cmp (type_ord.ghosts).cmp k.result l.result)
     ∙ both _ _ _ _ (lists_tied _ _ _ _ h.1.0 i.1.0) (results_tied _ _ _ _ h.1.1 i.1.1))
+
+-- where no key is left, no type is
+pub no_keys : (ks : List TypeKey) (ts us : List FieldType) → length ks ≡ 0 → AreTypeKeys ks us → eqb (length ts) 0 ≡ same_types ts us
+no_keys [] ts [] e h = sym (same_types_none ts)
+no_keys [] ts (u ∷ us) e h = absurd h
+no_keys (k ∷ ks) ts us e h = absurd (omega (arith, e))

@@ -4,6 +4,7 @@ pub mod Seen
 pub mod KeyLaws
 pub mod TableLaws
 pub mod ClassLaws
+pub mod BuiltInLaws
 pub mod WalkLaws
 pub mod FoundLaws
 pub mod CycleLaws

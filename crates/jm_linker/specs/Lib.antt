@@ -1,6 +1,7 @@
 pub mod FaultTexts
 pub mod Answers
 pub mod BuiltInClasses
+pub mod BuiltIns
 pub mod Walks
 pub mod Found
 pub mod Cycles

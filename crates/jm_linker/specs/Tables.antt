@@ -1,5 +1,5 @@
 -- Tables by name: of a class's members, and of a program's classes.
-use Rattle.std.specs.Prelude.{◌≡◌, ℕ, List, Some, option_map, slice_get}
+use Rattle.std.specs.Prelude.{◌≡◌, ◌<◌, ◌^◌, ℕ, List, length, Some, option_map, slice_get}
 use Rattle.std.specs.Borrow.{Bor}
 use Rattle.std.specs.BTreeMap.{BTreeMap, get}
 use Rattle.std.specs.Cmp.Lexicographic.{slice_cmp}
@@ -15,6 +15,7 @@ use Rattle.jm_linker.specs.BuiltInClasses.{number_from}
 use Rattle.jm_linker.specs.Keys.{IsFieldKey, IsMethodKey}
 use Rattle.jm_linker.specs.declared.key.FieldKey.{FieldKey}
 use Rattle.jm_linker.specs.declared.key.MethodKey.{MethodKey}
+use Rattle.jm_linker.specs.declared.members.MemberTables.{MemberTables}
 use Rattle.jm_linker.specs.declared.members.NumberedField.{NumberedField}
 use Rattle.jm_linker.specs.declared.members.NumberedMethod.{NumberedMethod}
 use Rattle.jm_linker.specs.contracts.key.FieldKeyOrd.TheImpl as field_ord
@@ -44,3 +45,13 @@ by_units x y = slice_cmp nat_cmp x.now y.now
 -- the table has the number of the first class of each name
 abbrev pub HasNumbers : BTreeMap (Bor (List ℕ)) ℕ → List ClassParts → Type 0
 HasNumbers table program = (name : Bor (List ℕ)) → get by_units table name ≡ number_from 0 program name.now
+
+-- the tables have the members of the class
+abbrev pub HasMembers : MemberTables → ClassParts → Type 0
+HasMembers tables class =
+    HasFields tables.fields class.fields × NumbersFields tables.fields class.fields
+    × HasMethods tables.methods class.methods × NumbersMethods tables.methods class.methods
+
+-- the members of the class have numbers in 32 bits
+abbrev pub HasShortNumbers : ClassParts → Type 0
+HasShortNumbers class = (length class.fields < 2 ^ 32) × (length class.methods < 2 ^ 32)

@@ -12,7 +12,9 @@ ghost use Rattle.jm_literals.specs.Texts.{number_of_text};
 ghost use Rattle.jm_linked.specs.Links.{class_numbered};
 ghost use Rattle.jm_linked.specs.Methods.{all_methods, selector_of};
 ghost use Rattle.jm_linker.specs.Answers.{Answers, IsOutOfMemory};
+ghost use Rattle.jm_builtins.specs.List.{the_builtins};
 ghost use Rattle.jm_linker.specs.BuiltInClasses.{built_in_classes, class_in, is_built_in_name, number_from};
+ghost use Rattle.jm_linker.specs.BuiltIns.{as_built_in};
 ghost use Rattle.jm_linker.specs.Keys.{IsMethodKey};
 ghost use Rattle.jm_linker.specs.NumberedClasses.{IsNumberOf};
 ghost use Rattle.jm_linker.specs.Selectors.{HasFirst, found_methods};
@@ -20,7 +22,7 @@ ghost use Rattle.jm_linker.specs.Tables.{HasNumbers};
 
 use crate::fault::LinkFault;
 use crate::key::MethodKey;
-use crate::members::{Members, members_of_classes, members_of_program};
+use crate::members::{Members, members_of_program};
 use crate::name::is_same;
 use crate::selectors::{ClassMethod, methods_of_all, selectors_of};
 use jm_builtins::{BuiltIn, builtins};
@@ -114,11 +116,50 @@ fn class_of(built_in: BuiltIn) -> ClassParts
 pub fn classes_of_built_ins(alloc: Global) -> Result<Vec<ClassParts>, AllocError>
     ensures { IfOk result (λ classes. classes.items ≡ built_in_classes) }
 {
-    let mut classes = Vec::new(alloc);
-    for built_in in builtins(alloc)?.into_vec() {
+    let built_ins = builtins(alloc)?.into_vec();
+    let mut classes = Vec::with_capacity(alloc, built_ins.len())?;
+    for built_in in built_ins {
         classes.push(class_of(built_in))?;
     }
     Ok(classes)
+}
+
+fn built_in_of(class: ClassParts) -> BuiltIn
+    ensures { result ≡ as_built_in class }
+{
+    let ClassParts {
+        flags,
+        name,
+        superclass,
+        interfaces,
+        fields,
+        methods,
+        ..
+    } = class;
+    BuiltIn {
+        flags,
+        name,
+        superclass,
+        interfaces,
+        fields,
+        methods,
+    }
+}
+
+/// The built-in classes, of which these are the classes.
+#[tactic(auto, using(crate::proofs::BuiltInLaws::built_ins_back))]
+pub fn built_ins_of(
+    alloc: Global,
+    classes: Vec<ClassParts>,
+) -> Result<Sequence<BuiltIn>, AllocError>
+    requires { classes.items ≡ built_in_classes }
+    ensures { IfOk result (λ built_ins. built_ins ≡ the_builtins) }
+{
+    let mut built_ins = Vec::with_capacity(alloc, classes.len())?;
+    for class in classes {
+        built_ins.push(built_in_of(class))?;
+    }
+    Ok(Sequence::new(built_ins))
 }
 
 fn find_in<'a>(classes: &'a [ClassParts], name: &Name) -> Option<&'a ClassParts>
@@ -163,7 +204,8 @@ fn members_at<'c, 'a>(classes: &'c [Members<'a>], number: usize) -> &'c Members<
     &classes[number]
 }
 
-// The members of each of the built-in classes, in none of which one stands twice.
+// The members of each of the built-in classes, in none of which one stands twice. They are few, and
+// programs use few of them: tables of them would take longer to make than they would save.
 fn members_of_built_ins<'a>(
     alloc: Global,
     built_ins: &'a [ClassParts],
@@ -171,7 +213,11 @@ fn members_of_built_ins<'a>(
     requires { built_ins.now ≡ built_in_classes }
     ensures { MatchResult result (λ all. map (λ m. m.class.now) all.items ≡ built_ins.now) (λ fault. IsOutOfMemory fault) }
 {
-    members_of_classes(alloc, built_ins)
+    let mut all = Vec::with_capacity(alloc, built_ins.len())?;
+    for class in built_ins {
+        all.push(Members::searched(class)?)?;
+    }
+    Ok(all)
 }
 
 impl<'a> Names<'a> {

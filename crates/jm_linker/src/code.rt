@@ -20,9 +20,9 @@ use crate::fault::LinkFault;
 use crate::later::{is_system_out, print_method};
 use crate::number::short_number;
 use crate::references::{link_field, link_handlers, link_method, link_new, link_ref};
-use jm_linked::{LinkedConstant, LinkedInstr, LinkedMethod, PrintMethod, ValueKind};
+use jm_linked::{Frequent, LinkedConstant, LinkedInstr, LinkedMethod, PrintMethod, ValueKind};
 use jm_program::{
-    Class, Code, Constant, FieldOp, FieldRef, Instr, InvokeOp, MethodDescriptor, MethodRef,
+    Class, Code, Constant, FieldOp, FieldRef, Instr, InvokeOp, MethodDescriptor, MethodRef, Plain,
     Sequence,
 };
 use std::alloc::Global;
@@ -35,6 +35,17 @@ fn link_constant<'a>(classes: &Classes<'a>, constant: &'a Constant) -> LinkedIns
         LinkedConstant::Int(number) => LinkedInstr::Int(number),
         LinkedConstant::Long(number) => LinkedInstr::Long(number),
         LinkedConstant::Literal(number) => LinkedInstr::Literal(number),
+    }
+}
+
+// A plain instruction, in the form in which it is made.
+fn link_plain(plain: &Plain) -> Result<LinkedInstr, LinkFault>
+    ensures refusal { (program : List ClassParts) → Answers result (instruction_refusal program (instr.Plain plain.now)) }
+    ensures linked { (program : List ClassParts) → IfOk result (λ linked. LinksIn program linked (instr.Plain plain.now)) }
+{
+    match Frequent::of(plain) {
+        Some(op) => Ok(LinkedInstr::Frequent(op)),
+        None => Ok(LinkedInstr::Plain(plain.share()?)),
     }
 }
 
@@ -100,7 +111,7 @@ fn link_instruction<'a>(
     ensures linked { IfOk result (λ linked. LinksIn classes.now.program.now linked instruction.now) }
 {
     match instruction {
-        Instr::Plain(plain) => Ok(LinkedInstr::Plain(plain.share()?)),
+        Instr::Plain(plain) => link_plain(plain),
         Instr::Array(op) => Ok(LinkedInstr::Array(*op)),
         Instr::Return(op) => Ok(LinkedInstr::Return(*op)),
         Instr::Throw => Ok(LinkedInstr::Throw),

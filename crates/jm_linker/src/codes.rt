@@ -14,7 +14,7 @@ fn numbered_codes<'a>(
 ) -> Result<Vec<Option<u32>>, AllocError>
     ensures { IfOk result (λ codes. codes.items ≡ numbered_codes 0 (found_methods methods.now)) }
 {
-    let mut codes = Vec::new(alloc);
+    let mut codes = Vec::with_capacity(alloc, methods.len())?;
     let mut next: u32 = 0;
     for found in methods {
         if found.method.code.is_none() {

@@ -1,6 +1,10 @@
 // The members of a class by name and type, in an order in which equal ones meet.
 
-ghost use Rattle.std.specs.Prelude.{◌≡◌, IfOk};
+ghost use Rattle.std.specs.Prelude.{◌≡◌, ◌&&◌, ℕ, List, Option, IfOk};
+ghost use Rattle.jm_program.specs.Names.{same_text};
+ghost use Rattle.jm_program.specs.declared.descriptor.FieldType.{FieldType};
+ghost use Rattle.jm_program.specs.declared.descriptor.MethodDescriptor.{MethodDescriptor};
+ghost use Rattle.jm_world.specs.Types.{same_type, same_types, same_result, same_method_type};
 ghost use Rattle.jm_linker.specs.Keys.{IsElementKey, IsTypeKey, AreTypeKeys, IsResultKey, IsFieldKey, IsMethodKey};
 
 use crate::types::letter;
@@ -57,7 +61,7 @@ fn type_key<'a>(field_type: &'a FieldType) -> TypeKey<'a>
 fn type_keys<'a>(alloc: Global, types: &'a [FieldType]) -> Result<Vec<TypeKey<'a>>, AllocError>
     ensures { IfOk result (λ keys. AreTypeKeys keys.items types.now) }
 {
-    let mut keys = Vec::new(alloc);
+    let mut keys = Vec::with_capacity(alloc, types.len())?;
     for field_type in types {
         keys.push(type_key(field_type))?;
     }
@@ -96,4 +100,51 @@ pub fn method_key<'a>(
         parameters: type_keys(alloc, descriptor.parameters.as_slice())?,
         result: result_key(&descriptor.return_type),
     })
+}
+
+// Whether the key is that of the type.
+fn is_type_key(key: &TypeKey<'_>, field_type: &FieldType) -> bool
+    ensures { (t : FieldType) → IsTypeKey key.now t → result ≡ same_type field_type.now t }
+{
+    type_key(field_type).cmp(key).is_eq()
+}
+
+// Whether the keys are those of the types.
+fn are_type_keys(keys: &[TypeKey<'_>], types: &[FieldType]) -> bool
+    ensures { (ts : List FieldType) → AreTypeKeys keys.now ts → result ≡ same_types types.now ts }
+{
+    let Some((key, keys)) = keys.split_first() else {
+        return types.is_empty();
+    };
+    let Some((field_type, types)) = types.split_first() else {
+        return false;
+    };
+    is_type_key(key, field_type) && are_type_keys(keys, types)
+}
+
+// Whether the key is that of what a method returns.
+fn is_result_key(key: &Option<TypeKey<'_>>, returned: &Option<FieldType>) -> bool
+    ensures { (t : Option FieldType) → IsResultKey key.now t → result ≡ same_result returned.now t }
+{
+    match (key, returned) {
+        (None, None) => true,
+        (Some(key), Some(field_type)) => is_type_key(key, field_type),
+        _ => false,
+    }
+}
+
+/// Whether the key is that of a field of the name and type.
+pub fn is_field_key(key: &FieldKey<'_>, name: &Name, field_type: &FieldType) -> bool
+    ensures { (n : List ℕ) (t : FieldType) → IsFieldKey key.now n t → result ≡ (same_text name.now n && same_type field_type.now t) }
+{
+    name.units() == key.name && is_type_key(&key.descriptor, field_type)
+}
+
+/// Whether the key is that of a method of the name and type.
+pub fn is_method_key(key: &MethodKey<'_>, name: &Name, descriptor: &MethodDescriptor) -> bool
+    ensures { (n : List ℕ) (t : MethodDescriptor) → IsMethodKey key.now n t → result ≡ (same_text name.now n && same_method_type descriptor.now t) }
+{
+    name.units() == key.name
+        && are_type_keys(&key.parameters, descriptor.parameters.as_slice())
+        && is_result_key(&key.result, &descriptor.return_type)
 }

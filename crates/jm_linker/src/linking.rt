@@ -8,10 +8,11 @@ ghost use Rattle.jm_linked.specs.Later.{later_part};
 ghost use Rattle.jm_linked.specs.Links.{coded_from, place_of};
 ghost use Rattle.jm_linked.specs.Tables.{AreTables};
 ghost use Rattle.jm_linker.specs.Answers.{Answers, IsOutOfMemory};
+ghost use Rattle.jm_linker.specs.BuiltInClasses.{built_in_classes};
 ghost use Rattle.jm_linker.specs.LinkedMethods.{LinksAlone};
 ghost use Rattle.jm_linker.specs.Linking.{Faults};
 
-use crate::classes::{Classes, Names, classes_of_built_ins};
+use crate::classes::{Classes, Names, built_ins_of, classes_of_built_ins};
 use crate::code::link_classes;
 use crate::cycles::check_cycles;
 use crate::duplicates::no_duplicate_classes;
@@ -20,9 +21,8 @@ use crate::later::later_part;
 use crate::main_method::{check_main, main_among_coded};
 use crate::parents::check_parents;
 use crate::tables::tables_of;
-use jm_builtins::builtins;
 use jm_linked::{Linked, LinkedMethod, Tables};
-use jm_program::{Class, Sequence, Shared};
+use jm_program::{Class, ClassParts, Sequence, Shared};
 use std::alloc::Global;
 
 fn check_all_parents<'a>(alloc: Global, classes: &Classes<'a>) -> Result<(), LinkFault>
@@ -71,8 +71,14 @@ fn link_methods(alloc: Global, names: Names) -> Result<LinkedParts, LinkFault>
     })
 }
 
-// The linked program of classes that load and of what is made of them.
-fn linked_of(alloc: Global, classes: Vec<Class>, parts: LinkedParts) -> Result<Linked, LinkFault>
+// The linked program of classes that load, of the built-in ones and of what is made of them.
+fn linked_of(
+    alloc: Global,
+    classes: Vec<Class>,
+    built_ins: Vec<ClassParts>,
+    parts: LinkedParts,
+) -> Result<Linked, LinkFault>
+    requires built_in { built_ins.items ≡ built_in_classes }
     requires loads { refusal classes.items ≡ None }
     requires places { map place_of parts.methods.items ≡ coded_from 0 classes.items }
     requires linked { AllByRecursion (LinksAlone classes.items) parts.methods.items }
@@ -81,7 +87,7 @@ fn linked_of(alloc: Global, classes: Vec<Class>, parts: LinkedParts) -> Result<L
     ensures { MatchResult result (λ l. l.program ≡ classes.items) (λ fault. IsOutOfMemory fault) }
 {
     let main = main_among_coded(&classes)?;
-    let built_ins = builtins(alloc)?;
+    let built_ins = built_ins_of(alloc, built_ins)?;
     let LinkedParts {
         methods,
         literals,
@@ -109,7 +115,7 @@ pub fn link(alloc: Global, classes: Vec<Class>) -> Result<Linked, LinkFault>
 {
     let built_ins = classes_of_built_ins(alloc)?;
     let parts = link_methods(alloc, Names::of(alloc, &classes, &built_ins)?)?;
-    let linked = linked_of(alloc, classes, parts)?;
+    let linked = linked_of(alloc, classes, built_ins, parts)?;
     match later_part(linked.classes()) {
         Some(part) => Err(LinkFault::Later(part)),
         None => Ok(linked),

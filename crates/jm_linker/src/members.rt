@@ -1,17 +1,18 @@
-// The members that a class declares, found by name and type through a table.
+// The members that a class declares, found by name and type.
 
-ghost use Rattle.std.specs.Prelude.{◌≡◌, List, ℕ, IfOk, IfErr, IfSome, Some, [], map, option_map, slice_get};
+ghost use Rattle.std.specs.Prelude.{◌≡◌, ◌<◌, ◌^◌, List, ℕ, length, IfOk, IfErr, IfSome, MatchResult, Some, [], map, option_map, slice_get};
+ghost use Rattle.std.specs.Option.{ForSome, ForNone};
 ghost use Rattle.jm_program.specs.declared.descriptor.FieldType.{FieldType};
 ghost use Rattle.jm_program.specs.declared.descriptor.MethodDescriptor.{MethodDescriptor};
 ghost use Rattle.jm_world.specs.Classes.{field_in, method_in};
 ghost use Rattle.jm_world.specs.Loads.{duplicate_fields, duplicate_methods, duplicate_members, first_of_all};
 ghost use Rattle.jm_world.specs.Resolution.{nameable};
-ghost use Rattle.jm_linker.specs.Answers.{Answers};
+ghost use Rattle.jm_linker.specs.Answers.{Answers, IsOutOfMemory};
 ghost use Rattle.jm_linker.specs.Keys.{IsFieldKey, IsMethodKey};
-ghost use Rattle.jm_linker.specs.Tables.{HasFields, HasMethods, NumbersFields, NumbersMethods};
+ghost use Rattle.jm_linker.specs.Tables.{HasFields, HasMembers, HasMethods, HasShortNumbers, NumbersFields, NumbersMethods};
 
 use crate::fault::{LinkFault, duplicate_member};
-use crate::key::{FieldKey, MethodKey, field_key, method_key};
+use crate::key::{FieldKey, MethodKey, field_key, is_field_key, is_method_key, method_key};
 use crate::number::short_number;
 use jm_program::{Class, ClassParts, Field, Method};
 use std::alloc::Global;
@@ -31,16 +32,21 @@ pub struct NumberedMethod<'a> {
     pub method: &'a Method,
 }
 
-/// A class with its fields and methods by name and type, found in logarithmic time.
+/// The fields and the methods of a class by name and type, found in logarithmic time.
+#[derive(Drop)]
+pub struct MemberTables<'a> {
+    fields: BTreeMap<FieldKey<'a>, NumberedField<'a>>,
+    methods: BTreeMap<MethodKey<'a>, NumberedMethod<'a>>,
+}
+
+/// A class with its fields and methods: by name and type in tables, or, without tables, as they
+/// stand in the class.
 #[derive(Drop)]
 pub struct Members<'a> {
     pub class: &'a ClassParts,
-    fields: BTreeMap<FieldKey<'a>, NumberedField<'a>>,
-    methods: BTreeMap<MethodKey<'a>, NumberedMethod<'a>>,
-    ghost has_fields: { HasFields fields class.now.fields },
-    ghost numbers_fields: { NumbersFields fields class.now.fields },
-    ghost has_methods: { HasMethods methods class.now.methods },
-    ghost numbers_methods: { NumbersMethods methods class.now.methods },
+    tables: Option<MemberTables<'a>>,
+    ghost tabled: { ForSome tables (λ t. HasMembers t class.now) },
+    ghost short: { ForNone tables (HasShortNumbers class.now) },
 }
 
 // The fields by name and type, or the fault of the first that stands twice (JVMS 4.5).
@@ -81,7 +87,50 @@ fn methods_of<'a>(
     Ok(table)
 }
 
+// The first field that has the key's name and type.
+fn find_field<'a>(fields: &'a [Field], key: &FieldKey<'_>) -> Option<NumberedField<'a>>
+    requires { length fields.now < 2 ^ 32 }
+    ensures field { (name : List ℕ) (t : FieldType) → IsFieldKey key.now name t → option_map (λ f. f.field.now) result ≡ field_in fields.now name t }
+    ensures number { IfSome result (λ f. slice_get fields.now f.number ≡ Some f.field.now) }
+{
+    for (index, field) in fields.iter().enumerate() {
+        if is_field_key(key, &field.name, &field.descriptor) {
+            let number = index as u32;
+            return Some(NumberedField { number, field });
+        }
+    }
+    None
+}
+
+// The first method that has the key's name and type.
+fn find_method<'a>(methods: &'a [Method], key: &MethodKey<'_>) -> Option<NumberedMethod<'a>>
+    requires { length methods.now < 2 ^ 32 }
+    ensures method { (name : List ℕ) (t : MethodDescriptor) → IsMethodKey key.now name t → option_map (λ m. m.method.now) result ≡ method_in methods.now name t }
+    ensures number { IfSome result (λ m. slice_get methods.now m.number ≡ Some m.method.now) }
+{
+    for (index, method) in methods.iter().enumerate() {
+        if is_method_key(key, &method.name, &method.descriptor) {
+            let number = index as u32;
+            return Some(NumberedMethod { number, method });
+        }
+    }
+    None
+}
+
 impl<'a> Members<'a> {
+    /// The class without tables of its members: they are searched, which takes less where they are
+    /// few. Whether one stands twice is not looked at.
+    pub fn searched(class: &'a ClassParts) -> Result<Members<'a>, LinkFault>
+        ensures { MatchResult result (λ members. members.class.now ≡ class.now) (λ fault. IsOutOfMemory fault) }
+    {
+        short_number(class.fields.as_slice().len())?;
+        short_number(class.methods.as_slice().len())?;
+        Ok(Members {
+            class,
+            tables: None,
+        })
+    }
+
     /// The class with its members by name and type, or the fault of the first field or method that
     /// stands twice (JVMS 4.5, 4.6).
     pub fn of(alloc: Global, class: &'a ClassParts) -> Result<Members<'a>, LinkFault>
@@ -92,8 +141,7 @@ impl<'a> Members<'a> {
         let methods = methods_of(alloc, class.methods.as_slice())?;
         Ok(Members {
             class,
-            fields,
-            methods,
+            tables: Some(MemberTables { fields, methods }),
         })
     }
 
@@ -107,9 +155,9 @@ impl<'a> Members<'a> {
         if self.class.name.is_string() {
             return None;
         }
-        match self.fields.get(key) {
-            Some(found) => Some(*found),
-            None => None,
+        match &self.tables {
+            Some(tables) => tables.fields.get(key).copied(),
+            None => find_field(self.class.fields.as_slice(), key),
         }
     }
 
@@ -119,9 +167,9 @@ impl<'a> Members<'a> {
             → option_map (λ m. m.method.now) result ≡ method_in self.now.class.now.methods name t }
         ensures number { IfSome result (λ m. slice_get self.now.class.now.methods m.number ≡ Some m.method.now) }
     {
-        match self.methods.get(key) {
-            Some(found) => Some(*found),
-            None => None,
+        match &self.tables {
+            Some(tables) => tables.methods.get(key).copied(),
+            None => find_method(self.class.methods.as_slice(), key),
         }
     }
 }
@@ -134,24 +182,9 @@ pub fn members_of_program<'a>(
     ensures refusal { Answers result (first_of_all duplicate_members program.now) }
     ensures classes { IfOk result (λ all. map (λ m. m.class.now) all.items ≡ program.now) }
 {
-    let mut all = Vec::new(alloc);
+    let mut all = Vec::with_capacity(alloc, program.len())?;
     for class in program {
         all.push(Members::of(alloc, class.parts())?)?;
-    }
-    Ok(all)
-}
-
-/// The members of each of the classes, or the fault of the first that stands twice in one.
-pub fn members_of_classes<'a>(
-    alloc: Global,
-    classes: &'a [ClassParts],
-) -> Result<Vec<Members<'a>>, LinkFault>
-    ensures refusal { Answers result (first_of_all duplicate_members classes.now) }
-    ensures classes { IfOk result (λ all. map (λ m. m.class.now) all.items ≡ classes.now) }
-{
-    let mut all = Vec::new(alloc);
-    for class in classes {
-        all.push(Members::of(alloc, class)?)?;
     }
     Ok(all)
 }

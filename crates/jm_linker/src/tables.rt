@@ -65,7 +65,7 @@ fn above_of<'a>(
 fn own_cell(alloc: Global, column: u32) -> Result<Vec<Cell>, AllocError>
     ensures { IfOk result (λ own. own.items ≡ own_cell column ∷ []) }
 {
-    let mut own = Vec::new(alloc);
+    let mut own = Vec::with_capacity(alloc, 1)?;
     own.push(Cell { column, number: 0 })?;
     Ok(own)
 }
@@ -74,7 +74,7 @@ fn own_cell(alloc: Global, column: u32) -> Result<Vec<Cell>, AllocError>
 fn heirs_of<'a>(alloc: Global, classes: &Classes<'a>) -> Result<Option<Vec<Declared>>, AllocError>
     ensures { IfOk result (λ found. IfSome found (λ heirs. AreClasses classes.now.program.now (height classes.now.program.now) heirs.items)) }
 {
-    let mut heirs = Vec::new(alloc);
+    let mut heirs = Vec::with_capacity(alloc, classes.height())?;
     for number in 0..classes.height() {
         let Ok(column) = u32::try_from(number) else {
             return Err(AllocError);
@@ -109,7 +109,7 @@ fn fields_of<'a>(
 ) -> Result<Option<Vec<DeclaredFields<'a>>>, AllocError>
     ensures { IfOk result (λ found. IfSome found (λ fields. AreTheirFields classes.now.program.now heirs.now (length heirs.now) fields.items)) }
 {
-    let mut fields = Vec::new(alloc);
+    let mut fields = Vec::with_capacity(alloc, heirs.len())?;
     for (number, heir) in heirs.iter().enumerate() {
         let Some(class) = classes.class_at(number) else {
             return Ok(None);
@@ -129,7 +129,7 @@ fn superclasses_in(
 ) -> Result<Vec<Option<u32>>, AllocError>
     ensures { IfOk result (λ numbers. numbers.items ≡ map (λ (d : ModelFields). d.superclass) fields.now) }
 {
-    let mut numbers = Vec::new(alloc);
+    let mut numbers = Vec::with_capacity(alloc, fields.len())?;
     for class in fields {
         numbers.push(class.superclass)?;
     }
@@ -137,45 +137,25 @@ fn superclasses_in(
 }
 
 // When a class is placed: after those of lower ranks, which all of the program's classes have that
-// are right above one, and of the built-in ones after those with fewer superclasses, and after the
-// interfaces among those of as many.
+// are right above one. Of the built-in ones, each of which stands after its superclass, the
+// interfaces come right after Object.
 #[derive(Clone, Copy)]
 struct Turn {
     rank: u32,
-    superclasses: u32,
-    is_class: bool,
+    depth: u8,
     number: u32,
-}
-
-fn superclasses_of<'a>(classes: &Classes<'a>, class: &'a ClassParts) -> u32 {
-    let mut count: u32 = 0;
-    let mut class = class;
-    for _ in 0..classes.height() {
-        let Some(name) = &class.superclass else {
-            break;
-        };
-        let Some(above) = classes.find(name) else {
-            break;
-        };
-        class = above;
-        count = count.saturating_add(1);
-    }
-    count
 }
 
 // When the built-in class of a number is placed.
 fn turn_of_built_in<'a>(classes: &Classes<'a>, number: usize, short: u32) -> Turn {
-    let (superclasses, is_class) = match classes.class_at(number) {
-        Some(class) => (
-            superclasses_of(classes, class),
-            !class.flags.has(AccessFlags::INTERFACE),
-        ),
-        None => (0, true),
+    let depth = match classes.class_at(number) {
+        Some(class) if class.superclass.is_none() => 0,
+        Some(class) if class.flags.has(AccessFlags::INTERFACE) => 1,
+        _ => 2,
     };
     Turn {
         rank: 0,
-        superclasses,
-        is_class,
+        depth,
         number: short,
     }
 }
@@ -187,7 +167,7 @@ fn order_of<'a>(
     ranks: &[u32],
 ) -> Result<Vec<u32>, AllocError> {
     let built_ins = classes.built_ins.len();
-    let mut turns = Vec::new(alloc);
+    let mut turns = Vec::with_capacity(alloc, classes.height())?;
     for number in 0..classes.height() {
         let Ok(short) = u32::try_from(number) else {
             return Err(AllocError);
@@ -195,16 +175,15 @@ fn order_of<'a>(
         let turn = match number.checked_sub(built_ins) {
             Some(own) => Turn {
                 rank: ranks.get(own).copied().unwrap_or(0),
-                superclasses: 0,
-                is_class: true,
+                depth: 0,
                 number: short,
             },
             None => turn_of_built_in(classes, number, short),
         };
         turns.push(turn)?;
     }
-    turns.sort_unstable_by_key(|turn| (turn.rank, turn.superclasses, turn.is_class, turn.number));
-    let mut order = Vec::new(alloc);
+    turns.sort_unstable_by_key(|turn| (turn.rank, turn.depth, turn.number));
+    let mut order = Vec::with_capacity(alloc, turns.len())?;
     for turn in turns.as_slice() {
         order.push(turn.number)?;
     }

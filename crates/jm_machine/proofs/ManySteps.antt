@@ -1,5 +1,5 @@
 -- One step more of a thread.
-use Rattle.std.proofs.Common.{◌≡◌, ℕ, ◌+◌, [], ◌∷◌, ◌++◌, refl, sym, ap, ◌∙◌, subst, replicate, arith, append-nil}
+use Rattle.std.proofs.Common.{◌≡◌, ◌≢◌, ℕ, ◌+◌, [], ◌∷◌, ◌++◌, refl, sym, ap, ◌∙◌, subst, replicate, arith, append-nil}
 use Rattle.std.proofs.lemmas.List.{replicate_more, replicate-append-replicate}
 use Rattle.jm_world.specs.World.{World}
 use Rattle.jm_world.specs.Run.{after, reply, run_from, replies_from}
@@ -7,6 +7,7 @@ use Rattle.jm_world.specs.declared.event.Event.TheVariants.{Step}
 use Rattle.jm_world.specs.declared.reply.Reply.{Reply}
 use Rattle.jm_world.specs.declared.reply.ReplyKind.TheVariants.{Done}
 use Rattle.jm_interp.specs.PlainRuns.{MakesDone}
+use Rattle.jm_interp.specs.ThreadRuns.{MakesAlike, MakesOther}
 use Rattle.jm_machine.specs.View.{MachineView, MatchesWorld, machine_parts}
 use Rattle.jm_machine.specs.ManySteps.{AreSteps, steps_of}
 use Rattle.jm_machine.specs.declared.steps.StepsEnd.TheVariants.{AllMade, Other, OutOfMemory}
@@ -39,9 +40,9 @@ pub record AreAlike (w : World) (thread : ℕ) (now : MachineView) (n : ℕ) (r 
 pub none_alike : (w : World) (thread : ℕ) (now : MachineView) (r : Reply) → MatchesWorld now w → r ≡ reply Done w → AreAlike w thread now 0 r
 none_alike w thread now r m is = record { world = m; replies = refl; reply = is }
 
-pub first_alike : (w : World) (thread n : ℕ) (now : MachineView) (r : Reply) → MakesDone (machine_parts now) thread n w → r ≡ reply Done w
-    → AreAlike w thread now n r
-first_alike w thread n now r made is = record { world = made.world; replies = ap (replicate n) is ∙ sym made.replies; reply = is }
+-- where all are done, in one method, they are alike
+pub done_alike : (new : MachineView) {thread n : ℕ} {w : World} → MakesDone (machine_parts new) thread n w → MakesAlike (machine_parts new) thread n w
+done_alike new made = record { world = made.world; replies = made.replies }
 
 module _ {w : World} {thread n : ℕ} {now : MachineView} {r : Reply} (a : AreAlike w thread now n r) (new : MachineView) where
   -- one step more, with any reply
@@ -58,17 +59,39 @@ module _ {w : World} {thread n : ℕ} {now : MachineView} {r : Reply} (a : AreAl
     pub other_made : AreSteps w thread new (record { alike = n; reply = r; end = Other other })
     other_made = record { world = more_world w thread n new m; replies = more_replies w thread n r other a.replies is; reply = a.reply }
 
-  -- more steps that were alike
-  pub more_alike : {k : ℕ} → MakesDone (machine_parts new) thread k (run_from w (steps_of thread n)) → AreAlike w thread new (n + k) r
-  more_alike {k} made =
-      let e = Step thread in
-      let same : r ≡ reply Done (run_from w (steps_of thread n)) = counts_after n w e r a.reply a.replies in
-      let more : replicate k r ≡ replies_from (run_from w (steps_of thread n)) (steps_of thread k) = ap (replicate k) same ∙ sym made.replies in
-      record {
-        world = subst (MatchesWorld new) (world_after w e (n + k) n k refl) made.world;
-        replies = sym (replicate-append-replicate n k r) ∙ (λ i. a.replies i ++ more i) ∙ replies_after w e (n + k) n k refl;
-        reply = a.reply;
-      }
+  -- more steps that are alike
+  module _ (k : ℕ) where
+    replies_more : replies_from (run_from w (steps_of thread n)) (steps_of thread k) ≡ replicate k (reply Done (run_from w (steps_of thread n)))
+        → replicate (n + k) r ≡ replies_from w (steps_of thread (n + k))
+    replies_more alike =
+        let same : r ≡ reply Done (run_from w (steps_of thread n)) = counts_after n w (Step thread) r a.reply a.replies in
+        let more : replicate k r ≡ replies_from (run_from w (steps_of thread n)) (steps_of thread k) = ap (replicate k) same ∙ sym alike in
+        sym (replicate-append-replicate n k r) ∙ (λ i. a.replies i ++ more i) ∙ replies_after w (Step thread) (n + k) n k refl
+
+    pub more_alike : MakesAlike (machine_parts new) thread k (run_from w (steps_of thread n)) → AreAlike w thread new (n + k) r
+    more_alike made = record {
+      world = subst (MatchesWorld new) (world_after w (Step thread) (n + k) n k refl) made.world;
+      replies = replies_more made.replies;
+      reply = a.reply;
+    }
+
+    -- and then one that made or ended a thread
+    pub more_other : (other : Reply) → MakesOther (machine_parts new) thread k (run_from w (steps_of thread n))
+        → ((v : World) → MatchesWorld new v → other ≡ reply Done v) → AreSteps w thread new (record { alike = n + k; reply = r; end = Other other })
+    more_other other made is =
+        let joined = world_after w (Step thread) (n + k) n k refl in
+        record {
+          world = more_world w thread (n + k) new (subst (λ v. MatchesWorld new (after v (Step thread)).world) joined made.world);
+          replies = more_replies w thread (n + k) r other (replies_more made.alike)
+              (is _ made.world ∙ sym made.done ∙ ap (λ v. (after v (Step thread)).reply) joined);
+          reply = a.reply;
+        }
+
+    -- whose reply is not theirs
+    pub other_differs : (other : Reply) → MakesOther (machine_parts new) thread k (run_from w (steps_of thread n))
+        → ((v : World) → MatchesWorld new v → other ≡ reply Done v) → other ≢ r
+    other_differs other made is = λ same.
+        made.other (made.done ∙ sym (is _ made.world) ∙ same ∙ counts_after n w (Step thread) r a.reply a.replies)
 
   -- no step more
   module _ (m : MatchesWorld new (run_from w (steps_of thread n))) where

@@ -15,7 +15,7 @@ use Rattle.jm_machine.specs.declared.code_place.CodePlace.{CodePlace}
 use Rattle.jm_machine.specs.declared.steps.StepsEnd.TheVariants.{AllMade, Other, OutOfMemory}
 use Rattle.jm_machine.proofs.CodePlaces.{stands_apart, stands_there, stays_apart}
 use Rattle.jm_machine.proofs.Counts.{world_after}
-use Rattle.jm_machine.proofs.ManySteps.{AreAlike, all_made, more_alike, one_alike, other_made, step_refused}
+use Rattle.jm_machine.proofs.ManySteps.{AreAlike, all_made, done_alike, more_alike, one_alike, other_made, step_refused}
 
 -- so many steps were alike, and none of them began at a place
 pub record AlikeApart (l : LinkedView) (places : List CodePlace) (w : World) (thread : ℕ) (now : MachineView) (n : ℕ) (r : Reply) : Type 0 where
@@ -58,7 +58,7 @@ module _ {l : LinkedView} {places : List CodePlace} {w : World} {thread n : ℕ}
   module _ (run : ℕ) (new : MachineView) (made : MakesDone (machine_parts new) thread run (run_from w (steps_of thread n))) where
     pub run_made : run ≤ free → AlikeApart l places w thread new (n + run) r
     run_made few = record {
-      alike = more_alike a.alike new made;
+      alike = more_alike a.alike new _ (done_alike new made);
       apart = apart_after l places w thread n run a.apart (run_apart l places _ thread free run run new here made few (omega arith));
     }
 
@@ -73,15 +73,15 @@ module _ {l : LinkedView} {places : List CodePlace} {w : World} {thread n : ℕ}
       module _ (other : Reply) (m : MatchesWorld last (after (run_from w (steps_of thread (n + run))) (Step thread)).world)
           (is : other ≡ (after (run_from w (steps_of thread (n + run))) (Step thread)).reply) where
         pub step_alike : other ≡ r → AlikeApart l places w thread last (n + run + 1) r
-        step_alike same = record { alike = one_alike (more_alike a.alike new made) last other m is same; apart = one_apart }
+        step_alike same = record { alike = one_alike (more_alike a.alike new _ (done_alike new made)) last other m is same; apart = one_apart }
 
         pub step_other : EndApart l places w thread last (record { alike = n + run; reply = r; end = Other other })
-        step_other = record { steps = other_made (more_alike a.alike new made) last other m is; apart = one_apart }
+        step_other = record { steps = other_made (more_alike a.alike new _ (done_alike new made)) last other m is; apart = one_apart }
 
       pub step_none : MatchesWorld last (run_from w (steps_of thread (n + run)))
           → EndApart l places w thread last (record { alike = n + run; reply = r; end = OutOfMemory })
       step_none m = record {
-        steps = step_refused (more_alike a.alike new made) last m;
+        steps = step_refused (more_alike a.alike new _ (done_alike new made)) last m;
         apart = λ k below. one_apart k (omega arith);
       }
 

@@ -11,6 +11,10 @@ use Rattle.jm_machine.specs.declared.steps.Steps.{Steps}
 use Rattle.jm_machine.specs.declared.steps.StepsEnd.{StepsEnd}
 use Rattle.jm_machine.specs.declared.steps.StepsEnd.TheVariants.{AllMade, Other, OutOfMemory}
 
+-- the reply of a step that is done and leads to a world
+abbrev pub done_reply : World → Reply
+done_reply w = reply Done w
+
 -- the reply of the step by which others end, if it was made
 abbrev pub other_replies : StepsEnd → List Reply
 other_replies AllMade = []

@@ -11,13 +11,14 @@ ghost use Rattle.jm_state.specs.Reached.{LeavesReachable};
 ghost use Rattle.jm_state.specs.Runnable.{StateRuns};
 ghost use Rattle.jm_state.specs.declared.thread.Ending.TheVariants.{Running};
 ghost use Rattle.jm_interp.specs.PlainRuns.{MakesDone};
+ghost use Rattle.jm_interp.specs.ThreadRuns.{IsWithin, Makes};
 ghost use Rattle.jm_machine.specs.Answered.{IsAnswered};
 ghost use Rattle.jm_machine.specs.Collected.{LeavesAfter};
 ghost use Rattle.jm_machine.specs.Threads.{ending_numbered};
 
 use crate::fault::OutOfMemory;
 use jm_heap::{Heap, Kind};
-use jm_interp::{run_plain, step_thread};
+use jm_interp::{Run, run_plain, run_thread, step_thread};
 use jm_linked::Linked;
 use jm_state::{Ending, Halt, State, StepEnd, Thread, collect};
 use jm_world::{Event, Reply, ReplyKind};
@@ -159,5 +160,33 @@ pub(crate) fn make_plain<H: Heap>(
         Some(Ending::Returned) => 0,
         Some(Ending::EndedBy(_)) => 0,
         None => 0,
+    }
+}
+
+// Makes steps of a thread, one after the other, at most so many: none where the machine has stopped,
+// or where there is no such thread or it has ended.
+#[inline]
+pub(crate) fn make_many<H: Heap>(
+    alloc: Global,
+    linked: &Linked,
+    state: &mut State<H>,
+    nursery: usize,
+    number: u64,
+    most: usize,
+) -> Run
+    requires runs { StateRuns linked.now state.old }
+    requires matched { (w : World) × Matches (state_parts H.content linked.now state.old) w }
+    ensures steps { (w : World) → Matches (state_parts H.content linked.now state.old) w → Makes result (state_parts H.content linked.now state.new) number w }
+    ensures runs { StateRuns linked.now state.new }
+    ensures most { IsWithin most result }
+{
+    if state.stop.is_some() {
+        return Run::Alike(0);
+    }
+    match ending_of(&state.threads, number) {
+        Some(Ending::Running) => run_thread(alloc, linked, state, number, nursery, most),
+        Some(Ending::Returned) => Run::Alike(0),
+        Some(Ending::EndedBy(_)) => Run::Alike(0),
+        None => Run::Alike(0),
     }
 }

@@ -6,12 +6,13 @@ ghost use Rattle.jm_world.specs.World.{World, live_among, thread_at};
 ghost use Rattle.jm_world.specs.Run.{after, run_from, replies_from};
 ghost use Rattle.jm_state.specs.Reached.{AreReachable};
 ghost use Rattle.jm_interp.specs.PlainRuns.{MakesDone};
+ghost use Rattle.jm_interp.specs.ThreadRuns.{IsWithin, Makes};
 ghost use Rattle.jm_linked.specs.Links.{name_of_number};
 ghost use Rattle.jm_machine.specs.CodePlaces.{AreFree, name_of_code, top_stands_at};
 ghost use Rattle.jm_machine.specs.Collected.{LeavesAfter};
 ghost use Rattle.jm_machine.specs.Readers.{model_frame, model_monitor, frame_at, pending_of, IsOfProgram, TellsObject};
 ghost use Rattle.jm_machine.specs.ReachedObjects.{TellsReached};
-ghost use Rattle.jm_machine.specs.ManySteps.{AreSteps, EndsBy};
+ghost use Rattle.jm_machine.specs.ManySteps.{AreSteps, EndsBy, done_reply};
 ghost use Rattle.jm_machine.specs.UpToPlaces.{AreStepsUpTo, EndsUpTo};
 ghost use Rattle.jm_machine.specs.Threads.{class_ended_by, is_live};
 ghost use Rattle.jm_machine.specs.View.{MatchesWorld, machine_parts};
@@ -19,7 +20,7 @@ ghost use Rattle.jm_machine.specs.View.{MatchesWorld, machine_parts};
 use crate::class::class_name;
 use crate::code_method::{CodeMethod, code_method};
 use crate::code_place::{CodePlace, free_steps};
-use crate::event::{ending_of, make_event, make_plain, reply_of};
+use crate::event::{ending_of, make_event, make_many, make_plain, reply_of};
 use crate::fault::{Interrupted, LoadFault, OutOfMemory};
 use crate::frame::{WorldFrame, world_frame};
 use crate::load::{is_too_small, make_first_state};
@@ -31,6 +32,7 @@ use crate::statics::WorldStatics;
 use crate::steps::{Steps, StepsEnd, StepsUpTo};
 use crate::thread::{frame_of, pending_of};
 use jm_heap::Heap;
+use jm_interp::Run;
 use jm_linked::Linked;
 use jm_program::Class;
 use jm_state::{Ending, State, find_reachable, reachable};
@@ -122,30 +124,51 @@ impl<H: Heap> Machine<H> {
         ensures ends { EndsBy most result }
     {
         let reply = reply_of(&self.state, ReplyKind::Done);
-        let mut alike = self.run_plain(thread, most);
+        let mut alike = 0;
         while alike < most {
-            let Ok(next) = self.step_at(nursery, Event::Step(thread)) else {
-                return Steps {
-                    alike,
-                    reply,
-                    end: StepsEnd::OutOfMemory,
-                };
-            };
-            if next != reply {
-                return Steps {
-                    alike,
-                    reply,
-                    end: StepsEnd::Other(next),
-                };
+            match self.run_steps(nursery, thread, most - alike) {
+                Run::Alike(made) => alike += made,
+                Run::Other(made) => {
+                    let next = self.done_reply();
+                    return Steps::ended(alike + made, reply, StepsEnd::Other(next));
+                }
             }
-            alike += 1;
-            alike += self.run_plain(thread, most - alike);
+            if alike < most {
+                let Ok(next) = self.step_at(nursery, Event::Step(thread)) else {
+                    return Steps::ended(alike, reply, StepsEnd::OutOfMemory);
+                };
+                if next != reply {
+                    return Steps::ended(alike, reply, StepsEnd::Other(next));
+                }
+                alike += 1;
+            }
         }
-        Steps {
-            alike,
-            reply,
-            end: StepsEnd::AllMade,
-        }
+        Steps::ended(alike, reply, StepsEnd::AllMade)
+    }
+
+    // What a step answers that is done and led here.
+    #[inline]
+    fn done_reply(&self) -> Reply
+        ensures { (w : World) → MatchesWorld self.now w → result ≡ done_reply w }
+    {
+        reply_of(&self.state, ReplyKind::Done)
+    }
+
+    // Makes steps of one thread, one after the other, while they are done, at most so many, up to one
+    // that makes or ends a thread.
+    #[inline]
+    fn run_steps(&mut self, nursery: usize, thread: u64, most: usize) -> Run
+        ensures steps { (w : World) → MatchesWorld self.old w → Makes result (machine_parts self.new) thread w }
+        ensures most { IsWithin most result }
+    {
+        make_many(
+            self.alloc,
+            &self.linked,
+            &mut self.state,
+            nursery,
+            thread,
+            most,
+        )
     }
 
     /// Makes steps of one thread as [`Machine::step_many`] does, but none that would begin where the

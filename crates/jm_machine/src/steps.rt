@@ -25,6 +25,15 @@ pub struct Steps {
     pub end: StepsEnd,
 }
 
+impl Steps {
+    // So many were alike, and then they ended.
+    pub(crate) fn ended(alike: usize, reply: Reply, end: StepsEnd) -> Steps
+        ensures { result ≡ record { alike = alike; reply = reply; end = end } }
+    {
+        Steps { alike, reply, end }
+    }
+}
+
 /// What comes of steps of one thread up to a place.
 #[derive(Clone, Copy)]
 pub enum StepsUpTo {

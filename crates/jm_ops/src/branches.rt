@@ -65,7 +65,7 @@ fn branch_if(frame: &mut Frame, op: Comparison, target: u32) -> Result<Flow, Fau
     ensures frame { frame.new ≡ record frame.old { activation = frame.new.activation } }
 {
     let x = frame.int(0)?;
-    let _ = frame.pop();
+    frame.drop_int();
     Ok(branch(frame, target, numbers::compare(op, x, 0)))
 }
 
@@ -112,7 +112,7 @@ fn branch_if_null(frame: &mut Frame, op: Equality, target: u32) -> Result<Flow, 
 /// instruction (JVMS 6.5 if, if_icmp, if_acmp, ifnull, goto, goto_w). `Underflow`: there are fewer
 /// operands. `WrongTag`: they are of another type.
 #[inline(always)]
-pub(crate) fn step_branch(frame: &mut Frame, op: Branch, target: u32) -> Result<Flow, Fault>
+pub fn step_branch(frame: &mut Frame, op: Branch, target: u32) -> Result<Flow, Fault>
     requires { frame.old.activation.at + 1 < 2 ^ 64 }
     ensures row { row_branch op target frame.old.activation ≡ flow_outcome result frame.new.activation }
     ensures told { IsWhereTold result frame.old frame.new }

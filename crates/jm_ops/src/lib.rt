@@ -19,5 +19,6 @@ pub mod laws;
 mod plain;
 mod switches;
 
+pub use branches::step_branch;
 pub use flow::{Fault, Flow, Thrown};
 pub use plain::{push_constant, step, step_plain};

@@ -107,7 +107,7 @@ fn step_simple(frame: &mut Frame, op: Simple) -> Result<Flow, Fault>
 /// `Overflow`: `max_stack` has no room for what is pushed. Of several faults the first comes: the
 /// local variable's, then each operand's from the top, then `Overflow`. At a fault and at
 /// [`Flow::Throw`] the frame stays as it was.
-#[inline(always)]
+#[inline(never)]
 pub fn step(frame: &mut Frame, op: &Plain) -> Result<Flow, Fault>
     requires at { frame.old.activation.at + 1 < 2 ^ 64 }
     requires ordered { IsOrdered op.now }

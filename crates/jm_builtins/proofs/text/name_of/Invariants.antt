@@ -1,6 +1,6 @@
-use Rattle.std.proofs.Common.{◌≡◌, take}
+use Rattle.std.proofs.Common.{◌≡◌, take, length}
 use Rattle.jm_builtins.proofs.text.name_of.Given as goal
 
--- the units are the bytes so far
-abbrev pub invariant-loop-byte : goal.invariant-loop-byte
-invariant-loop-byte l = l.units.items ≡ take l.byte-index l.byte-items
+-- as many units as bytes, of which those so far are the bytes
+abbrev pub invariant-loop-index : goal.invariant-loop-index
+invariant-loop-index l = (length l.units.items ≡ length l.bytes) × (take l.index l.units.items ≡ take l.index l.bytes)

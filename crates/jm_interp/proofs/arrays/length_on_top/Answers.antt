@@ -1,4 +1,4 @@
-use Rattle.std.proofs.Common.{ap}
+use Rattle.std.proofs.Common.{sym, ap, ◌∙◌}
 use Rattle.std.proofs.lemmas.Result.{err_from_is_err_and}
 use Rattle.jm_values.specs.Activation.{category}
 use Rattle.jm_interp.proofs.ArrayRows.{length_refused, no_length, length_comes, room_of_object}
@@ -11,13 +11,8 @@ returns-in_err-array g c =
     let left = err_from_is_err_and c.from_residual.result c.from_residual.ensures.1 in
     rw (left.1, left.2) (length_refused c.requires (found_object c.requires.method 0 c.index.ensures c.in_err-array.ensures.value))
 
-pub class_of-requires : goal.class_of-requires
-class_of-requires g c =
-    let h = c.requires.method in
-    lies h.on (its_object h 0 (found_object h 0 c.index.ensures c.in_ok-array.ensures.value))
-
-pub length-requires : goal.length-requires
-length-requires g c =
+pub object-class-requires : goal.object-class-requires
+object-class-requires g c =
     let h = c.requires.method in
     lies h.on (its_object h 0 (found_object h 0 c.index.ensures c.in_ok-array.ensures.value))
 
@@ -25,12 +20,13 @@ pub returns-in-Instance : goal.returns-in-Instance
 returns-in-Instance g c =
     let h = c.requires.method in
     let e = found_object h 0 c.index.ensures c.in_ok-array.ensures.value in
-    no_length c.requires e (told h.on (its_object h 0 e) c.in-Instance.ensures)
+    no_length c.requires e (sym c.in-Instance.is ∙ told h.on (its_object h 0 e) c.object-class.ensures.class)
 
 pub returns-in-Some : goal.returns-in-Some
 returns-in-Some g c =
     let h = c.requires.method in
     let e = found_object h 0 c.index.ensures c.in_ok-array.ensures.value in
     let o = its_object h 0 e in
-    length_comes c.requires e (told h.on o c.in-Array.ensures) (told h.on o c.length.ensures) c.in-Some.ensures
+    length_comes c.requires e (sym c.in-Array.is ∙ told h.on o c.object-class.ensures.class)
+    (told h.on o c.object-class.ensures.length) c.in-Some.ensures
     (room_of_object c.index.ensures c.in_ok-array.ensures.room c.in_ok-array.ensures.value _ (ap category c.in-Some.ensures))

@@ -1,6 +1,6 @@
 use mir.Syntax.{w32}
 use mir.Val.{SFits}
-use Rattle.std.proofs.Common.{rules, ap, ◌∙◌}
+use Rattle.std.proofs.Common.{rules, ap, ◌∙◌, length}
 use Rattle.std.proofs.Math.Facts.{to_z-of_z}
 use Rattle.std.proofs.lemmas.Result.{err_from_is_err_and}
 use Rattle.jm_world.specs.Arrays.{operand_of_kind}
@@ -47,8 +47,8 @@ returns-in_err-place g c =
     let left = err_from_is_err_and c.from_residual-in_err-place.result c.from_residual-in_err-place.ensures.1 in
     rw (left.1, left.2) (array_refused h value int (found_object h.method 2 c.index-3.ensures c.in_err-place.ensures.value))
 
-pub class_of-id-requires : goal.class_of-id-requires
-class_of-id-requires g c =
+pub object-id-requires : goal.object-id-requires
+object-id-requires g c =
     let h = c.requires.method in
     lies h.on (its_object h 2 (found_object h 2 c.index-3.ensures c.in_ok-place.ensures.value))
 
@@ -58,12 +58,7 @@ returns-then-not-serves g c =
     let value = found_operand h.method 0 c.index.ensures (operand_of_kind c.args.kind) c.operand_of_kind.ensures c.in_ok-value.ensures in
     let int = found_int h.method 1 c.index-2.ensures c.in_ok-index.ensures.value in
     let e = found_object h.method 2 c.index-3.ensures c.in_ok-place.ensures.value in
-    no_array h value int e (told h.method.on (its_object h.method 2 e) c.class_of-id.ensures) c.serves.ensures c.if-not-serves.true
-
-pub length-requires : goal.length-requires
-length-requires g c =
-    let h = c.requires.method in
-    lies h.on (its_object h 2 (found_object h 2 c.index-3.ensures c.in_ok-place.ensures.value))
+    no_array h value int e (told h.method.on (its_object h.method 2 e) c.object-id.ensures.class) c.serves.ensures c.if-not-serves.true
 
 pub can_hold-requires : goal.can_hold-requires
 can_hold-requires g c =
@@ -80,10 +75,10 @@ returns-in-Some-true g c =
     let e = found_object h.method 2 c.index-3.ensures c.in_ok-place.ensures.value in
     let o = its_object h.method 2 e in
     let fits : SFits w32 c.in_ok-index.index = search rules in
-    let index = c.index_in.ensures ∙ ap (λ z. index_in z c.length.result) (to_z-of_z fits) in
+    let index = c.index_in.ensures ∙ ap (λ z. index_in z (length c.object-id.result.1.now)) (to_z-of_z fits) in
     let held = holds_so h.method c.in_ok-value.value (operand_held h.method t value) c.in-Some-true.ensures in
-    stores h value int e (told h.method.on o c.class_of-id.ensures) c.serves.ensures c.if-not-serves.false
-    (told h.method.on o c.length.ensures) index c.in-Some.is (λ w m. held (place h.method w) m) c.in-Some-true.field-0-test c.narrowed.ensures
+    stores h value int e (told h.method.on o c.object-id.ensures.class) c.serves.ensures c.if-not-serves.false
+    (told h.method.on o c.object-id.ensures.length) index c.in-Some.is (λ w m. held (place h.method w) m) c.in-Some-true.field-0-test c.narrowed.ensures
     (operand_reached h.method t value)
 
 pub returns-in-Some-false : goal.returns-in-Some-false
@@ -95,10 +90,10 @@ returns-in-Some-false g c =
     let e = found_object h.method 2 c.index-3.ensures c.in_ok-place.ensures.value in
     let o = its_object h.method 2 e in
     let fits : SFits w32 c.in_ok-index.index = search rules in
-    let index = c.index_in.ensures ∙ ap (λ z. index_in z c.length.result) (to_z-of_z fits) in
+    let index = c.index_in.ensures ∙ ap (λ z. index_in z (length c.object-id.result.1.now)) (to_z-of_z fits) in
     let held = holds_so h.method c.in_ok-value.value (operand_held h.method t value) c.in-Some-false.ensures in
-    not_held h value int e (told h.method.on o c.class_of-id.ensures) c.serves.ensures c.if-not-serves.false
-    (told h.method.on o c.length.ensures) index c.in-Some.is (λ w m. held (place h.method w) m) c.in-Some-false.field-0-test
+    not_held h value int e (told h.method.on o c.object-id.ensures.class) c.serves.ensures c.if-not-serves.false
+    (told h.method.on o c.object-id.ensures.length) index c.in-Some.is (λ w m. held (place h.method w) m) c.in-Some-false.field-0-test
 
 pub returns-in_default : goal.returns-in_default
 returns-in_default g c =
@@ -108,6 +103,6 @@ returns-in_default g c =
     let e = found_object h.method 2 c.index-3.ensures c.in_ok-place.ensures.value in
     let o = its_object h.method 2 e in
     let fits : SFits w32 c.in_ok-index.index = search rules in
-    let index = c.index_in.ensures ∙ ap (λ z. index_in z c.length.result) (to_z-of_z fits) in
-    past_array h value int e (told h.method.on o c.class_of-id.ensures) c.serves.ensures c.if-not-serves.false
-    (told h.method.on o c.length.ensures) index c.in_default.is
+    let index = c.index_in.ensures ∙ ap (λ z. index_in z (length c.object-id.result.1.now)) (to_z-of_z fits) in
+    past_array h value int e (told h.method.on o c.object-id.ensures.class) c.serves.ensures c.if-not-serves.false
+    (told h.method.on o c.object-id.ensures.length) index c.in_default.is

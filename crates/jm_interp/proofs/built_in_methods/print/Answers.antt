@@ -1,7 +1,7 @@
-use Rattle.std.proofs.Common.{◌++◌, refl, ap, ◌∙◌}
+use Rattle.std.proofs.Common.{refl}
 use Rattle.jm_interp.proofs.Objects.{lies}
 use Rattle.jm_interp.proofs.OnThread.{within, read, with_thread_at}
-use Rattle.jm_interp.proofs.PrintRow.{print_faults, print_throws, receiver_object, other_faults, text_held, text_stops, prints, runs_on}
+use Rattle.jm_interp.proofs.PrintRow.{print_faults, print_throws, receiver_object, other_faults, text_held, text_stops, output_back, prints, runs_on}
 use Rattle.jm_interp.proofs.StringText.{text_lies}
 use Rattle.jm_state.proofs.Runs.{runs_still}
 use Rattle.jm_interp.proofs.built_in_methods.print.Goals as goal
@@ -23,14 +23,15 @@ returns-then-not-is_print_stream g c =
     other_faults c.args.method c.requires c.index.ensures c.in-Ok.ensures c.in-Some.is c.class_of.ensures c.is_print_stream.ensures
     c.if-not-is_print_stream.true
 
-pub text_bytes-requires : goal.text_bytes-requires
-text_bytes-requires g c =
+pub print_text-requires : goal.print_text-requires
+print_text-requires g c =
     text_lies c.requires.method c.in-Ok.printing.text (text_held c.args.method c.requires c.index.ensures c.in-Ok.ensures)
 
-pub returns-in-Err-text_bytes : goal.returns-in-Err-text_bytes
-returns-in-Err-text_bytes g c =
-    text_stops c.args.method c.requires c.index.ensures c.in-Ok.ensures c.in-Some.is c.class_of.ensures c.is_print_stream.ensures
-    c.if-not-is_print_stream.false c.in-Err-text_bytes.ensures
+pub returns-in-Err-print_text : goal.returns-in-Err-print_text
+returns-in-Err-print_text g c =
+    output_back c.print_text.new.output c.in-Err-print_text.ensures.1
+    (text_stops c.args.method c.requires c.index.ensures c.in-Ok.ensures c.in-Some.is c.class_of.ensures c.is_print_stream.ensures
+    c.if-not-is_print_stream.false c.in-Err-print_text.ensures.0)
 
 pub index_mut-requires : goal.index_mut-requires
 index_mut-requires g c = within c.requires.method.on
@@ -38,15 +39,15 @@ index_mut-requires g c = within c.requires.method.on
 pub pop_operands-requires : goal.pop_operands-requires
 pop_operands-requires g c = (_, _, _, read c.requires.method.on c.index_mut.ensures.value, c.requires.room)
 
-pub returns-in-Ok-extend_from_slice : goal.returns-in-Ok-extend_from_slice
-returns-in-Ok-extend_from_slice g c =
+pub returns-in-Ok-print_text : goal.returns-in-Ok-print_text
+returns-in-Ok-print_text g c =
     let gone = c.pop_operands.ensures _ _ _ (read c.requires.method.on c.index_mut.ensures.value) in
-    let written =
-    c.in-Ok-extend_from_slice.ensures.items ∙ ap (λ z. c.args.state.now.output.items ++ z) (c.as_slice.ensures.value ∙ c.in-Ok-with_line_end.ensures) in
-    let new = record (with_thread_at c.args.state.now c.args.at.index c.pop_operands.new.thread) { output = c.extend_from_slice.new.self } in
+    let (said, gives, written) = c.in-Ok-print_text.ensures in
+    let output = c.print_text.new.output in
+    let new = record (with_thread_at c.args.state.now c.args.at.index c.pop_operands.new.thread) { output = output } in
     prints c.args.method c.requires c.index.ensures c.in-Ok.ensures c.in-Some.is c.class_of.ensures c.is_print_stream.ensures c.if-not-is_print_stream.false
-    c.in-Ok-text_bytes.bytes.items c.in-Ok-text_bytes.ensures
+    said gives
     {new =
     new}
     (record { threads = refl; started = refl; statics = refl; literals = refl; monitors = refl; heap = refl; stop = refl }) refl
-    (runs_still c.extend_from_slice.new.self.items c.args.state.now.stop (runs_on c.args.method c.requires gone)) gone written
+    (runs_still output.items c.args.state.now.stop (runs_on c.args.method c.requires gone)) gone written

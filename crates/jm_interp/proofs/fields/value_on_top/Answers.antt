@@ -31,8 +31,8 @@ returns-in_err-object g c =
     let left = err_from_is_err_and c.from_residual-in_err-object.result c.from_residual-in_err-object.ensures.1 in
     rw (left.1, left.2) (no_object_below h value (found_object h.method 1 c.index-2.ensures c.in_err-object.ensures.value))
 
-pub class_of-requires : goal.class_of-requires
-class_of-requires g c =
+pub object-class-requires : goal.object-class-requires
+object-class-requires g c =
     let h = c.requires.method in
     lies h.on (its_object h 1 (found_object h 1 c.index-2.ensures c.in_ok-object.ensures.value))
 
@@ -45,12 +45,7 @@ returns-in_err-index g c =
     let e = found_object h.method 1 c.index-2.ensures c.in_ok-object.ensures.value in
     let left = err_from_is_err_and c.from_residual-in_err-index.result c.from_residual-in_err-index.ensures.1 in
     rw (left.1, left.2)
-    (no_such_field h value e (told h.method.on (its_object h.method 1 e) c.class_of.ensures) _ (c.in_err-index.ensures h.is.found h.is.numbered))
-
-pub length-requires : goal.length-requires
-length-requires g c =
-    let h = c.requires.method in
-    lies h.on (its_object h 1 (found_object h 1 c.index-2.ensures c.in_ok-object.ensures.value))
+    (no_such_field h value e (told h.method.on (its_object h.method 1 e) c.object-class.ensures.class) _ (c.in_err-index.ensures h.is.found h.is.numbered))
 
 pub returns : goal.returns
 returns g c =
@@ -60,5 +55,5 @@ returns g c =
     let value = found_operand h.method 0 c.index.ensures (operand_of t) (c.operand_of_type.ensures ∙ ap operand_of same) c.in_ok-value.ensures in
     let e = found_object h.method 1 c.index-2.ensures c.in_ok-object.ensures.value in
     let o = its_object h.method 1 e in
-    field_stores h value e (told h.method.on o c.class_of.ensures) (c.in_ok-index.ensures h.is.found h.is.numbered) (told h.method.on o c.length.ensures)
-    c.if-index-length.false (c.narrow.ensures ∙ ap (λ x. narrow x c.in_ok-value.value) same)
+    field_stores h value e (told h.method.on o c.object-class.ensures.class) (c.in_ok-index.ensures h.is.found h.is.numbered) (told h.method.on o c.object-class.ensures.length)
+    c.if-index-values.false (c.narrow.ensures ∙ ap (λ x. narrow x c.in_ok-value.value) same)
