@@ -58,6 +58,7 @@ pub mod Runs
 pub mod RowsAlone
 pub mod PlainWorlds
 pub mod MethodRuns
+pub mod FrameRows
 pub mod GoingOn
 pub mod ThreadRuns
 pub mod PlainThreads

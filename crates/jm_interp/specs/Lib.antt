@@ -28,4 +28,5 @@ pub mod Starting
 pub mod Entering
 pub mod PlainRuns
 pub mod MethodRuns
+pub mod FrameRows
 pub mod ThreadRuns

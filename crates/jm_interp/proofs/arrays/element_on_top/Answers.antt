@@ -1,72 +1,12 @@
-use mir.Syntax.{w32}
-use mir.Val.{SFits}
-use Rattle.std.proofs.Common.{rules, refl, sym, ap, ◌∙◌, length}
-use Rattle.std.proofs.Math.Facts.{to_z-of_z}
-use Rattle.std.proofs.lemmas.Option.{slice_get_read}
-use Rattle.std.proofs.lemmas.Result.{err_from_is_err_and}
-use Rattle.jm_interp.specs.ArrayRows.{index_in}
-use Rattle.jm_interp.proofs.ArrayRows.{index_refused, array_refused, no_element, past_array, index_below, element_comes, room_of_both}
-use Rattle.jm_interp.proofs.Objects.{lies, told}
-use Rattle.jm_interp.proofs.OnThread.{within, read}
-use Rattle.jm_interp.proofs.OnTop.{found_int, found_object, its_object}
+use Rattle.jm_interp.proofs.FrameRows.{top_given}
+use Rattle.jm_interp.proofs.OnThread.{read}
 use Rattle.jm_interp.proofs.arrays.element_on_top.Goals as goal
 
-pub returns-in_err-index : goal.returns-in_err-index
-returns-in_err-index g c =
-    let left = err_from_is_err_and c.from_residual.result c.from_residual.ensures.1 in
-    rw (left.1, left.2) (index_refused c.requires (found_int c.requires.method 0 c.index.ensures c.in_err-index.ensures.value))
+pub top_method-requires : goal.top_method-requires
+top_method-requires g c = (_, _, _, read c.requires.method.on c.index.ensures)
 
-pub index-requires-2 : goal.index-requires-2
-index-requires-2 g c = within c.requires.method.on
+pub element_in-requires : goal.element_in-requires
+element_in-requires g c = (c.args.state.now, top_given c.requires c.index.ensures c.top_method.ensures)
 
-pub object_at-requires : goal.object_at-requires
-object_at-requires g c = (_, _, _, read c.requires.method.on c.index-2.ensures)
-
-pub returns-in_err-array : goal.returns-in_err-array
-returns-in_err-array g c =
-    let h = c.requires.method in
-    let int = found_int h 0 c.index.ensures c.in_ok-index.ensures.value in
-    let left = err_from_is_err_and c.from_residual-in_err-array.result c.from_residual-in_err-array.ensures.1 in
-    rw (left.1, left.2) (array_refused c.requires int (found_object h 1 c.index-2.ensures c.in_err-array.ensures.value))
-
-pub object-class-requires : goal.object-class-requires
-object-class-requires g c =
-    let h = c.requires.method in
-    lies h.on (its_object h 1 (found_object h 1 c.index-2.ensures c.in_ok-array.ensures.value))
-
-pub returns-then-not-serves : goal.returns-then-not-serves
-returns-then-not-serves g c =
-    let h = c.requires.method in
-    let int = found_int h 0 c.index.ensures c.in_ok-index.ensures.value in
-    let e = found_object h 1 c.index-2.ensures c.in_ok-array.ensures.value in
-    no_element c.requires int e (told h.on (its_object h 1 e) c.object-class.ensures.class) c.serves.ensures c.if-not-serves.true
-
-pub bounds-elements-index : goal.bounds-elements-index
-bounds-elements-index g c =
-    let fits : SFits w32 c.in_ok-index.index = search rules in
-    let index = c.index_in.ensures ∙ ap (λ z. index_in z (length c.object-class.result.1.now)) (to_z-of_z fits) in
-    index_below _ _ _ (sym index ∙ c.in-Some.is)
-
-pub returns-in-Some : goal.returns-in-Some
-returns-in-Some g c =
-    let h = c.requires.method in
-    let int = found_int h 0 c.index.ensures c.in_ok-index.ensures.value in
-    let e = found_object h 1 c.index-2.ensures c.in_ok-array.ensures.value in
-    let o = its_object h 1 e in
-    let fits : SFits w32 c.in_ok-index.index = search rules in
-    let index = c.index_in.ensures ∙ ap (λ z. index_in z (length c.object-class.result.1.now)) (to_z-of_z fits) in
-    let read = slice_get_read c.object-class.result.1.now _ c.in-Some.index c.index-elements-index.result refl (index_below _ _ _ (sym index ∙ c.in-Some.is)) c.index-elements-index.is in
-    element_comes c.requires int e (told h.on o c.object-class.ensures.class) c.serves.ensures c.if-not-serves.false (told h.on o c.object-class.ensures.length) index
-    c.in-Some.is _ (c.object-class.ensures.values _ _ read) (c.object-class.ensures.resident _ _ read)
-    (room_of_both c.index.ensures c.in_ok-index.ensures.room c.in_ok-index.ensures.value c.index-2.ensures c.in_ok-array.ensures.value _)
-
-pub returns-in-None : goal.returns-in-None
-returns-in-None g c =
-    let h = c.requires.method in
-    let int = found_int h 0 c.index.ensures c.in_ok-index.ensures.value in
-    let e = found_object h 1 c.index-2.ensures c.in_ok-array.ensures.value in
-    let o = its_object h 1 e in
-    let fits : SFits w32 c.in_ok-index.index = search rules in
-    let index = c.index_in.ensures ∙ ap (λ z. index_in z (length c.object-class.result.1.now)) (to_z-of_z fits) in
-    past_array c.requires int e (told h.on o c.object-class.ensures.class) c.serves.ensures c.if-not-serves.false (told h.on o c.object-class.ensures.length) index
-    c.in-None.is
+pub returns : goal.returns
+returns g c = c.element_in.ensures c.args.state.now (top_given c.requires c.index.ensures c.top_method.ensures)

@@ -1,32 +1,12 @@
-use Rattle.std.proofs.Common.{sym, ap, ◌∙◌}
-use Rattle.std.proofs.lemmas.Result.{err_from_is_err_and}
-use Rattle.jm_values.specs.Activation.{category}
-use Rattle.jm_interp.proofs.ArrayRows.{length_refused, no_length, length_comes, room_of_object}
-use Rattle.jm_interp.proofs.Objects.{lies, told}
-use Rattle.jm_interp.proofs.OnTop.{found_object, its_object}
+use Rattle.jm_interp.proofs.FrameRows.{top_given}
+use Rattle.jm_interp.proofs.OnThread.{read}
 use Rattle.jm_interp.proofs.arrays.length_on_top.Goals as goal
 
-pub returns-in_err-array : goal.returns-in_err-array
-returns-in_err-array g c =
-    let left = err_from_is_err_and c.from_residual.result c.from_residual.ensures.1 in
-    rw (left.1, left.2) (length_refused c.requires (found_object c.requires.method 0 c.index.ensures c.in_err-array.ensures.value))
+pub top_method-requires : goal.top_method-requires
+top_method-requires g c = (_, _, _, read c.requires.method.on c.index.ensures)
 
-pub object-class-requires : goal.object-class-requires
-object-class-requires g c =
-    let h = c.requires.method in
-    lies h.on (its_object h 0 (found_object h 0 c.index.ensures c.in_ok-array.ensures.value))
+pub array_length_in-requires : goal.array_length_in-requires
+array_length_in-requires g c = (c.args.state.now, top_given c.requires c.index.ensures c.top_method.ensures)
 
-pub returns-in-Instance : goal.returns-in-Instance
-returns-in-Instance g c =
-    let h = c.requires.method in
-    let e = found_object h 0 c.index.ensures c.in_ok-array.ensures.value in
-    no_length c.requires e (sym c.in-Instance.is ∙ told h.on (its_object h 0 e) c.object-class.ensures.class)
-
-pub returns-in-Some : goal.returns-in-Some
-returns-in-Some g c =
-    let h = c.requires.method in
-    let e = found_object h 0 c.index.ensures c.in_ok-array.ensures.value in
-    let o = its_object h 0 e in
-    length_comes c.requires e (sym c.in-Array.is ∙ told h.on o c.object-class.ensures.class)
-    (told h.on o c.object-class.ensures.length) c.in-Some.ensures
-    (room_of_object c.index.ensures c.in_ok-array.ensures.room c.in_ok-array.ensures.value _ (ap category c.in-Some.ensures))
+pub returns : goal.returns
+returns g c = c.array_length_in.ensures c.args.state.now (top_given c.requires c.index.ensures c.top_method.ensures)
