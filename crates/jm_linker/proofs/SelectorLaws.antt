@@ -212,7 +212,8 @@ leads_more ms i next y z there after alike h = λ x at name t.
     ap (λ xs. first_named i (found_methods xs) name t) (drop_at ms i x at)
     ∙ ap (λ o. elim (same_text x.method.now.name name && same_method_type x.method.now.descriptor t) as (λ _. Option ℕ) [ true ↦ Some i | false ↦ o ])
     (h z after name t)
-    ∙ by (same_text x.method.now.name name && same_method_type x.method.now.descriptor t) (same_text z.method.now.name name && same_method_type z.method.now.descriptor t)
+    ∙ by (same_text x.method.now.name name && same_method_type x.method.now.descriptor t)
+    (same_text z.method.now.name name && same_method_type z.method.now.descriptor t)
     (first_named next (found_methods (drop next ms)) name t)
     (subst (λ (w : ClassMethod). (same_text w.method.now.name name && same_method_type w.method.now.descriptor t)
     ≡ (same_text z.method.now.name name && same_method_type z.method.now.descriptor t)) same
@@ -232,7 +233,8 @@ first_in_front ms i next n x k table new at key number updates leads h = λ q na
     updates q
     ∙ ap (λ b. cond b (Some n) (get (method_ord.ghosts).cmp table q)) (methods_tied k q x.method.now.name name x.method.now.descriptor t key keyed)
     ∙ ap (λ o. cond (same_text x.method.now.name name && same_method_type x.method.now.descriptor t) (Some n) o) (h q name t keyed)
-    ∙ ap (λ m. cond (same_text x.method.now.name name && same_method_type x.method.now.descriptor t) (Some m) (first_named next (found_methods (drop next ms)) name t)) number
+    ∙ ap (λ m. cond (same_text x.method.now.name name && same_method_type x.method.now.descriptor t) (Some m)
+    (first_named next (found_methods (drop next ms)) name t)) number
     ∙ sym (leads x at name t)
 
 -- the methods of a class so far, and of the classes so far, behind others
