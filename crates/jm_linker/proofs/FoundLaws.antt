@@ -1,5 +1,5 @@
 -- Members are found where the first class is that declares them.
-use Rattle.std.proofs.Common.{◌≡◌, ℕ, zero, suc, Bool, true, false, List, [], ◌∷◌, Option, Some, None, refl, sym, ap, ◌∙◌, ◌+◌, length, arith}
+use Rattle.std.proofs.Common.{◌≡◌, ℕ, zero, suc, ◌<◌, Bool, true, false, List, [], ◌∷◌, Option, Some, None, refl, sym, ap, ◌∙◌, ◌+◌, length, arith}
 use Rattle.std.specs.Prelude.{is_some, Result, Ok, Err, MatchResult}
 use Rattle.jm_program.specs.Names.{is_init}
 use Rattle.jm_program.specs.declared.class.ClassParts.{ClassParts}
@@ -7,6 +7,7 @@ use Rattle.jm_program.specs.declared.class.Field.{Field}
 use Rattle.jm_program.specs.declared.class.Method.{Method}
 use Rattle.jm_program.specs.declared.descriptor.FieldType.{FieldType}
 use Rattle.jm_program.specs.declared.descriptor.MethodDescriptor.{MethodDescriptor}
+use Rattle.jm_builtins.specs.List.{the_builtins}
 use Rattle.jm_world.specs.Classes.{FoundField, FoundMethod, class_named, height, field_in, method_in}
 use Rattle.jm_world.specs.Hierarchy.{up_from, chain}
 use Rattle.jm_world.specs.Resolution.{first_found, interfaces_first, nameable, field_from, method_from, method_along, resolved_among, resolve_field, resolve_method}
@@ -107,6 +108,31 @@ any_of_one test n program xs x e = ap (first_found (above_from test n program)) 
 pub field_resolved : (name : List ℕ) (t : FieldType) (program : List ClassParts) (xs : List (List ℕ)) (x : List ℕ) (o : Option ClassParts) → xs ≡ x ∷ [] → o ≡ above_any (λ c. is_some (field_in (nameable c) name t)) (height program) program xs → resolve_field program x name t ≡ found_field name t o
 unfolding resolve_field
 field_resolved name t program xs x o e is = field_above name t (height program) program x ∙ ap (found_field name t) (sym (is ∙ any_of_one (λ c. is_some (field_in (nameable c) name t)) (height program) program xs x e))
+
+-- a field of the class that is named, and one of a class that is not there
+pub field_here : (name : List ℕ) (t : FieldType) (program : List ClassParts) (x : List ℕ) (c : ClassParts) → class_named program x ≡ Some c
+    → is_some (field_in (nameable c) name t) ≡ true → resolve_field program x name t ≡ found_field name t (Some c)
+unfolding resolve_field
+field_here name t program x c e here = at (height program) (let classes : length the_builtins ≡ 29 = refl in omega arith)
+  where
+    by : (n : ℕ) (o : Option Field) → is_some o ≡ true → (elim o as (λ _. Option FoundField) [ Some f ↦ Some (record { class = c; field = f }) | None ↦ first_found (λ above. field_from n program name t above) (interfaces_first c) ]) ≡ field_of c o
+    by n None h = cc
+    by n (Some f) h = refl
+
+    at : (n : ℕ) → 0 < n → field_from n program name t x ≡ found_field name t (Some c)
+    at zero l = absurd (omega arith)
+    at (suc n) l =
+        ap (λ o. elim o as (λ _. Option FoundField) [ None ↦ None | Some d ↦ elim (field_in (nameable d) name t) as (λ _. Option FoundField) [ Some f ↦ Some (record { class = d; field = f }) | None ↦ first_found (λ above. field_from n program name t above) (interfaces_first d) ] ]) e
+        ∙ by n (field_in (nameable c) name t) here
+
+pub field_of_no_class : (name : List ℕ) (t : FieldType) (program : List ClassParts) (x : List ℕ) → class_named program x ≡ None
+    → resolve_field program x name t ≡ found_field name t None
+unfolding resolve_field
+field_of_no_class name t program x e = at (height program)
+  where
+    at : (n : ℕ) → field_from n program name t x ≡ None
+    at zero = refl
+    at (suc n) = ap (λ o. elim o as (λ _. Option FoundField) [ None ↦ None | Some d ↦ elim (field_in (nameable d) name t) as (λ _. Option FoundField) [ Some f ↦ Some (record { class = d; field = f }) | None ↦ first_found (λ above. field_from n program name t above) (interfaces_first d) ] ]) e
 
 -- the method along the superclasses
 along : (name : List ℕ) (t : MethodDescriptor) (cs : List ClassParts) → method_along cs name t ≡ found_method name t (first_along (λ c. is_some (method_in c.methods name t)) cs)

@@ -2,7 +2,7 @@
 use Rattle.std.proofs.Common.{◌≡◌, ℕ, zero, suc, ◌+◌, ◌-◌, ◌<◌, ◌≤◌, Bool, true, false, ◌&&◌, cond, List, [], ◌∷◌, ◌++◌, Option, Some, None}
 use Rattle.std.proofs.Common.{length, get_or, take, drop, nat_eq, eq-eqb, eqb-true, refl, sym, ap, subst, ◌∙◌, arith}
 use Rattle.std.proofs.lemmas.Cmp.{nat_list_eq_equiv, on_equiv, and_equiv}
-use Rattle.std.proofs.lemmas.List.{take_more, drop_more, length-append}
+use Rattle.std.proofs.lemmas.List.{take_more, length-append}
 use Rattle.std.specs.Cmp.{IsEquivalence}
 use Rattle.std.specs.Prelude.{is_some, map, slice_get}
 use Rattle.std.specs.BTreeMap.{BTreeMap, get}
@@ -20,7 +20,7 @@ use Rattle.jm_tables.specs.MethodTables.{IsNumberOf, found_in}
 use Rattle.jm_linked.specs.Methods.{all_methods, first_named, methods_in, methods_of, selector_of}
 use Rattle.jm_linked.proofs.Coded.{methods_both}
 use Rattle.jm_linker.specs.Keys.{IsMethodKey}
-use Rattle.jm_linker.specs.Selectors.{AreOwn, HasFirst, found_methods}
+use Rattle.jm_linker.specs.Selectors.{AreOwn, HasFirst, Leads, found_methods}
 use Rattle.jm_linker.specs.contracts.key.MethodKeyOrd.TheImpl as method_ord
 use Rattle.jm_linker.specs.declared.key.MethodKey.{MethodKey}
 use Rattle.jm_linker.specs.declared.selectors.ClassMethod.{ClassMethod}
@@ -185,24 +185,57 @@ pub methods_more : (c : ClassParts) (ms : List Method) (m : Method) → methods_
 methods_more c [] m = refl
 methods_more c (x ∷ xs) m = ap (λ l. record { class = c; method = x } ∷ l) (methods_more c xs m)
 
+-- what is left from one on
+drop_at : {A : Type 0} (xs : List A) (i : ℕ) (x : A) → slice_get xs i ≡ Some x → drop i xs ≡ x ∷ drop (i + 1) xs
+drop_at [] i x e = cc
+drop_at (y ∷ ys) zero x e = let same : y ≡ x = cc in ap (λ z. z ∷ ys) same
+drop_at (y ∷ ys) (suc i) x e = let more : suc i + 1 ≡ suc (i + 1) = omega arith in drop_at ys i x e ∙ ap (λ k. x ∷ drop k (y ∷ ys)) (sym more)
+
+-- a method leads itself, and those that one after it leads which is alike
+pub leads_itself : (ms : List ClassMethod) (i : ℕ) → Leads ms i (i + 1)
+leads_itself ms i = λ x at name t.
+    ap (λ xs. first_named i (found_methods xs) name t) (drop_at ms i x at)
+    ∙ by name t (same_text x.method.now.name name && same_method_type x.method.now.descriptor t)
+  where
+    by : (name : List ℕ) (t : MethodDescriptor) (b : Bool)
+        → (elim b as (λ _. Option ℕ) [ true ↦ Some i | false ↦ first_named (i + 1) (found_methods (drop (i + 1) ms)) name t ])
+        ≡ cond b (Some i) (first_named (i + 1) (found_methods (drop (i + 1) ms)) name t)
+    by name t true = refl
+    by name t false = refl
+
+pub leads_more : (ms : List ClassMethod) (i next : ℕ) (y z : ClassMethod) → slice_get ms i ≡ Some y → slice_get ms (i + 1) ≡ Some z
+    → (same_text y.method.now.name z.method.now.name && same_method_type y.method.now.descriptor z.method.now.descriptor) ≡ true
+    → Leads ms (i + 1) next → Leads ms i next
+leads_more ms i next y z there after alike h = λ x at name t.
+    let both : Some y ≡ Some x = sym there ∙ at in
+    let same : y ≡ x = cc in
+    ap (λ xs. first_named i (found_methods xs) name t) (drop_at ms i x at)
+    ∙ ap (λ o. elim (same_text x.method.now.name name && same_method_type x.method.now.descriptor t) as (λ _. Option ℕ) [ true ↦ Some i | false ↦ o ])
+    (h z after name t)
+    ∙ by (same_text x.method.now.name name && same_method_type x.method.now.descriptor t)
+    (same_text z.method.now.name name && same_method_type z.method.now.descriptor t)
+    (first_named next (found_methods (drop next ms)) name t)
+    (subst (λ (w : ClassMethod). (same_text w.method.now.name name && same_method_type w.method.now.descriptor t)
+    ≡ (same_text z.method.now.name name && same_method_type z.method.now.descriptor t)) same
+    (named_equiv.congr (y.method.now.name, y.method.now.descriptor) (z.method.now.name, z.method.now.descriptor) (name, t) alike))
+  where
+    by : (b d : Bool) (o : Option ℕ) → b ≡ d → (elim b as (λ _. Option ℕ) [ true ↦ Some i | false ↦ cond d (Some (i + 1)) o ]) ≡ cond b (Some i) o
+    by true d o e = refl
+    by false false o e = refl
+    by false true o e = cc
+
 -- one more method, in front of those in the table
-pub first_in_front : (ms : List ClassMethod) (i next n : ℕ) (x : ClassMethod) (k : MethodKey) (table new : BTreeMap MethodKey ℕ) → i < length ms → x ≡ get_or ms i x
-    → IsMethodKey k x.method.now.name x.method.now.descriptor → next ≡ i + 1 → n ≡ i
+pub first_in_front : (ms : List ClassMethod) (i next n : ℕ) (x : ClassMethod) (k : MethodKey) (table new : BTreeMap MethodKey ℕ) → slice_get ms i ≡ Some x
+    → IsMethodKey k x.method.now.name x.method.now.descriptor → n ≡ i
     → ((q : MethodKey) → get (method_ord.ghosts).cmp new q ≡ cond (is_eq ((method_ord.ghosts).cmp k q)) (Some n) (get (method_ord.ghosts).cmp table q))
-    → HasFirst next table (found_methods (drop next ms)) → HasFirst i new (found_methods (drop i ms))
-first_in_front ms i next n x k table new l is key above number updates h = λ q name t keyed.
+    → Leads ms i next → HasFirst next table (found_methods (drop next ms)) → HasFirst i new (found_methods (drop i ms))
+first_in_front ms i next n x k table new at key number updates leads h = λ q name t keyed.
     updates q
     ∙ ap (λ b. cond b (Some n) (get (method_ord.ghosts).cmp table q)) (methods_tied k q x.method.now.name name x.method.now.descriptor t key keyed)
-    ∙ by name t (same_text x.method.now.name name && same_method_type x.method.now.descriptor t) (h q name t keyed ∙ ap (λ j. first_named j (found_methods (drop j ms)) name t) above)
-    ∙ ap (λ xs. first_named i (found_methods xs) name t) (sym here)
-  where
-    here : drop i ms ≡ x ∷ drop (i + 1) ms
-    here = rw (drop_more ms i x l, ← is) refl
-
-    by : (name : List ℕ) (t : MethodDescriptor) {o : Option ℕ} (b : Bool) → o ≡ first_named (i + 1) (found_methods (drop (i + 1) ms)) name t
-        → cond b (Some n) o ≡ (elim b as (λ _. Option ℕ) [ true ↦ Some i | false ↦ first_named (i + 1) (found_methods (drop (i + 1) ms)) name t ])
-    by name t true e = ap Some number
-    by name t false e = e
+    ∙ ap (λ o. cond (same_text x.method.now.name name && same_method_type x.method.now.descriptor t) (Some n) o) (h q name t keyed)
+    ∙ ap (λ m. cond (same_text x.method.now.name name && same_method_type x.method.now.descriptor t) (Some m)
+    (first_named next (found_methods (drop next ms)) name t)) number
+    ∙ sym (leads x at name t)
 
 -- the methods of a class so far, and of the classes so far, behind others
 pub methods_to : (c : ClassParts) (ms : List Method) (i : ℕ) (m : Method) → i < length ms → m ≡ get_or ms i m

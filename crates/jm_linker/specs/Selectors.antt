@@ -1,13 +1,15 @@
 -- Selectors by name and type, and the methods that a class declares by selector (JVMS 5.4.5, 6.5 invokevirtual).
-use Rattle.std.specs.Prelude.{◌≡◌, ℕ, ◌+◌, List, [], map, Some, None, false, length, slice_get, option_to_list}
+use Rattle.std.specs.Prelude.{◌≡◌, ◌&&◌, ℕ, ◌+◌, List, [], cond, drop, map, Some, None, false, length, slice_get, option_to_list}
 use Rattle.std.specs.List.{All}
 use Rattle.std.specs.BTreeMap.{BTreeMap, get}
+use Rattle.jm_program.specs.Names.{same_text}
 use Rattle.jm_program.specs.declared.class.ClassParts.{ClassParts}
 use Rattle.jm_program.specs.declared.class.Method.{Method}
 use Rattle.jm_program.specs.declared.descriptor.MethodDescriptor.{MethodDescriptor}
 use Rattle.jm_world.specs.Classes.{FoundMethod, method_in}
 use Rattle.jm_world.specs.Loads.{duplicate_methods}
 use Rattle.jm_world.specs.Resolution.{instance_in}
+use Rattle.jm_world.specs.Types.{same_method_type}
 use Rattle.jm_radix.specs.Tables.{IsCellOf, empty_row, with_cells}
 use Rattle.jm_radix.specs.declared.table.Cell.{Cell}
 use Rattle.jm_tables.specs.MethodTables.{IsNumberOf, found_in}
@@ -27,6 +29,12 @@ found_methods ms = map (λ (m : ClassMethod). record { class = m.class.now; meth
 abbrev pub HasFirst : ℕ → BTreeMap MethodKey ℕ → List FoundMethod → Type 0
 HasFirst k table methods = (key : MethodKey) (name : List ℕ) (t : MethodDescriptor) → IsMethodKey key name t
     → get (method_ord.ghosts).cmp table key ≡ first_named k methods name t
+
+-- of the methods from one up to another only the first counts
+abbrev pub Leads : List ClassMethod → ℕ → ℕ → Type 0
+Leads ms i next = (x : ClassMethod) → slice_get ms i ≡ Some x → (name : List ℕ) (t : MethodDescriptor)
+    → first_named i (found_methods (drop i ms)) name t
+    ≡ cond (same_text x.method.now.name name && same_method_type x.method.now.descriptor t) (Some i) (first_named next (found_methods (drop next ms)) name t)
 
 -- in the columns of their selectors, cells have the numbers of those methods of a class that can be selected
 abbrev pub AreOwn : List ClassParts → ClassParts → List Method → List Cell → Type 0

@@ -51,13 +51,13 @@ pub struct Classes<'a> {
     numbers: BTreeMap<&'a [u16], usize>,
     literals: Literals<'a>,
     selectors: BTreeMap<MethodKey<'a>, u32>,
-    methods: usize,
+    methods: Vec<ClassMethod<'a>>,
     ghost tabled: { map (λ m. m.class.now) members.items ≡ program.now },
     ghost complete: { map (λ m. m.class.now) built_ins.items ≡ built_in_classes },
     ghost numbered: { HasNumbers numbers program.now },
     ghost gathered: { literals ≡ literal_texts program.now },
     ghost selected: { HasFirst 0 selectors (all_methods program.now) },
-    ghost counted: { methods ≡ length (all_methods program.now) },
+    ghost listed: { found_methods methods.items ≡ all_methods program.now },
 }
 
 // The numbers of a program's classes by name: of classes of one name the first one's.
@@ -278,7 +278,7 @@ impl<'a> Classes<'a> {
             numbers,
             literals,
             selectors: selectors_of(alloc, &methods)?,
-            methods: methods.len(),
+            methods,
             built_ins,
         })
     }
@@ -291,11 +291,18 @@ impl<'a> Classes<'a> {
         self.program.len() + self.built_ins.as_slice().len()
     }
 
+    /// The methods of all classes, the built-in ones first, of each as declared.
+    pub fn methods(&self) -> &[ClassMethod<'a>]
+        ensures { found_methods result.now ≡ all_methods self.now.program.now }
+    {
+        &self.methods
+    }
+
     /// How many methods all classes have, the built-in ones too.
     pub fn method_count(&self) -> usize
         ensures { result ≡ length (all_methods self.now.program.now) }
     {
-        self.methods
+        self.methods.len()
     }
 
     /// The selector of a name and a type: the number, among the methods of all classes, of the first

@@ -136,7 +136,7 @@ fn link_instructions<'a>(
     ensures refusal { Answers result (first_of_all (instruction_refusal classes.now.program.now) instructions.now) }
     ensures linked { IfOk result (λ linked. AllLinkIn classes.now.program.now linked instructions.now) }
 {
-    let mut linked = Vec::new(alloc);
+    let mut linked = Vec::with_capacity(alloc, instructions.len())?;
     for instruction in instructions {
         linked.push(link_instruction(alloc, classes, instruction)?)?;
     }

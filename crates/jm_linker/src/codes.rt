@@ -5,7 +5,7 @@ ghost use Rattle.jm_linked.specs.Methods.{code_numbers, numbered_codes};
 ghost use Rattle.jm_linker.specs.Selectors.{found_methods};
 
 use crate::classes::Classes;
-use crate::selectors::{ClassMethod, methods_of_all};
+use crate::selectors::ClassMethod;
 use std::alloc::{AllocError, Global};
 
 fn numbered_codes<'a>(
@@ -38,7 +38,6 @@ pub fn code_numbers<'a>(
 ) -> Result<Vec<Option<u32>>, AllocError>
     ensures { IfOk result (λ codes. codes.items ≡ code_numbers classes.now.program.now) }
 {
-    let methods = methods_of_all(alloc, &classes.built_ins, classes.program)?;
-    let codes = numbered_codes(alloc, &methods)?;
+    let codes = numbered_codes(alloc, classes.methods())?;
     Ok(codes)
 }

@@ -26,12 +26,15 @@ pub fn find_field_class<'c, 'a>(
         ≡ found_field sought.now.field.now.name sought.now.field.now.descriptor (option_map (λ m. m.now.class.now) c))
         (λ fault. IsOutOfMemory fault) }
 {
-    find_above(
-        alloc,
-        classes,
-        &Sought::Field(sought),
-        slice::from_ref(class),
-    )
+    let Some(named) = classes.members(class) else {
+        return Ok(None);
+    };
+    let sought = Sought::Field(sought);
+    // most fields are declared by the class that is named: no walk is begun for them
+    if sought.is_in(named) {
+        return Ok(Some(named));
+    }
+    find_above(alloc, classes, &sought, slice::from_ref(class))
 }
 
 /// The class that declares the method: for <init> the class of the name itself; else the first

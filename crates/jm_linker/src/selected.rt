@@ -93,7 +93,7 @@ fn methods_of<'a>(
 ) -> Result<Option<Vec<Declared>>, AllocError>
     ensures { IfOk result (λ found. IfSome found (λ methods. AreTheirMethods classes.now.program.now heirs.now (length heirs.now) methods.items)) }
 {
-    let mut methods = Vec::new(alloc);
+    let mut methods = Vec::with_capacity(alloc, heirs.len())?;
     let mut before: usize = 0;
     for (number, heir) in heirs.iter().enumerate() {
         let Some(class) = classes.class_at(number) else {

@@ -129,7 +129,9 @@ pub fn raw_entries_of<'a>(
 ) -> Result<Vec<RawEntry<'a>>, PoolFault>
     ensures { Gives (λ v. v.items) OutOfMemory result reader.new ((repeated indexes next_place []).read reader.old) }
 {
-    let mut entries = Vec::new(alloc);
+    // an entry takes three bytes or more, a long with its second place nine
+    let most = reader.len() / 3;
+    let mut entries = Vec::with_capacity(alloc, most.min(indexes as usize))?;
     for _ in 0..indexes {
         entries = next_place(entries, reader)?;
     }

@@ -115,7 +115,7 @@ fn entry_of(alloc: Global, entries: &[RawEntry<'_>], raw: &RawEntry<'_>) -> Resu
 pub fn entries_of(alloc: Global, raws: &[RawEntry<'_>]) -> Result<Vec<Entry>, PoolFault>
     ensures { GivesAll (λ v. v.items) OutOfMemory result (each (entry_of raws.now) raws.now) }
 {
-    let mut entries = Vec::new(alloc);
+    let mut entries = Vec::with_capacity(alloc, raws.len())?;
     for raw in raws {
         let entry = entry_of(alloc, raws, raw)?;
         entries.push(entry)?;

@@ -119,7 +119,8 @@ fn code_unit_at(at: usize, reader: &mut Reader<'_>) -> Result<u16, PoolFault>
 pub fn code_units(alloc: Global, bytes: &[u8]) -> Result<Vec<u16>, PoolFault>
     ensures { GivesAll (λ v. v.items) OutOfMemory result (text.read bytes.now) }
 {
-    let mut units = Vec::new(alloc);
+    // a code unit has a byte at least
+    let mut units = Vec::with_capacity(alloc, bytes.len())?;
     let mut reader = Reader::new(bytes);
     while !reader.is_empty() {
         let at = bytes.len() - reader.len();

@@ -9,7 +9,7 @@ use Rattle.jm_linker.proofs.selected.methods_of.Goals as goal
 pub loop-number-init : goal.loop-number-init
 loop-number-init c = (
   none_so_far c.args.classes.now.program.now,
-  subst (AreTheirMethods c.args.classes.now.program.now c.args.heirs.now 0) (sym c.new-methods.ensures.items)
+  subst (AreTheirMethods c.args.classes.now.program.now c.args.heirs.now 0) (sym c.in_ok-methods.ensures.items)
       (no_methods c.args.classes.now.program.now c.args.heirs.now),
 )
 
