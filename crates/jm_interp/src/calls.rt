@@ -31,7 +31,6 @@ use std::alloc::AllocError;
 /// synchronized enters a monitor first (JVMS 2.11.10): Blocked where another thread holds it, Stopped
 /// where it would have been entered 2^31 times. OutOfMemory: a growth was refused. Nothing has changed
 /// then.
-#[inline]
 pub(crate) fn call<H: Heap>(
     at: At<'_>,
     state: &mut State<H>,

@@ -9,7 +9,6 @@ use jm_linked::{Linked, MemberNumber};
 use jm_program::Method;
 
 /// A method as its class declares it; none past the classes and their methods.
-#[inline]
 pub(crate) fn declared_method(linked: &Linked, method: MemberNumber) -> Option<&Method>
     ensures { (found : FoundMethod) → IsMethodOf linked.now.program method found → option_map (λ m. m.now) result ≡ Some found.method }
 {

@@ -17,7 +17,6 @@ use jm_values::Place;
 /// top, become its first local variables (JVMS 2.6.1). With 512 frames StackOverflowError is thrown
 /// instead (JVMS 2.5.2). A synchronized method enters the receiver's monitor. OutOfMemory: a growth was
 /// refused, and nothing has changed.
-#[inline]
 pub(crate) fn call_code<H: Heap>(
     at: At<'_>,
     state: &mut State<H>,

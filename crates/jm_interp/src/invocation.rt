@@ -24,13 +24,11 @@ use jm_world::Stop;
 
 // Whether a linked method stands before one that a class of the program declares, in the order of the
 // classes and of the methods of each.
-#[inline]
 fn is_before(method: &LinkedMethod, class: u32, member: u32) -> bool {
     method.class < class || method.class == class && method.member < member
 }
 
 // Where a method of a class of the program would stand among those with code, which are in order.
-#[inline]
 fn search(methods: &[LinkedMethod], class: u32, member: u32) -> usize {
     let mut low = 0;
     let mut high = methods.len();
@@ -47,7 +45,6 @@ fn search(methods: &[LinkedMethod], class: u32, member: u32) -> usize {
 
 /// The number among those with code of a method that a class declares; none where it has no code. In
 /// as many steps as the number of all has binary digits.
-#[inline]
 pub(crate) fn code_number(linked: &Linked, method: MemberNumber) -> Option<u32>
     ensures { IfSome result (λ number. IsCodeOf linked.now method number) }
 {
@@ -62,7 +59,6 @@ pub(crate) fn code_number(linked: &Linked, method: MemberNumber) -> Option<u32>
 
 /// The object whose monitor a call of an instance method enters, by the method's number among those
 /// with code: the receiver of a synchronized one (JVMS 2.11.10).
-#[inline]
 pub(crate) fn monitor_of(linked: &Linked, number: u32, receiver: Place) -> Option<Place>
     ensures { (parameters : List DeclaredType) (p : HasParameters linked.now number parameters) → result ≡ monitor_of p.declared receiver }
 {
@@ -77,7 +73,6 @@ pub(crate) fn monitor_of(linked: &Linked, number: u32, receiver: Place) -> Optio
 }
 
 /// The parameters of a method, by its number among those with code.
-#[inline]
 pub(crate) fn parameters_of(linked: &Linked, number: u32) -> Option<&[FieldType]>
     ensures { IfSome result (λ parameters. HasParameters linked.now number parameters.now) }
 {
@@ -90,7 +85,6 @@ pub(crate) fn parameters_of(linked: &Linked, number: u32) -> Option<&[FieldType]
 /// Calls a static method whose class is initialized, by the number with which its class declares it
 /// (JVMS 6.5 invokestatic): the operands on top are tested as its arguments. OutOfMemory where the
 /// class declares no method of that number with code, as every static one of a program that loads has.
-#[inline]
 pub(crate) fn call_static<H: Heap>(
     at: At<'_>,
     state: &mut State<H>,

@@ -22,7 +22,6 @@ use jm_values::Place;
 // The object below operands on top that are arguments of these types, which are tested first; the
 // operands stay. Null throws NullPointerException. `Underflow`: there are fewer operands; `WrongTag`:
 // one is of another type.
-#[inline]
 fn receiver_below(thread: &Thread, parameters: &[FieldType]) -> Result<Place, Refusal>
     requires { RunsMethod thread.now }
     ensures value { InAnyMethod thread.now (λ f below r. result ≡ receiver_below parameters.now f.activation.stack) }
@@ -39,7 +38,6 @@ fn receiver_below(thread: &Thread, parameters: &[FieldType]) -> Result<Place, Re
 /// class is refused as the instruction says, and null throws NullPointerException. OutOfMemory: no
 /// class has the object's number, or the class that declares the method has none of its number, as
 /// all have.
-#[inline]
 pub(crate) fn receiver_of<H: Heap>(
     at: At<'_>,
     state: &State<H>,

@@ -22,7 +22,6 @@ use jm_state::{Halt, State, StepEnd};
 use jm_values::Place;
 
 /// The class in which a method is searched for an object of a mark: an array has Object's.
-#[inline]
 pub(crate) fn class_of(id: ClassId) -> u32
     ensures { (program : List ClassParts) → class_name_of program result ≡ class_of (named_type program id) }
 {
@@ -33,7 +32,6 @@ pub(crate) fn class_of(id: ClassId) -> u32
 }
 
 // Calls what was selected for the receiver: nothing throws AbstractMethodError.
-#[inline]
 fn call_selected<H: Heap>(
     at: At<'_>,
     state: &mut State<H>,
