@@ -24,7 +24,7 @@ const FEW: usize = 8;
 #[derive(Clone, Copy)]
 struct Entry {
     header: Header,
-    start: usize,
+    start: u32,
     length: u32,
 }
 
@@ -150,7 +150,11 @@ impl Block {
         let entry = self.entries[index];
         Some((
             entry.header,
-            part(self.values.as_slice(), entry.start, entry.length as usize),
+            part(
+                self.values.as_slice(),
+                entry.start as usize,
+                entry.length as usize,
+            ),
         ))
     }
 
@@ -164,7 +168,11 @@ impl Block {
         let entry = self.entries[index];
         (
             entry.header,
-            part(self.values.as_slice(), entry.start, entry.length as usize),
+            part(
+                self.values.as_slice(),
+                entry.start as usize,
+                entry.length as usize,
+            ),
         )
     }
 
@@ -176,7 +184,7 @@ impl Block {
     {
         let _end = self.values.len();
         let entry = self.entries[index];
-        self.values[entry.start + number]
+        self.values[entry.start as usize + number]
     }
 
     /// Puts an object at the end. A growth that is refused changes nothing.
@@ -193,7 +201,7 @@ impl Block {
         self.cells += header.class.size(values.len() as u64);
         self.entries.push_reserved(Entry {
             header,
-            start,
+            start: start as u32,
             length: values.len() as u32,
         });
         Ok(())
@@ -217,7 +225,7 @@ impl Block {
         self.cells += header.class.size(count as u64);
         self.entries.push_reserved(Entry {
             header,
-            start,
+            start: start as u32,
             length: count,
         });
         Ok(())
@@ -232,7 +240,7 @@ impl Block {
         let entry = self.entries[last];
         self.cells -= entry.header.class.size(entry.length as u64);
         self.entries.truncate(last);
-        self.values.truncate(entry.start);
+        self.values.truncate(entry.start as usize);
     }
 
     /// Changes one value of an object.
@@ -243,6 +251,6 @@ impl Block {
     {
         let _end = self.values.len();
         let entry = self.entries[index];
-        self.values[entry.start + number] = value;
+        self.values[entry.start as usize + number] = value;
     }
 }
