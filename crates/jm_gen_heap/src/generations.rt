@@ -29,7 +29,7 @@ use crate::cells::store_cells;
 use crate::copying::{Copied, OLD_LANE, Stores, copy_all, copy_young};
 use crate::fields::{add_fields, put_fields};
 use crate::pointers::{Pointers, names_young};
-use crate::request::{default_element, header_of, put_defaults};
+use crate::request::{default_element, header_of};
 use jm_blocks::{Block, BlockStore, Header, Position};
 use jm_copy::Collector;
 use jm_heap::{HeapFault, Roots, Shape};
@@ -117,7 +117,6 @@ fn set_old(
 fn put_new(
     alloc: Global,
     young: &mut Nurseries,
-    values: &mut Vec<Value>,
     nursery: usize,
     header: Header,
     shape: Shape<'_>,
@@ -129,10 +128,7 @@ fn put_new(
     ensures err { OnErr result (young.new ≡ young.old) }
 {
     match shape {
-        Shape::Instance { fields, .. } => {
-            put_defaults(values, fields)?;
-            young.make_with(alloc, nursery, header, values.as_slice())
-        }
+        Shape::Instance { fields, .. } => { young.make_defaults(alloc, nursery, header, fields) }
         Shape::Array { component, length } => {
             young.make(alloc, nursery, header, default_element(component), length)
         }
@@ -169,7 +165,6 @@ pub struct Generations {
     tenured: BlockStore,
     tenured_cells: u64,
     pointers: Pointers,
-    values: Vec<Value>,
 }
 
 impl Model for Generations {
@@ -196,7 +191,6 @@ impl Generations {
             tenured: BlockStore::new(alloc, OLD_LANE),
             tenured_cells: 0,
             pointers: Pointers::new(alloc)?,
-            values: Vec::new(alloc),
         })
     }
 
@@ -312,14 +306,7 @@ impl Generations {
             return Err(HeapFault::SerialsEnd);
         }
         let header = header_of(shape, self.next);
-        let place = put_new(
-            self.alloc,
-            &mut self.young,
-            &mut self.values,
-            nursery,
-            header,
-            shape,
-        )?;
+        let place = put_new(self.alloc, &mut self.young, nursery, header, shape)?;
         self.next += 1;
         Ok(place)
     }
