@@ -80,6 +80,7 @@ fn default_value(operand: OperandType) -> Value
 }
 
 // The default values of fields at the end. A growth that is refused changes nothing.
+#[inline]
 fn push_defaults(values: &mut Vec<Value>, fields: &[OperandType]) -> Result<(), AllocError>
     ensures ok { OnOk result (values.new.items ≡ values.old.items ++ map default_of fields.now) }
     ensures err { OnErr result (values.new.items ≡ values.old.items) }
@@ -258,7 +259,7 @@ impl Block {
 
     /// Puts an object at the end whose values are the default values of fields. A growth that is
     /// refused changes nothing.
-    #[inline]
+    #[inline(always)]
     pub fn bump_defaults(
         &mut self,
         header: Header,

@@ -233,7 +233,7 @@ impl BlockStore {
 
     /// Puts an object whose values are the default values of fields at the place that is reserved for
     /// one of its cells, as `fill` does. A growth that is refused changes nothing.
-    #[inline]
+    #[inline(always)]
     pub fn fill_defaults(
         &mut self,
         alloc: Global,
