@@ -27,6 +27,11 @@ unfolding class_size
 size_bounded (Instance c) n = omega arith
 size_bounded (Array c) n = omega arith
 
+pub size_of_values : (class : ClassId) (n : ℕ) → n ≤ class_size class n
+unfolding class_size
+size_of_values (Instance c) n = omega arith
+size_of_values (Array c) n = omega arith
+
 -- the sizes of a block's objects are those of its entries
 pub sizes_spelled : (s : ℕ) (es : List Entry) (vs : List Value) → IsPacked s es (s + length vs) → sizes_of (spelled es vs) ≡ map entry_cells es
 sizes_spelled s [] vs p = refl
@@ -169,3 +174,19 @@ block_more es vs ws e cells b start many short room =
 
 pub count_by_fields : (es : List Entry) (vs : List Value) (os : List Object) → spelled es vs ≡ os → length (sizes_of os) ≡ length es
 count_by_fields es vs os e = length_sizes os ∙ ap length (sym e) ∙ length_spelled es vs
+
+-- the values are no more than the cells
+pub packed_within : (s : ℕ) (es : List Entry) (end : ℕ) → IsPacked s es end → end ≤ s + sum (map entry_cells es)
+packed_within s [] end p = omega (arith, p)
+packed_within s (e ∷ es) end p =
+    let rest = packed_within (s + e.length) es end p.1 in
+    let all = sum_cons (entry_cells e) (map entry_cells es) in
+    omega (arith, rest, all, size_of_values e.header.class e.length)
+
+-- where there is room they are few
+pub few_values : (es : List Entry) (vs : List Value) (n cells : ℕ) → IsBlock es vs cells → has_room (map entry_cells es) n ≡ true → length vs < 2 ^ 32
+few_values [] vs n cells b room = omega (arith, b.packed)
+few_values (e ∷ es) vs n cells b room =
+    let within = packed_within 0 (e ∷ es) (length vs) b.packed in
+    let small = is_room (entry_cells e) (map entry_cells es) n room in
+    omega (arith, within, small.together)

@@ -1,12 +1,14 @@
 // A block of cells.
 
 ghost use Rattle.std.specs.Prelude.{◌≡◌, ◌+◌, ◌<◌, ◌≤◌, ◌^◌, ◌++◌, ◌∷◌, [], Some, None, MatchOption, IfSome, OnOk, OnErr, IsTrue, true};
-ghost use Rattle.std.specs.Prelude.{take, drop, length, slice_get, slice_set, replicate};
+ghost use Rattle.std.specs.Prelude.{take, drop, length, map, slice_get, slice_set, replicate};
+ghost use Rattle.jm_values.specs.Objects.{default_of};
 ghost use Rattle.jm_heap.specs.Cells.{class_size};
 ghost use Rattle.jm_blocks.specs.Objects.{Object, object_of, with_value};
 ghost use Rattle.jm_blocks.specs.Cells.{object_cells, sizes_of, block_cells, has_room, HoldsItsCells};
 
 use crate::header::Header;
+use jm_program::OperandType;
 use jm_values::Value;
 use std::alloc::{AllocError, Global};
 use std::marker::Model;
@@ -24,7 +26,7 @@ const FEW: usize = 8;
 #[derive(Clone, Copy)]
 struct Entry {
     header: Header,
-    start: usize,
+    start: u32,
     length: u32,
 }
 
@@ -62,6 +64,30 @@ fn push_copies(values: &mut Vec<Value>, value: &Value, count: usize) -> Result<(
     values.reserve(count)?;
     for _copy in 0..count {
         values.push_reserved(*value);
+    }
+    Ok(())
+}
+
+// The value that a variable begins with (JVMS 2.3, 2.4).
+fn default_value(operand: OperandType) -> Value
+    ensures { result ≡ default_of operand }
+{
+    match operand {
+        OperandType::Int => Value::Int(0),
+        OperandType::Long => Value::Long(0),
+        OperandType::Reference => Value::Null,
+    }
+}
+
+// The default values of fields at the end. A growth that is refused changes nothing.
+#[inline]
+fn push_defaults(values: &mut Vec<Value>, fields: &[OperandType]) -> Result<(), AllocError>
+    ensures ok { OnOk result (values.new.items ≡ values.old.items ++ map default_of fields.now) }
+    ensures err { OnErr result (values.new.items ≡ values.old.items) }
+{
+    values.reserve(fields.len())?;
+    for field in fields {
+        values.push_reserved(default_value(*field));
     }
     Ok(())
 }
@@ -150,7 +176,11 @@ impl Block {
         let entry = self.entries[index];
         Some((
             entry.header,
-            part(self.values.as_slice(), entry.start, entry.length as usize),
+            part(
+                self.values.as_slice(),
+                entry.start as usize,
+                entry.length as usize,
+            ),
         ))
     }
 
@@ -164,7 +194,11 @@ impl Block {
         let entry = self.entries[index];
         (
             entry.header,
-            part(self.values.as_slice(), entry.start, entry.length as usize),
+            part(
+                self.values.as_slice(),
+                entry.start as usize,
+                entry.length as usize,
+            ),
         )
     }
 
@@ -176,7 +210,7 @@ impl Block {
     {
         let _end = self.values.len();
         let entry = self.entries[index];
-        self.values[entry.start + number]
+        self.values[entry.start as usize + number]
     }
 
     /// Puts an object at the end. A growth that is refused changes nothing.
@@ -193,7 +227,7 @@ impl Block {
         self.cells += header.class.size(values.len() as u64);
         self.entries.push_reserved(Entry {
             header,
-            start,
+            start: start as u32,
             length: values.len() as u32,
         });
         Ok(())
@@ -217,8 +251,33 @@ impl Block {
         self.cells += header.class.size(count as u64);
         self.entries.push_reserved(Entry {
             header,
-            start,
+            start: start as u32,
             length: count,
+        });
+        Ok(())
+    }
+
+    /// Puts an object at the end whose values are the default values of fields. A growth that is
+    /// refused changes nothing.
+    #[inline(always)]
+    pub fn bump_defaults(
+        &mut self,
+        header: Header,
+        fields: &[OperandType],
+    ) -> Result<(), AllocError>
+        requires short { length fields.now < 2 ^ 32 }
+        requires room { has_room (sizes_of self.old) (class_size header.class (length fields.now)) ≡ true }
+        ensures ok { OnOk result (self.new ≡ self.old ++ object_of header (map default_of fields.now) ∷ []) }
+        ensures err { OnErr result (self.new ≡ self.old) }
+    {
+        let start = self.values.len();
+        self.entries.reserve(1)?;
+        push_defaults(&mut self.values, fields)?;
+        self.cells += header.class.size(fields.len() as u64);
+        self.entries.push_reserved(Entry {
+            header,
+            start: start as u32,
+            length: fields.len() as u32,
         });
         Ok(())
     }
@@ -232,7 +291,7 @@ impl Block {
         let entry = self.entries[last];
         self.cells -= entry.header.class.size(entry.length as u64);
         self.entries.truncate(last);
-        self.values.truncate(entry.start);
+        self.values.truncate(entry.start as usize);
     }
 
     /// Changes one value of an object.
@@ -243,6 +302,6 @@ impl Block {
     {
         let _end = self.values.len();
         let entry = self.entries[index];
-        self.values[entry.start + number] = value;
+        self.values[entry.start as usize + number] = value;
     }
 }

@@ -8,7 +8,7 @@
 //! store as its lane and the lists of objects of its blocks, and most speak of its places alone
 //! (`objects_in`).
 //!
-//! The crate stands on `jm_values` and `jm_heap`.
+//! The crate stands on `jm_program`, `jm_values` and `jm_heap`.
 #![tactic(auto)]
 
 mod block;

@@ -1,6 +1,7 @@
 // Blocks under numbers.
 
-ghost use Rattle.std.specs.Prelude.{◌≡◌, ℕ, ◌+◌, ◌*◌, ◌<◌, ◌≤◌, ◌^◌, Some, None, MatchOption, IfSome, IfOk, OnOk, OnErr, length, slice_get, replicate, [], ◌∷◌};
+ghost use Rattle.std.specs.Prelude.{◌≡◌, ℕ, ◌+◌, ◌*◌, ◌<◌, ◌≤◌, ◌^◌, Some, None, MatchOption, IfSome, IfOk, OnOk, OnErr, length, map, slice_get, replicate, [], ◌∷◌};
+ghost use Rattle.jm_values.specs.Objects.{default_of};
 ghost use Rattle.jm_blocks.specs.Objects.{Object, object_of};
 ghost use Rattle.jm_blocks.specs.Cells.{object_cells};
 ghost use Rattle.jm_blocks.specs.Places.{place_at, lane_of};
@@ -10,6 +11,7 @@ ghost use Rattle.jm_blocks.specs.Stores.{last_has_room, store_with, next_place, 
 use crate::block::Block;
 use crate::header::Header;
 use crate::position::Position;
+use jm_program::OperandType;
 use jm_values::{Place, Value};
 use std::alloc::{AllocError, Global};
 use std::marker::Model;
@@ -225,6 +227,34 @@ impl BlockStore {
         }
         let mut block = Block::new(alloc);
         block.bump_copies(header, value, count)?;
+        self.blocks.push(block)?;
+        Ok(())
+    }
+
+    /// Puts an object whose values are the default values of fields at the place that is reserved for
+    /// one of its cells, as `fill` does. A growth that is refused changes nothing.
+    #[inline(always)]
+    pub fn fill_defaults(
+        &mut self,
+        alloc: Global,
+        header: Header,
+        fields: &[OperandType],
+    ) -> Result<(), AllocError>
+        requires { length fields.now < 2 ^ 32 }
+        ensures ok { let o = object_of header (map default_of fields.now) in OnOk result (Bumped self.old self.new (next_place self.old (object_cells o)) o) }
+        ensures blocks { OnOk result (self.new ≡ store_with self.old (object_of header (map default_of fields.now))) }
+        ensures err { OnErr result (self.new ≡ self.old) }
+    {
+        let blocks = self.blocks.len();
+        if self.last_has_room(header.class.size(fields.len() as u64)) {
+            let block = &mut self.blocks[blocks - 1];
+            return block.bump_defaults(header, fields);
+        }
+        if blocks >= MAX_BLOCKS {
+            return Err(AllocError);
+        }
+        let mut block = Block::new(alloc);
+        block.bump_defaults(header, fields)?;
         self.blocks.push(block)?;
         Ok(())
     }

@@ -1,5 +1,5 @@
 -- The parts of a heap of generations, and what lies at their places.
-use Rattle.std.proofs.Common.{◌≡◌, ◌⊎◌, ℕ, zero, suc, ◌+◌, ◌-◌, ◌<◌, ◌≤◌, ◌^◌, List, [], ◌∷◌, ◌++◌, Option, Some, None, Bool, true, false, refl, sym, ap, ◌∙◌, subst, inl, inr, length, take, drop, get_or, arith, append-nil}
+use Rattle.std.proofs.Common.{◌≡◌, ◌≢◌, ◌⊎◌, ℕ, zero, suc, ◌+◌, ◌-◌, ◌<◌, ◌≤◌, ◌^◌, List, [], ◌∷◌, ◌++◌, Option, Some, None, Bool, true, false, refl, sym, ap, ◌∙◌, subst, inl, inr, length, take, drop, get_or, arith, append-nil}
 use Rattle.std.specs.Prelude.{Result, Ok, Err, OnOk, OnErr, slice_get, slice_set, is_some}
 use Rattle.jm_values.specs.Shape.{Among}
 use Rattle.jm_values.specs.Rename.{refs}
@@ -16,12 +16,13 @@ use Rattle.jm_blocks.proofs.Sizes.{at_least_two}
 use Rattle.jm_barrier.specs.Remembered.{noted}
 use Rattle.jm_nursery.specs.Nurseries.{Young, AreNurseries, HasYoungValue, nursery_at, young_cells, lane_cells}
 use Rattle.jm_nursery.specs.Nurseries as nursery
+use Rattle.jm_nursery.proofs.Making.{in_nursery}
 use Rattle.jm_copy.specs.Condemned.{objects_at, object_of_store}
 use Rattle.jm_generations.specs.Generations.{Generations, IsYoung, lying, old_lane, all_cells}
 use Rattle.jm_generations.specs.Residents.{content_of}
 use Rattle.jm_generations.specs.Invariant.{AreGenerations}
 use Rattle.jm_generations.specs.Steps.{IsNoted, IsWritten, with_tenured}
-use Rattle.jm_generations.proofs.Lanes.{AreLaned, LiesYoung, LiesOld, lies_where, old_lies, not_both}
+use Rattle.jm_generations.proofs.Lanes.{AreLaned, LiesYoung, LiesOld, lies_where, lying_old, old_lies, not_both}
 use Rattle.jm_generations.proofs.Making.{laned}
 use Rattle.jm_generations.proofs.Storing.{in_lane, no_nursery, young_set, nursery_set, old_written}
 use Rattle.jm_generations.proofs.Setting.{written_keeps}
@@ -42,12 +43,21 @@ store_young g l p n s o at there e = by (lies_where g l p o e)
     by (inl y) = sym (ap (λ x. object_of_store x p) (ap (slice_get g.nurseries) number ∙ there)) ∙ y.lies
     by (inr x) = absurd (not_both p (in_lane p n at).1 x.lane)
 
-pub store_old : (g : Generations) → AreLaned g → (p : ℕ) (o : Object) → nursery_at p ≡ None → lying g p ≡ Some o → objects_in g.tenured p ≡ Some o
-store_old g l p o at e = by (lies_where g l p o e)
+-- in a nursery, or in the old store, by the lane
+pub young_lane : (g : Generations) → AreLaned g → (p : ℕ) (o : Object) → lane_of p ≢ old_lane → lying g p ≡ Some o → IsYoung p
+young_lane g l p o away e = by (lies_where g l p o e)
   where
-    by : LiesYoung g p o ⊎ LiesOld g p o → objects_in g.tenured p ≡ Some o
-    by (inl y) = absurd (no_nursery p at y.young)
-    by (inr x) = x.lies
+    by : LiesYoung g p o ⊎ LiesOld g p o → IsYoung p
+    by (inl y) = y.young
+    by (inr x) = absurd (away x.lane)
+
+pub in_young : (g : Generations) → AreLaned g → (p : ℕ) (o : Object) → lane_of p ≢ old_lane → lying g p ≡ Some o → nursery_at p ≡ Some (lane_of p - 1)
+in_young g l p o away e =
+    let y = young_lane g l p o away e in
+    in_nursery p (lane_of p - 1) (omega (arith, y.some)) (omega (arith, y.some, y.few))
+
+pub store_old : (g : Generations) → AreLaned g → (p : ℕ) (o : Object) → lane_of p ≡ old_lane → lying g p ≡ Some o → objects_in g.tenured p ≡ Some o
+store_old g l p o lane e = sym (lying_old g l p lane) ∙ e
 
 pub number_within : (p n : ℕ) → nursery_at p ≡ Some n → n < 16
 number_within p n at = let lane = (in_lane p n at).0 in let few = (in_lane p n at).1.few in omega (arith, lane, few)

@@ -29,11 +29,11 @@ use crate::cells::store_cells;
 use crate::copying::{Copied, OLD_LANE, Stores, copy_all, copy_young};
 use crate::fields::{add_fields, put_fields};
 use crate::pointers::{Pointers, names_young};
-use crate::request::{default_element, header_of, put_defaults};
-use jm_blocks::{Block, BlockStore, Header};
+use crate::request::{default_element, header_of};
+use jm_blocks::{Block, BlockStore, Header, Position};
 use jm_copy::Collector;
 use jm_heap::{HeapFault, Roots, Shape};
-use jm_nursery::{Nurseries, empty_nurseries, nursery_of};
+use jm_nursery::{Nurseries, empty_nurseries};
 use jm_values::{Place, Value};
 use std::alloc::{AllocError, Global};
 use std::marker::Model;
@@ -94,8 +94,9 @@ fn note_young(pointers: &mut Pointers, place: Place, value: &Value) -> Result<()
 }
 
 // Changes one value of an old object, which is remembered where the value names a young one. Where a
-// growth is refused, nothing has changed.
-#[inline]
+// growth is refused, nothing has changed. It is called, so that a heap's `set` is small enough to lie
+// where it is used: that takes fewer instructions than the call does, for an old object too.
+#[inline(never)]
 fn set_old(
     pointers: &mut Pointers,
     tenured: &mut BlockStore,
@@ -116,7 +117,6 @@ fn set_old(
 fn put_new(
     alloc: Global,
     young: &mut Nurseries,
-    values: &mut Vec<Value>,
     nursery: usize,
     header: Header,
     shape: Shape<'_>,
@@ -128,10 +128,7 @@ fn put_new(
     ensures err { OnErr result (young.new ≡ young.old) }
 {
     match shape {
-        Shape::Instance { fields, .. } => {
-            put_defaults(values, fields)?;
-            young.make_with(alloc, nursery, header, values.as_slice())
-        }
+        Shape::Instance { fields, .. } => { young.make_defaults(alloc, nursery, header, fields) }
         Shape::Array { component, length } => {
             young.make(alloc, nursery, header, default_element(component), length)
         }
@@ -168,7 +165,6 @@ pub struct Generations {
     tenured: BlockStore,
     tenured_cells: u64,
     pointers: Pointers,
-    values: Vec<Value>,
 }
 
 impl Model for Generations {
@@ -195,20 +191,21 @@ impl Generations {
             tenured: BlockStore::new(alloc, OLD_LANE),
             tenured_cells: 0,
             pointers: Pointers::new(alloc)?,
-            values: Vec::new(alloc),
         })
     }
 
-    // The store in whose lane a place is.
+    // The store of the object at a place.
     #[inline]
     fn store_of(&self, place: Place) -> &BlockStore
+        requires { (k : ℕ) × (serial_at (content_of self.now) place ≡ Some k) }
         ensures there { (o : Object) → lying self.now place ≡ Some o → objects_in result.now place ≡ Some o }
         ensures keeps { AreGenerations self.now }
     {
-        match nursery_of(place) {
-            Some(number) => &self.young.stores()[number],
-            None => &self.tenured,
+        let position = Position::of(place);
+        if position.lane == OLD_LANE {
+            return &self.tenured;
         }
+        &self.young.stores()[position.lane as usize - 1]
     }
 
     /// One value of the object at a place.
@@ -242,19 +239,18 @@ impl Generations {
         ensures set { OnOk result (IsSet (content_of self.old) (content_of self.new) place index value) }
         ensures err { OnErr result (self.new ≡ self.old) }
     {
-        match nursery_of(place) {
-            Some(_) => {
-                self.young.set(place, index as usize, value);
-                Ok(())
-            }
-            None => set_old(
+        let position = Position::of(place);
+        if position.lane == OLD_LANE {
+            return set_old(
                 &mut self.pointers,
                 &mut self.tenured,
                 place,
                 index as usize,
                 value,
-            ),
+            );
         }
+        self.young.set(place, index as usize, value);
+        Ok(())
     }
 
     /// The cells of all objects.
@@ -310,14 +306,7 @@ impl Generations {
             return Err(HeapFault::SerialsEnd);
         }
         let header = header_of(shape, self.next);
-        let place = put_new(
-            self.alloc,
-            &mut self.young,
-            &mut self.values,
-            nursery,
-            header,
-            shape,
-        )?;
+        let place = put_new(self.alloc, &mut self.young, nursery, header, shape)?;
         self.next += 1;
         Ok(place)
     }

@@ -1,6 +1,6 @@
 // The object that is to be made.
 
-ghost use Rattle.std.specs.Prelude.{◌≡◌, ◌<◌, ◌^◌, OnOk, length, map};
+ghost use Rattle.std.specs.Prelude.{◌≡◌, ◌<◌, ◌^◌, length};
 ghost use Rattle.jm_values.specs.Objects.{size_by, default_of};
 ghost use Rattle.jm_heap.specs.Cells.{class_size};
 ghost use Rattle.jm_heap.specs.NewObject.{new_object, operand_of_component};
@@ -8,9 +8,8 @@ ghost use Rattle.jm_heap.specs.declared.class_id.ClassId.TheVariants.{Array};
 
 use jm_blocks::Header;
 use jm_heap::{ClassId, Component, Element, Shape};
-use jm_program::{BaseType, OperandType};
+use jm_program::BaseType;
 use jm_values::Value;
-use std::alloc::AllocError;
 
 // The class or array type of the object.
 #[inline]
@@ -57,17 +56,6 @@ pub fn cells_of(shape: Shape<'_>) -> u64
     }
 }
 
-// The value that a variable begins with (JVMS 2.3, 2.4).
-fn default_value(operand: OperandType) -> Value
-    ensures { result ≡ default_of operand }
-{
-    match operand {
-        OperandType::Int => Value::Int(0),
-        OperandType::Long => Value::Long(0),
-        OperandType::Reference => Value::Null,
-    }
-}
-
 /// The value that an element of an array begins with (JVMS 2.3, 2.4, 2.11.1).
 pub fn default_element(component: Component) -> Value
     ensures { result ≡ default_of (operand_of_component component) }
@@ -80,17 +68,4 @@ pub fn default_element(component: Component) -> Value
         Element::Base(_) => Value::Int(0),
         Element::Class(_) => Value::Null,
     }
-}
-
-/// Puts the default values of fields in the place of the values that there are. Where a growth is
-/// refused, there are none.
-pub fn put_defaults(values: &mut Vec<Value>, fields: &[OperandType]) -> Result<(), AllocError>
-    ensures { OnOk result (values.new.items ≡ map default_of fields.now) }
-{
-    values.clear();
-    values.reserve(fields.len())?;
-    for field in fields {
-        values.push_reserved(default_value(*field));
-    }
-    Ok(())
 }

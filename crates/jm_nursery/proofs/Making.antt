@@ -67,7 +67,8 @@ nurseries_set lanes n s t r e h = record {
         let same : x ≡ t = cc in
         ap (λ y. y.lane) same ∙ h ∙ r.numbered n s e ∙ ap (λ m. m + 1) (sym d.1)
 
-in_nursery : (p n : ℕ) → lane_of p ≡ n + 1 → n < 16 → nursery_at p ≡ Some n
+-- the nursery of a place in its lane
+pub in_nursery : (p n : ℕ) → lane_of p ≡ n + 1 → n < 16 → nursery_at p ≡ Some n
 in_nursery p n e h =
     let low : 1 ≤ lane_of p = omega (arith, e) in
     let high : lane_of p ≤ 16 = omega (arith, e, h) in

@@ -1,11 +1,13 @@
 // The nurseries of the workers.
 
-ghost use Rattle.std.specs.Prelude.{◌≡◌, ℕ, ◌+◌, ◌*◌, ◌/◌, ◌%◌, ◌<◌, ◌≤◌, ◌^◌, [], Some, IfOk, OnErr, length, slice_get, replicate, nat_le};
+ghost use Rattle.std.specs.Prelude.{◌≡◌, ℕ, ◌+◌, ◌*◌, ◌/◌, ◌%◌, ◌<◌, ◌≤◌, ◌^◌, [], Some, IfOk, OnErr, length, map, slice_get, replicate, nat_le};
+ghost use Rattle.jm_values.specs.Objects.{default_of};
 ghost use Rattle.jm_blocks.specs.Objects.{object_of};
 ghost use Rattle.jm_blocks.specs.Cells.{object_cells};
 ghost use Rattle.jm_nursery.specs.Nurseries.{Young, AreNurseries, HasYoungValue, IsMade, IsWritten, quota, young_cells, nursery_at};
 
 use jm_blocks::{BlockStore, Header, Position};
+use jm_program::OperandType;
 use jm_values::{Place, Value};
 use std::alloc::{AllocError, Global};
 use std::marker::Model;
@@ -143,6 +145,29 @@ impl Nurseries {
         let store = &mut self.stores[worker % NURSERIES];
         let place = store.reserve(size)?;
         store.fill(alloc, header, values)?;
+        self.cells += size;
+        Ok(place)
+    }
+
+    /// Makes an object with the default values of these fields in the nursery of a worker, as `make`
+    /// does. A growth that is refused changes nothing.
+    #[inline]
+    pub fn make_defaults(
+        &mut self,
+        alloc: Global,
+        worker: usize,
+        header: Header,
+        fields: &[OperandType],
+    ) -> Result<Place, AllocError>
+        requires short { length fields.now < 2 ^ 32 }
+        requires room { young_cells self.old.lanes + object_cells (object_of header (map default_of fields.now)) ≤ self.old.limit }
+        ensures ok { IfOk result (λ p. IsMade self.old self.new (worker % 16) p (object_of header (map default_of fields.now))) }
+        ensures err { OnErr result (self.new ≡ self.old) }
+    {
+        let size = header.class.size(fields.len() as u64);
+        let store = &mut self.stores[worker % NURSERIES];
+        let place = store.reserve(size)?;
+        store.fill_defaults(alloc, header, fields)?;
         self.cells += size;
         Ok(place)
     }

@@ -3,13 +3,20 @@ use Rattle.jm_heap.specs.Cells.{class_size}
 use Rattle.jm_blocks.specs.Cells.{has_room}
 use Rattle.jm_blocks.specs.Spelled.{entry_cells}
 use Rattle.jm_blocks.proofs.Spelling.{bumped}
-use Rattle.jm_blocks.proofs.Sizes.{sizes_by, size_bounded, block_more}
+use Rattle.jm_blocks.proofs.Sizes.{sizes_by, size_bounded, block_more, few_values}
 use Rattle.jm_blocks.proofs.block.Block.bump.Goals as goal
 
 pub overflow_add-self : goal.overflow_add-self
 overflow_add-self c =
     let size = size_bounded c.args.header.class (length c.args.values.now) in
     omega (arith, c.self.invariant.bounded, c.size.ensures, size, c.requires.short)
+
+pub overflow_cast-start : goal.overflow_cast-start
+overflow_cast-start c =
+    let sizes = sizes_by c.self.inside.entries.items c.self.inside.values.items c.args.self.now c.self.inside.cells c.self.view_is c.self.invariant in
+    let room : has_room (map entry_cells c.self.inside.entries.items) (class_size c.args.header.class (length c.args.values.now)) ≡ true = ap (λ ss. has_room ss (class_size c.args.header.class (length c.args.values.now))) (sym sizes) ∙ c.requires.room in
+    let few = few_values c.self.inside.entries.items c.self.inside.values.items (class_size c.args.header.class (length c.args.values.now)) c.self.inside.cells c.self.invariant room in
+    omega (arith, few, c.len-start.ensures, c.self.inside.values.ok.0)
 
 pub invariant_of-self-2 : goal.invariant_of-self-2
 invariant_of-self-2 c =

@@ -1,4 +1,4 @@
-use Rattle.std.proofs.Common.{◌≡◌, Some, ◌∙◌, ap, sym, arith}
+use Rattle.std.proofs.Common.{◌∙◌, ap, sym, arith}
 use Rattle.std.proofs.lemmas.Option.{slice_get_within}
 use Rattle.jm_blocks.specs.Stores.{Blocks, objects_in}
 use Rattle.jm_blocks.proofs.Placing.{lies_in, read_at}

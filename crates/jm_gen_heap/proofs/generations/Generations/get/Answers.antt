@@ -1,6 +1,9 @@
 use Rattle.jm_generations.proofs.Reading.{value_there, value_is, value_resident}
 use Rattle.jm_gen_heap.proofs.generations.Generations.get.Goals as goal
 
+pub store_of-requires : goal.store_of-requires
+store_of-requires c = (c.requires.1.0, c.requires.1.2)
+
 pub get-requires : goal.get-requires
 get-requires c =
     let x = value_there c.args.self.now c.store_of.ensures.keeps c.args.place c.args.index c.requires.0 c.requires.1 in
