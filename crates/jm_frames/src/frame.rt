@@ -23,7 +23,8 @@ pub struct Frame {
     monitor: Option<Place>,
     at: usize,
     max_stack: usize,
-    used: usize,
+    // how many of the operands are longs, which take a unit more
+    longs: usize,
     locals: Vec<Option<Value>>,
     stack: Vec<Value>,
     // memory for the frames that are called from this one
@@ -31,7 +32,7 @@ pub struct Frame {
 }
 
 impl Model for Frame {
-    ghost use Rattle.std.specs.Prelude.{◌≡◌, ◌≤◌, reverse, vec_capacity};
+    ghost use Rattle.std.specs.Prelude.{◌≡◌, ◌+◌, ◌≤◌, length, reverse, vec_capacity};
     ghost use Rattle.jm_values.specs.Activation.{units};
     ghost use Rattle.jm_frames.specs.FrameView.{FrameView};
 
@@ -39,7 +40,18 @@ impl Model for Frame {
 
     ghost view = { λ f. record { method = f.method; monitor = f.monitor; activation = record { at = f.at; max_stack = f.max_stack; locals = f.locals.items; stack = reverse f.stack.items } } };
 
-    ghost invariant = { λ f. (f.used ≡ units (reverse f.stack.items)) × (f.used ≤ f.max_stack) × (f.max_stack ≤ vec_capacity f.stack) };
+    ghost invariant = { λ f. (length f.stack.items + f.longs ≡ units (reverse f.stack.items)) × (length f.stack.items + f.longs ≤ f.max_stack) × (f.max_stack ≤ vec_capacity f.stack) };
+}
+
+// 1 for a long, and 0 for any other value.
+#[inline(always)]
+fn longs_in(value: &Value) -> usize
+    ensures { category value.now ≡ result + 1 }
+{
+    match value {
+        Value::Long(_) => 1,
+        _ => 0,
+    }
 }
 
 impl Frame {
@@ -78,7 +90,7 @@ impl Frame {
             monitor,
             at: 0,
             max_stack: usize::from(max_stack),
-            used: 0,
+            longs: 0,
             locals: memory.locals,
             stack: memory.stack,
             spare,
@@ -162,7 +174,7 @@ impl Frame {
         let Some(value) = self.stack.pop() else {
             return Err(TagFault::Underflow);
         };
-        self.used -= category(&value);
+        self.longs -= longs_in(&value);
         Ok(value)
     }
 
@@ -173,7 +185,7 @@ impl Frame {
         ensures { self.new ≡ with_stack self.old (drop 1 self.old.activation.stack) }
     {
         let _ = self.stack.pop();
-        self.used -= category(value);
+        self.longs -= longs_in(value);
     }
 
     /// Drops the operand on top, which is an int.
@@ -183,7 +195,6 @@ impl Frame {
         ensures { self.new ≡ with_stack self.old (drop 1 self.old.activation.stack) }
     {
         let _ = self.stack.pop();
-        self.used -= 1;
     }
 
     /// Drops the two operands on top, which are ints.
@@ -196,7 +207,15 @@ impl Frame {
     {
         let _ = self.stack.pop();
         let _ = self.stack.pop();
-        self.used -= 2;
+    }
+
+    // How many units the operands take.
+    #[inline(always)]
+    fn used(&self) -> usize
+        ensures units { result ≡ units self.now.activation.stack }
+        ensures room { result ≤ self.now.activation.max_stack }
+    {
+        self.stack.len() + self.longs
     }
 
     /// Pushes an operand. `Overflow`: `max_stack` has no room for it (JVMS 2.6.2), and the frame
@@ -208,7 +227,7 @@ impl Frame {
         ensures ok { OnOk result (self.new ≡ with_stack self.old (value ∷ self.old.activation.stack)) }
         ensures err { OnErr result (self.new ≡ self.old) }
     {
-        if self.used + category(&value) > self.max_stack {
+        if self.used() + category(&value) > self.max_stack {
             return Err(TagFault::Overflow);
         }
         self.put(value);
@@ -241,7 +260,7 @@ impl Frame {
     pub fn has_room(&self, more: usize) -> bool
         ensures { result ≡ nat_le (units self.now.activation.stack + more) self.now.activation.max_stack }
     {
-        more <= self.max_stack - self.used
+        more <= self.max_stack - self.used()
     }
 
     // Pushes an operand that `max_stack` has room for.
@@ -251,7 +270,7 @@ impl Frame {
         requires { units (value ∷ self.old.activation.stack) ≤ self.old.activation.max_stack }
         ensures { self.new ≡ with_stack self.old (value ∷ self.old.activation.stack) }
     {
-        self.used += category(&value);
+        self.longs += longs_in(&value);
         self.stack.push_reserved(value);
     }
 
@@ -326,7 +345,7 @@ impl Frame {
         ensures { self.new ≡ with_stack self.old [] }
     {
         self.stack.clear();
-        self.used = 0;
+        self.longs = 0;
     }
 }
 

@@ -34,6 +34,8 @@ pub mod ReturnRow
 pub mod MethodLeft
 pub mod Arguments
 pub mod StringText
+pub mod SameTypes
+pub mod StringCalls
 pub mod StringRows
 pub mod PrintRow
 pub mod Caught

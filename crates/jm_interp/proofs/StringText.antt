@@ -1,6 +1,6 @@
 -- The text of a String, in the heap and in every world.
-use Rattle.std.proofs.Common.{◌≡◌, ℕ, zero, suc, ◌≤◌, ◌%◌, ◌^◌, List, [], ◌∷◌, ◌++◌, Option, Some, None, Bool, true, false, refl, sym, ap, ◌∙◌, subst, inl, length, take, append_assoc, arith}
-use Rattle.std.specs.Prelude.{slice_get, unwrap_or, option_map, nat_eq}
+use Rattle.std.proofs.Common.{◌≡◌, ℕ, zero, suc, ◌≤◌, ◌%◌, ◌^◌, List, [], ◌∷◌, ◌++◌, Option, Some, None, Bool, true, false, refl, sym, ap, ◌∙◌, subst, ◌⊎◌, inl, inr, length, take, append_assoc, arith}
+use Rattle.std.specs.Prelude.{slice_get, unwrap_or, option_map, nat_eq, ℤ}
 use Rattle.std.proofs.Math.Seq.{take-append_seam}
 use Rattle.std.proofs.lemmas.Bool.{eqb-true}
 use Rattle.std.specs.Int.{w32, cast_unsigned}
@@ -94,6 +94,11 @@ named_chars f {v} {u} e = ap (λ x. first_named (rename f x ∷ [])) e ∙ by u
     by (Long n) = refl
     by Null = refl
     by (Ref p) = refl
+
+pub names_none : (f : ℕ → ℕ) (v : Value) → ((n : ℤ) × (v ≡ Int n)) ⊎ (((n : ℤ) × (v ≡ Long n)) ⊎ (v ≡ Null)) → chars_named f v ≡ None
+names_none f v (inl e) = ap (chars_named f) e.1
+names_none f v (inr (inl e)) = ap (chars_named f) e.1
+names_none f v (inr (inr e)) = ap (chars_named f) e
 
 -- the value of a number of the object at a place
 pub value_of : (c : Content ClassId) (p : ℕ) {i : ℕ} {v : Value} → HasValue c p i v → (k : ℕ) (o : ObjectOf ClassId) → serial_at c p ≡ Some k

@@ -14,6 +14,7 @@ pub mod StringMethods
 pub mod Printing
 pub mod Tops
 pub mod TopObject
+pub mod TypeChecks
 pub mod Storing
 pub mod ArrayRows
 pub mod Readiness

@@ -14,7 +14,8 @@ ghost use Rattle.jm_interp.specs.TopObject.{ComesTo};
 use crate::at::At;
 use crate::class_number::PRINT_STREAM;
 use crate::declared::declared_method;
-use crate::string_methods::{char_at, length_of};
+use crate::string_methods::{CHAR_AT, LENGTH, char_at, length_of};
+use crate::strings::STRING;
 use crate::thread_starts::start_thread;
 use crate::top_object::{Refusal, drop_and_go_on, int_at, object_at, refuse, replace};
 use jm_builtins::BuiltInClass;
@@ -24,14 +25,7 @@ use jm_program::AccessFlags;
 use jm_state::{Halt, State, StepEnd};
 use jm_values::{Place, Value};
 
-const STRING: u32 = BuiltInClass::String as u32;
-
 const THREAD: u32 = BuiltInClass::Thread as u32;
-
-// The methods of java/lang/String, by their numbers among those of the class.
-const LENGTH: u32 = 0;
-
-const CHAR_AT: u32 = 1;
 
 // `start` of java/lang/Thread, by its number among the methods of the class.
 const START: u32 = 1;

@@ -150,6 +150,7 @@ fn end_top(thread: &mut Thread)
 /// one, and moves on; the frame of an initialization stays as it is. `Overflow` where the operands do
 /// not fit. OutOfMemory: its instruction has no number after it, which no code that fits in memory
 /// has. Nothing has changed then.
+#[inline(always)]
 pub(crate) fn leave_top(thread: &mut Thread, value: Option<Value>) -> Result<(), Halt>
     requires { (f : FrameView) × (b : StackFrame) × (below : List StackFrame) × (r : ThreadRest) × Stands thread.old (Method f ∷ b ∷ below) r }
     ensures { (f : FrameView) (b : StackFrame) (below : List StackFrame) (r : ThreadRest) → Stands thread.old (Method f ∷ b ∷ below) r

@@ -43,6 +43,19 @@ fn search(methods: &[LinkedMethod], class: u32, member: u32) -> usize {
     low
 }
 
+// The number, where it is that of the method with code that a class declares.
+#[inline]
+fn numbered(linked: &Linked, number: u32, method: MemberNumber) -> Option<u32>
+    ensures { IfSome result (λ number. IsCodeOf linked.now method number) }
+{
+    let class = method.class.checked_sub(linked.built_ins().len() as u32)?;
+    let found = linked.methods().get(number as usize)?;
+    if found.class != class || found.member != method.member {
+        return None;
+    }
+    Some(number)
+}
+
 /// The number among those with code of a method that a class declares; none where it has no code. In
 /// as many steps as the number of all has binary digits.
 pub(crate) fn code_number(linked: &Linked, method: MemberNumber) -> Option<u32>
@@ -50,11 +63,31 @@ pub(crate) fn code_number(linked: &Linked, method: MemberNumber) -> Option<u32>
 {
     let class = method.class.checked_sub(linked.built_ins().len() as u32)?;
     let number = search(linked.methods(), class, method.member);
-    let found = linked.methods().get(number)?;
-    if found.class != class || found.member != method.member {
-        return None;
+    numbered(linked, u32::try_from(number).ok()?, method)
+}
+
+// The number among those with code of the first method of a selector's name and type; none where it has
+// no code.
+#[inline]
+fn first_code(linked: &Linked, selector: u32) -> Option<u32> {
+    match linked.tables().codes.as_slice().get(selector as usize) {
+        Some(number) => *number,
+        None => None,
     }
-    u32::try_from(number).ok()
+}
+
+/// The same of the method that an invoke means. It is mostly the first method of its name and type, and
+/// is searched for where it is not.
+#[inline]
+pub(crate) fn invoked_code(linked: &Linked, method: InvokedMethod) -> Option<u32>
+    ensures { IfSome result (λ number. IsCodeOf linked.now method.found number) }
+{
+    if let Some(first) = first_code(linked, method.selector) {
+        if let Some(number) = numbered(linked, first, method.found) {
+            return Some(number);
+        }
+    }
+    code_number(linked, method.found)
 }
 
 /// The object whose monitor a call of an instance method enters, by the method's number among those
@@ -82,19 +115,19 @@ pub(crate) fn parameters_of(linked: &Linked, number: u32) -> Option<&[FieldType]
     Some(declared.descriptor.parameters.as_slice())
 }
 
-/// Calls a static method whose class is initialized, by the number with which its class declares it
+/// Calls the static method that an invoke means, whose class is initialized
 /// (JVMS 6.5 invokestatic): the operands on top are tested as its arguments. OutOfMemory where the
 /// class declares no method of that number with code, as every static one of a program that loads has.
 pub(crate) fn call_static<H: Heap>(
     at: At<'_>,
     state: &mut State<H>,
-    method: MemberNumber,
+    method: InvokedMethod,
 ) -> Result<StepEnd, Halt>
     requires { InMethod H.content at state.old }
-    ensures { (found : FoundMethod) → IsMethodOf at.entry.linked.now.program method found
+    ensures { (found : FoundMethod) → IsMethodOf at.entry.linked.now.program method.found found
         → Does H.content at.entry state.old result state.new (in_method (calls_static found.method.descriptor.parameters found)) }
 {
-    let Some(number) = code_number(at.linked, method) else {
+    let Some(number) = invoked_code(at.linked, method) else {
         return Err(Halt::OutOfMemory);
     };
     let Some(parameters) = parameters_of(at.linked, number) else {
@@ -120,5 +153,5 @@ pub(crate) fn invoke_static<H: Heap>(
     if !is_ready(at, state, method.found.class) {
         return begin_initialization(at, state, method.found.class);
     }
-    call_static(at, state, method.found)
+    call_static(at, state, method)
 }

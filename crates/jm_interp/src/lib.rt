@@ -66,6 +66,7 @@ mod stages;
 mod static_fields;
 mod stepping;
 mod string_methods;
+mod string_rows;
 mod strings;
 mod superclass;
 mod text;

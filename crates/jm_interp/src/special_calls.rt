@@ -11,32 +11,32 @@ use crate::codeless_calls::call_without_code;
 use crate::declared::declared_method;
 use crate::fields::has_fields_of;
 use crate::instance_calls::call_code;
-use crate::invocation::code_number;
+use crate::invocation::invoked_code;
 use crate::receivers::receiver_of;
 use crate::top_object::{Refusal, refuse};
 use jm_builtins::BuiltInClass;
 use jm_heap::Heap;
-use jm_linked::{InvokedMethod, MemberNumber};
+use jm_linked::InvokedMethod;
 use jm_state::{Halt, State, StepEnd};
 use jm_values::{Place, TagFault};
 
-// Calls an instance method by the number with which its class declares it. OutOfMemory: the class
+// Calls the instance method that an invoke means. OutOfMemory: the class
 // declares none of that number, or it has code and no number among those with code, as all have.
 fn call_declared<H: Heap>(
     at: At<'_>,
     state: &mut State<H>,
-    method: MemberNumber,
+    method: InvokedMethod,
     receiver: Place,
 ) -> Result<StepEnd, Halt>
-    requires { CallsDeclared H.content at state.old method receiver }
+    requires { CallsDeclared H.content at state.old method.found receiver }
     ensures { Steps H.content at.entry state.old result state.new }
 {
-    let Some(declared) = declared_method(at.linked, method) else {
+    let Some(declared) = declared_method(at.linked, method.found) else {
         return Err(Halt::OutOfMemory);
     };
     match &declared.code {
-        None => call_without_code(at, state, method, receiver),
-        Some(_) => match code_number(at.linked, method) {
+        None => call_without_code(at, state, method.found, receiver),
+        Some(_) => match invoked_code(at.linked, method) {
             Some(number) => call_code(at, state, number, receiver),
             None => Err(Halt::OutOfMemory),
         },
@@ -67,5 +67,5 @@ pub(crate) fn invoke_special<H: Heap>(
             Refusal::Throws(BuiltInClass::AbstractMethodError),
         );
     }
-    call_declared(at, state, method.found, receiver)
+    call_declared(at, state, method, receiver)
 }

@@ -14,6 +14,11 @@ use jm_heap::Heap;
 use jm_state::State;
 use jm_values::{Place, TagFault, Value};
 
+/// The methods of java/lang/String, by their numbers among those of the class.
+pub(crate) const LENGTH: u32 = 0;
+
+pub(crate) const CHAR_AT: u32 = 1;
+
 /// The number of chars of the String at a place that the machine holds. `WrongKind`: the object is no
 /// String. OutOfMemory: no int holds the number.
 pub(crate) fn length_of<H: Heap>(

@@ -16,9 +16,10 @@ use jm_values::{Place, TagFault, Value};
 use jm_world::Stop;
 use std::alloc::AllocError;
 
-const STRING: u32 = BuiltInClass::String as u32;
+pub(crate) const STRING: u32 = BuiltInClass::String as u32;
 
 // Whether an object is a String.
+#[inline]
 fn is_string(id: ClassId) -> bool
     ensures { result ≡ is_string id }
 {
@@ -29,21 +30,23 @@ fn is_string(id: ClassId) -> bool
 }
 
 // The array of the chars of the String at a place; none where the object is no String.
+#[inline]
 pub(crate) fn chars_of<H: Heap>(heap: &H, string: Place) -> Option<Place>
     requires { LiesAt (H.content heap.now) string }
     ensures chars { (k : ℕ) (o : ObjectOf ClassId) → serial_at (H.content heap.now) string ≡ Some k → object_at (H.content heap.now) k ≡ Some o
         → chars_of o ≡ option_map (name_of (H.content heap.now)) result }
     ensures resident { IfSome result (λ chars. AllResident (H.content heap.now) (chars ∷ [])) }
 {
-    if !is_string(heap.class_of(string)) {
+    let (class, values) = heap.object(string);
+    if !is_string(class) {
         return None;
     }
-    if heap.length(string) == 0 {
-        return None;
-    }
-    match heap.get(string, 0) {
-        Value::Ref(chars) => Some(chars),
-        Value::Int(_) | Value::Long(_) | Value::Null => None,
+    match values.get(0) {
+        Some(first) => match first {
+            Value::Ref(chars) => Some(*chars),
+            Value::Int(_) | Value::Long(_) | Value::Null => None,
+        },
+        None => None,
     }
 }
 

@@ -1,6 +1,6 @@
 // Casts and tests of types (JVMS 6.5 checkcast, instanceof).
 
-ghost use Rattle.std.specs.Prelude.{◌≡◌, IfSome};
+ghost use Rattle.std.specs.Prelude.{◌≡◌, IfSome, IsTrue};
 ghost use Rattle.jm_program.specs.declared.descriptor.FieldType.{FieldType};
 ghost use Rattle.jm_program.specs.declared.instruction.operation.TypeOp.TheVariants as type_op;
 ghost use Rattle.jm_world.specs.Hierarchy.{is_assignable};
@@ -10,6 +10,7 @@ ghost use Rattle.jm_linked.specs.declared.instruction.LinkedInstr.TheVariants as
 ghost use Rattle.jm_state.specs.Parts.{element_named, named_type};
 ghost use Rattle.jm_interp.specs.At.{StandsOn, Steps};
 ghost use Rattle.jm_interp.specs.TopObject.{ComesTo};
+ghost use Rattle.jm_interp.specs.TypeChecks.{IsExactly};
 
 use crate::at::At;
 use crate::class_number::is_numbered;
@@ -61,14 +62,41 @@ fn type_of(linked: &Linked, id: ClassId) -> Option<LinkedType>
     }
 }
 
-/// Whether an object can be held by a variable of a type, by its mark (JVMS 6.5 instanceof); none
-/// where no class has its number, as every object's has.
-pub(crate) fn is_instance(linked: &Linked, id: ClassId, to: LinkedType) -> Option<bool>
+// Whether a type is that of a class whose own instances have a mark.
+#[inline]
+fn is_exactly(id: ClassId, to: LinkedType) -> bool
+    ensures { IsTrue result → IsExactly id to }
+{
+    let ClassId::Instance(class) = id else {
+        return false;
+    };
+    let LinkedElement::Class(other) = to.element else {
+        return false;
+    };
+    class == other && to.dimensions == 0
+}
+
+// Whether an object can be held by a variable of a type, by its mark; none where no class has its number.
+#[inline(never)]
+fn is_assignable_to(linked: &Linked, id: ClassId, to: LinkedType) -> Option<bool>
     ensures { IfSome result (λ is. (t : FieldType) → NamesType linked.now.program to t
         → is ≡ is_assignable linked.now.program (type_of_object (named_type linked.now.program id)) t) }
 {
     let from = type_of(linked, id)?;
     Some(linked.is_assignable(from, to))
+}
+
+/// Whether an object can be held by a variable of a type, by its mark (JVMS 6.5 instanceof); none
+/// where no class has its number, as every object's has.
+#[inline]
+pub(crate) fn is_instance(linked: &Linked, id: ClassId, to: LinkedType) -> Option<bool>
+    ensures { IfSome result (λ is. (t : FieldType) → NamesType linked.now.program to t
+        → is ≡ is_assignable linked.now.program (type_of_object (named_type linked.now.program id)) t) }
+{
+    if is_exactly(id, to) {
+        return Some(true);
+    }
+    is_assignable_to(linked, id, to)
 }
 
 /// What checkcast leaves of the reference on top: the reference itself. OutOfMemory: no class has its

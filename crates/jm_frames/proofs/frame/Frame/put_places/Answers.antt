@@ -1,4 +1,4 @@
-use Rattle.std.proofs.Common.{◌≡◌, ◌∙◌, length, sym, ap}
+use Rattle.std.proofs.Common.{◌≡◌, ◌+◌, ◌≤◌, ◌∙◌, length, sym, ap, subst}
 use Rattle.std.specs.Prelude.{reverse}
 use Rattle.std.specs.Slice.Iter.{iter_rest}
 use Rattle.jm_values.specs.Activation.{units}
@@ -14,4 +14,9 @@ invariant_of-self c =
     let filled : reverse new ≡ stack_shape.refill places (reverse stack.items) = c.put_operands.ensures.values ∙ ap (λ l. stack_shape.refill places (reverse l)) c.deref_mut-2.ensures.value in
     let long : length new ≡ stack.len = length_refill_reverse value_shape places new stack.items filled ∙ sym stack.ok.0 in
     let same : units (reverse new) ≡ units (reverse stack.items) = ap units filled ∙ units_refill places (reverse stack.items) in
-    (c.self.invariant.0 ∙ sym (ap (λ l. units (reverse l)) (written_back new stack.items stack.len long) ∙ same), c.self.invariant.1, c.self.invariant.2)
+    let back = written_back new stack.items stack.len long in
+    let lengths = ap length back ∙ long ∙ stack.ok.0 in (
+      ap (λ n. n + c.self.inside.longs) lengths ∙ c.self.invariant.0 ∙ sym (ap (λ l. units (reverse l)) back ∙ same),
+      subst (λ n. n + c.self.inside.longs ≤ c.self.inside.max_stack) (sym lengths) c.self.invariant.1,
+      c.self.invariant.2,
+    )
