@@ -142,7 +142,8 @@ pub gone_there : (t new : held.Thread) (f v m g : FrameView) (place target count
 gone_there t new f v m g place target count operands below r d s top is all counted replaced gone frames rest =
     let same : v ≡ f = cc in
     let alone : drop count v.activation.stack ≡ [] =
-    ap (λ n. drop n v.activation.stack) (counted ∙ sym (length-reverse operands) ∙ ap length all) ∙ drop_all (length v.activation.stack) v.activation.stack (omega arith) in
+    ap (λ n. drop n v.activation.stack) (counted ∙ sym (length-reverse operands) ∙ ap length all)
+    ∙ drop_all (length v.activation.stack) v.activation.stack (omega arith) in
     let to : g ≡ gone_to (with_stack f (Ref place ∷ [])) target =
     gone
     ∙ ap (λ (x : FrameView). gone_to x target) replaced

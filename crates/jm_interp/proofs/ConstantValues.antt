@@ -137,7 +137,8 @@ many_constants program (x ∷ xs) (f ∷ fs) is = ap suc (many_constants program
 many_constants program [] (f ∷ fs) is = absurd is
 many_constants program (x ∷ xs) [] is = absurd is
 
-constant_at : (program : List ClassParts) (xs : List (Option LinkedConstant)) (fs : List Field) → AreConstants program xs fs → (i : ℕ) (x : Option LinkedConstant)
+constant_at : (program : List ClassParts) (xs : List (Option LinkedConstant)) (fs : List Field) → AreConstants program xs fs
+    → (i : ℕ) (x : Option LinkedConstant)
     → slice_get xs i ≡ Some x → (f : Field) × (slice_get fs i ≡ Some f) × IsConstantOf program x (static_constant f)
 constant_at program [] fs is i x at = cc
 constant_at program (y ∷ xs) [] is i x at = absurd is
@@ -146,9 +147,11 @@ constant_at program (y ∷ xs) (f ∷ fs) is zero x at =
 constant_at program (y ∷ xs) (f ∷ fs) is (suc i) x at = constant_at program xs fs is.1 i x at
 
 -- a field of a class, and its constant
-module _ {H : Type 0} {content : H → Content ClassId} {at : At} {old : State H} (h : OnFrames content at old) {class number field : ℕ} {c : ClassParts} {f : Field} where
+module _ {H : Type 0} {content : H → Content ClassId} {at : At} {old : State H} (h : OnFrames content at old) {class number field : ℕ}
+    {c : ClassParts} {f : Field} where
   -- none changes nothing
-  pub none_given : {x : Option LinkedConstant} → x ≡ None → BeginsWith at.linked.now.program class number field x c f → Does content at old (Ok Done) old (gives_constant c f)
+  pub none_given : {x : Option LinkedConstant} → x ≡ None → BeginsWith at.linked.now.program class number field x c f
+      → Does content at old (Ok Done) old (gives_constant c f)
   unfolding parts
   none_given {x} none begins = does h.on h.on.beside.runs (λ w m.
       let is = subst (λ y. IsConstantOf at.linked.now.program y (static_constant f)) none begins.constant_is in
@@ -210,7 +213,8 @@ module _ {H : Type 0} {content : H → Content ClassId} {at : At} {old : State H
               ap (rename (name_of (content old.heap))) r.2
               ∙ sym (ap (constant_value w.literals) is.1 ∙ ap (λ ls. found (literal_in ls is.0)) (sym m.literals)
               ∙ ap found
-              (literal_is (name_of (content old.heap)) (literal_texts at.linked.now.program) old.literals.items is.0 n r.0 (text_found at.linked.now.program n is.0 is.2) r.1))
+              (literal_is (name_of (content old.heap)) (literal_texts at.linked.now.program) old.literals.items is.0 n r.0
+              (text_found at.linked.now.program n is.0 is.2) r.1))
 
       value_held : Holds content at old v
       value_held = by x read

@@ -114,7 +114,8 @@ pub not_left : (o : Option World) {m : Parts ClassId} {w : World} → LeftAs fal
 not_left None l = (refl, l)
 not_left (Some v) l = absurd l
 
-only_left : (w v : World) (o : Option (List Monitor)) → elim o as (λ _. Option World) [ None ↦ None | Some monitors ↦ Some (record w { monitors = monitors }) ] ≡ Some v
+only_left : (w v : World) (o : Option (List Monitor))
+    → elim o as (λ _. Option World) [ None ↦ None | Some monitors ↦ Some (record w { monitors = monitors }) ] ≡ Some v
     → OnlyMonitorsOf w v
 only_left w v None e = cc
 only_left w v (Some monitors) e =

@@ -1,5 +1,6 @@
 -- The entry of a thread, where it stands.
-use Rattle.std.proofs.Common.{◌≡◌, ℕ, ◌+◌, ◌<◌, arith, List, [], ◌∷◌, ◌++◌, Option, Some, None, Bool, true, false, refl, sym, ap, ◌∙◌, subst, inl, inr, drop, length}
+use Rattle.std.proofs.Common.{◌≡◌, ℕ, ◌+◌, ◌<◌, arith, List, [], ◌∷◌, ◌++◌, Option, Some, None, Bool, true, false, refl, sym, ap, ◌∙◌, subst, inl}
+use Rattle.std.proofs.Common.{inr, drop, length}
 use Rattle.std.specs.Prelude.{map, option_map, codes, slice_get, Result, Ok, Err}
 use Rattle.jm_program.specs.Flags.{is_abstract}
 use Rattle.jm_program.specs.declared.class.ClassParts.{ClassParts}
@@ -185,11 +186,13 @@ module _ {H : Type 0} {content : H → Content ClassId} {at : At} {old : State H
       enters_own o = enters (option_map (name_of (content old.heap)) o)
 
       module _ {mid : State H} (only : OnlyMonitors old mid) where
-        pub own_enters : {result : Result StepEnd Halt} → Does content at old result mid (enters_own own_monitor) → Does content at old result mid (enters_own monitor)
+        pub own_enters : {result : Result StepEnd Halt} → Does content at old result mid (enters_own own_monitor)
+            → Does content at old result mid (enters_own monitor)
         own_enters {result} done = subst (λ o. Does content at old result mid (enters_own o)) same done
 
         -- it was not entered
-        pub enters_not : {result : Result StepEnd Halt} → IsNotMade result → Does content at old result mid (enters_own own_monitor) → Steps content at old result mid
+        pub enters_not : {result : Result StepEnd Halt} → IsNotMade result → Does content at old result mid (enters_own own_monitor)
+            → Steps content at old result mid
         enters_not not done = does_as h (λ w x. x) step_is (then_not h entered stands_then not (own_enters done))
 
         abbrev pub entered_in : Does content at old (Ok Done) mid (enters_own own_monitor) → OnThread content at mid (Entry ∷ b.begins.below) None
@@ -240,7 +243,8 @@ module _ {H : Type 0} {content : H → Content ClassId} {at : At} {old : State H
               (method_frame (sym (method_named_is is) i) (begun i) (sym monitor_named i) ∷ lower there b.begins.below)))))
 
 -- what is selected for a thread's object
-module _ {H : Type 0} {content : H → Content ClassId} {at : At} {old : State H} {below : List StackFrame} (h : OnThread content at old (Entry ∷ below) None) where
+module _ {H : Type 0} {content : H → Content ClassId} {at : At} {old : State H} {below : List StackFrame}
+    (h : OnThread content at old (Entry ∷ below) None) where
   by_object : World → Option ℕ → Next
   by_object w o = enter_thread w (at.index + 1) (model h) (lower h below) o
 

@@ -33,7 +33,8 @@ use Rattle.jm_interp.proofs.MethodLeft.{lies_if, left_so, none_left}
 use Rattle.jm_interp.proofs.OnThread.{Leads, model, thread_there, read, does_as, held_frames}
 
 -- the model has the same monitor on top
-monitor_seen : (l : LinkedView) (f : ℕ → ℕ) (gs : List StackFrame) → monitor_of (map (rename_frame f) (map (frame_part l) gs)) ≡ option_map f (monitor_on_top gs)
+monitor_seen : (l : LinkedView) (f : ℕ → ℕ) (gs : List StackFrame)
+    → monitor_of (map (rename_frame f) (map (frame_part l) gs)) ≡ option_map f (monitor_on_top gs)
 monitor_seen l f [] = refl
 monitor_seen l f (Method v ∷ gs) = refl
 monitor_seen l f (Initialization class stage ∷ gs) = refl

@@ -28,7 +28,8 @@ module _ (P : HeldMonitor → Type 0) (lasts : Lasts P) where
   all_with [] new p all = (p, tt)
   all_with (h ∷ hs) new p all = by (nat_lt new.serial h.serial) (all_with hs new p all.1)
     where
-      by : (b : Bool) → AllByRecursion P (with_held hs new) → AllByRecursion P (elim b as (λ _. List HeldMonitor) [ true ↦ new ∷ h ∷ hs | false ↦ h ∷ with_held hs new ])
+      by : (b : Bool) → AllByRecursion P (with_held hs new)
+          → AllByRecursion P (elim b as (λ _. List HeldMonitor) [ true ↦ new ∷ h ∷ hs | false ↦ h ∷ with_held hs new ])
       by true rest = (p, all)
       by false rest = (all.0, rest)
 
@@ -36,7 +37,8 @@ module _ (P : HeldMonitor → Type 0) (lasts : Lasts P) where
   all_without [] serial all = tt
   all_without (h ∷ hs) serial all = by (nat_eq h.serial serial) (all_without hs serial all.1)
     where
-      by : (b : Bool) → AllByRecursion P (without_held hs serial) → AllByRecursion P (elim b as (λ _. List HeldMonitor) [ true ↦ hs | false ↦ h ∷ without_held hs serial ])
+      by : (b : Bool) → AllByRecursion P (without_held hs serial)
+          → AllByRecursion P (elim b as (λ _. List HeldMonitor) [ true ↦ hs | false ↦ h ∷ without_held hs serial ])
       by true rest = all.1
       by false rest = (all.0, rest)
 

@@ -178,7 +178,8 @@ module _ {H : Type 0} {content : H → Content ClassId} {at : At} {old : State H
       }
 
   -- the state of the class alone has changed
-  pub marked : {new : State H} {st : ClassState} → new.threads.items ≡ old.threads.items → new.started.keys ≡ old.started.keys → new.statics.items ≡ old.statics.items
+  pub marked : {new : State H} {st : ClassState} → new.threads.items ≡ old.threads.items → new.started.keys ≡ old.started.keys
+      → new.statics.items ≡ old.statics.items
       → new.literals.items ≡ old.literals.items → new.monitors ≡ old.monitors → new.heap ≡ old.heap → new.stop ≡ old.stop
       → new.classes ≡ slice_set old.classes class st → new.live ≡ old.live → new.output.items ≡ old.output.items
       → Does content at old (Ok step_end.Done) new (λ w number x. goes (with_state w name st))
@@ -340,7 +341,8 @@ module _ {H : Type 0} {content : H → Content ClassId} {at : At} {old : State H
         by w Failed g = refl
 
   -- a frame is put on top, where there is room, and this one goes to another stage
-  module _ (later : Stage) (above : Frame) {d : held.Thread} {n : ℕ} (got : d ≡ slice_index_or old.threads.items at.index d) (count : n ≡ vec_len d.frames) where
+  module _ (later : Stage) (above : Frame) {d : held.Thread} {n : ℕ} (got : d ≡ slice_index_or old.threads.items at.index d)
+      (count : n ≡ vec_len d.frames) where
     abbrev pushes : World → ℕ → Thread → Next
     pushes w number x = push_frame w number x (initialization_frame called later ∷ drop 1 x.frames) above
 
@@ -406,7 +408,8 @@ in_progress {at = at} {class = class} {below = below} h {new} same classes live 
 module _ {H : Type 0} {content : H → Content ClassId} {at : At} {old : State H} {class : ℕ} {below : List StackFrame}
     (h : OnThread content at old (Initialization class stage.Begin ∷ below) None) where
   -- it begins: it is in progress, and its constants are given
-  module _ (begun : slice_get old.classes class ≡ Some NotBegun) {mid : State H} (puts : Does content at old (Ok step_end.Done) mid (puts_in_progress (called h))) where
+  module _ (begun : slice_get old.classes class ≡ Some NotBegun) {mid : State H}
+      (puts : Does content at old (Ok step_end.Done) mid (puts_in_progress (called h))) where
     put_thread : Thread
     put_thread = record (model h) { frames = initialization_frame (called h) stage.Superclass ∷ lower h }
 

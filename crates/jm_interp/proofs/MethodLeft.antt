@@ -100,7 +100,8 @@ module _ {H : Type 0} (content : H → Content ClassId) (at : At) (old : State H
   lies_if None held = tt
   lies_if (Some p) held = m.resident p (held p (inl refl))
 
-lies_still : {H : Type 0} (content : H → Content ClassId) (old new : State H) → new.heap ≡ old.heap → (o : Option ℕ) → LiesIf content old o → LiesIf content new o
+lies_still : {H : Type 0} (content : H → Content ClassId) (old new : State H) → new.heap ≡ old.heap → (o : Option ℕ) → LiesIf content old o
+    → LiesIf content new o
 lies_still content old new same None lies = tt
 lies_still content old new same (Some p) lies = subst (λ z. (k : ℕ) × (serial_at (content z) p ≡ Some k)) (sym same) lies
 
@@ -119,7 +120,8 @@ module _ {H : Type 0} {content : H → Content ClassId} {at : At} {old : State H
 
   module _ {m : Option ℕ} (monitor_is : m ≡ h.frame.monitor) where
     pub monitor_lies : LiesIf content old m
-    monitor_lies = lies_if content at old h.on.world h.on.beside.matches m (subst (λ o. HoldsAll content at old (optional_number_shape.refs o)) (sym monitor_is) frame_held)
+    monitor_lies = lies_if content at old h.on.world h.on.beside.matches m
+        (subst (λ o. HoldsAll content at old (optional_number_shape.refs o)) (sym monitor_is) frame_held)
 
     abbrev f : ℕ → ℕ
     f = name_of (content old.heap)

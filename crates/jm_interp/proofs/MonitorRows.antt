@@ -63,7 +63,8 @@ module _ {H : Type 0} {content : H → Content ClassId} {at : At} {old : State H
       pub to_object : {p : ℕ} → object_of (slice_get stack 0) ≡ Ok p → Leads h.on step_thread (λ w. rule w (f p))
       to_object {p} e =
           let its : IsObject h.on p = its_object h 0 e in
-          with_its h its (λ w o. rule w (f p)) (goes_by h (λ w k. with_found (place h w) k (λ o. rule w k)) row_is (object_known h 0 e)) {id = its.object.type} refl
+          with_its h its (λ w o. rule w (f p)) (goes_by h (λ w k. with_found (place h w) k (λ o. rule w k)) row_is (object_known h 0 e))
+          {id = its.object.type} refl
 
   -- monitorenter
   module _ (h : StandsOn content at old (Links at.linked.now (linked.Monitor Enter))) where
@@ -82,15 +83,24 @@ module _ {H : Type 0} {content : H → Content ClassId} {at : At} {old : State H
       entered w number t = enter w number (name_of (content old.heap) p) goes
 
       pub then_in : Does content at old (Ok Done) mid entered → (k : InMethod content at mid) × (k.frame.activation.at + 1 < 2 ^ 64)
-      then_in first = (record { frame = h.method.frame; below = h.method.below; on = then_stands h.method.on (Some (name_of (content old.heap) p)) only first }, h.room)
+      then_in first = (
+        record {
+          frame = h.method.frame;
+          below = h.method.below;
+          on = then_stands h.method.on (Some (name_of (content old.heap) p)) only first;
+        },
+        h.room,
+      )
 
       pub enters_and_goes : {new : State H} → Does content at old (Ok Done) mid entered → Does content at mid (Ok Done) new ends_row
           → Steps content at old (Ok Done) new
       enters_and_goes first second =
-          does_as h.method.on (λ w m. m) (to_object h.method enters enter_row e) (then_made h.method.on (Some (name_of (content old.heap) p)) ends_row first second)
+          does_as h.method.on (λ w m. m) (to_object h.method enters enter_row e)
+          (then_made h.method.on (Some (name_of (content old.heap) p)) ends_row first second)
 
       pub enters_not : {result : Result StepEnd Halt} → IsNotMade result → Does content at old result mid entered → Steps content at old result mid
-      enters_not not first = does_as h.method.on (λ w m. m) (to_object h.method enters enter_row e) (then_not h.method.on (Some (name_of (content old.heap) p)) ends_row not first)
+      enters_not not first = does_as h.method.on (λ w m. m) (to_object h.method enters enter_row e)
+          (then_not h.method.on (Some (name_of (content old.heap) p)) ends_row not first)
 
   -- monitorexit
   module _ (h : StandsOn content at old (Links at.linked.now (linked.Monitor Exit))) where

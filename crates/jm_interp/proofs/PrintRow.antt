@@ -282,7 +282,8 @@ module _ {H : Type 0} {content : H → Content ClassId} {at : At} {old : State H
               ∙ text_untold h.method pr.text text_held halts (place h.method w) (λ bytes. write (place h.method w) (bytes ++ line_bytes p) rest) m)
           text_stops y {halt = OutOfMemory} halts = refused h.method.on
 
-          pub prints : test ≡ true → (said : List ℕ) → TextGives (content old.heap) pr.text (string_in pr.text) said → {new : State H} {t : held.Thread} → ChangedTo h.method.on new t → new.classes ≡ old.classes
+          pub prints : test ≡ true → (said : List ℕ) → TextGives (content old.heap) pr.text (string_in pr.text) said
+              → {new : State H} {t : held.Thread} → ChangedTo h.method.on new t → new.classes ≡ old.classes
               → StateRuns at.linked.now new → Stands t
               (Method (gone_to (with_stack h.method.frame (left_by p h.method.frame.activation.stack)) (h.method.frame.activation.at + 1)) ∷ h.method.below)
               (running h.method.on.object None) → new.output.items ≡ old.output.items ++ (said ++ line_bytes p) → Steps content at old

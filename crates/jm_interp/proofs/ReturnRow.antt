@@ -399,6 +399,7 @@ module _ {H : Type 0} {content : H → Content ClassId} {at : At} {old : State H
                 ∙ ap (taken_by w (at.index + 1) (model k) g x l u (map (rename_frame g) (map (frame_part l) below.rest))) left.0))
                 (sym left.1, same_matches k left.2 w m))
 
-        pub handed_on : (result : Result (Unit {0}) Halt) → Leaving result x e t → Does content at old (made_step result) (with_thread_at old at.index t) handing
+        pub handed_on : (result : Result (Unit {0}) Halt) → Leaving result x e t
+            → Does content at old (made_step result) (with_thread_at old at.index t) handing
         handed_on (Ok done) leaving = returns_below leaving
         handed_on (Err halt) leaving = stays_there leaving

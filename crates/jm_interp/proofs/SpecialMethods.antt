@@ -78,12 +78,14 @@ pub own_class : (program : List ClassParts) (class name : List ℕ) (t : MethodD
     → method_along (class_methods (class_named program class)) name t ≡ Some found → class_named program class ≡ Some found.class
 own_class program class name t found e = by (class_named program class) refl e
   where
-    of : (c : ClassParts) → (o : Option Method) → (elim o as (λ _. Option FoundMethod) [ Some m ↦ Some (record { class = c; method = m }) | None ↦ None ]) ≡ Some found
+    of : (c : ClassParts) → (o : Option Method)
+        → (elim o as (λ _. Option FoundMethod) [ Some m ↦ Some (record { class = c; method = m }) | None ↦ None ]) ≡ Some found
         → c ≡ found.class
     of c None h = cc
     of c (Some m) h = ap (λ (o : Option FoundMethod). elim o as (λ _. ClassParts) [ None ↦ c | Some x ↦ x.class ]) h
 
-    by : (o : Option ClassParts) → class_named program class ≡ o → method_along (class_methods o) name t ≡ Some found → class_named program class ≡ Some found.class
+    by : (o : Option ClassParts) → class_named program class ≡ o → method_along (class_methods o) name t ≡ Some found
+        → class_named program class ≡ Some found.class
     by None q h = cc
     by (Some c) q h = q ∙ ap Some (of c (method_in c.methods name t) h)
 

@@ -85,7 +85,8 @@ module _ {H : Type 0} {content : H → Content ClassId} {at : At} {old : State H
       record {
         frame = h.frame;
         below = h.below;
-        on = stands_added h.on added (added_runs content at.linked.now added h.on.beside.runs) (with_new_thread h.on.world (new_thread k)) (match h.on.world h.on.beside.matches);
+        on = stands_added h.on added (added_runs content at.linked.now added h.on.beside.runs) (with_new_thread h.on.world (new_thread k))
+            (match h.on.world h.on.beside.matches);
       },
       room,
     )
@@ -95,7 +96,8 @@ module _ {H : Type 0} {content : H → Content ClassId} {at : At} {old : State H
         then_does h.on (added_runs content at.linked.now added h.on.beside.runs) (λ w. with_new_thread w (new_thread k)) (λ w. model h.on) match
         (λ w m. model_there h.on added w (new_thread k) m) (λ w m.
         let n : at.index ≡ at.index + 1 - 1 = omega arith in
-        let here : slice_get w.threads (at.index + 1 - 1) ≡ Some (model h.on) = subst (λ i. slice_get w.threads i ≡ Some (model h.on)) n (thread_there h.on w m) in
+        let here : slice_get w.threads (at.index + 1 - 1) ≡ Some (model h.on) = subst (λ i. slice_get w.threads i ≡ Some (model h.on)) n
+        (thread_there h.on w m) in
         its_step w m
         ∙ ap (by_started w) (started_is w m ∙ not)
         ∙ ap (λ ts. goes (record w { threads = ts })) (sym (set_front w.threads (new_thread k ∷ []) (at.index + 1 - 1) (model h.on) _ here))) done

@@ -227,4 +227,5 @@ module _ {H : Type 0} {content : H → Content ClassId} {at : At} {old : State H
         let dropped = dropped_map (rename (name_of (content old.heap))) count h.frame.activation.stack in
         let same = ap (λ x. goes (topped (place h w) (with_it h.on n v name w) (moved_on (place h w).frame x))) dropped in
         subst (Ended (Ok Done) (parts_at content at (with_thread_at (mid h.on n v) at.index t)) w) (sym (row w m ∙ same))
-        (done.ends (with_it h.on n v name w) (model s.on) (mid_matches h.on n v inside name is w m) (thread_there s.on (with_it h.on n v name w) (mid_matches h.on n v inside name is w m))))
+        (done.ends (with_it h.on n v name w) (model s.on) (mid_matches h.on n v inside name is w m)
+        (thread_there s.on (with_it h.on n v name w) (mid_matches h.on n v inside name is w m))))

@@ -1,5 +1,6 @@
 -- Which handler catches an exception (JVMS 2.10, 4.7.3).
-use Rattle.std.specs.Prelude.{◌≡◌, ℕ, ◌+◌, ◌<◌, ◌≤◌, List, [], ◌∷◌, drop, length, codes, Option, Some, None, Bool, true, false, Result, Ok, Err, option_map, map}
+use Rattle.std.specs.Prelude.{◌≡◌, ℕ, ◌+◌, ◌<◌, ◌≤◌, List, [], ◌∷◌, drop, length, codes, Option, Some, None, Bool, true, false, Result, Ok, Err}
+use Rattle.std.specs.Prelude.{option_map, map}
 use Rattle.jm_program.specs.declared.class.ClassParts.{ClassParts}
 use Rattle.jm_program.specs.declared.code.Handler.{Handler}
 use Rattle.jm_builtins.specs.List.{the_builtins}

@@ -55,7 +55,8 @@ pub(crate) fn enter_if<H: Heap>(
     requires on { OnFrames H.content at state.old }
     requires held { HoldsAll H.content at state.old (optional_number_shape.refs object) }
     ensures rest { OnlyMonitors state.old state.new }
-    ensures does { Does H.content at.entry state.old result state.new (λ w number t. enter_if w number (option_map (name_of (H.content state.old.heap)) object) goes) }
+    ensures does { Does H.content at.entry state.old result state.new
+        (λ w number t. enter_if w number (option_map (name_of (H.content state.old.heap)) object) goes) }
 {
     match object {
         Some(object) => enter(at, state, object),

@@ -163,13 +163,32 @@ module _ (l : LinkedView) (c : Content ClassId) (s : StateView) {w : World} (h :
   made_here {d} {place} here =
       let made = here.made (places (parts l c s)) h.resident in
       let names = subst (λ r. map (name_of d) r ≡ map (name_of c) r) (places_held (parts l c s)) made.kept.names in
-      made_ends h (record { held = same_renamed c d (held_of (parts l c s)) names; program = refl; named = refl; classes = refl; monitor_serials = refl; thread_serials = refl; output = refl; stop = refl })
+      made_ends h (record {
+        held = same_renamed c d
+            (held_of (parts l c s)) names;
+        program = refl;
+        named = refl;
+        classes = refl;
+        monitor_serials = refl;
+        thread_serials = refl;
+        output = refl;
+        stop = refl;
+      })
       (sizes_alike l.program) o place made
 
   pub refused_here : (why : HeapFault) → IsRefusedHere c o why → MadeOrNot (Err (halt_from why)) (parts l c s) w (as_named (named_type l.program) o)
   unfolding parts
   refused_here why refused =
-      refused_ends h (record { held = refl; program = refl; named = refl; classes = refl; monitor_serials = refl; thread_serials = refl; output = refl; stop = refl })
+      refused_ends h (record {
+        held = refl;
+        program = refl;
+        named = refl;
+        classes = refl;
+        monitor_serials = refl;
+        thread_serials = refl;
+        output = refl;
+        stop = refl;
+      })
       (sizes_alike l.program) o why h (is_refused why refused)
     where
       is_refused : (why : HeapFault) → IsRefusedHere c o why → IsRefused c (places (parts l c s)) o why

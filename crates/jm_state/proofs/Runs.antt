@@ -49,9 +49,12 @@ thread_leaves ns t = by t.object t.serial t.frames t.pending t.ending
     by : (o k : Option ℕ) (fs : List StackFrame) (p : Option ℕ) (e : Ending)
         → let t : HeldThread = record { object = o; serial = k; frames = fs; pending = p; ending = e } in
         held_thread_shape.rename (λ q. 0) (held_thread_shape.refill ns t) ≡ held_thread_shape.rename (λ q. 0) t
-    by o k fs p Running = ap (λ x. with_thread_holders x (record { object = o; serial = k; frames = fs; pending = p; ending = Running })) (leaves ns (o, (p, fs)))
-    by o k fs p Returned = ap (λ x. with_thread_holders x (record { object = o; serial = k; frames = fs; pending = p; ending = Returned })) (leaves ns (None, (p, fs)))
-    by o k fs p (EndedBy n) = ap (λ x. with_thread_holders x (record { object = o; serial = k; frames = fs; pending = p; ending = EndedBy n })) (leaves ns (None, (p, fs)))
+    by o k fs p Running = ap (λ x. with_thread_holders x (record { object = o; serial = k; frames = fs; pending = p; ending = Running }))
+        (leaves ns (o, (p, fs)))
+    by o k fs p Returned = ap (λ x. with_thread_holders x (record { object = o; serial = k; frames = fs; pending = p; ending = Returned }))
+        (leaves ns (None, (p, fs)))
+    by o k fs p (EndedBy n) = ap (λ x. with_thread_holders x (record { object = o; serial = k; frames = fs; pending = p; ending = EndedBy n }))
+        (leaves ns (None, (p, fs)))
 
 monitor_leaves : Leaves held_shape
 monitor_leaves ns m = refl

@@ -65,7 +65,13 @@ told_object (EndedBy n) object serial = serial
 
 -- a thread, from its frames from the top
 abbrev pub part_of_held : LinkedView → HeldThread → Thread
-part_of_held l t = record { object = told_object t.ending t.object t.serial; frames = map (frame_part l) t.frames; pending = t.pending; ending = ending_part l.program t.ending }
+part_of_held l t = record {
+  object = told_object t.ending t.object t.serial;
+  frames = map
+      (frame_part l) t.frames;
+  pending = t.pending;
+  ending = ending_part l.program t.ending;
+}
 
 abbrev pub thread_part : LinkedView → held.Thread → Thread
 thread_part l t = part_of_held l (held_thread t)

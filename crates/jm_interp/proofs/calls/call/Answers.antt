@@ -54,7 +54,8 @@ push_called-requires-clause-method g c =
 pub push_called-requires-clause-room : goal.push_called-requires-clause-room
 push_called-requires-clause-room g c =
     let h = c.requires.on in
-    let same = same_thread h (c.frame_of-made.ensures.stays _ _ (read h.on c.index_mut.ensures.value)) c.enter_if.ensures.rest c.index_mut-in-Ok-Done.ensures.value in
+    let same = same_thread h (c.frame_of-made.ensures.stays _ _ (read h.on c.index_mut.ensures.value)) c.enter_if.ensures.rest
+    c.index_mut-in-Ok-Done.ensures.value in
     subst (λ (t : held.Thread). vec_len t.frames < vec_capacity t.frames) (sym same) c.in-Ok.ensures.room
 
 pub returns-in-Ok-Done : goal.returns-in-Ok-Done

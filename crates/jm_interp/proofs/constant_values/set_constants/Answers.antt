@@ -11,8 +11,10 @@ overflow_cast-index g c =
 pub begin_field-requires : goal.begin_field-requires
 begin_field-requires g c =
     let known = c.constants_of-constant-items.ensures c.requires.1 c.requires.2.own in
-    let field = its_constant c.requires.0 c.args.class c.requires.2 c.constants_of-constant-items.result.now known c.loop-index.index c.loop-index-test.true in
-    (frames_there c.requires.0 c.args.class c.requires.1 c.requires.2.own c.loop-index.state c.loop-index.index c.loop-index.invariant, field.0, field.1, field.2)
+    let items = c.constants_of-constant-items.result.now in
+    let field = its_constant c.requires.0 c.args.class c.requires.2 items known c.loop-index.index c.loop-index-test.true in
+    let its = frames_there c.requires.0 c.args.class c.requires.1 c.requires.2.own c.loop-index.state c.loop-index.index c.loop-index.invariant in
+    (its, field.0, field.1, field.2)
 
 pub loop-index-preserved : goal.loop-index-preserved
 loop-index-preserved g c =

@@ -30,7 +30,8 @@ returns-then-place-values g c s x =
     let h = stands_on x in
     let e = sym c.in_ok-object.ensures.value in
     let o = its_object h.method 0 e in
-    past_object h e (told h.method.on o c.object-class.ensures.class) (c.in_ok-place.ensures h.is.found h.is.numbered) (told h.method.on o c.object-class.ensures.length)
+    past_object h e (told h.method.on o c.object-class.ensures.class) (c.in_ok-place.ensures h.is.found h.is.numbered)
+    (told h.method.on o c.object-class.ensures.length)
     c.if-place-values.true
 
 pub returns-then-not-has_room_for : goal.returns-then-not-has_room_for
@@ -39,8 +40,10 @@ returns-then-not-has_room_for g c s x =
     let e = sym c.in_ok-object.ensures.value in
     let o = its_object h.method 0 e in
     let test = room_told _ _ c.in_ok-object.ensures.value c.index-values-place.result c.has_room_for.ensures in
-    let read = slice_get_read c.object-class.result.1.now _ c.in_ok-place.place c.index-values-place.result refl c.if-place-values.false c.index-values-place.is in
-    no_room h e (told h.method.on o c.object-class.ensures.class) (c.in_ok-place.ensures h.is.found h.is.numbered) (told h.method.on o c.object-class.ensures.length)
+    let read = slice_get_read c.object-class.result.1.now _ c.in_ok-place.place c.index-values-place.result refl c.if-place-values.false
+    c.index-values-place.is in
+    no_room h e (told h.method.on o c.object-class.ensures.class) (c.in_ok-place.ensures h.is.found h.is.numbered)
+    (told h.method.on o c.object-class.ensures.length)
     c.index-values-place.result (c.object-class.ensures.values _ _ read) (sym test ∙ c.if-not-has_room_for.true)
 
 pub returns : goal.returns
@@ -48,7 +51,10 @@ returns g c s x =
     let h = stands_on x in
     let e = sym c.in_ok-object.ensures.value in
     let o = its_object h.method 0 e in
-    let read = slice_get_read c.object-class.result.1.now _ c.in_ok-place.place c.index-values-place.result refl c.if-place-values.false c.index-values-place.is in
-    field_comes h e (told h.method.on o c.object-class.ensures.class) (c.in_ok-place.ensures h.is.found h.is.numbered) (told h.method.on o c.object-class.ensures.length)
+    let read = slice_get_read c.object-class.result.1.now _ c.in_ok-place.place c.index-values-place.result refl c.if-place-values.false
+    c.index-values-place.is in
+    field_comes h e (told h.method.on o c.object-class.ensures.class) (c.in_ok-place.ensures h.is.found h.is.numbered)
+    (told h.method.on o c.object-class.ensures.length)
     c.index-values-place.result (c.object-class.ensures.values _ _ read) (c.object-class.ensures.resident _ _ read)
-    (room_here x.on 1 c.index-values-place.result (room_yes _ _ (room_told _ _ c.in_ok-object.ensures.value c.index-values-place.result c.has_room_for.ensures) c.if-not-has_room_for.false))
+    (room_here x.on 1 c.index-values-place.result
+    (room_yes _ _ (room_told _ _ c.in_ok-object.ensures.value c.index-values-place.result c.has_room_for.ensures) c.if-not-has_room_for.false))

@@ -17,11 +17,18 @@ returns-in-Ok c f b below r s =
     let n = c.len-count.result in
     let is : Method v ≡ b = sym c.in-Method.is ∙ second_frame t (Method f) b c.index_mut.result.now below r n s c.len-count.ensures c.index_mut.ensures.value in
     let g = c.take_result.new.frame in
-    let t' : held.Thread = record { object = t.object; serial = t.serial; frames = with_item t.frames (n - 2) (Method g); pending = t.pending; ending = t.ending } in
+    let t' : held.Thread = record {
+      object = t.object;
+      serial = t.serial;
+      frames = with_item t.frames (n - 2) (Method g);
+      pending = t.pending;
+      ending = t.ending;
+    } in
     let moved = second_other t t' (Method f) b (Method g) below r n s c.len-count.ensures refl refl in
     let gone = c.end_top.ensures _ r moved in
     let took = c.in-Ok.ensures {u = tt} in
-    subst (λ x. Left (Ok (tt {0})) c.end_top.new.thread c.args.value f x below r) is (took.0, subst (λ x. Stands c.end_top.new.thread (Method x ∷ below) r) took.1 gone)
+    subst (λ x. Left (Ok (tt {0})) c.end_top.new.thread c.args.value f x below r) is
+    (took.0, subst (λ x. Stands c.end_top.new.thread (Method x ∷ below) r) took.1 gone)
 
 pub returns-in-Err : goal.returns-in-Err
 returns-in-Err c f b below r s =
@@ -30,7 +37,13 @@ returns-in-Err c f b below r s =
     let n = c.len-count.result in
     let is : Method v ≡ b = sym c.in-Method.is ∙ second_frame t (Method f) b c.index_mut.result.now below r n s c.len-count.ensures c.index_mut.ensures.value in
     let g = c.take_result.new.frame in
-    let t' : held.Thread = record { object = t.object; serial = t.serial; frames = with_item t.frames (n - 2) (Method g); pending = t.pending; ending = t.ending } in
+    let t' : held.Thread = record {
+      object = t.object;
+      serial = t.serial;
+      frames = with_item t.frames (n - 2) (Method g);
+      pending = t.pending;
+      ending = t.ending;
+    } in
     let refused = c.in-Err.ensures {u = tt} in
     let same = second_other t t' (Method f) b (Method g) below r n s c.len-count.ensures refl refl in
     subst (λ x. Left (Err (Stopped (why.TagFault c.in-Err.fault))) t' c.args.value f x below r) is

@@ -9,7 +9,8 @@ pub returns-then-not-has_room : goal.returns-then-not-has_room
 returns-then-not-has_room c f below r s =
     let v = c.in-Method.frame in
     let top : c.in-Some.top.now ≡ Method f = last_is c.args.thread.now (Method f) c.in-Some.top.now below r s c.in-Some.ensures.value in (
-      same_limit top c.in-Method.is (λ n. n ≡ 0) (no_room v c.operand.ensures.value c.is_none.ensures c.if-is_none.true c.has_room.ensures c.if-not-has_room.true),
+      same_limit top c.in-Method.is (λ n. n ≡ 0)
+          (no_room v c.operand.ensures.value c.is_none.ensures c.if-is_none.true c.has_room.ensures c.if-not-has_room.true),
       refl,
       stays_there c.args.thread.now _ f v below r c.in-Some.top.now s top c.in-Method.is refl refl,
     )
@@ -23,6 +24,7 @@ returns c f below r s =
       | else-is_none-via-else-is_none w ↦ room_taken v c.operand.ensures.value c.is_none.ensures w.if-is_none.false c.operand.ensures.room
     ] in (
       same_limit top c.in-Method.is (λ n. 1 ≤ n) room,
-      gone_there c.args.thread.now _ f v c.replace.new.self c.go_to.new.self c.args.place c.args.target _ c.operands-count.result.now below r c.in-Some.top.now s
+      gone_there c.args.thread.now _ f v c.replace.new.self c.go_to.new.self c.args.place c.args.target _ c.operands-count.result.now below r
+          c.in-Some.top.now s
           top c.in-Method.is c.operands-count.ensures refl c.replace.ensures c.go_to.ensures refl refl,
     )

@@ -13,7 +13,9 @@ target_among-requires-clause-named c =
     let l = c.args.linked.now in
     let m = c.index-methods-method.result in
     let is : slice_get l.methods c.args.method ≡ Some m = method_there l c.args.method m c.requires.there c.methods.ensures.methods c.index-methods-method.is in
-    subst (AllByRecursion (CatchesClass l.program)) (sym (c.as_slice-handlers.ensures ∙ ap (λ (x : LinkedMethod). x.handlers) (sym c.index-methods-method.is))) (handlers_named l c.methods.ensures.linked c.args.method m is)
+    subst (AllByRecursion (CatchesClass l.program))
+    (sym (c.as_slice-handlers.ensures ∙ ap (λ (x : LinkedMethod). x.handlers) (sym c.index-methods-method.is)))
+    (handlers_named l c.methods.ensures.linked c.args.method m is)
 
 pub returns : goal.returns
 returns c w same =

@@ -11,5 +11,6 @@ index_mut-requires g c = within c.requires.2
 
 pub returns : goal.returns
 returns g c =
-    finished c.requires.2 (record { threads = refl; started = refl; statics = refl; literals = refl; monitors = refl; heap = refl; stop = refl }) c.finish.ensures refl refl
+    finished c.requires.2 (record { threads = refl; started = refl; statics = refl; literals = refl; monitors = refl; heap = refl; stop = refl })
+    c.finish.ensures refl refl
     (c.drop_top.ensures _ _ (read c.requires.2 c.index_mut.ensures.value))

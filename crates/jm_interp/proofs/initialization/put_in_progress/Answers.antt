@@ -17,5 +17,6 @@ go_to_stage-requires g c = (_, _, _, read c.requires.1 c.index_mut.ensures.value
 
 pub returns : goal.returns
 returns g c =
-    in_progress c.requires.1 (record { threads = refl; started = refl; statics = refl; literals = refl; monitors = refl; heap = refl; stop = refl }) c.begin.ensures refl refl
+    in_progress c.requires.1 (record { threads = refl; started = refl; statics = refl; literals = refl; monitors = refl; heap = refl; stop = refl })
+    c.begin.ensures refl refl
     (c.go_to_stage.ensures _ _ _ (read c.requires.1 c.index_mut.ensures.value))

@@ -4,7 +4,9 @@ use Rattle.jm_interp.proofs.ClassInitializers.{initializer_there, some_there}
 use Rattle.jm_interp.proofs.initializers.initializer_of.Goals as goal
 
 pub returns-in-Some : goal.returns-in-Some
-returns-in-Some c parts at = initializer_there c.requires (c.as_slice.ensures ∙ ap (λ (t : Tables). t.initializers) c.tables.ensures) c.args.class c.get.ensures.lookup.3 at c.in-Some.is
+returns-in-Some c parts at = initializer_there c.requires
+    (c.as_slice.ensures ∙ ap (λ (t : Tables). t.initializers) c.tables.ensures) c.args.class c.get.ensures.lookup.3 at c.in-Some.is
 
 pub returns-in-None : goal.returns-in-None
-returns-in-None c parts at = absurd (some_there c.requires (c.as_slice.ensures ∙ ap (λ (t : Tables). t.initializers) c.tables.ensures) c.args.class c.get.ensures.lookup.3 at c.in-None.is)
+returns-in-None c parts at = absurd (some_there c.requires
+    (c.as_slice.ensures ∙ ap (λ (t : Tables). t.initializers) c.tables.ensures) c.args.class c.get.ensures.lookup.3 at c.in-None.is)

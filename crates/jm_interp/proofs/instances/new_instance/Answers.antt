@@ -27,5 +27,6 @@ pub make_on_top-requires-clause-room : goal.make_on_top-requires-clause-room
 make_on_top-requires-clause-room g c = room_for c.top_method.result.now c.index.ensures c.top_method.ensures (sym c.if-not-has_room.false ∙ c.has_room.ensures)
 
 pub refuse-requires-clause-refused : goal.refuse-requires-clause-refused
-refuse-requires-clause-refused g c = overflows c.args.class c.requires.instruction c.requires.usable c.top_method.result.now c.index.ensures c.top_method.ensures
+refuse-requires-clause-refused g c = overflows c.args.class c.requires.instruction c.requires.usable c.top_method.result.now c.index.ensures
+    c.top_method.ensures
     (sym c.if-not-has_room.true ∙ c.has_room.ensures)

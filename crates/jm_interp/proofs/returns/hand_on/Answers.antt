@@ -15,4 +15,5 @@ leave_top-requires g c =
 
 pub returns-clause-hands : goal.returns-clause-hands
 returns-clause-hands g c =
-    handed_on c.requires.here c.args.value c.requires.held c.index.ensures c.len.ensures c.if-len-lt2.false _ c.index_mut.ensures.value c.leave_top.result c.leave_top.ensures
+    handed_on c.requires.here c.args.value c.requires.held c.index.ensures c.len.ensures c.if-len-lt2.false _ c.index_mut.ensures.value
+    c.leave_top.result c.leave_top.ensures

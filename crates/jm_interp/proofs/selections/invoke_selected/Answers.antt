@@ -20,5 +20,6 @@ call_selected-requires g c =
     let r = c.in-Ok.ensures _ (invokes c.requires) in
     let program = c.args.at.linked.now.program in
     calls_selected c.requires r
-    (c.class_of-class.ensures program ∙ ap (λ id. class_of (named_type program id)) (told c.requires.method.on (its_receiver c.requires.method r) c.class_of.ensures))
+    (c.class_of-class.ensures program
+    ∙ ap (λ id. class_of (named_type program id)) (told c.requires.method.on (its_receiver c.requires.method r) c.class_of.ensures))
     (c.is_numbered.ensures.0 c.if-not-is_numbered.false) c.select-selected.ensures

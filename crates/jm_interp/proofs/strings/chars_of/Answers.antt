@@ -35,4 +35,5 @@ returns-in-Int-clause-chars g c k o serial is =
 pub returns-in-None-clause-chars : goal.returns-in-None-clause-chars
 returns-in-None-clause-chars g c k o serial is =
     let none : length c.object-class.result.1.now ≡ 0 = search rules in
-    no_chars o (c.object-class.ensures.class k o serial is) c.is_string.ensures c.if-not-is_string.false (sym (c.object-class.ensures.length k o serial is) ∙ none)
+    no_chars o (c.object-class.ensures.class k o serial is) c.is_string.ensures c.if-not-is_string.false
+    (sym (c.object-class.ensures.length k o serial is) ∙ none)

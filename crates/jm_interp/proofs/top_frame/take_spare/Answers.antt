@@ -4,4 +4,5 @@ use Rattle.jm_interp.proofs.top_frame.take_spare.Goals as goal
 
 pub returns : goal.returns
 returns c fs r s =
-    top_kept c.args.thread.now _ c.in-Method.frame c.take_spare.new.self c.in-Some.top.now fs r s c.in-Some.ensures.value c.in-Method.is c.take_spare.ensures refl refl
+    top_kept c.args.thread.now _ c.in-Method.frame c.take_spare.new.self c.in-Some.top.now fs r s c.in-Some.ensures.value c.in-Method.is
+    c.take_spare.ensures refl refl
