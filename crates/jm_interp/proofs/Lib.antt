@@ -11,7 +11,6 @@ pub mod Ended
 pub mod HeldMonitors
 pub mod Locked
 pub mod Entered
-pub mod PlainForms
 pub mod PlainRow
 pub mod PlainRuns
 pub mod LiteralRow

@@ -22,6 +22,8 @@ use Rattle.jm_ops.specs.declared.flow.Flow.{Flow}
 use Rattle.jm_ops.specs.declared.flow.Flow.TheVariants.{On, To, Throw}
 use Rattle.jm_ops.specs.declared.flow.Thrown.{Thrown}
 use Rattle.jm_ops.proofs.Lookup.{fitting_is_ordered}
+use Rattle.jm_linked.specs.Links.{Links}
+use Rattle.jm_linked.specs.declared.instruction.LinkedInstr.TheVariants as linked
 use Rattle.jm_state.specs.declared.halt.Halt.{Halt}
 use Rattle.jm_state.specs.declared.halt.Halt.TheVariants.{Stopped}
 use Rattle.jm_state.specs.declared.halt.StepEnd.{StepEnd}
@@ -30,7 +32,6 @@ use Rattle.jm_state.specs.declared.state.State.{State}
 use Rattle.jm_state.specs.declared.thread.StackFrame.TheVariants.{Method}
 use Rattle.jm_state.specs.declared.thread.Thread as held
 use Rattle.jm_interp.specs.declared.at.At.{At}
-use Rattle.jm_interp.specs.PlainRuns.{DoesAs}
 use Rattle.jm_interp.specs.At.{HoldsAll, InMethod, StandsOn, Does, Steps}
 use Rattle.jm_interp.specs.Standing.{Stands, running}
 use Rattle.jm_interp.specs.Stepped.{Stays}
@@ -38,16 +39,15 @@ use Rattle.jm_interp.proofs.Here.{place, row_is, Leaves, done, left, top_held, o
 use Rattle.jm_interp.proofs.OnThread.{Leads, with_thread_at, still, same_matches, does_as}
 
 module _ {H : Type 0} {content : H → Content ClassId} {at : At} {old : State H} {op : Plain}
-    (h : StandsOn content at old (DoesAs op)) where
+    (h : StandsOn content at old (Links at.linked.now (linked.Plain op))) where
   pub plain_ordered : IsOrdered op
-  plain_ordered = h.is.ordered (fitting_is_ordered _ h.is.plain (ap (instr_fits _) (sym h.is.is) ∙ h.fits))
+  plain_ordered = fitting_is_ordered _ op (ap (instr_fits _) (sym h.is) ∙ h.fits)
 
   plain_is : Leads h.method.on step_thread
       (λ w. from_outcome (place h.method w) (rename_outcome (name_of (content old.heap)) (row_plain op h.method.frame.activation)))
   plain_is w m =
       row_is h w m
-      ∙ ap (row (place h.method w)) h.is.is
-      ∙ ap (from_outcome (place h.method w)) (h.is.row (place h.method w).frame)
+      ∙ ap (row (place h.method w)) h.is
       ∙ ap (from_outcome (place h.method w)) (plain_natural op (name_of (content old.heap)) h.method.frame.activation (one_to_one h.method))
 
   plain_held : (b : Activation) → row_plain op h.method.frame.activation ≡ outcome.goes b → HoldsAll content at old (refs_activation b)

@@ -11,8 +11,6 @@ use Rattle.jm_program.specs.declared.instruction.symbolic.Instr.{Instr}
 use Rattle.jm_world.specs.Here.{Here}
 use Rattle.jm_world.specs.Stepping.{from_outcome, row}
 use Rattle.jm_world.proofs.Pushing.{push_is}
-use Rattle.jm_linked.specs.Frequent.{as_plain}
-use Rattle.jm_linked.proofs.FrequentRows.{same_row}
 use Rattle.jm_linked.specs.Links.{LinkedView, Links}
 use Rattle.jm_linked.specs.declared.instruction.LinkedInstr.{LinkedInstr}
 use Rattle.jm_linked.specs.declared.instruction.LinkedInstr.TheVariants as linked
@@ -22,7 +20,6 @@ use Rattle.jm_interp.specs.PlainRuns.{row_alone}
 pub alone_natural : (i : LinkedInstr) (f : ℕ → ℕ) (a : Activation) → IsOneToOne f (refs_activation a)
     → row_alone i (rename_activation f a) ≡ rename_outcome f (row_alone i a)
 alone_natural (linked.Plain op) f a one = plain_natural op f a one
-alone_natural (linked.Frequent x) f a one = plain_natural (as_plain x) f a one
 alone_natural (linked.Int n) f a one = push_natural f a (value.Int n) a.stack
 alone_natural (linked.Long n) f a one = push_natural f a (value.Long n) a.stack
 alone_natural (linked.Literal n) f a one = refl
@@ -41,8 +38,6 @@ alone_natural (linked.Type op t) f a one = refl
 pub alone_is : (l : LinkedView) (i : LinkedInstr) (symbolic : Instr) (here : Here) (a b : Activation) → Links l i symbolic → row_alone i a ≡ goes b
     → row here symbolic ≡ from_outcome here (row_alone i here.frame)
 alone_is l (linked.Plain op) symbolic here a b is leads = ap (row here) is
-alone_is l (linked.Frequent f) symbolic here a b is leads =
-    ap (row here) is.1 ∙ ap (from_outcome here) (same_row is.0 f here.frame is.2)
 alone_is l (linked.Int n) symbolic here a b is leads = ap (row here) is ∙ sym (push_is here (value.Int n) here.frame.stack)
 alone_is l (linked.Long n) symbolic here a b is leads = ap (row here) is ∙ sym (push_is here (value.Long n) here.frame.stack)
 alone_is l (linked.Literal n) symbolic here a b is leads = absurd (cc)

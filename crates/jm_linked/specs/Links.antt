@@ -14,7 +14,6 @@ use Rattle.jm_program.specs.declared.instruction.operation.FieldOp.{FieldOp}
 use Rattle.jm_program.specs.declared.instruction.operation.FieldOp.TheVariants.{GetStatic}
 use Rattle.jm_program.specs.declared.instruction.operation.InvokeOp.{InvokeOp}
 use Rattle.jm_program.specs.declared.instruction.operation.InvokeOp.TheVariants.{Virtual}
-use Rattle.jm_program.specs.declared.instruction.plain.Plain.{Plain}
 use Rattle.jm_program.specs.declared.instruction.symbolic.Instr.{Instr}
 use Rattle.jm_program.specs.declared.instruction.symbolic.Instr.TheVariants as instr
 use Rattle.jm_program.specs.declared.reference.ClassRef.{ClassRef}
@@ -29,7 +28,6 @@ use Rattle.jm_world.specs.Loading.{literal_texts, main_in}
 use Rattle.jm_world.specs.Loads.{Loads}
 use Rattle.jm_world.specs.Resolution.{resolve_method}
 use Rattle.jm_world.specs.Types.{type_of_ref}
-use Rattle.jm_linked.specs.Frequent.{frequent_form}
 use Rattle.jm_linked.specs.Kinds.{kind_of}
 use Rattle.jm_linked.specs.Later.{is_system_out, is_print, print_among, print_methods}
 use Rattle.jm_linked.specs.Methods.{all_methods, selector_of}
@@ -124,7 +122,6 @@ pub record InvokeLinks (program : List ClassParts) (op : InvokeOp) (n : InvokedM
 -- numbers (JVMS 5.4.3)
 abbrev pub LinksIn : List ClassParts → LinkedInstr → Instr → Type 0
 LinksIn program (linked.Plain op) i = i ≡ instr.Plain op
-LinksIn program (linked.Frequent f) i = (op : Plain) × (i ≡ instr.Plain op) × (frequent_form op ≡ Some f)
 LinksIn program (linked.Int n) i = i ≡ instr.Constant (constant.Int n)
 LinksIn program (linked.Long n) i = i ≡ instr.Constant (constant.Long n)
 LinksIn program (linked.Literal n) i = (units : List ℕ) × (i ≡ instr.Constant (constant.String units)) × (slice_get (literal_texts program) n ≡ Some units)

@@ -1,6 +1,5 @@
 // Instructions whose names are resolved.
 
-use crate::frequent::Frequent;
 use jm_program::{ArrayOp, BaseType, FieldOp, InvokeOp, MonitorOp, Plain, ReturnOp, TypeOp};
 
 /// What a print stream's method prints.
@@ -60,8 +59,6 @@ pub struct LinkedType {
 pub enum LinkedInstr {
     /// Touches one frame alone and names nothing.
     Plain(Plain),
-    /// The same, one that programs make often.
-    Frequent(Frequent),
     /// `ldc` of an int.
     Int(i32),
     /// `ldc2_w` of a long.

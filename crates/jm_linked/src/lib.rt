@@ -5,14 +5,16 @@
 //! kept by the type (`specs/Links`), so that whoever runs the table runs the classes. Classes are
 //! numbered with the built-in ones first, in their order, and then the program's.
 //!
-//! The plain instructions that programs make most are in a form of their own ([`Frequent`]), which one
-//! look at a tag tells apart.
+//! Beside the instructions of a method ([`LinkedCode`]) stands what is made at once at each: a plain
+//! instruction that programs make often, or a few in a row ([`Frequent`]). One look at a tag tells
+//! them apart.
 //!
 //! What is in a program that the machine cannot run yet is a [`LaterPart`]; a linked program may
 //! have some. The crate stands on `jm_program`, `jm_builtins`, `jm_world` and `jm_tables`.
 #![tactic(auto)]
 
 mod assignability;
+mod code;
 mod frequent;
 mod instruction;
 mod kind;
@@ -21,7 +23,8 @@ mod linked;
 mod method;
 mod tables;
 
-pub use frequent::Frequent;
+pub use code::LinkedCode;
+pub use frequent::{Frequent, IntOperation};
 pub use instruction::{
     InvokedMethod, LinkedElement, LinkedInstr, LinkedType, MemberNumber, PrintMethod, Printed,
 };

@@ -1,6 +1,6 @@
 // Methods whose names are resolved.
 
-use crate::instruction::LinkedInstr;
+use crate::code::LinkedCode;
 use crate::kind::ValueKind;
 use jm_program::Sequence;
 
@@ -15,7 +15,7 @@ pub struct LinkedMethod {
     pub result: Option<ValueKind>,
     pub max_stack: u16,
     pub max_locals: u16,
-    pub code: Sequence<LinkedInstr>,
+    pub code: LinkedCode,
     /// The exception table, in its order.
     pub handlers: Sequence<LinkedHandler>,
 }

@@ -20,10 +20,9 @@ use crate::fault::LinkFault;
 use crate::later::{is_system_out, print_method};
 use crate::number::short_number;
 use crate::references::{link_field, link_handlers, link_method, link_new, link_ref};
-use jm_linked::{Frequent, LinkedConstant, LinkedInstr, LinkedMethod, PrintMethod, ValueKind};
+use jm_linked::{LinkedCode, LinkedConstant, LinkedInstr, LinkedMethod, PrintMethod, ValueKind};
 use jm_program::{
     Class, Code, Constant, FieldOp, FieldRef, Instr, InvokeOp, MethodDescriptor, MethodRef, Plain,
-    Sequence,
 };
 use std::alloc::Global;
 
@@ -38,15 +37,11 @@ fn link_constant<'a>(classes: &Classes<'a>, constant: &'a Constant) -> LinkedIns
     }
 }
 
-// A plain instruction, in the form in which it is made.
 fn link_plain(plain: &Plain) -> Result<LinkedInstr, LinkFault>
     ensures refusal { (program : List ClassParts) → Answers result (instruction_refusal program (instr.Plain plain.now)) }
     ensures linked { (program : List ClassParts) → IfOk result (λ linked. LinksIn program linked (instr.Plain plain.now)) }
 {
-    match Frequent::of(plain) {
-        Some(op) => Ok(LinkedInstr::Frequent(op)),
-        None => Ok(LinkedInstr::Plain(plain.share()?)),
-    }
+    Ok(LinkedInstr::Plain(plain.share()?))
 }
 
 fn reads_system_out(op: FieldOp, field: &FieldRef) -> bool
@@ -131,7 +126,7 @@ fn link_instructions<'a>(
     alloc: Global,
     classes: &Classes<'a>,
     instructions: &'a [Instr],
-) -> Result<Sequence<LinkedInstr>, LinkFault>
+) -> Result<LinkedCode, LinkFault>
     requires { AreLiterals classes.now.program.now (flat_map texts_of_instruction instructions.now) }
     ensures refusal { Answers result (first_of_all (instruction_refusal classes.now.program.now) instructions.now) }
     ensures linked { IfOk result (λ linked. AllLinkIn classes.now.program.now linked instructions.now) }
@@ -140,7 +135,7 @@ fn link_instructions<'a>(
     for instruction in instructions {
         linked.push(link_instruction(alloc, classes, instruction)?)?;
     }
-    Ok(Sequence::new(linked))
+    Ok(LinkedCode::new(alloc, linked)?)
 }
 
 fn result_kind(descriptor: &MethodDescriptor) -> Option<ValueKind>
