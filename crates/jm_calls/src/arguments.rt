@@ -85,7 +85,7 @@ pub fn called_frame(alloc: Global, callee: Callee, arguments: &[Value]) -> Resul
 }
 
 /// The same, in the memory of a frame that ended, if there is one.
-#[inline]
+#[inline(always)]
 pub fn called_frame_in(
     spare: Spare,
     callee: Callee,

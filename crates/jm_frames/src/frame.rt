@@ -74,7 +74,7 @@ impl Frame {
     /// The same, in the memory of a frame that ended, if there is one. The frame keeps what else there
     /// is for the frames that are called from it. `AllocError`: what there is does not do, and there
     /// was no memory for more.
-    #[inline]
+    #[inline(always)]
     pub fn begin(
         mut spare: Spare,
         method: usize,

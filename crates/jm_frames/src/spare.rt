@@ -19,7 +19,7 @@ pub struct Spare {
 }
 
 // Makes so many local variables that are not set.
-#[inline]
+#[inline(always)]
 fn unset(locals: &mut Vec<Option<Value>>, count: usize) -> Result<(), AllocError>
     ensures { OnOk result (locals.new.items ≡ replicate count None) }
 {
@@ -41,7 +41,7 @@ impl Spare {
     }
 
     // The memory of one of them, if there is one.
-    #[inline]
+    #[inline(always)]
     fn pop(&mut self) -> Memory {
         let alloc = *self.memories.allocator();
         match self.memories.pop() {
@@ -54,7 +54,7 @@ impl Spare {
     }
 
     // Takes memory with so many local variables, which are not set, and room for so many operands.
-    #[inline]
+    #[inline(always)]
     pub(crate) fn take(&mut self, operands: usize, locals: usize) -> Result<Memory, AllocError>
         ensures locals { IfOk result (λ memory. memory.locals.items ≡ replicate locals None) }
         ensures operands { IfOk result (λ memory. (memory.stack.items ≡ []) × (operands ≤ vec_capacity memory.stack)) }
@@ -67,7 +67,7 @@ impl Spare {
     }
 
     // Keeps memory; where there is no room to note it, it is given back.
-    #[inline]
+    #[inline(always)]
     pub(crate) fn put(&mut self, memory: Memory) {
         let _kept = self.memories.push(memory);
     }

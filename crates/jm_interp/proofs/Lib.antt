@@ -60,6 +60,7 @@ pub mod RowsAlone
 pub mod PlainWorlds
 pub mod MethodRuns
 pub mod FrameRows
+pub mod LoadedRows
 pub mod GoingOn
 pub mod ThreadRuns
 pub mod PlainThreads

@@ -62,7 +62,7 @@ pub(crate) fn call<H: Heap>(
 
 // The frame of a method that is called by the top frame, with so many of its operands, in memory that
 // the top frame keeps, if it keeps some; the thread has room for it then, and its frames stay. `AllocError`: a growth was refused.
-#[inline]
+#[inline(always)]
 fn frame_of(
     at: At<'_>,
     thread: &mut Thread,
@@ -90,7 +90,7 @@ fn frame_of(
 }
 
 // Puts a frame, for which there is room, above the top one, a method's, which loses so many operands.
-#[inline]
+#[inline(always)]
 fn push_called(thread: &mut Thread, frame: Frame, count: usize)
     requires method { RunsMethod thread.old }
     requires room { vec_len thread.old.frames < vec_capacity thread.old.frames }

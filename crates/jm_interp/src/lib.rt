@@ -49,6 +49,7 @@ mod initializers;
 mod instance_calls;
 mod instances;
 mod invocation;
+mod loaded_rows;
 mod monitors;
 mod narrowing;
 mod object_kind;

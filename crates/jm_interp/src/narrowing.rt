@@ -11,6 +11,7 @@ use jm_program::{BaseType, ElementType, FieldType, OperandType};
 use jm_values::Value;
 
 /// What a variable of a primitive type keeps of an int.
+#[inline(always)]
 pub(crate) fn narrow_int(base: BaseType, number: i32) -> i32
     ensures { result ≡ narrow_int (element_type.Base base) number }
 {

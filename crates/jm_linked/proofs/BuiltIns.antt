@@ -37,7 +37,8 @@ no_built_ins seen (c ∷ cs) e = (not_built_in seen c.name (not_so _ _ (first_no
 abbrev pub AreOthers : List ℕ → List ClassParts → Type 0
 AreOthers text = AllByRecursion (λ c. same_text c.name text ≡ false)
 
-others_from : (text : List ℕ) → is_some (built_in_named the_builtins text) ≡ true → (cs : List ClassParts) → AllByRecursion (λ c. is_some (built_in_named the_builtins c.name) ≡ false) cs → AreOthers text cs
+others_from : (text : List ℕ) → is_some (built_in_named the_builtins text) ≡ true → (cs : List ClassParts) → AllByRecursion
+    (λ c. is_some (built_in_named the_builtins c.name) ≡ false) cs → AreOthers text cs
 others_from text e [] h = tt
 others_from text e (c ∷ cs) h = (by (same_text c.name text) refl, others_from text e cs h.1)
   where
@@ -57,6 +58,7 @@ pub found_built_in : (cs : List ClassParts) (text : List ℕ) → AreOthers text
 found_built_in [] text h = refl
 found_built_in (c ∷ cs) text h = ap (λ b. elim b as (λ _. Option ClassParts) [ true ↦ Some c | false ↦ class_among cs text ]) h.0 ∙ found_built_in cs text h.1
 
-pub built_in_class : (program : List ClassParts) → Loads program → (text : List ℕ) → is_some (built_in_named the_builtins text) ≡ true → class_named program text ≡ built_in_named the_builtins text
+pub built_in_class : (program : List ClassParts) → Loads program → (text : List ℕ) → is_some (built_in_named the_builtins text) ≡ true → class_named program
+    text ≡ built_in_named the_builtins text
 unfolding class_named
 built_in_class program loads text e = found_built_in program text (others program loads text e)

@@ -1,5 +1,6 @@
 -- Methods with code by their numbers among all methods.
-use Rattle.std.proofs.Common.{◌≡◌, ℕ, zero, suc, ◌+◌, ◌<◌, Bool, true, false, ◌&&◌, List, [], ◌∷◌, ◌++◌, Option, Some, None, length, take, ◌⊎◌, inl, inr, refl, sym, ap, subst, ◌∙◌, arith}
+use Rattle.std.proofs.Common.{◌≡◌, ℕ, zero, suc, ◌+◌, ◌<◌, Bool, true, false, ◌&&◌, List, [], ◌∷◌, ◌++◌}
+use Rattle.std.proofs.Common.{Option, Some, None, length, take, ◌⊎◌, inl, inr, refl, sym, ap, subst, ◌∙◌, arith}
 use Rattle.std.proofs.lemmas.Option.{slice_get-map}
 use Rattle.std.specs.Prelude.{is_some, map, option_map, slice_get, slice_index_or}
 use Rattle.std.specs.List.{list_all}
@@ -27,7 +28,8 @@ append_assoc (x ∷ xs) ys zs = ap (λ l. x ∷ l) (append_assoc xs ys zs)
 -- the methods of classes, one after the other
 pub methods_both : (xs ys : List ClassParts) → methods_in (xs ++ ys) ≡ methods_in xs ++ methods_in ys
 methods_both [] ys = refl
-methods_both (c ∷ cs) ys = ap (λ l. methods_of c c.methods ++ l) (methods_both cs ys) ∙ sym (append_assoc (methods_of c c.methods) (methods_in cs) (methods_in ys))
+methods_both (c ∷ cs) ys = ap (λ l. methods_of c c.methods ++ l) (methods_both cs ys) ∙ sym
+    (append_assoc (methods_of c c.methods) (methods_in cs) (methods_in ys))
 
 -- how many of the methods have code
 count : List FoundMethod → ℕ
@@ -83,7 +85,11 @@ one_on : (c : ClassParts) (x : Method) (ms : List Method) (b i n : ℕ) (fs : Li
 unfolding count
 one_on c x ms b i n fs rest = by x.code
   where
-    by : (o : Option Code) → slice_get ((elim o as (λ _. List (ℕ × ℕ)) [ None ↦ coded_among b (suc i) ms | Some code ↦ (b, i) ∷ coded_among b (suc i) ms ]) ++ rest)
+    by : (o : Option Code) → slice_get ((elim o as (λ _. List (ℕ × ℕ)) [
+      | None ↦ coded_among b (suc i) ms
+      | Some code ↦ (b, i) ∷ coded_among b
+          (suc i) ms
+    ]) ++ rest)
         (elim o as (λ _. ℕ) [ None ↦ count (take n (methods_of c ms ++ fs)) | Some code ↦ suc (count (take n (methods_of c ms ++ fs))) ])
         ≡ slice_get (coded_among b (suc i) ms ++ rest) (count (take n (methods_of c ms ++ fs)))
     by None = refl
@@ -275,7 +281,8 @@ unfolding code_numbers number_if
 method_selected l linked n None a e h = absurd h
 method_selected l linked n (Some found) a e h =
     by found.method.code refl
-    (e ∙ ap (λ cs. slice_index_or cs n None) linked.tables.codes ∙ index_is (numbered_codes 0 (all_methods l.program)) n _ (number_at 0 (all_methods l.program) n found h))
+    (e ∙ ap (λ cs. slice_index_or cs n None) linked.tables.codes ∙ index_is (numbered_codes 0 (all_methods l.program)) n _
+    (number_at 0 (all_methods l.program) n found h))
   where
     here : 0 + count (take n (all_methods l.program)) ≡ count (take n (all_methods l.program))
     here = omega arith

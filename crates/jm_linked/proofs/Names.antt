@@ -85,11 +85,13 @@ eq_suc a b = by (nat_eq a b) refl
     by true is = is ∙ sym (eq-eqb (suc a) (suc b) (ap (λ n. suc n) (eqb-true a b is)))
     by false is = is ∙ sym (unlike (suc a) (suc b) (λ same. let less : a ≡ b = omega (arith, same) in let bad = eq-eqb a b less in cc))
 
-apart_at : (xs : List (List ℕ)) (a b : ℕ) → Apart xs → a < length xs → b < length xs → same_text (slice_index_or xs a []) (slice_index_or xs b []) ≡ nat_eq a b
+apart_at : (xs : List (List ℕ)) (a b : ℕ) → Apart xs → a < length xs → b < length xs → same_text (slice_index_or xs a []) (slice_index_or xs b []) ≡ nat_eq
+    a b
 apart_at [] a b o l m = absurd (omega arith)
 apart_at (x ∷ xs) zero zero o l m = same_self x ∙ sym (eq-eqb 0 0 refl)
 apart_at (x ∷ xs) zero (suc b) o l m = none_at x xs b o.0 (omega arith) ∙ sym (unlike 0 (suc b) (λ same. omega (arith, same)))
-apart_at (x ∷ xs) (suc a) zero o l m = other_way x (slice_index_or xs a []) (none_at x xs a o.0 (omega arith)) ∙ sym (unlike (suc a) 0 (λ same. omega (arith, same)))
+apart_at (x ∷ xs) (suc a) zero o l m = other_way x (slice_index_or xs a []) (none_at x xs a o.0 (omega arith)) ∙ sym
+    (unlike (suc a) 0 (λ same. omega (arith, same)))
 apart_at (x ∷ xs) (suc a) (suc b) o l m = apart_at xs a b o.1 (omega arith) (omega arith) ∙ eq_suc a b
 
 none_of_both : (x : List ℕ) (xs ys : List (List ℕ)) → Others x xs → Others x ys → Others x (xs ++ ys)
@@ -105,7 +107,8 @@ after_one : (x : List ℕ) (seen cs : List ClassParts) → ((name : List ℕ) �
     → duplicates seen cs ≡ None → Others x (map (λ c. c.name) cs)
 after_one x seen [] h e = tt
 after_one x seen (c ∷ cs) h e =
-    let first = not_so (is_named_among seen c.name) (duplicate_class c.name) (first_none (when (is_named_among seen c.name) (duplicate_class c.name)) (duplicates (c ∷ seen) cs) e) in
+    let first = not_so (is_named_among seen c.name) (duplicate_class c.name)
+    (first_none (when (is_named_among seen c.name) (duplicate_class c.name)) (duplicates (c ∷ seen) cs) e) in
     let rest = second_none (when (is_named_among seen c.name) (duplicate_class c.name)) (duplicates (c ∷ seen) cs) e in
     (h c.name first, after_one x (c ∷ seen) cs (λ name g. h name (right_false (same_text c.name name) (is_named_among seen name) g)) rest)
 
@@ -118,7 +121,8 @@ program_apart seen (c ∷ cs) e =
 head_not : (b : BuiltIn) (bs : List BuiltIn) (name : List ℕ) → is_some (built_in_named (b ∷ bs) name) ≡ false → same_text b.name name ≡ false
 head_not b bs name e = by (same_text b.name name) refl e
   where
-    by : (t : Bool) → same_text b.name name ≡ t → is_some (elim t as (λ _. Option ClassParts) [ true ↦ Some (as_class b) | false ↦ built_in_named bs name ]) ≡ false
+    by : (t : Bool) → same_text b.name name ≡ t → is_some
+        (elim t as (λ _. Option ClassParts) [ true ↦ Some (as_class b) | false ↦ built_in_named bs name ]) ≡ false
         → same_text b.name name ≡ false
     by true is g = cc
     by false is g = is
@@ -132,13 +136,15 @@ tail_not b bs name e = by (same_text b.name name) e
     by false g = g
 
 -- the built-in classes' names are none of the program's
-between : (bs : List BuiltIn) (program : List ClassParts) → ((name : List ℕ) → is_some (built_in_named the_builtins name) ≡ false → is_some (built_in_named bs name) ≡ false)
+between : (bs : List BuiltIn) (program : List ClassParts) →
+    ((name : List ℕ) → is_some (built_in_named the_builtins name) ≡ false → is_some (built_in_named bs name) ≡ false)
     → duplicates [] program ≡ None → AllByRecursion (λ x. Others x (map (λ c. c.name) program)) (map (λ b. b.name) bs)
 between [] program h e = tt
 between (b ∷ bs) program h e =
     (after_one b.name [] program (λ name g. head_not b bs name (h name g)) e, between bs program (λ name g. tail_not b bs name (h name g)) e)
 
-length_names : (bs : List BuiltIn) (cs : List ClassParts) → length (map (λ (b : BuiltIn). b.name) bs ++ map (λ (c : ClassParts). c.name) cs) ≡ length cs + length bs
+length_names : (bs : List BuiltIn) (cs : List ClassParts) → length (map (λ (b : BuiltIn). b.name) bs ++ map (λ (c : ClassParts). c.name) cs) ≡ length cs +
+    length bs
 length_names [] [] = refl
 length_names [] (c ∷ cs) = let rest = length_names [] cs in omega (arith, rest)
 length_names (b ∷ bs) cs = let rest = length_names bs cs in omega (arith, rest)
@@ -148,7 +154,8 @@ unfolding all_names
 are_names program loads =
     let once = distinct program loads in
     let own = map (λ (c : ClassParts). c.name) program in
-    let apart = apart_both built_in_names own (apart_are built_in_names built_ins_apart) (program_apart [] program once) (between the_builtins program (λ name g. g) once) in
+    let apart = apart_both built_in_names own (apart_are built_in_names built_ins_apart) (program_apart [] program once)
+    (between the_builtins program (λ name g. g) once) in
     record { many = length_names the_builtins program; apart = λ a b l m. apart_at (built_in_names ++ own) a b apart l m }
 
 -- a built-in class is found under its name
@@ -157,7 +164,8 @@ other_at x [] n b o at = cc
 other_at x (d ∷ bs) zero b o at = let same : d ≡ b = cc in subst (λ (y : BuiltIn). same_text x y.name ≡ false) same o.0
 other_at x (d ∷ bs) (suc n) b o at = other_at x bs n b o.1 at
 
-built_in_at : (bs : List BuiltIn) (n : ℕ) (b : BuiltIn) → Apart (map (λ b. b.name) bs) → slice_get bs n ≡ Some b → built_in_named bs b.name ≡ Some (as_class b)
+built_in_at : (bs : List BuiltIn) (n : ℕ) (b : BuiltIn) → Apart (map (λ b. b.name) bs) → slice_get bs n ≡ Some b → built_in_named bs b.name ≡ Some
+    (as_class b)
 built_in_at [] n b o at = cc
 built_in_at (d ∷ bs) zero b o at =
     let same : d ≡ b = cc in
@@ -189,10 +197,12 @@ name_numbered program n c at = name_at the_builtins program n c at
 some_is : (o : Option ClassParts) (c : ClassParts) → o ≡ Some c → is_some o ≡ true
 some_is o c e = ap is_some e
 
-pub found_numbered : (program : List ClassParts) → Loads program → (n : ℕ) (c : ClassParts) → class_numbered program n ≡ Some c → class_named program c.name ≡ Some c
+pub found_numbered : (program : List ClassParts) → Loads program → (n : ℕ) (c : ClassParts) → class_numbered program n ≡ Some c → class_named program
+    c.name ≡ Some c
 found_numbered program loads n c at = by (of_either the_builtins program n c at)
   where
-    by : ((b : BuiltIn) × (slice_get the_builtins n ≡ Some b) × (as_class b ≡ c)) ⊎ ((k : ℕ) × (slice_get program k ≡ Some c)) → class_named program c.name ≡ Some c
+    by : ((b : BuiltIn) × (slice_get the_builtins n ≡ Some b) × (as_class b ≡ c)) ⊎ ((k : ℕ) × (slice_get program k ≡ Some c)) → class_named program
+        c.name ≡ Some c
     by (inl (b, is, same)) =
         let own = built_in_at the_builtins n b (apart_are built_in_names built_ins_apart) is in
         subst (λ (x : ClassParts). class_named program x.name ≡ Some x) same (built_in_class program loads b.name (some_is _ (as_class b) own) ∙ own)

@@ -82,9 +82,12 @@ zero_is printed.String = refl
 
 printed_is : (k : Printed) (t : FieldType) → same_type t (printed_type k) ≡ true → t ≡ printed_type k
 printed_is k t h =
-    let d : t.dimensions ≡ (printed_type k).dimensions = eqb-true t.dimensions (printed_type k).dimensions (left_true (nat_eq t.dimensions (printed_type k).dimensions) (same_element t.element (printed_type k).element) h) in
+    let d : t.dimensions ≡ (printed_type k).dimensions =
+    eqb-true t.dimensions (printed_type k).dimensions (left_true (nat_eq t.dimensions (printed_type k).dimensions)
+    (same_element t.element (printed_type k).element) h) in
     let e = base_is k t.element (right_true (nat_eq t.dimensions (printed_type k).dimensions) (same_element t.element (printed_type k).element) h) in
-    ap (λ n. let x : FieldType = record { dimensions = n; element = t.element } in x) d ∙ ap (λ n. let x : FieldType = record { dimensions = (printed_type k).dimensions; element = n } in x) e
+    ap (λ n. let x : FieldType = record { dimensions = n; element = t.element } in x) d ∙ ap
+    (λ n. let x : FieldType = record { dimensions = (printed_type k).dimensions; element = n } in x) e
 
 one_is : (k : Printed) (ts : List FieldType) → same_types ts (printed_type k ∷ []) ≡ true → ts ≡ printed_type k ∷ []
 one_is k [] h = cc
@@ -101,14 +104,20 @@ void_is (Some t) h = cc
 
 type_is : (p : PrintMethod) (d : MethodDescriptor) → same_method_type d (print_type p) ≡ true → d ≡ print_type p
 type_is (Print k) d h =
-    ap (λ x. let y : MethodDescriptor = record { parameters = x; return_type = d.return_type } in y) (one_is k d.parameters (left_true (same_types d.parameters (printed_type k ∷ [])) (same_result d.return_type None) h))
-    ∙ ap (λ x. let y : MethodDescriptor = record { parameters = printed_type k ∷ []; return_type = x } in y) (void_is d.return_type (right_true (same_types d.parameters (printed_type k ∷ [])) (same_result d.return_type None) h))
+    ap (λ x. let y : MethodDescriptor = record { parameters = x; return_type = d.return_type } in y)
+    (one_is k d.parameters (left_true (same_types d.parameters (printed_type k ∷ [])) (same_result d.return_type None) h))
+    ∙ ap (λ x. let y : MethodDescriptor = record { parameters = printed_type k ∷ []; return_type = x } in y)
+    (void_is d.return_type (right_true (same_types d.parameters (printed_type k ∷ [])) (same_result d.return_type None) h))
 type_is (Println k) d h =
-    ap (λ x. let y : MethodDescriptor = record { parameters = x; return_type = d.return_type } in y) (one_is k d.parameters (left_true (same_types d.parameters (printed_type k ∷ [])) (same_result d.return_type None) h))
-    ∙ ap (λ x. let y : MethodDescriptor = record { parameters = printed_type k ∷ []; return_type = x } in y) (void_is d.return_type (right_true (same_types d.parameters (printed_type k ∷ [])) (same_result d.return_type None) h))
+    ap (λ x. let y : MethodDescriptor = record { parameters = x; return_type = d.return_type } in y)
+    (one_is k d.parameters (left_true (same_types d.parameters (printed_type k ∷ [])) (same_result d.return_type None) h))
+    ∙ ap (λ x. let y : MethodDescriptor = record { parameters = printed_type k ∷ []; return_type = x } in y)
+    (void_is d.return_type (right_true (same_types d.parameters (printed_type k ∷ [])) (same_result d.return_type None) h))
 type_is EndLine d h =
-    ap (λ x. let y : MethodDescriptor = record { parameters = x; return_type = d.return_type } in y) (none_is d.parameters (left_true (same_types d.parameters []) (same_result d.return_type None) h))
-    ∙ ap (λ x. let y : MethodDescriptor = record { parameters = []; return_type = x } in y) (void_is d.return_type (right_true (same_types d.parameters []) (same_result d.return_type None) h))
+    ap (λ x. let y : MethodDescriptor = record { parameters = x; return_type = d.return_type } in y)
+    (none_is d.parameters (left_true (same_types d.parameters []) (same_result d.return_type None) h))
+    ∙ ap (λ x. let y : MethodDescriptor = record { parameters = []; return_type = x } in y)
+    (void_is d.return_type (right_true (same_types d.parameters []) (same_result d.return_type None) h))
 
 -- the reference of a print
 abbrev pub print_ref : PrintMethod → MethodRef
@@ -119,7 +128,8 @@ ref_is m p h =
     let two = left_true (is_class_called m.class print_stream_class && same_text m.name (print_name p)) (same_method_type m.descriptor (print_type p)) h in
     let c = class_is m.class print_stream_class (left_true (is_class_called m.class print_stream_class) (same_text m.name (print_name p)) two) in
     let n = texts.same_text m.name (print_name p) (sym (right_true (is_class_called m.class print_stream_class) (same_text m.name (print_name p)) two)) in
-    let t = type_is p m.descriptor (right_true (is_class_called m.class print_stream_class && same_text m.name (print_name p)) (same_method_type m.descriptor (print_type p)) h) in
+    let t = type_is p m.descriptor (right_true (is_class_called m.class print_stream_class && same_text m.name (print_name p))
+    (same_method_type m.descriptor (print_type p)) h) in
     ap (λ x. let y : MethodRef = record { class = x; name = m.name; descriptor = m.descriptor } in y) c
     ∙ ap (λ x. let y : MethodRef = record { class = named.Class print_stream_class; name = x; descriptor = m.descriptor } in y) n
     ∙ ap (λ x. let y : MethodRef = record { class = named.Class print_stream_class; name = print_name p; descriptor = x } in y) t
@@ -135,12 +145,14 @@ taller program = omega arith
 chain_of : (n : ℕ) (program : List ClassParts) → Option ClassParts → List ClassParts
 chain_of n program o = elim o [ None ↦ [] | Some c ↦ elim c.superclass [ None ↦ c ∷ [] | Some s ↦ c ∷ up_from n program s ] ]
 
-chain_is : (program : List ClassParts) → Loads program → chain program print_stream_class ≡ as_class print_stream ∷ up_from (length program + 28) program object_class
+chain_is : (program : List ClassParts) → Loads program → chain program print_stream_class ≡ as_class print_stream ∷ up_from (length program + 28) program
+    object_class
 unfolding chain chain_of
 chain_is program loads =
     ap (λ n. up_from n program print_stream_class) (taller program) ∙ ap (chain_of (length program + 28) program) (stream_is program loads)
 
-pub stream_selects : (program : List ClassParts) → Loads program → (p : PrintMethod) → select program print_stream_class (print_name p) (print_type p) ≡ instance_along false (as_class print_stream ∷ up_from (length program + 28) program object_class) (print_name p) (print_type p)
+pub stream_selects : (program : List ClassParts) → Loads program → (p : PrintMethod) → select program print_stream_class (print_name p)
+    (print_type p) ≡ instance_along false (as_class print_stream ∷ up_from (length program + 28) program object_class) (print_name p) (print_type p)
 unfolding select
 stream_selects program loads p = ap (λ cs. instance_along false cs (print_name p) (print_type p)) (chain_is program loads)
 
@@ -165,9 +177,11 @@ not_false b e = ap not e
 built_in_parents : (bs : List BuiltIn) (name : List ℕ) → other_parents bs ≡ true → list_all is_other (parents (built_in_named bs name)) ≡ true
 unfolding other_parents
 built_in_parents [] name e = refl
-built_in_parents (b ∷ bs) name e = by (same_text b.name name) refl (built_in_parents bs name (right_true (list_all is_other (parents (Some (as_class b)))) (other_parents bs) e))
+built_in_parents (b ∷ bs) name e = by (same_text b.name name) refl
+    (built_in_parents bs name (right_true (list_all is_other (parents (Some (as_class b)))) (other_parents bs) e))
   where
-    by : (c : Bool) → same_text b.name name ≡ c → list_all is_other (parents (built_in_named bs name)) ≡ true → list_all is_other (parents (elim c as (λ _. Option ClassParts) [ true ↦ Some (as_class b) | false ↦ built_in_named bs name ])) ≡ true
+    by : (c : Bool) → same_text b.name name ≡ c → list_all is_other (parents (built_in_named bs name)) ≡ true → list_all is_other
+        (parents (elim c as (λ _. Option ClassParts) [ true ↦ Some (as_class b) | false ↦ built_in_named bs name ])) ≡ true
     by true t h = left_true (list_all is_other (parents (Some (as_class b)))) (other_parents bs) e
     by false t h = h
 
@@ -228,7 +242,8 @@ interfaces_other program loads (x ∷ xs) e =
     let parts = refused_none (interface_of_kind x (class_named program x)) (first_of_all (λ name. interface_of_kind name (class_named program name)) xs) e in
     ap (λ b. b && list_all is_other xs) (interface_other program loads x parts.0) ∙ interfaces_other program loads xs parts.1
 
-parents_other : (program : List ClassParts) → Loads program → (c : ClassParts) → parents_refusal program c ≡ None → list_all is_other (parents (Some c)) ≡ true
+parents_other : (program : List ClassParts) → Loads program → (c : ClassParts) → parents_refusal program c ≡ None → list_all is_other (parents (Some c)) ≡
+    true
 parents_other program loads c e =
     let parts =
     refused_none (superclass_refusal program c c.superclass) (first_of_all (λ name. interface_of_kind name (class_named program name)) c.interfaces) e in
@@ -250,11 +265,13 @@ no_parents_refused : (program : List ClassParts) → Loads program → first_of_
 unfolding refusal
 no_parents_refused program loads = (refused_none _ _ (refused_none _ _ (refused_none _ _ loads).1).1).0
 
-none_holds : (test : List ℕ → Bool) → ((x : List ℕ) → same_text x print_stream_class ≡ false → test x ≡ false) → (xs : List (List ℕ)) → list_all is_other xs ≡ true → holds_of_any test xs ≡ false
+none_holds : (test : List ℕ → Bool) → ((x : List ℕ) → same_text x print_stream_class ≡ false → test x ≡ false) → (xs : List (List ℕ)) → list_all is_other
+    xs ≡ true → holds_of_any test xs ≡ false
 unfolding is_other
 none_holds test h [] e = refl
 none_holds test h (x ∷ xs) e =
-    ap (λ b. elim b as (λ _. Bool) [ true ↦ true | false ↦ holds_of_any test xs ]) (h x (not_true (same_text x print_stream_class) (left_true (is_other x) (list_all is_other xs) e)))
+    ap (λ b. elim b as (λ _. Bool) [ true ↦ true | false ↦ holds_of_any test xs ])
+    (h x (not_true (same_text x print_stream_class) (left_true (is_other x) (list_all is_other xs) e)))
     ∙ none_holds test h xs (right_true (is_other x) (list_all is_other xs) e)
 
 not_below : (n : ℕ) (program : List ClassParts) → Loads program → (name : List ℕ) → same_text name print_stream_class ≡ false
@@ -262,7 +279,11 @@ not_below : (n : ℕ) (program : List ClassParts) → Loads program → (name : 
 unfolding class_named
 not_below zero program loads name e = refl
 not_below (suc n) program loads name e =
-    ap (λ b. elim b as (λ _. Bool) [ true ↦ true | false ↦ holds_of_any (λ parent. is_below n program parent print_stream_class) (parents (class_named program name)) ]) e
+    ap (λ b. elim b as (λ _. Bool) [
+      | true ↦ true
+      | false ↦ holds_of_any (λ parent. is_below n program parent print_stream_class)
+          (parents (class_named program name))
+    ]) e
     ∙ none_holds (λ parent. is_below n program parent print_stream_class) (λ x f. not_below n program loads x f) (parents (class_named program name))
     (class_parents program loads program name (no_parents_refused program loads))
 
@@ -275,7 +296,8 @@ no_stream program loads name e = not_below (height program) program loads name e
 others_are : (program : List ClassParts) → AreOthers print_stream_class program → list_all is_other (map (λ (c : ClassParts). c.name) program) ≡ true
 unfolding is_other
 others_are [] h = refl
-others_are (c ∷ cs) h = ap (λ b. b && list_all is_other (map (λ (d : ClassParts). d.name) cs)) (not_false (same_text c.name print_stream_class) h.0) ∙ others_are cs h.1
+others_are (c ∷ cs) h = ap (λ b. b && list_all is_other (map (λ (d : ClassParts). d.name) cs)) (not_false (same_text c.name print_stream_class) h.0) ∙
+    others_are cs h.1
 
 test_at : (xs : List (List ℕ)) (n : ℕ) → list_all is_other xs ≡ true → is_other (unwrap_or (slice_get xs n) []) ≡ true
 unfolding is_other
@@ -293,4 +315,5 @@ other_name program loads (suc (suc (suc (suc zero)))) e = refl
 other_name program loads (suc (suc (suc (suc (suc zero))))) e = cc
 other_name program loads (suc (suc (suc (suc (suc (suc n)))))) e =
     not_true _ (test_at (map (λ (b : BuiltIn). b.name) (drop 6 the_builtins) ++ map (λ (c : ClassParts). c.name) program) n
-    (all_append (map (λ (b : BuiltIn). b.name) (drop 6 the_builtins)) (map (λ (c : ClassParts). c.name) program) refl (others_are program (others program loads print_stream_class refl))))
+    (all_append (map (λ (b : BuiltIn). b.name) (drop 6 the_builtins)) (map (λ (c : ClassParts). c.name) program) refl
+    (others_are program (others program loads print_stream_class refl))))

@@ -1,5 +1,6 @@
 -- A linked program beside its classes.
-use Rattle.std.specs.Prelude.{◌≡◌, ℕ, suc, List, [], ◌∷◌, ◌++◌, map, length, Option, Some, None, Bool, true, false, is_some, unwrap_or, slice_get, option_map, IfSome}
+use Rattle.std.specs.Prelude.{◌≡◌, ℕ, suc, List, [], ◌∷◌, ◌++◌, map, length, Option}
+use Rattle.std.specs.Prelude.{Some, None, Bool, true, false, is_some, unwrap_or, slice_get, option_map, IfSome}
 use Rattle.std.specs.List.{AllByRecursion, list_all}
 use Rattle.jm_program.specs.Instructions.{instr_fits}
 use Rattle.jm_program.specs.declared.class.ClassParts.{ClassParts}
@@ -232,5 +233,6 @@ pub record IsLinked (l : LinkedView) : Type 0 where
 abbrev pub IsSelected : LinkedView → Option FoundMethod → Selected → Type 0
 IsSelected l None Nothing = Unit {0}
 IsSelected l (Some found) (WithoutCode n) = (found.method.code ≡ None) × (slice_get (all_methods l.program) n ≡ Some found)
-IsSelected l (Some found) (Coded k) = (is_some found.method.code ≡ true) × (m : LinkedMethod) × (slice_get l.methods k ≡ Some m) × (linked_name l.program m ≡ name_of_method found)
+IsSelected l (Some found) (Coded k) = (is_some found.method.code ≡ true) × (m : LinkedMethod) × (slice_get l.methods k ≡ Some m) ×
+    (linked_name l.program m ≡ name_of_method found)
 IsSelected l _ _ = ⊥

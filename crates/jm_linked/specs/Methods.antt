@@ -23,7 +23,8 @@ all_methods program = methods_in (map as_class the_builtins ++ program)
 -- the number of the first method of a name and a type, counted from a number
 abbrev pub first_named : ℕ → List FoundMethod → List ℕ → MethodDescriptor → Option ℕ
 first_named k [] name t = None
-first_named k (f ∷ fs) name t = elim (same_text f.method.name name && same_method_type f.method.descriptor t) [ true ↦ Some k | false ↦ first_named (k + 1) fs name t ]
+first_named k (f ∷ fs) name t = elim (same_text f.method.name name && same_method_type f.method.descriptor t)
+    [ true ↦ Some k | false ↦ first_named (k + 1) fs name t ]
 
 -- a selector stands for a name and a type: it is the number of the first method that has both
 unfoldable pub selector_of : List ClassParts → List ℕ → MethodDescriptor → Option ℕ

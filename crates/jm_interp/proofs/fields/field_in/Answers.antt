@@ -1,10 +1,7 @@
-use Rattle.std.proofs.Common.{refl, sym, ◌∙◌}
-use Rattle.std.proofs.lemmas.Option.{slice_get_read}
+use Rattle.std.proofs.Common.{sym}
 use Rattle.std.proofs.lemmas.Result.{err_from_is_err_and}
-use Rattle.jm_interp.proofs.FieldRows.{no_object, no_field, past_object, no_room, field_comes, room_told, room_yes}
-use Rattle.jm_interp.proofs.FrameRows.{stands_on, room_here}
-use Rattle.jm_interp.proofs.Objects.{lies, told}
-use Rattle.jm_interp.proofs.OnTop.{its_object}
+use Rattle.jm_interp.proofs.FieldRows.{no_object}
+use Rattle.jm_interp.proofs.FrameRows.{stands_on}
 use Rattle.jm_interp.proofs.fields.field_in.Goals as goal
 
 pub returns-in_err-object : goal.returns-in_err-object
@@ -12,49 +9,13 @@ returns-in_err-object g c s x =
     let left = err_from_is_err_and c.from_residual.result c.from_residual.ensures.1 in
     rw (left.1, left.2) (no_object (stands_on x) (sym c.in_err-object.ensures.value))
 
-pub object-class-requires : goal.object-class-requires
-object-class-requires g c =
-    let h = (stands_on c.requires.1).method in
-    lies h.on (its_object h 0 (sym c.in_ok-object.ensures.value))
-
-pub returns-in_err-place : goal.returns-in_err-place
-returns-in_err-place g c s x =
-    let h = stands_on x in
-    let e = sym c.in_ok-object.ensures.value in
-    let left = err_from_is_err_and c.from_residual-in_err-place.result c.from_residual-in_err-place.ensures.1 in
-    rw (left.1, left.2)
-    (no_field h e (told h.method.on (its_object h.method 0 e) c.object-class.ensures.class) _ (c.in_err-place.ensures h.is.found h.is.numbered))
-
-pub returns-then-place-values : goal.returns-then-place-values
-returns-then-place-values g c s x =
-    let h = stands_on x in
-    let e = sym c.in_ok-object.ensures.value in
-    let o = its_object h.method 0 e in
-    past_object h e (told h.method.on o c.object-class.ensures.class) (c.in_ok-place.ensures h.is.found h.is.numbered)
-    (told h.method.on o c.object-class.ensures.length)
-    c.if-place-values.true
-
-pub returns-then-not-has_room_for : goal.returns-then-not-has_room_for
-returns-then-not-has_room_for g c s x =
-    let h = stands_on x in
-    let e = sym c.in_ok-object.ensures.value in
-    let o = its_object h.method 0 e in
-    let test = room_told _ _ c.in_ok-object.ensures.value c.index-values-place.result c.has_room_for.ensures in
-    let read = slice_get_read c.object-class.result.1.now _ c.in_ok-place.place c.index-values-place.result refl c.if-place-values.false
-    c.index-values-place.is in
-    no_room h e (told h.method.on o c.object-class.ensures.class) (c.in_ok-place.ensures h.is.found h.is.numbered)
-    (told h.method.on o c.object-class.ensures.length)
-    c.index-values-place.result (c.object-class.ensures.values _ _ read) (sym test ∙ c.if-not-has_room_for.true)
+pub field_of-requires : goal.field_of-requires
+field_of-requires g c = (
+  c.args.frame.now,
+  c.requires,
+  record { object_is = sym c.in_ok-object.ensures.value; fits = c.in_ok-object.ensures.room; room_is = c.has_room.ensures },
+)
 
 pub returns : goal.returns
-returns g c s x =
-    let h = stands_on x in
-    let e = sym c.in_ok-object.ensures.value in
-    let o = its_object h.method 0 e in
-    let read = slice_get_read c.object-class.result.1.now _ c.in_ok-place.place c.index-values-place.result refl c.if-place-values.false
-    c.index-values-place.is in
-    field_comes h e (told h.method.on o c.object-class.ensures.class) (c.in_ok-place.ensures h.is.found h.is.numbered)
-    (told h.method.on o c.object-class.ensures.length)
-    c.index-values-place.result (c.object-class.ensures.values _ _ read) (c.object-class.ensures.resident _ _ read)
-    (room_here x.on 1 c.index-values-place.result
-    (room_yes _ _ (room_told _ _ c.in_ok-object.ensures.value c.index-values-place.result c.has_room_for.ensures) c.if-not-has_room_for.false))
+returns g c = c.field_of.ensures c.args.frame.now
+    (record { object_is = sym c.in_ok-object.ensures.value; fits = c.in_ok-object.ensures.room; room_is = c.has_room.ensures })

@@ -13,5 +13,6 @@ returns c = λ parts at.
     let found = linked.tables.superclasses c.args.class parts at in
     let list = c.as_slice.ensures ∙ ap (λ (v : LinkedView). v.tables.superclasses) c.self.view_is in
     subst (IsSuperclass l.program parts.superclass)
-    (sym (c.number_at.ensures ∙ ap (λ ns. slice_index_or ns c.args.class None) list ∙ get_or_from_slice_get l.tables.superclasses c.args.class found.0 None found.1))
+    (sym (c.number_at.ensures ∙ ap (λ ns. slice_index_or ns c.args.class None) list ∙ get_or_from_slice_get l.tables.superclasses c.args.class found.0 None
+    found.1))
     found.2
