@@ -9,7 +9,7 @@ use Rattle.jm_values.specs.declared.value.Value.TheVariants.{Long}
 use Rattle.jm_values.specs.declared.fault.TagFault.{TagFault}
 use Rattle.jm_frames.specs.Operands.{single_of, double_of, values_of}
 use Rattle.jm_frames.specs.declared.operand_stack.Group.{Group}
-use Rattle.jm_frames.specs.declared.operand_stack.Group.TheVariants.{Nothing, One, Two}
+use Rattle.jm_frames.specs.declared.operand_stack.Group.TheVariants.{One, Two}
 
 -- what a word pops, and what is left of the operands
 pub record Taken (with_group : (List Value → List Value → Outcome) → Outcome) (operands : List Value) (group : Group) : Type 0 where
@@ -63,13 +63,6 @@ get_first s d = let e : d ≡ d + zero = omega arith in ap (slice_get s) e ∙ g
 
 get_second : (s : List Value) (d : ℕ) → slice_get s (d + 1) ≡ slice_get (drop d s) (suc zero)
 get_second s d = get_drop s d 1
-
--- a word for no operand
-abbrev pub nothing_list : List Value → (List Value → List Value → Outcome) → Outcome
-nothing_list s go = go [] s
-
-pub nothing_at : (s : List Value) → Taken (nothing_list s) s Nothing
-nothing_at s = record { on_top = refl; gives = λ go. refl }
 
 pub single_at : (s : List Value) (d n : ℕ) (g : Group) → d ≡ n → single_of (slice_get s d) ≡ Ok g → Taken (single_list (drop n s)) (drop n s) g
 single_at s d n g depth e = subst (λ k. Taken (single_list (drop k s)) (drop k s) g) depth (top_single (drop d s) g (ap single_of (sym (get_first s d)) ∙ e))

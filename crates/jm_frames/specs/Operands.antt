@@ -7,7 +7,7 @@ use Rattle.jm_values.specs.declared.fault.TagFault.{TagFault}
 use Rattle.jm_values.specs.declared.fault.TagFault.TheVariants.{WrongTag, Underflow}
 use Rattle.jm_program.specs.declared.instruction.operation.OperandType.{OperandType}
 use Rattle.jm_frames.specs.declared.operand_stack.Group.{Group}
-use Rattle.jm_frames.specs.declared.operand_stack.Group.TheVariants.{Nothing, One, Two}
+use Rattle.jm_frames.specs.declared.operand_stack.Group.TheVariants.{One, Two}
 
 -- the operand, if it is of the type
 abbrev pub operand_of : OperandType → Option Value → Result Value TagFault
@@ -46,6 +46,5 @@ double_of None lower = Err Underflow
 
 -- the operands of a group, its top first
 abbrev pub values_of : Group → List Value
-values_of Nothing = []
 values_of (One v) = v ∷ []
 values_of (Two v u) = v ∷ u ∷ []

@@ -55,14 +55,15 @@ impl Frame {
         }
     }
 
-    // Puts the result in the place of the operand on top, and goes on.
+    // Puts the result in the place of the operand on top, which is this value, and goes on.
     #[inline(always)]
-    fn answer_one(&mut self, result_value: Value)
+    fn answer_one(&mut self, operand: &Value, result_value: Value)
         requires at { self.old.activation.at + 1 < 2 ^ 64 }
+        requires top { slice_get self.old.activation.stack 0 ≡ Some operand.now }
         requires room { units (result_value ∷ drop 1 self.old.activation.stack) ≤ self.old.activation.max_stack }
         ensures { self.new ≡ gone_to (with_stack self.old (result_value ∷ drop 1 self.old.activation.stack)) (self.old.activation.at + 1) }
     {
-        let _ = self.pop();
+        self.drop_value(operand);
         self.put(result_value);
         self.go_on();
     }
@@ -90,6 +91,20 @@ impl Frame {
     {
         self.drop_ints();
         self.put(Value::Int(number));
+        self.go_on();
+    }
+
+    // Puts the result in the place of the two longs on top, and goes on.
+    #[inline(always)]
+    fn answer_longs(&mut self, result_value: Value)
+        requires at { self.old.activation.at + 1 < 2 ^ 64 }
+        requires top { (n : ℤ) × (slice_get self.old.activation.stack 0 ≡ Some (value.Long n)) }
+        requires below { (n : ℤ) × (slice_get self.old.activation.stack 1 ≡ Some (value.Long n)) }
+        requires room { units (result_value ∷ drop 2 self.old.activation.stack) ≤ self.old.activation.max_stack }
+        ensures { self.new ≡ gone_to (with_stack self.old (result_value ∷ drop 2 self.old.activation.stack)) (self.old.activation.at + 1) }
+    {
+        self.drop_longs();
+        self.put(result_value);
         self.go_on();
     }
 
@@ -139,7 +154,7 @@ impl Frame {
         let Some(number) = numbers::long_arithmetic(op, x, y) else {
             return Ok(Computed::ZeroDivisor);
         };
-        self.answer_two(Value::Long(number));
+        self.answer_longs(Value::Long(number));
         Ok(Computed::Pushed)
     }
 
@@ -152,11 +167,16 @@ impl Frame {
         ensures err { OnErr result (self.new ≡ self.old) }
         ensures frame { self.new ≡ record self.old { activation = self.new.activation } }
     {
-        let negated = match integral {
-            Integral::Int => Value::Int(self.int(0)?.wrapping_neg()),
-            Integral::Long => Value::Long(self.long(0)?.wrapping_neg()),
-        };
-        self.answer_one(negated);
+        match integral {
+            Integral::Int => {
+                let x = self.int(0)?;
+                self.answer_one(&Value::Int(x), Value::Int(x.wrapping_neg()));
+            }
+            Integral::Long => {
+                let x = self.long(0)?;
+                self.answer_one(&Value::Long(x), Value::Long(x.wrapping_neg()));
+            }
+        }
         Ok(())
     }
 
@@ -201,7 +221,7 @@ impl Frame {
             Integral::Long => {
                 let y = self.long(0)?;
                 let x = self.long(1)?;
-                self.answer_two(Value::Long(numbers::long_bitwise(op, x, y)));
+                self.answer_longs(Value::Long(numbers::long_bitwise(op, x, y)));
             }
         }
         Ok(())
@@ -218,7 +238,7 @@ impl Frame {
     {
         let y = self.long(0)?;
         let x = self.long(1)?;
-        self.answer_two(Value::Int(numbers::order(x, y)));
+        self.answer_longs(Value::Int(numbers::order(x, y)));
         Ok(())
     }
 
@@ -232,20 +252,31 @@ impl Frame {
         ensures err { OnErr result (self.new ≡ self.old) }
         ensures frame { self.new ≡ record self.old { activation = self.new.activation } }
     {
-        let converted = match op {
+        match op {
             Conversion::IntToLong => {
-                let number = self.int(0)?;
+                let x = self.int(0)?;
                 if !self.has_room(1) {
                     return Err(TagFault::Overflow);
                 }
-                Value::Long(i64::from(number))
+                self.answer_one(&Value::Int(x), Value::Long(i64::from(x)));
             }
-            Conversion::LongToInt => Value::Int(numbers::low_int(self.long(0)?)),
-            Conversion::IntToByte => Value::Int(numbers::to_byte(self.int(0)?)),
-            Conversion::IntToChar => Value::Int(numbers::to_char(self.int(0)?)),
-            Conversion::IntToShort => Value::Int(numbers::to_short(self.int(0)?)),
-        };
-        self.answer_one(converted);
+            Conversion::LongToInt => {
+                let x = self.long(0)?;
+                self.answer_one(&Value::Long(x), Value::Int(numbers::low_int(x)));
+            }
+            Conversion::IntToByte => {
+                let x = self.int(0)?;
+                self.answer_one(&Value::Int(x), Value::Int(numbers::to_byte(x)));
+            }
+            Conversion::IntToChar => {
+                let x = self.int(0)?;
+                self.answer_one(&Value::Int(x), Value::Int(numbers::to_char(x)));
+            }
+            Conversion::IntToShort => {
+                let x = self.int(0)?;
+                self.answer_one(&Value::Int(x), Value::Int(numbers::to_short(x)));
+            }
+        }
         Ok(())
     }
 }

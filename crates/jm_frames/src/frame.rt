@@ -4,7 +4,7 @@ ghost use Rattle.std.specs.Prelude.{◌≡◌, ◌+◌, ◌<◌, ◌≤◌, ◌^
 ghost use Rattle.std.specs.Slice.Iter.{iter_rest};
 ghost use Rattle.jm_values.specs.Activation.{category, units};
 ghost use Rattle.jm_values.specs.Shape.{option_shape};
-ghost use Rattle.jm_values.specs.declared.value.Value.TheVariants.{Int};
+ghost use Rattle.jm_values.specs.declared.value.Value.TheVariants.{Int, Long};
 ghost use Rattle.jm_values.specs.Rename.{refs, refill, value_shape, locals_shape, stack_shape, activation_shape};
 ghost use Rattle.jm_frames.specs.FrameView.{FrameView, with_stack, with_locals_of, gone_to};
 
@@ -209,6 +209,19 @@ impl Frame {
         let _ = self.stack.pop();
     }
 
+    /// Drops the two operands on top, which are longs.
+    #[inline(always)]
+    pub fn drop_longs(&mut self)
+        requires top { (n : ℤ) × (slice_get self.old.activation.stack 0 ≡ Some (Long n)) }
+        requires below { (n : ℤ) × (slice_get self.old.activation.stack 1 ≡ Some (Long n)) }
+        ensures frame { self.new ≡ with_stack self.old (drop 2 self.old.activation.stack) }
+        ensures room { units self.new.activation.stack + 4 ≤ self.new.activation.max_stack }
+    {
+        let _ = self.stack.pop();
+        let _ = self.stack.pop();
+        self.longs -= 2;
+    }
+
     // How many units the operands take.
     #[inline(always)]
     fn used(&self) -> usize
@@ -234,11 +247,15 @@ impl Frame {
         Ok(())
     }
 
-    /// Pops so many operands, or all where there are fewer.
+    /// Pops so many operands, or all where there are fewer. Where none is a long they are not looked at.
     #[inline(always)]
     pub fn drop_operands(&mut self, count: usize)
         ensures { self.new ≡ with_stack self.old (drop count self.old.activation.stack) }
     {
+        if self.longs == 0 && count <= self.stack.len() {
+            self.stack.truncate(self.stack.len() - count);
+            return;
+        }
         for _popped in 0..count {
             let _ = self.pop();
         }

@@ -17,7 +17,6 @@ use jm_values::{TagFault, Value};
 // that a group stays in registers: that makes the forms of dup three times as fast.
 #[derive(Clone, Copy)]
 enum Group {
-    Nothing,
     One(Value),
     Two(Value, Value),
 }
@@ -28,7 +27,6 @@ fn count(group: &Group) -> usize
     ensures { result ≡ length (values_of group.now) }
 {
     match group {
-        Group::Nothing => 0,
         Group::One(_) => 1,
         Group::Two(_, _) => 2,
     }
@@ -40,7 +38,6 @@ fn units(group: &Group) -> usize
     ensures { result ≡ units (values_of group.now) }
 {
     match group {
-        Group::Nothing => 0,
         Group::One(top) => category(top),
         Group::Two(top, lower) => category(top) + category(lower),
     }
@@ -83,7 +80,6 @@ impl Frame {
         ensures { self.new ≡ with_stack self.old (drop (length (values_of group.now)) self.old.activation.stack) }
     {
         match group {
-            Group::Nothing => {}
             Group::One(_) => {
                 let _ = self.pop();
             }
@@ -101,7 +97,6 @@ impl Frame {
         ensures { self.new ≡ with_stack self.old (values_of group ++ self.old.activation.stack) }
     {
         match group {
-            Group::Nothing => {}
             Group::One(top) => self.put(top),
             Group::Two(top, lower) => {
                 self.put(lower);
@@ -127,6 +122,23 @@ impl Frame {
         self.remove(&y);
         self.put_group(x);
         self.put_group(y);
+        self.put_group(x);
+        self.go_on();
+        Ok(())
+    }
+
+    // Pushes a copy of the group on top.
+    #[inline(always)]
+    fn repeat(&mut self, x: Group) -> Result<(), TagFault>
+        requires { self.old.activation.at + 1 < 2 ^ 64 }
+        ensures row { leave self.old.activation (values_of x ++ self.old.activation.stack) ≡ outcome result self.new.activation }
+        ensures err { OnErr result (self.new ≡ self.old) }
+        ensures frame { self.new ≡ record self.old { activation = self.new.activation } }
+        ensures next { OnOk result (self.new.activation.at ≡ self.old.activation.at + 1) }
+    {
+        if !self.has_room(units(&x)) {
+            return Err(TagFault::Overflow);
+        }
         self.put_group(x);
         self.go_on();
         Ok(())
@@ -219,7 +231,7 @@ impl Frame {
         ensures next { OnOk result (self.new.activation.at ≡ self.old.activation.at + 1) }
     {
         let top = self.double(0)?;
-        self.duplicate(top, Group::Nothing)
+        self.repeat(top)
     }
 
     #[inline]
