@@ -50,8 +50,8 @@ impl fmt::Display for FrameLine<'_> {
             f.write_str(" ;")?;
         }
         for local in self.0.locals() {
-            match local {
-                Some(value) => write_value(f, *value)?,
+            match local.value() {
+                Some(value) => write_value(f, value)?,
                 None => f.write_str(" -")?,
             }
         }

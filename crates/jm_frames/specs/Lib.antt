@@ -2,3 +2,4 @@ pub mod FrameView
 pub mod Made
 pub mod Computed
 pub mod Operands
+pub mod Locals

@@ -8,6 +8,7 @@ ghost use Rattle.jm_values.specs.declared.value.Value.TheVariants.{Int, Long};
 ghost use Rattle.jm_values.specs.Rename.{refs, refill, value_shape, locals_shape, stack_shape, activation_shape};
 ghost use Rattle.jm_frames.specs.FrameView.{FrameView, with_stack, with_locals_of, gone_to};
 
+use crate::local::Local;
 use crate::spare::{Memory, Spare};
 use jm_values::{Place, TagFault, Value};
 use std::alloc::{AllocError, Global};
@@ -25,7 +26,7 @@ pub struct Frame {
     max_stack: usize,
     // how many of the operands are longs, which take a unit more
     longs: usize,
-    locals: Vec<Option<Value>>,
+    locals: Vec<Local>,
     stack: Vec<Value>,
     // memory for the frames that are called from this one
     spare: Spare,
@@ -148,7 +149,10 @@ impl Frame {
     pub fn local(&self, number: usize) -> Option<Option<Value>>
         ensures { result ≡ slice_get self.now.activation.locals number }
     {
-        self.locals.get(number).copied()
+        match self.locals.get(number) {
+            Some(local) => Some(local.value()),
+            None => None,
+        }
     }
 
     /// The operand that is so many below the top, if there is one.
@@ -298,7 +302,7 @@ impl Frame {
         requires { number < length self.old.activation.locals }
         ensures { self.new ≡ with_locals_of self.old (slice_set self.old.activation.locals number value) }
     {
-        self.locals[number] = value;
+        self.locals[number] = Local::of(value);
     }
 
     /// How many local variables there are, set or not.
@@ -310,7 +314,7 @@ impl Frame {
     }
 
     /// The local variables, set or not.
-    pub fn locals(&self) -> &[Option<Value>]
+    pub fn locals(&self) -> &[Local]
         ensures { result.now ≡ self.now.activation.locals }
     {
         self.locals.as_slice()
@@ -390,17 +394,18 @@ pub fn put_value(value: &mut Value, places: &mut Iter<'_, Place>)
 }
 
 // Puts the next place where a local variable has its reference.
-fn put_local(local: &mut Option<Value>, places: &mut Iter<'_, Place>)
+fn put_local(local: &mut Local, places: &mut Iter<'_, Place>)
     ensures value { local.new ≡ (option_shape value_shape).refill (iter_rest places.old) local.old }
     ensures left { iter_rest places.new ≡ drop (length ((option_shape value_shape).refs local.old)) (iter_rest places.old) }
 {
-    if let Some(value) = local {
-        put_value(value, places);
+    if let Some(mut value) = local.value() {
+        put_value(&mut value, places);
+        *local = Local::of(Some(value));
     }
 }
 
 // Puts the next places where local variables have references.
-fn put_locals(locals: &mut [Option<Value>], places: &mut Iter<'_, Place>)
+fn put_locals(locals: &mut [Local], places: &mut Iter<'_, Place>)
     ensures values { locals.new ≡ locals_shape.refill (iter_rest places.old) locals.old }
     ensures left { iter_rest places.new ≡ drop (length (locals_shape.refs locals.old)) (iter_rest places.old) }
 {

@@ -12,6 +12,7 @@
 
 mod arithmetic;
 mod frame;
+mod local;
 mod locals;
 pub mod numbers;
 mod operand_stack;
@@ -20,4 +21,5 @@ mod spare;
 pub use arithmetic::Computed;
 pub use frame::{Frame, put_value};
 pub use jm_values::{Place, TagFault, Value};
+pub use local::Local;
 pub use spare::Spare;

@@ -22,7 +22,7 @@ enum Group {
 }
 
 // How many operands there are.
-#[inline]
+#[inline(always)]
 fn count(group: &Group) -> usize
     ensures { result ≡ length (values_of group.now) }
 {
@@ -33,7 +33,7 @@ fn count(group: &Group) -> usize
 }
 
 // The units that they take.
-#[inline]
+#[inline(always)]
 fn units(group: &Group) -> usize
     ensures { result ≡ units (values_of group.now) }
 {
@@ -45,7 +45,7 @@ fn units(group: &Group) -> usize
 
 impl Frame {
     // The operand so many below the top, of category 1.
-    #[inline]
+    #[inline(always)]
     fn single(&self, depth: usize) -> Result<Group, TagFault>
         ensures value { result ≡ single_of (slice_get self.now.activation.stack depth) }
         ensures room { units self.now.activation.stack ≤ self.now.activation.max_stack }
@@ -58,7 +58,7 @@ impl Frame {
     }
 
     // One operand of category 2 or two of category 1, so many below the top.
-    #[inline]
+    #[inline(always)]
     fn double(&self, depth: usize) -> Result<Group, TagFault>
         requires { depth + 1 < 2 ^ 64 }
         ensures { result ≡ double_of (slice_get self.now.activation.stack depth) (slice_get self.now.activation.stack (depth + 1)) }
@@ -177,8 +177,10 @@ impl Frame {
         Ok(())
     }
 
-    #[inline]
-    fn dup(&mut self) -> Result<(), TagFault>
+    /// Makes `dup` (JVMS 6.5), and goes on to the next instruction. `Underflow`: there is no operand.
+    /// `WrongTag`: it is a long. `Overflow`: `max_stack` has no room for the copy.
+    #[inline(always)]
+    pub fn dup(&mut self) -> Result<(), TagFault>
         requires { self.old.activation.at + 1 < 2 ^ 64 }
         ensures row { row_stack Dup self.old.activation ≡ outcome result self.new.activation }
         ensures err { OnErr result (self.new ≡ self.old) }
@@ -196,8 +198,11 @@ impl Frame {
         }
     }
 
-    #[inline]
-    fn dup_x1(&mut self) -> Result<(), TagFault>
+    /// Makes `dup_x1` (JVMS 6.5), and goes on to the next instruction. `Underflow`: there are fewer
+    /// than two operands. `WrongTag`: one of them is a long. `Overflow`: `max_stack` has no room for
+    /// the copy.
+    #[inline(always)]
+    pub fn dup_x1(&mut self) -> Result<(), TagFault>
         requires { self.old.activation.at + 1 < 2 ^ 64 }
         ensures row { row_stack DupX1 self.old.activation ≡ outcome result self.new.activation }
         ensures err { OnErr result (self.new ≡ self.old) }
@@ -209,8 +214,11 @@ impl Frame {
         self.duplicate(top, below)
     }
 
-    #[inline]
-    fn dup_x2(&mut self) -> Result<(), TagFault>
+    /// Makes `dup_x2` (JVMS 6.5), and goes on to the next instruction. `Underflow`: there are fewer
+    /// operands than the form takes. `WrongTag`: it would part a long. `Overflow`: `max_stack` has no
+    /// room for the copy.
+    #[inline(always)]
+    pub fn dup_x2(&mut self) -> Result<(), TagFault>
         requires { self.old.activation.at + 1 < 2 ^ 64 }
         ensures row { row_stack DupX2 self.old.activation ≡ outcome result self.new.activation }
         ensures err { OnErr result (self.new ≡ self.old) }
@@ -222,8 +230,11 @@ impl Frame {
         self.duplicate(top, below)
     }
 
-    #[inline]
-    fn dup2(&mut self) -> Result<(), TagFault>
+    /// Makes `dup2` (JVMS 6.5), and goes on to the next instruction. `Underflow`: there are fewer
+    /// operands than the form takes. `WrongTag`: it would part a long. `Overflow`: `max_stack` has no
+    /// room for the copies.
+    #[inline(always)]
+    pub fn dup2(&mut self) -> Result<(), TagFault>
         requires { self.old.activation.at + 1 < 2 ^ 64 }
         ensures row { row_stack Dup2 self.old.activation ≡ outcome result self.new.activation }
         ensures err { OnErr result (self.new ≡ self.old) }

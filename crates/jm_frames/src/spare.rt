@@ -2,13 +2,14 @@
 
 ghost use Rattle.std.specs.Prelude.{◌≡◌, ◌≤◌, [], None, IfOk, OnOk, replicate, vec_capacity};
 
+use crate::local::Local;
 use jm_values::Value;
 use std::alloc::{AllocError, Global};
 
 // The memory of one frame: of its local variables and of its operands.
 #[derive(Drop)]
 pub(crate) struct Memory {
-    pub(crate) locals: Vec<Option<Value>>,
+    pub(crate) locals: Vec<Local>,
     pub(crate) stack: Vec<Value>,
 }
 
@@ -20,13 +21,13 @@ pub struct Spare {
 
 // Makes so many local variables that are not set.
 #[inline(always)]
-fn unset(locals: &mut Vec<Option<Value>>, count: usize) -> Result<(), AllocError>
+fn unset(locals: &mut Vec<Local>, count: usize) -> Result<(), AllocError>
     ensures { OnOk result (locals.new.items ≡ replicate count None) }
 {
     locals.clear();
     locals.reserve(count)?;
     for _unset in 0..count {
-        locals.push_reserved(None);
+        locals.push_reserved(Local::unset());
     }
     Ok(())
 }

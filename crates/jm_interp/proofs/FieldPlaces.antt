@@ -24,7 +24,7 @@ use Rattle.jm_tables.specs.Layouts.{StandsInChain, slot_at, static_fields}
 use Rattle.jm_tables.specs.Numbering.{name_of}
 use Rattle.jm_tables.specs.declared.layout.FieldSlot.TheVariants.{Instance, Static}
 use Rattle.jm_tables.proofs.PlaceLaws.{AreOthers, fields_are, not_in_others}
-use Rattle.jm_linked.specs.Links.{LinkedView, IsLinked, IsFieldOf, NamesClass, class_name_of, class_numbered}
+use Rattle.jm_linked.specs.Links.{LinkedView, IsLinked, IsFieldOf, class_name_of, class_numbered}
 use Rattle.jm_linked.specs.Tables.{all_names}
 use Rattle.jm_linked.specs.declared.instruction.MemberNumber.{MemberNumber}
 use Rattle.jm_linked.proofs.BuiltIns.{built_in_class}
@@ -32,7 +32,7 @@ use Rattle.jm_linked.proofs.Classes.{first_none, second_none, not_so, left_false
 use Rattle.jm_linked.proofs.HeldTypes.{named_at, same_as}
 use Rattle.jm_linked.proofs.Names.{found_numbered}
 use Rattle.jm_interp.specs.FieldRows.{has_fields_of}
-use Rattle.jm_interp.proofs.Unwound.{names_class}
+use Rattle.jm_interp.proofs.Unwound.{named_numbered, names_class}
 
 both : (a b : Bool) → (a && b) ≡ true → (a ≡ true) × (b ≡ true)
 both true b e = (refl, e)
@@ -395,17 +395,6 @@ module _ (program : List ClassParts) (loads : Loads program) where
       ap (λ (o : Option ClassParts). elim o as (λ _. Option _) [ None ↦ None | Some x ↦ slice_get x.fields k ]) (sym some)
 
 -- the names of classes by number
-named_number : (bs : List BuiltIn) (cs : List ClassParts) (n : ℕ) (c : ClassParts) → slice_get (map as_class bs ++ cs) n ≡ Some c
-    → slice_get (map (λ (b : BuiltIn). b.name) bs ++ map (λ (d : ClassParts). d.name) cs) n ≡ Some c.name
-named_number [] [] n c at = cc
-named_number [] (d ∷ cs) zero c at = let same : d ≡ c = cc in ap (λ (x : ClassParts). Some x.name) same
-named_number [] (d ∷ cs) (suc n) c at = named_number [] cs n c at
-named_number (b ∷ bs) cs zero c at = let same : as_class b ≡ c = cc in ap (λ (x : ClassParts). Some x.name) same
-named_number (b ∷ bs) cs (suc n) c at = named_number bs cs n c at
-
-pub names_number : (program : List ClassParts) (n : ℕ) (c : ClassParts) → class_numbered program n ≡ Some c → NamesClass program n c.name
-names_number program n c at = named_number the_builtins program n c at
-
 either_true : (a b : Bool) → (a || b) ≡ true → (a ≡ true) ⊎ (b ≡ true)
 either_true true b e = inl refl
 either_true false b e = inr e
@@ -428,7 +417,7 @@ module _ (l : LinkedView) (is : IsLinked l) (class : ℕ) (within : class < leng
 
   its_name : name ≡ its_class.0.name
   unfolding class_name_of
-  its_name = ap (λ o. unwrap_or o []) (names_number l.program class its_class.0 its_class.1)
+  its_name = ap (λ o. unwrap_or o []) (named_numbered l.program class its_class.0 its_class.1)
 
   named : class_named l.program name ≡ Some its_class.0
   named = ap (class_named l.program) its_name ∙ found_numbered l.program is.loads class its_class.0 its_class.1
@@ -438,7 +427,7 @@ module _ (l : LinkedView) (is : IsLinked l) (class : ℕ) (within : class < leng
 
   pub apart : same_text name declaring.name ≡ nat_eq class number
   apart =
-      same_as l.program is.loads class number name declaring.name (names_class l.program class within) (names_number l.program number declaring numbered)
+      same_as l.program is.loads class number name declaring.name (names_class l.program class within) (named_numbered l.program number declaring numbered)
 
   chain_of : (h : ℕ) → 0 < h → class_named l.program name ≡ Some declaring → (k : ℕ) × (slice_get (up_from h l.program name) k ≡ Some declaring)
   chain_of zero some e = absurd (omega (arith, some))

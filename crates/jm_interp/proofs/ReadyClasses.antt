@@ -1,5 +1,5 @@
 -- Whether a class is ready, and an initialization that begins on top of a method.
-use Rattle.std.proofs.Common.{◌≡◌, ℕ, ◌+◌, ◌-◌, ◌<◌, ◌≤◌, zero, suc, List, [], ◌∷◌, ◌++◌, Some, None, Bool, true, false, sym, ap, ◌∙◌, subst}
+use Rattle.std.proofs.Common.{◌≡◌, ℕ, ◌+◌, ◌-◌, ◌<◌, ◌≤◌, zero, suc, List, [], ◌∷◌, Some, None, Bool, true, false, sym, ap, ◌∙◌, subst}
 use Rattle.std.proofs.Common.{inl, inr, length, arith}
 use Rattle.std.proofs.lemmas.Option.{get_or_from_slice_get}
 use Rattle.std.proofs.lemmas.List.{length-map}
@@ -8,8 +8,7 @@ use Rattle.jm_program.specs.declared.class.ClassParts.{ClassParts}
 use Rattle.jm_builtins.specs.List.{the_builtins}
 use Rattle.jm_builtins.specs.Numbers.{built_in_names}
 use Rattle.jm_values.specs.Content.{Content, name_of}
-use Rattle.jm_values.proofs.Lists.{get_map}
-use Rattle.jm_world.specs.Classes.{as_class, built_in_named}
+use Rattle.jm_world.specs.Classes.{built_in_named}
 use Rattle.jm_world.specs.Frames.{Frame, initialization_frame, rename_frame}
 use Rattle.jm_world.specs.Here.{is_ready, when_initialized, with_frames}
 use Rattle.jm_world.specs.Next.{Next, goes, throw}
@@ -18,7 +17,7 @@ use Rattle.jm_world.specs.World.{World, Thread, state_of, state_in}
 use Rattle.jm_world.specs.declared.class_state.ClassState.{ClassState}
 use Rattle.jm_world.specs.declared.stage.Stage.TheVariants as stage
 use Rattle.jm_heap.specs.declared.class_id.ClassId.{ClassId}
-use Rattle.jm_linked.specs.Links.{NamesClass, class_names, class_numbered, class_name_of}
+use Rattle.jm_linked.specs.Links.{NamesClass, class_names, class_name_of}
 use Rattle.jm_linked.proofs.BuiltIns.{others}
 use Rattle.jm_linked.proofs.SystemOut.{not_listed}
 use Rattle.jm_state.specs.Parts.{parts, frame_part, program_class_name, name_in_program}
@@ -53,10 +52,6 @@ pub built_in_known : (program : List ClassParts) (n : ℕ) (name : List ℕ) →
 built_in_known program n name named few =
     let is : slice_index_or (class_names program) n [] ≡ name = get_or_from_slice_get (class_names program) n name [] named in
     subst (λ x. is_some (built_in_named the_builtins x) ≡ true) is (known the_builtins (map (λ (c : ClassParts). c.name) program) n few)
-
--- a class by its number is named by it
-pub named_numbered : (program : List ClassParts) (n : ℕ) (c : ClassParts) → class_numbered program n ≡ Some c → NamesClass program n c.name
-named_numbered program n c e = get_map (λ (d : ClassParts). d.name) (map as_class the_builtins ++ program) n c e
 
 -- one of the program's classes by its number among all, and among these
 pub own_known : (program : List ClassParts) (n k : ℕ) (name : List ℕ) → NamesClass program n name → n ≡ k + length the_builtins

@@ -1,5 +1,5 @@
 -- A stage of unwinding beside the model's.
-use Rattle.std.proofs.Common.{◌≡◌, ℕ, ◌+◌, ◌<◌, ◌≤◌, List, [], ◌∷◌, Option, Some, None, Bool, true, false, drop, refl, sym, ap, ◌∙◌, subst, inl, length, arith}
+use Rattle.std.proofs.Common.{◌≡◌, ℕ, ◌+◌, ◌<◌, ◌≤◌, List, [], ◌∷◌, ◌++◌, Option, Some, None, Bool, true, false, drop, refl, sym, ap, ◌∙◌, subst, inl, length, arith}
 use Rattle.std.proofs.Common.{length-append}
 use Rattle.std.specs.Prelude.{map, option_map, unwrap_or, slice_index_or, vec_len, Result, Ok, codes}
 use Rattle.std.specs.List.{AllByRecursion}
@@ -12,7 +12,7 @@ use Rattle.jm_values.specs.Rename.{rename_activation}
 use Rattle.jm_world.specs.Types.{ObjectType}
 use Rattle.jm_values.specs.Objects.{ObjectOf}
 use Rattle.jm_frames.specs.FrameView.{FrameView}
-use Rattle.jm_world.specs.Classes.{method_named, error_class}
+use Rattle.jm_world.specs.Classes.{as_class, method_named, error_class}
 use Rattle.jm_world.specs.Frames.{Frame, rename_frame}
 use Rattle.jm_world.specs.Here.{with_frames}
 use Rattle.jm_world.specs.Monitors.{leave_if}
@@ -28,7 +28,7 @@ use Rattle.jm_values.specs.declared.fault.TagFault.TheVariants.{WrongKind}
 use Rattle.jm_heap.specs.declared.class_id.ClassId.{ClassId}
 use Rattle.jm_heap.specs.declared.class_id.ClassId.TheVariants.{Instance, Array}
 use Rattle.jm_heap.specs.declared.class_id.Component.{Component}
-use Rattle.jm_linked.specs.Links.{NamesClass, name_of_number, class_name_of, class_names}
+use Rattle.jm_linked.specs.Links.{NamesClass, name_of_number, class_name_of, class_names, class_numbered}
 use Rattle.jm_state.specs.Parts.{parts, frame_part, named_type, program_class_name}
 use Rattle.jm_state.specs.Runnable.{FrameRuns}
 use Rattle.jm_state.specs.declared.halt.Halt.{Halt}
@@ -46,7 +46,7 @@ use Rattle.jm_interp.specs.Initializing.{class_on_top}
 use Rattle.jm_interp.proofs.Caught.{InMethodFrame, in_method_frame, begins, begins_not, begins_at, kind_is}
 use Rattle.jm_interp.proofs.Objects.{IsObject, object_of, told}
 use Rattle.jm_interp.proofs.OnThread.{Leads, lower, model, read, as_frames, does_as, held_pending, part_here}
-use Rattle.jm_values.proofs.Lists.{get_there}
+use Rattle.jm_values.proofs.Lists.{get_map, get_there, got_within}
 use Rattle.jm_interp.proofs.Threads.{HasTwo, tail_of, two_frames, few_frames}
 
 many_names : (program : List ClassParts) → length (class_names program) ≡ length the_builtins + length program
@@ -73,6 +73,13 @@ names_class program n lt =
     let many = many_names program in
     let there = get_there (class_names program) n (omega arith) in
     there.1 ∙ sym (ap (λ o. Some (unwrap_or o [])) there.1)
+
+-- a class by its number is named by it
+pub named_numbered : (program : List ClassParts) (n : ℕ) (c : ClassParts) → class_numbered program n ≡ Some c → NamesClass program n c.name
+named_numbered program n c e = get_map (λ (d : ClassParts). d.name) (map as_class the_builtins ++ program) n c e
+
+pub named_within : (program : List ClassParts) (n : ℕ) (name : List ℕ) → NamesClass program n name → n < length the_builtins + length program
+named_within program n name at = subst (λ k. n < k) (many_names program) (got_within (class_names program) n name at)
 
 module _ {H : Type 0} {content : H → Content ClassId} {at : At} {old : State H} {fs : List StackFrame} {place : ℕ}
     (h : OnThread content at old fs (Some place)) where

@@ -13,7 +13,7 @@ ghost use Rattle.jm_state.specs.View.{view_of};
 
 use crate::state::State;
 use crate::thread::{Ending, StackFrame, Thread};
-use jm_frames::{Frame, put_value};
+use jm_frames::{Frame, Local, put_value};
 use jm_heap::Roots;
 use jm_monitors::Monitors;
 use jm_values::{Place, Value};
@@ -51,11 +51,11 @@ fn push_local(roots: &mut Roots, local: Option<Value>) -> Result<(), AllocError>
 }
 
 // Adds the places of local variables.
-fn push_locals(roots: &mut Roots, locals: &[Option<Value>]) -> Result<(), AllocError>
+fn push_locals(roots: &mut Roots, locals: &[Local]) -> Result<(), AllocError>
     ensures { OnOk result (roots.new ≡ roots.old ++ locals_shape.refs locals.now) }
 {
     for local in locals {
-        push_local(roots, *local)?;
+        push_local(roots, local.value())?;
     }
     Ok(())
 }

@@ -13,7 +13,7 @@ returns-in_default c found numbered = (array_place c.args.linked.now.program (na
 pub returns-then-not-has_fields_of : goal.returns-then-not-has_fields_of
 returns-then-not-has_fields_of c found numbered =
     let program = c.args.linked.now.program in
-    let within = c.is_numbered.ensures.0 c.if-not-is_numbered.false in
+    let within = (c.has_class.ensures found.class numbered.class).0 c.if-not-has_class.false in
     let has = c.has_fields_of.ensures found.class _ numbered.class (names_class program c.in-Instance.class within) in (
       instance_place program (name_of_field found) c.in-Instance.is
           ∙ no_place c.args.linked.now c.methods-methods.ensures.linked c.in-Instance.class within c.args.field found numbered
@@ -24,7 +24,7 @@ returns-then-not-has_fields_of c found numbered =
 pub returns-in-Some-Instance : goal.returns-in-Some-Instance
 returns-in-Some-Instance c found numbered =
     let program = c.args.linked.now.program in
-    let within = c.is_numbered.ensures.0 c.if-not-is_numbered.false in
+    let within = (c.has_class.ensures found.class numbered.class).0 c.if-not-has_class.false in
     let has = c.has_fields_of.ensures found.class _ numbered.class (names_class program c.in-Instance.class within) in
     instance_place program (name_of_field found) c.in-Instance.is
     ∙ its_place c.args.linked.now c.methods-methods.ensures.linked c.in-Instance.class within c.args.field found numbered
