@@ -143,12 +143,20 @@ pub fn order(x: i64, y: i64) -> i32
 pub fn compare(op: Comparison, x: i32, y: i32) -> bool
     ensures { result ≡ comparison_of op x y }
 {
-    match op {
-        Comparison::Equal => x == y,
-        Comparison::NotEqual => x != y,
-        Comparison::Less => x < y,
-        Comparison::GreaterOrEqual => x >= y,
-        Comparison::Greater => x > y,
-        Comparison::LessOrEqual => x <= y,
+    if x < y {
+        matches!(
+            op,
+            Comparison::NotEqual | Comparison::Less | Comparison::LessOrEqual
+        )
+    } else if x == y {
+        matches!(
+            op,
+            Comparison::Equal | Comparison::GreaterOrEqual | Comparison::LessOrEqual
+        )
+    } else {
+        matches!(
+            op,
+            Comparison::NotEqual | Comparison::GreaterOrEqual | Comparison::Greater
+        )
     }
 }
