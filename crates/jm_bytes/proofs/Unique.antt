@@ -1,7 +1,7 @@
 -- What follows from the two laws for every format: one value, one end, and the answers of calls that give what a format reads.
-use Rattle.std.proofs.Common.{◌≡◌, ℕ, ◌<◌, false, eqb, List, [], ◌++◌, length, Result, Ok, Err, IfOk, refl, sym, ap, subst, ◌∙◌, arith, append_assoc}
+use Rattle.std.proofs.Common.{◌≡◌, ℕ, ◌<◌, false, eqb, List, [], ◌++◌, length, Result, Ok, Err, IfOk, refl, sym, ap, subst, ◌∙◌, arith}
 use Rattle.std.proofs.lemmas.Bool.{ne_eqb}
-use Rattle.std.proofs.lemmas.List.{append-nil, length-append}
+use Rattle.std.proofs.lemmas.List.{length-append}
 use Rattle.jm_bytes.specs.Reading.{GivesAll}
 use Rattle.jm_bytes.specs.Format.{Format, Whole, all_of}
 use Rattle.jm_bytes.specs.Laws.{same_Ok, ok_pair_parts}
@@ -24,14 +24,6 @@ more_refused {F} {A} e f text rest x h more =
     let read : f.read (text ++ rest) ≡ Ok (x, rest) = f.complete text rest x h in
     let some : eqb (length rest) 0 ≡ false = ne_eqb (length rest) 0 (omega arith) in
     rw (read, some) refl
-
--- and where its last bytes lack, nothing is read
-pub less_refused : {F A : Type 0} (f : Format F A) (front lacks : List ℕ) (x : A) → f.Spells (front ++ lacks) x → 0 < length lacks → (y : A) (rest : List ℕ) → ¬ (f.read front ≡ Ok (y, rest))
-less_refused {F} f front lacks x h some y rest e =
-    let p = f.sound front y rest e in
-    let same : (front ++ lacks) ++ [] ≡ p.0 ++ (rest ++ lacks) = append-nil (front ++ lacks) ∙ ap (λ (t : List ℕ). t ++ lacks) p.1 ∙ append_assoc p.0 rest lacks in
-    let ends = (one_front f (front ++ lacks) p.0 [] (rest ++ lacks) x y h p.2 same).1 in
-    absurd (omega (arith, left_over rest lacks (sym ends)))
 
 -- ---- what follows for a call that gives what a format reads
 

@@ -8,9 +8,8 @@ use Rattle.jm_values.specs.declared.value.Value.{Value}
 use Rattle.jm_values.specs.declared.value.Value.TheVariants.{Int, Long, Null, Ref}
 use Rattle.jm_world.specs.Invocation.{argument_locals, locals_of, unset, padded}
 use Rattle.jm_frames.specs.FrameView.{FrameView, with_locals_of}
-use Rattle.jm_calls.specs.Arguments.{beginning}
 use Rattle.jm_calls.specs.declared.arguments.Callee.{Callee}
-use Rattle.jm_calls.proofs.Popping.{taken_next, taken_all}
+use Rattle.jm_calls.proofs.Popping.{taken_next}
 
 put_at : {X : Type 0} (xs ys : List X) (x y : X) → slice_set (xs ++ x ∷ ys) (length xs) y ≡ xs ++ y ∷ ys
 put_at [] ys x y = refl
@@ -159,9 +158,3 @@ one_handed c arguments i local frame new v room h e set =
           ∙ ap (called c) (argument_put c.max_locals xs v (subst (λ n. n + category v ≤ c.max_locals) own fits))
           ∙ ap (λ l. called c (padded c.max_locals l)) (sym (next_locals arguments i v e));
     }
-
-pub all_handed : (c : Callee) (arguments : List Value) (i local : ℕ) (frame : FrameView) → i ≡ length arguments → Handed c arguments i local frame
-    → frame ≡ beginning c arguments
-all_handed c arguments i local frame e h =
-    h.frame_is ∙ ap (λ n. called c (padded c.max_locals (locals_of (take n arguments)))) e
-    ∙ ap (λ vs. called c (padded c.max_locals (locals_of vs))) (taken_all arguments)

@@ -2,7 +2,7 @@
 use Rattle.std.proofs.Common.{◌≡◌, ℕ, suc, zero, ◌+◌, ◌-◌, ◌≤◌, List, [], ◌∷◌, ◌++◌, Some, None, true, false, Bool}
 use Rattle.std.proofs.Common.{refl, sym, ap, ◌∙◌, subst, length, reverse, take, drop, arith}
 use Rattle.std.proofs.lemmas.List.{reverse-append, reverse-reverse, length-reverse}
-use Rattle.std.specs.Prelude.{map, slice_get, Result, Ok, Err}
+use Rattle.std.specs.Prelude.{map, slice_get, Result, Err}
 use Rattle.jm_program.specs.declared.descriptor.FieldType.{FieldType}
 use Rattle.jm_program.specs.declared.instruction.operation.OperandType.{OperandType}
 use Rattle.jm_values.specs.Steps.{is_of}
@@ -33,9 +33,6 @@ are_popped (t ∷ ts) arguments (v ∷ s) go = by (is_of (operand_of t) v) (are_
 pub record Popped (types : List OperandType) (s : List Value) (depth : ℕ) : Type 0 where
   pub within : depth ≤ length s
   pub so_far : popped types [] s ≡ popped (drop depth types) (on_top depth s) (drop depth s)
-
-pub none_popped : (types : List OperandType) (s : List Value) → Popped types s 0
-none_popped types s = record { within = omega arith; so_far = refl }
 
 dropped_next : {X : Type 0} (xs : List X) (i : ℕ) (x : X) → slice_get xs i ≡ Some x → drop i xs ≡ x ∷ drop (suc i) xs
 dropped_next [] i x e = cc
@@ -101,16 +98,6 @@ too_few types s i t p e f =
     p.so_far
     ∙ ap (λ ts. popped ts (on_top i s) (drop i s)) (dropped_next types i t e)
     ∙ ap (popped (t ∷ drop (suc i) types) (on_top i s)) (past s i f)
-
-all_dropped : {X : Type 0} (xs : List X) → drop (length xs) xs ≡ []
-all_dropped [] = refl
-all_dropped (x ∷ xs) = all_dropped xs
-
-pub all_popped : (types : List OperandType) (s : List Value) (n : ℕ) → n ≡ length types → Popped types s n
-    → (length types ≤ length s) × (popped types [] s ≡ Ok (on_top (length types) s, drop (length types) s))
-all_popped types s n e p =
-    let whole = subst (Popped types s) e p in
-    (whole.within, whole.so_far ∙ ap (λ ts. popped ts (on_top (length types) s) (drop (length types) s)) (all_dropped types))
 
 -- so many from the top of a list that has the top last
 split_at : {X : Type 0} (xs : List X) (k : ℕ) → xs ≡ take k xs ++ drop k xs

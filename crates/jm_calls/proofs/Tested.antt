@@ -1,14 +1,12 @@
 -- Operands popped for the parameters of a descriptor.
-use Rattle.std.proofs.Common.{◌≡◌, ℕ, ◌-◌, ◌<◌, ◌≤◌, List, [], Some, sym, ap, ◌∙◌, length, reverse, drop, arith}
-use Rattle.std.specs.Prelude.{map, slice_get, get_or, option_map, Ok}
+use Rattle.std.proofs.Common.{◌≡◌, ℕ, ◌-◌, ◌<◌, List, Some, sym, ap, ◌∙◌, length, reverse, arith}
+use Rattle.std.specs.Prelude.{map, slice_get, get_or, option_map}
 use Rattle.std.proofs.lemmas.List.{length-map, length-reverse, get_or-reverse}
 use Rattle.std.proofs.lemmas.Option.{slice_get-get_or, slice_get-map}
 use Rattle.jm_program.specs.declared.descriptor.FieldType.{FieldType}
 use Rattle.jm_program.specs.declared.instruction.operation.OperandType.{OperandType}
-use Rattle.jm_values.specs.declared.value.Value.{Value}
 use Rattle.jm_world.specs.Types.{operand_of}
-use Rattle.jm_calls.specs.Arguments.{popped, on_top}
-use Rattle.jm_calls.proofs.Popping.{Popped, all_popped}
+use Rattle.jm_calls.specs.Arguments.{popped}
 
 -- the types of operands for parameters, the last one first
 abbrev pub types_of : List FieldType → List OperandType
@@ -26,10 +24,3 @@ type_at parameters count depth p long lt at =
     ∙ ap (option_map operand_of) (slice_get-get_or (reverse parameters) depth p within)
     ∙ ap (λ x. Some (operand_of x)) (get_or-reverse parameters depth p (let k = long in omega arith)
     ∙ ap (λ n. get_or parameters (n - 1 - depth) p) (sym long) ∙ sym at)
-
-pub all_tested : (parameters : List FieldType) (s : List Value) (count : ℕ) → count ≡ length parameters → Popped (types_of parameters) s count
-    → (length parameters ≤ length s) × (popped (types_of parameters) [] s ≡ Ok (on_top (length parameters) s, drop (length parameters) s))
-all_tested parameters s count long p =
-    let k = many_types parameters in
-    let whole = all_popped (types_of parameters) s count (long ∙ sym k) p in
-    (omega arith, whole.1 ∙ ap (λ n. Ok (on_top n s, drop n s)) k)

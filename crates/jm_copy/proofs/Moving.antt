@@ -68,6 +68,3 @@ none_moved stores words p n z e = by (objects_at stores p) (slice_index words (n
 -- a place that is known, and one that is not condemned
 pub forwarded_known : (old : ℕ → Option Object) (known : ℕ → ℕ → Type 0) (p q : ℕ) (o : Object) → old p ≡ Some o → known p q → Forwarded old known p q
 forwarded_known old known p q o e k = subst (λ x. MatchOption x (q ≡ p) (λ _. known p q)) (sym e) k
-
-pub forwarded_same : (old : ℕ → Option Object) (known : ℕ → ℕ → Type 0) (p : ℕ) → old p ≡ None → Forwarded old known p p
-forwarded_same old known p e = let here : p ≡ p = refl in subst (λ x. MatchOption x (p ≡ p) (λ _. known p p)) (sym e) here

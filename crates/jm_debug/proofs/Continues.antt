@@ -3,11 +3,11 @@ use Rattle.std.proofs.Common.{◌≡◌, ℕ, zero, suc, ◌+◌, ◌≤◌, Boo
 use Rattle.std.proofs.lemmas.Bool.Decides.{eqb_tells}
 use Rattle.std.specs.Prelude.{codes, option_map, if◌then◌else◌}
 use Rattle.jm_world.specs.Run.{after}
-use Rattle.jm_world.specs.RoundRobin.{is_blocked, is_stopped}
+use Rattle.jm_world.specs.RoundRobin.{is_stopped}
 use Rattle.jm_world.specs.declared.event.Event.TheVariants as event
 use Rattle.jm_world.specs.declared.reply.ReplyKind.{ReplyKind}
 use Rattle.jm_debug.specs.Session.{Session, Shown, blocked_after, break_before, break_text, breaks_at, continue_from, ended, says, turn_of, turned}
-use Rattle.jm_debug.specs.Answering.{ContinuesWithin, DebuggerView, IsFew, IsOver, IsSession, Moves, MovesBy}
+use Rattle.jm_debug.specs.Answering.{ContinuesWithin, DebuggerView, IsOver, IsSession, Moves, MovesBy}
 use Rattle.jm_debug.specs.declared.place.Place.{Place}
 use Rattle.jm_debug.specs.declared.turn.Moved.{Moved}
 use Rattle.jm_debug.specs.declared.turn.Moved.TheVariants.{Over, AtBreak, On}
@@ -88,20 +88,6 @@ none_met : (n : ℕ) (met : Option Place) → None ≡ option_map (λ (p : Place
 none_met n None is = refl
 none_met n (Some p) is = cc
 
-few_on : (b : Bool) (blocked : ℕ) → (if b then blocked + 1 else 0) ≤ blocked + 1
-few_on true blocked = omega arith
-few_on false blocked = omega arith
-
-pub few_moved : (most made : ℕ) (kind : ReplyKind) (blocked : ℕ) (moved : Moved) → 0 < made → made ≤ most → MovesBy made kind blocked moved → IsFew most blocked (Ok moved)
-few_moved most made kind blocked (Over line) low high by = tt
-few_moved most made kind blocked (AtBreak answer) low high by = tt
-few_moved most made kind blocked (On some count) low high by =
-    let many = few_on (is_blocked kind) blocked in (
-      subst (λ m. 0 < m) (sym by.1) low,
-      subst (λ m. m ≤ most) (sym by.1) high,
-      subst (λ m. m ≤ blocked + 1) (sym by.2) many,
-    )
-
 -- the last of some events, to which those before it have led from a session on
 pub last_event : (most before : ℕ) (d : DebuggerView) (s : Session) (first : Bool) (blocked : ℕ) (t : Session) (later : Bool) (row n : ℕ) (kind : ReplyKind) (moved : Moved)
     → before < most → ((left : ℕ) → continue_from (before + left) first blocked s ≡ continue_from left later row t) → turn_of t row ≡ turn.Of n → break_before t later n ≡ None
@@ -166,9 +152,6 @@ pub record GoesOn (s : Session) (made blocked : ℕ) (d : DebuggerView) : Type 0
   pub session : Session
   pub is : IsSession d session
   pub rest : (left : ℕ) → continue_from (made + left) true 0 s ≡ continue_from left (nat_eq made 0) blocked session
-
-pub goes_first : (d : DebuggerView) (s : Session) → IsSession d s → GoesOn s 0 0 d
-goes_first d s is = record { session = s; is = is; rest = λ left. ap (λ n. continue_from n true 0 s) (zero-add left) }
 
 -- where a session is left
 pub left_at : (s : Session) (made blocked most : ℕ) (d : DebuggerView) → made ≤ most → GoesOn s made blocked d → (t : Session) × ContinuesWithin most s t × IsSession d t

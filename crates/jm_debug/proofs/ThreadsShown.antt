@@ -1,11 +1,10 @@
 -- What is shown of a thread.
-use Rattle.std.proofs.Common.{◌≡◌, ℕ, zero, suc, ◌<◌, ◌≤◌, List, true, false, Option, Some, None, length, refl, sym, ap, arith}
+use Rattle.std.proofs.Common.{◌≡◌, ℕ, zero, suc, ◌<◌, ◌≤◌, List, true, Option, Some, None, length, refl, sym, ap, arith}
 use Rattle.std.specs.Prelude.{option_map}
 use Rattle.std.proofs.lemmas.Option.{slice_get_past}
 use Rattle.jm_program.specs.declared.class.ClassParts.{ClassParts}
 use Rattle.jm_world.specs.World.{World, Thread, Ending, running, returned, ended_by, thread_at, is_running}
-use Rattle.jm_machine.specs.Threads.{class_of_ending}
-use Rattle.jm_debug.specs.Views.{running_lines, end_lines, thread_lines, where_lines}
+use Rattle.jm_debug.specs.Views.{running_lines, thread_lines, where_lines}
 use Rattle.jm_debug.specs.Session.{bytes_of}
 use Rattle.jm_debug.proofs.Written.{past_end}
 
@@ -13,11 +12,6 @@ pub of_running : (program : List ClassParts) (t : Thread) (e : Ending) → is_ru
 of_running program t running is = refl
 of_running program t returned is = cc
 of_running program t (ended_by class) is = cc
-
-pub of_ended : (program : List ClassParts) (t : Thread) (e : Ending) → is_running e ≡ false → thread_lines program t e ≡ end_lines (class_of_ending e)
-of_ended program t running is = cc
-of_ended program t returned is = refl
-of_ended program t (ended_by class) is = refl
 
 no_thread_at : (w : World) (n : ℕ) → length w.threads < n → thread_at w n ≡ None
 no_thread_at w zero past = refl

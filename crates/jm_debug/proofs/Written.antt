@@ -6,17 +6,7 @@ use Rattle.std.proofs.lemmas.List.{drop_all, get_or-reverse, length-reverse}
 use Rattle.std.proofs.lemmas.Option.{slice_get_within, slice_get_cases, slice_get-get_or, get_or_from_slice_get}
 use Rattle.std.specs.List.{flat_map}
 use Rattle.jm_debug.specs.Views.{Lines, lines_from, lines_of}
-use Rattle.jm_debug.specs.Session.{ended, bytes_of}
-
--- no bytes are no lines
-pub none_said : (lines : Lines) → flat_map ended lines ≡ [] → bytes_of lines ≡ codes "none\n"
-none_said [] none = refl
-none_said ([] ∷ ls) none = cc
-none_said ((u ∷ us) ∷ ls) none = cc
-
-pub some_said : (lines : Lines) (text : List ℕ) → text ≡ flat_map ended lines → 0 < length text → bytes_of lines ≡ text
-some_said [] text is some = let none : text ≡ [] = is in absurd (omega (arith, ap length none))
-some_said (l ∷ ls) text is some = sym is
+use Rattle.jm_debug.specs.Session.{ended}
 
 pub one_line : (line : List ℕ) → flat_map ended (line ∷ []) ≡ line ++ codes "\n"
 one_line line = append-nil (ended line)

@@ -225,8 +225,3 @@ unfolding starts_from end_from
 room_there at [] i e lt = absurd (omega arith)
 room_there at (instr ∷ instrs) zero e lt = end_above (at + size_at at instr) instrs
 room_there at (instr ∷ instrs) (suc i) e lt = room_there (at + size_at at instr) instrs i e (omega arith)
-
-pub rule_there : (instrs : List IndexedInstr) (i : ℕ) (e : IndexedInstr) → i < length instrs → list_all has_bytes instrs ≡ true → has_bytes (get_or instrs i e) ≡ true
-rule_there [] i e lt h = absurd (omega arith)
-rule_there (instr ∷ instrs) zero e lt h = (both (has_bytes instr) (list_all has_bytes instrs) h).0
-rule_there (instr ∷ instrs) (suc i) e lt h = rule_there instrs i e (omega arith) (both (has_bytes instr) (list_all has_bytes instrs) h).1

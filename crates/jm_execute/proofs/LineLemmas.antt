@@ -1,5 +1,5 @@
 -- The lines of some bytes, one line more, and what a reader gave so far.
-use Rattle.std.proofs.Common.{◌≡◌, ◌≢◌, ◌==◌, ℕ, ◌+◌, ◌<◌, ◌≤◌, List, [], ◌∷◌, ◌++◌, refl, sym, ap, subst, ◌∙◌, arith, append_assoc, append-nil, length, take, drop, take-append-drop, get_or, Option, Some, None, Err, Bool, true, false, cond, ltb, ◌*◌, ◌-◌, ◌^◌, min, zero, suc}
+use Rattle.std.proofs.Common.{◌≡◌, ◌≢◌, ◌==◌, ℕ, ◌+◌, ◌<◌, ◌≤◌, List, [], ◌∷◌, ◌++◌, refl, sym, ap, subst, ◌∙◌, arith, append_assoc, append-nil, length, take, drop, take-append-drop, get_or, Some, None, Err, Bool, true, false, cond, ltb, ◌*◌, ◌-◌, ◌^◌, min, zero, suc}
 use Rattle.std.specs.Prelude.{not}
 use Rattle.std.specs.List.{position, position_or_len}
 use Rattle.std.proofs.lemmas.Bool.{eqb-false, ne_eqb}
@@ -9,7 +9,6 @@ use Rattle.std.proofs.lemmas.List.Elements.{All-append, All-from_get_or, All-hea
 use Rattle.std.proofs.lemmas.List.Quantifiers.{position-Some}
 use Rattle.std.proofs.lemmas.List.Sums.{prefix_len_passes}
 use Rattle.std.proofs.KnownBytes.{Consumes-nil, Consumes-trans}
-use Rattle.std.specs.Io.KnownBytes.{Consumes, Keeps}
 use Rattle.jm_execute.specs.Lines.{IsWithinLine, MovesLine, led_by, lines_in}
 use Rattle.jm_execute.specs.LineReading.{ReadsLine, ReadsMore}
 use Rattle.jm_execute.specs.Written.{HasRead, ReadingBroke, Reads, Watch}
@@ -78,9 +77,6 @@ all_moved items n part unread line longer same none end moved =
 
 -- ---- lines
 
-pub nothing_within : IsWithinLine []
-nothing_within = λ k d l. absurd (omega (arith, l))
-
 led_from : (b : ℕ) (bytes : List ℕ) → b ≢ 10 → lines_in (b ∷ bytes) ≡ led_by b (lines_in bytes)
 led_from b bytes other = ap (λ (t : Bool). cond t ([] ∷ lines_in bytes) (led_by b (lines_in bytes))) (ne_eqb b 10 other)
 
@@ -110,11 +106,6 @@ line_more given unread rest bytes line before so_far whole within more =
     ∙ ap (λ ls. before ++ ls) (line_first line (rest ++ more) within)
     ∙ sym (append_assoc before (line ∷ []) (lines_in (rest ++ more)))
 
--- all lines, once the reader is at its end
-pub lines_whole : (given unread bytes line : List ℕ) (before : List (List ℕ)) → ((more : List ℕ) → lines_in (given ++ more) ≡ before ++ lines_in (unread ++ more))
-    → unread ++ bytes ≡ line → lines_in (given ++ bytes) ≡ before ++ lines_in line
-lines_whole given unread bytes line before so_far whole = so_far bytes ∙ ap (λ bs. before ++ lines_in bs) whole
-
 -- ---- readers
 
 module _ {R : Type 0} (says : Reads R) where
@@ -126,11 +117,6 @@ module _ {R : Type 0} (says : Reads R) where
 
   pub broke_then : (a b c : Watch R) (first second : List ℕ) → HasRead says first a b → ReadingBroke says second b c → ReadingBroke says (first ++ second) a c
   broke_then a b c first second p q = record { bytes = Consumes-trans _ _ _ first second p.bytes q.bytes; before = q.before; call = q.call; failed = q.failed }
-
-pub kept_nothing : (a b : Option (List ℕ)) → Keeps a b → Consumes a b []
-kept_nothing None b h = tt
-kept_nothing (Some xs) None h = h
-kept_nothing (Some xs) (Some ys) h = sym h
 
 pub within_both : (xs ys : List ℕ) → IsWithinLine xs → IsWithinLine ys → IsWithinLine (xs ++ ys)
 within_both xs ys p q = All-append (λ byte. byte ≢ 10) xs ys p q

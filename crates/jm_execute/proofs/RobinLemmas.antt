@@ -25,13 +25,6 @@ use Rattle.jm_execute.proofs.PassLemmas.{first_lives}
 
 -- ---- whose turn it is
 
-pub stopped_turn : (w : World) (from : ℕ) (moved : Bool) → has_stopped w.stop ≡ true → turn_in w from moved ≡ None
-stopped_turn w from moved h = by w.stop h
-  where
-    by : (o : Option Stop) → has_stopped o ≡ true → (elim o as (λ _. Option Turn) [ Some s ↦ None | None ↦ next_turn w from moved ]) ≡ None
-    by (Some s) h = refl
-    by None h = cc
-
 pub going_turn : (w : World) (from : ℕ) (moved : Bool) → has_stopped w.stop ≡ false → turn_in w from moved ≡ next_turn w from moved
 going_turn w from moved h = by w.stop h
   where

@@ -105,12 +105,6 @@ module _ {O : Type 0} (says : Words O) where
 
   -- ---- one line
 
-  pub memory_told : (r : Result (Unit {0}) Status) (status : Status) (a b : Watch O) → a.failed ≡ false
-      → MatchResult r (λ _. AllWritten says a b (printed (Err OutOfMemory))) (λ _. BreaksOff says a b (printed (Err OutOfMemory)))
-      → MatchResult r (λ _. status ≡ ends.OutOfMemory) (λ _. status ≡ ends.Files) → (s : Session) → TalkLeft says (talk s [] memory_refused) status a b
-  memory_told (Ok x) status a b fresh written is s = talk_told (talk s [] memory_refused) status a b fresh written is
-  memory_told (Err e) status a b fresh broken is s = talk_broken (talk s [] memory_refused) status a b broken is
-
   pub line_answered : (d : DebuggerView) (s : Session) (line : Option (List ℕ)) (r : Result (Unit {0}) Status) (answer : List ℕ) (a b : Watch O) → printed (shown_for s line).answer ≡ answer
       → IsSession d (shown_for s line).next → MatchResult r (λ _. AllWritten says a b answer) (λ _. BreaksOff says a b answer) → IfErr r (λ status. status ≡ ends.Files)
       → Answered says d s line r a b

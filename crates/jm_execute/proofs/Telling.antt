@@ -1,10 +1,10 @@
 -- What is told of an ending.
 use Rattle.std.proofs.Common.{◌≡◌, ℕ, List, [], inl, inr, refl, sym, subst, ◌∙◌, true, Bool, Option, Some, None, Result, Ok, Err, false, MatchResult}
 use Rattle.std.specs.Prelude.{IfSome, OnOk}
-use Rattle.jm_execute.specs.Written.{Watch, Words, AllWritten, Broken, LinesWritten, LineFailed, Reads, WritesLines}
+use Rattle.jm_execute.specs.Written.{Watch, Words, AllWritten, LinesWritten, LineFailed, Reads, WritesLines}
 use Rattle.jm_world.specs.World.{World}
 use Rattle.jm_world.specs.declared.event.Event.{Event}
-use Rattle.jm_execute.specs.Endings.{Ending, completed, interrupted, assembled, answered, exhausted, turned_away, Ends, Hears, IsDone, IsDoneUnread, IsTalk, Leaves, LeavesIf, LinesTold, Tells, output_of, lines_at_failure}
+use Rattle.jm_execute.specs.Endings.{Ending, completed, interrupted, assembled, answered, exhausted, turned_away, Ends, Hears, IsDone, IsDoneUnread, IsTalk, Leaves, LeavesIf, LinesTold, Tells, output_of}
 use Rattle.jm_execute.specs.Talks.{Talk, TalkLeft, TalkLeftIf}
 use Rattle.jm_execute.specs.Verdicts.{Verdict}
 use Rattle.jm_execute.specs.declared.status.Status.{Status}
@@ -30,10 +30,6 @@ module _ {O E : Type 0} (o : Words O) (w : Words E) where
   pub whole_told : (e : Ending) (status : Status) (out new_out : Watch O) (err new_err : Watch E) → out.failed ≡ false → AllWritten o out new_out (output_of e) → Tells w e status err new_err
       → Leaves o w e status out new_out err new_err
   whole_told e status out new_out err new_err fresh written told = subst (λ b. LeavesIf b o w e status out new_out err new_err) (sym (written.same ∙ fresh)) (written, told)
-
-  pub broken_told : (e : Ending) (out new_out : Watch O) (err new_err : Watch E) → Broken o out new_out (output_of e) → LinesTold w (lines_at_failure e) new_err.failed err new_err
-      → Leaves o w e ends.Files out new_out err new_err
-  broken_told e out new_out err new_err broken lines = subst (λ b. LeavesIf b o w e ends.Files out new_out err new_err) (sym broken.failed) (inl broken, refl, lines)
 
   -- where there is nothing to write
   pub untouched_told : (e : Ending) (status : Status) (out : Watch O) (err new_err : Watch E) → out.failed ≡ false → output_of e ≡ [] → Tells w e status err new_err

@@ -3,8 +3,7 @@ use Rattle.std.proofs.Common.{◌≡◌, ℕ, zero, suc, ◌+◌, ◌<◌, List,
 use Rattle.std.specs.Fmt.{decimal}
 use Rattle.jm_world.specs.World.{World, Thread, thread_at}
 use Rattle.jm_machine.specs.Threads.{class_of_ending, class_ended_by}
-use Rattle.jm_execute.specs.Reports.{thread_line, thread_lines, any_ended_by, live_line, thread_status}
-use Rattle.jm_execute.specs.declared.status.Status.TheVariants as ends
+use Rattle.jm_execute.specs.Reports.{thread_line, thread_lines, any_ended_by, live_line}
 
 thread_after : (w : World) (k : ℕ) → thread_at w (k + 1) ≡ slice_get w.threads k
 thread_after w k = ap (thread_at w) (add-one k)
@@ -61,7 +60,3 @@ any_at w k h one = any_at_from w.threads k h (ap (λ t. is_some (class_ended_by 
 pub some_live : (n : ℕ) → n ≢ 0 → live_line n ≡ codes "jm: " ++ decimal n ++ codes " threads not ended" ++ codes "\n"
 some_live zero h = absurd (h refl)
 some_live (suc n) h = refl
-
-pub not_ended : (n : ℕ) (ended : Bool) → n ≢ 0 → thread_status n ended ≡ ends.NotEnded
-not_ended zero ended h = absurd (h refl)
-not_ended (suc n) ended h = refl

@@ -4,9 +4,9 @@ use Rattle.std.proofs.lemmas.Grind.{common_steps}
 use Rattle.std.proofs.KnownBytes.{Appends-nil, Appends-trans}
 use Rattle.std.proofs.Output.{writes_in_calls_nil, writes_in_calls_single, writes_in_calls_append}
 use Rattle.std.specs.Io.KnownBytes.{Appends, Keeps}
-use Rattle.jm_execute.specs.CallEnds.{took, refused, line_refused}
-use Rattle.jm_execute.specs.Written.{Watch, Words, AllWritten, Broken, BreaksOff, LineFailed, LinesWritten, Unflushed, Writes, WritesLines}
-use Rattle.std.specs.Prelude.{Result, Ok, Err, true}
+use Rattle.jm_execute.specs.CallEnds.{took, refused}
+use Rattle.jm_execute.specs.Written.{Watch, Words, AllWritten, Broken, BreaksOff, LinesWritten, Unflushed}
+use Rattle.std.specs.Prelude.{true}
 
 -- what kept its bytes wrote none
 pub kept_none : (a b : Option (List ℕ)) → Keeps a b → Appends a b []
@@ -82,14 +82,6 @@ module _ {W : Type 0} (says : Words W) where
 
   pub not_handed_on : (a b c : Watch W) (text : List ℕ) → AllWritten says a b text → Unflushed says b c [] → BreaksOff says a c text
   not_handed_on a b c text p q = subst (BreaksOff says a c) (append-nil text) (inr (unflushed_after a b c text [] p q))
-
-  -- lines
-  pub line_failed : (before : W) (b : Watch W) → says.ends before line_refused b.inner → b.failed ≡ true → LineFailed says b
-  line_failed before b call failed = record { before = before; call = inl call; failed = failed }
-
-  pub lines_by_writes : {A E : Type 0} (r : Result A E) (a b : Watch W) (text : List ℕ) → Writes says r a b text → WritesLines says r a b text
-  lines_by_writes (Ok x) a b text h = record { bytes = h.bytes; same = h.same }
-  lines_by_writes (Err e) a b text h = record { before = h.before; call = inr (h.rest, h.left, h.call); failed = h.failed }
 
   pub no_lines : (a : Watch W) → LinesWritten says a a []
   no_lines a = record { bytes = Appends-nil (says.contents a.inner); same = refl }

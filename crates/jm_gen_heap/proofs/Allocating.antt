@@ -4,7 +4,7 @@ use Rattle.std.specs.Prelude.{Result, Ok, Err, IfOk, OnOk, OnErr, nat_le, nat_eq
 use Rattle.std.proofs.lemmas.Bool.{leb-true}
 use Rattle.std.proofs.lemmas.Bool.Decides.{eqb_tells}
 use Rattle.jm_values.specs.Shape.{Among}
-use Rattle.jm_values.specs.Objects.{ObjectOf, size_by, cells_of}
+use Rattle.jm_values.specs.Objects.{ObjectOf, cells_of}
 use Rattle.jm_values.specs.Content.{Content, Kept, AllResident, used_by, object_at, serials_of}
 use Rattle.jm_heap.specs.Cells.{class_size}
 use Rattle.jm_heap.specs.Allocation.{IsRefused, IsRefusedHere, MadeHere}
@@ -24,7 +24,7 @@ use Rattle.jm_generations.proofs.Making.{laned, shown, sound, reached_below}
 use Rattle.jm_generations.proofs.Lanes.{lying_young, old_lies, young_lies}
 use Rattle.jm_generations.proofs.Following.{kept_same, still_used}
 use Rattle.jm_gen_heap.specs.Held.{IsPutNew}
-use Rattle.jm_gen_heap.specs.Allocating.{AllSurvived, Fits, HasAged, HasNoRoom, OldStay}
+use Rattle.jm_gen_heap.specs.Allocating.{AllSurvived, Fits, HasAged, OldStay}
 use Rattle.jm_gen_heap.specs.Minor.{LeavesMinor}
 
 pub limit_of : (g : Generations) → (content_of g).limit ≡ g.limit
@@ -118,12 +118,6 @@ full_passes g h roots moved n l none =
     by : (b : Bool) → nat_le (all_cells h + n) h.limit ≡ b → h.limit < all_cells h + n
     by true e = absurd (none (leb-true (all_cells h + n) h.limit e))
     by false e = grind (arith, e)
-
--- why no object was made after room was made, or not
-pub refused_room : (c : Content ClassId) (roots : List ℕ) (n : ℕ) (o : ObjectOf ClassId) (f : HeapFault) → n ≡ size_by class_size o → HasNoRoom c roots n f → IsRefused c roots o f
-refused_room c roots n o OutOfMemory e h = tt
-refused_room c roots n o HeapFull e h = subst (λ m. c.limit < used_by class_size c roots + m) e h
-refused_room c roots n o SerialsEnd e h = absurd h
 
 pub refused_here : (old mid : Content ClassId) (roots moved : List ℕ) (o : ObjectOf ClassId) (f : HeapFault) → Kept old roots mid moved → mid.next ≡ old.next → IsRefusedHere mid o f → IsRefused old roots o f
 refused_here old mid roots moved o OutOfMemory k next h = tt

@@ -1,14 +1,11 @@
 -- Stores that are handed over.
-use Rattle.std.proofs.Common.{◌≡◌, ◌≢◌, ℕ, List, [], ◌∷◌, ◌++◌, Option, Some, None, refl, sym, ◌∙◌, true, false, cond}
+use Rattle.std.proofs.Common.{◌≡◌, ◌≢◌, ℕ, [], Option, Some, None, refl, sym, ◌∙◌, true, false, cond}
 use Rattle.std.specs.Prelude.{slice_get, nat_eq}
 use Rattle.jm_blocks.specs.Objects.{Object}
 use Rattle.jm_blocks.specs.Places.{lane_of, block_of, index_of}
 use Rattle.jm_blocks.specs.Stores.{Blocks, object_of_list, objects_in}
 use Rattle.jm_blocks.proofs.Placing.{lies_in}
-use Rattle.jm_nursery.specs.Nurseries.{AreNurseries}
-use Rattle.jm_copy.specs.Condemned.{AreLanes}
 use Rattle.jm_generations.specs.Generations.{old_lane}
-use Rattle.jm_generations.proofs.Lanes.{lanes}
 
 -- a store without blocks has no object
 pub no_blocks : (lane p : ℕ) → objects_in (record { lane = lane; lists = [] }) p ≡ None
@@ -29,7 +26,3 @@ other_lane t before old away same p = by (objects_in before p) refl
         let there = (lies_in before p o e).lane in
         let here = (lies_in t p o (same p ∙ e)).lane in
         absurd (away (sym here ∙ there ∙ old))
-
--- the nurseries and the old store have the lanes of their numbers
-pub all_lanes : (nurseries : List Blocks) (tenured : Blocks) → AreNurseries nurseries → tenured.lane ≡ old_lane → AreLanes (nurseries ++ tenured ∷ [])
-all_lanes nurseries tenured n old = lanes (record { limit = 0; next = 0; nurseries = nurseries; tenured = tenured; remembered = [] }) (record { nurseries = n; tenured = old })

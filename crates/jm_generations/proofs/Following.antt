@@ -60,12 +60,5 @@ module _ (old mid : Content ClassId) (roots moved : List ℕ) (g : Kept old root
         lasts = subst (λ n. n < 2 ^ 63) next made.lasts;
       }
 
--- what is left after one and then another is as it was, beside what was made
-pub before_twice : (old mid new : Content ClassId) → IsAsBefore old mid → IsAsBefore mid new → IsAsBefore old new
-before_twice old mid new g h k o e = g k o (h k o e)
-
 pub before_made : (old mid new : Content ClassId) (p : ℕ) (o : ObjectOf ClassId) → mid.next ≡ old.next → IsAsBefore old mid → MadeHere mid new p o → IsAsBeforeMaking old new
 before_made old mid new p o next g m k x n e = g k x (m.as_before k x (subst (λ j. k ≢ j) (sym next) n) e)
-
-pub before_alone : (old mid : Content ClassId) → IsAsBefore old mid → IsAsBeforeMaking old mid
-before_alone old mid g k x n e = g k x e

@@ -1,5 +1,5 @@
 -- A change of one store is a step of the generations.
-use Rattle.std.proofs.Common.{◌≡◌, ◌≢◌, ℕ, ◌+◌, ◌-◌, ◌<◌, ◌≤◌, List, [], ◌∷◌, ◌++◌, Some, None, Bool, true, false, cond, refl, sym, ap, ◌∙◌, subst, inl, inr, arith}
+use Rattle.std.proofs.Common.{◌≡◌, ◌≢◌, ℕ, ◌+◌, ◌-◌, ◌<◌, ◌≤◌, List, Some, None, Bool, true, false, cond, refl, sym, ap, ◌∙◌, subst, inl, inr, arith}
 use Rattle.std.specs.Prelude.{◌&&◌, slice_get, slice_set, nat_le}
 use Rattle.std.proofs.lemmas.Bool.{leb-true, le-leb}
 use Rattle.std.proofs.lemmas.Bool.Decides.{eqb_tells}
@@ -7,11 +7,6 @@ use Rattle.std.proofs.lemmas.List.{length-set}
 use Rattle.std.proofs.lemmas.List.Sums.{sum_by-set}
 use Rattle.std.proofs.lemmas.Option.{slice_get_within, get_or_from_slice_get}
 use Rattle.jm_values.specs.declared.value.Value.{Value}
-use Rattle.jm_values.specs.Shape.{Among}
-use Rattle.jm_values.specs.Rename.{refs}
-use Rattle.jm_values.specs.Reach.{is_among}
-use Rattle.jm_values.proofs.Reaching.{among_from_test}
-use Rattle.jm_values.proofs.Among.{among_left, among_right, among_split}
 use Rattle.jm_blocks.specs.Objects.{Object, with_value}
 use Rattle.jm_blocks.specs.Cells.{object_cells}
 use Rattle.jm_blocks.specs.Places.{lane_of}
@@ -149,22 +144,6 @@ nursery_made g l young n p o m room =
         let made : young_cells (slice_set g.nurseries n (store_with m.store o)) ≡ young_cells g.nurseries + object_cells o = ap (λ y. young_cells y.lanes) (sym m.lanes) ∙ m.cells in
         omega (arith, set, made)
 
--- an object that was just put in is another, of the same size
-pub put_changed : (g h k : Generations) (p : ℕ) (o a : Object) → IsPut g h p o → k.limit ≡ h.limit → k.next ≡ h.next → AreNurseries k.nurseries → k.tenured ≡ h.tenured → k.remembered ≡ h.remembered → lying k p ≡ Some a → ((q : ℕ) → q ≢ p → lying k q ≡ lying h q) → all_cells k ≡ all_cells h → object_cells a ≡ object_cells o → IsPut g k p a
-put_changed g h k p o a w limit next nurseries tenured remembered here others cells size = record {
-  limit = limit ∙ w.limit;
-  next = next ∙ w.next;
-  nurseries = nurseries;
-  tenured = tenured ∙ w.tenured;
-  remembered = remembered ∙ w.remembered;
-  young = w.young;
-  fresh = w.fresh;
-  here = here;
-  others = λ q away. others q away ∙ w.others q away;
-  cells = (omega (arith, cells, w.cells, size));
-  within = (omega (arith, cells, w.within));
-}
-
 -- a value of an object in a nursery is set
 module _ (g : Generations) (v : AreGenerations g) (n : ℕ) (s t : Blocks) (p i : ℕ) (x : Value) (o : Object) (e : slice_get g.nurseries n ≡ Some s) (lane : t.lane ≡ s.lane) (lies : objects_in s p ≡ Some o) (w : IsSet s t p i x) (cells : store_cells t.lists ≡ store_cells s.lists) where
   in_its_lane : lane_of p ≡ s.lane
@@ -209,27 +188,3 @@ module _ (g : Generations) (v : AreGenerations g) (t : Blocks) (p i : ℕ) (x : 
     noted = noted;
     cells = (omega (arith, cells));
   }
-
-  pub old_set : ((q : ℕ) → Among q (refs x) → IsYoung q → ⊥) → IsWritten g (with_tenured g t g.remembered) p i x
-  old_set none = old_written g.remembered (record { covers = λ at q m y. absurd (none q m y); keeps = λ q a. a; only = λ q a. inl a })
-
-  pub old_set_noted : IsWritten g (with_tenured g t (noted g.remembered p)) p i x
-  old_set_noted = by (is_among p g.remembered) refl
-    where
-      there : is_among p g.remembered ≡ true → IsNoted g (with_tenured g t g.remembered) p x
-      there f = record { covers = λ at q m y. among_from_test p g.remembered f; keeps = λ q a. a; only = λ q a. inl a }
-
-      one : (q : ℕ) → Among q (p ∷ []) → q ≡ p
-      one q (inl k) = k
-      one q (inr k) = absurd k
-
-      added : is_among p g.remembered ≡ false → IsNoted g (with_tenured g t (g.remembered ++ p ∷ [])) p x
-      added f = record {
-        covers = λ at q m y. among_right p g.remembered (p ∷ []) (inl refl);
-        keeps = λ q a. among_left q g.remembered (p ∷ []) a;
-        only = λ q a. elim (among_split q g.remembered (p ∷ []) a) [ inl k ↦ inl k | inr k ↦ inr (one q k, old_place) ];
-      }
-
-      by : (b : Bool) → is_among p g.remembered ≡ b → IsWritten g (with_tenured g t (cond b g.remembered (g.remembered ++ p ∷ []))) p i x
-      by true f = old_written g.remembered (there f)
-      by false f = old_written (g.remembered ++ p ∷ []) (added f)

@@ -23,7 +23,7 @@ use Rattle.jm_state.specs.declared.state.State.{State}
 use Rattle.jm_interp.specs.declared.at.At.{At}
 use Rattle.jm_interp.specs.declared.top_object.Refusal.{Refusal}
 use Rattle.jm_interp.specs.At.{parts_at, HoldsAll, InMethod, OnFrames, StandsOn, Does, Steps, in_method}
-use Rattle.jm_interp.specs.Locking.{BesideAny, Lies, LeftAs, OnlyMonitors}
+use Rattle.jm_interp.specs.Locking.{Lies, LeftAs, OnlyMonitors}
 use Rattle.jm_interp.specs.TopObject.{object_of, IsRefused}
 use Rattle.jm_interp.proofs.Entered.{IsNotMade, then_made, then_not, then_stands, stands_in, still_there, left_in_world, not_left, leave_only}
 use Rattle.jm_interp.proofs.Here as row_here
@@ -122,9 +122,6 @@ module _ {H : Type 0} {content : H → Content ClassId} {at : At} {old : State H
           | None ↦ throws (place h.method w) (codes "java/lang/IllegalMonitorStateException")
           | Some v ↦ go_on_in (place h.method w) v s
         ])
-
-    pub beside_any : BesideAny content at.linked.now old
-    beside_any = record { world = h.method.on.world; beside = h.method.on.beside }
 
     module _ {p : ℕ} (e : object_of (slice_get h.method.frame.activation.stack 0) ≡ Ok p) where
       pub lies : Lies content old p

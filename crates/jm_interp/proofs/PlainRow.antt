@@ -1,7 +1,6 @@
 -- The row of a plain instruction, where it stands.
 use Rattle.std.proofs.Common.{◌≡◌, ℕ, List, ◌∷◌, None, refl, sym, ap, ◌∙◌, subst}
 use Rattle.std.specs.Prelude.{slice_index_or, Result, Ok, Err}
-use Rattle.jm_program.specs.Instructions.{instr_fits}
 use Rattle.jm_program.specs.declared.instruction.plain.Plain.{Plain}
 use Rattle.jm_values.specs.Activation.{Activation}
 use Rattle.jm_values.specs.Outcome as outcome
@@ -17,11 +16,9 @@ use Rattle.jm_world.specs.Stepping.{from_outcome, row, step_thread}
 use Rattle.jm_world.specs.declared.stop.Stop.TheVariants as why
 use Rattle.jm_heap.specs.declared.class_id.ClassId.{ClassId}
 use Rattle.jm_ops.specs.Flows.{flow_outcome, class_of}
-use Rattle.jm_ops.specs.SingleFrame.{IsOrdered}
 use Rattle.jm_ops.specs.declared.flow.Flow.{Flow}
 use Rattle.jm_ops.specs.declared.flow.Flow.TheVariants.{On, To, Throw}
 use Rattle.jm_ops.specs.declared.flow.Thrown.{Thrown}
-use Rattle.jm_ops.proofs.Lookup.{fitting_is_ordered}
 use Rattle.jm_linked.specs.Links.{Links}
 use Rattle.jm_linked.specs.declared.instruction.LinkedInstr.TheVariants as linked
 use Rattle.jm_state.specs.declared.halt.Halt.{Halt}
@@ -40,9 +37,6 @@ use Rattle.jm_interp.proofs.OnThread.{Leads, with_thread_at, still, same_matches
 
 module _ {H : Type 0} {content : H → Content ClassId} {at : At} {old : State H} {op : Plain}
     (h : StandsOn content at old (Links at.linked.now (linked.Plain op))) where
-  pub plain_ordered : IsOrdered op
-  plain_ordered = fitting_is_ordered _ op (ap (instr_fits _) (sym h.is) ∙ h.fits)
-
   plain_is : Leads h.method.on step_thread
       (λ w. from_outcome (place h.method w) (rename_outcome (name_of (content old.heap)) (row_plain op h.method.frame.activation)))
   plain_is w m =

@@ -73,13 +73,6 @@ live_few (x ∷ ts) = by (is_running x.ending) (live_few ts)
     by true e = omega arith
     by false e = omega arith
 
--- which objects were started
-or_last : (a b : Bool) → (a || b) ≡ (b || a)
-or_last true true = refl
-or_last true false = refl
-or_last false true = refl
-or_last false false = refl
-
 or_next : (a b c : Bool) → (a || (b || c)) ≡ (b || (a || c))
 or_next true true c = refl
 or_next true false c = refl

@@ -1,5 +1,5 @@
 -- The methods of java/lang/Thread (java/lang/Thread, start and run).
-use Rattle.std.proofs.Common.{◌≡◌, ℕ, zero, suc, ◌+◌, ◌<◌, ◌^◌, List, [], ◌∷◌, Some, None, Bool, true, false, refl, sym, ap, ◌∙◌, subst, inl, inr, length, drop}
+use Rattle.std.proofs.Common.{◌≡◌, ℕ, zero, suc, List, [], ◌∷◌, Some, None, Bool, true, false, refl, sym, ap, ◌∙◌, subst, inl, inr, length, drop}
 use Rattle.std.specs.Prelude.{codes, nat_eq, slice_get}
 use Rattle.std.proofs.lemmas.Option.{same_Some}
 use Rattle.jm_program.specs.Flags.{is_abstract}
@@ -23,7 +23,7 @@ use Rattle.jm_world.specs.Stepping.{step_thread}
 use Rattle.jm_heap.specs.declared.class_id.ClassId.{ClassId}
 use Rattle.jm_state.specs.declared.state.State.{State}
 use Rattle.jm_interp.specs.declared.at.At.{At}
-use Rattle.jm_interp.specs.At.{HoldsAll, InMethod}
+use Rattle.jm_interp.specs.At.{HoldsAll}
 use Rattle.jm_interp.specs.Invoking.{CallsWithoutCode}
 use Rattle.jm_interp.specs.TopObject.{StepIs}
 use Rattle.jm_interp.proofs.Called.{held_operand}
@@ -64,9 +64,6 @@ module _ {H : Type 0} {content : H → Content ClassId} {at : At} {old : State H
   -- the thread's object is on top
   receiver_on_top : slice_get (on h).frame.activation.stack 0 ≡ Some (Ref receiver)
   receiver_on_top = ap (λ (ps : List FieldType). slice_get (on h).frame.activation.stack (length ps)) (sym no_parameters) ∙ h.calls.has.receiver_is
-
-  pub its_room : (k : InMethod content at old) × (k.frame.activation.at + 1 < 2 ^ 64)
-  its_room = (h.calls.on, h.calls.room)
 
   pub its_held : HoldsAll content at old (receiver ∷ [])
   its_held q (inl same) =

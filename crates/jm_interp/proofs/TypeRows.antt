@@ -111,9 +111,6 @@ module _ {H : Type 0} {content : H → Content ClassId} {at : At} {old : State H
     abbrev class : ClassRef
     class = h.is.0
 
-    by_reference : World → Option ℕ → Next
-    by_reference w r = go (here w) class r left
-
     reference_row : Leads h.method.on step_thread (λ w. by (here w) (reference_of (slice_get (operands h.method) 0)) (λ r. go (here w) class r left))
     reference_row w m =
         row_is h w m

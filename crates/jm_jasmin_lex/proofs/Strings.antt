@@ -12,9 +12,6 @@ use Rattle.jm_jasmin_lex.specs.Literals.{hexadecimal_value, escaped_unit, part_a
 pub record UnitsSoFar (seen units : List ℕ) (part : Part) : Type 0 where
   pub units_are : (rest : List ℕ) → units_from Before (seen ++ rest) ≡ units ++ units_from part rest
 
-pub units_start : UnitsSoFar [] [] Before
-units_start = record { units_are = λ rest. refl }
-
 pub units_next : (seen units after : List ℕ) (part next : Part) (c : ℕ) → UnitsSoFar seen units part → after ≡ units ++ units_at part c → next ≡ part_after part c → UnitsSoFar (seen ++ c ∷ []) after next
 unfolding units_from
 units_next seen units after part next c h e k = record {

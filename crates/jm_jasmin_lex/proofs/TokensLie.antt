@@ -67,9 +67,6 @@ begin text kind at line Q s ss ts r f = whole text kind at line (s ∷ ss) ts (g
 
 -- ---- what stands from a place on
 
-Hex : ℕ → Type 0
-Hex b = is_ascii_hexdigit b ≡ true
-
 abbrev InEscape : List Sign → Type 0
 InEscape signs = InText (Other 92 ∷ signs)
 

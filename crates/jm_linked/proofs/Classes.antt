@@ -1,16 +1,13 @@
 -- The classes of a linked program.
-use Rattle.std.proofs.Common.{◌≡◌, ℕ, zero, suc, List, [], ◌∷◌, Option, Some, None, Bool, true, false, refl, sym, ap, ◌∙◌, subst}
-use Rattle.std.specs.Prelude.{slice_get, slice_set, codes, ◌||◌}
+use Rattle.std.proofs.Common.{◌≡◌, ℕ, zero, suc, List, [], ◌∷◌, Option, Some, None, Bool, true, false, refl, ap, ◌∙◌, subst}
+use Rattle.std.specs.Prelude.{slice_get, slice_set, ◌||◌}
 use Rattle.std.specs.Cmp.Lexicographic as texts
 use Rattle.jm_program.specs.Names.{same_text}
 use Rattle.jm_program.specs.declared.class.ClassParts.{ClassParts}
-use Rattle.jm_program.specs.declared.class.Method.{Method}
-use Rattle.jm_world.specs.Classes.{FoundMethod, MethodName, name_of_method, class_among, class_named, method_in}
-use Rattle.jm_world.specs.Loading.{main_in, main_type}
+use Rattle.jm_world.specs.Classes.{class_among, class_named}
 use Rattle.jm_world.specs.Loads.{Loads, Refusal, refusal, duplicates, is_named_among, or_else, when, duplicate_class}
 use Rattle.jm_world.specs.World.{Progress, state_in, set_state_in}
 use Rattle.jm_world.specs.declared.class_state.ClassState.{ClassState}
-use Rattle.jm_linked.specs.Links.{LinkedView, IsLinked, name_in_class, member_name}
 use Rattle.jm_linked.specs.Named.{named_states}
 use Rattle.jm_linked.proofs.BuiltIns.{AreOthers}
 
@@ -119,30 +116,3 @@ states_set program loads ss k d s at = state_set [] program ss k d s (distinct p
 pub class_is : (program : List ClassParts) → Loads program → (k : ℕ) (d : ClassParts) → slice_get program k ≡ Some d → class_named program d.name ≡ Some d
 unfolding class_named
 class_is program loads k d at = class_found [] program k d (distinct program loads) at
-
--- the class of the name of the first is the first
-first_alone : (c : ClassParts) (cs : List ClassParts) (k : ℕ) (d : ClassParts) → duplicates [] (c ∷ cs) ≡ None → slice_get (c ∷ cs) k ≡ Some d
-    → d.name ≡ c.name → k ≡ 0
-first_alone c cs zero d e at same = refl
-first_alone c cs (suc k) d e at same =
-    let other : same_text c.name d.name ≡ false = (fresh (c ∷ []) cs k d (after [] c cs e) at).0 in
-    let bad : true ≡ false = sym (same_self c.name) ∙ ap (same_text c.name) (sym same) ∙ other in
-    cc
-
-found_first : (program : List ClassParts) (found : FoundMethod) (k : ℕ) (d : ClassParts) → duplicates [] program ≡ None → main_in program ≡ Some found
-    → slice_get program k ≡ Some d → d.name ≡ found.class.name → k ≡ 0
-found_first [] found k d e m at same = cc
-found_first (c ∷ cs) found k d e m at same = first_alone c cs k d e at (same ∙ by (method_in c.methods (codes "main") main_type) m)
-  where
-    by : (o : Option Method) → (elim o as (λ _. Option FoundMethod) [ None ↦ None | Some x ↦ Some (record { class = c; method = x }) ]) ≡ Some found
-        → found.class.name ≡ c.name
-    by None g = cc
-    by (Some x) g = let is : record { class = c; method = x } ≡ found = cc in ap (λ (f : FoundMethod). f.class.name) (sym is)
-
--- so is main's
-pub main_class : (l : LinkedView) (i : IsLinked l) → i.main.class ≡ 0
-main_class l i =
-    let links = i.methods l.main i.main i.main_is in
-    let named : name_of_method (record { class = links.class; method = links.method }) ≡ name_of_method i.found =
-    sym (ap (λ o. name_in_class o i.main.member) links.class_is ∙ ap (member_name links.class) links.method_is) ∙ i.main_name in
-    found_first l.program i.found i.main.class links.class (distinct l.program i.loads) i.found_is links.class_is (ap (λ (n : MethodName). n.class) named)

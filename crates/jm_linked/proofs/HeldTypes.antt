@@ -5,7 +5,7 @@ use Rattle.jm_program.specs.Names.{same_text}
 use Rattle.jm_program.specs.declared.class.ClassParts.{ClassParts}
 use Rattle.jm_program.specs.declared.descriptor.ElementType.{ElementType}
 use Rattle.jm_program.specs.declared.descriptor.ElementType.TheVariants.{Class}
-use Rattle.jm_builtins.specs.Numbers.{built_in_names, number_of}
+use Rattle.jm_builtins.specs.Numbers.{number_of}
 use Rattle.jm_builtins.specs.Numbers as built_in
 use Rattle.jm_builtins.specs.declared.built_in_class.BuiltInClass.TheVariants.{Object, Cloneable, Serializable}
 use Rattle.jm_world.specs.Hierarchy.{dimensions_assignable, element_assignable, is_above_arrays, is_subclass}
@@ -73,7 +73,3 @@ pub fewer_dimensions : (program : List ClassParts) (a b : ElementType) (m n : �
 fewer_dimensions program a b m zero e = absurd (omega arith)
 fewer_dimensions program a b zero (suc n) e = refl
 fewer_dimensions program a b (suc m) (suc n) e = fewer_dimensions program a b m n (omega arith)
-
--- elements, by what they are
-pub elements_are : (program : List ClassParts) (s t s' t' : ElementType) → s ≡ s' → t ≡ t' → element_assignable program s t ≡ element_assignable program s' t'
-elements_are program s t s' t' e f = ap (λ x. element_assignable program x t) e ∙ ap (element_assignable program s') f

@@ -1,6 +1,6 @@
 -- What is gathered of each class for the tables of a program.
 use Rattle.std.proofs.Common.{◌≡◌, ℕ, zero, suc, ◌+◌, ◌<◌, List, [], ◌∷◌, ◌++◌, Option, Some, None, length, length-append, refl, sym, ap, ◌∙◌, subst, arith}
-use Rattle.std.proofs.lemmas.List.Elements.{All-nil, All-push, All-append}
+use Rattle.std.proofs.lemmas.List.Elements.{All-nil, All-push}
 use Rattle.std.proofs.lemmas.List.{length-map}
 use Rattle.std.proofs.lemmas.Option.{slice_get_within}
 use Rattle.jm_values.proofs.Lists.{get_map, get_there}
@@ -53,13 +53,6 @@ more_numbers program ns names n name are is =
       within = All-push (λ k. k < length (all_names program)) ns n are.within at.1;
     }
 
-pub both_numbers : (program : List ClassParts) (ns ms : List ℕ) (xs ys : List (List ℕ)) → AreNumbers program ns xs → AreNumbers program ms ys
-    → AreNumbers program (ns ++ ms) (xs ++ ys)
-both_numbers program ns ms xs ys a b = record {
-  named = map_both (name_of (all_names program)) ns ms ∙ ap (λ l. l ++ map (name_of (all_names program)) ms) a.named ∙ ap (λ l. xs ++ l) b.named;
-  within = All-append (λ k. k < length (all_names program)) ns ms a.within b.within;
-}
-
 -- one more of a list of which each keeps a rule of its place
 pub each_more : {A : Type 0} (P : ℕ → A → Type 0) (xs : List A) (x : A) → ((n : ℕ) (y : A) → slice_get xs n ≡ Some y → P n y) → P (length xs) x
     → (n : ℕ) (y : A) → slice_get (xs ++ x ∷ []) n ≡ Some y → P n y
@@ -67,9 +60,6 @@ each_more P [] x h here zero y e = let same : x ≡ y = cc in subst (λ z. P zer
 each_more P [] x h here (suc n) y e = cc
 each_more P (z ∷ zs) x h here zero y e = h zero y e
 each_more P (z ∷ zs) x h here (suc n) y e = each_more (λ k. P (suc k)) zs x (λ k. h (suc k)) here n y e
-
-pub no_classes : (program : List ClassParts) → AreClasses program 0 []
-no_classes program = record { length = refl; each = λ n d e. cc }
 
 pub class_more : (program : List ClassParts) (n : ℕ) (ds : List Declared) (d : Declared) → AreClasses program n ds → IsClass program n d
     → AreClasses program (n + 1) (ds ++ d ∷ [])

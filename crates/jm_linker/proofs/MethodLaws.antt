@@ -11,7 +11,7 @@ use Rattle.jm_program.specs.declared.class.Method.{Method}
 use Rattle.jm_program.specs.declared.code.Code.{Code}
 use Rattle.jm_linked.specs.Links.{coded_among, coded_from, place_of}
 use Rattle.jm_linked.specs.declared.method.LinkedMethod.{LinkedMethod}
-use Rattle.jm_linker.specs.LinkedMethods.{LinksCode, LinksAlone, LinksClass}
+use Rattle.jm_linker.specs.LinkedMethods.{LinksCode, LinksAlone}
 use Rattle.jm_linker.proofs.MainLaws.{append_assoc, append_nil, coded_more, classes_more}
 
 pub map_more : {A B : Type 0} (f : A → B) (xs : List A) (x : A) → map f (xs ++ x ∷ []) ≡ map f xs ++ f x ∷ []
@@ -62,9 +62,6 @@ pub record LinksSoFar (program : List ClassParts) (k : ℕ) (ms : List Method) (
   pub places : map place_of now ≡ map place_of old ++ coded_among k 0 (take i ms)
   pub linked : AllByRecursion (LinksAlone program) old → AllByRecursion (LinksAlone program) now
 
-pub so_far_none : (program : List ClassParts) (k : ℕ) (ms : List Method) (old : List LinkedMethod) → LinksSoFar program k ms 0 old old
-so_far_none program k ms old = record { places = sym (append_nil (map place_of old)); linked = λ a. a }
-
 pub so_far_past : (program : List ClassParts) (k : ℕ) (ms : List Method) (i : ℕ) (x : Method) (old now : List LinkedMethod) → i < length ms → x ≡ get_or ms i x
     → x.code ≡ None → LinksSoFar program k ms i old now → LinksSoFar program k ms (i + 1) old now
 so_far_past program k ms i x old now l is none h = record {
@@ -111,11 +108,6 @@ so_far_more program k c ms i n x code m old now next class fits same l is has nu
       linked = λ a. subst (AllByRecursion (LinksAlone program)) (sym pushed) (each_more (LinksAlone program) now m (h.linked a)
           (alone program k n c x code m class fits at has links));
     }
-
-pub so_far_all : (program : List ClassParts) (k : ℕ) (ms : List Method) (i : ℕ) (old now : List LinkedMethod) → take i ms ≡ ms
-    → LinksSoFar program k ms i old now
-    → LinksClass program k ms old now
-so_far_all program k ms i old now all h = record { places = h.places ∙ ap (λ xs. map place_of old ++ coded_among k 0 xs) all; linked = h.linked }
 
 -- one more class
 pub classes_to : (cs : List ClassParts) (i k : ℕ) (c : ClassParts) (old now : List LinkedMethod) → i < length cs → c ≡ get_or cs i c → k ≡ i

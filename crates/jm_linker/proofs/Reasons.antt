@@ -1,7 +1,6 @@
 -- The first of several reasons.
-use Rattle.std.proofs.Common.{◌≡◌, ℕ, ◌+◌, ◌<◌, ◌≤◌, Bool, true, false, not, List, [], Option, Some, None, Result, Ok, Err, length, get_or, drop, refl, sym, ap, ◌∙◌, subst, arith}
-use Rattle.std.proofs.lemmas.List.{drop_more, nil_from_length, length-drop}
-use Rattle.std.specs.Prelude.{IfOk, MatchResult}
+use Rattle.std.proofs.Common.{◌≡◌, ℕ, ◌+◌, ◌<◌, Bool, true, false, not, List, [], Option, Some, None, Result, length, get_or, drop, refl, sym, ap, ◌∙◌, subst}
+use Rattle.std.proofs.lemmas.List.{drop_more}
 use Rattle.jm_world.specs.Loads.{Refusal, or_else, first_of_all, when, duplicates, duplicate_members, parents_refusal, cycle_refusal, is_main, no_main, refusal}
 use Rattle.jm_world.specs.Loading.{main_in}
 use Rattle.jm_program.specs.declared.class.ClassParts.{ClassParts}
@@ -40,11 +39,6 @@ first_after check xs i x l is h e =
     let here : first_of_all check (drop i xs) ≡ or_else (check x) (first_of_all check (drop (i + 1) xs)) = rw (drop_more xs i x l, ← is) refl in
     e ∙ here ∙ ap (λ o. or_else o (first_of_all check (drop (i + 1) xs))) h
 
-pub first_past : {A : Type 0} (check : A → Option Refusal) (xs : List A) (i : ℕ) → length xs ≤ i → first_of_all check xs ≡ first_of_all check (drop i xs) → first_of_all check xs ≡ None
-first_past check xs i l e =
-    let none : drop i xs ≡ [] = nil_from_length (drop i xs) (omega (arith, length-drop i xs)) in
-    e ∙ rw none refl
-
 -- that memory was refused says nothing of the reason
 pub memory_says : (f : LinkFault) (r : Option Refusal) → IsOutOfMemory f → SaysWhy f r
 memory_says f r e = subst (λ g. SaysWhy g r) (sym e) tt
@@ -66,20 +60,3 @@ has_main program e =
     by : (t : Bool) → when (not t) no_main ≡ None → t ≡ true
     by true g = refl
     by false g = cc
-
--- a fault without a reason is that memory was refused
-is_memory : (f : LinkFault) → SaysWhy f None → IsOutOfMemory f
-is_memory (fault.DuplicateClass name) e = cc
-is_memory (fault.DuplicateMember name) e = cc
-is_memory (fault.NoClass name) e = cc
-is_memory (fault.Cycle name) e = cc
-is_memory (fault.NoField name) e = cc
-is_memory (fault.NoMethod name) e = cc
-is_memory (fault.WrongKind name) e = cc
-is_memory fault.NoMain e = cc
-is_memory (fault.Later part) e = absurd e
-is_memory fault.OutOfMemory e = refl
-
-pub without_reason : {A : Type 0} (P : A → Type 0) (r : Result A LinkFault) → Answers r None → IfOk r P → MatchResult r P (λ f. IsOutOfMemory f)
-without_reason P (Ok x) e h = h
-without_reason P (Err f) e h = is_memory f e

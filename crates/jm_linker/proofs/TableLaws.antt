@@ -242,12 +242,6 @@ field_numbers_more xs i x b k m n l is number at updates h = λ q f got. by q f 
         (at_number xs i b.number x b.field.now l is number at)
     by q f false e = h q f e
 
-pub no_field_numbers : (table : BTreeMap FieldKey NumberedField) (xs : List Field) → table.entries ≡ [] → NumbersFields table xs
-no_field_numbers table xs e = λ q f got. by f (ap (lookup (λ k. is_eq ((field_ord.ghosts).cmp q k))) (sym e) ∙ got)
-  where
-    by : (f : NumberedField) → None ≡ Some f → slice_get xs f.number ≡ Some f.field.now
-    by f g = cc
-
 pub method_numbers_more : (xs : List Method) (i : ℕ) (x : Method) (b : NumberedMethod) (k : MethodKey) (m n : BTreeMap MethodKey NumberedMethod)
     → i < length xs → x ≡ get_or xs i x
     → b.number ≡ i → b.method.now ≡ x
@@ -260,9 +254,3 @@ method_numbers_more xs i x b k m n l is number at updates h = λ q f got. by q f
     by q f true e = let same : b ≡ f = cc in subst (λ (g : NumberedMethod). slice_get xs g.number ≡ Some g.method.now) same
         (at_number xs i b.number x b.method.now l is number at)
     by q f false e = h q f e
-
-pub no_method_numbers : (table : BTreeMap MethodKey NumberedMethod) (xs : List Method) → table.entries ≡ [] → NumbersMethods table xs
-no_method_numbers table xs e = λ q f got. by f (ap (lookup (λ k. is_eq ((method_ord.ghosts).cmp q k))) (sym e) ∙ got)
-  where
-    by : (f : NumberedMethod) → None ≡ Some f → slice_get xs f.number ≡ Some f.method.now
-    by f g = cc

@@ -64,9 +64,6 @@ pub none_pending : (test : ClassParts → Bool) (program : List ClassParts) → 
 unfolding found_pending
 none_pending test program = refl
 
-any_one : (test : ClassParts → Bool) (program : List ClassParts) (d : ℕ) (xs ys : List (List ℕ)) → xs ≡ ys → above_any test d program xs ≡ above_any test d program ys
-any_one test program d xs ys e = ap (above_any test d program) e
-
 -- no more classes up
 pub too_deep : (test : ClassParts → Bool) (program : List ClassParts) (ps qs : List Pending) (p : Pending) → qs ≡ ps ++ p ∷ [] → p.depth ≡ 0 → found_pending test program qs ≡ found_pending test program ps
 too_deep test program ps qs p e z =
@@ -125,9 +122,6 @@ here_first a b whole rest c e f g = sym (e ∙ ap (λ o. or_found o rest) f) ∙
 
 pub nothing_first : (a b whole rest : Option ClassParts) → whole ≡ or_found a rest → a ≡ None → whole ≡ b → rest ≡ b
 nothing_first a b whole rest e f g = sym (e ∙ ap (λ o. or_found o rest) f) ∙ g
-
-pub above_first : (a n b whole rest more : Option ClassParts) → whole ≡ or_found a rest → a ≡ n → more ≡ or_found n rest → whole ≡ b → more ≡ b
-above_first a n b whole rest more e f m g = m ∙ sym (e ∙ ap (λ o. or_found o rest) f) ∙ g
 
 -- one class further along the superclasses
 pub along_more : (test : ClassParts → Bool) (program : List ClassParts) (h i : ℕ) (name : List ℕ) (c : ClassParts) (s : List ℕ) → i < h → class_named program name ≡ Some c → test c ≡ false → c.superclass ≡ Some s → first_along test (up_from (h - i) program name) ≡ first_along test (up_from (h - (i + 1)) program s)

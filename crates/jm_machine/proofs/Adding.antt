@@ -77,9 +77,6 @@ module _ (old mid : Content ClassId) (r0 r1 : List ℕ) (some : 0 < length r0) (
   as_many : length r1 ≡ length r0 + 1
   as_many = made.many ∙ length-append room.objects (blank_string ∷ []) ∙ ap (λ n. n + 1) (sym room.holds.many)
 
-  pub chars_within : (last : ℕ) → last ≡ length r0 - 1 → last < length r1
-  chars_within last e = let many = as_many in omega arith
-
   module _ (many last chars place : ℕ) (count : many ≡ length r1) (before : last ≡ length r0 - 1) (at_chars : slice_get r1 last ≡ Some chars)
       (at_place : slice_get r1 (many - 1) ≡ Some place) where
     string_at : (objects : List (ObjectOf ClassId)) → Holds old r0 objects → slice_get r1 (length objects) ≡ Some place

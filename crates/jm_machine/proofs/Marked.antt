@@ -13,7 +13,7 @@ use Rattle.std.specs.declared.cmp.Ordering.TheVariants.{Less, Equal, Greater}
 use Rattle.jm_values.specs.Shape.{Among}
 use Rattle.jm_values.specs.Content.{Content, AllResident, serial_at, name_of}
 use Rattle.jm_values.specs.Marking.{MarkedAll}
-use Rattle.jm_values.proofs.Marking.{marked_none, marked_now, marked_before}
+use Rattle.jm_values.proofs.Marking.{marked_now, marked_before}
 use Rattle.jm_values.proofs.SoundContents.{name_is}
 use Rattle.jm_machine.specs.Marked.{AreAt, Marks}
 
@@ -49,9 +49,6 @@ module _ {T : Type 0} (c : Content T) where
       by later Less h = (lies, all)
       by later Equal h = (lies ∙ ap Some (equal_keys k e.0 h), all.1)
       by later Greater h = (all.0, later)
-
-  pub marks_none : {seen : List (ℕ × ℕ)} {waiting : List ℕ} → Marks c [] seen waiting seen waiting
-  marks_none = record { marked = marked_none; places = λ a. a }
 
   keys_are : (es now : List (ℕ × ℕ)) (k p : ℕ) → now ≡ insert_entry nat_cmp es k p → keys_of now ≡ insert_key nat_cmp (keys_of es) k
   keys_are es now k p is = ap keys_of is ∙ entry_keys es k p

@@ -104,9 +104,6 @@ pool_more es taken c h fits few = record {
 pub pool_count : (es : List (Constant × ℕ)) (taken : ℕ) → IsPool es taken → length (entries_of (keys_of es)) ≡ taken
 pool_count es taken h = sym h.count
 
-pub pool_none : IsPool [] 0
-pool_none = record { numbered = tt; count = refl; few = omega arith }
-
 -- ---- the bytes
 
 -- no bytes are written for what stands behind an entry

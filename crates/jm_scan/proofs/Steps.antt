@@ -1,8 +1,7 @@
 -- What each step of a copier keeps.
-use Rattle.std.proofs.Common.{◌≡◌, ◌≢◌, ◌⊎◌, ℕ, ◌+◌, ◌<◌, ◌≤◌, List, [], ◌∷◌, ◌++◌, Option, Some, None, true, false, cond, refl, sym, ap, ◌∙◌, subst, inl, inr, length, arith}
+use Rattle.std.proofs.Common.{◌≡◌, ◌≢◌, ◌⊎◌, ℕ, ◌+◌, ◌<◌, List, [], ◌∷◌, ◌++◌, Option, Some, None, true, false, refl, sym, ap, ◌∙◌, subst, inl, inr, length, arith}
 use Rattle.std.specs.Prelude.{slice_get, slice_set, nat_eq, MatchOption, option_map}
 use Rattle.std.proofs.lemmas.Bool.Decides.{eqb_tells}
-use Rattle.std.proofs.lemmas.Bool.{lt-ltb, le-ltb}
 use Rattle.std.proofs.lemmas.Option.{slice_get_within}
 use Rattle.std.proofs.lemmas.List.{length-set, length-append}
 use Rattle.jm_values.specs.Objects.{refs_of}
@@ -15,32 +14,6 @@ use Rattle.jm_blocks.proofs.Placing.{get_set_same, get_set_other, get_end, get_b
 use Rattle.jm_scan.specs.Image.{IsReached, bare}
 use Rattle.jm_scan.specs.Copying.{Forwarded, ForwardedValue, IsPartly, IsCopy, HasCopy, Copying, Progress, IsAdded, IsReplaced, Gains, IsFurther, AreForwarded, scanned, raw_copy}
 use Rattle.jm_scan.proofs.Listed.{some_at, among_at, ref_at}
-
--- how far the scan has come, by the place
-pub scanned_below : (s j n count : ℕ) → n < s → scanned s j n count ≡ count
-scanned_below s j n count h = ap (λ b. cond b count (cond (nat_eq n s) j 0)) (lt-ltb n s h)
-
-pub scanned_here : (s j count : ℕ) → scanned s j s count ≡ j
-scanned_here s j count = by (eqb_tells s s)
-  where
-    by : ((nat_eq s s ≡ true) × (s ≡ s)) ⊎ ((nat_eq s s ≡ false) × (s ≢ s)) → scanned s j s count ≡ j
-    by (inl e) = ap (λ b. cond b count (cond (nat_eq s s) j 0)) (le-ltb s s (omega arith)) ∙ ap (λ b. cond b j 0) e.0
-    by (inr e) = absurd (e.1 refl)
-
-pub scanned_above : (s j n count : ℕ) → s < n → scanned s j n count ≡ 0
-scanned_above s j n count h = by (eqb_tells n s)
-  where
-    by : ((nat_eq n s ≡ true) × (n ≡ s)) ⊎ ((nat_eq n s ≡ false) × (n ≢ s)) → scanned s j n count ≡ 0
-    by (inl e) = absurd (omega (arith, e.1))
-    by (inr e) = ap (λ b. cond b count (cond (nat_eq n s) j 0)) (le-ltb n s (omega arith)) ∙ ap (λ b. cond b j 0) e.0
-
--- at the start of an object nothing of it is scanned
-pub scanned_from : (s n count : ℕ) → s ≤ n → scanned s 0 n count ≡ 0
-scanned_from s n count h = by (eqb_tells n s)
-  where
-    by : ((nat_eq n s ≡ true) × (n ≡ s)) ⊎ ((nat_eq n s ≡ false) × (n ≢ s)) → scanned s 0 n count ≡ 0
-    by (inl e) = subst (λ m. scanned s 0 m count ≡ 0) (sym e.1) (scanned_here s 0 count)
-    by (inr e) = scanned_above s 0 n count (omega (arith, e.1))
 
 -- what is forwarded stays so
 pub forwarded_grows : (old : ℕ → Option Object) (m m' : ℕ → ℕ → Type 0) (p q : ℕ) → ((r n : ℕ) → m r n → m' r n) → Forwarded old m p q → Forwarded old m' p q
@@ -102,15 +75,6 @@ value_reached old roots p i q o a h e f g = record {
 }
 
 module _ {old : ℕ → Option Object} {roots : List ℕ} where
-  -- more is known
-  pub copying_knows : (known known' won : ℕ → ℕ → Type 0) (new : ℕ → Option Object) (done : Progress) → Copying old roots known won new done → ((q k : ℕ) → known q k → known' q k) → Copying old roots known' won new done
-  copying_knows known known' won new done c g = record {
-    reached = c.reached;
-    apart = c.apart;
-    onto = c.onto;
-    copied = λ q k h. let has = c.copied q k h in record { o = has.o; old_is = has.old_is; a = has.a; new_is = has.new_is; copy = copy_grows old known known' (done k (length has.o.values)) has.o has.a g has.copy };
-  }
-
   -- an object is copied, and not scanned
   pub copying_added : (known won known' won' : ℕ → ℕ → Type 0) (new new' : ℕ → Option Object) (done : Progress) (p n : ℕ) (o : Object) → Copying old roots known won new done → old p ≡ Some o → IsReached old roots p → ((count : ℕ) → done n count ≡ 0) → IsAdded new new' n (raw_copy o) → Gains known won known' won' p n → Copying old roots known' won' new' done
   copying_added known won known' won' new new' done p n o c e r f b t = record {

@@ -1,5 +1,5 @@
 -- A journal with one entry more.
-use Rattle.std.proofs.Common.{◌≡◌, ℕ, zero, suc, ◌+◌, ◌<◌, ◌≤◌, List, [], ◌∷◌, ◌++◌, refl, sym, ap, ◌∙◌, subst, length, replicate, arith, append-nil}
+use Rattle.std.proofs.Common.{◌≡◌, ℕ, zero, suc, ◌+◌, ◌<◌, ◌≤◌, List, [], ◌∷◌, ◌++◌, refl, sym, ap, ◌∙◌, subst, length, replicate, arith}
 use Rattle.std.specs.Prelude.{map}
 use Rattle.std.proofs.lemmas.List.{map-append, replicate-append-replicate}
 use Rattle.jm_world.specs.World.{World}
@@ -104,11 +104,6 @@ made_within most s ends = by s.end ends
 -- none is made
 pub none_made : (s : Steps) (most : ℕ) → 0 < most → s.alike ≡ 0 → s.end ≡ OutOfMemory → EndsBy most s
 none_made s most some none end = subst (EndsFor most s) (sym end) (omega arith)
-
-pub no_entries_more : (t : Receipts) (es : List Entry) → t.steps.alike ≡ 0 → t.steps.end ≡ OutOfMemory → es ≡ es ++ entries_of_turns t
-no_entries_more t es none end =
-    sym (append-nil es)
-    ∙ (λ i. es ++ (replicate (sym none i) (entry_of t.seat (Step t.thread) t.steps.reply) ++ map (entry_of t.seat (Step t.thread)) (other_replies (sym end i))))
 
 pub no_steps_made : (w : World) (thread : ℕ) (m : MachineView) (s : Steps) → MatchesWorld m w → s.alike ≡ 0 → s.end ≡ OutOfMemory → s.reply ≡ reply Done w
     → AreSteps w thread m s

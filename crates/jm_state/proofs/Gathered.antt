@@ -31,10 +31,6 @@ pub all_gathered : {A : Type 0} (refs : A → List ℕ) (whole : List A) (start 
 all_gathered refs whole start i now h g =
     sym (append-nil now) ∙ ap (λ l. now ++ flat_map refs l) (sym (drop_all i whole h)) ∙ g.same
 
-pub all_gathered_from_end : {A : Type 0} (refs : A → List ℕ) (whole : List A) (start : List ℕ) (i : ℕ) (now : List ℕ) → length whole ≤ i
-    → IsGathered refs (reverse whole) start i now → now ≡ start ++ flat_map refs (reverse whole)
-all_gathered_from_end refs whole start i now h g = all_gathered refs (reverse whole) start i now (omega (arith, length-reverse whole)) g
-
 pub gathered_mapped : {A B : Type 0} (refs : B → List ℕ) (part : A → B) (xs : List A) → flat_map (λ x. refs (part x)) xs ≡ flat_map refs (map part xs)
 gathered_mapped refs part [] = refl
 gathered_mapped refs part (x ∷ xs) = ap (λ l. refs (part x) ++ l) (gathered_mapped refs part xs)
