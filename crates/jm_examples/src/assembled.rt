@@ -2,7 +2,7 @@
 
 use crate::again::read_again;
 use crate::class_lines::{ClassLine, InstructionsLine};
-use crate::notation::Bytes;
+use crate::notation::{Bytes, said};
 use jm_class_writer::write_class;
 use jm_jasmin::{AsmFault, assemble};
 use std::alloc::Global;
@@ -15,7 +15,7 @@ fn fault_line(alloc: Global, fault: &AsmFault) -> io::Result<String> {
         AsmFault::LeftOut(_, line) | AsmFault::Later(_, line) => {
             Ok(format!(in alloc; "{fault} at {line}")?)
         }
-        _ => Ok(format!(in alloc; "{fault}")?),
+        _ => said(alloc, fault),
     }
 }
 
@@ -30,7 +30,7 @@ pub fn assembly(alloc: Global, text: &str) -> io::Result<String> {
 /// The class of a text, or why it is none.
 pub fn class(alloc: Global, text: &str) -> io::Result<String> {
     match assemble(alloc, text) {
-        Ok(class) => Ok(format!(in alloc; "{}", ClassLine(class.parts()))?),
+        Ok(class) => said(alloc, &ClassLine(class.parts())),
         Err(fault) => fault_line(alloc, &fault),
     }
 }
@@ -38,7 +38,7 @@ pub fn class(alloc: Global, text: &str) -> io::Result<String> {
 /// The instructions of the class of a text, or why it is none.
 pub fn instructions(alloc: Global, text: &str) -> io::Result<String> {
     match assemble(alloc, text) {
-        Ok(class) => Ok(format!(in alloc; "{}", InstructionsLine(class.parts()))?),
+        Ok(class) => said(alloc, &InstructionsLine(class.parts())),
         Err(fault) => fault_line(alloc, &fault),
     }
 }
@@ -46,7 +46,7 @@ pub fn instructions(alloc: Global, text: &str) -> io::Result<String> {
 /// What comes of writing the class of a text and reading it again, or why the text is none.
 pub fn again(alloc: Global, text: &str) -> io::Result<String> {
     match assemble(alloc, text) {
-        Ok(class) => Ok(format!(in alloc; "{}", read_again(alloc, &class))?),
+        Ok(class) => said(alloc, &read_again(alloc, &class)),
         Err(fault) => fault_line(alloc, &fault),
     }
 }
@@ -57,14 +57,12 @@ pub fn is_answered(alloc: Global, text: &str) -> io::Result<String> {
         return Ok(String::from_str(alloc, "answered")?);
     };
     let line = fault.line().unwrap_or(0);
-    let said = format!(in alloc; "{fault}")?;
-    let has_number = said
-        .as_str()
-        .starts_with(|sign: char| sign.is_ascii_digit());
+    let why = said(alloc, &fault)?;
+    let has_number = why.as_str().starts_with(|sign: char| sign.is_ascii_digit());
     if has_number && 1 <= line && line <= text.split('\n').count() {
         Ok(String::from_str(alloc, "answered")?)
     } else {
-        Ok(said)
+        Ok(why)
     }
 }
 
@@ -77,9 +75,9 @@ fn part(alloc: Global, from: usize, to: usize, text: &str) -> io::Result<String>
     match write_class(alloc, &class) {
         Ok(bytes) => {
             let part = bytes.get(from..to).ok_or(ErrorKind::InvalidData)?;
-            Ok(format!(in alloc; "{}", Bytes(part))?)
+            said(alloc, &Bytes(part))
         }
-        Err(fault) => Ok(format!(in alloc; "{fault}")?),
+        Err(fault) => said(alloc, &fault),
     }
 }
 

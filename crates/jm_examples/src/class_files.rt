@@ -1,26 +1,26 @@
 // What class files are.
 
 use crate::class_lines::{ClassLine, InstructionsLine};
-use crate::notation::Numbers;
+use crate::notation::{Numbers, said};
 use jm_class_reader::read_class;
 use jm_class_writer::write_class;
-use jm_program::Version;
+use jm_program::{Class, Version};
 use std::alloc::Global;
 use std::io;
 
 /// The class of a class file, or why it has none.
 pub fn class(alloc: Global, bytes: &[u8]) -> io::Result<String> {
     match read_class(alloc, bytes) {
-        Ok(class) => Ok(format!(in alloc; "{}", ClassLine(class.parts()))?),
-        Err(fault) => Ok(format!(in alloc; "{fault}")?),
+        Ok(class) => said(alloc, &ClassLine(class.parts())),
+        Err(fault) => said(alloc, &fault),
     }
 }
 
 /// The instructions of the class of a class file, or why it has none.
 pub fn instructions(alloc: Global, bytes: &[u8]) -> io::Result<String> {
     match read_class(alloc, bytes) {
-        Ok(class) => Ok(format!(in alloc; "{}", InstructionsLine(class.parts()))?),
-        Err(fault) => Ok(format!(in alloc; "{fault}")?),
+        Ok(class) => said(alloc, &InstructionsLine(class.parts())),
+        Err(fault) => said(alloc, &fault),
     }
 }
 
@@ -44,21 +44,25 @@ pub fn changes(alloc: Global, bytes: &[u8]) -> io::Result<String> {
     for at in 0..bytes.len() {
         answered = answered.saturating_add(change_at(alloc, bytes, at)?);
     }
-    Ok(format!(in alloc; "{answered}")?)
+    said(alloc, &answered)
 }
 
-/// `the same bytes` where the class of a class file is written as that file.
-pub fn bytes(alloc: Global, bytes: &[u8]) -> io::Result<String> {
-    let class = match read_class(alloc, bytes) {
-        Ok(class) => class,
-        Err(fault) => return Ok(format!(in alloc; "{fault}")?),
-    };
-    match write_class(alloc, &class) {
+// `the same bytes` where a class is written as these, or why it is not written.
+fn written_as(alloc: Global, class: &Class, bytes: &[u8]) -> io::Result<String> {
+    match write_class(alloc, class) {
         Ok(written) if written.as_slice() == bytes => {
             Ok(String::from_str(alloc, "the same bytes")?)
         }
         Ok(_) => Ok(String::from_str(alloc, "other bytes")?),
-        Err(fault) => Ok(format!(in alloc; "{fault}")?),
+        Err(fault) => said(alloc, &fault),
+    }
+}
+
+/// `the same bytes` where the class of a class file is written as that file.
+pub fn bytes(alloc: Global, bytes: &[u8]) -> io::Result<String> {
+    match read_class(alloc, bytes) {
+        Ok(class) => written_as(alloc, &class, bytes),
+        Err(fault) => said(alloc, &fault),
     }
 }
 
@@ -66,7 +70,7 @@ pub fn bytes(alloc: Global, bytes: &[u8]) -> io::Result<String> {
 pub fn versions(alloc: Global, bytes: &[u8]) -> io::Result<String> {
     let mut parts = match read_class(alloc, bytes) {
         Ok(class) => class.into_parts(),
-        Err(fault) => return Ok(format!(in alloc; "{fault}")?),
+        Err(fault) => return said(alloc, &fault),
     };
     let mut kept = Vec::new(alloc);
     for major in 40..61u16 {
@@ -75,5 +79,5 @@ pub fn versions(alloc: Global, bytes: &[u8]) -> io::Result<String> {
             kept.push(major)?;
         }
     }
-    Ok(format!(in alloc; "{}", Numbers(&kept))?)
+    said(alloc, &Numbers(&kept))
 }

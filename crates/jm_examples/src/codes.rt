@@ -1,5 +1,6 @@
 // What bytes of codes are (JVMS 4.7.3, 6.5).
 
+use crate::notation::said;
 use jm_class_format::{IndexedInstr, PlacedInstr};
 use jm_opcodes::decode_code;
 use std::alloc::Global;
@@ -50,8 +51,8 @@ pub fn code(alloc: Global, bytes: &[u8]) -> io::Result<String> {
         return Err(io::Error::from(ErrorKind::InvalidData));
     }
     match decode_code(alloc, bytes) {
-        Ok(code) => Ok(format!(in alloc; "{}", CodeLine(&code))?),
-        Err(fault) => Ok(format!(in alloc; "{fault}")?),
+        Ok(code) => said(alloc, &CodeLine(&code)),
+        Err(fault) => said(alloc, &fault),
     }
 }
 
@@ -62,6 +63,6 @@ pub fn code_length(alloc: Global, bytes: &[u8]) -> io::Result<String> {
     }
     match decode_code(alloc, bytes) {
         Ok(code) => Ok(format!(in alloc; "{} bytes, {}", bytes.len(), code.len())?),
-        Err(fault) => Ok(format!(in alloc; "{fault}")?),
+        Err(fault) => said(alloc, &fault),
     }
 }

@@ -1,5 +1,6 @@
 // What descriptors and names are.
 
+use crate::notation::said;
 use jm_program::{Descriptor, Name};
 use std::alloc::Global;
 use std::io;
@@ -9,8 +10,8 @@ use std::io::ErrorKind;
 /// text.
 pub fn descriptor(alloc: Global, text: &str) -> io::Result<String> {
     let printed = match Descriptor::parse(alloc, text) {
-        Ok(descriptor) => format!(in alloc; "{descriptor}")?,
-        Err(fault) => format!(in alloc; "{fault}")?,
+        Ok(descriptor) => said(alloc, &descriptor)?,
+        Err(fault) => said(alloc, &fault)?,
     };
     if printed.as_str() == text {
         return Ok(String::from_str(alloc, "itself")?);

@@ -41,10 +41,8 @@ pub fn finish_twice<H: Heap + Drop, S: Sharing>(
     mut seats: Vec<Seat<S>>,
 ) -> Option<(Journal<H, S>, usize)> {
     let last = seats.pop();
-    match machine.finish(seats) {
-        Ok(_) => None,
-        Err(missing) => finish_late(missing, last),
-    }
+    let missing = machine.finish(seats).err()?;
+    finish_late(missing, last)
 }
 
 // Whether replies are those of the journal's entries, in order.

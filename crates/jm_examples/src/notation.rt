@@ -11,10 +11,15 @@ fn push_repeated(text: &mut String, alloc: Global, repeated: &str) -> io::Result
         return Err(io::Error::from(ErrorKind::InvalidData));
     };
     for number in 0..count {
-        let number = format!(in alloc; "{number}")?;
+        let number = said(alloc, &number)?;
         text.push_str(&part.replace(alloc, "#", &number)?)?;
     }
     Ok(())
+}
+
+/// What a value says of itself.
+pub fn said<T: fmt::Display>(alloc: Global, value: &T) -> io::Result<String> {
+    Ok(format!(in alloc; "{value}")?)
 }
 
 /// A text in which `{N PART}` stands for PART as often as N says; `#` in it is the number of the

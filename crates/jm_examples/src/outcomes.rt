@@ -5,7 +5,8 @@ use crate::events::events_of;
 use crate::job_rows::{JobKind, JobRow};
 use crate::jobs::{assembly_job, debug_job, run_job};
 use jm_execute::{InputFile, Job, Watched, class_of, execute};
-use jm_linker::link;
+use jm_linker::{LinkFault, link};
+use jm_program::Class;
 use std::io::ErrorKind;
 use std::sync::Wait;
 use std::{fmt, io, str};
@@ -37,34 +38,42 @@ pub fn wanted_of(rt: &HostRuntime, row: &JobRow<'_>) -> io::Result<Outcome> {
     })
 }
 
-/// What comes of a row's job.
-pub fn outcome_of(rt: &HostRuntime, wait: &impl Wait, row: &JobRow<'_>) -> io::Result<Outcome> {
+// The job of a row, but for those that link.
+fn job_of(rt: &HostRuntime, row: &JobRow<'_>) -> io::Result<Option<Job>> {
     match row.kind {
-        JobKind::Run { heap, show_heap } => {
-            let events = events_of(rt, row.events)?;
-            let program = files_of(rt, row.names, row.contents)?;
-            done(
-                rt,
-                wait,
-                &run_job(heap, events, program, show_heap),
-                b"unread".as_slice(),
-            )
-        }
+        JobKind::Run { heap, show_heap } => Ok(Some(run_of(rt, row, heap, show_heap)?)),
         JobKind::Debug { heap } => {
-            let commands = bytes_of(rt, row.events)?;
             let program = files_of(rt, row.names, row.contents)?;
-            done(rt, wait, &debug_job(heap, program), &commands)
+            Ok(Some(debug_job(heap, program)))
         }
         JobKind::Assemble => {
             let text = file_of(rt, row.names, row.contents)?;
-            done(
-                rt,
-                wait,
-                &assembly_job(rt.alloc(), text)?,
-                b"unread".as_slice(),
-            )
+            Ok(Some(assembly_job(rt.alloc(), text)?))
         }
-        JobKind::Link => linked(rt, &files_of(rt, row.names, row.contents)?),
+        JobKind::Link => Ok(None),
+    }
+}
+
+// The run of a row's program by its events.
+fn run_of(rt: &HostRuntime, row: &JobRow<'_>, heap: u32, show_heap: bool) -> io::Result<Job> {
+    let program = files_of(rt, row.names, row.contents)?;
+    let events = events_of(rt, row.events)?;
+    Ok(run_job(heap, events, program, show_heap))
+}
+
+// What is read by the job of a row: the commands of a session, and else nothing that is asked for.
+fn input_of(rt: &HostRuntime, row: &JobRow<'_>) -> io::Result<Vec<u8>> {
+    match row.kind {
+        JobKind::Debug { .. } => bytes_of(rt, row.events),
+        _ => Ok(Vec::from_slice(rt.alloc(), b"unread".as_slice())?),
+    }
+}
+
+/// What comes of a row's job.
+pub fn outcome_of(rt: &HostRuntime, wait: &impl Wait, row: &JobRow<'_>) -> io::Result<Outcome> {
+    match job_of(rt, row)? {
+        Some(job) => done(rt, wait, &job, &input_of(rt, row)?),
+        None => linked(rt, &files_of(rt, row.names, row.contents)?),
     }
 }
 
@@ -99,32 +108,41 @@ fn status_over(
     Ok(status.code())
 }
 
-// What comes of linking: how many methods have code, or the fault as `jm run` tells it.
-fn linked(rt: &HostRuntime, files: &[InputFile]) -> io::Result<Outcome> {
+// The classes of files.
+fn classes_of(rt: &HostRuntime, files: &[InputFile]) -> io::Result<Vec<Class>> {
     let mut classes = Vec::new(rt.alloc());
     for file in files {
-        let Ok(class) = class_of(rt.alloc(), file) else {
-            return Err(io::Error::from(ErrorKind::InvalidData));
-        };
-        classes.push(class)?;
+        match class_of(rt.alloc(), file) {
+            Ok(class) => classes.push(class)?,
+            Err(_) => return Err(io::Error::from(ErrorKind::InvalidData)),
+        }
     }
+    Ok(classes)
+}
+
+// What comes of linking: how many methods have code, or the fault as `jm run` tells it.
+fn linked(rt: &HostRuntime, files: &[InputFile]) -> io::Result<Outcome> {
+    let classes = classes_of(rt, files)?;
     match link(rt.alloc(), classes) {
-        Ok(linked) => {
-            let count = linked.methods().len();
-            let output = format!(in rt.alloc(); "linked {count}\n")?.into_bytes();
-            Ok(Outcome {
-                output,
-                lines: Vec::new(rt.alloc()),
-                status: 0,
-            })
-        }
-        Err(fault) => {
-            let lines = format!(in rt.alloc(); "jm: {fault}\n")?.into_bytes();
-            Ok(Outcome {
-                output: Vec::new(rt.alloc()),
-                lines,
-                status: 4,
-            })
-        }
+        Ok(linked) => printed(rt, linked.methods().len()),
+        Err(fault) => refused(rt, &fault),
     }
+}
+
+// What comes of a linked program of so many methods that have code.
+fn printed(rt: &HostRuntime, count: usize) -> io::Result<Outcome> {
+    Ok(Outcome {
+        output: format!(in rt.alloc(); "linked {count}\n")?.into_bytes(),
+        lines: Vec::new(rt.alloc()),
+        status: 0,
+    })
+}
+
+// What comes of classes that are not linked.
+fn refused(rt: &HostRuntime, fault: &LinkFault) -> io::Result<Outcome> {
+    Ok(Outcome {
+        output: Vec::new(rt.alloc()),
+        lines: format!(in rt.alloc(); "jm: {fault}\n")?.into_bytes(),
+        status: 4,
+    })
 }

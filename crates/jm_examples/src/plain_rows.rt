@@ -1,6 +1,7 @@
 // What plain instructions do to frames.
 
 use crate::columns::with_instructions;
+use crate::notation::said;
 use crate::values::{FrameLine, value_of};
 use jm_frames::{Frame, TagFault};
 use jm_jasmin::assemble;
@@ -71,7 +72,7 @@ pub fn count(rt: &HostRuntime, instruction: &str) -> io::Result<String> {
             }
         }
     }
-    Ok(format!(in rt.alloc(); "{count}")?)
+    said(rt.alloc(), &count)
 }
 
 /// What comes of a row: `INSTRUCTION | MAX_STACK | OPERANDS ; LOCALS`.

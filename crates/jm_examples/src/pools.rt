@@ -1,6 +1,6 @@
 // What constant pools and their texts are (JVMS 4.4, 4.4.7).
 
-use crate::notation::Numbers;
+use crate::notation::{Numbers, said};
 use jm_bytes::Reader;
 use jm_pool::{Member, NameAndType, Pool, code_units};
 use std::alloc::Global;
@@ -24,15 +24,15 @@ pub fn pool(alloc: Global, bytes: &[u8]) -> io::Result<String> {
             let (count, left) = (pool.entries().len(), left(alloc, bytes));
             Ok(format!(in alloc; "{count} entries of {taken} bytes, {left} left")?)
         }
-        Err(fault) => Ok(format!(in alloc; "{fault}")?),
+        Err(fault) => said(alloc, &fault),
     }
 }
 
 /// The code units of a text of a pool, or why the bytes are none.
 pub fn units(alloc: Global, bytes: &[u8]) -> io::Result<String> {
     match code_units(alloc, bytes) {
-        Ok(units) => Ok(format!(in alloc; "{}", Numbers(units.as_slice()))?),
-        Err(fault) => Ok(format!(in alloc; "{fault}")?),
+        Ok(units) => said(alloc, &Numbers(units.as_slice())),
+        Err(fault) => said(alloc, &fault),
     }
 }
 
@@ -98,7 +98,7 @@ pub fn looked_up(rt: &HostRuntime, column: &str) -> io::Result<String> {
         return Err(io::Error::from(ErrorKind::InvalidData));
     };
     match look_up(&pool, kind, index) {
-        Some(named) => Ok(format!(in rt.alloc(); "{named}")?),
+        Some(named) => said(rt.alloc(), &named),
         None => Ok(String::from_str(rt.alloc(), "none")?),
     }
 }

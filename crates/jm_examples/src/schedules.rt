@@ -1,5 +1,6 @@
 // What texts of schedules are.
 
+use crate::notation::said;
 use jm_schedule::{Run, read_schedule};
 use jm_world::Event;
 use std::alloc::Global;
@@ -26,8 +27,8 @@ impl fmt::Display for RunsLine<'_> {
 /// The events of a schedule as runs, or its first bad line.
 pub fn events(alloc: Global, text: &str) -> io::Result<String> {
     match read_schedule(alloc, text.as_bytes()) {
-        Ok(schedule) => Ok(format!(in alloc; "{}", RunsLine(schedule.runs()))?),
-        Err(fault) => Ok(format!(in alloc; "{fault}")?),
+        Ok(schedule) => said(alloc, &RunsLine(schedule.runs())),
+        Err(fault) => said(alloc, &fault),
     }
 }
 
@@ -38,6 +39,6 @@ pub fn length(alloc: Global, text: &str) -> io::Result<String> {
             let (length, is_empty) = (schedule.len(), schedule.is_empty());
             Ok(format!(in alloc; "{length} {is_empty}")?)
         }
-        Err(fault) => Ok(format!(in alloc; "{fault}")?),
+        Err(fault) => said(alloc, &fault),
     }
 }

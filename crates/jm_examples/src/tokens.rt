@@ -1,6 +1,6 @@
 // What the tokens, strings and numbers of texts in Jasmin's syntax are.
 
-use crate::notation::Numbers;
+use crate::notation::{Numbers, said};
 use jm_jasmin_lex::{Token, TokenKind, integer, lexed, line_of, literal, tokens};
 use std::alloc::Global;
 use std::{fmt, io};
@@ -26,8 +26,8 @@ impl fmt::Display for TokensLine<'_> {
 /// The tokens of a text, or why it has none.
 pub fn tokens_of(alloc: Global, text: &str) -> io::Result<String> {
     match tokens(alloc, text) {
-        Ok(found) => Ok(format!(in alloc; "{}", TokensLine(&found))?),
-        Err(fault) => Ok(format!(in alloc; "{fault}")?),
+        Ok(found) => said(alloc, &TokensLine(&found)),
+        Err(fault) => said(alloc, &fault),
     }
 }
 
@@ -46,20 +46,20 @@ pub fn lines(alloc: Global, text: &str) -> io::Result<String> {
             let (second, rest) = line_of(rest);
             Ok(format!(in alloc; "{} {} {}", first.len(), second.len(), rest.len())?)
         }
-        Err(fault) => Ok(format!(in alloc; "{fault}")?),
+        Err(fault) => said(alloc, &fault),
     }
 }
 
 /// The code units of a string as it is written.
 pub fn literal_of(alloc: Global, text: &str) -> io::Result<String> {
     let units = literal(alloc, text)?;
-    Ok(format!(in alloc; "{}", Numbers(&units))?)
+    said(alloc, &Numbers(&units))
 }
 
 /// The number that a word is, or `none`.
 pub fn number_of(alloc: Global, word: &str) -> io::Result<String> {
     match integer(word) {
-        Some(number) => Ok(format!(in alloc; "{number}")?),
+        Some(number) => said(alloc, &number),
         None => Ok(String::from_str(alloc, "none")?),
     }
 }
