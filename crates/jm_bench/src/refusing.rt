@@ -2,10 +2,11 @@
 
 use crate::driver::Step::{Collect, Instance, Ints, Link, LinkNewest, List, Root};
 use crate::driver::{Driver, Step};
-use crate::spaces::{Collection, Outcome};
+use crate::spaces::{Collection, Outcome, Spaces};
 use anyhow::{Result, bail};
 use jm_blocks::{Block, BlockStore};
 use jm_heap::Kind;
+use jm_values::Place;
 use std::alloc::Global;
 
 // Old objects, objects that the next collection promotes, one of which names a young one, young ones,
@@ -41,6 +42,23 @@ fn prepared(alloc: Global, kind: Kind, count: usize) -> Result<Collection> {
     driver.condemn(kind)
 }
 
+// How an object of a block differs from that of another, if it does.
+fn difference(found: &Block, wanted: &Block, index: usize) -> Option<&'static str> {
+    let Some((header, values)) = found.object(index) else {
+        return Some("is gone");
+    };
+    let Some((old_header, old_values)) = wanted.object(index) else {
+        return Some("was not there");
+    };
+    if header != old_header {
+        return Some("has another header");
+    }
+    if values != old_values {
+        return Some("has other values");
+    }
+    None
+}
+
 // Compares two blocks object by object.
 fn compare_blocks(found: &Block, wanted: &Block, number: usize) -> Result<()> {
     if found.len() != wanted.len() {
@@ -51,17 +69,8 @@ fn compare_blocks(found: &Block, wanted: &Block, number: usize) -> Result<()> {
         );
     }
     for index in 0..wanted.len() {
-        let Some((header, values)) = found.object(index) else {
-            bail!("object {index} of block {number} is gone");
-        };
-        let Some((old_header, old_values)) = wanted.object(index) else {
-            bail!("object {index} of block {number} was not there");
-        };
-        if header != old_header {
-            bail!("object {index} of block {number} has another header");
-        }
-        if values != old_values {
-            bail!("object {index} of block {number} has other values");
+        if let Some(difference) = difference(found, wanted, index) {
+            bail!("object {index} of block {number} {difference}");
         }
     }
     Ok(())
@@ -104,21 +113,31 @@ fn compare_given(found: &Collection, wanted: &Collection) -> Result<()> {
     Ok(())
 }
 
+// Compares what two collections left, and which places they remember.
+fn compare_spaces(
+    found: &Spaces,
+    wanted: &Spaces,
+    found_remembered: &[Place],
+    wanted_remembered: &[Place],
+) -> Result<()> {
+    compare_stores(&found.young, &wanted.young)?;
+    compare_stores(&found.tenured, &wanted.tenured)?;
+    if found.roots.as_slice() != wanted.roots.as_slice() {
+        bail!("the roots are others");
+    }
+    if found_remembered != wanted_remembered {
+        bail!("other objects are remembered");
+    }
+    Ok(())
+}
+
 // Compares what a collection left that was made again with what one leaves that was not refused.
 fn compare_again(alloc: Global, again: Collection, wanted: Collection) -> Result<()> {
     let Outcome::Collected(found, found_remembered) = again.run(alloc)? else {
         bail!("the collection was refused again, and no growth was");
     };
     let (wanted, wanted_remembered) = wanted.finish(alloc)?;
-    compare_stores(&found.young, &wanted.young)?;
-    compare_stores(&found.tenured, &wanted.tenured)?;
-    if found.roots.as_slice() != wanted.roots.as_slice() {
-        bail!("the roots are others");
-    }
-    if found_remembered.as_slice() != wanted_remembered.as_slice() {
-        bail!("other objects are remembered");
-    }
-    Ok(())
+    compare_spaces(&found, &wanted, &found_remembered, &wanted_remembered)
 }
 
 /// Makes a collection, and answers whether it was refused a growth. If it was, all is compared with what
