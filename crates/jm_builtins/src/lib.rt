@@ -20,6 +20,3 @@ mod text;
 pub use built_in::BuiltIn;
 pub use built_in_class::BuiltInClass;
 pub use list::builtins;
-
-#[cfg(test)]
-mod tests;

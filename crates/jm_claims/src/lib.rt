@@ -12,6 +12,3 @@ mod copier;
 pub use by_remainder::ByRemainder;
 pub use claims::claim_by_copiers;
 pub use copier::{Copier, claim_all};
-
-#[cfg(test)]
-mod tests;

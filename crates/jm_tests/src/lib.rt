@@ -1,9 +1,11 @@
 //! What no clause says and no row of the tables in `jm_examples` shows: numbers read and written as
 //! bytes, pools that grow, calls on frames, command lines (whose crate would make `jm_examples`
-//! large), and the faults that no row comes to, printed. The tests stand here, so that no crate below
-//! is proved twice.
+//! large), the list of built-in classes, and the faults that no row comes to, printed. The tests stand
+//! here, so that no crate below is proved twice.
 #![tactic(auto)]
 
+#[cfg(test)]
+mod built_in_classes;
 #[cfg(test)]
 mod bytes;
 #[cfg(test)]

@@ -1,6 +1,6 @@
-// What no clause says: that the list is made with ample memory.
+// The list of built-in classes: that it is made with ample memory, which no clause says.
 
-use crate::builtins;
+use jm_builtins::builtins;
 use std::alloc::AllocError;
 
 #[test]

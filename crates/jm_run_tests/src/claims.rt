@@ -2,7 +2,7 @@
 
 ghost use Rattle.std.specs.Prelude.{◌<◌, ◌≤◌, ◌^◌};
 
-use crate::claim_by_copiers;
+use jm_claims::claim_by_copiers;
 use std::alloc::Global;
 use std::test::Fail;
 use std::thread::Threads;
