@@ -67,8 +67,7 @@ fn class_name(
     ensures same { symbols.new ≡ symbols.old }
 {
     let index = reader.u2()?;
-    let name = class_name_at(alloc, symbols, index)?;
-    Ok(name)
+    class_name_at(alloc, symbols, index)
 }
 
 // No superclass for 0, in java/lang/Object alone.
@@ -104,8 +103,7 @@ fn superclass(
     ensures same { symbols.new ≡ symbols.old }
 {
     let index = reader.u2()?;
-    let superclass = superclass_at(alloc, symbols, name, index)?;
-    Ok(superclass)
+    superclass_at(alloc, symbols, name, index)
 }
 
 // The interfaces, their count first.
@@ -141,8 +139,7 @@ fn source_file(
     let Ok(index) = reader.u2() else {
         return Err(ReadFault::BadAttribute);
     };
-    let file = text_of(alloc, pool, index)?;
-    Ok(file)
+    text_of(alloc, pool, index)
 }
 
 // The name that all of an attribute's bytes spell, after their length.

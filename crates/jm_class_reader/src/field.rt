@@ -33,8 +33,7 @@ pub fn text<'p>(pool: &'p Pool, reader: &mut Reader<'_>) -> Result<Text<'p>, Rea
     ensures stands { IfOk result (Stands pool.now) }
 {
     let index = reader.u2()?;
-    let text = text_at(pool, index)?;
-    Ok(text)
+    text_at(pool, index)
 }
 
 // ---- the value that a static field begins with
@@ -174,8 +173,7 @@ fn field_name(
     ensures same { symbols.new ≡ symbols.old }
 {
     let text = text(symbols.pool(), reader)?;
-    let name = symbols.name(alloc, NameKind::Field, text)?;
-    Ok(name)
+    symbols.name(alloc, NameKind::Field, text)
 }
 
 #[tactic(auto, unfolding(jm_class_format::specs::Members::field_type))]
@@ -188,8 +186,7 @@ fn field_type(
     ensures same { symbols.new ≡ symbols.old }
 {
     let text = text(symbols.pool(), reader)?;
-    let field_type = symbols.field_type(alloc, text)?;
-    Ok(field_type)
+    symbols.field_type(alloc, text)
 }
 
 #[tactic(auto, unfolding(jm_class_format::specs::Members::field))]

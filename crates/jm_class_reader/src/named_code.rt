@@ -115,8 +115,7 @@ fn class_method(
     let Some(texts) = symbols.pool().method(index) else {
         return Err(bad_index(index));
     };
-    let method = symbols.method_ref(alloc, op, texts)?;
-    Ok(method)
+    symbols.method_ref(alloc, op, texts)
 }
 
 // The count is that of the argument slots with the receiver, and a zero follows (JVMS 6.5
@@ -151,8 +150,7 @@ fn interface_method(
         return Err(bad_index(index));
     };
     let method = symbols.method_ref(alloc, InvokeOp::Interface, texts)?;
-    let method = counted(count, last, method)?;
-    Ok(method)
+    counted(count, last, method)
 }
 
 // The class, the interface or the array type that an index names.
@@ -162,8 +160,7 @@ fn class_ref_at(alloc: Global, symbols: &mut Symbols<'_>, index: u16) -> Result<
     ensures same { symbols.new ≡ symbols.old }
 {
     let text = class_at(symbols.pool(), index)?;
-    let class = symbols.class_ref(alloc, text)?;
-    Ok(class)
+    symbols.class_ref(alloc, text)
 }
 
 #[tactic(auto, unfolding(jm_class_format::specs::NamedCode::type_operand))]
@@ -178,10 +175,7 @@ fn type_operand(
 {
     let class = class_ref_at(alloc, symbols, index)?;
     match op {
-        TypeOp::NewArray => {
-            let class = element_ref(class)?;
-            Ok(class)
-        }
+        TypeOp::NewArray => { element_ref(class) }
         TypeOp::CheckCast | TypeOp::InstanceOf => Ok(class),
     }
 }
@@ -197,8 +191,7 @@ pub fn class_name_at(
     ensures same { symbols.new ≡ symbols.old }
 {
     let text = class_at(symbols.pool(), index)?;
-    let name = symbols.name(alloc, NameKind::Class, text)?;
-    Ok(name)
+    symbols.name(alloc, NameKind::Class, text)
 }
 
 // `ldc` or `ldc_w` with its constant.

@@ -281,8 +281,7 @@ fn next_item<'a>(
     let line = lines.line_number();
     let number = body.count;
     let item = item_at(alloc, number, lines)?;
-    let body = accept(alloc, method, line, body, item)?;
-    Ok(body)
+    accept(alloc, method, line, body, item)
 }
 
 /// The items of a method's body, up to the line that begins with `.end`.

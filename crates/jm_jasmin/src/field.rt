@@ -193,8 +193,7 @@ fn field(alloc: Global, lines: &mut Lines<'_, '_>) -> Result<Field, AsmFault>
     ensures { Reads (λ f. f) result lines.new (by_line field_line lines.old) }
 {
     let line = lines.next_line();
-    let field = field_line(alloc, line)?;
-    Ok(field)
+    field_line(alloc, line)
 }
 
 /// The lines of fields.

@@ -176,8 +176,7 @@ fn declared_at(alloc: Global, lines: &mut Lines<'_, '_>) -> Result<Declared, Asm
         return Err(lines.misplaced());
     };
     let line = lines.next_line();
-    let declared = declared_line(alloc, bits, line)?;
-    Ok(declared)
+    declared_line(alloc, bits, line)
 }
 
 // ---- .super NAME, .implements NAME
@@ -198,8 +197,7 @@ fn superclass(alloc: Global, lines: &mut Lines<'_, '_>) -> Result<Name, AsmFault
         return Err(lines.misplaced());
     }
     let line = lines.next_line();
-    let name = class_line(alloc, line)?;
-    Ok(name)
+    class_line(alloc, line)
 }
 
 #[tactic(auto, unfolding(crate::specs::Lines::by_line))]
@@ -207,8 +205,7 @@ fn interface(alloc: Global, lines: &mut Lines<'_, '_>) -> Result<Name, AsmFault>
     ensures { Reads (λ name. name) result lines.new (by_line class_line lines.old) }
 {
     let line = lines.next_line();
-    let name = class_line(alloc, line)?;
-    Ok(name)
+    class_line(alloc, line)
 }
 
 #[tactic(auto, unfolding(crate::specs::Header::interfaces), using(crate::proofs::Steps::steps))]

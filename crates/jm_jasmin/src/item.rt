@@ -177,11 +177,9 @@ fn label_or_instruction<'a>(
 {
     if is_label_line(lines.line()) {
         let line = lines.next_line();
-        let item = label_line(alloc, number, line)?;
-        Ok(item)
+        label_line(alloc, number, line)
     } else {
-        let item = instruction_lines(alloc, lines)?;
-        Ok(item)
+        instruction_lines(alloc, lines)
     }
 }
 

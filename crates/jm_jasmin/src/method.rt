@@ -38,8 +38,7 @@ fn end_at(lines: &mut Lines<'_, '_>) -> Result<usize, AsmFault>
         return Err(lines.misplaced());
     }
     let line = lines.next_line();
-    let end = end_line(line)?;
-    Ok(end)
+    end_line(line)
 }
 
 fn with_code(method: Method, code: Option<Code>) -> Method
@@ -81,8 +80,7 @@ fn method_at(
     let number = lines.line_number();
     let line = lines.next_line();
     let method = method_line(alloc, in_interface, line)?;
-    let method = method_body(alloc, number, method, lines)?;
-    Ok(method)
+    method_body(alloc, number, method, lines)
 }
 
 /// The methods of a class or an interface.
