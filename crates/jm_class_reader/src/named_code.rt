@@ -1,15 +1,16 @@
 // Instructions with what their indexes name (JVMS 4.9.1, 6.5).
 
-ghost use Rattle.std.specs.Prelude.{◌≡◌, IfOk};
+ghost use Rattle.std.specs.Prelude.{◌≡◌, ◌==◌, ◌+◌, ◌&&◌, IfOk};
 ghost use Rattle.std.specs.Option.{ok_or, option_map};
 ghost use Rattle.jm_bytes.specs.Reading.{GivesAll, TakesAll, each};
+ghost use Rattle.jm_program.specs.Descriptors.{argument_slots};
 ghost use Rattle.jm_class_format.specs.declared.read_fault.ReadFault.TheVariants.{OutOfMemory};
 ghost use Rattle.jm_class_format.specs.declared.instruction.IndexedInstr.TheVariants as indexed;
 ghost use Rattle.jm_class_format.specs.FileFaults.{bad_index};
 ghost use Rattle.jm_class_format.specs.PoolLookups.{entry_at, text_at, class_at};
 ghost use Rattle.jm_pool.specs.Texts.{Stands};
 ghost use Rattle.jm_class_reader.specs.Known.{indexed_of};
-ghost use Rattle.jm_class_format.specs.NamedCode.{loaded, loaded_long, calls_interface, class_method, counted, interface_method, class_ref_at, type_operand, class_name_at, named, placed_named};
+ghost use Rattle.jm_class_format.specs.NamedCode.{loaded, loaded_long, calls_interface, class_method, interface_method, class_ref_at, type_operand, class_name_at, named, placed_named};
 
 use crate::operand::Operand;
 use crate::symbols::{NameKind, Symbols};
@@ -118,24 +119,19 @@ fn class_method(
     symbols.method_ref(alloc, op, texts)
 }
 
-// The count is that of the argument slots with the receiver, and a zero follows (JVMS 6.5
+// Whether the count is that of the argument slots with the receiver, and a zero follows (JVMS 6.5
 // invokeinterface).
-#[tactic(auto, unfolding(jm_class_format::specs::NamedCode::counted))]
-fn counted(count: u8, last: u8, method: MethodRef) -> Result<MethodRef, ReadFault>
-    ensures { TakesAll (λ method. method) result (counted count last method) }
+fn is_counted(count: u8, last: u8, method: &MethodRef) -> bool
+    ensures { result ≡ ((count == argument_slots method.now.descriptor + 1) && (last == 0)) }
 {
-    let Some(slots) = method.descriptor.argument_slots() else {
-        return Err(ReadFault::BadAttribute);
-    };
-    if u16::from(count) == u16::from(slots) + 1 && last == 0 {
-        Ok(method)
-    } else {
-        Err(ReadFault::BadAttribute)
+    match method.descriptor.argument_slots() {
+        Some(slots) => u16::from(count) == u16::from(slots) + 1 && last == 0,
+        None => false,
     }
 }
 
 // The method of an interface that an index names.
-#[tactic(auto, unfolding(jm_class_format::specs::NamedCode::interface_method))]
+#[tactic(auto, unfolding(jm_class_format::specs::NamedCode::interface_method, jm_class_format::specs::NamedCode::counted))]
 fn interface_method(
     alloc: Global,
     symbols: &mut Symbols<'_>,
@@ -150,7 +146,11 @@ fn interface_method(
         return Err(bad_index(index));
     };
     let method = symbols.method_ref(alloc, InvokeOp::Interface, texts)?;
-    counted(count, last, method)
+    if is_counted(count, last, &method) {
+        Ok(method)
+    } else {
+        Err(ReadFault::BadAttribute)
+    }
 }
 
 // The class, the interface or the array type that an index names.
@@ -175,7 +175,7 @@ fn type_operand(
 {
     let class = class_ref_at(alloc, symbols, index)?;
     match op {
-        TypeOp::NewArray => { element_ref(class) }
+        TypeOp::NewArray => element_ref(class),
         TypeOp::CheckCast | TypeOp::InstanceOf => Ok(class),
     }
 }

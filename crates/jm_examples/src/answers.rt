@@ -5,6 +5,7 @@ use crate::notation::expanded;
 use crate::{assembled, class_files, codes, descriptors, plain_rows, pools, schedules, tokens};
 use std::alloc::Global;
 use std::io::ErrorKind;
+use std::ops::Range;
 use std::{io, str};
 
 /// What the rows of a table ask.
@@ -100,24 +101,39 @@ pub fn answer(rt: &HostRuntime, question: Question, column: &str) -> io::Result<
     }
 }
 
+// The numbers of bytes from FROM on and below TO, and the column.
+fn cuts_of(cut: &str) -> Option<(Range<usize>, &str)> {
+    let (from, rest) = cut.split_once(' ')?;
+    let (to, column) = rest.split_once(' ')?;
+    Some((from.parse().ok()?..to.parse().ok()?, column))
+}
+
 // The one answer to all of the cuts, behind their number, or the first other one and where it is cut.
 fn cut_answer(rt: &HostRuntime, question: Question, cut: &str) -> io::Result<String> {
-    let (from, rest) = cut.split_once(' ').ok_or(ErrorKind::InvalidData)?;
-    let (to, column) = rest.split_once(' ').ok_or(ErrorKind::InvalidData)?;
-    let (Ok(from), Ok(to)) = (from.parse::<usize>(), to.parse::<usize>()) else {
-        return Err(io::Error::from(ErrorKind::InvalidData));
-    };
+    let (lengths, column) = cuts_of(cut).ok_or(ErrorKind::InvalidData)?;
     let bytes = bytes_of(rt, column)?;
-    let front = bytes.get(..from).ok_or(ErrorKind::InvalidData)?;
-    let first = answer_of(rt.alloc(), question, front)?;
-    for length in from..to {
-        let front = bytes.get(..length).ok_or(ErrorKind::InvalidData)?;
-        let one = answer_of(rt.alloc(), question, front)?;
+    let first = answer_to_front(rt.alloc(), question, &bytes, lengths.start)?;
+    for length in lengths.start..lengths.end {
+        let one = answer_to_front(rt.alloc(), question, &bytes, length)?;
         if one.as_str() != first.as_str() {
             return Ok(format!(in rt.alloc(); "{one} of {length} bytes")?);
         }
     }
-    Ok(format!(in rt.alloc(); "{} times {first}", to.saturating_sub(from))?)
+    let count = lengths.end.saturating_sub(lengths.start);
+    Ok(format!(in rt.alloc(); "{count} times {first}")?)
+}
+
+// The answer to the first bytes.
+fn answer_to_front(
+    alloc: Global,
+    question: Question,
+    bytes: &[u8],
+    length: usize,
+) -> io::Result<String> {
+    match bytes.get(..length) {
+        Some(front) => answer_of(alloc, question, front),
+        None => Err(io::Error::from(ErrorKind::InvalidData)),
+    }
 }
 
 fn answer_of(alloc: Global, question: Question, bytes: &[u8]) -> io::Result<String> {

@@ -4,7 +4,7 @@ use crate::class_lines::{ClassLine, InstructionsLine};
 use crate::notation::{Numbers, said};
 use jm_class_reader::read_class;
 use jm_class_writer::write_class;
-use jm_program::{Class, Version};
+use jm_program::{Class, ClassParts, Version};
 use std::alloc::Global;
 use std::io;
 
@@ -66,18 +66,22 @@ pub fn bytes(alloc: Global, bytes: &[u8]) -> io::Result<String> {
     }
 }
 
-/// The major versions, of 40 to 60, with which the class of a class file keeps the rules.
-pub fn versions(alloc: Global, bytes: &[u8]) -> io::Result<String> {
-    let mut parts = match read_class(alloc, bytes) {
-        Ok(class) => class.into_parts(),
-        Err(fault) => return said(alloc, &fault),
-    };
+// The major versions, of 40 to 60, with which a class keeps the rules.
+fn versions_of(alloc: Global, class: &mut ClassParts) -> io::Result<String> {
     let mut kept = Vec::new(alloc);
     for major in 40..61u16 {
-        parts.version = Version { major, minor: 0 };
-        if parts.fits() {
+        class.version = Version { major, minor: 0 };
+        if class.fits() {
             kept.push(major)?;
         }
     }
     said(alloc, &Numbers(&kept))
+}
+
+/// The major versions, of 40 to 60, with which the class of a class file keeps the rules.
+pub fn versions(alloc: Global, bytes: &[u8]) -> io::Result<String> {
+    match read_class(alloc, bytes) {
+        Ok(class) => versions_of(alloc, &mut class.into_parts()),
+        Err(fault) => said(alloc, &fault),
+    }
 }

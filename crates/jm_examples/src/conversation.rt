@@ -4,8 +4,8 @@ ghost use Rattle.std.specs.Prelude.{⊤};
 
 use crate::jobs::{HEAP, debug_job, input_file};
 use jm_execute::{
-    Contents, Job, ReadFailed, Readable, Watchable, Watched, WriteFailed, execute, get_by_read,
-    put_by_write, put_line_by_write, put_through_by_flush,
+    Contents, Job, ReadFailed, Readable, Status, Watchable, Watched, WriteFailed, execute,
+    get_by_read, put_by_write, put_line_by_write, put_through_by_flush,
 };
 use std::cell::Cell;
 use std::fmt::Display;
@@ -109,6 +109,27 @@ fn session_of(rt: &HostRuntime, file: &str) -> io::Result<Job> {
     Ok(debug_job(HEAP, vec![in rt.alloc(); file]?))
 }
 
+// Holds a session over what is asked and answered.
+fn status_of(
+    rt: &HostRuntime,
+    wait: &impl Wait,
+    job: &Job,
+    written: &Written,
+    answering: &mut Answering<'_>,
+) -> Status {
+    let mut lines = Vec::new(rt.alloc());
+    let mut input = Watched::new(Asking { written, asked: 0 });
+    let mut out = Watched::new(answering);
+    let mut err = Watched::new(&mut lines);
+    execute(wait, rt.alloc(), job, &mut input, &mut out, &mut err)
+}
+
+fn print_answers(rt: &impl Print, status: Status, answers: usize, taken: &[u8]) -> io::Result<()> {
+    println!(rt; "conversation: status {}, {answers} answers", status.code())?;
+    let text = str::from_utf8(taken).unwrap_or("no text");
+    print!(rt; "{text}")
+}
+
 /// Holds a session over the class of a file, and prints its status, how many answers were flushed
 /// before the next command was given, and the answers.
 pub fn print_conversation(rt: &HostRuntime, wait: &impl Wait, file: &str) -> io::Result<()> {
@@ -117,20 +138,10 @@ pub fn print_conversation(rt: &HostRuntime, wait: &impl Wait, file: &str) -> io:
         answers: Cell::new(0),
         is_held: Cell::new(false),
     };
-    let mut input = Watched::new(Asking {
-        written: &written,
-        asked: 0,
-    });
     let mut answering = Answering {
         written: &written,
         taken: Vec::new(rt.alloc()),
     };
-    let mut lines = Vec::new(rt.alloc());
-    let mut out = Watched::new(&mut answering);
-    let mut err = Watched::new(&mut lines);
-    let status = execute(wait, rt.alloc(), &job, &mut input, &mut out, &mut err);
-    let answers = written.answers.get();
-    println!(rt; "conversation: status {}, {answers} answers", status.code())?;
-    let text = str::from_utf8(&answering.taken).unwrap_or("no text");
-    print!(rt; "{text}")
+    let status = status_of(rt, wait, &job, &written, &mut answering);
+    print_answers(rt, status, written.answers.get(), &answering.taken)
 }

@@ -1,16 +1,17 @@
-//! Reads the class files among its data, assembles the texts, and prints a table: for each class how
-//! many fields and methods it has and, over its methods, the sums of max_stack and of max_locals and
-//! the rows of the codes, of the exception tables and of the line number tables, and whether it is
-//! equal when it is written and read again; for each file that is refused why. Then a line compares
-//! the bytes of the worked text with the worked class file. Then it runs the programs among its data,
-//! and prints what each prints and how it ends. It does the jobs of the tables in jobs/ and answers the
-//! rows of those in answers/, and prints how many rows of each are as they should be, and those that are
-//! not. Last four workers share the machine of two printing threads, whose journal is run again. With
-//! words it makes turns through the lock instead, for `bench/shared`.
+//! Reads the class files and assembles the texts that files.txt of its data lists, and prints a table:
+//! for each class how many fields and methods it has and, over its methods, the sums of max_stack and of
+//! max_locals and the rows of the codes, of the exception tables and of the line number tables, and
+//! whether it is equal when it is written and read again; for each file that is refused why. Then a line
+//! compares the bytes of the worked text with the worked class file. Then it runs the programs among its
+//! data, and prints what each prints and how it ends. It does the jobs of the tables that tables.txt
+//! lists and answers the rows of those in answers/, and prints how many rows of each are as they should
+//! be, and those that are not. Last four workers share the machine of two printing threads, whose journal
+//! is run again. With words it makes turns through the lock instead, for `bench/shared`.
 #![tactic(auto)]
 
 mod again;
 mod answers;
+mod asked;
 mod assembled;
 mod class_files;
 mod class_lines;
@@ -19,7 +20,6 @@ mod columns;
 mod conversation;
 mod descriptors;
 mod events;
-mod files;
 mod job_rows;
 mod jobs;
 mod journals;
@@ -38,8 +38,8 @@ mod values;
 mod workers;
 
 use again::read_again;
+use asked::ANSWERS;
 use conversation::print_conversation;
-use files::{ACCEPTED, ANSWERS, REFUSED, TABLES, TEXTS};
 use jm_class_reader::read_class;
 use jm_class_writer::write_class;
 use jm_jasmin::assemble;
@@ -48,39 +48,44 @@ use programs::{print_programs, print_runs};
 use row::row_of;
 use shared_run::print_workers;
 use std::rt::Files;
+use std::sync::Wait;
+use std::thread::Threads;
 use std::{env, fs, io};
 use tables::{print_answers, print_tables};
 use turns::print_turns;
 
 fn main(rt: HostRuntime) -> io::Result<()> {
     let words: Vec<String> = env::args(&rt)?.skip(1).collect(rt.alloc())?;
-    if !words.is_empty() {
-        return print_turns(&rt, &rt, &words);
+    if words.is_empty() {
+        print_all(&rt, &rt)
+    } else {
+        print_turns(&rt, &rt, &words)
     }
+}
+
+// Does all that is among the data.
+fn print_all<R: Threads + Wait + Sync>(rt: &HostRuntime, threads: &R) -> io::Result<()> {
     println!(rt; "file fields methods max_stack max_locals instructions handlers lines again")?;
-    print_class_files(&rt, ACCEPTED)?;
-    print_class_files(&rt, REFUSED)?;
-    print_texts(&rt, TEXTS)?;
-    print_bytes(&rt, "sum.j", "sum.class")?;
-    print_programs(&rt, &rt, "programs.txt")?;
-    print_runs(&rt, &rt, "worked.txt")?;
-    print_runs(&rt, &rt, "runs.txt")?;
-    print_conversation(&rt, &rt, "sum.class")?;
-    print_tables(&rt, &rt, TABLES)?;
-    print_answers(&rt, &rt, ANSWERS)?;
-    print_workers(&rt, &rt, "workers/Main.j workers/W.j")
+    print_files(rt, "files.txt")?;
+    print_bytes(rt, "sum.j", "sum.class")?;
+    print_programs(rt, threads, "programs.txt")?;
+    print_runs(rt, threads, "worked.txt")?;
+    print_runs(rt, threads, "runs.txt")?;
+    print_conversation(rt, threads, "sum.class")?;
+    print_tables(rt, threads, "tables.txt")?;
+    print_answers(rt, threads, ANSWERS)?;
+    print_workers(rt, threads, "workers/Main.j workers/W.j")
 }
 
-fn print_class_files(rt: &(impl Print + Files + AllocGlobal), files: &[&str]) -> io::Result<()> {
-    for file in files {
-        print_class_file(rt, file)?;
-    }
-    Ok(())
-}
-
-fn print_texts(rt: &(impl Print + Files + AllocGlobal), files: &[&str]) -> io::Result<()> {
-    for file in files {
-        print_text(rt, file)?;
+// Prints the line of each class file and of each text that a file lists.
+fn print_files(rt: &(impl Print + Files + AllocGlobal), list: &str) -> io::Result<()> {
+    let files = fs::read_to_string(rt, list)?;
+    for file in files.lines() {
+        if file.ends_with(".j") {
+            print_text(rt, file)?;
+        } else {
+            print_class_file(rt, file)?;
+        }
     }
     Ok(())
 }

@@ -6,10 +6,32 @@ use crate::values::{FrameLine, value_of};
 use jm_frames::{Frame, TagFault};
 use jm_jasmin::assemble;
 use jm_ops::{Flow, step};
-use jm_program::{Instr, Plain};
+use jm_program::{ClassParts, Instr, Plain};
 use std::alloc::Global;
 use std::io::ErrorKind;
 use std::{fmt, fs, io, str};
+
+// Puts the values of words on a frame's operand stack.
+fn push_operands(frame: &mut Frame, words: &str) -> io::Result<()> {
+    for word in words.split_whitespace() {
+        let value = value_of(word).ok_or(ErrorKind::InvalidData)?;
+        if frame.push(value).is_err() {
+            return Err(io::Error::from(ErrorKind::InvalidData));
+        }
+    }
+    Ok(())
+}
+
+// Sets a frame's local variables, the first one first.
+fn set_locals(frame: &mut Frame, words: &str) {
+    let mut number = 0;
+    for word in words.split_whitespace() {
+        if number < frame.max_locals() {
+            frame.set_local(number, value_of(word));
+            number += 1;
+        }
+    }
+}
 
 // The frame of operands and local variables, with `;` between them.
 fn frame_of(alloc: Global, max_stack: u16, values: &str) -> io::Result<Frame> {
@@ -19,19 +41,8 @@ fn frame_of(alloc: Global, max_stack: u16, values: &str) -> io::Result<Frame> {
         count = count.saturating_add(1);
     }
     let mut frame = Frame::new(alloc, 0, None, max_stack, count)?;
-    let mut number = 0;
-    for word in locals.split_whitespace() {
-        if number < frame.max_locals() {
-            frame.set_local(number, value_of(word));
-            number += 1;
-        }
-    }
-    for word in operands.split_whitespace() {
-        let value = value_of(word).ok_or(ErrorKind::InvalidData)?;
-        if frame.push(value).is_err() {
-            return Err(io::Error::from(ErrorKind::InvalidData));
-        }
-    }
+    set_locals(&mut frame, locals);
+    push_operands(&mut frame, operands)?;
     Ok(frame)
 }
 
@@ -75,6 +86,29 @@ pub fn count(rt: &HostRuntime, instruction: &str) -> io::Result<String> {
     said(rt.alloc(), &count)
 }
 
+// What the first plain instruction that a class's codes begin with does to a frame.
+fn made_by(alloc: Global, class: &ClassParts, frame: &mut Frame) -> io::Result<String> {
+    for method in class.methods.as_slice() {
+        if let Some(code) = &method.code {
+            if let Some(Instr::Plain(op)) = code.instructions.as_slice().first() {
+                return made_on(alloc, op, frame);
+            }
+        }
+    }
+    Err(io::Error::from(ErrorKind::InvalidData))
+}
+
+// The same of the class of a text.
+fn made_by_text(alloc: Global, text: &[u8], frame: &mut Frame) -> io::Result<String> {
+    let Ok(text) = str::from_utf8(text) else {
+        return Err(io::Error::from(ErrorKind::InvalidData));
+    };
+    match assemble(alloc, text) {
+        Ok(class) => made_by(alloc, class.parts(), frame),
+        Err(_) => Err(io::Error::from(ErrorKind::InvalidData)),
+    }
+}
+
 /// What comes of a row: `INSTRUCTION | MAX_STACK | OPERANDS ; LOCALS`.
 pub fn answer(rt: &HostRuntime, column: &str) -> io::Result<String> {
     let (instruction, rest) = column.split_once(" | ").ok_or(ErrorKind::InvalidData)?;
@@ -83,19 +117,6 @@ pub fn answer(rt: &HostRuntime, column: &str) -> io::Result<String> {
         return Err(io::Error::from(ErrorKind::InvalidData));
     };
     let text = with_instructions(rt, "answers/plain.j", instruction)?;
-    let Ok(text) = str::from_utf8(&text) else {
-        return Err(io::Error::from(ErrorKind::InvalidData));
-    };
-    let Ok(class) = assemble(rt.alloc(), text) else {
-        return Err(io::Error::from(ErrorKind::InvalidData));
-    };
     let mut frame = frame_of(rt.alloc(), max_stack, values)?;
-    for method in class.parts().methods.as_slice() {
-        if let Some(code) = &method.code {
-            if let Some(Instr::Plain(op)) = code.instructions.as_slice().first() {
-                return made_on(rt.alloc(), op, &mut frame);
-            }
-        }
-    }
-    Err(io::Error::from(ErrorKind::InvalidData))
+    made_by_text(rt.alloc(), &text, &mut frame)
 }

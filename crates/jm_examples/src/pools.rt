@@ -2,6 +2,7 @@
 
 use crate::notation::{Numbers, said};
 use jm_bytes::Reader;
+use jm_class_format::PoolFault;
 use jm_pool::{Member, NameAndType, Pool, code_units};
 use std::alloc::Global;
 use std::io::ErrorKind;
@@ -16,12 +17,20 @@ fn left(alloc: Global, bytes: &[u8]) -> usize {
     }
 }
 
+// How many entries and bytes a pool has.
+fn size_of(alloc: Global, bytes: &[u8]) -> Result<(usize, usize), PoolFault> {
+    match Pool::read(alloc, bytes) {
+        Ok((pool, taken)) => Ok((pool.entries().len(), taken)),
+        Err(fault) => Err(fault),
+    }
+}
+
 /// How many entries and bytes a pool has, and how many bytes are left behind it; or why bytes begin
 /// with none.
 pub fn pool(alloc: Global, bytes: &[u8]) -> io::Result<String> {
-    match Pool::read(alloc, bytes) {
-        Ok((pool, taken)) => {
-            let (count, left) = (pool.entries().len(), left(alloc, bytes));
+    match size_of(alloc, bytes) {
+        Ok((count, taken)) => {
+            let left = left(alloc, bytes);
             Ok(format!(in alloc; "{count} entries of {taken} bytes, {left} left")?)
         }
         Err(fault) => said(alloc, &fault),
@@ -87,18 +96,27 @@ fn look_up<'p>(pool: &'p Pool, kind: &str, index: u16) -> Option<Named<'p>> {
     }
 }
 
+// What an index names as an entry of a kind, or none.
+fn said_of(alloc: Global, pool: &Pool, kind: &str, index: u16) -> io::Result<String> {
+    match look_up(pool, kind, index) {
+        Some(named) => said(alloc, &named),
+        None => said(alloc, &"none"),
+    }
+}
+
+// The same in the pool of these bytes.
+fn looked_up_in(alloc: Global, bytes: &[u8], kind: &str, index: u16) -> io::Result<String> {
+    match Pool::read(alloc, bytes) {
+        Ok((pool, _)) => said_of(alloc, &pool, kind, index),
+        Err(_) => Err(io::Error::from(ErrorKind::InvalidData)),
+    }
+}
+
 /// What an index of the pool of the file `answers/pool` names, as an entry of a kind.
 pub fn looked_up(rt: &HostRuntime, column: &str) -> io::Result<String> {
     let (kind, index) = column.split_once(' ').ok_or(ErrorKind::InvalidData)?;
     let Ok(index) = index.parse::<u16>() else {
         return Err(io::Error::from(ErrorKind::InvalidData));
     };
-    let bytes = fs::read(rt, "answers/pool")?;
-    let Ok((pool, _)) = Pool::read(rt.alloc(), &bytes) else {
-        return Err(io::Error::from(ErrorKind::InvalidData));
-    };
-    match look_up(&pool, kind, index) {
-        Some(named) => said(rt.alloc(), &named),
-        None => Ok(String::from_str(rt.alloc(), "none")?),
-    }
+    looked_up_in(rt.alloc(), &fs::read(rt, "answers/pool")?, kind, index)
 }

@@ -26,11 +26,15 @@ const TURNS: &str = "@turns 1000000 1";
 pub fn print_programs(rt: &HostRuntime, wait: &impl Wait, file: &str) -> io::Result<()> {
     let programs = fs::read_to_string(rt, file)?;
     for files in programs.lines() {
-        println!(rt; "== {}", name_of(main_file(files)))?;
-        let events = events_of(rt, TURNS)?;
-        print_run(rt, wait, &job_of(rt, HEAP, events, files)?)?;
+        print_program(rt, wait, files)?;
     }
     Ok(())
+}
+
+fn print_program(rt: &HostRuntime, wait: &impl Wait, files: &str) -> io::Result<()> {
+    println!(rt; "== {}", name_of(main_file(files)))?;
+    let events = events_of(rt, TURNS)?;
+    print_run(rt, wait, &job_of(rt, HEAP, events, files)?)
 }
 
 /// Runs each program of a file whose lines have the limit of the heap, in cells, how many events of the
@@ -82,12 +86,16 @@ fn main_file(program: &str) -> &str {
     }
 }
 
+fn file_named(rt: &HostRuntime, name: &str) -> io::Result<InputFile> {
+    let bytes = fs::read(rt, name)?;
+    Ok(input_file(rt.alloc(), name, Contents::Bytes(bytes))?)
+}
+
 /// The files of these names, with a space between them.
 pub fn files_named(rt: &HostRuntime, names: &str) -> io::Result<Vec<InputFile>> {
     let mut files = Vec::new(rt.alloc());
     for name in names.split(' ') {
-        let bytes = fs::read(rt, name)?;
-        files.push(input_file(rt.alloc(), name, Contents::Bytes(bytes))?)?;
+        files.push(file_named(rt, name)?)?;
     }
     Ok(files)
 }

@@ -2,14 +2,15 @@
 
 use crate::answers::{Question, answer, wanted_answer};
 use crate::job_rows::job_row;
-use crate::outcomes::{outcome_of, wanted_of};
+use crate::outcomes::{Outcome, outcome_of, wanted_of};
 use std::sync::Wait;
-use std::{fs, io};
+use std::{fmt, fs, io};
 
-/// Does the job of each row of the tables, and prints for each table how many rows are as they should
-/// be, and before that, for each that is not, its line, what was wanted and what came.
-pub fn print_tables(rt: &HostRuntime, wait: &impl Wait, tables: &[&str]) -> io::Result<()> {
-    for table in tables {
+/// Does the job of each row of the tables that a file lists, and prints for each table how many rows are
+/// as they should be, and before that, for each that is not, its line, what was wanted and what came.
+pub fn print_tables(rt: &HostRuntime, wait: &impl Wait, list: &str) -> io::Result<()> {
+    let tables = fs::read_to_string(rt, list)?;
+    for table in tables.lines() {
         print_table(rt, wait, table, None)?;
     }
     Ok(())
@@ -42,59 +43,104 @@ fn print_table(
             continue;
         }
         rows = rows.saturating_add(1);
-        let number = index.saturating_add(1);
-        let is_kept = match question {
-            Some(question) => is_answered(rt, question, file, number, line)?,
-            None => is_kept(rt, wait, file, number, line)?,
+        let at = At {
+            file,
+            number: index.saturating_add(1),
         };
-        if is_kept {
+        if is_as_wanted(rt, wait, question, at, line)? {
             kept = kept.saturating_add(1);
         }
     }
     println!(rt; "{file}: {kept} of {rows} rows are as they should be")
 }
 
-// Whether what comes of the row of a line is what is to come of it; prints what is not so.
-fn is_kept(
+// Where a row stands: its file and its line.
+#[derive(Clone, Copy)]
+struct At<'a> {
+    file: &'a str,
+    number: usize,
+}
+
+impl fmt::Display for At<'_> {
+    fn fmt<W: fmt::Write>(&self, f: &mut fmt::Formatter<W>) -> fmt::Result {
+        write!(f, "{}:{}", self.file, self.number)
+    }
+}
+
+// Whether what comes of a row is what is to come of it; prints what is not so.
+fn is_as_wanted(
     rt: &HostRuntime,
     wait: &impl Wait,
-    file: &str,
-    number: usize,
+    question: Option<Question>,
+    at: At<'_>,
     line: &str,
 ) -> io::Result<bool> {
-    let Some(row) = job_row(line) else {
-        println!(rt; "{file}:{number}: no row")?;
-        return Ok(false);
-    };
-    let wanted = wanted_of(rt, &row)?;
-    let came = outcome_of(rt, wait, &row)?;
-    if came == wanted {
-        return Ok(true);
+    match question {
+        Some(question) => is_answered(rt, question, at, line),
+        None => is_kept(rt, wait, at, line),
     }
-    println!(rt; "{file}:{number}: wanted {wanted}, came {came}")?;
+}
+
+// Prints why a row is not as it should be.
+fn missed<T: fmt::Display>(rt: &impl Print, at: At<'_>, why: &T) -> io::Result<bool> {
+    println!(rt; "{at}: {why}")?;
     Ok(false)
 }
 
-// Whether the answer to the row of a line is the one that stands there; prints what is not so.
-fn is_answered(
-    rt: &HostRuntime,
-    question: Question,
-    file: &str,
-    number: usize,
-    line: &str,
-) -> io::Result<bool> {
-    let Some((asked, wanted)) = line.split_once(" =>") else {
-        println!(rt; "{file}:{number}: no row")?;
-        return Ok(false);
+// Two texts, of which the first one was wanted.
+#[derive(Clone, Copy)]
+struct Difference<'a, T> {
+    wanted: &'a T,
+    came: &'a T,
+}
+
+impl<T: fmt::Display> fmt::Display for Difference<'_, T> {
+    fn fmt<W: fmt::Write>(&self, f: &mut fmt::Formatter<W>) -> fmt::Result {
+        write!(f, "wanted {}, came {}", self.wanted, self.came)
+    }
+}
+
+// Whether what comes of the job of a row is what is to come of it.
+fn is_kept(rt: &HostRuntime, wait: &impl Wait, at: At<'_>, line: &str) -> io::Result<bool> {
+    let Some(row) = job_row(line) else {
+        return missed(rt, at, &"no row");
     };
-    let wanted = wanted_answer(rt.alloc(), wanted)?;
-    let Ok(came) = answer(rt, question, asked) else {
-        println!(rt; "{file}:{number}: no answer")?;
-        return Ok(false);
-    };
-    if came.as_str().trim_start() == wanted.as_str().trim_start() {
+    let wanted = wanted_of(rt, &row)?;
+    let came = outcome_of(rt, wait, &row)?;
+    are_equal(rt, at, &wanted, &came)
+}
+
+// Whether an outcome is the one that was wanted.
+fn are_equal(rt: &impl Print, at: At<'_>, wanted: &Outcome, came: &Outcome) -> io::Result<bool> {
+    if came == wanted {
         return Ok(true);
     }
-    println!(rt; "{file}:{number}: wanted {wanted}, came {came}")?;
-    Ok(false)
+    missed(rt, at, &Difference { wanted, came })
+}
+
+// Whether the answer to a row is the one that stands there.
+fn is_answered(rt: &HostRuntime, question: Question, at: At<'_>, line: &str) -> io::Result<bool> {
+    let Some((asked, wanted)) = line.split_once(" =>") else {
+        return missed(rt, at, &"no row");
+    };
+    let wanted = wanted_answer(rt.alloc(), wanted)?;
+    match answer(rt, question, asked) {
+        Ok(came) => are_same(rt, at, wanted.as_str(), came.as_str()),
+        Err(_) => missed(rt, at, &"no answer"),
+    }
+}
+
+// Whether an answer is the one that was wanted, but for spaces before it.
+fn are_same(rt: &impl Print, at: At<'_>, wanted: &str, came: &str) -> io::Result<bool> {
+    if came.trim_start() == wanted.trim_start() {
+        return Ok(true);
+    }
+    missed(
+        rt,
+        at,
+        &Difference {
+            wanted: &wanted,
+            came: &came,
+        },
+    )
 }

@@ -5,8 +5,14 @@ use Rattle.jm_world.specs.Hierarchy.{parents}
 use Rattle.jm_tables.specs.Hierarchies.{own_cell}
 use Rattle.jm_tables.specs.declared.extent.DeclaredFields.{DeclaredFields}
 use Rattle.jm_tables.specs.declared.inheritance.Declared.{Declared}
+use Rattle.jm_tables.specs.FieldKinds.{AreKinds}
+use Rattle.jm_tables.specs.Layouts.{IsLayout}
 use Rattle.jm_linked.specs.Links.{class_numbered}
+use Rattle.jm_linked.specs.Methods.{code_numbers}
+use Rattle.jm_linked.specs.Tables.{AreInitializers, AreSuperclasses, HaveConstants, all_names}
 use Rattle.jm_linker.specs.NumberedClasses.{AreNumbers}
+use Rattle.jm_linker.specs.declared.tables.FieldTables.{FieldTables}
+use Rattle.jm_linker.specs.declared.tables.OwnTables.{OwnTables}
 
 -- the class of a number with the numbers of those right above it, and with its own cell
 pub record IsClass (program : List ClassParts) (class : ℕ) (d : Declared) : Type 0 where
@@ -36,3 +42,15 @@ pub record IsItsFields (program : List ClassParts) (heirs : List Declared) (clas
 pub record AreTheirFields (program : List ClassParts) (heirs : List Declared) (many : ℕ) (classes : List DeclaredFields) : Type 0 where
   pub length : length classes ≡ many
   pub each : (class : ℕ) (d : DeclaredFields) → slice_get classes class ≡ Some d → IsItsFields program heirs class d
+
+-- the tables of a program's fields and superclasses
+pub record AreFieldTables (program : List ClassParts) (tables : FieldTables) : Type 0 where
+  pub layout : IsLayout program (all_names program) tables.layout
+  pub kinds : AreKinds program (all_names program) tables.kinds
+  pub superclasses : AreSuperclasses program tables.superclasses
+
+-- the tables of what its classes declare
+pub record AreOwnTables (program : List ClassParts) (tables : OwnTables) : Type 0 where
+  pub codes : tables.codes ≡ code_numbers program
+  pub initializers : AreInitializers program tables.initializers
+  pub constants : HaveConstants program tables.constants

@@ -72,6 +72,19 @@ fn write(numbers: &mut [u32], number: usize, new: u32) {
 }
 
 impl<'a> Ranking<'a> {
+    // No class of so many has a rank.
+    fn new(alloc: Global, count: usize) -> Result<Ranking<'a>, AllocError> {
+        Ok(Ranking {
+            ranks: vec![in alloc; 0; count]?,
+            places: vec![in alloc; 0; count]?,
+            lowest: vec![in alloc; 0; count]?,
+            open: Vec::new(alloc),
+            pending: Vec::new(alloc),
+            last_place: 0,
+            last_rank: 0,
+        })
+    }
+
     fn begin(&mut self, classes: &Classes<'a>, number: usize) -> Result<(), AllocError> {
         let Some(class) = classes.program.get(number) else {
             return Ok(());
@@ -144,31 +157,28 @@ impl<'a> Ranking<'a> {
             None => Ok(()),
         }
     }
+
+    // Walks from a class up, unless the walk has come to it.
+    fn walk(&mut self, classes: &Classes<'a>, number: usize) -> Result<(), AllocError> {
+        if read(&self.places, number) == 0 {
+            self.begin(classes, number)?;
+        }
+        for _ in 0..u64::MAX {
+            let Some(next) = self.pending.pop() else {
+                return Ok(());
+            };
+            self.go_on(classes, next)?;
+        }
+        Ok(())
+    }
 }
 
 /// The ranks of the program's classes by their numbers: the same rank for classes that are above
 /// one another.
 pub fn ranks_of<'a>(alloc: Global, classes: &Classes<'a>) -> Result<Vec<u32>, AllocError> {
-    let count = classes.program.len();
-    let mut ranking = Ranking {
-        ranks: vec![in alloc; 0; count]?,
-        places: vec![in alloc; 0; count]?,
-        lowest: vec![in alloc; 0; count]?,
-        open: Vec::new(alloc),
-        pending: Vec::new(alloc),
-        last_place: 0,
-        last_rank: 0,
-    };
-    for number in 0..count {
-        if read(&ranking.places, number) == 0 {
-            ranking.begin(classes, number)?;
-        }
-        for _ in 0..u64::MAX {
-            let Some(next) = ranking.pending.pop() else {
-                break;
-            };
-            ranking.go_on(classes, next)?;
-        }
+    let mut ranking = Ranking::new(alloc, classes.program.len())?;
+    for number in 0..classes.program.len() {
+        ranking.walk(classes, number)?;
     }
     Ok(ranking.ranks)
 }

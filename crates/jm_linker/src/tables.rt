@@ -8,7 +8,7 @@ ghost use Rattle.jm_world.specs.Classes.{height};
 ghost use Rattle.jm_tables.specs.Hierarchies.{own_cell};
 ghost use Rattle.jm_tables.specs.declared.extent.DeclaredFields.{DeclaredFields as ModelFields};
 ghost use Rattle.jm_linked.specs.Tables.{AreTables};
-ghost use Rattle.jm_linker.specs.Inherited.{AreClasses, AreTheirFields, first_of};
+ghost use Rattle.jm_linker.specs.Inherited.{AreClasses, AreFieldTables, AreOwnTables, AreTheirFields, first_of};
 ghost use Rattle.jm_linker.specs.NumberedClasses.{AreNumbers};
 
 use crate::classes::Classes;
@@ -17,7 +17,7 @@ use crate::constants::constants_of;
 use crate::initializers::initializers_of;
 use crate::parents::superclass_of;
 use crate::selected::selected_of;
-use jm_linked::Tables;
+use jm_linked::{LinkedConstant, Tables};
 use jm_program::{AccessFlags, ClassParts, Name, Sequence};
 use jm_radix::Cell;
 use jm_tables::{Declared, DeclaredFields, FieldKinds, Hierarchy, Layout};
@@ -160,12 +160,12 @@ fn turn_of_built_in<'a>(classes: &Classes<'a>, number: usize, short: u32) -> Tur
     }
 }
 
-// All classes in the order in which they are placed.
-fn order_of<'a>(
+// When each class is placed.
+fn turns_of<'a>(
     alloc: Global,
     classes: &Classes<'a>,
     ranks: &[u32],
-) -> Result<Vec<u32>, AllocError> {
+) -> Result<Vec<Turn>, AllocError> {
     let built_ins = classes.built_ins.len();
     let mut turns = Vec::with_capacity(alloc, classes.height())?;
     for number in 0..classes.height() {
@@ -182,12 +182,111 @@ fn order_of<'a>(
         };
         turns.push(turn)?;
     }
+    Ok(turns)
+}
+
+// All classes in the order in which they are placed.
+fn order_of<'a>(
+    alloc: Global,
+    classes: &Classes<'a>,
+    ranks: &[u32],
+) -> Result<Vec<u32>, AllocError> {
+    let mut turns = turns_of(alloc, classes, ranks)?;
     turns.sort_unstable_by_key(|turn| (turn.rank, turn.depth, turn.number));
     let mut order = Vec::with_capacity(alloc, turns.len())?;
     for turn in turns.as_slice() {
         order.push(turn.number)?;
     }
     Ok(order)
+}
+
+// The tables of the classes' fields and superclasses.
+#[derive(Drop)]
+struct FieldTables {
+    layout: Layout,
+    kinds: FieldKinds,
+    superclasses: Sequence<Option<u32>>,
+}
+
+// The tables of the classes' fields and superclasses, or none where a class above one is not there or
+// comes after it in the order.
+fn field_tables<'a>(
+    alloc: Global,
+    classes: &Classes<'a>,
+    heirs: &[Declared],
+    order: &[u32],
+) -> Result<Option<FieldTables>, AllocError>
+    ensures { IfOk result (λ found. IfSome found (λ tables. Loads classes.now.program.now
+        → AreClasses classes.now.program.now (height classes.now.program.now) heirs.now → AreFieldTables classes.now.program.now tables)) }
+{
+    let Some(fields) = fields_of(alloc, classes, heirs)? else {
+        return Ok(None);
+    };
+    let Some(layout) = Layout::of(alloc, &fields, order)? else {
+        return Ok(None);
+    };
+    let Some(kinds) = FieldKinds::of(alloc, &fields, order)? else {
+        return Ok(None);
+    };
+    let superclasses = Sequence::new(superclasses_in(alloc, &fields)?);
+    Ok(Some(FieldTables {
+        layout,
+        kinds,
+        superclasses,
+    }))
+}
+
+// The tables of what the classes themselves declare.
+#[derive(Drop)]
+struct OwnTables {
+    codes: Sequence<Option<u32>>,
+    initializers: Sequence<Option<u32>>,
+    constants: Sequence<Sequence<Option<LinkedConstant>>>,
+}
+
+fn own_tables<'a>(alloc: Global, classes: &Classes<'a>) -> Result<OwnTables, AllocError>
+    ensures { IfOk result (λ own. AreOwnTables classes.now.program.now own) }
+{
+    let codes = code_numbers(alloc, classes)?;
+    let initializers = initializers_of(alloc, classes)?;
+    let constants = constants_of(alloc, classes)?;
+    Ok(OwnTables {
+        codes: Sequence::new(codes),
+        initializers: Sequence::new(initializers),
+        constants: Sequence::new(constants),
+    })
+}
+
+// The tables of classes with the numbers of those right above them, in an order of them.
+fn tables_in<'a>(
+    alloc: Global,
+    classes: &Classes<'a>,
+    heirs: &[Declared],
+    order: &[u32],
+) -> Result<Option<Tables>, AllocError>
+    requires { AreClasses classes.now.program.now (height classes.now.program.now) heirs.now }
+    ensures { IfOk result (λ found. IfSome found (λ tables. Loads classes.now.program.now → AreTables classes.now.program.now tables)) }
+{
+    let Some(hierarchy) = Hierarchy::of(alloc, heirs, order)? else {
+        return Ok(None);
+    };
+    let Some(of_fields) = field_tables(alloc, classes, heirs, order)? else {
+        return Ok(None);
+    };
+    let Some(selected) = selected_of(alloc, classes, heirs, order)? else {
+        return Ok(None);
+    };
+    let own = own_tables(alloc, classes)?;
+    Ok(Some(Tables {
+        hierarchy,
+        layout: of_fields.layout,
+        kinds: of_fields.kinds,
+        selected,
+        codes: own.codes,
+        superclasses: of_fields.superclasses,
+        initializers: own.initializers,
+        constants: own.constants,
+    }))
 }
 
 /// What the classes of a program that loads have by their numbers, made in the order of the ranks;
@@ -205,33 +304,5 @@ pub fn tables_of<'a>(
         return Ok(None);
     };
     let order = order_of(alloc, classes, ranks)?;
-    let Some(hierarchy) = Hierarchy::of(alloc, &heirs, &order)? else {
-        return Ok(None);
-    };
-    let Some(fields) = fields_of(alloc, classes, &heirs)? else {
-        return Ok(None);
-    };
-    let Some(layout) = Layout::of(alloc, &fields, &order)? else {
-        return Ok(None);
-    };
-    let Some(kinds) = FieldKinds::of(alloc, &fields, &order)? else {
-        return Ok(None);
-    };
-    let superclasses = Sequence::new(superclasses_in(alloc, &fields)?);
-    let Some(selected) = selected_of(alloc, classes, &heirs, &order)? else {
-        return Ok(None);
-    };
-    let codes = Sequence::new(code_numbers(alloc, classes)?);
-    let initializers = Sequence::new(initializers_of(alloc, classes)?);
-    let constants = Sequence::new(constants_of(alloc, classes)?);
-    Ok(Some(Tables {
-        hierarchy,
-        layout,
-        kinds,
-        selected,
-        codes,
-        superclasses,
-        initializers,
-        constants,
-    }))
+    tables_in(alloc, classes, &heirs, &order)
 }

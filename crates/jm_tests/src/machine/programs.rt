@@ -1,15 +1,16 @@
-// Programs, linked, and the heaps over which their machines run.
+// Programs, and the heaps over which their machines run.
 
-ghost use Rattle.std.specs.Prelude.{◌≡◌, [], IfOk, None};
+ghost use Rattle.std.specs.Prelude.{◌≡◌, [], IfOk};
 ghost use Rattle.jm_generations.specs.Residents.{content_of};
-ghost use Rattle.jm_linked.specs.Later.{later_part};
+ghost use Rattle.jm_machine.specs.Start.{IsEmpty};
+ghost use Rattle.jm_machine.specs.View.{MatchesWorld};
+ghost use Rattle.jm_execute.specs.Beginnings.{beginning};
 
 use jm_copy::SerialCollector;
+use jm_execute::{Contents, InputFile, machine_of};
 use jm_gen_heap::GenHeap;
-use jm_jasmin::assemble;
-use jm_linked::Linked;
-use jm_linker::link;
-use jm_program::Class;
+use jm_heap::Heap;
+use jm_machine::Machine;
 use std::alloc::{AllocError, Global};
 use std::test::Fail;
 
@@ -64,19 +65,27 @@ pub fn main_with_nodes(alloc: Global, instructions: &str) -> Result<String, Allo
     format!(in alloc; "{main}\n{NODE}")
 }
 
-// Adds the classes of a text to a list.
-fn add_classes(alloc: Global, classes: &mut Vec<Class>, text: &str) -> Result<(), Fail> {
+// The files of a text: its classes, the main one first, with an empty line between them.
+fn files_of(alloc: Global, text: &str) -> Result<Vec<InputFile>, AllocError> {
+    let mut files = Vec::new(alloc);
     for class in text.split("\n\n") {
-        classes.push(assemble(alloc, class)?)?;
+        let file = InputFile {
+            name: String::from_str(alloc, "A.j")?,
+            contents: Contents::Bytes(class.as_bytes().to_vec(alloc)?),
+        };
+        files.push(file)?;
     }
-    Ok(())
+    Ok(files)
 }
 
-/// The program of a text: its classes, the main one first, with an empty line between them.
-pub fn linked_program(alloc: Global, text: &str) -> Result<Linked, Fail>
-    ensures { IfOk result (λ linked. later_part linked.program ≡ None) }
+/// The machine of the program of a text, before its first event, over an empty heap.
+pub fn machine_over<H: Heap + Drop>(alloc: Global, text: &str, heap: H) -> Result<Machine<H>, Fail>
+    requires { IsEmpty (H.content heap) }
+    ensures { IfOk result (λ machine. MatchesWorld machine (beginning machine)) }
 {
-    let mut classes = Vec::new(alloc);
-    add_classes(alloc, &mut classes, text)?;
-    Ok(link(alloc, classes)?)
+    let files = files_of(alloc, text)?;
+    match machine_of(alloc, &files, heap) {
+        Ok(machine) => Ok(machine),
+        Err(_) => Err(Fail::from("a program without a machine")),
+    }
 }

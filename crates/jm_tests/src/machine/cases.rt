@@ -5,7 +5,7 @@ ghost use Rattle.jm_machine.specs.Start.{IsEmpty};
 
 use crate::machine::collections::{LIST_ROWS, Listed, check_collections};
 use crate::machine::programs::{
-    BY_ZERO, CUTS_A_LIST, SUM, empty_heap, linked_program, main_with, main_with_nodes,
+    BY_ZERO, CUTS_A_LIST, SUM, empty_heap, machine_over, main_with, main_with_nodes,
 };
 use crate::machine::readers::{STATICS, check_frames, check_objects, check_statics};
 use crate::machine::replies::check_replies;
@@ -69,8 +69,7 @@ fn check_over<H: Heap + Listed + Drop>(
 ) -> Result<(), Fail>
     requires { IsEmpty (H.content heap) }
 {
-    let linked = linked_program(alloc, program)?;
-    let mut machine = Machine::load(alloc, linked, heap)?;
+    let mut machine = machine_over(alloc, program, heap)?;
     compare(rt, alloc, &mut machine, what)
 }
 

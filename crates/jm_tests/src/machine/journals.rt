@@ -1,17 +1,13 @@
 // Journals of Main's run.
 
-ghost use Rattle.std.specs.Prelude.{◌≡◌, None};
-ghost use Rattle.jm_linked.specs.Later.{later_part};
-ghost use Rattle.jm_machine.specs.Start.{IsEmpty};
-ghost use Rattle.jm_world.specs.Loading.{loaded_world};
+ghost use Rattle.jm_machine.specs.View.{MatchesWorld};
 
-use crate::machine::programs::{SUM, linked_program, main_with};
+use crate::machine::programs::{SUM, machine_over, main_with};
 use crate::machine::replies::STEP;
 use jm_heap::{Heap, PlainHeap};
-use jm_linked::Linked;
 use jm_machine::Machine;
 use jm_shared::{Entry, Journal, Origin, Receipt};
-use jm_world::ReplyKind;
+use jm_world::{Event, ReplyKind};
 use std::alloc::Global;
 use std::marker::Brand;
 use std::process::Abort;
@@ -60,6 +56,25 @@ fn check_turns<H: Heap, R: Origin>(
     Ok(())
 }
 
+fn is_entry_with(entry: Option<Entry>, event: Event) -> bool {
+    match entry {
+        Some(entry) => entry.event == event,
+        None => false,
+    }
+}
+
+// Makes a collection of each kind, turns of one seat whose replies are equal.
+fn check_collections<H: Heap, R: Origin>(
+    rt: &impl Abort,
+    journal: &mut Journal<H, R>,
+) -> Result<(), Fail> {
+    journal.turn(2, Event::Minor)?;
+    journal.turn(2, Event::Full)?;
+    assert!(rt; is_entry_with(journal.entry(9), Event::Minor));
+    assert!(rt; is_entry_with(journal.entry(10), Event::Full));
+    Ok(())
+}
+
 // Whether no thread of a journal's machine is live.
 fn has_ended<H: Heap + Drop, R: Origin>(journal: Journal<H, R>) -> bool {
     journal.into_machine().live() == 0
@@ -70,28 +85,26 @@ fn check_journal<H: Heap + Drop, R: Origin>(
     mut journal: Journal<H, R>,
 ) -> Result<(), Fail> {
     check_turns(rt, &mut journal)?;
+    check_collections(rt, &mut journal)?;
     assert!(rt; has_ended(journal));
     Ok(())
 }
 
-fn nine_turns<H: Heap + Drop, R: Origin>(
+// The journal of a machine before its first event.
+fn check_turns_of<H: Heap + Drop, R: Origin>(
     rt: &impl Abort,
     alloc: Global,
-    linked: Linked,
-    heap: H,
+    machine: Machine<H>,
 ) -> Result<(), Fail>
-    requires not_later { later_part linked.program ≡ None }
-    requires empty { IsEmpty (H.content heap) }
-    requires first { R.first ≡ loaded_world linked.program (H.content heap).limit }
+    requires { MatchesWorld machine R.first }
 {
-    let machine = Machine::load(alloc, linked, heap)?;
     check_journal::<H, R>(rt, Journal::new(alloc, machine))
 }
 
 #[test]
-fn nine_turns_are_journaled(rt: HostRuntime) -> Result<(), Fail> {
+fn turns_are_journaled(rt: HostRuntime) -> Result<(), Fail> {
     let program = main_with(rt.alloc(), SUM)?;
-    let linked = linked_program(rt.alloc(), &program)?;
     let heap = PlainHeap::new(rt.alloc(), 65536);
-    nine_turns::<PlainHeap, Brand>(&rt, rt.alloc(), linked, heap)
+    let machine = machine_over(rt.alloc(), &program, heap)?;
+    check_turns_of::<PlainHeap, Brand>(&rt, rt.alloc(), machine)
 }
