@@ -1,10 +1,10 @@
 // Questions that the rows of tables ask, and their answers as texts.
 
+use crate::class_lines::ClassQuestion;
 use crate::columns::{bytes_of, text_bytes};
-use crate::notation::expanded;
+use crate::notation::{expanded, invalid};
 use crate::{assembled, class_files, codes, descriptors, plain_rows, pools, schedules, tokens};
 use std::alloc::Global;
-use std::io::ErrorKind;
 use std::ops::Range;
 use std::{io, str};
 
@@ -26,10 +26,8 @@ pub enum Question {
 /// What is asked of bytes.
 #[derive(Clone, Copy)]
 pub enum BytesQuestion {
-    /// The class of a class file.
-    Class,
-    /// The instructions of the class's codes.
-    Instructions,
+    /// What the class of a class file is.
+    Class(ClassQuestion),
     /// How many class files that differ in one byte are answered.
     Changes,
     /// Whether the class is written as the same bytes.
@@ -48,16 +46,10 @@ pub enum BytesQuestion {
 /// What is asked of a text.
 #[derive(Clone, Copy)]
 pub enum TextQuestion {
-    /// Whether it is a class, or why not.
-    Assembly,
-    /// Its class.
-    Class,
-    /// The instructions of its class.
-    Instructions,
+    /// What its class is.
+    Class(ClassQuestion),
     /// Whether it is a class, or has a fault with a number and a line.
     IsAnswered,
-    /// Its class, written and read again.
-    Again,
     /// Some bytes of its class file.
     ClassFile,
     Tokens,
@@ -80,7 +72,7 @@ pub fn wanted_answer(alloc: Global, column: &str) -> io::Result<String> {
     let column = expanded(alloc, column)?;
     match String::from_utf8(text_bytes(alloc, &column)?) {
         Ok(text) => Ok(text),
-        Err(_) => Err(io::Error::from(ErrorKind::InvalidData)),
+        Err(_) => invalid(),
     }
 }
 
@@ -110,7 +102,9 @@ fn cuts_of(cut: &str) -> Option<(Range<usize>, &str)> {
 
 // The one answer to all of the cuts, behind their number, or the first other one and where it is cut.
 fn cut_answer(rt: &HostRuntime, question: Question, cut: &str) -> io::Result<String> {
-    let (lengths, column) = cuts_of(cut).ok_or(ErrorKind::InvalidData)?;
+    let Some((lengths, column)) = cuts_of(cut) else {
+        return invalid();
+    };
     let bytes = bytes_of(rt, column)?;
     let first = answer_to_front(rt.alloc(), question, &bytes, lengths.start)?;
     for length in lengths.start..lengths.end {
@@ -132,7 +126,7 @@ fn answer_to_front(
 ) -> io::Result<String> {
     match bytes.get(..length) {
         Some(front) => answer_of(alloc, question, front),
-        None => Err(io::Error::from(ErrorKind::InvalidData)),
+        None => invalid(),
     }
 }
 
@@ -141,16 +135,15 @@ fn answer_of(alloc: Global, question: Question, bytes: &[u8]) -> io::Result<Stri
         Question::Bytes(question) => answer_to_bytes(alloc, question, bytes),
         Question::Text(question) => match str::from_utf8(bytes) {
             Ok(text) => answer_to_text(alloc, question, text),
-            Err(_) => Err(io::Error::from(ErrorKind::InvalidData)),
+            Err(_) => invalid(),
         },
-        _ => Err(io::Error::from(ErrorKind::InvalidData)),
+        _ => invalid(),
     }
 }
 
 fn answer_to_bytes(alloc: Global, question: BytesQuestion, bytes: &[u8]) -> io::Result<String> {
     match question {
-        BytesQuestion::Class => class_files::class(alloc, bytes),
-        BytesQuestion::Instructions => class_files::instructions(alloc, bytes),
+        BytesQuestion::Class(question) => class_files::class(alloc, question, bytes),
         BytesQuestion::Changes => class_files::changes(alloc, bytes),
         BytesQuestion::Same => class_files::bytes(alloc, bytes),
         BytesQuestion::Versions => class_files::versions(alloc, bytes),
@@ -163,11 +156,8 @@ fn answer_to_bytes(alloc: Global, question: BytesQuestion, bytes: &[u8]) -> io::
 
 fn answer_to_text(alloc: Global, question: TextQuestion, text: &str) -> io::Result<String> {
     match question {
-        TextQuestion::Assembly => assembled::assembly(alloc, text),
-        TextQuestion::Class => assembled::class(alloc, text),
-        TextQuestion::Instructions => assembled::instructions(alloc, text),
+        TextQuestion::Class(question) => assembled::class(alloc, question, text),
         TextQuestion::IsAnswered => assembled::is_answered(alloc, text),
-        TextQuestion::Again => assembled::again(alloc, text),
         TextQuestion::ClassFile => assembled::class_file(alloc, text),
         TextQuestion::Tokens => tokens::tokens_of(alloc, text),
         TextQuestion::TokensBefore => tokens::tokens_before(alloc, text),

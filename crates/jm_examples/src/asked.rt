@@ -1,9 +1,13 @@
 // The tables of questions among the data, in answers/, and what the rows of each ask.
 
 use crate::answers::{BytesQuestion, Question, TextQuestion};
+use crate::class_lines::ClassQuestion;
 
 pub const ANSWERS: &[(&str, Question)] = &[
-    ("answers/bodies.txt", Question::Text(TextQuestion::Assembly)),
+    (
+        "answers/bodies.txt",
+        Question::Text(TextQuestion::Class(ClassQuestion::IsThere)),
+    ),
     (
         "answers/class_bytes.txt",
         Question::Bytes(BytesQuestion::Same),
@@ -18,11 +22,11 @@ pub const ANSWERS: &[(&str, Question)] = &[
     ),
     (
         "answers/class_files.txt",
-        Question::Bytes(BytesQuestion::Class),
+        Question::Bytes(BytesQuestion::Class(ClassQuestion::Whole)),
     ),
     (
         "answers/class_instructions.txt",
-        Question::Bytes(BytesQuestion::Instructions),
+        Question::Bytes(BytesQuestion::Class(ClassQuestion::Instructions)),
     ),
     (
         "answers/class_versions.txt",
@@ -35,7 +39,7 @@ pub const ANSWERS: &[(&str, Question)] = &[
     ("answers/codes.txt", Question::Bytes(BytesQuestion::Code)),
     (
         "answers/cut_outcomes.txt",
-        Question::Text(TextQuestion::Assembly),
+        Question::Text(TextQuestion::Class(ClassQuestion::IsThere)),
     ),
     (
         "answers/cut_texts.txt",
@@ -69,13 +73,16 @@ pub const ANSWERS: &[(&str, Question)] = &[
     ),
     (
         "answers/text_classes.txt",
-        Question::Text(TextQuestion::Class),
+        Question::Text(TextQuestion::Class(ClassQuestion::Whole)),
     ),
     (
         "answers/text_instructions.txt",
-        Question::Text(TextQuestion::Instructions),
+        Question::Text(TextQuestion::Class(ClassQuestion::Instructions)),
     ),
-    ("answers/texts.txt", Question::Text(TextQuestion::Assembly)),
+    (
+        "answers/texts.txt",
+        Question::Text(TextQuestion::Class(ClassQuestion::IsThere)),
+    ),
     (
         "answers/token_lines.txt",
         Question::Text(TextQuestion::TokenLines),
@@ -87,6 +94,6 @@ pub const ANSWERS: &[(&str, Question)] = &[
     ),
     (
         "answers/written_again.txt",
-        Question::Text(TextQuestion::Again),
+        Question::Text(TextQuestion::Class(ClassQuestion::Again)),
     ),
 ];

@@ -1,13 +1,11 @@
 // What texts in Jasmin's syntax are.
 
-use crate::again::read_again;
-use crate::class_lines::{ClassLine, InstructionsLine};
-use crate::notation::{Bytes, said};
+use crate::class_lines::{ClassQuestion, class_answer};
+use crate::notation::{Bytes, invalid, said};
 use jm_class_writer::write_class;
 use jm_jasmin::{AsmFault, assemble};
 use std::alloc::Global;
 use std::io;
-use std::io::ErrorKind;
 
 // A fault, with its line.
 fn fault_line(alloc: Global, fault: &AsmFault) -> io::Result<String> {
@@ -19,34 +17,10 @@ fn fault_line(alloc: Global, fault: &AsmFault) -> io::Result<String> {
     }
 }
 
-/// `class`, or why the text is none.
-pub fn assembly(alloc: Global, text: &str) -> io::Result<String> {
+/// The answer to a question about the class of a text, or why it is none.
+pub fn class(alloc: Global, question: ClassQuestion, text: &str) -> io::Result<String> {
     match assemble(alloc, text) {
-        Ok(_) => Ok(String::from_str(alloc, "class")?),
-        Err(fault) => fault_line(alloc, &fault),
-    }
-}
-
-/// The class of a text, or why it is none.
-pub fn class(alloc: Global, text: &str) -> io::Result<String> {
-    match assemble(alloc, text) {
-        Ok(class) => said(alloc, &ClassLine(class.parts())),
-        Err(fault) => fault_line(alloc, &fault),
-    }
-}
-
-/// The instructions of the class of a text, or why it is none.
-pub fn instructions(alloc: Global, text: &str) -> io::Result<String> {
-    match assemble(alloc, text) {
-        Ok(class) => said(alloc, &InstructionsLine(class.parts())),
-        Err(fault) => fault_line(alloc, &fault),
-    }
-}
-
-/// What comes of writing the class of a text and reading it again, or why the text is none.
-pub fn again(alloc: Global, text: &str) -> io::Result<String> {
-    match assemble(alloc, text) {
-        Ok(class) => said(alloc, &read_again(alloc, &class)),
+        Ok(class) => class_answer(alloc, question, &class),
         Err(fault) => fault_line(alloc, &fault),
     }
 }
@@ -74,7 +48,9 @@ fn part(alloc: Global, from: usize, to: usize, text: &str) -> io::Result<String>
     };
     match write_class(alloc, &class) {
         Ok(bytes) => {
-            let part = bytes.get(from..to).ok_or(ErrorKind::InvalidData)?;
+            let Some(part) = bytes.get(from..to) else {
+                return invalid();
+            };
             said(alloc, &Bytes(part))
         }
         Err(fault) => said(alloc, &fault),
@@ -84,10 +60,14 @@ fn part(alloc: Global, from: usize, to: usize, text: &str) -> io::Result<String>
 /// The bytes from one place to another of the class file of a text, whose first line has the two
 /// places.
 pub fn class_file(alloc: Global, column: &str) -> io::Result<String> {
-    let (places, text) = column.split_once('\n').ok_or(ErrorKind::InvalidData)?;
-    let (from, to) = places.split_once(' ').ok_or(ErrorKind::InvalidData)?;
+    let Some((places, text)) = column.split_once('\n') else {
+        return invalid();
+    };
+    let Some((from, to)) = places.split_once(' ') else {
+        return invalid();
+    };
     match (from.parse(), to.parse()) {
         (Ok(from), Ok(to)) => part(alloc, from, to, text),
-        _ => Err(io::Error::from(ErrorKind::InvalidData)),
+        _ => invalid(),
     }
 }

@@ -1,6 +1,6 @@
 // What class files are.
 
-use crate::class_lines::{ClassLine, InstructionsLine};
+use crate::class_lines::{ClassQuestion, class_answer};
 use crate::notation::{Numbers, said};
 use jm_class_reader::read_class;
 use jm_class_writer::write_class;
@@ -8,18 +8,14 @@ use jm_program::{Class, ClassParts, Version};
 use std::alloc::Global;
 use std::io;
 
-/// The class of a class file, or why it has none.
-pub fn class(alloc: Global, bytes: &[u8]) -> io::Result<String> {
+/// The answer to a question about the class of a class file, or why it has none.
+pub fn class(alloc: Global, question: ClassQuestion, bytes: &[u8]) -> io::Result<String> {
     match read_class(alloc, bytes) {
-        Ok(class) => said(alloc, &ClassLine(class.parts())),
-        Err(fault) => said(alloc, &fault),
-    }
-}
-
-/// The instructions of the class of a class file, or why it has none.
-pub fn instructions(alloc: Global, bytes: &[u8]) -> io::Result<String> {
-    match read_class(alloc, bytes) {
-        Ok(class) => said(alloc, &InstructionsLine(class.parts())),
+        Ok(class) => {
+            let answer = class_answer(alloc, question, &class);
+            drop(class);
+            answer
+        }
         Err(fault) => said(alloc, &fault),
     }
 }

@@ -1,12 +1,37 @@
 // A class in a line, and the instructions of its codes.
 
-use crate::notation::Numbers;
-use jm_program::{ClassParts, Code, Constant, Field, Handler, Method};
-use std::fmt;
+use crate::again::read_again;
+use crate::notation::{Numbers, said};
+use jm_program::{Class, ClassParts, Code, Constant, Field, Handler, Method};
+use std::alloc::Global;
+use std::{fmt, io};
 
-/// All of a class but its instructions.
+/// What is asked of a class.
 #[derive(Clone, Copy)]
-pub struct ClassLine<'a>(pub &'a ClassParts);
+pub enum ClassQuestion {
+    /// Whether there is one.
+    IsThere,
+    /// All of it but its instructions.
+    Whole,
+    /// The instructions of its codes.
+    Instructions,
+    /// What comes of writing it and reading it again.
+    Again,
+}
+
+/// The answer to a question about a class.
+pub fn class_answer(alloc: Global, question: ClassQuestion, class: &Class) -> io::Result<String> {
+    match question {
+        ClassQuestion::IsThere => said(alloc, &"class"),
+        ClassQuestion::Whole => said(alloc, &ClassLine(class.parts())),
+        ClassQuestion::Instructions => said(alloc, &InstructionsLine(class.parts())),
+        ClassQuestion::Again => said(alloc, &read_again(alloc, class)),
+    }
+}
+
+// All of a class but its instructions.
+#[derive(Clone, Copy)]
+struct ClassLine<'a>(&'a ClassParts);
 
 impl fmt::Display for ClassLine<'_> {
     fn fmt<W: fmt::Write>(&self, f: &mut fmt::Formatter<W>) -> fmt::Result {
@@ -81,9 +106,9 @@ fn write_handler<W: fmt::Write>(f: &mut fmt::Formatter<W>, handler: &Handler) ->
     write!(f, " {} {} {}", handler.start, handler.end, handler.target)
 }
 
-/// The instructions of the codes of a class, each behind `; `.
+// The instructions of the codes of a class, each behind `; `.
 #[derive(Clone, Copy)]
-pub struct InstructionsLine<'a>(pub &'a ClassParts);
+struct InstructionsLine<'a>(&'a ClassParts);
 
 impl fmt::Display for InstructionsLine<'_> {
     fn fmt<W: fmt::Write>(&self, f: &mut fmt::Formatter<W>) -> fmt::Result {

@@ -1,10 +1,9 @@
 // What bytes of codes are (JVMS 4.7.3, 6.5).
 
-use crate::notation::said;
+use crate::notation::{invalid, said};
 use jm_class_format::{IndexedInstr, PlacedInstr};
 use jm_opcodes::decode_code;
 use std::alloc::Global;
-use std::io::ErrorKind;
 use std::{fmt, io};
 
 // The instructions of a code, each behind its offset.
@@ -48,7 +47,7 @@ fn write_instruction<W: fmt::Write>(
 /// The instructions of a code, or why the bytes are none.
 pub fn code(alloc: Global, bytes: &[u8]) -> io::Result<String> {
     if bytes.len() >= 65_536 {
-        return Err(io::Error::from(ErrorKind::InvalidData));
+        return invalid();
     }
     match decode_code(alloc, bytes) {
         Ok(code) => said(alloc, &CodeLine(&code)),
@@ -59,7 +58,7 @@ pub fn code(alloc: Global, bytes: &[u8]) -> io::Result<String> {
 /// How many bytes and instructions a code has.
 pub fn code_length(alloc: Global, bytes: &[u8]) -> io::Result<String> {
     if bytes.len() >= 65_536 {
-        return Err(io::Error::from(ErrorKind::InvalidData));
+        return invalid();
     }
     match decode_code(alloc, bytes) {
         Ok(code) => Ok(format!(in alloc; "{} bytes, {}", bytes.len(), code.len())?),

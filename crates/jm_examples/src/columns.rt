@@ -2,10 +2,9 @@
 // error of the kind `InvalidData`.
 
 use crate::jobs::input_file;
-use crate::notation::{bytes_of_words, edited};
+use crate::notation::{bytes_of_words, edited, invalid};
 use jm_execute::{Contents, InputFile};
 use std::alloc::Global;
-use std::io::ErrorKind;
 use std::{fs, io};
 
 // The text of a class of this name without members.
@@ -23,9 +22,11 @@ pub fn with_instructions(rt: &HostRuntime, file: &str, instructions: &str) -> io
 
 // Adds a byte by its two hexadecimal digits, and what stands behind them.
 fn push_part(bytes: &mut Vec<u8>, part: &str) -> io::Result<()> {
-    let (digits, behind) = part.split_at_checked(2).ok_or(ErrorKind::InvalidData)?;
+    let Some((digits, behind)) = part.split_at_checked(2) else {
+        return invalid();
+    };
     let Ok(byte) = u8::from_str_radix(digits, 16) else {
-        return Err(io::Error::from(ErrorKind::InvalidData));
+        return invalid();
     };
     bytes.push(byte)?;
     bytes.extend_from_slice(behind.as_bytes())?;
@@ -48,8 +49,12 @@ pub fn text_bytes(alloc: Global, text: &str) -> io::Result<Vec<u8>> {
 
 // Three texts, of which the middle one stands so many times.
 fn repeated(alloc: Global, count: u32, texts: &str) -> io::Result<Vec<u8>> {
-    let (before, rest) = texts.split_once(" / ").ok_or(ErrorKind::InvalidData)?;
-    let (part, behind) = rest.split_once(" / ").ok_or(ErrorKind::InvalidData)?;
+    let Some((before, rest)) = texts.split_once(" / ") else {
+        return invalid();
+    };
+    let Some((part, behind)) = rest.split_once(" / ") else {
+        return invalid();
+    };
     let part = text_bytes(alloc, part)?;
     let mut bytes = text_bytes(alloc, before)?;
     for _ in 0..count {
@@ -61,10 +66,12 @@ fn repeated(alloc: Global, count: u32, texts: &str) -> io::Result<Vec<u8>> {
 
 // A repetition behind the count of its middle text.
 fn repetition(alloc: Global, column: &str) -> io::Result<Vec<u8>> {
-    let (count, texts) = column.split_once(' ').ok_or(ErrorKind::InvalidData)?;
+    let Some((count, texts)) = column.split_once(' ') else {
+        return invalid();
+    };
     match count.parse() {
         Ok(count) => repeated(alloc, count, texts),
-        Err(_) => Err(io::Error::from(ErrorKind::InvalidData)),
+        Err(_) => invalid(),
     }
 }
 

@@ -1,10 +1,9 @@
 // What descriptors and names are.
 
-use crate::notation::said;
+use crate::notation::{invalid, said};
 use jm_program::{Descriptor, Name};
 use std::alloc::Global;
 use std::io;
-use std::io::ErrorKind;
 
 /// The descriptor of a text, as it prints, or why the text is none; `itself` where it prints as the
 /// text.
@@ -25,7 +24,7 @@ pub fn name(alloc: Global, numbers: &str) -> io::Result<String> {
     for number in numbers.split_whitespace() {
         match number.parse::<u16>() {
             Ok(unit) => units.push(unit)?,
-            Err(_) => return Err(io::Error::from(ErrorKind::InvalidData)),
+            Err(_) => return invalid(),
         }
     }
     let name = Name::new(units);

@@ -3,10 +3,10 @@
 ghost use Rattle.std.specs.Prelude.{MatchOption, ◌≤◌};
 
 use crate::columns::file_of;
+use crate::notation::invalid;
 use jm_execute::RunEvents;
 use jm_schedule::{MAX_QUANTUM, MAX_STEPS, RoundRobin, round_robin};
 use std::io;
-use std::io::ErrorKind;
 
 // A number from 1 on, if it is one and at most this large.
 fn number_of(word: &str, most: u32) -> Option<u32>
@@ -33,7 +33,7 @@ pub fn events_of(rt: &HostRuntime, column: &str) -> io::Result<RunEvents> {
     match column.strip_prefix("@turns ") {
         Some(numbers) => match turns_of(numbers) {
             Some(turns) => Ok(RunEvents::RoundRobin(turns)),
-            None => Err(io::Error::from(ErrorKind::InvalidData)),
+            None => invalid(),
         },
         None => Ok(RunEvents::Schedule(file_of(rt, "events", column)?)),
     }

@@ -30,7 +30,10 @@ fn finish_late<H: Heap + Drop, S: Sharing>(
     }
     match machine.finish(seats) {
         Ok(journal) => Some((journal, others)),
-        Err(_) => None,
+        Err(missing) => {
+            drop(missing);
+            None
+        }
     }
 }
 
@@ -41,8 +44,13 @@ pub fn finish_twice<H: Heap + Drop, S: Sharing>(
     mut seats: Vec<Seat<S>>,
 ) -> Option<(Journal<H, S>, usize)> {
     let last = seats.pop();
-    let missing = machine.finish(seats).err()?;
-    finish_late(missing, last)
+    match machine.finish(seats) {
+        Err(missing) => finish_late(missing, last),
+        Ok(journal) => {
+            drop(journal);
+            None
+        }
+    }
 }
 
 // Whether replies are those of the journal's entries, in order.

@@ -4,11 +4,18 @@ use std::alloc::Global;
 use std::io::ErrorKind;
 use std::{fmt, io};
 
+/// The error of a column without a meaning.
+pub fn invalid<T>() -> io::Result<T> {
+    Err(io::Error::from(ErrorKind::InvalidData))
+}
+
 // A part as often as its count says, each time with the number, from 0 on, for `#`.
 fn push_repeated(text: &mut String, alloc: Global, repeated: &str) -> io::Result<()> {
-    let (count, part) = repeated.split_once(' ').ok_or(ErrorKind::InvalidData)?;
+    let Some((count, part)) = repeated.split_once(' ') else {
+        return invalid();
+    };
     let Ok(count) = count.parse::<u32>() else {
-        return Err(io::Error::from(ErrorKind::InvalidData));
+        return invalid();
     };
     for number in 0..count {
         let number = said(alloc, &number)?;
@@ -45,7 +52,7 @@ fn push_word(bytes: &mut Vec<u8>, word: &str) -> io::Result<()> {
     }
     match u8::from_str_radix(word, 16) {
         Ok(byte) => Ok(bytes.push(byte)?),
-        Err(_) => Err(io::Error::from(ErrorKind::InvalidData)),
+        Err(_) => invalid(),
     }
 }
 

@@ -4,6 +4,7 @@ use crate::columns::{bytes_of, file_of, files_of};
 use crate::events::events_of;
 use crate::job_rows::{JobKind, JobRow};
 use crate::jobs::{assembly_job, debug_job, run_job};
+use crate::notation::invalid;
 use jm_execute::{InputFile, Job, Watched, class_of, execute};
 use jm_linker::{LinkFault, link};
 use jm_program::Class;
@@ -114,7 +115,7 @@ fn classes_of(rt: &HostRuntime, files: &[InputFile]) -> io::Result<Vec<Class>> {
     for file in files {
         match class_of(rt.alloc(), file) {
             Ok(class) => classes.push(class)?,
-            Err(_) => return Err(io::Error::from(ErrorKind::InvalidData)),
+            Err(_) => return invalid(),
         }
     }
     Ok(classes)

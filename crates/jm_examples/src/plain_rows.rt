@@ -1,22 +1,23 @@
 // What plain instructions do to frames.
 
 use crate::columns::with_instructions;
-use crate::notation::said;
+use crate::notation::{invalid, said};
 use crate::values::{FrameLine, value_of};
 use jm_frames::{Frame, TagFault};
 use jm_jasmin::assemble;
 use jm_ops::{Flow, step};
 use jm_program::{ClassParts, Instr, Plain};
 use std::alloc::Global;
-use std::io::ErrorKind;
 use std::{fmt, fs, io, str};
 
 // Puts the values of words on a frame's operand stack.
 fn push_operands(frame: &mut Frame, words: &str) -> io::Result<()> {
     for word in words.split_whitespace() {
-        let value = value_of(word).ok_or(ErrorKind::InvalidData)?;
+        let Some(value) = value_of(word) else {
+            return invalid();
+        };
         if frame.push(value).is_err() {
-            return Err(io::Error::from(ErrorKind::InvalidData));
+            return invalid();
         }
     }
     Ok(())
@@ -65,7 +66,7 @@ impl fmt::Display for Made {
 #[tactic(auto, using(jm_ops::proofs::Lookup::fitting_is_ordered))]
 fn made_on(alloc: Global, op: &Plain, frame: &mut Frame) -> io::Result<String> {
     if !op.fits(30) {
-        return Err(io::Error::from(ErrorKind::InvalidData));
+        return invalid();
     }
     frame.go_to(0);
     let made = Made(step(frame, op));
@@ -95,26 +96,30 @@ fn made_by(alloc: Global, class: &ClassParts, frame: &mut Frame) -> io::Result<S
             }
         }
     }
-    Err(io::Error::from(ErrorKind::InvalidData))
+    invalid()
 }
 
 // The same of the class of a text.
 fn made_by_text(alloc: Global, text: &[u8], frame: &mut Frame) -> io::Result<String> {
     let Ok(text) = str::from_utf8(text) else {
-        return Err(io::Error::from(ErrorKind::InvalidData));
+        return invalid();
     };
     match assemble(alloc, text) {
         Ok(class) => made_by(alloc, class.parts(), frame),
-        Err(_) => Err(io::Error::from(ErrorKind::InvalidData)),
+        Err(_) => invalid(),
     }
 }
 
 /// What comes of a row: `INSTRUCTION | MAX_STACK | OPERANDS ; LOCALS`.
 pub fn answer(rt: &HostRuntime, column: &str) -> io::Result<String> {
-    let (instruction, rest) = column.split_once(" | ").ok_or(ErrorKind::InvalidData)?;
-    let (max_stack, values) = rest.split_once(" |").ok_or(ErrorKind::InvalidData)?;
+    let Some((instruction, rest)) = column.split_once(" | ") else {
+        return invalid();
+    };
+    let Some((max_stack, values)) = rest.split_once(" |") else {
+        return invalid();
+    };
     let Ok(max_stack) = max_stack.parse() else {
-        return Err(io::Error::from(ErrorKind::InvalidData));
+        return invalid();
     };
     let text = with_instructions(rt, "answers/plain.j", instruction)?;
     let mut frame = frame_of(rt.alloc(), max_stack, values)?;

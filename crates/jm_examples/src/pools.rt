@@ -1,11 +1,10 @@
 // What constant pools and their texts are (JVMS 4.4, 4.4.7).
 
-use crate::notation::{Numbers, said};
+use crate::notation::{Numbers, invalid, said};
 use jm_bytes::Reader;
 use jm_class_format::PoolFault;
 use jm_pool::{Member, NameAndType, Pool, code_units};
 use std::alloc::Global;
-use std::io::ErrorKind;
 use std::{fmt, fs, io};
 
 // How many bytes are left behind a pool.
@@ -108,15 +107,17 @@ fn said_of(alloc: Global, pool: &Pool, kind: &str, index: u16) -> io::Result<Str
 fn looked_up_in(alloc: Global, bytes: &[u8], kind: &str, index: u16) -> io::Result<String> {
     match Pool::read(alloc, bytes) {
         Ok((pool, _)) => said_of(alloc, &pool, kind, index),
-        Err(_) => Err(io::Error::from(ErrorKind::InvalidData)),
+        Err(_) => invalid(),
     }
 }
 
 /// What an index of the pool of the file `answers/pool` names, as an entry of a kind.
 pub fn looked_up(rt: &HostRuntime, column: &str) -> io::Result<String> {
-    let (kind, index) = column.split_once(' ').ok_or(ErrorKind::InvalidData)?;
+    let Some((kind, index)) = column.split_once(' ') else {
+        return invalid();
+    };
     let Ok(index) = index.parse::<u16>() else {
-        return Err(io::Error::from(ErrorKind::InvalidData));
+        return invalid();
     };
     looked_up_in(rt.alloc(), &fs::read(rt, "answers/pool")?, kind, index)
 }

@@ -60,7 +60,10 @@ fn run_by_workers<H: Heap + Drop + Send, R: Threads + Wait + Sync>(
 {
     match SeatTable::new(alloc, load.seats) {
         Ok(table) => run_by_seats::<H, Brand, R>(rt, alloc, machine, table, load, again),
-        Err(_) => Err(OutOfMemory),
+        Err(_) => {
+            drop(machine);
+            Err(OutOfMemory)
+        }
     }
 }
 
@@ -78,8 +81,15 @@ fn run_beside<H: Heap + Drop + Send, R: Threads + Wait + Sync>(
     requires first { MatchesWorld machine (beginning machine) }
 {
     match loaded(alloc, files, heap) {
-        Ok(mut again) => run_by_workers(rt, alloc, machine, load, &mut again),
-        Err(fault) => Err(fault),
+        Ok(mut again) => {
+            let run = run_by_workers(rt, alloc, machine, load, &mut again);
+            drop(again);
+            run
+        }
+        Err(fault) => {
+            drop(machine);
+            Err(fault)
+        }
     }
 }
 
@@ -114,7 +124,10 @@ pub fn run_files<R: Threads + Wait + Sync>(
 {
     let files = files_named(rt, names)?;
     let heap = empty_heap(rt.alloc())?;
-    let other = empty_heap(rt.alloc())?;
+    let Ok(other) = empty_heap(rt.alloc()) else {
+        drop(heap);
+        return Err(io::Error::from(ErrorKind::OutOfMemory));
+    };
     match run_program(threads, rt.alloc(), &files, heap, other, load) {
         Ok(run) => Ok(run),
         Err(_) => Err(io::Error::from(ErrorKind::OutOfMemory)),

@@ -89,9 +89,13 @@ fn share<H: Heap + Drop + Send, S: Sharing + Send + Sync, R: Threads + Wait + Sy
     requires table { (table.table ≡ S.table) × (table.seats ≡ S.seats) }
     requires first { MatchesWorld machine S.first }
 {
-    let (shared, mut seats) = SharedMachine::<H, S>::new(alloc, machine, table)?;
-    work(rt, &shared, &mut seats, most);
-    Ok((shared, seats))
+    match SharedMachine::<H, S>::new(alloc, machine, table) {
+        Ok((shared, mut seats)) => {
+            work(rt, &shared, &mut seats, most);
+            Ok((shared, seats))
+        }
+        Err(fault) => Err(fault),
+    }
 }
 
 // What came of the turns of seats, once their machine is taken back.
@@ -103,7 +107,11 @@ fn finished<H: Heap + Drop, S: Sharing>(
 ) -> Result<SharedRun, OutOfMemory> {
     let (machine, seats) = shared;
     match finish_twice(machine, seats) {
-        Some((journal, came_back)) => told_again(alloc, &journal, is_run_again, again, came_back),
+        Some((journal, came_back)) => {
+            let told = told_again(alloc, &journal, is_run_again, again, came_back);
+            drop(journal);
+            told
+        }
         None => Err(OutOfMemory),
     }
 }
@@ -121,6 +129,8 @@ pub fn run_by_seats<H: Heap + Drop + Send, S: Sharing + Send + Sync, R: Threads 
     requires table { (table.table ≡ S.table) × (table.seats ≡ S.seats) }
     requires first { MatchesWorld machine S.first }
 {
-    let shared: Shared<H, S> = share(rt, alloc, machine, table, load.most)?;
-    finished(alloc, shared, load.is_run_again, again)
+    match share::<H, S, R>(rt, alloc, machine, table, load.most) {
+        Ok(shared) => finished(alloc, shared, load.is_run_again, again),
+        Err(fault) => Err(fault),
+    }
 }

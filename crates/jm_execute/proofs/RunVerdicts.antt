@@ -1,7 +1,9 @@
 -- The verdict of a run, one step after the other.
 use Rattle.std.proofs.Common.{◌≡◌, ℕ, List, refl, ap, sym, subst, ◌∙◌, Result, Ok, Err}
+use Rattle.std.specs.Prelude.{IfOk}
 use Rattle.jm_program.specs.declared.class.ClassParts.{ClassParts}
 use Rattle.jm_world.specs.Loading.{loaded_world}
+use Rattle.jm_world.specs.World.{World}
 use Rattle.jm_world.specs.declared.event.Event.{Event}
 use Rattle.jm_execute.specs.Refusals.{Gives, Hinders}
 use Rattle.jm_execute.specs.Verdicts.{Verdict, debug_verdict, debugs, events_read, events_of, program_of, run_verdict, runs, ◌>>=◌}
@@ -49,6 +51,22 @@ module _ (job : RunJob) where
 
       pub prepared : (events : List Event) → events_of job.events (loaded_world program job.heap) ≡ Ok events → run_verdict job ≡ Ok (runs program job.heap events job.show_heap)
       prepared events is = goes_further ∙ ap (λ step. step >>= (λ es. Ok (runs program job.heap es job.show_heap))) is
+
+    -- a machine with where its events come from
+    pub sourced : {T M S : Type 0} (first : T → M) (second : T → S) (view : M → List ClassParts) (made : S → World → List Event) (m : M)
+        → program_of limit files ≡ Ok (view m) → (r : Result T Obstacle)
+        → Gives r (events_of job.events (loaded_world (view m) job.heap)) (λ ready. made (second ready) (loaded_world (view m) job.heap))
+        → IfOk r (λ ready. first ready ≡ m)
+        → Gives r (run_verdict job) (λ ready. runs (view (first ready)) job.heap (made (second ready) (loaded_world (view (first ready)) job.heap)) job.show_heap)
+    sourced first second view made m is (Ok ready) h same =
+        let now = prepared (view m) is (made (second ready) (loaded_world (view m) job.heap)) h in
+        subst (λ n. run_verdict job ≡ Ok (runs (view n) job.heap (made (second ready) (loaded_world (view n) job.heap)) job.show_heap)) (sym same) now
+    sourced first second view made m is (Err o) h same = no_events (view m) is o h
+
+-- what holds of a machine holds of it with where its events come from
+pub kept_with : {T M : Type 0} (first : T → M) (P : M → Type 0) (m : M) (r : Result T Obstacle) → IfOk r (λ ready. first ready ≡ m) → P m → IfOk r (λ ready. P (first ready))
+kept_with first P m (Ok ready) same p = subst P (sym same) p
+kept_with first P m (Err o) same p = tt
 
 -- ---- a session
 

@@ -8,7 +8,9 @@ ghost use Rattle.jm_world.specs.World.{World};
 ghost use Rattle.jm_world.specs.declared.event.Event.{Event};
 ghost use Rattle.jm_execute.specs.Beginnings.{HasOneThread, beginning};
 ghost use Rattle.jm_execute.specs.Endings.{Ending, assembled, completed, exhausted, interrupted, output_of, Allows, Ends, IsDone, IsDoneUnread, IsTalk, Leaves, Tells};
+ghost use Rattle.jm_debug.specs.Session.{session_of};
 ghost use Rattle.jm_execute.specs.Reports.{heap_shown};
+ghost use Rattle.jm_execute.specs.Talks.{IsHeld};
 ghost use Rattle.jm_execute.specs.Refusals.{Hinders};
 ghost use Rattle.jm_execute.specs.Verdicts.{Verdict, assembly_verdict, debug_verdict, run_verdict, verdict};
 ghost use Rattle.jm_execute.specs.Written.{reads, words};
@@ -102,6 +104,28 @@ fn tell_run<H: Heap, R: Origin, O: Watchable, E: Watchable>(
     }
 }
 
+// Tells of a run by its journal, and by whether a growth was refused before its events were all made.
+fn tell_made<H: Heap, R: Origin, O: Watchable, E: Watchable>(
+    alloc: Global,
+    journal: &Journal<H, R>,
+    made: Result<(), OutOfMemory>,
+    show_heap: bool,
+    out: &mut Watched<O>,
+    err: &mut Watched<E>,
+) -> Status
+    requires out { out.old.failed ≡ false }
+    requires err { err.old.failed ≡ false }
+    ensures { (wanted : List Event)
+        → MatchResult made (λ _. events_of journal.now.entries ≡ wanted) (λ _. (rest : List Event) × (wanted ≡ events_of journal.now.entries ++ rest))
+        → (e : Ending) × Ends show_heap R.first wanted e
+        × Leaves (words O.contents O.ends) (words E.contents E.ends) e result out.old out.new err.old err.new }
+{
+    match made {
+        Ok(()) => tell_run(alloc, journal, show_heap, out, err),
+        Err(_) => tell_interrupted(journal, out, err),
+    }
+}
+
 /// A journal, and whether a growth was refused before its events were all made.
 type Made<H, N> = (Journal<H, N>, Result<(), OutOfMemory>);
 
@@ -126,6 +150,31 @@ fn make_journal<S: EventSource, H: Heap, N: Sharing, W: Wait>(
     }
 }
 
+// Makes the events of a source by the only seat of a shared machine, and tells of the run.
+fn run_shared<S: EventSource, H: Heap + Drop, N: Sharing, W: Wait, O: Watchable, E: Watchable>(
+    rt: &W,
+    alloc: Global,
+    machine: SharedMachine<H, N>,
+    seats: Vec<Seat<N>>,
+    source: &S,
+    show_heap: bool,
+    out: &mut Watched<O>,
+    err: &mut Watched<E>,
+) -> Status
+    requires one { N.seats ≡ 1 }
+    requires seats { seats.items ≡ fresh_hands 0 1 }
+    requires begins { HasOneThread N.first }
+    requires out { out.old.failed ≡ false }
+    requires err { err.old.failed ≡ false }
+    ensures { (e : Ending) × Ends show_heap N.first (S.events source.now N.first) e
+        × Leaves (words O.contents O.ends) (words E.contents E.ends) e result out.old out.new err.old err.new }
+{
+    let (journal, made) = make_journal(rt, alloc, machine, seats, source);
+    let status = tell_made(alloc, &journal, made, show_heap, out, err);
+    drop(journal);
+    status
+}
+
 // Makes the events of a source from the first world on, in turns of one seat, and tells of the run.
 fn run_events<S: EventSource, H: Heap + Drop, N: Sharing, W: Wait, O: Watchable, E: Watchable>(
     rt: &W,
@@ -148,11 +197,7 @@ fn run_events<S: EventSource, H: Heap + Drop, N: Sharing, W: Wait, O: Watchable,
 {
     match SharedMachine::<H, N>::new(alloc, machine, table) {
         Ok((machine, seats)) => {
-            let (journal, made) = make_journal(rt, alloc, machine, seats, source);
-            match made {
-                Ok(()) => tell_run(alloc, &journal, show_heap, out, err),
-                Err(_) => tell_interrupted(&journal, out, err),
-            }
+            run_shared(rt, alloc, machine, seats, source, show_heap, out, err)
         }
         Err(_) => tell_exhausted(err),
     }
@@ -180,7 +225,10 @@ fn run_by_one_seat<S: EventSource, H: Heap + Drop, W: Wait, O: Watchable, E: Wat
                 rt, alloc, machine, table, source, show_heap, out, err,
             )
         }
-        Err(_) => tell_exhausted(err),
+        Err(_) => {
+            drop(machine);
+            tell_exhausted(err)
+        }
     }
 }
 
@@ -270,6 +318,24 @@ fn execute_assemble<O: Watchable, E: Watchable>(
     }
 }
 
+// Answers the lines of a reader in the session that begins with a machine.
+fn answer_session<H: Heap + Drop, W: Wait, R: Readable, O: Watchable>(
+    rt: &W,
+    alloc: Global,
+    machine: Machine<H>,
+    reader: &mut Watched<R>,
+    out: &mut Watched<O>,
+) -> Status
+    requires { out.old.failed ≡ false }
+    ensures { (w : World) → MatchesWorld machine w
+        → IsHeld (reads R.remaining R.fails) (words O.contents O.ends) (session_of w) result reader.old reader.new out.old out.new }
+{
+    let mut debugger = Debugger::new(alloc, machine);
+    let status = answer_lines(rt, alloc, &mut debugger, reader, out);
+    drop(debugger);
+    status
+}
+
 fn execute_debug<W: Wait, R: Readable, O: Watchable, E: Watchable>(
     rt: &W,
     alloc: Global,
@@ -284,10 +350,7 @@ fn execute_debug<W: Wait, R: Readable, O: Watchable, E: Watchable>(
         result reader.old reader.new out.old out.new err.old err.new }
 {
     match prepare_session(alloc, job) {
-        Ok(machine) => {
-            let mut debugger = Debugger::new(alloc, machine);
-            answer_lines(rt, alloc, &mut debugger, reader, out)
-        }
+        Ok(machine) => answer_session(rt, alloc, machine, reader, out),
         Err(obstacle) => tell_obstacle(obstacle, err),
     }
 }

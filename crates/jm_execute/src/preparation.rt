@@ -142,6 +142,39 @@ fn empty_heap<'a>(alloc: Global, limit: u32) -> Result<RunHeap, Obstacle<'a>>
 /// A machine before its first event, and where its events come from.
 pub type Ready = (Machine<RunHeap>, RunSource);
 
+// The machine that the program of some files begins with, over an empty heap of so many cells.
+fn machine_within(
+    alloc: Global,
+    limit: u32,
+    files: &[InputFile],
+) -> Result<Machine<RunHeap>, Obstacle<'_>>
+    ensures program { Gives result (program_of limit files.now) (λ machine. machine.linked.program) }
+    ensures ready { IfOk result (StandsAtItsBeginning limit) }
+{
+    match empty_heap(alloc, limit) {
+        Ok(heap) => machine_of(alloc, files, heap),
+        Err(obstacle) => Err(obstacle),
+    }
+}
+
+// A machine with where its events come from.
+fn with_source<'a, H: Heap + Drop>(
+    alloc: Global,
+    events: &'a RunEvents,
+    machine: Machine<H>,
+) -> Result<(Machine<H>, RunSource), Obstacle<'a>>
+    ensures source { (w : World) → Gives result (events_of events.now w) (λ ready. events_made ready.1 w) }
+    ensures same { IfOk result (λ ready. ready.0 ≡ machine) }
+{
+    match source_of(alloc, events) {
+        Ok(source) => Ok((machine, source)),
+        Err(obstacle) => {
+            drop(machine);
+            Err(obstacle)
+        }
+    }
+}
+
 /// The machine that a job's program begins with, and where its events come from. A schedule that could
 /// not be read is the first obstacle; then those of the program, and last what is wrong with the
 /// schedule. The round robin is no obstacle.
@@ -152,10 +185,10 @@ pub fn prepare(alloc: Global, job: &RunJob) -> Result<Ready, Obstacle<'_>>
     ensures ready { IfOk result (λ ready. StandsAtItsBeginning job.now.heap ready.0) }
 {
     check_events(&job.events)?;
-    let heap = empty_heap(alloc, job.heap)?;
-    let machine = machine_of(alloc, &job.program, heap)?;
-    let source = source_of(alloc, &job.events)?;
-    Ok((machine, source))
+    match machine_within(alloc, job.heap, &job.program) {
+        Ok(machine) => with_source(alloc, &job.events, machine),
+        Err(obstacle) => Err(obstacle),
+    }
 }
 
 /// The machine with which a session begins. A file that could not be read is the first obstacle; then
@@ -165,6 +198,5 @@ pub fn prepare_session(alloc: Global, job: &DebugJob) -> Result<Machine<RunHeap>
     ensures session { Gives result (debug_verdict job.now) (λ machine. debugs machine.linked.program job.now.heap) }
     ensures ready { IfOk result (StandsAtItsBeginning job.now.heap) }
 {
-    let heap = empty_heap(alloc, job.heap)?;
-    machine_of(alloc, &job.program, heap)
+    machine_within(alloc, job.heap, &job.program)
 }

@@ -113,7 +113,10 @@ impl<H: Heap + Drop, S: Sharing> SharedMachine<H, S> {
         ensures { IfOk result (λ shared. shared.1.items ≡ fresh_hands 0 S.seats) }
     {
         let count = table.seats();
-        let (ties, keeper, seats) = deal_seats(alloc, table)?;
+        let Ok((ties, keeper, seats)) = deal_seats(alloc, table) else {
+            drop(machine);
+            return Err(OutOfMemory);
+        };
         let journal = Journal::new(alloc, machine);
         let machine = SharedMachine {
             ties,

@@ -10,6 +10,7 @@ fn the_plain_heap_does_as_every_heap(rt: HostRuntime) {
     for case in CASES {
         let mut mutator = plain(rt.alloc(), case.limit);
         let done = run_case(&mut mutator, case.case);
+        drop(mutator);
         assert!(rt; done.is_ok(), "{}", case.name);
     }
 }
@@ -19,6 +20,7 @@ fn the_generational_heap_does_as_every_heap(rt: HostRuntime) -> Result<(), Fail>
     for case in CASES {
         let mut mutator = generational(rt.alloc(), case.limit)?;
         let done = run_case(&mut mutator, case.case);
+        drop(mutator);
         assert!(rt; done.is_ok(), "{}", case.name);
     }
     Ok(())

@@ -38,7 +38,9 @@ fn fills_a_quarter<H: Heap>(mutator: &mut Mutator<H>) -> Result<(), Failure>
 #[test]
 fn an_object_is_made_here_up_to_a_quarter(rt: HostRuntime) -> Result<(), Failure> {
     let mut mutator = generational(rt.alloc(), 64)?;
-    fills_a_quarter(&mut mutator)
+    let filled = fills_a_quarter(&mut mutator);
+    drop(mutator);
+    filled
 }
 
 // A minor collection gives up young garbage; what has survived two collections is old, and goes at a full one.
@@ -61,5 +63,7 @@ fn gives_up_what_is_young<H: Heap>(mutator: &mut Mutator<H>) -> Result<(), Failu
 #[test]
 fn a_minor_collection_gives_up_what_is_young(rt: HostRuntime) -> Result<(), Failure> {
     let mut mutator = generational(rt.alloc(), 64)?;
-    gives_up_what_is_young(&mut mutator)
+    let given_up = gives_up_what_is_young(&mut mutator);
+    drop(mutator);
+    given_up
 }

@@ -31,7 +31,10 @@ fn fills_the_limit<H: Heap>(mutator: &mut Mutator<H>) -> Result<(), Failure>
 
 #[test]
 fn an_object_is_made_here_up_to_the_limit(rt: HostRuntime) -> Result<(), Failure> {
-    fills_the_limit(&mut plain(rt.alloc(), 16))
+    let mut mutator = plain(rt.alloc(), 16);
+    let filled = fills_the_limit(&mut mutator);
+    drop(mutator);
+    filled
 }
 
 fn gives_up_at_a_full_one<H: Heap>(mutator: &mut Mutator<H>) -> Result<(), Failure>
@@ -48,7 +51,10 @@ fn gives_up_at_a_full_one<H: Heap>(mutator: &mut Mutator<H>) -> Result<(), Failu
 
 #[test]
 fn a_minor_collection_gives_up_nothing(rt: HostRuntime) -> Result<(), Failure> {
-    gives_up_at_a_full_one(&mut plain(rt.alloc(), 16))
+    let mut mutator = plain(rt.alloc(), 16);
+    let given_up = gives_up_at_a_full_one(&mut mutator);
+    drop(mutator);
+    given_up
 }
 
 // The heap of 52 cells has at most 13 objects of 4 cells at once, so no slot past the 13th is
@@ -63,7 +69,9 @@ fn uses_slots_again<H: Heap>(mutator: &mut Mutator<H>) -> Result<bool, Failure>
 
 #[test]
 fn slots_are_used_again(rt: HostRuntime) -> Result<(), Failure> {
-    let are_used = uses_slots_again(&mut plain(rt.alloc(), 52))?;
-    assert!(rt; are_used);
+    let mut mutator = plain(rt.alloc(), 52);
+    let are_used = uses_slots_again(&mut mutator);
+    drop(mutator);
+    assert!(rt; are_used?);
     Ok(())
 }

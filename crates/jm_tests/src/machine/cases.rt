@@ -70,7 +70,9 @@ fn check_over<H: Heap + Listed + Drop>(
     requires { IsEmpty (H.content heap) }
 {
     let mut machine = machine_over(alloc, program, heap)?;
-    compare(rt, alloc, &mut machine, what)
+    let compared = compare(rt, alloc, &mut machine, what);
+    drop(machine);
+    compared
 }
 
 // Compares what a program's machine does over the heap of a run.

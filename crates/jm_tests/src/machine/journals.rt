@@ -77,17 +77,28 @@ fn check_collections<H: Heap, R: Origin>(
 
 // Whether no thread of a journal's machine is live.
 fn has_ended<H: Heap + Drop, R: Origin>(journal: Journal<H, R>) -> bool {
-    journal.into_machine().live() == 0
+    let machine = journal.into_machine();
+    let live = machine.live();
+    drop(machine);
+    live == 0
+}
+
+fn check_entries<H: Heap, R: Origin>(
+    rt: &impl Abort,
+    journal: &mut Journal<H, R>,
+) -> Result<(), Fail> {
+    check_turns(rt, journal)?;
+    check_collections(rt, journal)
 }
 
 fn check_journal<H: Heap + Drop, R: Origin>(
     rt: &impl Abort,
     mut journal: Journal<H, R>,
 ) -> Result<(), Fail> {
-    check_turns(rt, &mut journal)?;
-    check_collections(rt, &mut journal)?;
-    assert!(rt; has_ended(journal));
-    Ok(())
+    let checked = check_entries(rt, &mut journal);
+    let has_ended = has_ended(journal);
+    assert!(rt; has_ended);
+    checked
 }
 
 // The journal of a machine before its first event.

@@ -9,8 +9,7 @@ use Rattle.jm_execute.proofs.execution.execute_debug.Goals as goal
 pub returns-in-Ok : goal.returns-in-Ok
 returns-in-Ok g c =
     let m = c.in-Ok.machine in
-    let session = c.new-debugger.ensures (beginning m) c.in-Ok.ensures.ready.matches in
-    let (t, first, heard, left) = c.answer_lines.ensures (session_of (beginning m)) session in
+    let (t, first, heard, left) = c.answer_session.ensures (beginning m) c.in-Ok.ensures.ready.matches in
     (answered t, session_begins _ m _ t c.in-Ok.ensures.session c.in-Ok.ensures.ready.limit_is first, heard, session_told _ _ t _ _ _ _ c.requires.err left)
 
 pub returns-in-Err : goal.returns-in-Err

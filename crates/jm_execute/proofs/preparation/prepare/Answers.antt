@@ -1,9 +1,9 @@
 -- One step after the other.
-use Rattle.std.proofs.Common.{ap}
+use Rattle.std.proofs.Common.{refl}
 use Rattle.std.proofs.lemmas.Result.{err_from_is_err_and}
-use Rattle.jm_values.specs.Content.{Content}
-use Rattle.jm_heap.specs.declared.class_id.ClassId.{ClassId}
-use Rattle.jm_execute.proofs.RunVerdicts.{not_read, no_program, no_events, prepared}
+use Rattle.jm_execute.specs.Beginnings.{StandsAtItsBeginning}
+use Rattle.jm_execute.specs.Sources.{events_made}
+use Rattle.jm_execute.proofs.RunVerdicts.{kept_with, not_read, no_program, sourced}
 use Rattle.jm_execute.proofs.preparation.prepare.Goals as goal
 
 pub returns-in_err-check_events-clause-run : goal.returns-in_err-check_events-clause-run
@@ -11,19 +11,13 @@ returns-in_err-check_events-clause-run c =
     let p = err_from_is_err_and c.from_residual.result c.from_residual.ensures.1 in
     rw (p.1, p.2) (not_read _ _ c.in_err-check_events.ensures)
 
-pub returns-in_err-machine-clause-run : goal.returns-in_err-machine-clause-run
-returns-in_err-machine-clause-run c =
-    let p = err_from_is_err_and c.from_residual-in_err-machine.result c.from_residual-in_err-machine.ensures.1 in
-    let limit = ap (λ (h : Content ClassId). h.limit) c.in_ok-heap.ensures.empty in
-    rw (p.1, p.2) (no_program _ c.in_ok-check_events.ensures _ _ limit c.deref.ensures.value _ c.in_err-machine.ensures.program)
+pub returns-in-Ok-clause-run : goal.returns-in-Ok-clause-run
+returns-in-Ok-clause-run c =
+    sourced _ c.in_ok-check_events.ensures _ _ refl c.deref.ensures.value (λ t. t.0) (λ t. t.1) (λ m. m.linked.program) events_made c.in-Ok.machine c.in-Ok.ensures.program c.with_source.result (c.with_source.ensures.source _) c.with_source.ensures.same
 
-pub returns-in_err-source-clause-run : goal.returns-in_err-source-clause-run
-returns-in_err-source-clause-run c =
-    let p = err_from_is_err_and c.from_residual-in_err-source.result c.from_residual-in_err-source.ensures.1 in
-    let limit = ap (λ (h : Content ClassId). h.limit) c.in_ok-heap.ensures.empty in
-    rw (p.1, p.2) (no_events _ c.in_ok-check_events.ensures _ _ limit c.deref.ensures.value _ c.in_ok-machine.ensures.program _ (c.in_err-source.ensures _))
+pub returns-in-Ok-clause-ready : goal.returns-in-Ok-clause-ready
+returns-in-Ok-clause-ready c =
+    kept_with (λ t. t.0) (StandsAtItsBeginning _) c.in-Ok.machine c.with_source.result c.with_source.ensures.same c.in-Ok.ensures.ready
 
-pub returns-clause-run : goal.returns-clause-run
-returns-clause-run c =
-    let limit = ap (λ (h : Content ClassId). h.limit) c.in_ok-heap.ensures.empty in
-    prepared _ c.in_ok-check_events.ensures _ _ limit c.deref.ensures.value _ c.in_ok-machine.ensures.program _ (c.in_ok-source.ensures _)
+pub returns-in-Err-clause-run : goal.returns-in-Err-clause-run
+returns-in-Err-clause-run c = no_program _ c.in_ok-check_events.ensures _ _ refl c.deref.ensures.value _ c.in-Err.ensures.program
