@@ -130,7 +130,11 @@ pub const CASES: &[Case] = &[
 pub fn run_case(alloc: Global, case: &Case, count: usize) -> Result<()> {
     let mut driver = Driver::new(alloc, count);
     for step in case.steps {
-        driver.make_step(*step)?;
+        if let Err(error) = driver.make_step(*step) {
+            drop(driver);
+            return Err(error);
+        }
     }
+    drop(driver);
     Ok(())
 }

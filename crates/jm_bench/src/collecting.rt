@@ -3,11 +3,12 @@
 ghost use Rattle.std.specs.Prelude.{◌≡◌};
 
 use crate::spaces::{Spaces, make};
-use anyhow::Result;
+use anyhow::{Error, Result};
 use jm_blocks::{BlockStore, Header};
 use jm_heap::{ClassId, Kind};
 use jm_values::{Place, Value};
 use std::alloc::{AllocError, Global};
+use std::mem::replace;
 
 const LISTS: usize = 64;
 
@@ -59,7 +60,22 @@ fn cells(spaces: &Spaces) -> u64 {
 // As many spaces, and what they hold.
 fn filled(alloc: Global, count: u32) -> Result<Spaces, AllocError> {
     let mut spaces = Spaces::new(alloc);
-    spaces.roots = lists(alloc, &mut spaces.young, count)?;
+    match lists(alloc, &mut spaces.young, count) {
+        Ok(roots) => {
+            drop(replace(&mut spaces.roots, roots));
+            Ok(spaces)
+        }
+        Err(error) => {
+            drop(spaces);
+            Err(error)
+        }
+    }
+}
+
+// What a collection of a kind leaves.
+fn left(alloc: Global, spaces: Spaces, kind: Kind) -> Result<Spaces> {
+    let (spaces, remembered) = spaces.condemn(alloc, kind)?.finish(alloc)?;
+    drop(remembered);
     Ok(spaces)
 }
 
@@ -67,9 +83,11 @@ fn filled(alloc: Global, count: u32) -> Result<Spaces, AllocError> {
 pub fn collected(alloc: Global, count: u32) -> Result<u64> {
     let mut spaces = filled(alloc, NODES)?;
     for _ in 0..count {
-        (spaces, _) = spaces.condemn(alloc, Kind::Full)?.finish(alloc)?;
+        spaces = left(alloc, spaces, Kind::Full)?;
     }
-    Ok(cells(&spaces))
+    let cells = cells(&spaces);
+    drop(spaces);
+    Ok(cells)
 }
 
 /// The nodes that are made between two minor collections: 65,536 cells.
@@ -78,17 +96,23 @@ const YOUNG: u32 = 16_384;
 /// So many nodes that two minor collections have promoted.
 pub fn promoted(alloc: Global, count: u32) -> Result<Spaces> {
     let spaces = filled(alloc, count)?;
-    let (spaces, _) = spaces.condemn(alloc, Kind::Minor)?.finish(alloc)?;
-    let (spaces, _) = spaces.condemn(alloc, Kind::Minor)?.finish(alloc)?;
-    Ok(spaces)
+    let spaces = left(alloc, spaces, Kind::Minor)?;
+    left(alloc, spaces, Kind::Minor)
 }
 
 // Makes nodes that alone are the roots, and makes a minor collection.
 fn renewed(alloc: Global, spaces: Spaces) -> Result<Spaces> {
     let mut spaces = spaces;
-    spaces.roots = lists(alloc, &mut spaces.young, YOUNG)?;
-    let (spaces, _) = spaces.condemn(alloc, Kind::Minor)?.finish(alloc)?;
-    Ok(spaces)
+    match lists(alloc, &mut spaces.young, YOUNG) {
+        Ok(roots) => {
+            drop(replace(&mut spaces.roots, roots));
+            left(alloc, spaces, Kind::Minor)
+        }
+        Err(error) => {
+            drop(spaces);
+            Err(Error::from(error))
+        }
+    }
 }
 
 /// Beside so many old nodes, makes so many minor collections of 65,536 cells that live and as many that
@@ -98,5 +122,7 @@ pub fn minor(alloc: Global, old: u32, count: u32) -> Result<u64> {
     for _ in 0..count {
         spaces = renewed(alloc, spaces)?;
     }
-    Ok(cells(&spaces))
+    let cells = cells(&spaces);
+    drop(spaces);
+    Ok(cells)
 }

@@ -61,27 +61,41 @@ fn sum_held<H: Heap>(mutator: &Mutator<H>) -> Result<i32, Failure>
     Ok(sum)
 }
 
+// Makes so many objects, of which the last 64 are held, and adds up their ints.
+fn sum_after<H: Heap + Drop>(mut mutator: Mutator<H>, count: u32) -> Result<i32, Failure>
+    requires { IsReady (H.content mutator.heap) mutator.registers }
+{
+    let sum = match make_garbage(&mut mutator, count) {
+        Ok(()) => sum_held(&mutator),
+        Err(failure) => Err(failure),
+    };
+    drop(mutator);
+    sum
+}
+
 /// Makes so many objects in a plain heap, of which the last 64 are held, and adds up their ints.
 #[tactic(auto, using(jm_mutator::proofs::ReadyLemmas::empty_sound))]
 pub fn garbage(alloc: Global, count: u32) -> Result<i32, Failure> {
-    let mut mutator = held(alloc, PlainHeap::new(alloc, LIMIT), HELD)?;
-    make_garbage(&mut mutator, count)?;
-    sum_held(&mutator)
+    match held(alloc, PlainHeap::new(alloc, LIMIT), HELD) {
+        Ok(mutator) => sum_after(mutator, count),
+        Err(failure) => Err(failure),
+    }
 }
 
 /// The same in a generational heap.
 #[tactic(auto, using(jm_mutator::proofs::ReadyLemmas::empty_sound))]
 pub fn allocated(alloc: Global, count: u32) -> Result<i32, Failure> {
     let heap = GenHeap::new(alloc, LIMIT, SerialCollector)?;
-    let mut mutator = held(alloc, heap, HELD)?;
-    make_garbage(&mut mutator, count)?;
-    sum_held(&mutator)
+    match held(alloc, heap, HELD) {
+        Ok(mutator) => sum_after(mutator, count),
+        Err(failure) => Err(failure),
+    }
 }
 
-/// Collects so often in a heap that a chain of objects fills, and counts what is left.
-#[tactic(auto, using(jm_mutator::proofs::ReadyLemmas::empty_sound))]
-pub fn marked(alloc: Global, count: u32) -> Result<u64, Failure> {
-    let mut mutator = held(alloc, PlainHeap::new(alloc, LIMIT), 2)?;
+// Fills a heap with a chain of objects, and collects so often.
+fn collect_chain<H: Heap>(mutator: &mut Mutator<H>, count: u32) -> Result<(), Failure>
+    requires { IsReady (H.content mutator.old.heap) mutator.old.registers }
+{
     for _ in 0..LIMIT / 4 - 3 {
         mutator.make_again(1, node())?;
         mutator.link(1, 1, 0)?;
@@ -90,5 +104,16 @@ pub fn marked(alloc: Global, count: u32) -> Result<u64, Failure> {
     for _ in 0..count {
         mutator.collect(Kind::Full)?;
     }
-    Ok(mutator.used())
+    Ok(())
+}
+
+/// Collects so often in a heap that a chain of objects fills, and counts what is left.
+#[tactic(auto, using(jm_mutator::proofs::ReadyLemmas::empty_sound))]
+pub fn marked(alloc: Global, count: u32) -> Result<u64, Failure> {
+    let mut mutator = held(alloc, PlainHeap::new(alloc, LIMIT), 2)?;
+    let collected = collect_chain(&mut mutator, count);
+    let used = mutator.used();
+    drop(mutator);
+    collected?;
+    Ok(used)
 }

@@ -37,7 +37,10 @@ const STEPS: &[Step] = &[
 fn prepared(alloc: Global, kind: Kind, count: usize) -> Result<Collection> {
     let mut driver = Driver::new(alloc, count);
     for step in STEPS {
-        driver.make_step(*step)?;
+        if let Err(error) = driver.make_step(*step) {
+            drop(driver);
+            return Err(error);
+        }
     }
     driver.condemn(kind)
 }
@@ -131,26 +134,81 @@ fn compare_spaces(
     Ok(())
 }
 
+// Compares what a collection left with what another one leaves.
+fn compare_left(
+    alloc: Global,
+    found: &Spaces,
+    remembered: &[Place],
+    wanted: Collection,
+) -> Result<()> {
+    match wanted.finish(alloc) {
+        Ok((wanted, wanted_remembered)) => {
+            let compared = compare_spaces(found, &wanted, remembered, &wanted_remembered);
+            drop(wanted);
+            compared
+        }
+        Err(error) => Err(error),
+    }
+}
+
 // Compares what a collection left that was made again with what one leaves that was not refused.
 fn compare_again(alloc: Global, again: Collection, wanted: Collection) -> Result<()> {
-    let Outcome::Collected(found, found_remembered) = again.run(alloc)? else {
-        bail!("the collection was refused again, and no growth was");
-    };
-    let (wanted, wanted_remembered) = wanted.finish(alloc)?;
-    compare_spaces(&found, &wanted, &found_remembered, &wanted_remembered)
+    match again.run(alloc) {
+        Ok(Outcome::Collected(found, remembered)) => {
+            let compared = compare_left(alloc, &found, &remembered, wanted);
+            drop(found);
+            compared
+        }
+        Ok(refused) => {
+            drop(refused);
+            drop(wanted);
+            bail!("the collection was refused again, and no growth was");
+        }
+        Err(error) => {
+            drop(wanted);
+            Err(error)
+        }
+    }
+}
+
+// Compares what a refused collection handed back with what was there before, and then what is left when it
+// is made again.
+fn compare_refused(alloc: Global, refused: Collection, before: Collection) -> Result<()> {
+    match compare_given(&refused, &before) {
+        Ok(()) => compare_again(alloc, refused, before),
+        Err(error) => {
+            drop(refused);
+            drop(before);
+            Err(error)
+        }
+    }
+}
+
+// Makes a collection of a kind.
+fn run_prepared(alloc: Global, kind: Kind, count: usize) -> Result<Outcome> {
+    match prepared(alloc, kind, count) {
+        Ok(collection) => collection.run(alloc),
+        Err(error) => Err(error),
+    }
 }
 
 /// Makes a collection, and answers whether it was refused a growth. If it was, all is compared with what
 /// was there before, and it is made again.
 pub fn is_refused(alloc: Global, kind: Kind, count: usize) -> Result<bool> {
     let before = prepared(alloc, kind, count)?;
-    let collection = prepared(alloc, kind, count)?;
-    match collection.run(alloc)? {
-        Outcome::Collected(_, _) => Ok(false),
-        Outcome::Refused(collection) => {
-            compare_given(&collection, &before)?;
-            compare_again(alloc, collection, before)?;
+    match run_prepared(alloc, kind, count) {
+        Ok(Outcome::Refused(collection)) => {
+            compare_refused(alloc, collection, before)?;
             Ok(true)
+        }
+        Ok(collected) => {
+            drop(collected);
+            drop(before);
+            Ok(false)
+        }
+        Err(error) => {
+            drop(before);
+            Err(error)
         }
     }
 }

@@ -261,14 +261,26 @@ fn head_of(
 {
     let access = flags(reader)?;
     let name = class_name(alloc, symbols, reader)?;
-    let superclass = superclass(alloc, symbols, &name, reader)?;
-    let interfaces = interfaces(alloc, symbols, reader)?;
-    Ok(Head {
-        access,
-        name,
-        superclass,
-        interfaces: Sequence::new(interfaces),
-    })
+    let superclass = match superclass(alloc, symbols, &name, reader) {
+        Ok(superclass) => superclass,
+        Err(fault) => {
+            drop(name);
+            return Err(fault);
+        }
+    };
+    match interfaces(alloc, symbols, reader) {
+        Ok(interfaces) => Ok(Head {
+            access,
+            name,
+            superclass,
+            interfaces: Sequence::new(interfaces),
+        }),
+        Err(fault) => {
+            drop(name);
+            drop(superclass);
+            Err(fault)
+        }
+    }
 }
 
 #[tactic(auto, unfolding(jm_class_format::specs::ClassFile::body))]
@@ -320,8 +332,13 @@ fn parts(
 {
     let head = head_of(alloc, symbols, reader)?;
     let in_interface = head.access.has(AccessFlags::INTERFACE);
-    let body = body_of(alloc, symbols, in_interface, reader)?;
-    Ok(parts_of(version, head, body))
+    match body_of(alloc, symbols, in_interface, reader) {
+        Ok(body) => Ok(parts_of(version, head, body)),
+        Err(fault) => {
+            drop(head);
+            Err(fault)
+        }
+    }
 }
 
 fn parts_behind(
@@ -334,7 +351,9 @@ fn parts_behind(
     ensures { Gives (λ parts. parts) OutOfMemory result reader.new ((behind_pool version pool.now).read reader.old) }
 {
     let mut symbols = Symbols::new(alloc, pool);
-    parts(alloc, version, &mut symbols, reader)
+    let parts = parts(alloc, version, &mut symbols, reader);
+    drop(symbols);
+    parts
 }
 
 // The parts of the class at the front of the bytes.

@@ -285,14 +285,35 @@ pub fn code_body(
     let size = code_length(reader)?;
     let (placed, starts) = placed_instructions(alloc, size, reader)?;
     let places = Places::new(starts, placed.len() as u32, size);
-    let instructions = instructions_of(alloc, symbols, placed)?;
-    let handlers = handlers(alloc, symbols, &places, reader)?;
-    let lines = code_attributes(alloc, symbols.pool(), &places, reader)?;
-    Ok(Code {
-        max_stack,
-        max_locals,
-        instructions: Sequence::new(instructions),
-        handlers: Sequence::new(handlers),
-        lines: Sequence::new(lines),
-    })
+    let instructions = match instructions_of(alloc, symbols, placed) {
+        Ok(instructions) => instructions,
+        Err(fault) => {
+            drop(places);
+            return Err(fault);
+        }
+    };
+    let handlers = match handlers(alloc, symbols, &places, reader) {
+        Ok(handlers) => handlers,
+        Err(fault) => {
+            drop(places);
+            drop(instructions);
+            return Err(fault);
+        }
+    };
+    let lines = code_attributes(alloc, symbols.pool(), &places, reader);
+    drop(places);
+    match lines {
+        Ok(lines) => Ok(Code {
+            max_stack,
+            max_locals,
+            instructions: Sequence::new(instructions),
+            handlers: Sequence::new(handlers),
+            lines: Sequence::new(lines),
+        }),
+        Err(fault) => {
+            drop(instructions);
+            drop(handlers);
+            Err(fault)
+        }
+    }
 }

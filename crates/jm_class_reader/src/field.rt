@@ -112,14 +112,21 @@ fn field_attribute_info(
     ensures same { symbols.new ≡ symbols.old }
 {
     if is_value {
-        if found.is_some() {
+        let is_second = found.is_some();
+        drop(found);
+        if is_second {
             return Err(ReadFault::BadAttribute);
         }
         let value = whole_constant(alloc, symbols, field_type, reader)?;
         Ok(Some(value))
     } else {
-        info(ReadFault::Cut, reader)?;
-        Ok(found)
+        match info(ReadFault::Cut, reader) {
+            Ok(_) => Ok(found),
+            Err(fault) => {
+                drop(found);
+                Err(fault)
+            }
+        }
     }
 }
 
@@ -200,14 +207,26 @@ fn field(
 {
     let flags = flags(reader)?;
     let name = field_name(alloc, symbols, reader)?;
-    let descriptor = field_type(alloc, symbols, reader)?;
-    let constant = field_attributes(alloc, symbols, flags, &descriptor, reader)?;
-    Ok(Field {
-        flags,
-        name,
-        descriptor,
-        constant,
-    })
+    let descriptor = match field_type(alloc, symbols, reader) {
+        Ok(descriptor) => descriptor,
+        Err(fault) => {
+            drop(name);
+            return Err(fault);
+        }
+    };
+    match field_attributes(alloc, symbols, flags, &descriptor, reader) {
+        Ok(constant) => Ok(Field {
+            flags,
+            name,
+            descriptor,
+            constant,
+        }),
+        Err(fault) => {
+            drop(name);
+            drop(descriptor);
+            Err(fault)
+        }
+    }
 }
 
 /// The fields of a class, their count first.

@@ -1,9 +1,10 @@
 // Methods (JVMS 4.6) with their Code (JVMS 4.7.3).
 
-ghost use Rattle.std.specs.Prelude.{◌≡◌, ◌≤◌, IfOk};
-ghost use Rattle.jm_bytes.specs.Reading.{Gives, Takes};
+ghost use Rattle.std.specs.Prelude.{◌≡◌, ◌≤◌, ◌||◌, if◌then◌else◌, Ok, Err, IfOk, is_some};
+ghost use Rattle.jm_bytes.specs.Reading.{Gives, Takes, TakesAll};
 ghost use Rattle.jm_program.specs.Fits.{method_slots};
-ghost use Rattle.jm_class_format.specs.declared.read_fault.ReadFault.TheVariants.{OutOfMemory, Cut};
+ghost use Rattle.jm_program.specs.Flags.{is_abstract};
+ghost use Rattle.jm_class_format.specs.declared.read_fault.ReadFault.TheVariants.{OutOfMemory, BadAttribute, Cut};
 ghost use Rattle.jm_class_format.specs.CodeAttribute.{whole_info, code_body};
 ghost use Rattle.jm_class_format.specs.Members.{method_flags, method_name, own_receiver, declaration, may_have_code, method_attribute_info, method_attribute, method_attributes, method, methods};
 
@@ -15,6 +16,7 @@ use jm_bytes::Reader;
 use jm_class_format::{LeftOutPart, ReadFault};
 use jm_program::{AccessFlags, Code, Method, MethodDescriptor, Name, is_text};
 use std::alloc::Global;
+use std::mem::replace;
 
 // ---- flags, name and type
 
@@ -79,8 +81,20 @@ fn declaration(
 {
     let flags = method_flags(reader)?;
     let name = method_name(alloc, symbols, flags, reader)?;
-    let text = text(symbols.pool(), reader)?;
-    let descriptor = symbols.method_type(alloc, own_receiver(flags), text)?;
+    let text = match text(symbols.pool(), reader) {
+        Ok(text) => text,
+        Err(fault) => {
+            drop(name);
+            return Err(fault);
+        }
+    };
+    let descriptor = match symbols.method_type(alloc, own_receiver(flags), text) {
+        Ok(descriptor) => descriptor,
+        Err(fault) => {
+            drop(name);
+            return Err(fault);
+        }
+    };
     let method = Method {
         flags,
         name,
@@ -88,6 +102,7 @@ fn declaration(
         code: None,
     };
     if method.is_finalizer() {
+        drop(method);
         return Err(ReadFault::LeftOut(LeftOutPart::Finalize));
     }
     Ok(method)
@@ -159,12 +174,19 @@ fn method_attribute_info(
     ensures same { symbols.new ≡ symbols.old }
 {
     if is_code {
-        may_have_code(in_interface, method, &found, reader)?;
+        let allowed = may_have_code(in_interface, method, &found, reader);
+        drop(found);
+        allowed?;
         let code = whole_code(alloc, symbols, slots_of(method), reader)?;
         Ok(Some(code))
     } else {
-        info(ReadFault::Cut, reader)?;
-        Ok(found)
+        match info(ReadFault::Cut, reader) {
+            Ok(_) => Ok(found),
+            Err(fault) => {
+                drop(found);
+                Err(fault)
+            }
+        }
     }
 }
 
@@ -210,6 +232,18 @@ fn method_attributes(
 
 // ---- the method
 
+// A declared method with its code, which one that is not abstract has.
+fn with_code(mut method: Method, code: Option<Code>) -> Result<Method, ReadFault>
+    ensures { TakesAll (λ method. method) result (if is_some code || is_abstract method.flags then Ok (record method { code = code }) else Err BadAttribute) }
+{
+    if code.is_none() && !method.flags.has(AccessFlags::ABSTRACT) {
+        drop(method);
+        return Err(ReadFault::BadAttribute);
+    }
+    drop(replace(&mut method.code, code));
+    Ok(method)
+}
+
 // A method of a class or of an interface; one that is not abstract has code.
 #[tactic(auto, unfolding(jm_class_format::specs::Members::method))]
 fn method(
@@ -221,13 +255,14 @@ fn method(
     ensures given { Gives (λ method. method) OutOfMemory result reader.new ((method symbols.old in_interface).read reader.old) }
     ensures same { symbols.new ≡ symbols.old }
 {
-    let mut method = declaration(alloc, symbols, reader)?;
-    let code = method_attributes(alloc, symbols, in_interface, &method, reader)?;
-    if code.is_none() && !method.flags.has(AccessFlags::ABSTRACT) {
-        return Err(ReadFault::BadAttribute);
+    let method = declaration(alloc, symbols, reader)?;
+    match method_attributes(alloc, symbols, in_interface, &method, reader) {
+        Ok(code) => with_code(method, code),
+        Err(fault) => {
+            drop(method);
+            Err(fault)
+        }
     }
-    method.code = code;
-    Ok(method)
 }
 
 /// The methods of a class or of an interface, their count first.

@@ -1,6 +1,6 @@
 // Instructions with what their indexes name (JVMS 4.9.1, 6.5).
 
-ghost use Rattle.std.specs.Prelude.{◌≡◌, ◌==◌, ◌+◌, ◌&&◌, IfOk};
+ghost use Rattle.std.specs.Prelude.{◌≡◌, ◌==◌, ◌+◌, ◌&&◌, IfErr, IfOk, Ok};
 ghost use Rattle.std.specs.Option.{ok_or, option_map};
 ghost use Rattle.jm_bytes.specs.Reading.{GivesAll, TakesAll, each};
 ghost use Rattle.jm_program.specs.Descriptors.{argument_slots};
@@ -149,6 +149,7 @@ fn interface_method(
     if is_counted(count, last, &method) {
         Ok(method)
     } else {
+        drop(method);
         Err(ReadFault::BadAttribute)
     }
 }
@@ -313,6 +314,16 @@ fn named_anew(
     }
 }
 
+// Keeps an instruction with what its index names, which is shared.
+fn keep_named(symbols: &mut Symbols<'_>, operand: Operand, instr: &Instr) -> Result<(), ReadFault>
+    requires { named symbols.old (indexed_of operand) ≡ Ok instr.now }
+    ensures memory { IfErr result (λ fault. fault ≡ OutOfMemory) }
+    ensures same { symbols.new ≡ symbols.old }
+{
+    let shared = instr.share()?;
+    symbols.keep(operand, shared)
+}
+
 // The same, which is made once and shared.
 fn named_once(
     alloc: Global,
@@ -327,9 +338,13 @@ fn named_once(
         return Ok(instr);
     }
     let instr = named_anew(alloc, symbols, operand)?;
-    let shared = instr.share()?;
-    symbols.keep(operand, shared)?;
-    Ok(instr)
+    match keep_named(symbols, operand, &instr) {
+        Ok(()) => Ok(instr),
+        Err(fault) => {
+            drop(instr);
+            Err(fault)
+        }
+    }
 }
 
 #[tactic(auto, unfolding(jm_class_format::specs::NamedCode::named))]

@@ -123,9 +123,35 @@ impl<'p> Symbols<'p> {
             return Ok(name);
         }
         let name = name_of(alloc, kind, text.units)?;
+        match self.keep_name(alloc, kind, text, &name) {
+            Ok(()) => Ok(name),
+            Err(fault) => {
+                drop(name);
+                Err(fault)
+            }
+        }
+    }
+
+    // Keeps a copy of the name of such a thing that a text is.
+    fn keep_name(
+        &mut self,
+        alloc: Global,
+        kind: NameKind,
+        text: Text<'_>,
+        name: &Name,
+    ) -> Result<(), ReadFault>
+        requires stands { Stands self.old text }
+        requires is { name_of kind text.units.now ≡ Ok name.now }
+        ensures memory { IfErr result (λ fault. fault ≡ OutOfMemory) }
+        ensures same { self.new ≡ self.old }
+    {
+        let key = NameUse {
+            kind,
+            index: text.index,
+        };
         let copy = name.copy(alloc)?;
         self.names.insert(key, copy)?;
-        Ok(name)
+        Ok(())
     }
 
     /// The type of a field that a text spells (JVMS 4.3.2).
@@ -139,9 +165,30 @@ impl<'p> Symbols<'p> {
             return Ok(field_type);
         }
         let field_type = field_type_of(alloc, text.units)?;
+        match self.keep_field_type(alloc, text, &field_type) {
+            Ok(()) => Ok(field_type),
+            Err(fault) => {
+                drop(field_type);
+                Err(fault)
+            }
+        }
+    }
+
+    // Keeps a copy of the type of a field that a text spells.
+    fn keep_field_type(
+        &mut self,
+        alloc: Global,
+        text: Text<'_>,
+        field_type: &FieldType,
+    ) -> Result<(), ReadFault>
+        requires stands { Stands self.old text }
+        requires is { field_type_of text.units.now ≡ Ok field_type.now }
+        ensures memory { IfErr result (λ fault. fault ≡ OutOfMemory) }
+        ensures same { self.new ≡ self.old }
+    {
         let copy = field_type.copy(alloc)?;
         self.field_types.insert(text.index, copy)?;
-        Ok(field_type)
+        Ok(())
     }
 
     /// The type of a method that a text spells, whose receiver takes so many slots (JVMS 4.3.3).
@@ -165,9 +212,35 @@ impl<'p> Symbols<'p> {
             return Ok(method_type);
         }
         let method_type = method_type_of(alloc, receiver, text.units)?;
+        match self.keep_method_type(alloc, receiver, text, &method_type) {
+            Ok(()) => Ok(method_type),
+            Err(fault) => {
+                drop(method_type);
+                Err(fault)
+            }
+        }
+    }
+
+    // Keeps a copy of the type of a method that a text spells.
+    fn keep_method_type(
+        &mut self,
+        alloc: Global,
+        receiver: u8,
+        text: Text<'_>,
+        method_type: &MethodDescriptor,
+    ) -> Result<(), ReadFault>
+        requires stands { Stands self.old text }
+        requires is { method_type_of receiver text.units.now ≡ Ok method_type.now }
+        ensures memory { IfErr result (λ fault. fault ≡ OutOfMemory) }
+        ensures same { self.new ≡ self.old }
+    {
+        let key = MethodTypeUse {
+            receiver,
+            index: text.index,
+        };
         let copy = method_type.copy(alloc)?;
         self.method_types.insert(key, copy)?;
-        Ok(method_type)
+        Ok(())
     }
 
     /// The code units of a text, as a string's (JVMS 4.4.3).
@@ -186,9 +259,29 @@ impl<'p> Symbols<'p> {
         }
         let units = Vec::from_slice(alloc, text.units)?;
         let units = Shared::new(alloc, Sequence::new(units))?;
+        match self.keep_string(text, &units) {
+            Ok(()) => Ok(units),
+            Err(fault) => {
+                drop(units);
+                Err(fault)
+            }
+        }
+    }
+
+    // Keeps the code units of a text, which are shared.
+    fn keep_string(
+        &mut self,
+        text: Text<'_>,
+        units: &Shared<Sequence<u16>>,
+    ) -> Result<(), ReadFault>
+        requires stands { Stands self.old text }
+        requires is { text.units.now ≡ units.now }
+        ensures memory { IfErr result (λ fault. fault ≡ OutOfMemory) }
+        ensures same { self.new ≡ self.old }
+    {
         let shared = units.share()?;
         self.strings.insert(text.index, shared)?;
-        Ok(units)
+        Ok(())
     }
 
     /// The class, the interface or the array type that a text names (JVMS 4.4.1).

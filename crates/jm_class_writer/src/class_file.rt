@@ -1,13 +1,14 @@
 // The class file (JVMS 4.1), its fields (JVMS 4.5) and its methods (JVMS 4.6).
 
-ghost use Rattle.std.specs.Prelude.{◌≡◌, Bool, IsTrue, All, OnOk, IfOk, IfErr, Ok};
+ghost use Rattle.std.specs.Prelude.{◌≡◌, ◌++◌, Bool, IsTrue, All, OnOk, IfOk, IfErr, MatchResult, Ok};
 ghost use Rattle.std.specs.List.{list_all};
 ghost use Rattle.jm_bytes.specs.Reading.{GivesAll};
+ghost use Rattle.jm_pool.specs.Building.{pool_bytes};
 ghost use Rattle.jm_program.specs.Fits.{method_fits, Fits};
 ghost use Rattle.jm_class_format.specs.ClassFile.{Spells, class_file};
 ghost use Rattle.jm_class_writer.specs.declared.fault.WriteFault.TheVariants.{TooMany, OutOfMemory};
 ghost use Rattle.jm_class_writer.specs.Drafts.{Leaves, all_of};
-ghost use Rattle.jm_class_writer.specs.CodeParts.{InstructionsFit};
+ghost use Rattle.jm_class_writer.specs.CodeParts.{InstructionsFit, put_name};
 ghost use Rattle.jm_class_writer.specs.ClassParts.{put_class, put_superclass, put_interfaces, put_head, put_constant, put_field_attributes, put_field, put_fields, put_method_attributes, put_method, put_methods, put_class_attributes, put_body, put_contents, put_version, written};
 ghost use Rattle.jm_class_writer.specs.Ranges.{OfSome, UnitsInRange, ConstantInRange, CodeInRange, FieldInRange, MethodInRange, InRange};
 ghost use Rattle.jm_class_writer.specs.Limits.{WithinLimits};
@@ -119,6 +120,16 @@ fn put_field_attributes(
     draft.close(before)
 }
 
+// The index of the text of a type.
+fn put_type(draft: &mut Draft, alloc: Global, text: Name) -> Result<(), WriteFault>
+    ensures name { Leaves (λ _. tt) result draft.new (put_name text draft.old) }
+    ensures range { UnitsInRange text }
+{
+    let done = put_name(draft, alloc, text.units());
+    drop(text);
+    done
+}
+
 #[tactic(auto, unfolding(crate::specs::ClassParts::put_field))]
 fn put_field(draft: &mut Draft, alloc: Global, field: &Field) -> Result<(), WriteFault>
     ensures field { Leaves (λ _. tt) result draft.new (put_field field.now draft.old) }
@@ -126,8 +137,7 @@ fn put_field(draft: &mut Draft, alloc: Global, field: &Field) -> Result<(), Writ
 {
     draft.put_u2(usize::from(field.flags.bits))?;
     put_name(draft, alloc, field.name.units())?;
-    let descriptor = field_text(alloc, &field.descriptor)?;
-    put_name(draft, alloc, descriptor.units())?;
+    put_type(draft, alloc, field_text(alloc, &field.descriptor)?)?;
     put_field_attributes(draft, alloc, &field.constant)
 }
 
@@ -182,8 +192,7 @@ fn put_method(draft: &mut Draft, alloc: Global, method: &Method) -> Result<(), W
 {
     draft.put_u2(usize::from(method.flags.bits))?;
     put_name(draft, alloc, method.name.units())?;
-    let descriptor = method_text(alloc, &method.descriptor)?;
-    put_name(draft, alloc, descriptor.units())?;
+    put_type(draft, alloc, method_text(alloc, &method.descriptor)?)?;
     put_method_attributes(draft, alloc, &method.code)
 }
 
@@ -263,6 +272,21 @@ fn put_version(draft: &mut Draft, version: Version) -> Result<(), WriteFault>
     draft.put_u2(usize::from(version.major))
 }
 
+// The bytes with the pool and the contents behind them.
+fn behind(mut front: Vec<u8>, draft: Draft) -> Result<Vec<u8>, WriteFault>
+    ensures { MatchResult result (λ bytes. bytes.items ≡ front.items ++ pool_bytes draft.entries ++ draft.written) (λ fault. fault ≡ OutOfMemory) }
+{
+    let done = draft.write(&mut front);
+    drop(draft);
+    match done {
+        Ok(()) => Ok(front),
+        Err(error) => {
+            drop(front);
+            Err(WriteFault::from(error))
+        }
+    }
+}
+
 // The version, the pool that the contents came to need, and the contents.
 #[tactic(auto, unfolding(crate::specs::ClassParts::written))]
 fn written(alloc: Global, class: &ClassParts) -> Result<Vec<u8>, WriteFault>
@@ -271,12 +295,17 @@ fn written(alloc: Global, class: &ClassParts) -> Result<Vec<u8>, WriteFault>
     ensures range { OnOk result (InRange class.now) }
 {
     let mut front = Draft::new(alloc);
-    put_version(&mut front, class.version)?;
+    if let Err(fault) = put_version(&mut front, class.version) {
+        drop(front);
+        return Err(fault);
+    }
     let mut draft = Draft::new(alloc);
-    put_contents(&mut draft, alloc, class)?;
-    let mut bytes = front.into_bytes();
-    draft.write(&mut bytes)?;
-    Ok(bytes)
+    if let Err(fault) = put_contents(&mut draft, alloc, class) {
+        drop(front);
+        drop(draft);
+        return Err(fault);
+    }
+    behind(front.into_bytes(), draft)
 }
 
 /// The class file of a class (JVMS 4.1), which spells that class: reading it gives the class back.

@@ -39,11 +39,15 @@ pub fn put_break(breaks: &mut Vec<Place>, place: Place) -> Result<(), AllocError
     ensures same { OnErr result (breaks.new.items ≡ breaks.old.items) }
 {
     if holds_break(breaks, place.text()) {
+        drop(place);
         return Ok(());
     }
     match breaks.push(place) {
         Ok(()) => Ok(()),
-        Err(_) => Err(AllocError),
+        Err(refused) => {
+            drop(refused);
+            Err(AllocError)
+        }
     }
 }
 

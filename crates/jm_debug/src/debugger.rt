@@ -81,11 +81,23 @@ impl<H: Heap> Debugger<H> {
             → Comes (λ t. t.bytes.items) self.new s (with_breaks s place (with_break place s.breaks)) (λ t. t ≡ s) result }
     {
         if !is_place(self.machine.program(), &place) {
+            drop(place);
             return Err(DebugFault::NoSuch);
         }
-        let answer = String::from_str(self.alloc, "ok\n")?;
-        put_break(&mut self.breaks, place)?;
-        Ok(answer)
+        let answer = match String::from_str(self.alloc, "ok\n") {
+            Ok(answer) => answer,
+            Err(error) => {
+                drop(place);
+                return Err(DebugFault::from(error));
+            }
+        };
+        match put_break(&mut self.breaks, place) {
+            Ok(()) => Ok(answer),
+            Err(error) => {
+                drop(answer);
+                Err(DebugFault::from(error))
+            }
+        }
     }
 
     // Takes a break away.
@@ -279,7 +291,11 @@ impl<H: Heap> Debugger<H> {
     {
         match command {
             Command::Break { place } => self.set_break(place),
-            Command::Clear { place } => self.clear_break(&place),
+            Command::Clear { place } => {
+                let answer = self.clear_break(&place);
+                drop(place);
+                answer
+            }
             Command::Step { thread, count } => self.step(thread, count),
             Command::Minor => self.make(Event::Minor),
             Command::Full => self.make(Event::Full),
@@ -287,7 +303,11 @@ impl<H: Heap> Debugger<H> {
             Command::Where { thread } => frames(self.alloc, &self.machine, thread),
             Command::Locals { thread, frame } => locals(self.alloc, &self.machine, thread, frame),
             Command::Stack { thread, frame } => stack(self.alloc, &self.machine, thread, frame),
-            Command::Statics { class } => statics(self.alloc, &self.machine, &class),
+            Command::Statics { class } => {
+                let answer = statics(self.alloc, &self.machine, &class);
+                drop(class);
+                answer
+            }
             Command::Object { number } => object(self.alloc, &self.machine, number),
             Command::Heap => heap(self.alloc, &self.machine),
             Command::Monitors => monitors(self.alloc, &self.machine),

@@ -40,6 +40,19 @@ fn are_equal(one: &Class, other: &Class) -> bool
     one.parts() == other.parts()
 }
 
+// What comes of a class that was read again.
+fn compared(read: Class, class: &Class) -> Again
+    ensures { read ≡ class.now → result ≡ Again.Equal }
+{
+    let are_equal = are_equal(&read, class);
+    drop(read);
+    if are_equal {
+        Again::Equal
+    } else {
+        Again::Different
+    }
+}
+
 /// Writes a class as a class file, reads its bytes again, and compares.
 pub fn read_again(alloc: Global, class: &Class) -> Again
     ensures { CameOf class.now result }
@@ -49,8 +62,7 @@ pub fn read_again(alloc: Global, class: &Class) -> Again
         Err(fault) => return Again::NotWritten(fault),
     };
     match read_class(alloc, &bytes) {
-        Ok(read) if are_equal(&read, class) => Again::Equal,
-        Ok(_) => Again::Different,
+        Ok(read) => compared(read, class),
         Err(fault) => Again::NotRead(fault),
     }
 }

@@ -20,7 +20,11 @@ fn fault_line(alloc: Global, fault: &AsmFault) -> io::Result<String> {
 /// The answer to a question about the class of a text, or why it is none.
 pub fn class(alloc: Global, question: ClassQuestion, text: &str) -> io::Result<String> {
     match assemble(alloc, text) {
-        Ok(class) => class_answer(alloc, question, &class),
+        Ok(class) => {
+            let answer = class_answer(alloc, question, &class);
+            drop(class);
+            answer
+        }
         Err(fault) => fault_line(alloc, &fault),
     }
 }
@@ -46,7 +50,9 @@ fn part(alloc: Global, from: usize, to: usize, text: &str) -> io::Result<String>
         Ok(class) => class,
         Err(fault) => return fault_line(alloc, &fault),
     };
-    match write_class(alloc, &class) {
+    let written = write_class(alloc, &class);
+    drop(class);
+    match written {
         Ok(bytes) => {
             let Some(part) = bytes.get(from..to) else {
                 return invalid();

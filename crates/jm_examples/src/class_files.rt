@@ -28,7 +28,7 @@ fn change_at(alloc: Global, bytes: &[u8], at: usize) -> io::Result<u32> {
         if let Some(byte) = changed.get_mut(at) {
             *byte = value;
         }
-        let _ = read_class(alloc, &changed);
+        drop(read_class(alloc, &changed));
         answered = answered.saturating_add(1);
     }
     Ok(answered)
@@ -57,7 +57,11 @@ fn written_as(alloc: Global, class: &Class, bytes: &[u8]) -> io::Result<String> 
 /// `the same bytes` where the class of a class file is written as that file.
 pub fn bytes(alloc: Global, bytes: &[u8]) -> io::Result<String> {
     match read_class(alloc, bytes) {
-        Ok(class) => written_as(alloc, &class, bytes),
+        Ok(class) => {
+            let answer = written_as(alloc, &class, bytes);
+            drop(class);
+            answer
+        }
         Err(fault) => said(alloc, &fault),
     }
 }
@@ -77,7 +81,12 @@ fn versions_of(alloc: Global, class: &mut ClassParts) -> io::Result<String> {
 /// The major versions, of 40 to 60, with which the class of a class file keeps the rules.
 pub fn versions(alloc: Global, bytes: &[u8]) -> io::Result<String> {
     match read_class(alloc, bytes) {
-        Ok(class) => versions_of(alloc, &mut class.into_parts()),
+        Ok(class) => {
+            let mut parts = class.into_parts();
+            let answer = versions_of(alloc, &mut parts);
+            drop(parts);
+            answer
+        }
         Err(fault) => said(alloc, &fault),
     }
 }

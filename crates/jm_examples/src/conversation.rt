@@ -143,5 +143,6 @@ pub fn print_conversation(rt: &HostRuntime, wait: &impl Wait, file: &str) -> io:
         taken: Vec::new(rt.alloc()),
     };
     let status = status_of(rt, wait, &job, &written, &mut answering);
+    drop(job);
     print_answers(rt, status, written.answers.get(), &answering.taken)
 }

@@ -102,7 +102,7 @@ fn name_of(file: &str) -> &str {
 fn print_class_file(rt: &(impl Print + Files + AllocGlobal), file: &str) -> io::Result<()> {
     let bytes = fs::read(rt, file)?;
     match read_class(rt.alloc(), &bytes) {
-        Ok(class) => print_class(rt, file, &class),
+        Ok(class) => print_class(rt, file, class),
         Err(fault) => println!(rt; "{} {fault}", name_of(file)),
     }
 }
@@ -111,16 +111,17 @@ fn print_class_file(rt: &(impl Print + Files + AllocGlobal), file: &str) -> io::
 fn print_text(rt: &(impl Print + Files + AllocGlobal), file: &str) -> io::Result<()> {
     let text = fs::read_to_string(rt, file)?;
     match assemble(rt.alloc(), &text) {
-        Ok(class) => print_class(rt, file, &class),
+        Ok(class) => print_class(rt, file, class),
         Err(fault) => println!(rt; "{} {fault}", name_of(file)),
     }
 }
 
 // Prints the line of a class that a file gave.
-fn print_class(rt: &(impl Print + AllocGlobal), file: &str, class: &Class) -> io::Result<()> {
+fn print_class(rt: &(impl Print + AllocGlobal), file: &str, class: Class) -> io::Result<()> {
     let name = name_of(file);
     let row = row_of(class.parts());
-    let again = read_again(rt.alloc(), class);
+    let again = read_again(rt.alloc(), &class);
+    drop(class);
     println!(rt; "{name} {row} {again}")
 }
 
@@ -132,7 +133,9 @@ fn print_bytes(rt: &(impl Print + Files + AllocGlobal), text: &str, file: &str) 
         Ok(class) => class,
         Err(fault) => return println!(rt; "{text} {fault}"),
     };
-    match write_class(rt.alloc(), &class) {
+    let written = write_class(rt.alloc(), &class);
+    drop(class);
+    match written {
         Ok(bytes) if bytes == wanted => println!(rt;
             "{text} has the {} bytes of {file}",
             bytes.len()

@@ -73,16 +73,21 @@ fn input_of(rt: &HostRuntime, row: &JobRow<'_>) -> io::Result<Vec<u8>> {
 /// What comes of a row's job.
 pub fn outcome_of(rt: &HostRuntime, wait: &impl Wait, row: &JobRow<'_>) -> io::Result<Outcome> {
     match job_of(rt, row)? {
-        Some(job) => done(rt, wait, &job, &input_of(rt, row)?),
+        Some(job) => {
+            let outcome = done(rt, wait, &job, row);
+            drop(job);
+            outcome
+        }
         None => linked(rt, &files_of(rt, row.names, row.contents)?),
     }
 }
 
-// What comes of a job that is done over these bytes as its input and two lists as its writers.
-fn done(rt: &HostRuntime, wait: &impl Wait, job: &Job, input: &[u8]) -> io::Result<Outcome> {
+// What comes of the job of a row that is done over two lists as its writers.
+fn done(rt: &HostRuntime, wait: &impl Wait, job: &Job, row: &JobRow<'_>) -> io::Result<Outcome> {
+    let input = input_of(rt, row)?;
     let mut output = Vec::new(rt.alloc());
     let mut lines = Vec::new(rt.alloc());
-    let status = status_over(rt, wait, job, input, &mut output, &mut lines)?;
+    let status = status_over(rt, wait, job, &input, &mut output, &mut lines)?;
     Ok(Outcome {
         output,
         lines,
@@ -125,7 +130,11 @@ fn classes_of(rt: &HostRuntime, files: &[InputFile]) -> io::Result<Vec<Class>> {
 fn linked(rt: &HostRuntime, files: &[InputFile]) -> io::Result<Outcome> {
     let classes = classes_of(rt, files)?;
     match link(rt.alloc(), classes) {
-        Ok(linked) => printed(rt, linked.methods().len()),
+        Ok(linked) => {
+            let count = linked.methods().len();
+            drop(linked);
+            printed(rt, count)
+        }
         Err(fault) => refused(rt, &fault),
     }
 }

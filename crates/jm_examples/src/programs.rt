@@ -34,7 +34,7 @@ pub fn print_programs(rt: &HostRuntime, wait: &impl Wait, file: &str) -> io::Res
 fn print_program(rt: &HostRuntime, wait: &impl Wait, files: &str) -> io::Result<()> {
     println!(rt; "== {}", name_of(main_file(files)))?;
     let events = events_of(rt, TURNS)?;
-    print_run(rt, wait, &job_of(rt, HEAP, events, files)?)
+    print_run(rt, wait, job_of(rt, HEAP, events, files)?)
 }
 
 /// Runs each program of a file whose lines have the limit of the heap, in cells, how many events of the
@@ -66,7 +66,7 @@ fn print_listed_run(rt: &HostRuntime, wait: &impl Wait, run: &ListedRun<'_>) -> 
     let name = name_of(main_file(run.files));
     println!(rt; "== {name}, heap {}, events {}", run.heap, run.events)?;
     let events = listed_events(rt, run.events)?;
-    print_run(rt, wait, &job_of(rt, run.heap, events, run.files)?)
+    print_run(rt, wait, job_of(rt, run.heap, events, run.files)?)
 }
 
 // So many events of the first thread, or the threads take turns.
@@ -106,8 +106,10 @@ fn job_of(rt: &HostRuntime, heap: u32, events: RunEvents, names: &str) -> io::Re
 }
 
 // Prints the output of a program, the lines on its standard error, and its status.
-fn print_run(rt: &HostRuntime, wait: &impl Wait, job: &Job) -> io::Result<()> {
-    println!(rt; "status {}", status_of(rt, wait, job).code())
+fn print_run(rt: &HostRuntime, wait: &impl Wait, job: Job) -> io::Result<()> {
+    let status = status_of(rt, wait, &job);
+    drop(job);
+    println!(rt; "status {}", status.code())
 }
 
 // Does a job whose lines for standard error come behind its output.

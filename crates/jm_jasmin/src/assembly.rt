@@ -55,10 +55,29 @@ fn class_of(alloc: Global, tokens: &[Token<'_>]) -> Result<ClassParts, AsmFault>
     let mut lines = Lines::new(tokens);
     let header = read_header(alloc, &mut lines)?;
     let in_interface = header.flags.has(AccessFlags::INTERFACE);
-    let fields = fields(alloc, &mut lines)?;
-    let methods = methods(alloc, in_interface, &mut lines)?;
-    text_ends(&lines)?;
-    Ok(parts_of(header, fields, methods))
+    let fields = match fields(alloc, &mut lines) {
+        Ok(fields) => fields,
+        Err(fault) => {
+            drop(header);
+            return Err(fault);
+        }
+    };
+    let methods = match methods(alloc, in_interface, &mut lines) {
+        Ok(methods) => methods,
+        Err(fault) => {
+            drop(header);
+            drop(fields);
+            return Err(fault);
+        }
+    };
+    let parts = parts_of(header, fields, methods);
+    match text_ends(&lines) {
+        Ok(()) => Ok(parts),
+        Err(fault) => {
+            drop(parts);
+            Err(fault)
+        }
+    }
 }
 
 // ---- the end of the text

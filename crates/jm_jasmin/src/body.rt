@@ -60,14 +60,25 @@ fn with_other<'a>(body: Body<'a>, other: Item<'a>) -> Result<Body<'a>, AllocErro
     requires instruction { instruction_here other ≡ 0 }
     ensures { IfOk result (λ b. b.items.items ≡ body.entry.items.items ++ other.entry ∷ []) }
 {
-    let mut items = body.items;
-    items.push(other)?;
+    let Body {
+        mut items,
+        labels,
+        stack,
+        locals,
+        count,
+    } = body;
+    if let Err(refused) = items.push(other) {
+        drop(refused);
+        drop(items);
+        drop(labels);
+        return Err(AllocError);
+    }
     Ok(Body {
         items,
-        labels: body.labels,
-        stack: body.stack,
-        locals: body.locals,
-        count: body.count,
+        labels,
+        stack,
+        locals,
+        count,
     })
 }
 
@@ -135,15 +146,25 @@ fn with_instruction<'a>(
     requires { instruction_count body.items.items < 2 ^ 32 - 1 }
     ensures { IfOk result (λ b. b.items.items ≡ body.entry.items.items ++ item.Instruction instruction.entry ∷ []) }
 {
-    let mut items = body.items;
-    items.push(Item::Instruction(instruction))?;
-    let count = body.count + 1;
+    let Body {
+        mut items,
+        labels,
+        stack,
+        locals,
+        count,
+    } = body;
+    if let Err(refused) = items.push(Item::Instruction(instruction)) {
+        drop(refused);
+        drop(items);
+        drop(labels);
+        return Err(AllocError);
+    }
     Ok(Body {
         items,
-        labels: body.labels,
-        stack: body.stack,
-        locals: body.locals,
-        count,
+        labels,
+        stack,
+        locals,
+        count: count + 1,
     })
 }
 
@@ -168,6 +189,7 @@ fn accept_stack<'a>(
     ensures { GivesAll (λ b. b.items.items) OutOfMemory result (with_item method.now line body.entry.items.items (item.StackLimit limit)) }
 {
     if body.stack.is_some() {
+        drop(body);
         return Err(AsmFault::Syntax(line));
     }
     let body = with_stack(body, limit)?;
@@ -185,9 +207,11 @@ fn accept_locals<'a>(
     ensures { GivesAll (λ b. b.items.items) OutOfMemory result (with_item method.now line body.entry.items.items (item.LocalsLimit limit)) }
 {
     if body.locals.is_some() {
+        drop(body);
         return Err(AsmFault::Syntax(line));
     }
     if is_too_small(method, limit) {
+        drop(body);
         return Err(AsmFault::BadCount(line));
     }
     let body = with_locals(body, limit)?;
@@ -212,6 +236,8 @@ fn accept_label<'a>(
     ensures { GivesAll (λ b. b.items.items) OutOfMemory result (with_item method.now line body.entry.items.items (item.Label name value)) }
 {
     if has_label(&body, &name) {
+        drop(body);
+        drop(name);
         return Err(AsmFault::DuplicateLabel(line));
     }
     let body = with_label(alloc, body, name, value)?;
@@ -228,9 +254,13 @@ fn accept_instruction<'a>(
     ensures { GivesAll (λ b. b.items.items) OutOfMemory result (with_item method.now line body.entry.items.items (item.Instruction instruction.entry)) }
 {
     if method.flags.has(AccessFlags::ABSTRACT) {
+        drop(body);
+        drop(instruction);
         return Err(AsmFault::Syntax(line));
     }
     if body.count == u32::MAX {
+        drop(body);
+        drop(instruction);
         return Err(AsmFault::BadCount(line));
     }
     let body = with_instruction(body, instruction)?;

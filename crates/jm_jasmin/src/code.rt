@@ -104,8 +104,14 @@ pub fn code_of(
     let max_stack = limit_or_one(body.stack);
     let max_locals = limit_or_one(body.locals);
     let count = body.count;
-    checked_locals(method, line, max_locals)?;
-    checked_ranges(&body)?;
+    if let Err(fault) = checked_locals(method, line, max_locals) {
+        drop(body);
+        return Err(fault);
+    }
+    if let Err(fault) = checked_ranges(&body) {
+        drop(body);
+        return Err(fault);
+    }
     let parts = parts_in(alloc, body)?;
     checked_count(method, end_line, count)?;
     if method.flags.has(AccessFlags::ABSTRACT) {

@@ -231,15 +231,35 @@ pub fn read_header(alloc: Global, lines: &mut Lines<'_, '_>) -> Result<Header, A
 {
     let version = version_at(alloc, lines)?;
     let source_file = source_at(alloc, lines)?;
-    let declared = declared_at(alloc, lines)?;
-    let superclass = superclass(alloc, lines)?;
-    let interfaces = interfaces(alloc, lines)?;
-    Ok(Header {
-        version: version_or_default(version),
-        source_file,
-        flags: declared.flags,
-        name: declared.name,
-        superclass,
-        interfaces: Sequence::new(interfaces),
-    })
+    let declared = match declared_at(alloc, lines) {
+        Ok(declared) => declared,
+        Err(fault) => {
+            drop(source_file);
+            return Err(fault);
+        }
+    };
+    let superclass = match superclass(alloc, lines) {
+        Ok(superclass) => superclass,
+        Err(fault) => {
+            drop(source_file);
+            drop(declared);
+            return Err(fault);
+        }
+    };
+    match interfaces(alloc, lines) {
+        Ok(interfaces) => Ok(Header {
+            version: version_or_default(version),
+            source_file,
+            flags: declared.flags,
+            name: declared.name,
+            superclass,
+            interfaces: Sequence::new(interfaces),
+        }),
+        Err(fault) => {
+            drop(source_file);
+            drop(declared);
+            drop(superclass);
+            Err(fault)
+        }
+    }
 }

@@ -187,9 +187,27 @@ pub fn handler_of(
 ) -> Result<Handler, AsmFault>
     ensures { TakesAll (λ h. h) result (handler_of (get same_text values.now) count row) }
 {
-    let start = place_at(count, row.line, value_of(values, &row.start))?;
-    let end = end_at(row.line, value_of(values, &row.end))?;
-    let target = place_at(count, row.line, value_of(values, &row.target))?;
+    let start = match place_at(count, row.line, value_of(values, &row.start)) {
+        Ok(start) => start,
+        Err(fault) => {
+            drop(row);
+            return Err(fault);
+        }
+    };
+    let end = match end_at(row.line, value_of(values, &row.end)) {
+        Ok(end) => end,
+        Err(fault) => {
+            drop(row);
+            return Err(fault);
+        }
+    };
+    let target = match place_at(count, row.line, value_of(values, &row.target)) {
+        Ok(target) => target,
+        Err(fault) => {
+            drop(row);
+            return Err(fault);
+        }
+    };
     Ok(Handler {
         start,
         end,

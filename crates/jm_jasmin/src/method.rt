@@ -16,6 +16,7 @@ use jm_jasmin_lex::Token;
 use jm_jasmin_ops::AsmFault;
 use jm_program::{Code, Method};
 use std::alloc::Global;
+use std::mem::replace;
 
 // .end method, and its line.
 #[tactic(auto, unfolding(crate::specs::Methods::end_line))]
@@ -41,15 +42,11 @@ fn end_at(lines: &mut Lines<'_, '_>) -> Result<usize, AsmFault>
     end_line(line)
 }
 
-fn with_code(method: Method, code: Option<Code>) -> Method
+fn with_code(mut method: Method, code: Option<Code>) -> Method
     ensures { result ≡ with_code method code }
 {
-    Method {
-        flags: method.flags,
-        name: method.name,
-        descriptor: method.descriptor,
-        code,
-    }
+    drop(replace(&mut method.code, code));
+    method
 }
 
 // The lines behind the one of .method.
@@ -63,10 +60,28 @@ fn method_body(
     requires { method_slots method ≤ 255 }
     ensures { Reads (λ m. m) result lines.new (method_body line method lines.old) }
 {
-    let body = items_of(alloc, &method, lines)?;
-    let end = end_at(lines)?;
-    let code = code_of(alloc, &method, line, end, body)?;
-    Ok(with_code(method, code))
+    let body = match items_of(alloc, &method, lines) {
+        Ok(body) => body,
+        Err(fault) => {
+            drop(method);
+            return Err(fault);
+        }
+    };
+    let end = match end_at(lines) {
+        Ok(end) => end,
+        Err(fault) => {
+            drop(body);
+            drop(method);
+            return Err(fault);
+        }
+    };
+    match code_of(alloc, &method, line, end, body) {
+        Ok(code) => Ok(with_code(method, code)),
+        Err(fault) => {
+            drop(method);
+            Err(fault)
+        }
+    }
 }
 
 #[tactic(auto, unfolding(crate::specs::Methods::method, crate::specs::Lines::by_line))]

@@ -55,11 +55,15 @@ fn declarable(in_interface: bool, line: usize, method: Method) -> Result<Method,
     ensures same { IfOk result (λ m. m ≡ method) }
 {
     if is_misplaced_abstract(&method) {
+        drop(method);
         return Err(AsmFault::Syntax(line));
     }
     match left_out_method(in_interface, &method) {
         None => Ok(method),
-        Some(part) => Err(AsmFault::LeftOut(AsmLeftOut::Part(part), line)),
+        Some(part) => {
+            drop(method);
+            Err(AsmFault::LeftOut(AsmLeftOut::Part(part), line))
+        }
     }
 }
 

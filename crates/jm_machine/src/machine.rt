@@ -79,9 +79,12 @@ impl<H: Heap + Drop> Machine<H> {
     {
         let limit = heap.limit();
         if is_too_small(&linked, limit) {
+            drop(linked);
+            drop(heap);
             return Err(LoadFault::HeapTooSmall);
         }
         let Ok(state) = make_first_state(alloc, &linked, heap) else {
+            drop(linked);
             return Err(LoadFault::OutOfMemory);
         };
         Ok(Machine {

@@ -83,6 +83,7 @@ fn has_ended<H: Heap + Drop, R: Origin>(journal: Journal<H, R>) -> bool {
     live == 0
 }
 
+// Makes the turns and the collections.
 fn check_entries<H: Heap, R: Origin>(
     rt: &impl Abort,
     journal: &mut Journal<H, R>,
@@ -91,14 +92,16 @@ fn check_entries<H: Heap, R: Origin>(
     check_collections(rt, journal)
 }
 
+// Makes them, and lets go of the journal, whose run has ended.
 fn check_journal<H: Heap + Drop, R: Origin>(
     rt: &impl Abort,
     mut journal: Journal<H, R>,
 ) -> Result<(), Fail> {
     let checked = check_entries(rt, &mut journal);
     let has_ended = has_ended(journal);
+    checked?;
     assert!(rt; has_ended);
-    checked
+    Ok(())
 }
 
 // The journal of a machine before its first event.

@@ -2,7 +2,7 @@ use Rattle.std.proofs.Common.{◌≡◌, Ok, Some, sym, ap, ◌∙◌}
 use Rattle.jm_class_format.specs.PoolLookups.{text_at}
 use Rattle.jm_class_reader.specs.Known.{name_of, of_text}
 use Rattle.jm_class_reader.proofs.SameUses.{same_name}
-use Rattle.jm_class_reader.proofs.KnownValues.{found, kept, at_text}
+use Rattle.jm_class_reader.proofs.KnownValues.{found, at_text}
 use Rattle.jm_class_reader.proofs.symbols.Symbols.name.Goals as goal
 
 pub returns-in-Some-clause-given : goal.returns-in-Some-clause-given
@@ -12,12 +12,3 @@ returns-in-Some-clause-given c =
     sym (at_text pool (name_of c.args.kind) c.args.text.index c.args.text.units.now stands)
     ∙ found _ same_name (λ u. of_text pool (name_of u.kind) u.index) c.self.inside.names (record { kind = c.args.kind; index = c.args.text.index }) c.in-Some.known.now c.self.invariant.names (sym c.in-Some.ensures.value)
     ∙ ap (λ x. Ok x) (sym c.in_ok-name.ensures)
-
-pub invariant_of-self-2 : goal.invariant_of-self-2
-invariant_of-self-2 c =
-    let pool = c.self.inside.pool.now in
-    let stands : text_at pool c.args.text.index ≡ Some c.args.text.units.now = ap (λ p. text_at p c.args.text.index) c.self.view_is ∙ c.requires in
-    let is : of_text pool (name_of c.args.kind) c.args.text.index ≡ Ok c.in_ok-copy.copy =
-    at_text pool (name_of c.args.kind) c.args.text.index c.args.text.units.now stands ∙ c.in_ok-name-2.ensures ∙ ap (λ x. Ok x) (sym c.in_ok-copy.ensures) in
-    let known = kept _ same_name (λ u. of_text pool (name_of u.kind) u.index) c.self.inside.names.entries (record { kind = c.args.kind; index = c.args.text.index }) c.in_ok-copy.copy c.self.invariant.names is in
-    record { names = rw c.in_ok-insert.ensures.entries known; field_types = c.self.invariant.field_types; method_types = c.self.invariant.method_types; strings = c.self.invariant.strings; instructions = c.self.invariant.instructions }

@@ -2,7 +2,7 @@ use Rattle.std.proofs.Common.{rules, ◌≡◌, Ok, Some, sym, ap, ◌∙◌}
 use Rattle.std.proofs.lemmas.Bool.{eqb-true}
 use Rattle.jm_class_format.specs.PoolLookups.{text_at}
 use Rattle.jm_class_reader.specs.Known.{of_text}
-use Rattle.jm_class_reader.proofs.KnownValues.{found, kept, at_text}
+use Rattle.jm_class_reader.proofs.KnownValues.{found, at_text}
 use Rattle.jm_class_reader.proofs.symbols.Symbols.string.Goals as goal
 
 pub returns-in-Some-clause-given : goal.returns-in-Some-clause-given
@@ -12,12 +12,3 @@ returns-in-Some-clause-given c =
     sym (at_text pool Ok c.args.text.index c.args.text.units.now stands)
     ∙ found _ (λ a b h. eqb-true a b h) (of_text pool Ok) c.self.inside.strings c.args.text.index c.in-Some.known.now c.self.invariant.strings (sym c.in-Some.ensures.value)
     ∙ ap (λ x. Ok x) (sym c.in_ok-units.ensures)
-
-pub invariant_of-self-2 : goal.invariant_of-self-2
-invariant_of-self-2 c =
-    let pool = c.self.inside.pool.now in
-    let stands : text_at pool c.args.text.index ≡ Some c.args.text.units.now = ap (λ p. text_at p c.args.text.index) c.self.view_is ∙ c.requires in
-    let is : of_text pool Ok c.args.text.index ≡ Ok c.in_ok-shared.shared =
-    at_text pool Ok c.args.text.index c.args.text.units.now stands ∙ ap (λ x. Ok x) (search rules) in
-    let known = kept _ (λ a b h. eqb-true a b h) (of_text pool Ok) c.self.inside.strings.entries c.args.text.index c.in_ok-shared.shared c.self.invariant.strings is in
-    record { names = c.self.invariant.names; field_types = c.self.invariant.field_types; method_types = c.self.invariant.method_types; strings = rw c.in_ok-insert.ensures.entries known; instructions = c.self.invariant.instructions }

@@ -12,7 +12,7 @@ returns-in-Break g c = λ s at. rw c.in-Break.is (c.set_break.ensures s at)
 
 pub returns-in-Clear : goal.returns-in-Clear
 unfolding obeyed
-returns-in-Clear g c = λ s at. rw c.in-Clear.is (c.clear_break.ensures s at)
+returns-in-Clear g c = λ s at. rw c.in-Clear.is (c.clear_break-answer.ensures s at)
 
 pub returns-in-Step : goal.returns-in-Step
 unfolding obeyed
@@ -52,7 +52,7 @@ pub returns-in-Statics : goal.returns-in-Statics
 unfolding obeyed
 returns-in-Statics g c = λ s at.
     let here = subst (λ (d : DebuggerView). IsSession d s) (sym c.self-in-Statics.view_is) at in
-    rw c.in-Statics.is (of_view _ c.args.self.now s (statics_lines s.world c.in-Statics.class) _ (c.statics.ensures s.world here.world) at)
+    rw c.in-Statics.is (of_view _ c.args.self.now s (statics_lines s.world c.in-Statics.class) _ (c.statics-answer.ensures s.world here.world) at)
 
 pub returns-in-Object : goal.returns-in-Object
 unfolding obeyed
