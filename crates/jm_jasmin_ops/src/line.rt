@@ -3,6 +3,7 @@
 ghost use Rattle.std.specs.Prelude.{◌≡◌, ◌+◌, ◌<◌, ◌^◌, length};
 ghost use Rattle.jm_bytes.specs.Reading.{GivesAll, TakesAll};
 ghost use Rattle.jm_program.specs.declared.instruction.operation.InvokeOp.TheVariants as invoke;
+ghost use Rattle.jm_class_format.specs.declared.opcode.Opcode.TheVariants as opcodes;
 ghost use Rattle.jm_jasmin_ops.specs.declared.fault.AsmFault.TheVariants.{OutOfMemory};
 ghost use Rattle.jm_jasmin_ops.specs.Words.{label, one, two};
 ghost use Rattle.jm_jasmin_ops.specs.Operands.{signed_byte, signed_short, signed_int, unsigned_short, loaded, loaded_long, element_type, class_name, class_ref, field_named, field_typed, method, counted};
@@ -22,8 +23,8 @@ use crate::words::{ended, first, label, word};
 use jm_class_format::Opcode;
 use jm_jasmin_lex::{Token, line_of};
 use jm_program::{
-    ArrayOp, ClassRef, Constant, FieldRef, Instr, InvokeOp, MethodRef, Name, Plain, PrimitiveType,
-    Shared, TypeOp,
+    ArrayOp, ClassRef, Constant, FieldOp, FieldRef, Instr, InvokeOp, MethodRef, Name, Plain,
+    PrimitiveType, Shared, TypeOp,
 };
 use std::alloc::Global;
 
@@ -160,6 +161,63 @@ fn increment(line: usize, words: &[Token<'_>]) -> Result<Instr, AsmFault>
     ended(rest, Instr::Plain(Plain::Increment(local, by)))
 }
 
+// ---- instructions that own names
+
+#[tactic(auto, unfolding(crate::specs::Instruction::named_instr))]
+fn field_instr(
+    alloc: Global,
+    line: usize,
+    op: FieldOp,
+    words: &[Token<'_>],
+) -> Result<Instr, AsmFault>
+    ensures { GivesAll (λ x. x) OutOfMemory result (named_instr line (opcodes.Field op) words.now) }
+{
+    let field = one_field(alloc, line, words)?;
+    Ok(Instr::Field(op, Shared::new(alloc, field)?))
+}
+
+#[tactic(auto, unfolding(crate::specs::Instruction::named_instr))]
+fn invoke_instr(
+    alloc: Global,
+    line: usize,
+    op: InvokeOp,
+    words: &[Token<'_>],
+) -> Result<Instr, AsmFault>
+    ensures { GivesAll (λ x. x) OutOfMemory result (named_instr line (opcodes.Invoke op) words.now) }
+{
+    let method = one_method(alloc, line, op, words)?;
+    Ok(Instr::Invoke(op, Shared::new(alloc, method)?))
+}
+
+#[tactic(auto, unfolding(crate::specs::Instruction::named_instr))]
+fn interface_instr(alloc: Global, line: usize, words: &[Token<'_>]) -> Result<Instr, AsmFault>
+    ensures { GivesAll (λ x. x) OutOfMemory result (named_instr line opcodes.InvokeInterface words.now) }
+{
+    let method = counted_method(alloc, line, words)?;
+    Ok(Instr::Invoke(InvokeOp::Interface, Shared::new(alloc, method)?))
+}
+
+#[tactic(auto, unfolding(crate::specs::Instruction::named_instr))]
+fn new_instr(alloc: Global, line: usize, words: &[Token<'_>]) -> Result<Instr, AsmFault>
+    ensures { GivesAll (λ x. x) OutOfMemory result (named_instr line opcodes.New words.now) }
+{
+    let name = one_class(alloc, line, words)?;
+    Ok(Instr::New(Shared::new(alloc, name)?))
+}
+
+#[tactic(auto, unfolding(crate::specs::Instruction::named_instr))]
+fn type_instr(
+    alloc: Global,
+    line: usize,
+    op: TypeOp,
+    words: &[Token<'_>],
+) -> Result<Instr, AsmFault>
+    ensures { GivesAll (λ x. x) OutOfMemory result (named_instr line (opcodes.Type op) words.now) }
+{
+    let class = one_type(alloc, line, op, words)?;
+    Ok(Instr::Type(op, Shared::new(alloc, class)?))
+}
+
 // ---- instructions
 
 // An instruction without a target, by its opcode and the words after the mnemonic.
@@ -207,30 +265,15 @@ fn named_instr(
             Ok(Instr::Plain(Plain::Store(kind, local)))
         }
         Opcode::Increment => increment(line, words),
-        Opcode::Field(op) => {
-            let field = one_field(alloc, line, words)?;
-            Ok(Instr::Field(op, Shared::new(alloc, field)?))
-        }
-        Opcode::Invoke(op) => {
-            let method = one_method(alloc, line, op, words)?;
-            Ok(Instr::Invoke(op, Shared::new(alloc, method)?))
-        }
-        Opcode::InvokeInterface => {
-            let method = counted_method(alloc, line, words)?;
-            Ok(Instr::Invoke(InvokeOp::Interface, Shared::new(alloc, method)?))
-        }
-        Opcode::New => {
-            let name = one_class(alloc, line, words)?;
-            Ok(Instr::New(Shared::new(alloc, name)?))
-        }
+        Opcode::Field(op) => field_instr(alloc, line, op, words),
+        Opcode::Invoke(op) => invoke_instr(alloc, line, op, words),
+        Opcode::InvokeInterface => interface_instr(alloc, line, words),
+        Opcode::New => new_instr(alloc, line, words),
         Opcode::NewArray => {
             let element = one_element(line, words)?;
             Ok(Instr::Array(ArrayOp::New(element)))
         }
-        Opcode::Type(op) => {
-            let class = one_type(alloc, line, op, words)?;
-            Ok(Instr::Type(op, Shared::new(alloc, class)?))
-        }
+        Opcode::Type(op) => type_instr(alloc, line, op, words),
         Opcode::LeftOut(op) => Err(left_out(op, line)),
         Opcode::Later(op) => Err(AsmFault::Later(op, line)),
         _ => Err(AsmFault::Syntax(line)),
