@@ -60,32 +60,37 @@ fn events_of(alloc: Global, run: &RunOptions) -> Result<String, Fail> {
     }
 }
 
-fn answer(alloc: Global, words: &str) -> Result<String, Fail> {
-    let words = words_of(alloc, words, "|")?;
-    let asked = options(alloc, &words)?;
-    Ok(match &asked {
-        Options::Run(run) => {
-            let files = list_of(alloc, &run.files)?;
-            let events = events_of(alloc, run)?;
-            let (heap, shown) = (
-                run.heap,
-                if run.show_heap {
-                    ", its heap shown"
-                } else {
-                    ""
-                },
-            );
-            format!(in alloc; "run of {files} by {events} with {heap}{shown}")
-        }
+fn run_text(alloc: Global, run: &RunOptions) -> Result<String, Fail> {
+    let files = list_of(alloc, &run.files)?;
+    let events = events_of(alloc, run)?;
+    let heap = run.heap;
+    let shown = if run.show_heap {
+        ", its heap shown"
+    } else {
+        ""
+    };
+    Ok(format!(in alloc; "run of {files} by {events} with {heap}{shown}")?)
+}
+
+fn text_of(alloc: Global, asked: &Options) -> Result<String, Fail> {
+    match asked {
+        Options::Run(run) => run_text(alloc, run),
         Options::Assemble(files) => {
             let (input, output) = (&files.input, &files.output);
-            format!(in alloc; "assembly of {input} to {output}")
+            Ok(format!(in alloc; "assembly of {input} to {output}")?)
         }
         Options::Debug(debug) => {
             let (files, heap) = (list_of(alloc, &debug.files)?, debug.heap);
-            format!(in alloc; "debug of {files} with {heap}")
+            Ok(format!(in alloc; "debug of {files} with {heap}")?)
         }
-    }?)
+    }
+}
+
+fn answer(alloc: Global, words: &str) -> Result<String, Fail> {
+    let words = words_of(alloc, words, "|")?;
+    let asked = options(alloc, &words)?;
+    drop(words);
+    text_of(alloc, &asked)
 }
 
 #[test]

@@ -140,24 +140,36 @@ fn line_of(alloc: Global, column: &str) -> Result<String, AllocError> {
     }
 }
 
-// Does a job, and compares whether the two writers have failed, and the status.
-fn check_job(
-    rt: &(impl Abort + Wait),
+// Does a job, and says whether the two writers have failed, and the number of the status.
+fn done(
+    rt: &impl Wait,
     alloc: Global,
     job: &Job,
     output: &mut Narrow,
     told: &mut Narrow,
-    fails: bool,
-    number: u8,
-) {
-    let closed = told.closed;
+) -> (bool, bool, u8) {
     let mut input = Watched::new(b"unread".as_slice());
     let mut out = Watched::new(output);
     let mut err = Watched::new(told);
     let status = execute(rt, alloc, job, &mut input, &mut out, &mut err);
-    assert!(rt; status.code() == number);
-    assert!(rt; out.has_failed() == fails);
-    assert!(rt; err.has_failed() == closed);
+    (out.has_failed(), err.has_failed(), status.code())
+}
+
+// Does a job over the writers of two columns. Answers what standard error has taken, behind whether the
+// writers have failed and the number of the status.
+fn done_over(
+    rt: &impl Wait,
+    alloc: Global,
+    job: &Job,
+    room: &str,
+    line: &str,
+) -> ((bool, bool, u8), Vec<u8>) {
+    let mut output = writer(alloc, room);
+    let mut told = writer(alloc, line);
+    let done = done(rt, alloc, job, &mut output, &mut told);
+    drop(output);
+    let Narrow { taken, .. } = told;
+    (done, taken)
 }
 
 fn check_row(rt: &(impl Abort + Wait), alloc: Global, row: &str) -> Result<(), Fail> {
@@ -165,21 +177,13 @@ fn check_row(rt: &(impl Abort + Wait), alloc: Global, row: &str) -> Result<(), F
     let [job, room, end, line, status] = columns.as_slice() else {
         return Err(Fail::from("a row without its columns"));
     };
+    let want = (*end == "failed", *line == "closed", status.parse()?);
+    let wanted = line_of(alloc, line)?;
     let job = job_of(alloc, job)?;
-    let mut output = writer(alloc, room);
-    let mut told = writer(alloc, line);
-    let fails = *end == "failed";
-    check_job(
-        rt,
-        alloc,
-        &job,
-        &mut output,
-        &mut told,
-        fails,
-        status.parse()?,
-    );
-    let line = line_of(alloc, line)?;
-    assert!(rt; told.taken.as_slice() == line.as_bytes(), "{row}");
+    let (done, taken) = done_over(rt, alloc, &job, room, line);
+    drop(job);
+    assert!(rt; done == want, "{row}");
+    assert!(rt; taken.as_slice() == wanted.as_bytes(), "{row}");
     Ok(())
 }
 

@@ -93,6 +93,60 @@ pub fn make_events<H: Heap>(
     Ok((run.event, reply))
 }
 
+// The columns of a row, and the whole of it.
+#[derive(Clone, Copy)]
+struct Row<'a> {
+    whole: &'a str,
+    events: &'a str,
+    told: &'a str,
+    class: &'a str,
+    line: &'a str,
+}
+
+fn columns_of(row: &str) -> Result<Row<'_>, Fail> {
+    let (events, wanted) = row.split_once(" | ").ok_or("a row without events")?;
+    let (told, ends) = wanted.split_once(" | ").ok_or("a row without a reply")?;
+    let (class, line) = ends.split_once(" |").ok_or("a row without an end")?;
+    Ok(Row {
+        whole: row,
+        events,
+        told,
+        class,
+        line,
+    })
+}
+
+// Whether this is told of a reply.
+fn is_told<H: Heap>(
+    alloc: Global,
+    machine: &Machine<H>,
+    reply: Reply,
+    want: &str,
+) -> Result<bool, AllocError> {
+    let told = told(alloc, machine, reply)?;
+    Ok(told.as_str() == want)
+}
+
+// Makes an event of a row in a nursery, and compares what is told after it.
+fn check_event<H: Heap>(
+    rt: &impl Abort,
+    alloc: Global,
+    machine: &mut Machine<H>,
+    nursery: usize,
+    event: Event,
+    row: Row<'_>,
+) -> Result<(), Fail> {
+    let whole = row.whole;
+    let reply = make(machine, nursery, event)?;
+    assert!(rt; is_told(alloc, machine, reply, row.told)?, "{whole}");
+    assert!(rt;
+        has_ended_by(machine, thread_of(event), row.class),
+        "{whole}"
+    );
+    assert!(rt; has_printed(machine, row.line.trim()), "{whole}");
+    Ok(())
+}
+
 // Makes the events of a row in a nursery, and compares what is told after each of them.
 fn check_row<H: Heap>(
     rt: &impl Abort,
@@ -101,17 +155,11 @@ fn check_row<H: Heap>(
     nursery: usize,
     row: &str,
 ) -> Result<(), Fail> {
-    let (events, wanted) = row.split_once(" | ").ok_or("a row without events")?;
-    let (want, ends) = wanted.split_once(" | ").ok_or("a row without a reply")?;
-    let (class, line) = ends.split_once(" |").ok_or("a row without an end")?;
-    let schedule = read_schedule(alloc, events.as_bytes())?;
+    let row = columns_of(row)?;
+    let schedule = read_schedule(alloc, row.events.as_bytes())?;
     for run in schedule.runs() {
         for _ in 0..run.count {
-            let reply = make(machine, nursery, run.event)?;
-            let told = told(alloc, machine, reply)?;
-            assert!(rt; told.as_str() == want, "{row}");
-            assert!(rt; has_ended_by(machine, thread_of(run.event), class), "{row}");
-            assert!(rt; has_printed(machine, line.trim()), "{row}");
+            check_event(rt, alloc, machine, nursery, run.event, row)?;
         }
     }
     Ok(())

@@ -5,8 +5,9 @@
 use crate::machine::rows::{kind_name, make_events, thread_of};
 use jm_heap::Heap;
 use jm_machine::{Machine, MethodFrame, WorldFrame};
-use jm_world::Stage;
+use jm_world::{Reply, Stage};
 use std::alloc::{AllocError, Global};
+use std::fmt::Write;
 use std::process::Abort;
 use std::test::Fail;
 
@@ -123,74 +124,97 @@ fn stage_name(stage: Stage) -> &'static str {
     }
 }
 
-fn method_text<H: Heap>(alloc: Global, frame: &MethodFrame<H>) -> Result<String, AllocError> {
+fn add_method<H: Heap>(text: &mut String, frame: &MethodFrame<H>) -> Result<(), AllocError> {
     let class = &frame.class().parts().name;
     let name = &frame.method().name;
     let at = frame.at();
-    format!(in alloc; "{class}.{name}:{at}")
+    write!(text, "{class}.{name}:{at}")
 }
 
-fn frame_text<H: Heap>(alloc: Global, frame: &WorldFrame<H>) -> Result<String, AllocError> {
+fn add_frame<H: Heap>(text: &mut String, frame: &WorldFrame<H>) -> Result<(), AllocError> {
     match frame {
-        WorldFrame::Method(frame) => method_text(alloc, frame),
+        WorldFrame::Method(frame) => add_method(text, frame),
         WorldFrame::Initialization { class, stage } => {
             let name = &class.parts().name;
             let stage = stage_name(*stage);
-            format!(in alloc; "init-{name}-{stage}")
+            write!(text, "init-{name}-{stage}")
         }
-        WorldFrame::Entry => String::from_str(alloc, "entry"),
+        WorldFrame::Entry => text.push_str("entry"),
     }
 }
 
-// The frames of a thread, the top first.
-fn frames_text<H: Heap>(
-    alloc: Global,
+// Adds the frames of a thread, the top first.
+fn add_frames<H: Heap>(
+    text: &mut String,
     machine: &Machine<H>,
     thread: u64,
-) -> Result<String, AllocError> {
-    let mut frames = String::new(alloc);
+) -> Result<(), AllocError> {
+    if machine.frame(thread, 0).is_none() {
+        return text.push_str("none");
+    }
     for depth in 0..8 {
         if let Some(frame) = machine.frame(thread, depth) {
             if depth > 0 {
-                frames.push_str(" ")?;
+                text.push_str(" ")?;
             }
-            frames.push_str(&frame_text(alloc, &frame)?)?;
+            add_frame(text, &frame)?;
         }
     }
-    if frames.is_empty() {
-        frames.push_str("none")?;
-    }
-    Ok(frames)
+    Ok(())
 }
 
-// The monitor of object 2.
-fn monitor_text<H: Heap>(alloc: Global, machine: &Machine<H>) -> Result<String, AllocError> {
+// Adds the monitor of object 2.
+fn add_monitor<H: Heap>(text: &mut String, machine: &Machine<H>) -> Result<(), AllocError> {
     match machine.monitor(2) {
-        Some(held) => format!(in alloc; "t{} x{}", held.owner, held.count),
-        None => String::from_str(alloc, "none"),
+        Some(held) => write!(text, "t{} x{}", held.owner, held.count),
+        None => text.push_str("none"),
     }
 }
 
-fn pending_text<H: Heap>(
-    alloc: Global,
+fn add_pending<H: Heap>(
+    text: &mut String,
     machine: &Machine<H>,
     thread: u64,
-) -> Result<String, AllocError> {
+) -> Result<(), AllocError> {
     match machine.pending(thread) {
-        Some(number) => format!(in alloc; "#{number}"),
-        None => String::from_str(alloc, "none"),
+        Some(number) => write!(text, "#{number}"),
+        None => text.push_str("none"),
     }
+}
+
+// Adds what is there after an event of a thread.
+fn add_told<H: Heap>(
+    text: &mut String,
+    machine: &Machine<H>,
+    thread: u64,
+    reply: Reply,
+) -> Result<(), AllocError> {
+    text.push_str(kind_name(reply.kind))?;
+    text.push_str(" | ")?;
+    add_monitor(text, machine)?;
+    text.push_str(" | ")?;
+    add_pending(text, machine, thread)?;
+    text.push_str(" | ")?;
+    add_frames(text, machine, thread)
 }
 
 // Makes the events of a row, of which there is one line, and tells what is there after them.
 fn told<H: Heap>(alloc: Global, machine: &mut Machine<H>, events: &str) -> Result<String, Fail> {
     let (event, reply) = make_events(alloc, machine, events)?;
-    let kind = kind_name(reply.kind);
-    let thread = thread_of(event);
-    let monitor = monitor_text(alloc, machine)?;
-    let pending = pending_text(alloc, machine, thread)?;
-    let frames = frames_text(alloc, machine, thread)?;
-    Ok(format!(in alloc; "{kind} | {monitor} | {pending} | {frames}")?)
+    let mut text = String::new(alloc);
+    add_told(&mut text, machine, thread_of(event), reply)?;
+    Ok(text)
+}
+
+// Makes the events of a row, and says whether this is told after them.
+fn is_told<H: Heap>(
+    alloc: Global,
+    machine: &mut Machine<H>,
+    events: &str,
+    want: &str,
+) -> Result<bool, Fail> {
+    let told = told(alloc, machine, events)?;
+    Ok(told.as_str() == want)
 }
 
 /// Makes the events of rows, and compares what is told after each of them.
@@ -202,8 +226,7 @@ pub fn check_threads<H: Heap>(
 ) -> Result<(), Fail> {
     for row in rows.lines() {
         let (events, want) = row.split_once(" | ").ok_or("a row without events")?;
-        let told = told(alloc, machine, events)?;
-        assert!(rt; told.as_str() == want, "{row}");
+        assert!(rt; is_told(alloc, machine, events, want)?, "{row}");
     }
     Ok(())
 }
