@@ -3,28 +3,15 @@
 use jm_frames::{Frame, Place, TagFault, Value};
 use jm_ops::{Flow, push_constant, step_plain};
 use jm_program::{Constant, Instr};
-use std::process::Abort;
 use std::test::Fail;
-
-// Pushes a constant: a step of a frame that asks for no flow but the next instruction.
-fn push(frame: &mut Frame, constant: Constant) -> Result<Flow, TagFault> {
-    let instr = Instr::Constant(constant);
-    let flow = step_plain(frame, &instr);
-    drop(instr);
-    flow
-}
 
 #[test]
 fn a_long_constant_takes_two_units(rt: HostRuntime) -> Result<(), Fail> {
     let mut frame = Frame::new(rt.alloc(), 3, Some(Place::new(4)), 3, 1)?;
-    check_long(&rt, &mut frame);
-    Ok(())
-}
-
-fn check_long(rt: &impl Abort, frame: &mut Frame) {
-    assert!(rt; push(frame, Constant::Long(5)) == Ok(Flow::On));
-    assert!(rt; push(frame, Constant::Long(5)) == Err(TagFault::Overflow));
-    assert!(rt; push(frame, Constant::Int(6)) == Ok(Flow::On));
+    let long = Instr::Constant(Constant::Long(5));
+    assert!(rt; step_plain(&mut frame, &long) == Ok(Flow::On));
+    assert!(rt; step_plain(&mut frame, &long) == Err(TagFault::Overflow));
+    assert!(rt; step_plain(&mut frame, &Instr::Constant(Constant::Int(6))) == Ok(Flow::On));
     assert!(rt; frame.operand(0) == Some(Value::Int(6)));
     assert!(rt; frame.operand(1) == Some(Value::Long(5)));
     assert!(rt; frame.method() == 3);
@@ -32,6 +19,7 @@ fn check_long(rt: &impl Abort, frame: &mut Frame) {
     assert!(rt; frame.at() == 2);
     frame.clear();
     assert!(rt; frame.pop() == Err(TagFault::Underflow));
+    Ok(())
 }
 
 #[test]
