@@ -5,8 +5,11 @@
 //! compares the bytes of the worked text with the worked class file. Then it runs the programs among its
 //! data, and prints what each prints and how it ends. It does the jobs of the tables that tables.txt
 //! lists and answers the rows of those in answers/, and prints how many rows of each are as they should
-//! be, and those that are not. Last four workers share the machine of two printing threads, whose journal
-//! is run again. With words it makes turns through the lock instead, for `bench/shared`.
+//! be, and those that are not. Four workers share the machine of two printing threads, whose journal is
+//! run again. Last it does each kind of work that the scripts in bench/ time, at a small size.
+//!
+//! With words it makes turns through the lock instead (`turns SEATS TURNS FILES`, for `bench/shared`), or
+//! does works of these sizes (`WHICH SIZE ..`).
 #![tactic(auto)]
 
 mod again;
@@ -36,6 +39,7 @@ mod tokens;
 mod turns;
 mod values;
 mod workers;
+mod works;
 
 use again::read_again;
 use asked::ANSWERS;
@@ -53,13 +57,17 @@ use std::thread::Threads;
 use std::{env, fs, io};
 use tables::{print_answers, print_tables};
 use turns::print_turns;
+use works::{print_small_works, print_works};
 
-fn main(rt: HostRuntime) -> io::Result<()> {
+fn main(rt: HostRuntime) -> anyhow::Result<()> {
     let words: Vec<String> = env::args(&rt)?.skip(1).collect(rt.alloc())?;
-    if words.is_empty() {
-        print_all(&rt, &rt)
-    } else {
-        print_turns(&rt, &rt, &words)
+    match words.split_first() {
+        None => {
+            print_all(&rt, &rt)?;
+            print_small_works(&rt, &rt)
+        }
+        Some((word, turns)) if word.as_str() == "turns" => Ok(print_turns(&rt, &rt, turns)?),
+        Some(_) => print_works(&rt, &rt, &words),
     }
 }
 

@@ -5,7 +5,7 @@
 //!
 //! Its contract: each call asks for a sound heap that has an object for each register, and leaves one
 //! (`specs/Ready`). The crate stands on `jm_heap`, `jm_values` and `jm_program`;
-//! `jm_tests` puts each kind of heap through them, and `jm_bench` works a heap by a mutator.
+//! `jm_tests` puts each kind of heap through them, and the works of `jm_examples` work a heap by a mutator.
 #![tactic(auto)]
 
 mod cases;
