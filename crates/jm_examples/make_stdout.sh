@@ -4,7 +4,9 @@
 # written and read again, and the worked text has the bytes of the worked class file. Each program
 # prints what a real Java printed, or is refused for what comes later (expected_runs.py). Each row of
 # the tables of jobs and of questions is as it should be, and so is what four workers do, in whatever
-# order. Needs javap and python3. No check runs this: stdout is committed.
+# order. The works print what their twins in plain Rust print (bench/descriptors, plain, heap, collecting, read
+# and forward, at the sizes in src/works.rt), each case of the collector is as wanted, and nothing is refused.
+# Needs javap and python3. No check runs this: stdout is committed.
 set -eu
 cd "$(dirname "$0")"
 {
@@ -22,5 +24,5 @@ cd "$(dirname "$0")"
         rows=$(grep -cv '^#' "$table")
         echo "${table#data/}: $rows of $rows rows are as they should be"
     done
-    cat data/workers/expected.txt
+    cat data/workers/expected.txt data/works/expected.txt
 } > stdout
