@@ -149,9 +149,7 @@ fn add_frames<H: Heap>(
     machine: &Machine<H>,
     thread: u64,
 ) -> Result<(), AllocError> {
-    if machine.frame(thread, 0).is_none() {
-        return text.push_str("none");
-    }
+    let before = text.len();
     for depth in 0..8 {
         if let Some(frame) = machine.frame(thread, depth) {
             if depth > 0 {
@@ -159,6 +157,9 @@ fn add_frames<H: Heap>(
             }
             add_frame(text, &frame)?;
         }
+    }
+    if text.len() == before {
+        text.push_str("none")?;
     }
     Ok(())
 }
