@@ -97,11 +97,21 @@ fn no_marks(alloc: Global) -> Result<Vec<Marks>, AllocError>
 }
 
 /// A set of places of old objects, in the order in which they were noted first.
-#[derive(Drop)]
 pub struct Remembered {
     alloc: Global,
     lanes: Vec<Marks>,
     places: Vec<Place>,
+}
+
+// Written out, so that whoever lets go of one makes a call (docs/DECISIONS.md).
+impl Drop for Remembered {
+    fn drop(self) {
+        let Remembered {
+            alloc: _,
+            lanes: _,
+            places: _,
+        } = self;
+    }
 }
 
 impl Model for Remembered {

@@ -94,11 +94,21 @@ fn push_defaults(values: &mut Vec<Value>, fields: &[OperandType]) -> Result<(), 
 
 /// Objects one after the other, each a header and its values: several that have at most 256 cells
 /// each and 512 together, or one.
-#[derive(Drop)]
 pub struct Block {
     entries: Vec<Entry>,
     values: Vec<Value>,
     cells: u64,
+}
+
+// Written out, so that whoever lets go of one makes a call (docs/DECISIONS.md).
+impl Drop for Block {
+    fn drop(self) {
+        let Block {
+            entries: _,
+            values: _,
+            cells: _,
+        } = self;
+    }
 }
 
 impl Model for Block {

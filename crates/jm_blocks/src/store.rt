@@ -21,10 +21,16 @@ const MAX_BLOCKS: usize = 1 << 49;
 
 /// The blocks of a lane, under the numbers from 0 on. An object is put into the last block, or into
 /// a new one where it has no room there.
-#[derive(Drop)]
 pub struct BlockStore {
     lane: u64,
     blocks: Vec<Block>,
+}
+
+// Written out, so that whoever lets go of one makes a call (docs/DECISIONS.md).
+impl Drop for BlockStore {
+    fn drop(self) {
+        let BlockStore { lane: _, blocks: _ } = self;
+    }
 }
 
 impl Model for BlockStore {

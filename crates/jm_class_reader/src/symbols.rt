@@ -53,7 +53,6 @@ pub struct MethodTypeUse {
 /// The constant pool of a class file, with what was read of it so far: a name, a type, a string or
 /// an instruction's operand is made at its first use, and its other uses share it. In a contract it
 /// is the pool.
-#[derive(Drop)]
 pub struct Symbols<'p> {
     pool: &'p Pool,
     names: IndexMap<NameUse, Name>,
@@ -61,6 +60,20 @@ pub struct Symbols<'p> {
     method_types: IndexMap<MethodTypeUse, MethodDescriptor>,
     strings: IndexMap<u16, Shared<Sequence<u16>>>,
     instructions: IndexMap<Operand, Instr>,
+}
+
+// Written out, so that whoever lets go of one makes a call (docs/DECISIONS.md).
+impl Drop for Symbols<'_> {
+    fn drop(self) {
+        let Symbols {
+            pool: _,
+            names: _,
+            field_types: _,
+            method_types: _,
+            strings: _,
+            instructions: _,
+        } = self;
+    }
 }
 
 impl<'p> Model for Symbols<'p> {

@@ -37,13 +37,24 @@ const LONGEST_REPLY: usize = 8;
 
 /// A machine with the breaks that are set in it, and the thread that made the last event of a
 /// `continue`.
-#[derive(Drop)]
 pub struct Debugger<H: Heap> {
     alloc: Global,
     machine: Machine<H>,
     breaks: Vec<Place>,
     /// 0 before the first event. Where a break has stopped a thread, the one before it.
     last: u64,
+}
+
+// Written out, so that whoever lets go of one makes a call (docs/DECISIONS.md).
+impl<H: Heap + Drop> Drop for Debugger<H> {
+    fn drop(self) {
+        let Debugger {
+            alloc: _,
+            machine: _,
+            breaks: _,
+            last: _,
+        } = self;
+    }
 }
 
 impl<H: Heap> Model for Debugger<H> {

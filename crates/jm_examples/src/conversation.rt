@@ -24,17 +24,35 @@ const COMMANDS: &[&str] = &[
 ];
 
 // What was written so far: how many answers were flushed, and whether some bytes were not.
-#[derive(Drop)]
 struct Written {
     answers: Cell<usize>,
     is_held: Cell<bool>,
 }
 
+// Written out, so that whoever lets go of one makes a call (docs/DECISIONS.md).
+impl Drop for Written {
+    fn drop(self) {
+        let Written {
+            answers: _,
+            is_held: _,
+        } = self;
+    }
+}
+
 // Gives a command at each call; an error where the answer before was not flushed.
-#[derive(Drop)]
 struct Asking<'a> {
     written: &'a Written,
     asked: usize,
+}
+
+// Written out, so that whoever lets go of one makes a call (docs/DECISIONS.md).
+impl Drop for Asking<'_> {
+    fn drop(self) {
+        let Asking {
+            written: _,
+            asked: _,
+        } = self;
+    }
 }
 
 impl Read for Asking<'_> {
@@ -63,10 +81,19 @@ impl Readable for Asking<'_> {
 }
 
 // Takes all that is written, and counts the answers that are flushed.
-#[derive(Drop)]
 struct Answering<'a> {
     written: &'a Written,
     taken: Vec<u8>,
+}
+
+// Written out, so that whoever lets go of one makes a call (docs/DECISIONS.md).
+impl Drop for Answering<'_> {
+    fn drop(self) {
+        let Answering {
+            written: _,
+            taken: _,
+        } = self;
+    }
 }
 
 impl Write for Answering<'_> {

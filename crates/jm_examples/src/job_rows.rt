@@ -16,7 +16,6 @@ pub enum JobKind {
 }
 
 /// A job and what is to come of it, as the columns of a row say it.
-#[derive(Drop)]
 pub struct JobRow<'a> {
     pub kind: JobKind,
     /// The names of the files.
@@ -29,6 +28,21 @@ pub struct JobRow<'a> {
     /// The lines on standard error.
     pub lines: &'a str,
     pub status: u8,
+}
+
+// Written out, so that whoever lets go of one makes a call (docs/DECISIONS.md).
+impl Drop for JobRow<'_> {
+    fn drop(self) {
+        let JobRow {
+            kind: _,
+            names: _,
+            contents: _,
+            events: _,
+            output: _,
+            lines: _,
+            status: _,
+        } = self;
+    }
 }
 
 // How many cells stand behind a word in a text, or as many as a heap has where none are named.

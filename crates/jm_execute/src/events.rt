@@ -129,12 +129,20 @@ impl EventSource for Schedule {
 }
 
 /// The events of a run, by what the job says of them.
-#[derive(Drop)]
 pub enum RunSource {
     /// Those of a schedule.
     Schedule(Schedule),
     /// The threads take turns.
     RoundRobin(RoundRobin),
+}
+
+// Written out, so that whoever lets go of one makes a call (docs/DECISIONS.md).
+impl Drop for RunSource {
+    fn drop(self) {
+        match self {
+            RunSource::Schedule(_) | RunSource::RoundRobin(_) => {}
+        }
+    }
 }
 
 impl EventSource for RunSource {

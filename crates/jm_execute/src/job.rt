@@ -1,7 +1,6 @@
 use jm_schedule::RoundRobin;
 
 /// What reading a file came to.
-#[derive(Drop)]
 pub enum Contents {
     Bytes(Vec<u8>),
     /// The file could not be read.
@@ -10,15 +9,32 @@ pub enum Contents {
     OutOfMemory,
 }
 
+// Written out, so that whoever lets go of one makes a call (docs/DECISIONS.md).
+impl Drop for Contents {
+    fn drop(self) {
+        match self {
+            Contents::Bytes(_) | Contents::NotRead | Contents::OutOfMemory => {}
+        }
+    }
+}
+
 /// A file of the command line, by the name that stands there.
-#[derive(Drop)]
 pub struct InputFile {
     pub name: String,
     pub contents: Contents,
 }
 
+// Written out, so that whoever lets go of one makes a call (docs/DECISIONS.md).
+impl Drop for InputFile {
+    fn drop(self) {
+        let InputFile {
+            name: _,
+            contents: _,
+        } = self;
+    }
+}
+
 /// What `jm` is to do.
-#[derive(Drop)]
 pub enum Job {
     /// `jm run`
     Run(RunJob),
@@ -28,8 +44,16 @@ pub enum Job {
     Debug(DebugJob),
 }
 
+// Written out, so that whoever lets go of one makes a call (docs/DECISIONS.md).
+impl Drop for Job {
+    fn drop(self) {
+        match self {
+            Job::Run(_) | Job::Assemble(_) | Job::Debug(_) => {}
+        }
+    }
+}
+
 /// Where the events of a run come from.
-#[derive(Drop)]
 pub enum RunEvents {
     /// They are those that the lines of a schedule spell.
     Schedule(InputFile),
@@ -37,8 +61,16 @@ pub enum RunEvents {
     RoundRobin(RoundRobin),
 }
 
+// Written out, so that whoever lets go of one makes a call (docs/DECISIONS.md).
+impl Drop for RunEvents {
+    fn drop(self) {
+        match self {
+            RunEvents::Schedule(_) | RunEvents::RoundRobin(_) => {}
+        }
+    }
+}
+
 /// To run the classes of some files.
-#[derive(Drop)]
 pub struct RunJob {
     /// The limit of the heap, in cells.
     pub heap: u32,
@@ -50,8 +82,19 @@ pub struct RunJob {
     pub show_heap: bool,
 }
 
+// Written out, so that whoever lets go of one makes a call (docs/DECISIONS.md).
+impl Drop for RunJob {
+    fn drop(self) {
+        let RunJob {
+            heap: _,
+            events: _,
+            program: _,
+            show_heap: _,
+        } = self;
+    }
+}
+
 /// To write the class that an assembler text denotes as a class file.
-#[derive(Drop)]
 pub struct AssembleJob {
     /// The assembler text, whatever its name is.
     pub text: InputFile,
@@ -59,13 +102,29 @@ pub struct AssembleJob {
     pub output: String,
 }
 
+// Written out, so that whoever lets go of one makes a call (docs/DECISIONS.md).
+impl Drop for AssembleJob {
+    fn drop(self) {
+        let AssembleJob { text: _, output: _ } = self;
+    }
+}
+
 /// To answer the commands of a session of the debugger, which begins before the first event of a
 /// program.
-#[derive(Drop)]
 pub struct DebugJob {
     /// The limit of the heap, in cells.
     pub heap: u32,
     /// The files of the classes, the main class's first: each a class file, or an assembler text
     /// where its name ends in `.j`.
     pub program: Vec<InputFile>,
+}
+
+// Written out, so that whoever lets go of one makes a call (docs/DECISIONS.md).
+impl Drop for DebugJob {
+    fn drop(self) {
+        let DebugJob {
+            heap: _,
+            program: _,
+        } = self;
+    }
 }

@@ -28,10 +28,19 @@ use std::marker::Model;
 /// those that are reached: at its first survival an object stays young, at its second it becomes old.
 /// A minor collection takes the young objects alone, for which the old ones that point to young ones
 /// are remembered; a full one takes all.
-#[derive(Drop)]
 pub struct GenHeap<C> {
     collector: C,
     generations: Generations,
+}
+
+// Written out, so that whoever lets go of one makes a call (docs/DECISIONS.md).
+impl<C: Drop> Drop for GenHeap<C> {
+    fn drop(self) {
+        let GenHeap {
+            collector: _,
+            generations: _,
+        } = self;
+    }
 }
 
 impl<C> Model for GenHeap<C> {

@@ -156,7 +156,6 @@ fn take_stores(
 }
 
 /// The nurseries, the store of the old objects, and the old objects that may point to young ones.
-#[derive(Drop)]
 pub struct Generations {
     alloc: Global,
     limit: u32,
@@ -165,6 +164,21 @@ pub struct Generations {
     tenured: BlockStore,
     tenured_cells: u64,
     pointers: Pointers,
+}
+
+// Written out, so that whoever lets go of one makes a call (docs/DECISIONS.md).
+impl Drop for Generations {
+    fn drop(self) {
+        let Generations {
+            alloc: _,
+            limit: _,
+            next: _,
+            young: _,
+            tenured: _,
+            tenured_cells: _,
+            pointers: _,
+        } = self;
+    }
 }
 
 impl Model for Generations {

@@ -16,11 +16,21 @@ use std::marker::Model;
 /// collection, and those that the last one left, in two lists. A collection makes no list after it
 /// has changed something, so these are its own and the one that it took; the next one notes of
 /// them those that still point to young objects, before it changes anything.
-#[derive(Drop)]
 pub struct Pointers {
     noted: Remembered,
     before: Vec<Place>,
     promoted: Vec<Place>,
+}
+
+// Written out, so that whoever lets go of one makes a call (docs/DECISIONS.md).
+impl Drop for Pointers {
+    fn drop(self) {
+        let Pointers {
+            noted: _,
+            before: _,
+            promoted: _,
+        } = self;
+    }
 }
 
 impl Model for Pointers {

@@ -32,7 +32,6 @@ const MAX_SERIALS: u64 = 1 << 63;
 
 /// A heap that never moves an object: each place keeps its object until a full collection empties
 /// it.
-#[derive(Drop)]
 pub struct PlainHeap {
     alloc: Global,
     limit: u32,
@@ -40,6 +39,20 @@ pub struct PlainHeap {
     used: u64,
     free: usize,
     slots: Vec<Slot>,
+}
+
+// Written out, so that whoever lets go of one makes a call (docs/DECISIONS.md).
+impl Drop for PlainHeap {
+    fn drop(self) {
+        let PlainHeap {
+            alloc: _,
+            limit: _,
+            next: _,
+            used: _,
+            free: _,
+            slots: _,
+        } = self;
+    }
 }
 
 impl Model for PlainHeap {

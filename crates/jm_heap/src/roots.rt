@@ -8,9 +8,15 @@ use std::marker::Model;
 
 /// The list of all places that a machine holds: gathered before a collection, moved with the
 /// objects by it, and written back after it.
-#[derive(Drop)]
 pub struct Roots {
     places: Vec<Place>,
+}
+
+// Written out, so that whoever lets go of one makes a call (docs/DECISIONS.md).
+impl Drop for Roots {
+    fn drop(self) {
+        let Roots { places: _ } = self;
+    }
 }
 
 impl Model for Roots {

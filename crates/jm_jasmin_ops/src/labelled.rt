@@ -7,10 +7,16 @@ use std::marker::Model;
 
 /// The use of a label. In a contract it is the bytes of the label's name, and the line in which it
 /// is used.
-#[derive(Drop)]
 pub struct Label<'a> {
     name: &'a str,
     line: usize,
+}
+
+// Written out, so that whoever lets go of one makes a call (docs/DECISIONS.md).
+impl Drop for Label<'_> {
+    fn drop(self) {
+        let Label { name: _, line: _ } = self;
+    }
 }
 
 impl<'a> Model for Label<'a> {
@@ -56,26 +62,51 @@ pub enum LabelledInstr<'a> {
 
 /// The operands of `tableswitch`: the targets of `low`, `low` + 1, .. in order, of which there is
 /// at least one, and the target of every other int (JVMS 6.5 tableswitch).
-#[derive(Drop)]
 pub struct LabelledTable<'a> {
     pub low: i32,
     pub targets: Sequence<Label<'a>>,
     pub default: Label<'a>,
 }
 
+// Written out, so that whoever lets go of one makes a call (docs/DECISIONS.md).
+impl Drop for LabelledTable<'_> {
+    fn drop(self) {
+        let LabelledTable {
+            low: _,
+            targets: _,
+            default: _,
+        } = self;
+    }
+}
+
 /// A key of `lookupswitch` with its target.
-#[derive(Drop)]
 pub struct LabelledPair<'a> {
     pub key: i32,
     pub target: Label<'a>,
 }
 
+// Written out, so that whoever lets go of one makes a call (docs/DECISIONS.md).
+impl Drop for LabelledPair<'_> {
+    fn drop(self) {
+        let LabelledPair { key: _, target: _ } = self;
+    }
+}
+
 /// The operands of `lookupswitch`: the pairs, their keys strictly rising, and the target of every
 /// other int (JVMS 6.5 lookupswitch).
-#[derive(Drop)]
 pub struct LabelledLookup<'a> {
     pub pairs: Sequence<LabelledPair<'a>>,
     pub default: Label<'a>,
+}
+
+// Written out, so that whoever lets go of one makes a call (docs/DECISIONS.md).
+impl Drop for LabelledLookup<'_> {
+    fn drop(self) {
+        let LabelledLookup {
+            pairs: _,
+            default: _,
+        } = self;
+    }
 }
 
 /// An instruction, and how many tokens it takes: a switch takes those of several lines.

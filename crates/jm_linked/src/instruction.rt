@@ -55,7 +55,6 @@ pub struct LinkedType {
 }
 
 /// An instruction whose names are resolved.
-#[derive(Drop)]
 pub enum LinkedInstr {
     /// Touches one frame alone and names nothing.
     Plain(Plain),
@@ -82,4 +81,26 @@ pub enum LinkedInstr {
     /// `new`, by the number of the class among all classes.
     New(u32),
     Type(TypeOp, LinkedType),
+}
+
+// Written out, so that whoever lets go of one makes a call (docs/DECISIONS.md).
+impl Drop for LinkedInstr {
+    fn drop(self) {
+        match self {
+            LinkedInstr::Plain(_)
+            | LinkedInstr::Int(_)
+            | LinkedInstr::Long(_)
+            | LinkedInstr::Literal(_)
+            | LinkedInstr::Return(_)
+            | LinkedInstr::Array(_)
+            | LinkedInstr::Throw
+            | LinkedInstr::Monitor(_)
+            | LinkedInstr::SystemOut
+            | LinkedInstr::Field(_, _)
+            | LinkedInstr::Print(_)
+            | LinkedInstr::Invoke(_, _)
+            | LinkedInstr::New(_)
+            | LinkedInstr::Type(_, _) => {}
+        }
+    }
 }

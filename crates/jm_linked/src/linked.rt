@@ -18,7 +18,6 @@ use jm_program::{Class, Sequence, Shared};
 use std::marker::Model;
 
 /// A program that loads, with its names resolved.
-#[derive(Drop)]
 pub struct Linked {
     classes: Sequence<Class>,
     built_ins: Sequence<BuiltIn>,
@@ -26,6 +25,20 @@ pub struct Linked {
     literals: Sequence<Shared<Sequence<u16>>>,
     tables: Tables,
     main: u32,
+}
+
+// Written out, so that whoever lets go of one makes a call (docs/DECISIONS.md).
+impl Drop for Linked {
+    fn drop(self) {
+        let Linked {
+            classes: _,
+            built_ins: _,
+            methods: _,
+            literals: _,
+            tables: _,
+            main: _,
+        } = self;
+    }
 }
 
 impl Model for Linked {

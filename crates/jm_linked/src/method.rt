@@ -5,7 +5,6 @@ use crate::kind::ValueKind;
 use jm_program::Sequence;
 
 /// A method with code.
-#[derive(Drop)]
 pub struct LinkedMethod {
     /// The number of its class among the program's classes.
     pub class: u32,
@@ -18,6 +17,21 @@ pub struct LinkedMethod {
     pub code: LinkedCode,
     /// The exception table, in its order.
     pub handlers: Sequence<LinkedHandler>,
+}
+
+// Written out, so that whoever lets go of one makes a call (docs/DECISIONS.md).
+impl Drop for LinkedMethod {
+    fn drop(self) {
+        let LinkedMethod {
+            class: _,
+            member: _,
+            result: _,
+            max_stack: _,
+            max_locals: _,
+            code: _,
+            handlers: _,
+        } = self;
+    }
 }
 
 /// What invokevirtual and invokeinterface find for an object (JVMS 6.5 invokevirtual).

@@ -5,7 +5,6 @@ use jm_program::Sequence;
 use jm_tables::{FieldKinds, Hierarchy, Layout, MethodTable};
 
 /// What a program's classes have, by their numbers.
-#[derive(Drop)]
 pub struct Tables {
     /// Which classes are above which (JVMS 2.4, 5.3.5).
     pub hierarchy: Hierarchy,
@@ -28,4 +27,20 @@ pub struct Tables {
     /// Of each of the program's classes the constant of each of its fields, in the order of the fields;
     /// none of an instance field, where one is ignored (JVMS 4.7.2).
     pub constants: Sequence<Sequence<Option<LinkedConstant>>>,
+}
+
+// Written out, so that whoever lets go of one makes a call (docs/DECISIONS.md).
+impl Drop for Tables {
+    fn drop(self) {
+        let Tables {
+            hierarchy: _,
+            layout: _,
+            kinds: _,
+            selected: _,
+            codes: _,
+            superclasses: _,
+            initializers: _,
+            constants: _,
+        } = self;
+    }
 }

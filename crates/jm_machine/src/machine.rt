@@ -41,11 +41,21 @@ use std::alloc::Global;
 use std::marker::Model;
 
 /// A linked program that runs over a heap.
-#[derive(Drop)]
 pub struct Machine<H: Heap> {
     alloc: Global,
     linked: Linked,
     state: State<H>,
+}
+
+// Written out, so that whoever lets go of one makes a call (docs/DECISIONS.md).
+impl<H: Heap + Drop> Drop for Machine<H> {
+    fn drop(self) {
+        let Machine {
+            alloc: _,
+            linked: _,
+            state: _,
+        } = self;
+    }
 }
 
 impl<H: Heap> Model for Machine<H> {

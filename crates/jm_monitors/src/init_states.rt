@@ -9,9 +9,15 @@ use std::marker::Model;
 
 /// How far the initialization of each of a program's classes is (JVMS 5.5), by the class's number
 /// among them, from 0.
-#[derive(Drop)]
 pub struct InitStates {
     states: Vec<ClassState>,
+}
+
+// Written out, so that whoever lets go of one makes a call (docs/DECISIONS.md).
+impl Drop for InitStates {
+    fn drop(self) {
+        let InitStates { states: _ } = self;
+    }
 }
 
 impl Model for InitStates {

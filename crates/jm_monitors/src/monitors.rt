@@ -22,9 +22,15 @@ const MAX_COUNT: u32 = 0x7FFF_FFFF;
 /// The monitors that threads hold (JVMS 2.11.10), by the serials of their objects. To look one up, to
 /// enter and to exit take time logarithmic in how many are held, and to go over all places, or to put
 /// them back, linear time.
-#[derive(Drop)]
 pub struct Monitors {
     held: BTreeMap<u64, Held>,
+}
+
+// Written out, so that whoever lets go of one makes a call (docs/DECISIONS.md).
+impl Drop for Monitors {
+    fn drop(self) {
+        let Monitors { held: _ } = self;
+    }
 }
 
 impl Model for Monitors {

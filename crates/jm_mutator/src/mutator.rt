@@ -15,12 +15,21 @@ use jm_values::{Place, Value};
 use std::alloc::{AllocError, Global};
 
 /// A heap and registers, each of which holds an object: they are the roots.
-#[derive(Drop)]
 pub struct Mutator<H: Heap> {
     /// The heap, which is sound.
     pub heap: H,
     /// The places of the objects that the registers hold.
     pub registers: Roots,
+}
+
+// Written out, so that whoever lets go of one makes a call (docs/DECISIONS.md).
+impl<H: Heap + Drop> Drop for Mutator<H> {
+    fn drop(self) {
+        let Mutator {
+            heap: _,
+            registers: _,
+        } = self;
+    }
 }
 
 impl<H: Heap> Mutator<H> {

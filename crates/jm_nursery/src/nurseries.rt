@@ -41,11 +41,21 @@ pub fn empty_nurseries(alloc: Global) -> Result<Vec<BlockStore>, AllocError>
 }
 
 /// The blocks of sixteen workers' nurseries, and the cells of all their objects.
-#[derive(Drop)]
 pub struct Nurseries {
     limit: u32,
     cells: u64,
     stores: Vec<BlockStore>,
+}
+
+// Written out, so that whoever lets go of one makes a call (docs/DECISIONS.md).
+impl Drop for Nurseries {
+    fn drop(self) {
+        let Nurseries {
+            limit: _,
+            cells: _,
+            stores: _,
+        } = self;
+    }
 }
 
 impl Model for Nurseries {

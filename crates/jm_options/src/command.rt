@@ -1,11 +1,33 @@
 // The command line as `clap` reads it.
 
 ghost use Rattle.std.specs.Prelude.{◌≡◌, false, IfOk};
-ghost use Rattle.clap.specs.Words.{rule_of};
+ghost use Rattle.clap.specs.Words.{App, Rule, rule_of, with_rule, with_subcommand};
 ghost use Rattle.jm_options.specs.CommandLine.{heap_argument, schedule_argument, steps_argument, quantum_argument, show_heap_argument, file_argument, run_command, input_argument, output_argument, assemble_command, debug_command, top_command, jm, IsSeenAs};
 
 use clap::{Arg, ArgAction, Command, value_parser};
 use std::alloc::{AllocError, Global};
+
+// A command with one argument more, if there is a command.
+fn with_argument<'a>(
+    command: Result<Command<'a>, AllocError>,
+    argument: Arg<'a>,
+) -> Result<Command<'a>, AllocError>
+    ensures { (app : App) (rule : Rule) → IfOk command.entry (λ c. IsSeenAs c app) → rule_of argument.entry ≡ rule
+        → argument.entry.global ≡ false → IfOk result (λ c. IsSeenAs c (with_rule app rule)) }
+{
+    command?.arg(argument)
+}
+
+// A command with one subcommand more, if there are both.
+fn with_command<'a>(
+    command: Result<Command<'a>, AllocError>,
+    subcommand: Result<Command<'a>, AllocError>,
+) -> Result<Command<'a>, AllocError>
+    ensures { (app below : App) → IfOk command.entry (λ c. IsSeenAs c app) → IfOk subcommand.entry (λ c. IsSeenAs c below)
+        → IfOk result (λ c. IsSeenAs c (with_subcommand app below.top)) }
+{
+    command?.subcommand(subcommand?)
+}
 
 fn heap_argument<'a>(alloc: Global) -> Arg<'a>
     ensures rule { rule_of result ≡ heap_argument }
@@ -81,14 +103,15 @@ fn file_argument<'a>(alloc: Global) -> Arg<'a>
 fn run_command<'a>(alloc: Global) -> Result<Command<'a>, AllocError>
     ensures { IfOk result (λ c. IsSeenAs c run_command) }
 {
-    Command::new(alloc, "run")
-        .about("Run a program: its threads take turns, or a schedule says which events are made")
-        .arg(heap_argument(alloc))?
-        .arg(schedule_argument(alloc))?
-        .arg(steps_argument(alloc))?
-        .arg(quantum_argument(alloc))?
-        .arg(show_heap_argument(alloc))?
-        .arg(file_argument(alloc))
+    let run = Command::new(alloc, "run").about(
+        "Run a program: its threads take turns, or a schedule says which events are made",
+    );
+    let run = with_argument(Ok(run), heap_argument(alloc));
+    let run = with_argument(run, schedule_argument(alloc));
+    let run = with_argument(run, steps_argument(alloc));
+    let run = with_argument(run, quantum_argument(alloc));
+    let run = with_argument(run, show_heap_argument(alloc));
+    with_argument(run, file_argument(alloc))
 }
 
 fn input_argument<'a>(alloc: Global) -> Arg<'a>
@@ -114,19 +137,21 @@ fn output_argument<'a>(alloc: Global) -> Arg<'a>
 fn assemble_command<'a>(alloc: Global) -> Result<Command<'a>, AllocError>
     ensures { IfOk result (λ c. IsSeenAs c assemble_command) }
 {
-    Command::new(alloc, "asm")
-        .about("Assemble a text in Jasmin's syntax into a class file")
-        .arg(input_argument(alloc))?
-        .arg(output_argument(alloc))
+    let asm = Command::new(alloc, "asm").about(
+        "Assemble a text in Jasmin's syntax into a class file",
+    );
+    let asm = with_argument(Ok(asm), input_argument(alloc));
+    with_argument(asm, output_argument(alloc))
 }
 
 fn debug_command<'a>(alloc: Global) -> Result<Command<'a>, AllocError>
     ensures { IfOk result (λ c. IsSeenAs c debug_command) }
 {
-    Command::new(alloc, "debug")
-        .about("Show a program at any event: commands are read from standard input, a line each")
-        .arg(heap_argument(alloc))?
-        .arg(file_argument(alloc))
+    let debug = Command::new(alloc, "debug").about(
+        "Show a program at any event: commands are read from standard input, a line each",
+    );
+    let debug = with_argument(Ok(debug), heap_argument(alloc));
+    with_argument(debug, file_argument(alloc))
 }
 
 fn top_command<'a>(alloc: Global) -> Command<'a>
@@ -139,12 +164,10 @@ fn top_command<'a>(alloc: Global) -> Command<'a>
 }
 
 /// The command line of `jm`.
-#[tactic(auto, unfolding(crate::specs::CommandLine::jm))]
 pub fn command<'a>(alloc: Global) -> Result<Command<'a>, AllocError>
     ensures { IfOk result (λ c. IsSeenAs c jm) }
 {
-    top_command(alloc)
-        .subcommand(run_command(alloc)?)?
-        .subcommand(assemble_command(alloc)?)?
-        .subcommand(debug_command(alloc)?)
+    let jm = with_command(Ok(top_command(alloc)), run_command(alloc));
+    let jm = with_command(jm, assemble_command(alloc));
+    with_command(jm, debug_command(alloc))
 }

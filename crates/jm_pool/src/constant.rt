@@ -11,7 +11,7 @@ use std::alloc::AllocError;
 
 /// What an entry of the constant pool stands for (JVMS 4.4, table 4.4-A). Each index names an entry
 /// of the pool that the constant is for.
-#[derive(PartialEq, Eq, Hash, Drop)]
+#[derive(PartialEq, Eq, Hash)]
 pub enum Constant {
     /// The UTF-16 code units of a text (JVMS 4.4.7).
     Utf8(Name),
@@ -31,6 +31,23 @@ pub enum Constant {
     InterfaceMethodref(u16, u16),
     /// The indexes of the name and of the descriptor (JVMS 4.4.6).
     NameAndType(u16, u16),
+}
+
+// Written out, so that whoever lets go of one makes a call (docs/DECISIONS.md).
+impl Drop for Constant {
+    fn drop(self) {
+        match self {
+            Constant::Utf8(_)
+            | Constant::Integer(_)
+            | Constant::Long(_)
+            | Constant::Class(_)
+            | Constant::String(_)
+            | Constant::Fieldref(_, _)
+            | Constant::Methodref(_, _)
+            | Constant::InterfaceMethodref(_, _)
+            | Constant::NameAndType(_, _) => {}
+        }
+    }
 }
 
 impl Constant {

@@ -16,9 +16,15 @@ use std::alloc::Global;
 use std::marker::Model;
 
 /// A constant pool (JVMS 4.4). In a contract it is the list of its entries, from index 1 on.
-#[derive(Drop)]
 pub struct Pool {
     entries: Vec<Entry>,
+}
+
+// Written out, so that whoever lets go of one makes a call (docs/DECISIONS.md).
+impl Drop for Pool {
+    fn drop(self) {
+        let Pool { entries: _ } = self;
+    }
 }
 
 impl Model for Pool {

@@ -19,11 +19,20 @@ const LAST_INDEX: u16 = 65_534;
 
 /// A constant pool that grows by one constant after the other (JVMS 4.4). In a contract it is the
 /// list of its entries, from index 1 on, with an unusable one behind each long.
-#[derive(Drop)]
 pub struct PoolBuilder {
     // Each constant once, in the order of the indexes, with its first index.
     indexes: IndexMap<Constant, u16>,
     taken: u16,
+}
+
+// Written out, so that whoever lets go of one makes a call (docs/DECISIONS.md).
+impl Drop for PoolBuilder {
+    fn drop(self) {
+        let PoolBuilder {
+            indexes: _,
+            taken: _,
+        } = self;
+    }
 }
 
 impl Model for PoolBuilder {

@@ -34,13 +34,25 @@ pub struct Field {
 }
 
 /// A method that a class declares (JVMS 4.6).
-#[derive(PartialEq, Eq, Drop)]
+#[derive(PartialEq, Eq)]
 pub struct Method {
     pub flags: AccessFlags,
     pub name: Name,
     pub descriptor: MethodDescriptor,
     /// None in an abstract method.
     pub code: Option<Code>,
+}
+
+// Written out, so that whoever lets go of one makes a call (docs/DECISIONS.md).
+impl Drop for Method {
+    fn drop(self) {
+        let Method {
+            flags: _,
+            name: _,
+            descriptor: _,
+            code: _,
+        } = self;
+    }
 }
 
 /// The parts of a class or an interface (JVMS 4.1).
@@ -60,9 +72,15 @@ pub struct ClassParts {
 
 /// A class or an interface that keeps the rules of a class (JVMS 4), which [`ClassParts::fits`]
 /// tests.
-#[derive(Drop)]
 pub struct Class {
     parts: ClassParts,
+}
+
+// Written out, so that whoever lets go of one makes a call (docs/DECISIONS.md).
+impl Drop for Class {
+    fn drop(self) {
+        let Class { parts: _ } = self;
+    }
 }
 
 impl Model for Class {
@@ -191,7 +209,8 @@ impl Class {
         ensures parts { result ≡ self }
         ensures fits { Fits self }
     {
-        self.parts
+        let Class { parts } = self;
+        parts
     }
 }
 

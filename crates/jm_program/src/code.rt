@@ -11,7 +11,7 @@ use crate::sequence::Sequence;
 
 /// The code of a method (JVMS 4.7.3). An instruction's number is its place among the
 /// instructions, from 0.
-#[derive(PartialEq, Eq, Drop)]
+#[derive(PartialEq, Eq)]
 pub struct Code {
     /// The depth of the operand stack in units: a long takes two.
     pub max_stack: u16,
@@ -24,9 +24,22 @@ pub struct Code {
     pub lines: Sequence<LineNumber>,
 }
 
+// Written out, so that whoever lets go of one makes a call (docs/DECISIONS.md).
+impl Drop for Code {
+    fn drop(self) {
+        let Code {
+            max_stack: _,
+            max_locals: _,
+            instructions: _,
+            handlers: _,
+            lines: _,
+        } = self;
+    }
+}
+
 /// A row of the exception table (JVMS 4.7.3). The range goes from `start`, included, to `end`,
 /// excluded.
-#[derive(PartialEq, Eq, Drop)]
+#[derive(PartialEq, Eq)]
 pub struct Handler {
     pub start: u32,
     pub end: u32,
@@ -34,6 +47,18 @@ pub struct Handler {
     pub target: u32,
     /// The class that is caught, or none for every one.
     pub catch_type: Option<Name>,
+}
+
+// Written out, so that whoever lets go of one makes a call (docs/DECISIONS.md).
+impl Drop for Handler {
+    fn drop(self) {
+        let Handler {
+            start: _,
+            end: _,
+            target: _,
+            catch_type: _,
+        } = self;
+    }
 }
 
 /// A row of the line number table (JVMS 4.7.12): the instructions from `start` on come from the

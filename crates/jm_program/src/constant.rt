@@ -9,12 +9,21 @@ use crate::shared::Shared;
 use std::alloc::AllocError;
 
 /// A constant that is pushed or that a static field begins with (JVMS 4.4.3, 4.4.4, 4.4.5).
-#[derive(PartialEq, Eq, Drop)]
+#[derive(PartialEq, Eq)]
 pub enum Constant {
     Int(i32),
     Long(i64),
     /// The literal's UTF-16 code units, lone surrogates included.
     String(Shared<Sequence<u16>>),
+}
+
+// Written out, so that whoever lets go of one makes a call (docs/DECISIONS.md).
+impl Drop for Constant {
+    fn drop(self) {
+        match self {
+            Constant::Int(_) | Constant::Long(_) | Constant::String(_) => {}
+        }
+    }
 }
 
 impl Constant {

@@ -26,27 +26,56 @@ pub enum BaseType {
 }
 
 /// What an array holds in its last dimension, or a type that is no array (JVMS 4.3.2).
-#[derive(PartialEq, Eq, Drop)]
+#[derive(PartialEq, Eq)]
 pub enum ElementType {
     Base(BaseType),
     /// A class or an interface.
     Class(Name),
 }
 
+// Written out, so that whoever lets go of one makes a call (docs/DECISIONS.md).
+impl Drop for ElementType {
+    fn drop(self) {
+        match self {
+            ElementType::Base(_) | ElementType::Class(_) => {}
+        }
+    }
+}
+
 /// The type of a field, a parameter or a result (JVMS 4.3.2).
-#[derive(PartialEq, Eq, Drop)]
+#[derive(PartialEq, Eq)]
 pub struct FieldType {
     /// How many `[` stand before the element: 0 for a type that is no array.
     pub dimensions: u8,
     pub element: ElementType,
 }
 
+// Written out, so that whoever lets go of one makes a call (docs/DECISIONS.md).
+impl Drop for FieldType {
+    fn drop(self) {
+        let FieldType {
+            dimensions: _,
+            element: _,
+        } = self;
+    }
+}
+
 /// The type of a method (JVMS 4.3.3).
-#[derive(PartialEq, Eq, Drop)]
+#[derive(PartialEq, Eq)]
 pub struct MethodDescriptor {
     pub parameters: Shared<Sequence<FieldType>>,
     /// None for `V`.
     pub return_type: Option<FieldType>,
+}
+
+// Written out, so that whoever lets go of one makes a call (docs/DECISIONS.md).
+impl Drop for MethodDescriptor {
+    fn drop(self) {
+        let MethodDescriptor {
+            parameters: _,
+            return_type: _,
+        } = self;
+    }
 }
 
 /// The type of a field or of a method (JVMS 4.3).

@@ -25,16 +25,32 @@ const BRACKET: u16 = 91;
 
 /// A name, as the UTF-16 code units of its text. It can be whatever modified UTF-8 spells, lone
 /// surrogates included (JVMS 4.2, 4.4.7).
-#[derive(Debug, Drop)]
+#[derive(Debug)]
 pub struct Name {
     units: Units,
 }
 
+// Written out, so that whoever lets go of one makes a call (docs/DECISIONS.md).
+impl Drop for Name {
+    fn drop(self) {
+        let Name { units: _ } = self;
+    }
+}
+
 // Where the code units stand.
-#[derive(Debug, Drop)]
+#[derive(Debug)]
 enum Units {
     Own(Vec<u16>),
     Shared(Shared<Sequence<u16>>),
+}
+
+// Written out, so that whoever lets go of one makes a call (docs/DECISIONS.md).
+impl Drop for Units {
+    fn drop(self) {
+        match self {
+            Units::Own(_) | Units::Shared(_) => {}
+        }
+    }
 }
 
 impl Model for Name {

@@ -15,19 +15,41 @@ pub enum ClassRef {
 }
 
 /// A field of a class, by name (JVMS 4.4.2).
-#[derive(PartialEq, Eq, Drop)]
+#[derive(PartialEq, Eq)]
 pub struct FieldRef {
     pub class: ClassRef,
     pub name: Name,
     pub descriptor: FieldType,
 }
 
+// Written out, so that whoever lets go of one makes a call (docs/DECISIONS.md).
+impl Drop for FieldRef {
+    fn drop(self) {
+        let FieldRef {
+            class: _,
+            name: _,
+            descriptor: _,
+        } = self;
+    }
+}
+
 /// A method of a class or of an interface, by name (JVMS 4.4.2).
-#[derive(PartialEq, Eq, Drop)]
+#[derive(PartialEq, Eq)]
 pub struct MethodRef {
     pub class: ClassRef,
     pub name: Name,
     pub descriptor: MethodDescriptor,
+}
+
+// Written out, so that whoever lets go of one makes a call (docs/DECISIONS.md).
+impl Drop for MethodRef {
+    fn drop(self) {
+        let MethodRef {
+            class: _,
+            name: _,
+            descriptor: _,
+        } = self;
+    }
 }
 
 impl ClassRef {

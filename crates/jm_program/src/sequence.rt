@@ -6,9 +6,16 @@ use std::marker::Model;
 
 /// A list of parts, which contracts see as a list. It is made from a `Vec` and gives it back
 /// without taking memory.
-#[derive(Debug, Drop)]
+#[derive(Debug)]
 pub struct Sequence<T> {
     items: Vec<T>,
+}
+
+// Written out, so that whoever lets go of one makes a call (docs/DECISIONS.md).
+impl<T: Drop> Drop for Sequence<T> {
+    fn drop(self) {
+        let Sequence { items: _ } = self;
+    }
 }
 
 impl<T> Model for Sequence<T> {
@@ -38,7 +45,8 @@ impl<T> Sequence<T> {
     pub fn into_vec(self) -> Vec<T>
         ensures { result.items ≡ self }
     {
-        self.items
+        let Sequence { items } = self;
+        items
     }
 }
 

@@ -9,9 +9,16 @@ use std::sync::Arc;
 
 /// A value in a place of its own, which contracts see as the value itself. It keeps an enum small
 /// whose other variants are small, and any number of owners, in any threads, can share it.
-#[derive(Debug, Drop)]
+#[derive(Debug)]
 pub struct Shared<T> {
     content: Arc<T>,
+}
+
+// Written out, so that whoever lets go of one makes a call (docs/DECISIONS.md).
+impl<T: Drop> Drop for Shared<T> {
+    fn drop(self) {
+        let Shared { content: _ } = self;
+    }
 }
 
 impl<T> Model for Shared<T> {

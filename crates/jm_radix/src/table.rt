@@ -19,12 +19,23 @@ pub struct Cell {
 
 /// Rows that map columns to numbers. A row never changes; a new one shares with earlier ones what
 /// it has in common with them.
-#[derive(Drop)]
 pub struct Table {
     columns: u32,
     levels: u32,
     nodes: Vec<Node>,
     roots: Vec<u32>,
+}
+
+// Written out, so that whoever lets go of one makes a call (docs/DECISIONS.md).
+impl Drop for Table {
+    fn drop(self) {
+        let Table {
+            columns: _,
+            levels: _,
+            nodes: _,
+            roots: _,
+        } = self;
+    }
 }
 
 impl Model for Table {

@@ -19,10 +19,16 @@ pub struct Run {
 
 /// The events of a schedule, in order. Contracts see the list of them; the memory that it takes
 /// grows with its runs, and not with how often they repeat.
-#[derive(Drop)]
 pub struct Schedule {
     runs: Vec<Run>,
     len: u64,
+}
+
+// Written out, so that whoever lets go of one makes a call (docs/DECISIONS.md).
+impl Drop for Schedule {
+    fn drop(self) {
+        let Schedule { runs: _, len: _ } = self;
+    }
 }
 
 impl Model for Schedule {

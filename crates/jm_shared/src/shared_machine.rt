@@ -85,12 +85,22 @@ impl<H: Heap, S: Sharing> LockedJournal<H, S> {
 /// A machine that workers share, one event at a time: a journal with its machine under one lock.
 /// Whenever the lock is free the journal is legal from the sharing's first world, and the machine
 /// matches the world to which the journal's events lead.
-#[derive(Drop)]
 pub struct SharedMachine<H: Heap, S: Sharing> {
     ties: SeatTies<S>,
     lock: Mutex<LockedJournal<H, S>>,
     seats: u8,
     ghost many: { seats ≡ S.seats },
+}
+
+// Written out, so that whoever lets go of one makes a call (docs/DECISIONS.md).
+impl<H: Heap + Drop, S: Sharing> Drop for SharedMachine<H, S> {
+    fn drop(self) {
+        let SharedMachine {
+            ties: _,
+            lock: _,
+            seats: _,
+        } = self;
+    }
 }
 
 /// 65 SeatsMissing: not every seat was given back. The machine and the seats may be used on.

@@ -8,7 +8,6 @@ use std::alloc::Global;
 use std::collections::BTreeSet;
 
 /// What a run of a linked program has made.
-#[derive(Drop)]
 pub struct State<H> {
     pub heap: H,
     /// Thread n is the n-th, from 1.
@@ -28,4 +27,22 @@ pub struct State<H> {
     /// The bytes that the program has printed.
     pub output: Vec<u8>,
     pub stop: Option<Stop>,
+}
+
+// Written out, so that whoever lets go of one makes a call (docs/DECISIONS.md).
+impl<H: Drop> Drop for State<H> {
+    fn drop(self) {
+        let State {
+            heap: _,
+            threads: _,
+            started: _,
+            live: _,
+            statics: _,
+            classes: _,
+            literals: _,
+            monitors: _,
+            output: _,
+            stop: _,
+        } = self;
+    }
 }

@@ -28,7 +28,6 @@ pub enum Ending {
 }
 
 /// A Java thread.
-#[derive(Drop)]
 pub struct Thread {
     /// Its object, by its place while the thread has not ended. The first one has none.
     pub object: Option<Place>,
@@ -39,4 +38,17 @@ pub struct Thread {
     /// The pending exception (JVMS 2.10).
     pub pending: Option<Place>,
     pub ending: Ending,
+}
+
+// Written out, so that whoever lets go of one makes a call (docs/DECISIONS.md).
+impl Drop for Thread {
+    fn drop(self) {
+        let Thread {
+            object: _,
+            serial: _,
+            frames: _,
+            pending: _,
+            ending: _,
+        } = self;
+    }
 }

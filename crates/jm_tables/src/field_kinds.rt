@@ -22,10 +22,16 @@ pub struct KindRow {
 
 /// The kinds of the fields of instances, by the classes' numbers. Classes share lists: the first
 /// that goes on from its superclass's whole list goes on in place.
-#[derive(Drop)]
 pub struct FieldKinds {
     lists: Vec<Vec<OperandType>>,
     rows: Vec<KindRow>,
+}
+
+// Written out, so that whoever lets go of one makes a call (docs/DECISIONS.md).
+impl Drop for FieldKinds {
+    fn drop(self) {
+        let FieldKinds { lists: _, rows: _ } = self;
+    }
 }
 
 impl Model for FieldKinds {

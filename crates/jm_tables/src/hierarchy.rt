@@ -14,9 +14,15 @@ use std::alloc::{AllocError, Global};
 use std::marker::Model;
 
 /// The hierarchy of classes and interfaces.
-#[derive(Drop)]
 pub struct Hierarchy {
     rows: Inheritance,
+}
+
+// Written out, so that whoever lets go of one makes a call (docs/DECISIONS.md).
+impl Drop for Hierarchy {
+    fn drop(self) {
+        let Hierarchy { rows: _ } = self;
+    }
 }
 
 impl Model for Hierarchy {

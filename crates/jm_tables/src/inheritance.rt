@@ -20,11 +20,20 @@ pub struct Declared {
 }
 
 /// What each class has, by the classes' numbers.
-#[derive(Drop)]
 pub struct Inheritance {
     table: Table,
     /// The rows of the classes in the table.
     places: Vec<u32>,
+}
+
+// Written out, so that whoever lets go of one makes a call (docs/DECISIONS.md).
+impl Drop for Inheritance {
+    fn drop(self) {
+        let Inheritance {
+            table: _,
+            places: _,
+        } = self;
+    }
 }
 
 impl Model for Inheritance {

@@ -27,7 +27,6 @@ pub struct FieldNumber {
 }
 
 /// What the layout has of a class.
-#[derive(Drop)]
 pub struct ClassLayout {
     /// How many fields an instance has, inherited ones included.
     size: u32,
@@ -35,11 +34,27 @@ pub struct ClassLayout {
     slots: Sequence<FieldSlot>,
 }
 
+// Written out, so that whoever lets go of one makes a call (docs/DECISIONS.md).
+impl Drop for ClassLayout {
+    fn drop(self) {
+        let ClassLayout { size: _, slots: _ } = self;
+    }
+}
+
 /// Where the fields of classes stand, by the classes' numbers.
-#[derive(Drop)]
 pub struct Layout {
     classes: Vec<ClassLayout>,
     statics: Vec<FieldNumber>,
+}
+
+// Written out, so that whoever lets go of one makes a call (docs/DECISIONS.md).
+impl Drop for Layout {
+    fn drop(self) {
+        let Layout {
+            classes: _,
+            statics: _,
+        } = self;
+    }
 }
 
 impl Model for Layout {

@@ -17,9 +17,15 @@ use std::marker::Model;
 
 /// The methods that invokevirtual and invokeinterface select, by class and selector: a selector
 /// is the number of a method's name and type.
-#[derive(Drop)]
 pub struct MethodTable {
     rows: Inheritance,
+}
+
+// Written out, so that whoever lets go of one makes a call (docs/DECISIONS.md).
+impl Drop for MethodTable {
+    fn drop(self) {
+        let MethodTable { rows: _ } = self;
+    }
 }
 
 impl Model for MethodTable {

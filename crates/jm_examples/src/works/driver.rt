@@ -18,11 +18,21 @@ enum Wanted {
 }
 
 // An object as it is to be, and where it is, if it is still there.
-#[derive(Drop)]
 struct Model {
     class: ClassId,
     values: Vec<Wanted>,
     place: Option<Place>,
+}
+
+// Written out, so that whoever lets go of one makes a call (docs/DECISIONS.md).
+impl Drop for Model {
+    fn drop(self) {
+        let Model {
+            class: _,
+            values: _,
+            place: _,
+        } = self;
+    }
 }
 
 /// One thing that is done to the objects, or wanted of them. Objects have the numbers from 0 on, in the

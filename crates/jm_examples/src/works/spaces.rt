@@ -29,13 +29,23 @@ pub struct Spaces {
 
 /// What a collection is given: the stores that it condemns, in the order of their lanes from 1 on,
 /// the store of the old generation, and the roots.
-#[derive(Drop)]
 pub struct Collection {
     pub condemned: Vec<BlockStore>,
     pub tenured: BlockStore,
     pub roots: Vec<Place>,
     ghost lanes: { AreLanes condemned.items },
     ghost old_lane: { tenured.lane ≡ 2 },
+}
+
+// Written out, so that whoever lets go of one makes a call (docs/DECISIONS.md).
+impl Drop for Collection {
+    fn drop(self) {
+        let Collection {
+            condemned: _,
+            tenured: _,
+            roots: _,
+        } = self;
+    }
 }
 
 /// What came of a collection: the survivors with the places of the promoted objects that point to

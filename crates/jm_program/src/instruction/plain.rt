@@ -31,7 +31,7 @@ pub enum Simple {
 }
 
 /// An instruction that touches one frame alone and names nothing.
-#[derive(PartialEq, Eq, Drop)]
+#[derive(PartialEq, Eq)]
 pub enum Plain {
     Simple(Simple),
     /// `bipush`.
@@ -49,21 +49,59 @@ pub enum Plain {
     LookupSwitch(Shared<LookupSwitch>),
 }
 
+// Written out, so that whoever lets go of one makes a call (docs/DECISIONS.md).
+impl Drop for Plain {
+    fn drop(self) {
+        match self {
+            Plain::Simple(_)
+            | Plain::PushByte(_)
+            | Plain::PushShort(_)
+            | Plain::Load(_, _)
+            | Plain::Store(_, _)
+            | Plain::Increment(_, _)
+            | Plain::Branch(_, _)
+            | Plain::TableSwitch(_)
+            | Plain::LookupSwitch(_) => {}
+        }
+    }
+}
+
 /// The operands of `tableswitch` (JVMS 6.5): the targets of `low`, `low` + 1, .. in order, of
 /// which there is at least one, and the target of every other int.
-#[derive(PartialEq, Eq, Drop)]
+#[derive(PartialEq, Eq)]
 pub struct TableSwitch {
     pub low: i32,
     pub targets: Sequence<u32>,
     pub default: u32,
 }
 
+// Written out, so that whoever lets go of one makes a call (docs/DECISIONS.md).
+impl Drop for TableSwitch {
+    fn drop(self) {
+        let TableSwitch {
+            low: _,
+            targets: _,
+            default: _,
+        } = self;
+    }
+}
+
 /// The operands of `lookupswitch` (JVMS 6.5): the pairs, their keys strictly rising, and the
 /// target of every other int.
-#[derive(PartialEq, Eq, Drop)]
+#[derive(PartialEq, Eq)]
 pub struct LookupSwitch {
     pub pairs: Sequence<SwitchPair>,
     pub default: u32,
+}
+
+// Written out, so that whoever lets go of one makes a call (docs/DECISIONS.md).
+impl Drop for LookupSwitch {
+    fn drop(self) {
+        let LookupSwitch {
+            pairs: _,
+            default: _,
+        } = self;
+    }
 }
 
 /// A key of `lookupswitch` with its target.

@@ -11,7 +11,7 @@ use crate::shared::Shared;
 use std::alloc::AllocError;
 
 /// An instruction with its operands, by name.
-#[derive(PartialEq, Eq, Drop)]
+#[derive(PartialEq, Eq)]
 pub enum Instr {
     /// Touches one frame alone and names nothing.
     Plain(Plain),
@@ -27,6 +27,24 @@ pub enum Instr {
     /// `new`.
     New(Shared<Name>),
     Type(TypeOp, Shared<ClassRef>),
+}
+
+// Written out, so that whoever lets go of one makes a call (docs/DECISIONS.md).
+impl Drop for Instr {
+    fn drop(self) {
+        match self {
+            Instr::Plain(_)
+            | Instr::Array(_)
+            | Instr::Return(_)
+            | Instr::Throw
+            | Instr::Monitor(_)
+            | Instr::Constant(_)
+            | Instr::Field(_, _)
+            | Instr::Invoke(_, _)
+            | Instr::New(_)
+            | Instr::Type(_, _) => {}
+        }
+    }
 }
 
 impl Instr {

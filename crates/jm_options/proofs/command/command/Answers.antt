@@ -1,0 +1,10 @@
+-- Three subcommands, one after the other.
+use Rattle.jm_options.specs.CommandLine.{jm}
+use Rattle.jm_options.proofs.command.command.Goals as goal
+
+pub returns : goal.returns
+unfolding jm
+returns c =
+    let one = c.with_command-jm.ensures _ _ (record { app = c.top_command.ensures.app; local = c.top_command.ensures.local }) c.run_command.ensures in
+    let two = c.with_command-jm-2.ensures _ _ one c.assemble_command.ensures in
+    c.with_command.ensures _ _ two c.debug_command.ensures

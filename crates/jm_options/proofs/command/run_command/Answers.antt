@@ -1,0 +1,16 @@
+-- Six arguments, one after the other.
+use Rattle.std.proofs.Common.{ap, ◌∙◌, codes}
+use Rattle.clap.specs.Words.{new_app}
+use Rattle.clap.specs.Simple.{app_of_fields}
+use Rattle.jm_options.specs.CommandLine.{IsSeenAs}
+use Rattle.jm_options.proofs.command.run_command.Goals as goal
+
+pub returns : goal.returns
+returns c =
+    let start : IsSeenAs c.about-run.result (new_app (codes "run")) = record { app = ap app_of_fields c.about-run.ensures ∙ c.new.ensures.app; local = rw c.about-run.ensures c.new.ensures.local } in
+    let one = c.with_argument-run.ensures _ _ start c.heap_argument.ensures.rule c.heap_argument.ensures.local in
+    let two = c.with_argument-run-2.ensures _ _ one c.schedule_argument.ensures.rule c.schedule_argument.ensures.local in
+    let three = c.with_argument-run-3.ensures _ _ two c.steps_argument.ensures.rule c.steps_argument.ensures.local in
+    let four = c.with_argument-run-4.ensures _ _ three c.quantum_argument.ensures.rule c.quantum_argument.ensures.local in
+    let five = c.with_argument-run-5.ensures _ _ four c.show_heap_argument.ensures.rule c.show_heap_argument.ensures.local in
+    c.with_argument.ensures _ _ five c.file_argument.ensures.rule c.file_argument.ensures.local
