@@ -14,7 +14,7 @@ pub struct Cut;
 
 impl fmt::Display for Cut {
     fn fmt<W: fmt::Write>(&self, f: &mut fmt::Formatter<W>) -> fmt::Result {
-        write!(f, "the bytes end before the value does")
+        f.write_str("the bytes end before the value does")
     }
 }
 

@@ -8,7 +8,7 @@ use std::error::Error;
 use std::fmt;
 
 /// Why bytes are no constant pool.
-#[derive(Clone, Copy, Debug, PartialEq, Eq)]
+#[derive(Clone, Copy, PartialEq, Eq)]
 pub enum PoolFault {
     /// A tag of no kind of entry that is read.
     BadTag(u8),
@@ -27,10 +27,17 @@ impl fmt::Display for PoolFault {
         match self {
             PoolFault::BadTag(tag) => write!(f, "20 BadTag({tag})"),
             PoolFault::BadIndex(index) => write!(f, "21 BadIndex({index})"),
-            PoolFault::BadUtf8 => write!(f, "22 BadUtf8"),
-            PoolFault::Cut => write!(f, "24 Cut"),
-            PoolFault::OutOfMemory => write!(f, "61 OutOfMemory"),
+            PoolFault::BadUtf8 => f.write_str("22 BadUtf8"),
+            PoolFault::Cut => f.write_str("24 Cut"),
+            PoolFault::OutOfMemory => f.write_str("61 OutOfMemory"),
         }
+    }
+}
+
+/// As it is displayed.
+impl fmt::Debug for PoolFault {
+    fn fmt<W: fmt::Write>(&self, f: &mut fmt::Formatter<W>) -> fmt::Result {
+        fmt::Display::fmt(self, f)
     }
 }
 
@@ -67,7 +74,7 @@ impl<T: Drop> From<AllocFailed<T>> for PoolFault {
 }
 
 /// Why bytes are no code. An offset is that of the instruction's opcode, or of `wide` before it.
-#[derive(Clone, Copy, Debug, PartialEq, Eq)]
+#[derive(Clone, Copy, PartialEq, Eq)]
 pub enum CodeFault {
     /// No opcode, or operands that it cannot have: a byte that `wide` cannot stand before, an
     /// element type that `newarray` has not, a range or keys of a switch out of order.
@@ -90,10 +97,17 @@ impl fmt::Display for CodeFault {
             CodeFault::BadOpcode(at) => write!(f, "10 BadOpcode({at})"),
             CodeFault::LeftOut(op) => write!(f, "11 LeftOut({op})"),
             CodeFault::Cut(at) => write!(f, "12 Cut({at})"),
-            CodeFault::BadTarget => write!(f, "13 BadTarget"),
+            CodeFault::BadTarget => f.write_str("13 BadTarget"),
             CodeFault::Later(op) => write!(f, "16 Later({op})"),
-            CodeFault::OutOfMemory => write!(f, "61 OutOfMemory"),
+            CodeFault::OutOfMemory => f.write_str("61 OutOfMemory"),
         }
+    }
+}
+
+/// As it is displayed.
+impl fmt::Debug for CodeFault {
+    fn fmt<W: fmt::Write>(&self, f: &mut fmt::Formatter<W>) -> fmt::Result {
+        fmt::Display::fmt(self, f)
     }
 }
 

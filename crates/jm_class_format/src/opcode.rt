@@ -52,13 +52,13 @@ pub enum Opcode {
 }
 
 /// An instruction that is refused for now.
-#[derive(Clone, Copy, Debug, PartialEq, Eq)]
+#[derive(Clone, Copy, PartialEq, Eq)]
 pub enum LaterOp {
     MultiANewArray,
 }
 
 /// An instruction that the profile leaves out, by its mnemonic, or an element type of `newarray`.
-#[derive(Clone, Copy, Debug, PartialEq, Eq)]
+#[derive(Clone, Copy, PartialEq, Eq)]
 pub enum LeftOutOp {
     FConst0,
     FConst1,

@@ -10,7 +10,7 @@ use std::error::Error;
 use std::fmt;
 
 /// A part of a class file that the profile leaves out.
-#[derive(Clone, Copy, Debug, PartialEq, Eq)]
+#[derive(Clone, Copy, PartialEq, Eq)]
 pub enum LeftOutPart {
     /// A Float entry of the pool.
     Float,
@@ -59,7 +59,7 @@ impl fmt::Display for LeftOutPart {
 }
 
 /// Why bytes are no class file.
-#[derive(Clone, Copy, Debug, PartialEq, Eq)]
+#[derive(Clone, Copy, PartialEq, Eq)]
 pub enum ReadFault {
     /// A text that is no descriptor of the kind that its place needs.
     BadDescriptor,
@@ -89,18 +89,25 @@ pub enum ReadFault {
 impl fmt::Display for ReadFault {
     fn fmt<W: fmt::Write>(&self, f: &mut fmt::Formatter<W>) -> fmt::Result {
         match self {
-            ReadFault::BadDescriptor => write!(f, "1 BadDescriptor"),
-            ReadFault::BadName => write!(f, "2 BadName"),
+            ReadFault::BadDescriptor => f.write_str("1 BadDescriptor"),
+            ReadFault::BadName => f.write_str("2 BadName"),
             ReadFault::Code(fault) => write!(f, "{fault}"),
             ReadFault::Pool(fault) => write!(f, "{fault}"),
-            ReadFault::Magic => write!(f, "30 Magic"),
-            ReadFault::Version => write!(f, "31 Version"),
-            ReadFault::Cut => write!(f, "32 Cut"),
-            ReadFault::Trailing => write!(f, "33 Trailing"),
-            ReadFault::BadAttribute => write!(f, "34 BadAttribute"),
+            ReadFault::Magic => f.write_str("30 Magic"),
+            ReadFault::Version => f.write_str("31 Version"),
+            ReadFault::Cut => f.write_str("32 Cut"),
+            ReadFault::Trailing => f.write_str("33 Trailing"),
+            ReadFault::BadAttribute => f.write_str("34 BadAttribute"),
             ReadFault::LeftOut(part) => write!(f, "35 LeftOut({part})"),
-            ReadFault::OutOfMemory => write!(f, "61 OutOfMemory"),
+            ReadFault::OutOfMemory => f.write_str("61 OutOfMemory"),
         }
+    }
+}
+
+/// As it is displayed.
+impl fmt::Debug for ReadFault {
+    fn fmt<W: fmt::Write>(&self, f: &mut fmt::Formatter<W>) -> fmt::Result {
+        fmt::Display::fmt(self, f)
     }
 }
 

@@ -25,8 +25,8 @@ pub enum Again {
 impl fmt::Display for Again {
     fn fmt<W: fmt::Write>(&self, f: &mut fmt::Formatter<W>) -> fmt::Result {
         match self {
-            Again::Equal => write!(f, "equal"),
-            Again::Different => write!(f, "different"),
+            Again::Equal => f.write_str("equal"),
+            Again::Different => f.write_str("different"),
             Again::NotWritten(fault) => write!(f, "not written: {fault}"),
             Again::NotRead(fault) => write!(f, "not read: {fault}"),
         }

@@ -101,7 +101,7 @@ fn write_code<W: fmt::Write>(f: &mut fmt::Formatter<W>, code: &Code) -> fmt::Res
 fn write_handler<W: fmt::Write>(f: &mut fmt::Formatter<W>, handler: &Handler) -> fmt::Result {
     match &handler.catch_type {
         Some(name) => write!(f, ", {name}")?,
-        None => write!(f, ", all")?,
+        None => f.write_str(", all")?,
     }
     write!(f, " {} {} {}", handler.start, handler.end, handler.target)
 }

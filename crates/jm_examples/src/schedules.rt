@@ -15,8 +15,8 @@ impl fmt::Display for RunsLine<'_> {
         for run in self.0 {
             match run.event {
                 Event::Step(thread) => write!(f, " Step({thread})")?,
-                Event::Minor => write!(f, " Minor")?,
-                Event::Full => write!(f, " Full")?,
+                Event::Minor => f.write_str(" Minor")?,
+                Event::Full => f.write_str(" Full")?,
             }
             write!(f, " {};", run.count)?;
         }

@@ -4,7 +4,7 @@ use std::fmt;
 
 /// A directive of the Jasmin language, as the guide or its extension has it, that the profile
 /// leaves out.
-#[derive(Clone, Copy, Debug, PartialEq, Eq)]
+#[derive(Clone, Copy, PartialEq, Eq)]
 pub enum LeftOutDirective {
     Annotation,
     Attribute,

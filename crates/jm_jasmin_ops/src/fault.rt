@@ -11,7 +11,7 @@ use std::fmt;
 use thiserror::Error;
 
 /// What the profile leaves out of an assembler text.
-#[derive(Clone, Copy, Debug, PartialEq, Eq)]
+#[derive(Clone, Copy, PartialEq, Eq)]
 pub enum AsmLeftOut {
     /// An instruction, or an element type of `newarray`.
     Instruction(LeftOutOp),
@@ -35,7 +35,7 @@ impl fmt::Display for AsmLeftOut {
 }
 
 /// Why a text is no class, with the line, counted from 1.
-#[derive(Clone, Copy, Debug, PartialEq, Eq, Error)]
+#[derive(Clone, Copy, PartialEq, Eq, Error)]
 pub enum AsmFault {
     /// A text that is no descriptor of the kind that its place needs (JVMS 4.3).
     #[error("1 BadDescriptor({0})")]
@@ -68,6 +68,13 @@ pub enum AsmFault {
     /// A growth was refused.
     #[error("61 OutOfMemory")]
     OutOfMemory,
+}
+
+/// As it is displayed.
+impl fmt::Debug for AsmFault {
+    fn fmt<W: fmt::Write>(&self, f: &mut fmt::Formatter<W>) -> fmt::Result {
+        fmt::Display::fmt(self, f)
+    }
 }
 
 impl AsmFault {

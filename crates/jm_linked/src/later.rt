@@ -8,7 +8,7 @@ use std::fmt;
 use std::fmt::Display;
 
 /// A part of a program that the machine cannot run yet.
-#[derive(Clone, Copy, Debug)]
+#[derive(Clone, Copy)]
 pub enum LaterPart {
     /// An invoke of a method of a class further up than the superclass.
     Invoke(InvokeOp),

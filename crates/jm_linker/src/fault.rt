@@ -13,7 +13,7 @@ use std::fmt;
 use std::fmt::Display;
 
 /// Why a program is not linked, with the name that is at fault.
-#[derive(Debug, Drop)]
+#[derive(Drop)]
 pub enum LinkFault {
     /// Two classes have the name, the built-in ones included.
     DuplicateClass(Name),
@@ -55,6 +55,13 @@ impl Display for LinkFault {
             LinkFault::Later(part) => write!(f, "16 Later({part})"),
             LinkFault::OutOfMemory => f.write_str("61 OutOfMemory"),
         }
+    }
+}
+
+/// As it is displayed.
+impl fmt::Debug for LinkFault {
+    fn fmt<W: fmt::Write>(&self, f: &mut fmt::Formatter<W>) -> fmt::Result {
+        Display::fmt(self, f)
     }
 }
 

@@ -20,9 +20,9 @@ pub enum BuilderFault {
 impl fmt::Display for BuilderFault {
     fn fmt<W: fmt::Write>(&self, f: &mut fmt::Formatter<W>) -> fmt::Result {
         match self {
-            BuilderFault::PoolFull => write!(f, "23 PoolFull"),
-            BuilderFault::TooMany => write!(f, "36 TooMany"),
-            BuilderFault::OutOfMemory => write!(f, "61 OutOfMemory"),
+            BuilderFault::PoolFull => f.write_str("23 PoolFull"),
+            BuilderFault::TooMany => f.write_str("36 TooMany"),
+            BuilderFault::OutOfMemory => f.write_str("61 OutOfMemory"),
         }
     }
 }

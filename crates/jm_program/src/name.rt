@@ -25,7 +25,6 @@ const BRACKET: u16 = 91;
 
 /// A name, as the UTF-16 code units of its text. It can be whatever modified UTF-8 spells, lone
 /// surrogates included (JVMS 4.2, 4.4.7).
-#[derive(Debug)]
 pub struct Name {
     units: Units,
 }
@@ -38,7 +37,6 @@ impl Drop for Name {
 }
 
 // Where the code units stand.
-#[derive(Debug)]
 enum Units {
     Own(Vec<u16>),
     Shared(Shared<Sequence<u16>>),

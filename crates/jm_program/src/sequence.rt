@@ -6,7 +6,6 @@ use std::marker::Model;
 
 /// A list of parts, which contracts see as a list. It is made from a `Vec` and gives it back
 /// without taking memory.
-#[derive(Debug)]
 pub struct Sequence<T> {
     items: Vec<T>,
 }

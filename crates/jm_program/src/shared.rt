@@ -9,7 +9,6 @@ use std::sync::Arc;
 
 /// A value in a place of its own, which contracts see as the value itself. It keeps an enum small
 /// whose other variants are small, and any number of owners, in any threads, can share it.
-#[derive(Debug)]
 pub struct Shared<T> {
     content: Arc<T>,
 }

@@ -13,7 +13,7 @@ use std::alloc::{AllocError, Global};
 use std::marker::Model;
 
 /// What a class has of its own, and the numbers of the classes right above it.
-#[derive(Debug, Drop)]
+#[derive(Drop)]
 pub struct Declared {
     pub above: Vec<u32>,
     pub own: Vec<Cell>,

@@ -125,7 +125,7 @@ pub enum Branch {
 }
 
 /// The elements that an array load or store takes, by the letters i, l, a, b, c and s.
-#[derive(Clone, Copy, Debug, PartialEq, Eq)]
+#[derive(Clone, Copy, PartialEq, Eq)]
 pub enum ArrayKind {
     Int,
     Long,
@@ -137,7 +137,7 @@ pub enum ArrayKind {
 }
 
 /// The element type of `newarray` (JVMS 6.5 newarray), float and double apart.
-#[derive(Clone, Copy, Debug, PartialEq, Eq)]
+#[derive(Clone, Copy, PartialEq, Eq)]
 pub enum PrimitiveType {
     Boolean,
     Char,
@@ -148,7 +148,7 @@ pub enum PrimitiveType {
 }
 
 /// What is done to an array, with no name of a class (JVMS 2.11.5).
-#[derive(Clone, Copy, Debug, PartialEq, Eq)]
+#[derive(Clone, Copy, PartialEq, Eq)]
 pub enum ArrayOp {
     Load(ArrayKind),
     Store(ArrayKind),
@@ -166,14 +166,14 @@ pub enum ReturnOp {
 }
 
 /// `monitorenter` and `monitorexit` (JVMS 2.11.10).
-#[derive(Clone, Copy, Debug, PartialEq, Eq)]
+#[derive(Clone, Copy, PartialEq, Eq)]
 pub enum MonitorOp {
     Enter,
     Exit,
 }
 
 /// What is done to a field: `getstatic`, `putstatic`, `getfield`, `putfield`.
-#[derive(Clone, Copy, Debug, PartialEq, Eq, Hash)]
+#[derive(Clone, Copy, PartialEq, Eq, Hash)]
 pub enum FieldOp {
     GetStatic,
     PutStatic,
@@ -182,7 +182,7 @@ pub enum FieldOp {
 }
 
 /// How a method is invoked (JVMS 2.11.8).
-#[derive(Clone, Copy, Debug, PartialEq, Eq, Hash)]
+#[derive(Clone, Copy, PartialEq, Eq, Hash)]
 pub enum InvokeOp {
     Virtual,
     Special,
@@ -191,7 +191,7 @@ pub enum InvokeOp {
 }
 
 /// What is done with a class, an interface or an array type.
-#[derive(Clone, Copy, Debug, PartialEq, Eq, Hash)]
+#[derive(Clone, Copy, PartialEq, Eq, Hash)]
 pub enum TypeOp {
     /// `anewarray`: an array whose elements are of the type.
     NewArray,
