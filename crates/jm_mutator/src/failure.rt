@@ -6,7 +6,7 @@ use jm_heap::HeapFault;
 use std::alloc::AllocError;
 
 /// What is counted or read of a heap.
-#[derive(Clone, Copy, Drop)]
+#[derive(Clone, Copy, Debug, Drop)]
 pub enum Quantity {
     Used,
     Residents,
@@ -16,7 +16,7 @@ pub enum Quantity {
 }
 
 /// What a heap did in place of what it should.
-#[derive(Clone, Copy, Drop)]
+#[derive(Clone, Copy, Debug, Drop)]
 pub enum Failure {
     /// An object was refused.
     Refused(HeapFault),
