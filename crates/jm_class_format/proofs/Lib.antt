@@ -8,3 +8,4 @@ pub mod OperandsFit
 pub mod ReadFits
 pub mod Rules
 pub mod SymbolsFit
+pub mod LeftOutTypes

@@ -4,8 +4,8 @@
 //! first fault. Each structure of the class file has one private reader, in the order of JVMS 4:
 //! what instructions name, the Code attribute, fields, methods and the class. `Symbols` goes with
 //! them through the file: what a text or an operand names is made once and shared by its uses.
-//! Which bytes spell which class is defined in `jm_class_format`; the constant pool is read by
-//! `jm_pool`, names and types by `jm_symbols`, instructions by `jm_opcodes`, and numbers by
+//! Which bytes spell which class is defined in `jm_class_format`, by which names and types are read
+//! too; the constant pool is read by `jm_pool`, instructions by `jm_opcodes`, and numbers by
 //! `jm_bytes`. The uses are found by the hashes of `indexmap`.
 #![tactic(auto)]
 

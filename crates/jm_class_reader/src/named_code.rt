@@ -14,12 +14,13 @@ ghost use Rattle.jm_class_format.specs.NamedCode.{loaded, loaded_long, calls_int
 
 use crate::operand::Operand;
 use crate::symbols::{NameKind, Symbols};
-use jm_class_format::{Entry, IndexedInstr, LeftOutPart, PlacedInstr, PoolFault, ReadFault};
+use jm_class_format::{
+    Entry, IndexedInstr, LeftOutPart, PlacedInstr, PoolFault, ReadFault, element_ref,
+};
 use jm_pool::{Member, Pool, Text};
 use jm_program::{
     ClassRef, Constant, FieldOp, Instr, InvokeOp, MethodRef, Name, Sequence, Shared, TypeOp,
 };
-use jm_symbols::element_ref;
 use std::alloc::Global;
 
 /// The refusal of an index that names no entry of the kind that its place needs.

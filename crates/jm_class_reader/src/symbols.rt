@@ -11,15 +11,14 @@ ghost use Rattle.jm_class_reader.specs.Known.{name_of, indexed_of};
 
 use crate::operand::Operand;
 use indexmap::IndexMap;
-use jm_class_format::ReadFault;
+use jm_class_format::{
+    ReadFault, begins_with_bracket, class_name_of, field_name_of, field_type_of, invoked_name_of,
+    method_name_of, method_type_of,
+};
 use jm_pool::{Member, Pool, Text};
 use jm_program::{
     ClassRef, FieldRef, FieldType, Instr, InvokeOp, MethodDescriptor, MethodRef, Name, Sequence,
     Shared,
-};
-use jm_symbols::{
-    begins_with_bracket, class_name_of, field_name_of, field_type_of, invoked_name_of,
-    method_name_of, method_type_of,
 };
 use std::alloc::Global;
 use std::marker::Model;

@@ -8,9 +8,9 @@ use Rattle.jm_values.specs.declared.value.Value.TheVariants.{Ref}
 use Rattle.jm_blocks.specs.Objects.{Object, with_value}
 use Rattle.jm_blocks.specs.Places.{lane_of}
 use Rattle.jm_blocks.specs.Stores.{Blocks, HasObject}
-use Rattle.jm_scan.specs.Image.{IsReached}
-use Rattle.jm_scan.specs.Copying.{Copying, ForwardedValue, Progress, IsAdded, IsReplaced, IsFurther, Moves, raw_copy}
-use Rattle.jm_scan.proofs.Steps.{copying_added, copying_set, reached_by_scan}
+use Rattle.jm_copy.specs.Image.{IsReached}
+use Rattle.jm_copy.specs.Copying.{Copying, ForwardedValue, Progress, IsAdded, IsReplaced, IsFurther, Moves, raw_copy}
+use Rattle.jm_copy.proofs.Steps.{copying_added, copying_set, reached_by_scan}
 use Rattle.jm_copy.specs.Condemned.{AreLanes, objects_at}
 use Rattle.jm_copy.specs.Numbers.{number_of, object_count}
 use Rattle.jm_copy.specs.Words.{moved}

@@ -6,3 +6,6 @@ pub mod Marking
 pub mod Rewinding
 pub mod Whole
 pub mod Pointing
+pub mod Listed
+pub mod Steps
+pub mod Images

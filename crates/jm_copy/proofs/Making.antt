@@ -8,10 +8,10 @@ use Rattle.jm_blocks.specs.Objects.{Object, object_of}
 use Rattle.jm_blocks.specs.declared.header.Header.{Header}
 use Rattle.jm_nursery.specs.Ages.{survived, survived_at}
 use Rattle.jm_nursery.specs.declared.age.Survival.TheVariants.{Young, Old}
-use Rattle.jm_scan.specs.Image.{older}
+use Rattle.jm_copy.specs.Image.{older}
 use Rattle.jm_blocks.specs.Places.{lane_of}
 use Rattle.jm_blocks.specs.Stores.{Blocks, objects_in, HasObject, Bumped, Changed}
-use Rattle.jm_scan.specs.Copying.{IsAdded, IsReplaced, raw_copy}
+use Rattle.jm_copy.specs.Copying.{IsAdded, IsReplaced, raw_copy}
 use Rattle.jm_copy.specs.Copies.{is_above, made_in, made, store_of, IsPutIn, IsPutYoung, IsPutOld, IsPut, Stays, Extends, IsMark, IsPast}
 use Rattle.jm_copy.specs.Words.{moved}
 use Rattle.jm_copy.specs.declared.copies.Copies.{Copies}

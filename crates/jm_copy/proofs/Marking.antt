@@ -7,8 +7,8 @@ use Rattle.jm_blocks.specs.Objects.{Object}
 use Rattle.jm_blocks.specs.Places.{lane_of}
 use Rattle.jm_blocks.specs.Stores.{Blocks, HasObject, IsEmpty, IsFirst, IsLast, IsAfter}
 use Rattle.jm_blocks.proofs.Placing.{lies_in}
-use Rattle.jm_scan.specs.Copying.{Progress, IsScanned, Moves}
-use Rattle.jm_scan.proofs.Steps.{copying_at}
+use Rattle.jm_copy.specs.Copying.{Progress, IsScanned, Moves}
+use Rattle.jm_copy.proofs.Steps.{copying_at}
 use Rattle.jm_copy.specs.Copies.{is_above, made, HasMade, IsCopying, IsMark, IsPast, Stays}
 use Rattle.jm_copy.specs.Words.{moved}
 use Rattle.jm_copy.specs.Marks.{progress, at, passed, AreMarks, IsPassed, IsNextOf, AllPassed, IsNext}

@@ -5,7 +5,7 @@ use Rattle.std.proofs.lemmas.Bool.Decides.{eqb_tells}
 use Rattle.std.proofs.lemmas.List.{get_or-set_same, get_or-set_other}
 use Rattle.jm_blocks.specs.Objects.{Object}
 use Rattle.jm_blocks.specs.Stores.{Blocks}
-use Rattle.jm_scan.specs.Copying.{Forwarded, Gains, Moves}
+use Rattle.jm_copy.specs.Copying.{Forwarded, Gains, Moves}
 use Rattle.jm_copy.specs.Condemned.{AreLanes, objects_at}
 use Rattle.jm_copy.specs.Numbers.{object_count, number_of}
 use Rattle.jm_copy.specs.Words.{moved, moved_by, place_of}

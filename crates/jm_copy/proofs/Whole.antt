@@ -9,9 +9,9 @@ use Rattle.jm_blocks.specs.Places.{lane_of}
 use Rattle.jm_blocks.specs.Stores.{Blocks, objects_in, HasObject, IsEmpty, IsLast}
 use Rattle.jm_blocks.proofs.Placing.{lies_in}
 use Rattle.jm_blocks.proofs.Walking.{nothing_there}
-use Rattle.jm_scan.specs.Copying.{AreForwarded, IsScanned, Moves, Progress}
-use Rattle.jm_scan.proofs.Steps.{copying_none, all_grow}
-use Rattle.jm_scan.proofs.Images.{copying_image, image_same}
+use Rattle.jm_copy.specs.Copying.{AreForwarded, IsScanned, Moves, Progress}
+use Rattle.jm_copy.proofs.Steps.{copying_none, all_grow}
+use Rattle.jm_copy.proofs.Images.{copying_image, image_same}
 use Rattle.jm_copy.specs.Condemned.{objects_at}
 use Rattle.jm_copy.specs.Numbers.{object_count}
 use Rattle.jm_copy.specs.Words.{moved}

@@ -3,7 +3,7 @@ use Rattle.std.specs.Prelude.{◌≡◌, ℕ, List, Option, Some, None, nat_eq, 
 use Rattle.jm_blocks.specs.Objects.{Object}
 use Rattle.jm_blocks.specs.Places.{lane_of}
 use Rattle.jm_blocks.specs.Stores.{Blocks, objects_in}
-use Rattle.jm_scan.specs.Image.{IsImage}
+use Rattle.jm_copy.specs.Image.{IsImage}
 use Rattle.jm_copy.specs.Condemned.{objects_at}
 use Rattle.jm_copy.specs.Copies.{made, age_at}
 use Rattle.jm_copy.specs.Pointing.{ListsAbove, ListsPointers}

@@ -3,7 +3,7 @@ use Rattle.std.specs.Prelude.{◌≡◌, ◌≢◌, ◌⊎◌, ℕ, ◌<◌, ◌
 use Rattle.jm_blocks.specs.Objects.{Object}
 use Rattle.jm_blocks.specs.Places.{lane_of}
 use Rattle.jm_blocks.specs.Stores.{Blocks, objects_in, HasObject, IsEmpty, Bumped}
-use Rattle.jm_scan.specs.Copying.{AreForwarded, Copying, Progress, Moves}
+use Rattle.jm_copy.specs.Copying.{AreForwarded, Copying, Progress, Moves}
 use Rattle.jm_copy.specs.Condemned.{AreLanes, objects_at}
 use Rattle.jm_copy.specs.Numbers.{AreNumbers, object_count}
 use Rattle.jm_copy.specs.Words.{moved}

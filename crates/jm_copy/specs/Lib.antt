@@ -5,3 +5,5 @@ pub mod Copies
 pub mod Marks
 pub mod Pointing
 pub mod Collected
+pub mod Image
+pub mod Copying

@@ -3,7 +3,7 @@ use Rattle.std.specs.Prelude.{◌≡◌, ◌≢◌, ◌⊎◌, ℕ, ◌+◌, ◌
 use Rattle.jm_blocks.specs.Objects.{Object}
 use Rattle.jm_blocks.specs.Places.{lane_of}
 use Rattle.jm_blocks.specs.Stores.{Blocks, HasObject}
-use Rattle.jm_scan.specs.Copying.{Progress}
+use Rattle.jm_copy.specs.Copying.{Progress}
 use Rattle.jm_copy.specs.Copies.{is_above, made, IsCopying, IsMark}
 use Rattle.jm_copy.specs.declared.copies.Copies.{Copies}
 use Rattle.jm_copy.specs.declared.scan.Marks.{Marks}

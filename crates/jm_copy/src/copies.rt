@@ -3,7 +3,7 @@
 ghost use Rattle.std.specs.Prelude.{◌≡◌, ◌≢◌, ◌<◌, ◌^◌, ℕ, length, slice_get, Some, IfOk, OnErr, nat_eq};
 ghost use Rattle.jm_blocks.specs.Objects.{Object, object_of, with_value};
 ghost use Rattle.jm_blocks.specs.Places.{lane_of};
-ghost use Rattle.jm_scan.specs.Copying.{IsReplaced, raw_copy};
+ghost use Rattle.jm_copy.specs.Copying.{IsReplaced, raw_copy};
 ghost use Rattle.jm_copy.specs.Copies.{HasMade, IsPut, IsPutIn, Stays, made, store_of};
 
 use crate::words::Words;

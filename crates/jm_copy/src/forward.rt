@@ -2,8 +2,8 @@
 
 ghost use Rattle.std.specs.Prelude.{◌≡◌, ◌+◌, ◌<◌, ℕ, List, Some, IfOk, OnOk, length};
 ghost use Rattle.jm_blocks.specs.Objects.{Object};
-ghost use Rattle.jm_scan.specs.Copying.{Forwarded, Moves, Progress};
-ghost use Rattle.jm_scan.specs.Image.{IsReached};
+ghost use Rattle.jm_copy.specs.Copying.{Forwarded, Moves, Progress};
+ghost use Rattle.jm_copy.specs.Image.{IsReached};
 ghost use Rattle.jm_copy.specs.Condemned.{objects_at};
 ghost use Rattle.jm_copy.specs.Copies.{AreRoots, Extends, IsCopying, IsSource, KeepsCopying, made};
 ghost use Rattle.jm_copy.specs.Marks.{at, ForwardsValue, KeepsLength};

@@ -2,7 +2,7 @@
 
 ghost use Rattle.std.specs.Prelude.{◌≡◌, ◌≢◌, ◌<◌, ◌^◌, ℕ, Some, MatchOption, OnOk, length};
 ghost use Rattle.jm_blocks.specs.Objects.{Object};
-ghost use Rattle.jm_scan.specs.Copying.{IsScanned, Progress};
+ghost use Rattle.jm_copy.specs.Copying.{IsScanned, Progress};
 ghost use Rattle.jm_copy.specs.Copies.{Extends, HasMade, IsCopying, IsMark, IsSource, made};
 ghost use Rattle.jm_copy.specs.Marks.{ScansObject, at, passed, progress, first_marks, AllPassed, AreMarks, IsNext, IsNextOf, IsPassed};
 

@@ -15,8 +15,10 @@
 //! `program_file` says which class a file holds, `preparation` goes from files to a machine,
 //! `events` and `round_robin` make the events, the latter over the threads that a `pass` keeps,
 //! `report` and `ends` say how a run ended, `assembly` goes from a text to a class file, `lines` from a
-//! reader to its lines, and `session` from these to their answers. The
-//! crate stands on `jm_class_reader`, `jm_jasmin`, `jm_class_writer`, `jm_linker`, `jm_machine`,
+//! reader to its lines, and `session` from these to their answers; [`Utf8`] is a text of code units, as
+//! a String's chars and the name of a class are, whose `Display` is the text in UTF-8. The writer and the
+//! reader of class files do not know one another, so [`written_and_read`] stands here: a class that is
+//! written as a class file and read again is that class. The crate stands on `jm_class_reader`, `jm_jasmin`, `jm_class_writer`, `jm_linker`, `jm_machine`,
 //! `jm_gen_heap`, `jm_schedule` and `jm_debug`.
 #![tactic(auto)]
 
@@ -36,8 +38,10 @@ mod readable;
 mod refusal;
 mod report;
 mod round_robin;
+mod round_trip;
 mod session;
 mod status;
+mod utf8;
 mod watchable;
 mod watched;
 
@@ -54,8 +58,10 @@ pub use program_file::{class_in_file, class_in_text, class_of};
 pub use readable::{ReadFailed, Readable, get_by_read};
 pub use refusal::{Obstacle, Refusal};
 pub use report::{heap_view, write_end, write_out_of_memory, write_report};
+pub use round_trip::written_and_read;
 pub use session::answer_lines;
 pub use status::Status;
+pub use utf8::Utf8;
 pub use watchable::{
     Watchable, WriteFailed, put_by_write, put_line_by_write, put_through_by_flush,
 };

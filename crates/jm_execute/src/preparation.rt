@@ -4,7 +4,7 @@ ghost use Rattle.std.specs.Prelude.{◌≡◌, None, [], IfErr, IfOk};
 ghost use Rattle.jm_world.specs.Loading.{loaded_world};
 ghost use Rattle.jm_world.specs.World.{World};
 ghost use Rattle.jm_linked.specs.Later.{later_part};
-ghost use Rattle.jm_generations.specs.Residents.{content_of};
+ghost use Rattle.jm_gen_heap.specs.Residents.{content_of};
 ghost use Rattle.jm_machine.specs.Start.{IsEmpty};
 ghost use Rattle.jm_execute.specs.Beginnings.{StandsAtItsBeginning};
 ghost use Rattle.jm_execute.specs.Refusals.{Gives};

@@ -7,13 +7,13 @@ ghost use Rattle.jm_machine.specs.View.{MatchesWorld};
 ghost use Rattle.jm_execute.specs.Written.{WritesLines, words};
 ghost use Rattle.jm_execute.specs.Reports.{ended_line, thread_line, thread_lines, stop_text, live_line, last_line, report, heap_shown, memory_line};
 
+use crate::Utf8;
 use crate::number::Number;
 use crate::watchable::{Watchable, WriteFailed};
 use crate::watched::Watched;
 use jm_debug::heap;
 use jm_heap::Heap;
 use jm_machine::{Machine, OutOfMemory};
-use jm_text::Utf8;
 use jm_world::Stop;
 use std::alloc::Global;
 use std::fmt;

@@ -14,15 +14,15 @@ use Rattle.jm_heap.specs.declared.fault.HeapFault.{HeapFault}
 use Rattle.jm_heap.specs.declared.fault.HeapFault.TheVariants.{OutOfMemory, HeapFull, SerialsEnd}
 use Rattle.jm_blocks.specs.Objects.{Object}
 use Rattle.jm_copy.specs.Condemned.{objects_at}
-use Rattle.jm_generations.specs.Generations.{Generations, all_cells, lying}
-use Rattle.jm_generations.specs.Residents.{content_of}
-use Rattle.jm_generations.specs.Invariant.{AreGenerations}
-use Rattle.jm_generations.specs.Steps.{with_tenured}
-use Rattle.jm_generations.specs.Collections.{LeavesAllReached, WasOld}
-use Rattle.jm_generations.proofs.Cells.{cells_within, cells_covered, cells_alike, used_at_most}
-use Rattle.jm_generations.proofs.Making.{laned, shown, sound, reached_below}
-use Rattle.jm_generations.proofs.Lanes.{lying_young, old_lies, young_lies}
-use Rattle.jm_generations.proofs.Following.{kept_same, still_used}
+use Rattle.jm_gen_heap.specs.Generations.{Generations, all_cells, lying}
+use Rattle.jm_gen_heap.specs.Residents.{content_of}
+use Rattle.jm_gen_heap.specs.Invariant.{AreGenerations}
+use Rattle.jm_gen_heap.specs.Steps.{with_tenured}
+use Rattle.jm_gen_heap.specs.Collections.{LeavesAllReached, WasOld}
+use Rattle.jm_gen_heap.proofs.ResidentCells.{cells_within, cells_covered, cells_alike, used_at_most}
+use Rattle.jm_gen_heap.proofs.Making.{laned, shown, sound, reached_below}
+use Rattle.jm_gen_heap.proofs.Lanes.{lying_young, old_lies, young_lies}
+use Rattle.jm_gen_heap.proofs.Following.{kept_same, still_used}
 use Rattle.jm_gen_heap.specs.Held.{IsPutNew}
 use Rattle.jm_gen_heap.specs.Allocating.{AllSurvived, Fits, HasAged, OldStay}
 use Rattle.jm_gen_heap.specs.Minor.{LeavesMinor}

@@ -10,20 +10,20 @@ use Rattle.jm_values.specs.declared.value.Value.{Value}
 use Rattle.jm_values.specs.declared.value.Value.TheVariants.{Int, Long, Null, Ref}
 use Rattle.jm_values.specs.Content.{AllResident}
 use Rattle.jm_values.proofs.Among.{among_left, among_right, among_split}
-use Rattle.jm_scan.specs.Image.{renamed}
+use Rattle.jm_copy.specs.Image.{renamed}
 use Rattle.jm_blocks.specs.Objects.{Object}
 use Rattle.jm_blocks.specs.Stores.{Blocks, HasObject, objects_in, store_cells}
 use Rattle.jm_nursery.specs.Nurseries.{Young, nursery_at, young_cells}
 use Rattle.jm_copy.specs.Collected.{IsCollected}
-use Rattle.jm_generations.specs.Generations.{Generations, IsYoung, old_lane}
-use Rattle.jm_generations.specs.Residents.{content_of}
-use Rattle.jm_generations.specs.Invariant.{AreGenerations}
-use Rattle.jm_generations.specs.Steps.{with_tenured}
-use Rattle.jm_generations.specs.Collections.{AreCollectedYoung, AreStillRemembered, AreSurvivors, AreWrittenBack, IsWhole, LeavesAllReached, fields_of, minor_roots}
-use Rattle.jm_generations.proofs.Keeping.{full_leaves_reached, minor_leaves_old}
-use Rattle.jm_generations.proofs.WritingBack.{same_fields}
-use Rattle.jm_generations.proofs.Refusing.{refused_keeps, same_content, remembered_keeps, remembered_content}
-use Rattle.jm_generations.proofs.Storing.{no_nursery}
+use Rattle.jm_gen_heap.specs.Generations.{Generations, IsYoung, old_lane}
+use Rattle.jm_gen_heap.specs.Residents.{content_of}
+use Rattle.jm_gen_heap.specs.Invariant.{AreGenerations}
+use Rattle.jm_gen_heap.specs.Steps.{with_tenured}
+use Rattle.jm_gen_heap.specs.Collections.{AreCollectedYoung, AreStillRemembered, AreSurvivors, AreWrittenBack, IsWhole, LeavesAllReached, fields_of, minor_roots}
+use Rattle.jm_gen_heap.proofs.Keeping.{full_leaves_reached, minor_leaves_old}
+use Rattle.jm_gen_heap.proofs.WritingBack.{same_fields}
+use Rattle.jm_gen_heap.proofs.Refusing.{refused_keeps, same_content, remembered_keeps, remembered_content}
+use Rattle.jm_gen_heap.proofs.Storing.{no_nursery}
 use Rattle.jm_gen_heap.specs.Copying.{IsCopied}
 use Rattle.jm_gen_heap.specs.Held.{AreHeld, held}
 use Rattle.jm_gen_heap.specs.Minor.{LeavesMinor}

@@ -18,15 +18,15 @@ use Rattle.jm_nursery.specs.Nurseries.{Young, AreNurseries, HasYoungValue, nurse
 use Rattle.jm_nursery.specs.Nurseries as nursery
 use Rattle.jm_nursery.proofs.Making.{in_nursery}
 use Rattle.jm_copy.specs.Condemned.{objects_at, object_of_store}
-use Rattle.jm_generations.specs.Generations.{Generations, IsYoung, lying, old_lane, all_cells}
-use Rattle.jm_generations.specs.Residents.{content_of}
-use Rattle.jm_generations.specs.Invariant.{AreGenerations}
-use Rattle.jm_generations.specs.Steps.{IsNoted, IsWritten, with_tenured}
-use Rattle.jm_generations.proofs.Lanes.{AreLaned, LiesYoung, LiesOld, lies_where, lying_old, old_lies, not_both}
-use Rattle.jm_generations.proofs.Making.{laned}
-use Rattle.jm_generations.proofs.Storing.{in_lane, no_nursery, young_set, nursery_set, old_written}
-use Rattle.jm_generations.proofs.Setting.{written_keeps}
-use Rattle.jm_generations.proofs.Starting.{started}
+use Rattle.jm_gen_heap.specs.Generations.{Generations, IsYoung, lying, old_lane, all_cells}
+use Rattle.jm_gen_heap.specs.Residents.{content_of}
+use Rattle.jm_gen_heap.specs.Invariant.{AreGenerations}
+use Rattle.jm_gen_heap.specs.Steps.{IsNoted, IsWritten, with_tenured}
+use Rattle.jm_gen_heap.proofs.Lanes.{AreLaned, LiesYoung, LiesOld, lies_where, lying_old, old_lies, not_both}
+use Rattle.jm_gen_heap.proofs.Making.{laned}
+use Rattle.jm_gen_heap.proofs.Storing.{in_lane, no_nursery, young_set, nursery_set, old_written}
+use Rattle.jm_gen_heap.proofs.Setting.{written_keeps}
+use Rattle.jm_gen_heap.proofs.Starting.{started}
 use Rattle.jm_gen_heap.specs.Pointers.{Noted, all_of, names_young}
 use Rattle.jm_gen_heap.specs.Held.{AreHeld, IsSetOld, held}
 use Rattle.jm_gen_heap.proofs.Noting.{is_noted}

@@ -12,7 +12,7 @@ use Rattle.jm_values.proofs.Marking.{among_at}
 use Rattle.jm_heap.proofs.MarkLemmas.{take_one_more}
 use Rattle.jm_blocks.specs.Objects.{Object, with_value}
 use Rattle.jm_blocks.specs.Stores.{Blocks, Changed, HasObject, IsSet, objects_in}
-use Rattle.jm_generations.specs.Collections.{AreRefilled, AreWrittenBack, fields_of, refs_in, with_values}
+use Rattle.jm_gen_heap.specs.Collections.{AreRefilled, AreWrittenBack, fields_of, refs_in, with_values}
 use Rattle.jm_gen_heap.specs.Fields.{IsPutInto}
 
 -- the references of the first values

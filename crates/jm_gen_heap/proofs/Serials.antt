@@ -15,12 +15,12 @@ use Rattle.jm_heap.specs.Residents.{AreResident}
 use Rattle.jm_heap.proofs.CellLemmas.{Told}
 use Rattle.jm_blocks.specs.Objects.{Object}
 use Rattle.jm_blocks.specs.Stores.{Blocks}
-use Rattle.jm_generations.specs.Generations.{Generations, stores_of}
-use Rattle.jm_generations.specs.Residents.{Placed, content_of, placed_in, placed_in_block, placed_in_blocks, resident_of, serial_name}
-use Rattle.jm_generations.specs.Invariant.{AreGenerations}
-use Rattle.jm_generations.proofs.Making.{shown, sound}
-use Rattle.jm_generations.proofs.Cells.{serial_listed}
-use Rattle.jm_generations.proofs.Reading.{place_lies, lies_serial}
+use Rattle.jm_gen_heap.specs.Generations.{Generations, stores_of}
+use Rattle.jm_gen_heap.specs.Residents.{Placed, content_of, placed_in, placed_in_block, placed_in_blocks, resident_of, serial_name}
+use Rattle.jm_gen_heap.specs.Invariant.{AreGenerations}
+use Rattle.jm_gen_heap.proofs.Making.{shown, sound}
+use Rattle.jm_gen_heap.proofs.ResidentCells.{serial_listed}
+use Rattle.jm_gen_heap.proofs.Reading.{place_lies, lies_serial}
 use Rattle.jm_gen_heap.specs.Serials.{block_serials, store_serials, all_serials}
 
 -- how often a number stands in a list

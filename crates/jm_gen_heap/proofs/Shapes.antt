@@ -8,14 +8,14 @@ use Rattle.jm_heap.specs.declared.class_id.Component.{Component}
 use Rattle.jm_heap.specs.declared.shape.Shape.{Shape}
 use Rattle.jm_heap.specs.declared.shape.Shape.TheVariants.{Array}
 use Rattle.jm_heap.proofs.NewLemmas.{copies_are, new_refs}
-use Rattle.jm_scan.specs.Image.{bare}
+use Rattle.jm_copy.specs.Image.{bare}
 use Rattle.jm_blocks.specs.Objects.{Object, object_of}
 use Rattle.jm_blocks.specs.Stores.{Blocks}
 use Rattle.jm_nursery.specs.Nurseries.{Young, IsMade}
-use Rattle.jm_generations.specs.Generations.{Generations, all_cells}
-use Rattle.jm_generations.specs.Steps.{IsNew, IsPut}
-use Rattle.jm_generations.proofs.Making.{laned, put_keeps}
-use Rattle.jm_generations.proofs.Storing.{nursery_made}
+use Rattle.jm_gen_heap.specs.Generations.{Generations, all_cells}
+use Rattle.jm_gen_heap.specs.Steps.{IsNew, IsPut}
+use Rattle.jm_gen_heap.proofs.Making.{laned, put_keeps}
+use Rattle.jm_gen_heap.proofs.Storing.{nursery_made}
 use Rattle.jm_gen_heap.specs.Pointers.{Noted}
 use Rattle.jm_gen_heap.specs.Held.{AreHeld, IsPutNew, held}
 use Rattle.jm_blocks.specs.Cells.{object_cells}

@@ -5,7 +5,7 @@ use Rattle.jm_blocks.specs.Objects.{Object}
 use Rattle.jm_blocks.specs.Places.{lane_of, block_of, index_of}
 use Rattle.jm_blocks.specs.Stores.{Blocks, object_of_list, objects_in}
 use Rattle.jm_blocks.proofs.Placing.{lies_in}
-use Rattle.jm_generations.specs.Generations.{old_lane}
+use Rattle.jm_gen_heap.specs.Generations.{old_lane}
 
 -- a store without blocks has no object
 pub no_blocks : (lane p : ℕ) → objects_in (record { lane = lane; lists = [] }) p ≡ None

@@ -10,9 +10,9 @@ use Rattle.jm_heap.specs.declared.fault.HeapFault.TheVariants.{OutOfMemory, Heap
 use Rattle.jm_blocks.specs.Objects.{Object}
 use Rattle.jm_nursery.specs.Nurseries.{nursery_at, young_cells}
 use Rattle.jm_copy.specs.Condemned.{objects_at}
-use Rattle.jm_generations.specs.Generations.{Generations, all_cells}
-use Rattle.jm_generations.specs.Residents.{content_of}
-use Rattle.jm_generations.specs.Collections.{LeavesAllReached, WasOld}
+use Rattle.jm_gen_heap.specs.Generations.{Generations, all_cells}
+use Rattle.jm_gen_heap.specs.Residents.{content_of}
+use Rattle.jm_gen_heap.specs.Collections.{LeavesAllReached, WasOld}
 use Rattle.jm_gen_heap.specs.Minor.{LeavesMinor}
 
 -- why there is no room for so many cells

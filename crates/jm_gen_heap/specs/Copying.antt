@@ -2,7 +2,7 @@
 use Rattle.std.specs.Prelude.{ℕ, List}
 use Rattle.jm_blocks.specs.Stores.{Blocks}
 use Rattle.jm_copy.specs.Collected.{IsCollected}
-use Rattle.jm_generations.specs.Collections.{AreSurvivors}
+use Rattle.jm_gen_heap.specs.Collections.{AreSurvivors}
 
 -- the first nursery has the young survivors
 pub record IsCopied

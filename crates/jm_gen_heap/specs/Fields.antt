@@ -3,7 +3,7 @@ use Rattle.std.specs.Prelude.{◌≡◌, ◌≢◌, ℕ, List, Some}
 use Rattle.jm_values.specs.Rename.{stack_shape}
 use Rattle.jm_blocks.specs.Objects.{Object}
 use Rattle.jm_blocks.specs.Stores.{Blocks, objects_in}
-use Rattle.jm_generations.specs.Collections.{with_values}
+use Rattle.jm_gen_heap.specs.Collections.{with_values}
 
 -- the references in the values of the object at a place are the first of these, in order
 pub record IsPutInto (old new : Blocks) (p : ℕ) (places : List ℕ) : Type 0 where

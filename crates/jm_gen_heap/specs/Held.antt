@@ -7,10 +7,10 @@ use Rattle.jm_blocks.specs.Objects.{Object}
 use Rattle.jm_blocks.specs.Stores.{Blocks, IsSet, store_cells}
 use Rattle.jm_barrier.specs.Remembered.{noted}
 use Rattle.jm_nursery.specs.Nurseries.{Young, nursery_at}
-use Rattle.jm_scan.specs.Image.{bare}
-use Rattle.jm_generations.specs.Generations.{Generations}
-use Rattle.jm_generations.specs.Invariant.{AreGenerations}
-use Rattle.jm_generations.specs.Steps.{IsNew, IsPut}
+use Rattle.jm_copy.specs.Image.{bare}
+use Rattle.jm_gen_heap.specs.Generations.{Generations}
+use Rattle.jm_gen_heap.specs.Invariant.{AreGenerations}
+use Rattle.jm_gen_heap.specs.Steps.{IsNew, IsPut}
 use Rattle.jm_gen_heap.specs.Pointers.{Noted, all_of, names_young}
 
 -- the generations of these parts

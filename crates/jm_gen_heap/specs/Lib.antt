@@ -5,3 +5,9 @@ pub mod Held
 pub mod Minor
 pub mod Allocating
 pub mod Serials
+pub mod Generations
+pub mod Residents
+pub mod Invariant
+pub mod Steps
+pub mod Collections
+pub mod Laws

@@ -4,9 +4,9 @@ use Rattle.jm_values.specs.Shape.{Among}
 use Rattle.jm_values.specs.Rename.{stack_shape}
 use Rattle.jm_blocks.specs.Objects.{Object}
 use Rattle.jm_blocks.specs.Stores.{HasObject, objects_in}
-use Rattle.jm_generations.specs.Generations.{Generations, IsYoung}
-use Rattle.jm_generations.specs.Steps.{with_tenured}
-use Rattle.jm_generations.specs.Collections.{LeavesOldAndReached}
+use Rattle.jm_gen_heap.specs.Generations.{Generations, IsYoung}
+use Rattle.jm_gen_heap.specs.Steps.{with_tenured}
+use Rattle.jm_gen_heap.specs.Collections.{LeavesOldAndReached}
 
 -- exactly the old objects and those young ones that the roots reach, or the fields of remembered ones, which
 -- are old objects, among them all that name young ones

@@ -2,7 +2,7 @@
 
 ghost use Rattle.std.specs.Prelude.{◌≡◌, ◌<◌, ◌^◌};
 ghost use Rattle.jm_blocks.specs.Stores.{store_cells};
-ghost use Rattle.jm_generations.specs.Collections.{IsWhole};
+ghost use Rattle.jm_gen_heap.specs.Collections.{IsWhole};
 
 use jm_blocks::BlockStore;
 

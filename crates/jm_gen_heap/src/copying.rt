@@ -3,8 +3,8 @@
 ghost use Rattle.std.specs.Prelude.{◌≡◌, ℕ, List, ◌++◌, ◌∷◌, [], IfOk, IfErr, OnErr};
 ghost use Rattle.jm_blocks.specs.Stores.{Blocks, objects_in};
 ghost use Rattle.jm_nursery.specs.Nurseries.{AreNurseries, young_cells};
-ghost use Rattle.jm_generations.specs.Generations.{old_lane};
-ghost use Rattle.jm_generations.specs.Collections.{AreSurvivors};
+ghost use Rattle.jm_gen_heap.specs.Generations.{old_lane};
+ghost use Rattle.jm_gen_heap.specs.Collections.{AreSurvivors};
 ghost use Rattle.jm_gen_heap.specs.Copying.{IsCopied};
 
 use jm_blocks::BlockStore;

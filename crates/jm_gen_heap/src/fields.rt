@@ -6,7 +6,7 @@ ghost use Rattle.jm_values.specs.Reach.{AllDistinct};
 ghost use Rattle.jm_values.specs.Shape.{Among};
 ghost use Rattle.jm_blocks.specs.Objects.{Object};
 ghost use Rattle.jm_blocks.specs.Stores.{objects_in, HasObject};
-ghost use Rattle.jm_generations.specs.Collections.{AreWrittenBack, fields_of};
+ghost use Rattle.jm_gen_heap.specs.Collections.{AreWrittenBack, fields_of};
 ghost use Rattle.jm_gen_heap.specs.Fields.{IsPutInto};
 
 use jm_blocks::BlockStore;

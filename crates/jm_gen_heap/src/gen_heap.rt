@@ -12,8 +12,8 @@ ghost use Rattle.jm_heap.specs.Allocation.{IsRefused, IsRefusedHere, MadeHereOrN
 ghost use Rattle.jm_heap.specs.Collection.{IsAsBefore, IsAsBeforeMaking, LeavesReached};
 ghost use Rattle.jm_heap.specs.declared.class_id.ClassId.{ClassId};
 ghost use Rattle.jm_nursery.specs.Nurseries.{nursery_at};
-ghost use Rattle.jm_generations.specs.Residents.{content_of};
-ghost use Rattle.jm_generations.specs.Invariant.{AreGenerations};
+ghost use Rattle.jm_gen_heap.specs.Residents.{content_of};
+ghost use Rattle.jm_gen_heap.specs.Invariant.{AreGenerations};
 ghost use Rattle.jm_gen_heap.specs.Allocating.{AllSurvived, Fits, HasAged, HasNoRoom, Leaves, MadeInNursery, OldStay};
 
 use crate::generations::Generations;
@@ -44,7 +44,7 @@ impl<C: Drop> Drop for GenHeap<C> {
 }
 
 impl<C> Model for GenHeap<C> {
-    ghost use Rattle.jm_generations.specs.Generations.{Generations};
+    ghost use Rattle.jm_gen_heap.specs.Generations.{Generations};
 
     ghost Value = { Generations };
 

@@ -14,11 +14,11 @@ ghost use Rattle.jm_values.specs.Objects.{size_by};
 ghost use Rattle.jm_blocks.specs.Objects.{Object, object_of};
 ghost use Rattle.jm_blocks.specs.Stores.{HasValue, objects_in};
 ghost use Rattle.jm_nursery.specs.Nurseries.{AreNurseries, IsMade, young_cells};
-ghost use Rattle.jm_generations.specs.Generations.{lying, all_cells, old_lane, stores_of};
-ghost use Rattle.jm_generations.specs.Residents.{content_of};
-ghost use Rattle.jm_generations.specs.Invariant.{AreGenerations};
-ghost use Rattle.jm_generations.specs.Steps.{IsWritten};
-ghost use Rattle.jm_generations.specs.Collections.{LeavesAllReached, fields_of};
+ghost use Rattle.jm_gen_heap.specs.Generations.{lying, all_cells, old_lane, stores_of};
+ghost use Rattle.jm_gen_heap.specs.Residents.{content_of};
+ghost use Rattle.jm_gen_heap.specs.Invariant.{AreGenerations};
+ghost use Rattle.jm_gen_heap.specs.Steps.{IsWritten};
+ghost use Rattle.jm_gen_heap.specs.Collections.{LeavesAllReached, fields_of};
 ghost use Rattle.jm_barrier.specs.Remembered.{noted};
 ghost use Rattle.jm_gen_heap.specs.Pointers.{IsSettled, StillPoint, names_young};
 ghost use Rattle.jm_gen_heap.specs.Held.{IsPutNew, IsSetOld};
@@ -182,7 +182,7 @@ impl Drop for Generations {
 }
 
 impl Model for Generations {
-    ghost use Rattle.jm_generations.specs.Generations.{Generations};
+    ghost use Rattle.jm_gen_heap.specs.Generations.{Generations};
     ghost use Rattle.jm_gen_heap.specs.Held.{AreHeld, held};
 
     ghost Value = { Generations };

@@ -23,7 +23,7 @@ use Rattle.jm_world.specs.Monitors.{enter_if}
 use Rattle.jm_world.specs.Next as next
 use Rattle.jm_world.specs.Next.{Next, throw}
 use Rattle.jm_world.specs.World.{World, Thread, held_shape}
-use Rattle.jm_calls.specs.Arguments.{on_top, beginning}
+use Rattle.jm_state.specs.Arguments.{on_top, beginning}
 use Rattle.jm_heap.specs.declared.class_id.ClassId.{ClassId}
 use Rattle.jm_linked.specs.Links.{LinkedView, name_of_number, name_among}
 use Rattle.jm_state.specs.Parts.{frame_part}

@@ -20,7 +20,7 @@ use Rattle.jm_world.specs.Invocation.{activation_of, padded}
 use Rattle.jm_world.specs.declared.stage.Stage.{Stage}
 use Rattle.jm_world.specs.declared.stage.Stage.TheVariants as stage
 use Rattle.jm_world.specs.declared.stop.Stop.TheVariants as why
-use Rattle.jm_calls.specs.Arguments.{beginning}
+use Rattle.jm_state.specs.Arguments.{beginning}
 use Rattle.jm_heap.specs.declared.class_id.ClassId.{ClassId}
 use Rattle.jm_linked.specs.Links.{LinkedView, IsLinked, IsMethodOf, class_numbered, member_name, name_among, name_in_class, name_of_number}
 use Rattle.jm_linked.specs.Tables.{IsInitializer}

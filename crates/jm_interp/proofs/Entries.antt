@@ -28,7 +28,7 @@ use Rattle.jm_world.specs.Resolution.{select}
 use Rattle.jm_world.specs.Stepping.{step_thread, enter_code, enter_found, enter_thread, run_type}
 use Rattle.jm_world.specs.World.{World, Thread, held_shape, returned}
 use Rattle.jm_world.specs.declared.stop.Stop.TheVariants as why
-use Rattle.jm_calls.specs.Arguments.{beginning}
+use Rattle.jm_state.specs.Arguments.{beginning}
 use Rattle.jm_heap.specs.declared.class_id.ClassId.{ClassId}
 use Rattle.jm_linked.specs.Links.{IsMethodOf, IsSelected, class_name_of}
 use Rattle.jm_linked.specs.Methods.{all_methods, selector_of}

@@ -21,7 +21,7 @@ use Rattle.jm_world.specs.Here.{Here, throws}
 use Rattle.jm_world.specs.Frames.{optional_number_shape}
 use Rattle.jm_world.specs.Invocation.{call_code, call_instance, locals_of, monitor_of}
 use Rattle.jm_world.specs.Next.{Next}
-use Rattle.jm_calls.specs.Arguments.{on_top}
+use Rattle.jm_state.specs.Arguments.{on_top}
 use Rattle.jm_heap.specs.declared.class_id.ClassId.{ClassId}
 use Rattle.jm_linked.specs.Links.{LinkedView, IsLinked, MethodLinks, linked_name, member_name, name_in_class}
 use Rattle.jm_state.specs.declared.halt.Halt.{Halt}

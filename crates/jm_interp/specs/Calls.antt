@@ -15,8 +15,8 @@ use Rattle.jm_world.specs.Classes.{FoundMethod, name_of_method}
 use Rattle.jm_world.specs.Here.{Here, with_arguments}
 use Rattle.jm_world.specs.Invocation.{call_code, call_static, locals_of}
 use Rattle.jm_world.specs.Next.{Next}
-use Rattle.jm_calls.specs.Arguments.{on_top}
-use Rattle.jm_calls.specs.declared.arguments.Callee.{Callee}
+use Rattle.jm_state.specs.Arguments.{on_top}
+use Rattle.jm_state.specs.declared.arguments.Callee.{Callee}
 use Rattle.jm_heap.specs.declared.class_id.ClassId.{ClassId}
 use Rattle.jm_linked.specs.Links.{LinkedView, linked_name}
 use Rattle.jm_linked.specs.declared.instruction.MemberNumber.{MemberNumber}

@@ -2,7 +2,7 @@
 
 ghost use Rattle.std.specs.Prelude.{◌≡◌, ◌<◌, ◌∷◌, List, Some, IfOk, OnOk, drop, option_map, slice_get, vec_len, vec_capacity};
 ghost use Rattle.jm_program.specs.declared.code.Code.{Code};
-ghost use Rattle.jm_calls.specs.Arguments.{beginning, on_top};
+ghost use Rattle.jm_state.specs.Arguments.{beginning, on_top};
 ghost use Rattle.jm_frames.specs.FrameView.{with_stack};
 ghost use Rattle.jm_values.specs.Content.{name_of};
 ghost use Rattle.jm_state.specs.declared.thread.StackFrame.{StackFrame as HeldFrame};
@@ -18,10 +18,9 @@ use crate::monitors::enter_if;
 use crate::throwing::throws;
 use crate::top_frame::{take_spare, top_method};
 use jm_builtins::BuiltInClass;
-use jm_calls::{Callee, arguments_on, called_frame_in};
 use jm_frames::Frame;
 use jm_heap::Heap;
-use jm_state::{Halt, StackFrame, State, StepEnd, Thread};
+use jm_state::{Callee, Halt, StackFrame, State, StepEnd, Thread, arguments_on, called_frame_in};
 use jm_values::Place;
 use std::alloc::AllocError;
 

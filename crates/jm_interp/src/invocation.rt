@@ -14,11 +14,10 @@ use crate::at::At;
 use crate::calls::call;
 use crate::readiness::{begin_initialization, is_ready};
 use crate::top_frame::top_method;
-use jm_calls::test_parameters;
 use jm_heap::Heap;
 use jm_linked::{InvokedMethod, Linked, LinkedMethod, MemberNumber};
 use jm_program::{AccessFlags, FieldType};
-use jm_state::{Halt, State, StepEnd};
+use jm_state::{Halt, State, StepEnd, test_parameters};
 use jm_values::Place;
 use jm_world::Stop;
 

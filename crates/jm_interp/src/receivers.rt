@@ -1,7 +1,7 @@
 // Receivers of calls of instance methods (JVMS 6.5 invokevirtual, invokespecial, invokeinterface).
 
 ghost use Rattle.std.specs.Prelude.{◌≡◌, IfOk, [], Ok, map, reverse, length, drop};
-ghost use Rattle.jm_calls.specs.Arguments.{on_top, popped};
+ghost use Rattle.jm_state.specs.Arguments.{on_top, popped};
 ghost use Rattle.jm_world.specs.Types.{operand_of};
 ghost use Rattle.jm_interp.specs.At.{StandsOn};
 ghost use Rattle.jm_interp.specs.Invoking.{Finds, Invokes, ReceiverGives, receiver_below};
@@ -12,11 +12,10 @@ use crate::declared::declared_method;
 use crate::top_frame::top_method;
 use crate::top_object::{Refusal, object_at};
 use crate::type_checks::is_instance;
-use jm_calls::test_parameters;
 use jm_heap::Heap;
 use jm_linked::{InvokedMethod, LinkedElement, LinkedType};
 use jm_program::FieldType;
-use jm_state::{State, Thread};
+use jm_state::{State, Thread, test_parameters};
 use jm_values::Place;
 
 // The object below operands on top that are arguments of these types, which are tested first; the

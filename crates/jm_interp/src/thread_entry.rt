@@ -1,7 +1,7 @@
 // The entry of a thread (JVMS 2.5.1).
 
 ghost use Rattle.std.specs.Prelude.{◌≡◌, None, Some, List, [], ◌∷◌, IfOk, slice_get};
-ghost use Rattle.jm_calls.specs.Arguments.{beginning};
+ghost use Rattle.jm_state.specs.Arguments.{beginning};
 ghost use Rattle.jm_values.specs.declared.value.Value.TheVariants.{Ref};
 ghost use Rattle.jm_linked.specs.declared.method.LinkedMethod.{LinkedMethod};
 ghost use Rattle.jm_state.specs.declared.thread.StackFrame.{StackFrame as HeldFrame};
@@ -20,12 +20,11 @@ use crate::monitors::enter_if;
 use crate::selections::class_of;
 use crate::throwing::throw;
 use jm_builtins::BuiltInClass;
-use jm_calls::{Callee, called_frame};
 use jm_frames::Frame;
 use jm_heap::Heap;
 use jm_linked::{MemberNumber, Selected};
 use jm_program::AccessFlags;
-use jm_state::{Ending, Halt, StackFrame, State, StepEnd, Thread};
+use jm_state::{Callee, Ending, Halt, StackFrame, State, StepEnd, Thread, called_frame};
 use jm_values::{Place, TagFault, Value};
 use jm_world::Stop;
 use std::alloc::AllocError;

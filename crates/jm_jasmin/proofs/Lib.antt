@@ -15,3 +15,13 @@ pub mod DeclarationFits
 pub mod ItemsFit
 pub mod CodeFits
 pub mod ClassFits
+pub mod WordForms
+pub mod HeaderForms
+pub mod FieldForms
+pub mod InstructionForms
+pub mod MnemonicForms
+pub mod MethodForms
+pub mod BodyForms
+pub mod ClassForms
+pub mod TextForms
+mod GrammarExamples

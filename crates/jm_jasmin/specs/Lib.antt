@@ -9,3 +9,11 @@ pub mod Labels
 pub mod Body
 pub mod Methods
 pub mod Text
+pub mod WordForms
+pub mod Each
+pub mod HeaderForms
+pub mod FieldForms
+pub mod InstructionForms
+pub mod MethodForms
+pub mod ClassForms
+pub mod GrammarLaws

@@ -4,7 +4,11 @@
 //! the order of its lines: which texts denote which class is defined in `specs/`, line by line,
 //! with a body's labels, limits and tables found from the list of its lines. It stands on the
 //! tokens of `jm_jasmin_lex`, the instructions of `jm_jasmin_ops`, the names and types of
-//! `jm_symbols` and the classes of `jm_program`.
+//! `jm_class_format` and the classes of `jm_program`.
+//!
+//! Beside that reading stands the grammar of texts, line by line: the forms in `specs/` say, for each line
+//! of a class, which words and strings it has and what it says, and the laws that a text of such lines
+//! denotes the class of which they are, whatever its blanks, comments and empty lines.
 #![tactic(auto)]
 
 mod assembly;
@@ -14,6 +18,7 @@ mod field;
 mod header;
 mod item;
 mod labels;
+mod laws;
 mod lines;
 mod method;
 mod method_header;
@@ -24,3 +29,4 @@ mod words;
 
 pub use assembly::assemble;
 pub use jm_jasmin_ops::{AsmFault, AsmLeftOut};
+pub use laws::{lines_denote_their_class, lines_of_one_class, spacing_changes_nothing};

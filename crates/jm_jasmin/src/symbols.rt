@@ -9,10 +9,12 @@ ghost use Rattle.jm_jasmin.specs.Symbols.{class_name, field_name, method_name, f
 
 use crate::lines::line_number;
 use crate::words::operand;
+use jm_class_format::{
+    class_name_of, field_name_of, field_type_of, method_name_of, method_type_of,
+};
 use jm_jasmin_lex::Token;
 use jm_jasmin_ops::{AsmFault, at_line};
 use jm_program::{FieldType, MethodDescriptor, Name, code_units};
-use jm_symbols::{class_name_of, field_name_of, field_type_of, method_name_of, method_type_of};
 use std::alloc::Global;
 
 #[tactic(auto, unfolding(crate::specs::Symbols::class_name), using(crate::proofs::Faults::fault_seen))]

@@ -3,8 +3,8 @@
 //! [`instruction`] gives the instruction that the tokens of a line spell, or of the several lines
 //! of a switch, with its labels by name, or the first fault with its line: which tokens spell which
 //! instruction, and which fault comes first, is defined in `specs/`, one definition for each shape
-//! of operands. It stands on the mnemonics of `jm_program`, the table of opcodes of
-//! `jm_class_format`, the names and types of `jm_symbols`, and the tokens of `jm_jasmin_lex`.
+//! of operands. It stands on the mnemonics of `jm_program`, the table of opcodes, the names and types
+//! of `jm_class_format`, and the tokens of `jm_jasmin_lex`.
 #![tactic(auto)]
 
 mod directive;

@@ -30,14 +30,14 @@ pub fn units(alloc: Global, token: &Token<'_>) -> Result<Vec<u16>, AsmFault>
 pub fn class_name_at(alloc: Global, line: usize, units: &[u16]) -> Result<Name, AsmFault>
     ensures { GivesAll (λ name. name) OutOfMemory result (fault_as (of_read line) (class_name_of units.now)) }
 {
-    at_line(line, jm_symbols::class_name_of(alloc, units))
+    at_line(line, jm_class_format::class_name_of(alloc, units))
 }
 
 fn element_if(op: TypeOp, class: ClassRef) -> Result<ClassRef, ReadFault>
     ensures { TakesAll (λ class. class) result (element_if op class) }
 {
     match op {
-        TypeOp::NewArray => jm_symbols::element_ref(class),
+        TypeOp::NewArray => jm_class_format::element_ref(class),
         TypeOp::CheckCast | TypeOp::InstanceOf => Ok(class),
     }
 }
@@ -45,7 +45,7 @@ fn element_if(op: TypeOp, class: ClassRef) -> Result<ClassRef, ReadFault>
 fn typed_ref(alloc: Global, op: TypeOp, units: &[u16]) -> Result<ClassRef, ReadFault>
     ensures { GivesAll (λ class. class) read.OutOfMemory result (and_then (class_ref_of units.now) (element_if op)) }
 {
-    let class = jm_symbols::class_ref_of(alloc, units)?;
+    let class = jm_class_format::class_ref_of(alloc, units)?;
     let class = element_if(op, class)?;
     Ok(class)
 }
@@ -65,8 +65,8 @@ pub fn class_ref_at(
 fn field_of(alloc: Global, class: &[u16], name: &[u16]) -> Result<(ClassRef, Name), ReadFault>
     ensures { GivesAll (λ x. (x.0, x.1)) read.OutOfMemory result (field_of (class.now, name.now)) }
 {
-    let class = jm_symbols::class_ref_of(alloc, class)?;
-    let name = jm_symbols::field_name_of(alloc, name)?;
+    let class = jm_class_format::class_ref_of(alloc, class)?;
+    let name = jm_class_format::field_name_of(alloc, name)?;
     Ok((class, name))
 }
 
@@ -86,7 +86,7 @@ pub fn field_at(
 pub fn field_type_at(alloc: Global, line: usize, units: &[u16]) -> Result<FieldType, AsmFault>
     ensures { GivesAll (λ t. t) OutOfMemory result (fault_as (of_read line) (field_type_of units.now)) }
 {
-    at_line(line, jm_symbols::field_type_of(alloc, units))
+    at_line(line, jm_class_format::field_type_of(alloc, units))
 }
 
 /// The method that an instruction invokes: class before name before type.
@@ -102,6 +102,6 @@ pub fn method_ref_at(
 {
     at_line(
         line,
-        jm_symbols::method_ref_of(alloc, op, class, name, descriptor),
+        jm_class_format::method_ref_of(alloc, op, class, name, descriptor),
     )
 }

@@ -11,7 +11,7 @@ use Rattle.jm_program.specs.declared.descriptor.MethodDescriptor.{MethodDescript
 use Rattle.jm_builtins.specs.List.{the_builtins}
 use Rattle.jm_world.specs.Classes.{FoundMethod, as_class, name_of_method}
 use Rattle.jm_world.specs.Resolution.{select}
-use Rattle.jm_radix.specs.Tables.{row_at}
+use Rattle.jm_tables.specs.Tables.{row_at}
 use Rattle.jm_tables.specs.MethodTables.{IsNumberOf}
 use Rattle.jm_tables.specs.Numbering.{name_of}
 use Rattle.jm_linked.specs.Links.{LinkedView, IsLinked, IsSelected, coded_among, coded_from, linked_name, member_name, name_in_class, place_of}

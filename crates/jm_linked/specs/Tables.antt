@@ -12,7 +12,7 @@ use Rattle.jm_world.specs.Hierarchy.{is_subclass}
 use Rattle.jm_world.specs.Initialization.{initializer_of}
 use Rattle.jm_world.specs.Loading.{literal_texts}
 use Rattle.jm_world.specs.Resolution.{select}
-use Rattle.jm_radix.specs.Tables.{row_at}
+use Rattle.jm_tables.specs.Tables.{row_at}
 use Rattle.jm_tables.specs.FieldKinds.{AreKinds}
 use Rattle.jm_tables.specs.Hierarchies.{is_above}
 use Rattle.jm_tables.specs.Layouts.{IsLayout, classes_of}

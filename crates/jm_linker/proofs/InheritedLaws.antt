@@ -11,7 +11,7 @@ use Rattle.jm_world.specs.Classes.{as_class, class_named, height}
 use Rattle.jm_builtins.specs.List.{the_builtins}
 use Rattle.jm_world.specs.Hierarchy.{parents}
 use Rattle.jm_world.specs.Loads.{Loads, Refusal, duplicates, duplicate_fields, duplicate_members, duplicate_methods, first_of_all, or_else, refusal}
-use Rattle.jm_radix.specs.Tables.{IsCellOf}
+use Rattle.jm_tables.specs.Tables.{IsCellOf}
 use Rattle.jm_tables.specs.Hierarchies.{AreHeirs, IsHeir, own_cell}
 use Rattle.jm_tables.specs.Layouts.{AreFields, DeclaresFields, classes_of}
 use Rattle.jm_tables.specs.Numbering.{name_of}

@@ -10,8 +10,8 @@ use Rattle.jm_program.specs.declared.class.Method.{Method}
 use Rattle.jm_program.specs.declared.code.Code.{Code}
 use Rattle.jm_program.specs.declared.instruction.symbolic.Instr.{Instr}
 use Rattle.jm_world.specs.Loading.{distinct_after, has_text, literal_texts, texts_of_class, texts_of_field, texts_of_instruction, texts_of_method}
-use Rattle.jm_literals.specs.Texts.{number_of_text}
-use Rattle.jm_literals.proofs.TextLaws.{there_by_number}
+use Rattle.jm_tables.specs.Texts.{number_of_text}
+use Rattle.jm_tables.proofs.TextLaws.{there_by_number}
 use Rattle.jm_linker.specs.Literals.{AreLiterals}
 use Rattle.jm_linker.proofs.CycleLaws.{text_is}
 

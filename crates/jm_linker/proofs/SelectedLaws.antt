@@ -15,8 +15,8 @@ use Rattle.jm_world.specs.Hierarchy.{parents}
 use Rattle.jm_world.specs.Loads.{Loads}
 use Rattle.jm_world.specs.Resolution.{counts, resolve_method}
 use Rattle.jm_world.proofs.CalledMethods.{resolved_got}
-use Rattle.jm_radix.specs.declared.table.Cell.{Cell}
-use Rattle.jm_radix.specs.Tables.{IsCellOf}
+use Rattle.jm_tables.specs.declared.table.Cell.{Cell}
+use Rattle.jm_tables.specs.Tables.{IsCellOf}
 use Rattle.jm_tables.specs.MethodTables.{AreMethods, DeclaresMethods}
 use Rattle.jm_tables.specs.Numbering.{name_of}
 use Rattle.jm_tables.specs.declared.inheritance.Declared.{Declared}

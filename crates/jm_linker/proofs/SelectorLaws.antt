@@ -14,8 +14,8 @@ use Rattle.jm_program.specs.declared.descriptor.MethodDescriptor.{MethodDescript
 use Rattle.jm_world.specs.Classes.{FoundMethod, method_in}
 use Rattle.jm_world.specs.Resolution.{counts, instance_in}
 use Rattle.jm_world.specs.Types.{same_method_type}
-use Rattle.jm_radix.specs.declared.table.Cell.{Cell}
-use Rattle.jm_radix.specs.Tables.{Row, empty_row, with_cells, with_number}
+use Rattle.jm_tables.specs.declared.table.Cell.{Cell}
+use Rattle.jm_tables.specs.Tables.{Row, empty_row, with_cells, with_number}
 use Rattle.jm_tables.specs.MethodTables.{IsNumberOf, found_in}
 use Rattle.jm_linked.specs.Methods.{all_methods, first_named, methods_in, methods_of, selector_of}
 use Rattle.jm_linked.proofs.Coded.{methods_both}

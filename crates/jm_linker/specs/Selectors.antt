@@ -10,8 +10,8 @@ use Rattle.jm_world.specs.Classes.{FoundMethod, method_in}
 use Rattle.jm_world.specs.Loads.{duplicate_methods}
 use Rattle.jm_world.specs.Resolution.{instance_in}
 use Rattle.jm_world.specs.Types.{same_method_type}
-use Rattle.jm_radix.specs.Tables.{IsCellOf, empty_row, with_cells}
-use Rattle.jm_radix.specs.declared.table.Cell.{Cell}
+use Rattle.jm_tables.specs.Tables.{IsCellOf, empty_row, with_cells}
+use Rattle.jm_tables.specs.declared.table.Cell.{Cell}
 use Rattle.jm_tables.specs.MethodTables.{IsNumberOf, found_in}
 use Rattle.jm_tables.specs.declared.inheritance.Declared.{Declared}
 use Rattle.jm_linked.specs.Links.{class_numbered}

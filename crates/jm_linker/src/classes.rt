@@ -8,7 +8,7 @@ ghost use Rattle.jm_program.specs.declared.descriptor.MethodDescriptor.{MethodDe
 ghost use Rattle.jm_world.specs.Classes.{as_class, class_named, height};
 ghost use Rattle.jm_world.specs.Loading.{literal_texts};
 ghost use Rattle.jm_world.specs.Loads.{duplicate_members, first_of_all};
-ghost use Rattle.jm_literals.specs.Texts.{number_of_text};
+ghost use Rattle.jm_tables.specs.Texts.{number_of_text};
 ghost use Rattle.jm_linked.specs.Links.{class_numbered};
 ghost use Rattle.jm_linked.specs.Methods.{all_methods, selector_of};
 ghost use Rattle.jm_linker.specs.Answers.{Answers, IsOutOfMemory};
@@ -26,8 +26,8 @@ use crate::members::{Members, members_of_program};
 use crate::name::is_same;
 use crate::selectors::{ClassMethod, methods_of_all, selectors_of};
 use jm_builtins::{BuiltIn, builtins};
-use jm_literals::Literals;
 use jm_program::{Class, ClassParts, Name, Sequence, Shared, Version};
+use jm_tables::Literals;
 use std::alloc::{AllocError, Global};
 use std::collections::BTreeMap;
 

@@ -3,7 +3,7 @@
 //! [`link`] answers a linked program exactly where the classes load (JVMS 5.3, 5.4) and nothing
 //! stands in them that the machine cannot run yet; otherwise it answers the first reason, in the
 //! order of `jm_world`'s definition of loading, and after all of these the first part that comes
-//! later. The crate stands on `jm_program`, `jm_builtins`, `jm_world`, `jm_tables`, `jm_literals` and
+//! later. The crate stands on `jm_program`, `jm_builtins`, `jm_world`, `jm_tables` and
 //! `jm_linked`.
 #![tactic(auto)]
 

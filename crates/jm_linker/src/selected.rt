@@ -13,8 +13,7 @@ use crate::classes::Classes;
 use crate::key::method_key;
 use crate::tables::superclass_number;
 use jm_program::{AccessFlags, ClassParts, Method};
-use jm_radix::Cell;
-use jm_tables::{Declared, MethodTable};
+use jm_tables::{Cell, Declared, MethodTable};
 use std::alloc::{AllocError, Global};
 
 // Static and private methods are selected for no object (JVMS 6.5 invokevirtual).

@@ -19,8 +19,7 @@ use crate::parents::superclass_of;
 use crate::selected::selected_of;
 use jm_linked::{LinkedConstant, Tables};
 use jm_program::{AccessFlags, ClassParts, Name, Sequence};
-use jm_radix::Cell;
-use jm_tables::{Declared, DeclaredFields, FieldKinds, Hierarchy, Layout};
+use jm_tables::{Cell, Declared, DeclaredFields, FieldKinds, Hierarchy, Layout};
 use std::alloc::{AllocError, Global};
 
 // The numbers of the classes of the names, or none where one is not there.

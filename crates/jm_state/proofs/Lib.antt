@@ -2,3 +2,6 @@ pub mod Gathered
 pub mod Alike
 pub mod Made
 pub mod Runs
+pub mod Popping
+pub mod Locals
+pub mod Tested

@@ -4,3 +4,4 @@ pub mod Ends
 pub mod Runnable
 pub mod Places
 pub mod Reached
+pub mod Arguments

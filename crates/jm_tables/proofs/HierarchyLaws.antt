@@ -7,8 +7,8 @@ use Rattle.jm_program.specs.Names.{same_text}
 use Rattle.jm_program.specs.declared.class.ClassParts.{ClassParts}
 use Rattle.jm_world.specs.Classes.{height}
 use Rattle.jm_world.specs.Hierarchy.{holds_of_any, is_below, is_subclass}
-use Rattle.jm_radix.specs.declared.table.Cell.{Cell}
-use Rattle.jm_radix.specs.Tables.{Row, or_number, with_cells}
+use Rattle.jm_tables.specs.declared.table.Cell.{Cell}
+use Rattle.jm_tables.specs.Tables.{Row, or_number, with_cells}
 use Rattle.jm_tables.specs.declared.inheritance.Declared.{Declared}
 use Rattle.jm_tables.specs.Numbering.{name_of}
 use Rattle.jm_tables.specs.Inheriting.{first_above, inherited}

@@ -11,3 +11,9 @@ pub mod PlaceLaws
 mod PlacingLaws
 mod RowLaws
 mod SlotLaws
+mod MergeLaws
+mod NodeLaws
+pub mod SharedRowLaws
+mod TableLaws
+mod WriteLaws
+pub mod TextLaws

@@ -9,8 +9,8 @@ use Rattle.jm_program.specs.declared.descriptor.MethodDescriptor.{MethodDescript
 use Rattle.jm_world.specs.Classes.{FoundMethod, class_named, method_in, height}
 use Rattle.jm_world.specs.Hierarchy.{up_from, chain}
 use Rattle.jm_world.specs.Resolution.{instance_in, instance_along, select}
-use Rattle.jm_radix.specs.declared.table.Cell.{Cell}
-use Rattle.jm_radix.specs.Tables.{Row, empty_row, or_number, with_number, with_cells}
+use Rattle.jm_tables.specs.declared.table.Cell.{Cell}
+use Rattle.jm_tables.specs.Tables.{Row, empty_row, or_number, with_number, with_cells}
 use Rattle.jm_tables.specs.declared.inheritance.Declared.{Declared}
 use Rattle.jm_tables.specs.Numbering.{name_of}
 use Rattle.jm_tables.specs.Inheriting.{first_above, inherited}

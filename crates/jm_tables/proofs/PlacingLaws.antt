@@ -9,8 +9,8 @@ use Rattle.std.specs.Prelude.{is_some}
 use Rattle.std.specs.List.{All}
 use Rattle.std.proofs.lemmas.Option.{slice_get-get_or, get_or_from_slice_get}
 use Rattle.std.proofs.Math.Seq.{get_or-append_seam}
-use Rattle.jm_radix.specs.Tables.{Row, TableView, by_column, or_number, row_at, first_of, with_cells, with_row}
-use Rattle.jm_radix.proofs.RowLaws.{by_column_at, with_cells_at}
+use Rattle.jm_tables.specs.Tables.{Row, TableView, by_column, or_number, row_at, first_of, with_cells, with_row}
+use Rattle.jm_tables.proofs.SharedRowLaws.{by_column_at, with_cells_at}
 use Rattle.jm_tables.specs.declared.inheritance.Declared.{Declared}
 use Rattle.jm_tables.specs.Inheriting.{StandsBefore, first_above, inherited}
 use Rattle.jm_tables.specs.Placing.{IsPlaced, HasRow, ArePlaced, IsRowOf, AreRows}

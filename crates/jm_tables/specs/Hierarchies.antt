@@ -4,8 +4,8 @@ use Rattle.std.specs.List.{All}
 use Rattle.jm_program.specs.declared.class.ClassParts.{ClassParts}
 use Rattle.jm_world.specs.Classes.{class_named}
 use Rattle.jm_world.specs.Hierarchy.{parents}
-use Rattle.jm_radix.specs.declared.table.Cell.{Cell}
-use Rattle.jm_radix.specs.Tables.{row_at}
+use Rattle.jm_tables.specs.declared.table.Cell.{Cell}
+use Rattle.jm_tables.specs.Tables.{row_at}
 use Rattle.jm_tables.specs.declared.inheritance.Declared.{Declared}
 use Rattle.jm_tables.specs.Numbering.{AreNames, name_of}
 

@@ -2,7 +2,7 @@
 -- above it, of which the first that has one in a column gives it (JVMS 2.1, 5.3.5).
 use Rattle.std.specs.Prelude.{◌≡◌, ℕ, zero, suc, ◌<◌, ◌^◌, List, [], ◌∷◌, Some, None, length, slice_get}
 use Rattle.std.specs.List.{All}
-use Rattle.jm_radix.specs.Tables.{Row, empty_row, or_row, with_cells}
+use Rattle.jm_tables.specs.Tables.{Row, empty_row, or_row, with_cells}
 use Rattle.jm_tables.specs.declared.inheritance.Declared.{Declared}
 
 abbrev pub first_above : (ℕ → Row) → List ℕ → Row

@@ -6,7 +6,7 @@ use Rattle.jm_program.specs.declared.class.Method.{Method}
 use Rattle.jm_program.specs.declared.descriptor.MethodDescriptor.{MethodDescriptor}
 use Rattle.jm_world.specs.Classes.{FoundMethod, class_named, method_in}
 use Rattle.jm_world.specs.Resolution.{instance_in}
-use Rattle.jm_radix.specs.Tables.{empty_row, with_cells}
+use Rattle.jm_tables.specs.Tables.{empty_row, with_cells}
 use Rattle.jm_tables.specs.declared.inheritance.Declared.{Declared}
 use Rattle.jm_tables.specs.Numbering.{AreNames, name_of}
 

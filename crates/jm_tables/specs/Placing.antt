@@ -1,6 +1,6 @@
 -- The rows of classes in a table, while they are added.
 use Rattle.std.specs.Prelude.{◌≡◌, ℕ, ◌-◌, ◌^◌, ◌<◌, List, [], ◌∷◌, Some, length, slice_get}
-use Rattle.jm_radix.specs.Tables.{TableView, row_at}
+use Rattle.jm_tables.specs.Tables.{TableView, row_at}
 use Rattle.jm_tables.specs.declared.inheritance.Declared.{Declared}
 use Rattle.jm_tables.specs.Inheriting.{inherited}
 

@@ -4,7 +4,7 @@ ghost use Rattle.std.specs.Prelude.{◌≡◌, ℕ, ◌<◌, List, IfOk, IfSome,
 ghost use Rattle.std.specs.List.{All};
 ghost use Rattle.jm_program.specs.declared.class.ClassParts.{ClassParts};
 ghost use Rattle.jm_world.specs.Hierarchy.{is_subclass};
-ghost use Rattle.jm_radix.specs.Tables.{IsCellOf};
+ghost use Rattle.jm_tables.specs.Tables.{IsCellOf};
 ghost use Rattle.jm_tables.specs.Inheriting.{IsOrder};
 ghost use Rattle.jm_tables.specs.Numbering.{name_of};
 ghost use Rattle.jm_tables.specs.Hierarchies.{AreHeirs, is_above};

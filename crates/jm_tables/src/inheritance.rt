@@ -3,12 +3,12 @@
 ghost use Rattle.std.specs.Prelude.{◌≡◌, ℕ, List, ◌+◌, ◌-◌, ◌<◌, ◌≤◌, ◌^◌, ◌↔◌};
 ghost use Rattle.std.specs.Prelude.{[], IfOk, IfSome, IsSome, true, IsTrue, EachIndex, Some, length, map, slice_get, slice_index, slice_index_or};
 ghost use Rattle.std.specs.List.{All};
-ghost use Rattle.jm_radix.specs.Tables.{IsCellOf, row_at};
+ghost use Rattle.jm_tables.specs.Tables.{IsCellOf, row_at};
 ghost use Rattle.jm_tables.specs.declared.inheritance.Declared.{Declared};
 ghost use Rattle.jm_tables.specs.Inheriting.{IsOrder, inherited};
 ghost use Rattle.jm_tables.specs.Placing.{IsPlaced, HasRow, ArePlaced, AreRows};
 
-use jm_radix::{Cell, Table};
+use crate::table::{Cell, Table};
 use std::alloc::{AllocError, Global};
 use std::marker::Model;
 

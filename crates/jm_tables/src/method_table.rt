@@ -6,7 +6,7 @@ ghost use Rattle.jm_program.specs.declared.class.ClassParts.{ClassParts};
 ghost use Rattle.jm_program.specs.declared.descriptor.MethodDescriptor.{MethodDescriptor};
 ghost use Rattle.jm_world.specs.Classes.{FoundMethod};
 ghost use Rattle.jm_world.specs.Resolution.{select};
-ghost use Rattle.jm_radix.specs.Tables.{IsCellOf, row_at};
+ghost use Rattle.jm_tables.specs.Tables.{IsCellOf, row_at};
 ghost use Rattle.jm_tables.specs.Inheriting.{IsOrder};
 ghost use Rattle.jm_tables.specs.Numbering.{name_of};
 ghost use Rattle.jm_tables.specs.MethodTables.{AreMethods, IsNumberOf};

@@ -1,9 +1,9 @@
 // The arguments of a call, from the operands of the caller to the local variables of the method that
 // is called: a long is one operand and takes two of these (JVMS 2.6.1, 2.6.2).
 
-use jm_calls::{Callee, arguments_on, called_frame, test_arguments};
 use jm_frames::Frame;
 use jm_program::OperandType;
+use jm_state::{Callee, arguments_on, called_frame, test_arguments};
 use jm_values::{Place, TagFault, Value};
 use std::alloc::Global;
 use std::test::Fail;

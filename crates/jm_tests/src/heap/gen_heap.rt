@@ -1,7 +1,7 @@
 // What the generational heap alone does, with the collector of one thread.
 
 ghost use Rattle.std.specs.Prelude.{IfOk};
-ghost use Rattle.jm_generations.specs.Residents.{content_of};
+ghost use Rattle.jm_gen_heap.specs.Residents.{content_of};
 ghost use Rattle.jm_mutator.specs.Ready.{IsReady};
 
 use jm_copy::SerialCollector;

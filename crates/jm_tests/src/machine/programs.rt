@@ -1,7 +1,7 @@
 // Programs, and the heaps over which their machines run.
 
 ghost use Rattle.std.specs.Prelude.{◌≡◌, [], IfOk};
-ghost use Rattle.jm_generations.specs.Residents.{content_of};
+ghost use Rattle.jm_gen_heap.specs.Residents.{content_of};
 ghost use Rattle.jm_machine.specs.Start.{IsEmpty};
 ghost use Rattle.jm_machine.specs.View.{MatchesWorld};
 ghost use Rattle.jm_execute.specs.Beginnings.{beginning};

@@ -1,8 +1,8 @@
 use Rattle.std.proofs.Common.{◌≡◌, ℕ, List, Some, None, arith, ap, subst, sym, ◌∙◌}
 use Rattle.std.specs.Prelude.{slice_index, slice_set}
 use Rattle.jm_blocks.specs.Objects.{Object, object_of}
-use Rattle.jm_scan.specs.Copying.{Moves, raw_copy}
-use Rattle.jm_scan.proofs.Steps.{added_keeps}
+use Rattle.jm_copy.specs.Copying.{Moves, raw_copy}
+use Rattle.jm_copy.proofs.Steps.{added_keeps}
 use Rattle.jm_copy.specs.Condemned.{objects_at}
 use Rattle.jm_copy.specs.Copies.{IsCopying, Extends}
 use Rattle.jm_copy.specs.Numbers.{number_of}

@@ -2,8 +2,8 @@ use Rattle.std.proofs.Common.{◌≡◌, ℕ, ◌∷◌, [], List, Some, refl, a
 use Rattle.std.specs.Prelude.{slice_get}
 use Rattle.std.proofs.lemmas.Option.{slice_get_read}
 use Rattle.std.proofs.lemmas.List.{length-append}
-use Rattle.jm_scan.specs.Copying.{AreForwarded, Moves}
-use Rattle.jm_scan.proofs.Steps.{root_reached, forwarded_more}
+use Rattle.jm_copy.specs.Copying.{AreForwarded, Moves}
+use Rattle.jm_copy.proofs.Steps.{root_reached, forwarded_more}
 use Rattle.jm_copy.specs.Condemned.{objects_at}
 use Rattle.jm_copy.specs.Words.{moved}
 use Rattle.jm_copy.proofs.Making.{extends_refl, extends_more}

@@ -1,5 +1,5 @@
 use Rattle.std.proofs.Common.{◌≡◌, ◌≤◌, length, vec_capacity}
-use Rattle.jm_scan.specs.Copying.{AreForwarded, Moves, Progress}
+use Rattle.jm_copy.specs.Copying.{AreForwarded, Moves, Progress}
 use Rattle.jm_copy.specs.Condemned.{objects_at}
 use Rattle.jm_copy.specs.Copies.{Extends, IsCopying}
 use Rattle.jm_copy.specs.Words.{moved}

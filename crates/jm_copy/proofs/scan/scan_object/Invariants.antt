@@ -1,6 +1,6 @@
 use Rattle.std.proofs.Common.{◌≡◌, Some, length}
 use Rattle.jm_blocks.specs.Objects.{Object}
-use Rattle.jm_scan.specs.Copying.{Progress}
+use Rattle.jm_copy.specs.Copying.{Progress}
 use Rattle.jm_copy.specs.Copies.{Extends, IsCopying, made}
 use Rattle.jm_copy.specs.Marks.{at}
 use Rattle.jm_copy.proofs.scan.scan_object.Given as goal

@@ -1,6 +1,6 @@
 use Rattle.std.proofs.Common.{◌≢◌, ap, sym, ◌∙◌}
 use Rattle.jm_blocks.specs.Stores.{objects_in}
-use Rattle.jm_generations.specs.Generations.{old_lane}
+use Rattle.jm_gen_heap.specs.Generations.{old_lane}
 use Rattle.jm_gen_heap.proofs.Stores.{no_blocks, other_lane}
 use Rattle.jm_gen_heap.proofs.copying.in_old_lane.Goals as goal
 

@@ -1,4 +1,4 @@
-use Rattle.jm_generations.proofs.Counting.{first_nursery}
+use Rattle.jm_gen_heap.proofs.CountingResidents.{first_nursery}
 use Rattle.jm_gen_heap.proofs.copying.take_survivors.Goals as goal
 
 pub returns-clause-young : goal.returns-clause-young

@@ -1,6 +1,6 @@
 use Rattle.std.proofs.Common.{[], ap, sym, append-nil}
 use Rattle.jm_values.specs.Rename.{stack_shape}
-use Rattle.jm_generations.specs.Collections.{refs_in}
+use Rattle.jm_gen_heap.specs.Collections.{refs_in}
 use Rattle.jm_gen_heap.proofs.Putting.{fields_added}
 use Rattle.jm_gen_heap.proofs.fields.add_fields.Goals as goal
 use Rattle.jm_gen_heap.proofs.fields.add_fields.Goals.{in-Some+in_ok-add_references, in_default}

@@ -1,5 +1,5 @@
 use Rattle.std.proofs.Common.{◌≡◌, ◌++◌, take}
-use Rattle.jm_generations.specs.Collections.{fields_of}
+use Rattle.jm_gen_heap.specs.Collections.{fields_of}
 use Rattle.jm_gen_heap.proofs.fields.add_fields.Given as goal
 
 abbrev pub invariant-loop-object : goal.invariant-loop-object

@@ -2,7 +2,7 @@ use Rattle.std.proofs.Common.{◌≡◌, ap, sym, ◌∙◌, length, arith}
 use Rattle.jm_values.specs.Rename.{stack_shape}
 use Rattle.jm_values.proofs.Marking.{among_at}
 use Rattle.jm_blocks.specs.Stores.{objects_in}
-use Rattle.jm_generations.specs.Collections.{refs_in}
+use Rattle.jm_gen_heap.specs.Collections.{refs_in}
 use Rattle.jm_gen_heap.proofs.Putting.{not_before, fields_within, back_more}
 use Rattle.jm_gen_heap.proofs.fields.put_fields.Goals as goal
 

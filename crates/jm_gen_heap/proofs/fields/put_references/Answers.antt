@@ -1,7 +1,7 @@
 use Rattle.std.proofs.Common.{◌+◌, Some, ◌∙◌, ap, refl, drop, length, arith}
 use Rattle.std.proofs.lemmas.Option.{slice_get_read}
 use Rattle.jm_values.specs.declared.value.Value.TheVariants.{Ref}
-use Rattle.jm_generations.specs.Collections.{with_values}
+use Rattle.jm_gen_heap.specs.Collections.{with_values}
 use Rattle.jm_gen_heap.proofs.Putting.{many_partly, partly, put_ref, put_plain, not_ref, value_before, place_left, all_values, all_refs}
 use Rattle.jm_gen_heap.proofs.fields.put_references.Goals as goal
 use Rattle.jm_gen_heap.proofs.fields.put_references.Goals.{in-Ref, in_default}

@@ -1,6 +1,6 @@
 use Rattle.std.proofs.Common.{◌≡◌, ap, rules, ◌∙◌}
 use Rattle.std.proofs.lemmas.Option.{get_or_from_slice_get}
-use Rattle.jm_calls.specs.Arguments.{beginning, on_top}
+use Rattle.jm_state.specs.Arguments.{beginning, on_top}
 use Rattle.jm_frames.specs.FrameView.{FrameView}
 use Rattle.jm_interp.specs.Calls.{callee_with}
 use Rattle.jm_interp.proofs.calls.frame_of.Goals as goal

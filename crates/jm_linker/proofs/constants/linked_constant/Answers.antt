@@ -1,8 +1,8 @@
 -- A literal has its number.
 use Rattle.std.proofs.Common.{sym, ap, subst, ◌∙◌}
 use Rattle.jm_world.specs.Loading.{literal_texts, text_of}
-use Rattle.jm_literals.specs.Texts.{number_of_text}
-use Rattle.jm_literals.proofs.TextLaws.{text_at}
+use Rattle.jm_tables.specs.Texts.{number_of_text}
+use Rattle.jm_tables.proofs.TextLaws.{text_at}
 use Rattle.jm_linker.specs.Literals.{AreLiterals}
 use Rattle.jm_linker.proofs.LiteralLaws.{has_number}
 use Rattle.jm_linker.proofs.constants.linked_constant.Goals as goal

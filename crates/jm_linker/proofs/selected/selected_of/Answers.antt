@@ -3,7 +3,7 @@ use Rattle.std.proofs.Common.{ℕ, ◌<◌, length, sym, subst, ◌∙◌}
 use Rattle.std.specs.Prelude.{IfSome}
 use Rattle.std.specs.List.{All}
 use Rattle.jm_world.specs.Resolution.{select}
-use Rattle.jm_radix.specs.Tables.{IsCellOf, row_at}
+use Rattle.jm_tables.specs.Tables.{IsCellOf, row_at}
 use Rattle.jm_tables.specs.MethodTables.{IsNumberOf}
 use Rattle.jm_tables.specs.Numbering.{name_of}
 use Rattle.jm_tables.specs.declared.inheritance.Declared.{Declared}

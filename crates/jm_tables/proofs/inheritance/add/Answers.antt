@@ -1,8 +1,8 @@
 -- The class has its row.
 use Rattle.std.specs.List.{All}
 use Rattle.std.proofs.Common.{◌∙◌, ℕ, List, ap, subst, ◌≡◌, length, arith, sym}
-use Rattle.jm_radix.specs.declared.table.Cell.{Cell}
-use Rattle.jm_radix.specs.Tables.{first_of, with_cells, with_row}
+use Rattle.jm_tables.specs.declared.table.Cell.{Cell}
+use Rattle.jm_tables.specs.Tables.{first_of, with_cells, with_row}
 use Rattle.jm_tables.specs.Placing.{HasRow, ArePlaced}
 use Rattle.jm_tables.proofs.PlacingLaws.{rows_more, row_kept, not_none}
 use Rattle.jm_tables.proofs.inheritance.add.Goals as goal

@@ -5,7 +5,7 @@ use Rattle.jm_heap.specs.Cells.{class_size}
 use Rattle.jm_heap.specs.NewObject.{new_object}
 use Rattle.jm_heap.specs.Allocation.{MadeHereOrNot}
 use Rattle.jm_heap.proofs.MakingLemmas.{on_err}
-use Rattle.jm_generations.specs.Residents.{content_of}
+use Rattle.jm_gen_heap.specs.Residents.{content_of}
 use Rattle.std.specs.Prelude.{OnOk}
 use Rattle.jm_gen_heap.specs.Allocating.{HasAged, MadeInNursery}
 use Rattle.jm_gen_heap.proofs.Allocating.{same_left, stays_here}

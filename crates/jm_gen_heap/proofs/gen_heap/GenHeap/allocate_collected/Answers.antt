@@ -6,8 +6,8 @@ use Rattle.jm_values.specs.Content.{Made}
 use Rattle.jm_heap.specs.Cells.{class_size}
 use Rattle.jm_heap.specs.NewObject.{new_object}
 use Rattle.jm_heap.specs.Allocation.{MadeHere, IsRefused, IsRefusedHere}
-use Rattle.jm_generations.specs.Residents.{content_of}
-use Rattle.jm_generations.proofs.Following.{made_after}
+use Rattle.jm_gen_heap.specs.Residents.{content_of}
+use Rattle.jm_gen_heap.proofs.Following.{made_after}
 use Rattle.jm_gen_heap.specs.Allocating.{OldStay}
 use Rattle.jm_gen_heap.specs.Held.{IsPutNew}
 use Rattle.jm_gen_heap.proofs.Allocating.{aged_made, refused_here, stays_made}

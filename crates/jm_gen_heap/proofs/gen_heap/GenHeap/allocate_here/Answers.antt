@@ -1,6 +1,6 @@
 use Rattle.std.proofs.Common.{◌+◌, ◌∙◌, sym, arith}
 use Rattle.std.proofs.lemmas.Bool.{leb-true}
-use Rattle.jm_generations.specs.Generations.{all_cells}
+use Rattle.jm_gen_heap.specs.Generations.{all_cells}
 use Rattle.jm_gen_heap.proofs.gen_heap.GenHeap.allocate_here.Goals as goal
 
 pub is_within_quota-requires : goal.is_within_quota-requires

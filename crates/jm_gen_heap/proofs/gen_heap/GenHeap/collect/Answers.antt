@@ -1,7 +1,7 @@
 use Rattle.std.proofs.Common.{◌∙◌, sym, ap, subst}
 use Rattle.jm_values.specs.Content.{AllResident, Kept}
 use Rattle.jm_heap.specs.Collection.{IsAsBefore}
-use Rattle.jm_generations.specs.Residents.{content_of}
+use Rattle.jm_gen_heap.specs.Residents.{content_of}
 use Rattle.jm_gen_heap.proofs.Allocating.{minor_tried, full_tried}
 use Rattle.jm_gen_heap.proofs.gen_heap.GenHeap.collect.Goals as goal
 

@@ -1,7 +1,7 @@
 use Rattle.std.proofs.Common.{subst}
 use Rattle.jm_values.specs.Rename.{refs}
 use Rattle.jm_values.specs.Content.{AllResident}
-use Rattle.jm_generations.specs.Residents.{content_of}
+use Rattle.jm_gen_heap.specs.Residents.{content_of}
 use Rattle.jm_gen_heap.proofs.gen_heap.GenHeap.get.Goals as goal
 
 pub returns-clause-resident : goal.returns-clause-resident

@@ -1,7 +1,7 @@
 use Rattle.std.proofs.Common.{◌∙◌, ap}
 use Rattle.jm_values.specs.Content.{serial_at, object_at}
-use Rattle.jm_generations.specs.Residents.{content_of}
-use Rattle.jm_generations.proofs.Reading.{length_is}
+use Rattle.jm_gen_heap.specs.Residents.{content_of}
+use Rattle.jm_gen_heap.proofs.Reading.{length_is}
 use Rattle.jm_gen_heap.proofs.gen_heap.GenHeap.length.Goals as goal
 
 pub object_at-requires : goal.object_at-requires

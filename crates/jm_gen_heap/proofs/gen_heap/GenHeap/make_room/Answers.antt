@@ -3,8 +3,8 @@ use Rattle.std.proofs.lemmas.Bool.{leb-true, le-leb}
 use Rattle.jm_values.specs.Content.{AllResident, Kept, used_by}
 use Rattle.jm_heap.specs.Cells.{class_size}
 use Rattle.jm_heap.specs.Collection.{IsAsBefore}
-use Rattle.jm_generations.specs.Generations.{all_cells}
-use Rattle.jm_generations.specs.Residents.{content_of}
+use Rattle.jm_gen_heap.specs.Generations.{all_cells}
+use Rattle.jm_gen_heap.specs.Residents.{content_of}
 use Rattle.jm_gen_heap.specs.Allocating.{OldStay}
 use Rattle.jm_gen_heap.proofs.Allocating.{minor_left, minor_stays, minor_fits, same_left, full_passes}
 use Rattle.jm_gen_heap.proofs.gen_heap.GenHeap.make_room.Goals as goal

@@ -1,8 +1,8 @@
 use Rattle.std.proofs.Common.{◌∙◌, ap, subst}
 use Rattle.jm_values.specs.Content.{AllResident, HasValue, name_of, serial_at, object_at}
 use Rattle.jm_values.specs.Rename.{refs, rename}
-use Rattle.jm_generations.specs.Residents.{content_of}
-use Rattle.jm_generations.proofs.Reading.{class_is, length_is, value_is, value_resident}
+use Rattle.jm_gen_heap.specs.Residents.{content_of}
+use Rattle.jm_gen_heap.proofs.Reading.{class_is, length_is, value_is, value_resident}
 use Rattle.jm_gen_heap.proofs.gen_heap.GenHeap.object.Goals as goal
 
 pub object_at-requires : goal.object_at-requires

@@ -1,6 +1,6 @@
 use Rattle.std.proofs.Common.{subst}
 use Rattle.jm_heap.specs.Residents.{AreResident}
-use Rattle.jm_generations.specs.Residents.{content_of}
+use Rattle.jm_gen_heap.specs.Residents.{content_of}
 use Rattle.jm_gen_heap.proofs.Serials.{are_resident}
 use Rattle.jm_gen_heap.proofs.gen_heap.GenHeap.resident.Goals as goal
 

@@ -1,7 +1,7 @@
 use Rattle.std.proofs.Common.{◌∙◌, sym, ap}
 use Rattle.jm_values.specs.Content.{serial_at}
-use Rattle.jm_generations.specs.Residents.{content_of}
-use Rattle.jm_generations.proofs.Reading.{lies_serial}
+use Rattle.jm_gen_heap.specs.Residents.{content_of}
+use Rattle.jm_gen_heap.proofs.Reading.{lies_serial}
 use Rattle.jm_gen_heap.proofs.gen_heap.GenHeap.serial.Goals as goal
 
 pub object_at-requires : goal.object_at-requires

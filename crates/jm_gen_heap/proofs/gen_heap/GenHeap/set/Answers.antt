@@ -1,7 +1,7 @@
 use Rattle.std.proofs.Common.{sym, subst}
 use Rattle.jm_values.specs.Rename.{refs}
 use Rattle.jm_values.specs.Content.{AllResident}
-use Rattle.jm_generations.specs.Residents.{content_of}
+use Rattle.jm_gen_heap.specs.Residents.{content_of}
 use Rattle.jm_gen_heap.proofs.gen_heap.GenHeap.set.Goals as goal
 
 pub set-requires-clause-names : goal.set-requires-clause-names

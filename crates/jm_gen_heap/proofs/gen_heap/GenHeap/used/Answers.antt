@@ -1,5 +1,5 @@
 use Rattle.std.proofs.Common.{◌≤◌, sym, subst}
-use Rattle.jm_generations.specs.Residents.{content_of}
+use Rattle.jm_gen_heap.specs.Residents.{content_of}
 use Rattle.jm_gen_heap.proofs.Allocating.{limit_of}
 use Rattle.jm_gen_heap.proofs.gen_heap.GenHeap.used.Goals as goal
 

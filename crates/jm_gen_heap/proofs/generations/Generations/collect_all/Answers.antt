@@ -1,7 +1,7 @@
 use Rattle.std.proofs.Common.{◌∙◌, ◌++◌, [], sym, ap, subst, arith, append-nil}
 use Rattle.jm_values.specs.Content.{AllResident}
-use Rattle.jm_generations.specs.Residents.{content_of}
-use Rattle.jm_generations.specs.Collections.{LeavesAllReached}
+use Rattle.jm_gen_heap.specs.Residents.{content_of}
+use Rattle.jm_gen_heap.specs.Collections.{LeavesAllReached}
 use Rattle.jm_gen_heap.specs.Held.{held}
 use Rattle.jm_gen_heap.proofs.Collecting.{full_result, full_roots, collected_held}
 use Rattle.jm_gen_heap.proofs.generations.Generations.collect_all.Goals as goal

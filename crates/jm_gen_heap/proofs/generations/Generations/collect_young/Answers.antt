@@ -2,7 +2,7 @@ use Rattle.std.proofs.Common.{◌∙◌, ◌++◌, [], sym, ap, subst, arith}
 use Rattle.jm_values.specs.Content.{AllResident}
 use Rattle.jm_heap.proofs.MakingLemmas.{on_err}
 use Rattle.jm_blocks.specs.Stores.{objects_in}
-use Rattle.jm_generations.specs.Residents.{content_of}
+use Rattle.jm_gen_heap.specs.Residents.{content_of}
 use Rattle.jm_gen_heap.specs.Held.{held}
 use Rattle.jm_gen_heap.specs.Minor.{LeavesMinor}
 use Rattle.jm_gen_heap.proofs.Collecting.{back_result, minor_result, collected_held, refused_result, still_held, still_content}

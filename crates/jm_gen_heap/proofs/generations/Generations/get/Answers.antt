@@ -1,4 +1,4 @@
-use Rattle.jm_generations.proofs.Reading.{value_there, value_is, value_resident}
+use Rattle.jm_gen_heap.proofs.Reading.{value_there, value_is, value_resident}
 use Rattle.jm_gen_heap.proofs.generations.Generations.get.Goals as goal
 
 pub store_of-requires : goal.store_of-requires

@@ -4,9 +4,9 @@ use Rattle.jm_values.specs.Content.{AllResident, used_by}
 use Rattle.jm_heap.specs.Cells.{class_size}
 use Rattle.jm_heap.specs.NewObject.{new_object}
 use Rattle.jm_heap.specs.Allocation.{MadeHere}
-use Rattle.jm_generations.specs.Generations.{Generations, all_cells}
-use Rattle.jm_generations.specs.Residents.{content_of}
-use Rattle.jm_generations.proofs.Making.{put_made}
+use Rattle.jm_gen_heap.specs.Generations.{Generations, all_cells}
+use Rattle.jm_gen_heap.specs.Residents.{content_of}
+use Rattle.jm_gen_heap.proofs.Making.{put_made}
 use Rattle.jm_gen_heap.specs.Held.{IsPutNew, held}
 use Rattle.jm_gen_heap.proofs.Allocating.{at_end}
 use Rattle.jm_gen_heap.proofs.Shapes.{put_held}

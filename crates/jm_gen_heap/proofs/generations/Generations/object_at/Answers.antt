@@ -1,5 +1,5 @@
 use Rattle.std.proofs.Common.{◌∙◌, sym}
-use Rattle.jm_generations.proofs.Reading.{place_lies}
+use Rattle.jm_gen_heap.proofs.Reading.{place_lies}
 use Rattle.jm_gen_heap.proofs.generations.Generations.object_at.Goals as goal
 
 pub object_at-requires : goal.object_at-requires

@@ -4,12 +4,12 @@ use Rattle.jm_values.specs.Rename.{refs}
 use Rattle.std.proofs.lemmas.Result.{on_ok_weaker}
 use Rattle.jm_values.specs.Content.{AllResident, HasValue, IsSet}
 use Rattle.jm_blocks.specs.Places.{lane_of}
-use Rattle.jm_generations.specs.Generations.{Generations}
-use Rattle.jm_generations.specs.Residents.{content_of}
-use Rattle.jm_generations.specs.Steps.{IsWritten}
-use Rattle.jm_generations.proofs.Making.{laned}
-use Rattle.jm_generations.proofs.Reading.{value_there}
-use Rattle.jm_generations.proofs.Setting.{written_set}
+use Rattle.jm_gen_heap.specs.Generations.{Generations}
+use Rattle.jm_gen_heap.specs.Residents.{content_of}
+use Rattle.jm_gen_heap.specs.Steps.{IsWritten}
+use Rattle.jm_gen_heap.proofs.Making.{laned}
+use Rattle.jm_gen_heap.proofs.Reading.{value_there}
+use Rattle.jm_gen_heap.proofs.Setting.{written_set}
 use Rattle.jm_gen_heap.specs.Held.{held}
 use Rattle.jm_gen_heap.proofs.Holding.{in_young, young_has, young_written, store_old, old_tried}
 use Rattle.jm_gen_heap.proofs.generations.Generations.set.Goals as goal

@@ -3,11 +3,11 @@ use Rattle.std.specs.Prelude.{slice_get}
 use Rattle.std.proofs.lemmas.Option.{slice_get_read}
 use Rattle.jm_values.specs.Content.{serial_at}
 use Rattle.jm_blocks.specs.Places.{lane_of}
-use Rattle.jm_generations.specs.Generations.{Generations, IsYoung, lying, old_lane}
-use Rattle.jm_generations.specs.Residents.{content_of}
-use Rattle.jm_generations.specs.Invariant.{AreGenerations}
-use Rattle.jm_generations.proofs.Making.{laned}
-use Rattle.jm_generations.proofs.Reading.{place_lies}
+use Rattle.jm_gen_heap.specs.Generations.{Generations, IsYoung, lying, old_lane}
+use Rattle.jm_gen_heap.specs.Residents.{content_of}
+use Rattle.jm_gen_heap.specs.Invariant.{AreGenerations}
+use Rattle.jm_gen_heap.proofs.Making.{laned}
+use Rattle.jm_gen_heap.proofs.Reading.{place_lies}
 use Rattle.jm_gen_heap.specs.Held.{held}
 use Rattle.jm_gen_heap.proofs.Holding.{in_young, young_lane, store_young, store_old}
 use Rattle.jm_gen_heap.proofs.generations.Generations.store_of.Goals as goal

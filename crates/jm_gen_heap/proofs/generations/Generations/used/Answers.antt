@@ -1,8 +1,8 @@
 use Rattle.std.proofs.Common.{◌≡◌, ◌+◌, subst, arith}
 use Rattle.jm_heap.specs.Cells.{resident_cells}
-use Rattle.jm_generations.specs.Generations.{Generations}
-use Rattle.jm_generations.specs.Residents.{content_of}
-use Rattle.jm_generations.specs.Invariant.{AreGenerations}
+use Rattle.jm_gen_heap.specs.Generations.{Generations}
+use Rattle.jm_gen_heap.specs.Residents.{content_of}
+use Rattle.jm_gen_heap.specs.Invariant.{AreGenerations}
 use Rattle.jm_gen_heap.proofs.generations.Generations.used.Goals as goal
 
 pub returns-clause-cells : goal.returns-clause-cells

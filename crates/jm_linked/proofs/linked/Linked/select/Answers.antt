@@ -2,7 +2,7 @@
 use Rattle.std.proofs.Common.{Some, None, sym, ap, subst, ◌∙◌}
 use Rattle.std.specs.Prelude.{slice_index_or}
 use Rattle.jm_world.specs.Resolution.{select}
-use Rattle.jm_radix.specs.Tables.{row_at}
+use Rattle.jm_tables.specs.Tables.{row_at}
 use Rattle.jm_tables.specs.Numbering.{name_of}
 use Rattle.jm_linked.specs.Links.{IsLinked, LinkedView}
 use Rattle.jm_linked.specs.Tables.{all_names}

@@ -4,7 +4,7 @@ use Rattle.std.specs.List.{All}
 use Rattle.std.proofs.lemmas.List.{length-replicate}
 use Rattle.std.proofs.lemmas.Option.{slice_get-get_or}
 use Rattle.jm_tables.specs.declared.inheritance.Declared.{Declared}
-use Rattle.jm_radix.specs.Tables.{TableView, row_at}
+use Rattle.jm_tables.specs.Tables.{TableView, row_at}
 use Rattle.jm_tables.specs.Inheriting.{StandsBefore}
 use Rattle.jm_tables.specs.Placing.{HasRow, AreRows}
 use Rattle.jm_tables.proofs.PlacingLaws.{written_back, none_placed, all_none, got, whole_rows, some_weaker, row_more, row_number, all_rows, same_some}

@@ -1,3 +1,0 @@
-pub mod Popping
-pub mod Locals
-pub mod Tested

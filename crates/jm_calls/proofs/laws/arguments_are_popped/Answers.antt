@@ -1,6 +1,0 @@
--- Each argument by itself.
-use Rattle.jm_calls.proofs.Popping.{are_popped}
-use Rattle.jm_calls.proofs.laws.arguments_are_popped.Goals as goal
-
-pub returns : goal.returns
-returns c = are_popped

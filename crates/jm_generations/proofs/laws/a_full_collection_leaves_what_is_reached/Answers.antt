@@ -1,5 +1,0 @@
-use Rattle.jm_generations.proofs.Keeping.{full_leaves_reached}
-use Rattle.jm_generations.proofs.laws.a_full_collection_leaves_what_is_reached.Goals as goal
-
-pub returns : goal.returns
-returns c = full_leaves_reached

@@ -1,5 +1,0 @@
-use Rattle.jm_generations.proofs.Keeping.{put_is_made}
-use Rattle.jm_generations.proofs.laws.a_new_object_is_made.Goals as goal
-
-pub returns : goal.returns
-returns c = put_is_made

@@ -1,5 +1,0 @@
-use Rattle.jm_generations.proofs.Keeping.{written_is_set}
-use Rattle.jm_generations.proofs.laws.a_written_value_is_set.Goals as goal
-
-pub returns : goal.returns
-returns c = written_is_set

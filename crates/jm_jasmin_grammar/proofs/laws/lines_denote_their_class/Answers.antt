@@ -1,5 +1,0 @@
-use Rattle.jm_jasmin_grammar.proofs.Text.{class_text}
-use Rattle.jm_jasmin_grammar.proofs.laws.lines_denote_their_class.Goals as goal
-
-pub returns : goal.returns
-returns c = class_text

@@ -1,5 +1,0 @@
-mod MergeLaws
-mod NodeLaws
-pub mod RowLaws
-mod TableLaws
-mod WriteLaws

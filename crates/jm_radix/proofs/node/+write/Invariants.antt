@@ -1,5 +1,0 @@
--- A level down.
-use Rattle.jm_radix.proofs.node.+write.Given as goal
-
-abbrev pub decreases-write : goal.decreases-write
-decreases-write l = l.levels
