@@ -68,9 +68,9 @@ unfolding computed
 an_empty_schedule = refl
 
 each_kind_is_read : record_entries (codes "t 1 @0 done\nminor @1 blocked\nfull @2 ended\nt 2 @3 none\nt 3 @15 stopped\n") ≡
-    Ok (record { seat = 0; event = Step 1; kind = kind.Done } ∷ record { seat = 1; event = Minor; kind = kind.Blocked }
-    ∷ record { seat = 2; event = Full; kind = kind.Ended } ∷ record { seat = 3; event = Step 2; kind = kind.None }
-    ∷ record { seat = 15; event = Step 3; kind = kind.Stopped } ∷ [])
+    Ok (record { line = 1; seat = 0; event = Step 1; kind = kind.Done } ∷ record { line = 2; seat = 1; event = Minor; kind = kind.Blocked }
+    ∷ record { line = 3; seat = 2; event = Full; kind = kind.Ended } ∷ record { line = 4; seat = 3; event = Step 2; kind = kind.None }
+    ∷ record { line = 5; seat = 15; event = Step 3; kind = kind.Stopped } ∷ [])
 unfolding computed
 each_kind_is_read = refl
 

@@ -70,7 +70,7 @@ a_record_has_both_words : record_entries (codes "t 1 @0 done\nt 1\n") ≡ Err 2
 unfolding computed
 a_record_has_both_words = refl
 
-a_record_has_entries : record_entries (codes "t 2 @3 blocked\n") ≡ Ok (record { seat = 3; event = Step 2; kind = kind.Blocked } ∷ [])
+a_record_has_entries : record_entries (codes "t 2 @3 blocked\n") ≡ Ok (record { line = 1; seat = 3; event = Step 2; kind = kind.Blocked } ∷ [])
 unfolding computed
 a_record_has_entries = refl
 
