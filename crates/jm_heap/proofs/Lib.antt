@@ -12,3 +12,4 @@ pub mod NewLemmas
 pub mod MakingLemmas
 pub mod AllocatingLemmas
 pub mod ResidentLemmas
+pub mod NewPlaces

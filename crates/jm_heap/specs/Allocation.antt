@@ -42,3 +42,7 @@ HasRoom c o = resident_cells c + size_by class_size o ≤ c.limit
 abbrev pub NoneIsNoRoom : Content ClassId → Option ℕ → ObjectOf ClassId → Type 0
 NoneIsNoRoom c None o = c.limit < resident_cells c + size_by class_size o
 NoneIsNoRoom c (Some place) o = HasRoom c o
+
+-- each object that is resident now and was not before lies where it is said to
+abbrev pub NewLie : {T : Type 0} → (ℕ → Type 0) → Content T → Content T → Type 0
+NewLie lies old new = (p k : ℕ) → serial_at new p ≡ Some k → object_at old k ≡ None → lies p

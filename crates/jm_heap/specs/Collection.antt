@@ -29,3 +29,8 @@ pub record Collected {T : Type 0} (old : Content T) (roots : List ℕ) (new : Co
   pub as_before : IsAsBefore old new
   pub only : (k : ℕ) (o : ObjectOf T) → object_at new k ≡ Some o → Reached old roots k
   pub places : IsUnmoved old roots new
+
+-- what a collection of a kind leaves that moves nothing, nor the roots: a minor one leaves all as it was
+abbrev pub LeavesUnmoved : {T : Type 0} → Kind → Content T → Content T → List ℕ → List ℕ → Type 0
+LeavesUnmoved Minor old new roots moved = (new ≡ old) × (moved ≡ roots)
+LeavesUnmoved Full old new roots moved = Collected old roots new × (moved ≡ roots)

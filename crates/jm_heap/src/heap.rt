@@ -1,6 +1,6 @@
 // What a heap promises.
 
-ghost use Rattle.std.specs.Prelude.{◌≡◌, ℕ, ◌<◌, ◌≤◌, ◌^◌, IfOk, OnOk, OnErr, IfErr, Some, length, slice_get};
+ghost use Rattle.std.specs.Prelude.{◌≡◌, ℕ, ◌<◌, ◌≤◌, ◌^◌, List, IfOk, OnOk, OnErr, IfErr, IfSome, Some, length, slice_get};
 ghost use Rattle.jm_values.specs.Rename.{rename, refs};
 ghost use Rattle.jm_values.specs.declared.value.Value.{Value};
 ghost use Rattle.jm_values.specs.Objects.{ObjectOf};
@@ -11,6 +11,7 @@ ghost use Rattle.jm_heap.specs.Residents.{AreResident};
 ghost use Rattle.jm_heap.specs.Allocation.{IsRefused, IsRefusedHere, MadeHereOrNot};
 ghost use Rattle.jm_heap.specs.Collection.{IsAsBefore, IsAsBeforeMaking, LeavesReached};
 ghost use Rattle.jm_heap.specs.declared.class_id.ClassId.{ClassId};
+ghost use Rattle.jm_heap.specs.declared.heap.Kind.{Kind};
 
 use crate::class_id::ClassId;
 use crate::fault::HeapFault;
@@ -35,13 +36,25 @@ pub enum Kind {
 ///
 /// A content is sound where no two residents have one place or one serial, and each serial is below
 /// the next one. A new heap's is, and each call leaves it so.
+///
+/// Beside its content a heap says, where it has something to say, in which nursery a place lies, how
+/// many collections an object has survived, and what a collection leaves.
 pub trait Heap {
     ghost content: { Self → Content ClassId };
 
-    /// Makes an object with default values (JVMS 2.3, 2.4), in a nursery, which has no part in
-    /// what it is, and answers its place. It may collect first: the roots are then moved with
-    /// their objects, after a refusal too, and what they reach stays as it is. Each other resident
-    /// was one before, as it is.
+    // whether a place lies in the nursery of a number
+    ghost nursery_of: { ℕ → ℕ → Type 0 };
+
+    // whether the object at a place has survived so many collections
+    ghost survived: { Self → ℕ → ℕ → Type 0 };
+
+    // what a collection of a kind makes of a heap, and of the roots that it was given
+    ghost leaves: { Kind → Self → Self → List ℕ → List ℕ → Type 0 };
+
+    /// Makes an object with default values (JVMS 2.3, 2.4), in the nursery of a number, which has no
+    /// part in what it is, and answers its place; the object has survived no collection. It may
+    /// collect first: the roots are then moved with their objects, after a refusal too, and what they
+    /// reach stays as it is. Each other resident was one before, as it is.
     ///
     /// HeapFull comes exactly where the cells of what the roots reach and those of the object
     /// pass the limit, SerialsEnd where they do not and there have been 2^63 objects, and
@@ -55,6 +68,8 @@ pub trait Heap {
         requires sound { IsSound (content self.old) }
         requires resident { AllResident (content self.old) roots.old }
         ensures ok { IfOk result (λ place. Made class_size (content self.old) roots.old (content self.new) roots.new place (new_object shape.entry)) }
+        ensures nursery { IfOk result (λ place. nursery_of place nursery) }
+        ensures fresh { IfOk result (λ place. survived self.new place 0) }
         ensures kept { OnErr result (Kept (content self.old) roots.old (content self.new) roots.new) }
         ensures next { OnErr result ((content self.new).next ≡ (content self.old).next) }
         ensures as_before { IsAsBeforeMaking (content self.old) (content self.new) }
@@ -71,6 +86,8 @@ pub trait Heap {
     ) -> Result<Option<Place>, HeapFault>
         requires { IsSound (content self.old) }
         ensures ok { IfOk result (λ made. MadeHereOrNot (content self.old) (content self.new) made (new_object shape.entry)) }
+        ensures nursery { IfOk result (λ made. IfSome made (λ place. nursery_of place nursery)) }
+        ensures fresh { IfOk result (λ made. IfSome made (λ place. survived self.new place 0)) }
         ensures same { OnErr result (content self.new ≡ content self.old) }
         ensures err { IfErr result (IsRefusedHere (content self.old) (new_object shape.entry)) };
 
@@ -125,6 +142,7 @@ pub trait Heap {
         ensures next { (content self.new).next ≡ (content self.old).next }
         ensures as_before { IsAsBefore (content self.old) (content self.new) }
         ensures ok { OnOk result (LeavesReached kind (content self.old) roots.old (content self.new)) }
+        ensures leaves { OnOk result (leaves kind self.old self.new roots.old roots.new) }
         ensures err { OnErr result ((content self.new ≡ content self.old) × (roots.new ≡ roots.old)) };
 
     /// The serials of the residents, rising.

@@ -7,7 +7,7 @@ ghost use Rattle.jm_heap.specs.Cells.{class_size, resident_cells};
 ghost use Rattle.jm_heap.specs.NewObject.{new_object};
 ghost use Rattle.jm_heap.specs.Allocation.{HasRoom, NoneIsNoRoom, IsRefused, IsRefusedHere, MadeHereOrNot};
 ghost use Rattle.jm_heap.specs.Residents.{AreResident};
-ghost use Rattle.jm_heap.specs.Collection.{Collected, IsAsBefore, IsAsBeforeMaking, IsUnmoved, LeavesReached};
+ghost use Rattle.jm_heap.specs.Collection.{Collected, IsAsBefore, IsAsBeforeMaking, IsUnmoved, LeavesReached, LeavesUnmoved};
 ghost use Rattle.jm_values.specs.Objects.{ObjectOf};
 ghost use Rattle.jm_values.specs.Content.{Content, HasValue, IsSet, IsSound, Kept, Made, AllResident, used_by, serial_at, object_at, name_of};
 ghost use Rattle.jm_heap.specs.declared.class_id.ClassId.{ClassId};
@@ -220,6 +220,7 @@ impl PlainHeap {
         ensures as_before { IsAsBefore self.old self.new }
         ensures ok { OnOk result (LeavesReached kind self.old roots.old self.new) }
         ensures err { OnErr result ((self.new ≡ self.old) × (roots.new ≡ roots.old)) }
+        ensures exact { OnOk result (LeavesUnmoved kind self.old self.new roots.old roots.new) }
         ensures unmoved { IsUnmoved self.old roots.old self.new }
         ensures roots { roots.new ≡ roots.old }
     {
@@ -285,6 +286,13 @@ impl PlainHeap {
 
 impl Heap for PlainHeap {
     ghost content = { λ h. h };
+
+    // it has no nurseries, and counts no collections
+    ghost nursery_of = { λ place number. Unit {0} };
+
+    ghost survived = { λ h place count. Unit {0} };
+
+    ghost leaves = { λ kind old new roots moved. LeavesUnmoved kind old new roots moved };
 
     #[inline]
     fn allocate(
