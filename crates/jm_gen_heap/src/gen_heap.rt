@@ -14,7 +14,8 @@ ghost use Rattle.jm_heap.specs.declared.class_id.ClassId.{ClassId};
 ghost use Rattle.jm_nursery.specs.Nurseries.{nursery_at};
 ghost use Rattle.jm_gen_heap.specs.Residents.{content_of};
 ghost use Rattle.jm_gen_heap.specs.Invariant.{AreGenerations};
-ghost use Rattle.jm_gen_heap.specs.Allocating.{AllSurvived, Fits, HasAged, HasNoRoom, Leaves, MadeInNursery, OldStay};
+ghost use Rattle.jm_gen_heap.specs.Allocating.{AllSurvived, Fits, HasAged, HasMadeRoom, HasNoRoom, HasSurvived, IsAllocated, Leaves, OldStay, PutBehind, PutHere};
+ghost use Rattle.jm_gen_heap.specs.Steps.{IsWritten};
 
 use crate::generations::Generations;
 use crate::request::cells_of;
@@ -75,7 +76,7 @@ impl<C: Collector> GenHeap<C> {
         shape: Shape<'_>,
     ) -> Result<Option<Place>, HeapFault>
         ensures ok { IfOk result (λ made. MadeHereOrNot (content_of self.old) (content_of self.new) made (new_object shape.entry)) }
-        ensures nursery { IfOk result (λ made. MadeInNursery self.old self.new made (nursery % 16)) }
+        ensures put { IfOk result (λ made. PutHere self.old self.new made (nursery % 16) (new_object shape.entry)) }
         ensures keeps { AreGenerations self.old }
         ensures same { OnErr result (self.new ≡ self.old) }
         ensures err { IfErr result (IsRefusedHere (content_of self.old) (new_object shape.entry)) }
@@ -99,6 +100,7 @@ impl<C: Collector> GenHeap<C> {
         ensures next { (content_of self.new).next ≡ (content_of self.old).next }
         ensures as_before { IsAsBefore (content_of self.old) (content_of self.new) }
         ensures stays { OldStay self.old self.new cells }
+        ensures room { OnOk result (HasMadeRoom self.old self.new roots.old roots.new cells) }
         ensures ok { OnOk result (Fits self.new cells) }
         ensures survived { OnOk result (AllSurvived self.new) }
         ensures keeps { AreGenerations self.new }
@@ -125,7 +127,7 @@ impl<C: Collector> GenHeap<C> {
     ) -> Result<Place, HeapFault>
         requires { AllResident (content_of self.old) roots.old }
         ensures ok { IfOk result (λ place. Made class_size (content_of self.old) roots.old (content_of self.new) roots.new place (new_object shape.entry)) }
-        ensures nursery { IfOk result (λ place. nursery_at place ≡ Some (nursery % 16)) }
+        ensures put { IfOk result (λ place. PutBehind self.old self.new roots.old roots.new place (nursery % 16) (new_object shape.entry)) }
         ensures aged { OnOk result (HasAged self.old self.new) }
         ensures kept { OnErr result (Kept (content_of self.old) roots.old (content_of self.new) roots.new) }
         ensures next { OnErr result ((content_of self.new).next ≡ (content_of self.old).next) }
@@ -138,10 +140,11 @@ impl<C: Collector> GenHeap<C> {
     }
 
     /// Makes an object with default values in the nursery of a number modulo 16, and answers its
-    /// place. A minor collection comes first where the cells of the young objects and its own would
-    /// pass a quarter of the limit, a full one where those of all objects and its own would pass the
-    /// limit; what the roots reach stays as it is, after a refusal too, and every old object where
-    /// its cells fit beside all.
+    /// place; it has survived no collection. A minor collection comes first where the cells of the
+    /// young objects and its own would pass a quarter of the limit, a full one where those of all
+    /// objects and its own would pass the limit, and else nothing but the new object is changed. What
+    /// the roots reach stays as it is, after a refusal too, and every old object where its cells fit
+    /// beside all.
     ///
     /// HeapFull comes exactly where the cells of what the roots reach and those of the object
     /// pass the limit, SerialsEnd where they do not and there have been 2^63 objects, and
@@ -155,7 +158,9 @@ impl<C: Collector> GenHeap<C> {
     ) -> Result<Place, HeapFault>
         requires { AllResident (content_of self.old) roots.old }
         ensures ok { IfOk result (λ place. Made class_size (content_of self.old) roots.old (content_of self.new) roots.new place (new_object shape.entry)) }
+        ensures made { IfOk result (λ place. IsAllocated self.old self.new roots.old roots.new place (nursery % 16) (new_object shape.entry)) }
         ensures nursery { IfOk result (λ place. nursery_at place ≡ Some (nursery % 16)) }
+        ensures fresh { IfOk result (λ place. HasSurvived self.new place 0) }
         ensures aged { OnOk result (HasAged self.old self.new) }
         ensures kept { OnErr result (Kept (content_of self.old) roots.old (content_of self.new) roots.new) }
         ensures next { OnErr result ((content_of self.new).next ≡ (content_of self.old).next) }
@@ -220,6 +225,7 @@ impl<C: Collector> GenHeap<C> {
         requires there { (v : Value) × HasValue (content_of self.old) place index v }
         requires resident { AllResident (content_of self.old) (refs value) }
         ensures ok { OnOk result (IsSet (content_of self.old) (content_of self.new) place index value) }
+        ensures exact { OnOk result (IsWritten self.old self.new place index value) }
         ensures err { OnErr result (self.new ≡ self.old) }
     {
         self.generations.set(place, index, value)
@@ -288,6 +294,13 @@ impl<C: Collector> GenHeap<C> {
 
 impl<C: Collector> Heap for GenHeap<C> {
     ghost content = { λ h. content_of h };
+
+    // sixteen nurseries, told by the place
+    ghost nursery_of = { λ place number. nursery_at place ≡ Some (number % 16) };
+
+    ghost survived = { λ h place count. HasSurvived h place count };
+
+    ghost leaves = { λ kind g h roots moved. Leaves kind g h roots moved };
 
     #[inline]
     fn allocate(

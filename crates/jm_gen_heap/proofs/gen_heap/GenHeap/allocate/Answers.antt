@@ -7,7 +7,7 @@ use Rattle.jm_heap.specs.Allocation.{MadeHereOrNot}
 use Rattle.jm_heap.proofs.MakingLemmas.{on_err}
 use Rattle.jm_gen_heap.specs.Residents.{content_of}
 use Rattle.std.specs.Prelude.{OnOk}
-use Rattle.jm_gen_heap.specs.Allocating.{HasAged, MadeInNursery}
+use Rattle.jm_gen_heap.specs.Allocating.{HasAged, PutHere}
 use Rattle.jm_gen_heap.proofs.Allocating.{same_left, stays_here}
 use Rattle.jm_gen_heap.proofs.gen_heap.GenHeap.allocate.Goals as goal
 
@@ -35,5 +35,5 @@ returns-in-Some-clause-stays g c =
 
 pub returns-in-None-clause-aged : goal.returns-in-None-clause-aged
 returns-in-None-clause-aged g c =
-    let same = subst (λ m. MadeInNursery c.args.self.now c.allocate_here.new.self m (c.args.nursery % 16)) c.in-None.is c.in_ok-place.ensures.nursery in
-    subst (λ x. OnOk c.allocate_collected.result (HasAged x c.allocate_collected.new.self)) same c.allocate_collected.ensures.aged
+    let none = subst (λ m. PutHere c.args.self.now c.allocate_here.new.self m (c.args.nursery % 16) (new_object c.args.shape)) c.in-None.is c.in_ok-place.ensures.put in
+    subst (λ x. OnOk c.allocate_collected.result (HasAged x c.allocate_collected.new.self)) none.0 c.allocate_collected.ensures.aged
