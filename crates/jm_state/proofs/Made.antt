@@ -33,7 +33,7 @@ use Rattle.jm_state.specs.Places.{IsPutBack, places_of}
 use Rattle.jm_state.specs.Reached.{AreReachable, FindsReachable, LeavesReachable}
 use Rattle.jm_state.specs.Runnable.{IsRunnable}
 use Rattle.jm_state.specs.View.{StateView}
-use Rattle.jm_state.proofs.Runs.{serials_alike, monitors_alike}
+use Rattle.jm_state.proofs.Runs.{serials_alike, monitors_alike, runs_alike}
 use Rattle.jm_state.proofs.Alike.{places_are, held_put}
 
 -- a heap counts an object's cells as the world does
@@ -113,6 +113,10 @@ module _ {l : LinkedView} {c : Content ClassId} {s : StateView} {roots : List �
         output = back.moved.output;
         stop = back.moved.stop;
       }
+
+    -- the places that were put back are those of the state after
+    pub places_back : {d : Content ClassId} → Kept c roots d moved → moved ≡ places_of t
+    places_back {d} kept = to d kept.names ∙ places_are l d t (runs_alike back.moved r.runs)
 
     pub kept_back : {d : Content ClassId} {w : World} → Matches (parts l c s) w → Kept c roots d moved → d.next ≡ c.next → Matches (parts l d t) w
     unfolding parts

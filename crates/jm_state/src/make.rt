@@ -3,11 +3,12 @@
 ghost use Rattle.std.specs.Prelude.{◌≡◌, OnErr, OnOk};
 ghost use Rattle.jm_world.specs.Matches.{Matches, as_named};
 ghost use Rattle.jm_world.specs.World.{World};
+ghost use Rattle.jm_heap.specs.Allocation.{NewLie};
 ghost use Rattle.jm_heap.specs.Collection.{IsAsBefore};
 ghost use Rattle.jm_heap.specs.NewObject.{new_object};
 ghost use Rattle.jm_state.specs.Ends.{MadeOrNot, halt_from};
 ghost use Rattle.jm_state.specs.Parts.{named_type, state_parts};
-ghost use Rattle.jm_state.specs.Places.{OnlyMoved};
+ghost use Rattle.jm_state.specs.Places.{OnlyMoved, places_of};
 ghost use Rattle.jm_state.specs.Reached.{LeavesReachable};
 ghost use Rattle.jm_state.specs.Runnable.{StateRuns};
 ghost use Rattle.jm_state.specs.View.{view_of};
@@ -45,6 +46,7 @@ fn make_with_roots<H: Heap>(
         → MadeOrNot result (state_parts H.content linked.now state.new) w (as_named (named_type linked.now.program) (new_object shape.entry)) }
     ensures runs { StateRuns linked.now state.new }
     ensures moved { OnlyMoved (view_of state.old) (view_of state.new) }
+    ensures nursery { NewLie (λ p. H.nursery_of p nursery) (H.content state.old.heap) (H.content state.new.heap) }
 {
     let mut roots = gather(alloc, state)?;
     let made = state.heap.allocate(nursery, &mut roots, shape);
@@ -57,7 +59,8 @@ fn make_with_roots<H: Heap>(
 
 /// Makes an object with default values (JVMS 2.3, 2.4) and answers its place. The state is as it
 /// was, but that its objects may have moved: threads, frames, static fields, monitors and literals
-/// hold the same objects, and nothing else changes.
+/// hold the same objects, and nothing else changes. The object lies in the nursery of the number, and
+/// no other one is new.
 ///
 /// `Stopped`: the cells of what is reachable and those of the object pass the limit, or there have
 /// been 2^63 objects (JVMS 2.5.3). `OutOfMemory`: a growth was refused.
@@ -73,6 +76,7 @@ pub fn make_object<H: Heap>(
         → MadeOrNot result (state_parts H.content linked.now state.new) w (as_named (named_type linked.now.program) (new_object shape.entry)) }
     ensures runs { StateRuns linked.now state.new }
     ensures moved { OnlyMoved (view_of state.old) (view_of state.new) }
+    ensures nursery { NewLie (λ p. H.nursery_of p nursery) (H.content state.old.heap) (H.content state.new.heap) }
 {
     match state.heap.allocate_here(nursery, shape) {
         Ok(Some(place)) => Ok(place),
@@ -83,7 +87,8 @@ pub fn make_object<H: Heap>(
 
 /// Gives up objects that nothing of the state reaches: all of them with `Full`, and with `Minor`
 /// those that the heap chooses to look at. The state is as it was, but that its objects may have
-/// moved. `AllocError`: a growth was refused, and the heap is as it was.
+/// moved. What becomes of the heap, and of the places that the state holds, is what the heap says that
+/// a collection leaves. `AllocError`: a growth was refused, and the heap is as it was.
 pub fn collect<H: Heap>(
     alloc: Global,
     linked: &Linked,
@@ -93,6 +98,7 @@ pub fn collect<H: Heap>(
     requires { StateRuns linked.now state.old × (w : World) × Matches (state_parts H.content linked.now state.old) w }
     ensures matches { (w : World) → Matches (state_parts H.content linked.now state.old) w → Matches (state_parts H.content linked.now state.new) w }
     ensures leaves { (w : World) → Matches (state_parts H.content linked.now state.old) w → OnOk result (LeavesReachable kind (H.content state.new.heap) w) }
+    ensures word { OnOk result (H.leaves kind state.old.heap state.new.heap (places_of (view_of state.old)) (places_of (view_of state.new))) }
     ensures as_before { IsAsBefore (H.content state.old.heap) (H.content state.new.heap) }
     ensures err { OnErr result (H.content state.new.heap ≡ H.content state.old.heap) }
     ensures runs { StateRuns linked.now state.new }

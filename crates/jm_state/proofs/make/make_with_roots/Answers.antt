@@ -1,5 +1,7 @@
-use Rattle.std.proofs.Common.{Ok, Err, sym, subst, ap}
+use Rattle.std.proofs.Common.{Ok, Err, refl, sym, subst, ap}
 use Rattle.jm_world.specs.Matches.{as_named}
+use Rattle.jm_heap.proofs.NewPlaces.{new_there, none_made, none_new_same}
+use Rattle.jm_heap.specs.Allocation.{NewLie}
 use Rattle.jm_heap.specs.NewObject.{new_object}
 use Rattle.jm_state.specs.Ends.{MadeOrNot, halt_from}
 use Rattle.jm_state.specs.Parts.{named_type, parts}
@@ -37,3 +39,16 @@ returns-in-Ok-clause-runs g c = runs_alike c.put_back.ensures.places.moved c.req
 
 pub returns-clause-runs : goal.returns-clause-runs
 returns-clause-runs g c = runs_alike c.put_back.ensures.places.moved c.requires.0
+
+pub returns-in_err-roots-clause-nursery : goal.returns-in_err-roots-clause-nursery
+returns-in_err-roots-clause-nursery g c = none_new_same _ _ _ refl
+
+pub returns-in-Ok-clause-nursery : goal.returns-in-Ok-clause-nursery
+returns-in-Ok-clause-nursery g c =
+    subst (NewLie (λ p. g.H.Heap.nursery_of p c.args.nursery) (g.H.Heap.content c.args.state.now.heap)) (sym (ap g.H.Heap.content c.put_back.ensures.heap))
+    (new_there _ _ _ c.in-Ok.ensures.ok.kept.sound c.allocate-made.ensures.as_before _ c.in-Ok.ensures.ok.placed c.in-Ok.ensures.nursery)
+
+pub returns-clause-nursery : goal.returns-clause-nursery
+returns-clause-nursery g c =
+    subst (NewLie (λ p. g.H.Heap.nursery_of p c.args.nursery) (g.H.Heap.content c.args.state.now.heap)) (sym (ap g.H.Heap.content c.put_back.ensures.heap))
+    (none_made _ _ _ c.in-Err.ensures.kept.sound c.allocate-made.ensures.as_before c.in-Err.ensures.next)
