@@ -23,6 +23,7 @@ pub mod DroppedOnTop
 pub mod OnTop
 pub mod MonitorRows
 pub mod MadeOnTop
+pub mod NewPlaces
 pub mod ArrayRows
 pub mod ArrayStores
 pub mod TypeRows

@@ -2,7 +2,7 @@
 
 ghost use Rattle.jm_linked.specs.Links.{Links};
 ghost use Rattle.jm_linked.specs.declared.instruction.LinkedInstr.TheVariants as linked_instr;
-ghost use Rattle.jm_interp.specs.At.{StandsOn, Steps};
+ghost use Rattle.jm_interp.specs.At.{StandsOn, Steps, MakesIn};
 ghost use Rattle.jm_interp.specs.Athrow.{ComesToThrow};
 
 use crate::at::At;
@@ -36,7 +36,8 @@ fn throwable_on_top<H: Heap>(at: At<'_>, state: &State<H>) -> Result<Place, Refu
 #[inline(never)]
 pub(crate) fn throw_top<H: Heap>(at: At<'_>, state: &mut State<H>) -> Result<StepEnd, Halt>
     requires { StandsOn H.content at state.old (Links at.linked.now linked_instr.Throw) }
-    ensures { Steps H.content at.entry state.old result state.new }
+    ensures steps { Steps H.content at.entry state.old result state.new }
+    ensures nursery { MakesIn H.content H.nursery_of at.entry state.old state.new }
 {
     match throwable_on_top(at, state) {
         Ok(place) => {

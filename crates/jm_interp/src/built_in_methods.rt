@@ -3,7 +3,7 @@
 ghost use Rattle.std.specs.Prelude.{◌≡◌};
 ghost use Rattle.jm_linked.specs.Links.{Links};
 ghost use Rattle.jm_linked.specs.declared.instruction.LinkedInstr.TheVariants as linked_instr;
-ghost use Rattle.jm_interp.specs.At.{StandsOn, Steps};
+ghost use Rattle.jm_interp.specs.At.{StandsOn, Steps, MakesIn};
 ghost use Rattle.jm_interp.specs.Printing.{is_print_stream};
 
 use crate::at::At;
@@ -36,7 +36,8 @@ pub(crate) fn print<H: Heap>(
     method: PrintMethod,
 ) -> Result<StepEnd, Halt>
     requires { StandsOn H.content at state.old (Links at.linked.now (linked_instr.Print method)) }
-    ensures { Steps H.content at.entry state.old result state.new }
+    ensures steps { Steps H.content at.entry state.old result state.new }
+    ensures nursery { MakesIn H.content H.nursery_of at.entry state.old state.new }
 {
     let printing = match operands_of(&state.threads[at.index], method) {
         Ok(printing) => printing,

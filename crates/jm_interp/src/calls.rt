@@ -9,7 +9,7 @@ ghost use Rattle.jm_state.specs.declared.thread.StackFrame.{StackFrame as HeldFr
 ghost use Rattle.jm_state.specs.declared.thread.StackFrame.TheVariants.{Method};
 ghost use Rattle.jm_linked.specs.declared.method.LinkedMethod.{LinkedMethod};
 ghost use Rattle.jm_world.specs.Classes.{FoundMethod};
-ghost use Rattle.jm_interp.specs.At.{Does, in_method};
+ghost use Rattle.jm_interp.specs.At.{Does, in_method, MakesIn};
 ghost use Rattle.jm_interp.specs.Calls.{IsCalled, ThreadCalls, MayCall, calls_with, callee_with};
 ghost use Rattle.jm_interp.specs.Standing.{ThreadRest, Stands, RunsMethod, InAnyMethod};
 
@@ -38,9 +38,10 @@ pub(crate) fn call<H: Heap>(
     monitor: Option<Place>,
 ) -> Result<StepEnd, Halt>
     requires { MayCall H.content at state.old method count monitor }
-    ensures { (found : FoundMethod) (code : Code) → IsCalled at.entry.linked.now method found code
+    ensures does { (found : FoundMethod) (code : Code) → IsCalled at.entry.linked.now method found code
         → Does H.content at.entry state.old result state.new
         (in_method (calls_with found code count (option_map (name_of (H.content state.old.heap)) monitor))) }
+    ensures nursery { MakesIn H.content H.nursery_of at.entry state.old state.new }
 {
     if state.threads[at.index].frames.len() >= 512 {
         return throws(at, state, BuiltInClass::StackOverflowError.number());

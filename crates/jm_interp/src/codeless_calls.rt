@@ -7,7 +7,7 @@ ghost use Rattle.jm_builtins.specs.Numbers.{number_of};
 ghost use Rattle.jm_builtins.specs.declared.built_in_class.BuiltInClass.TheVariants.{PrintStream, String, Thread};
 ghost use Rattle.jm_world.specs.Classes.{print_stream_class, string_class, thread_class};
 ghost use Rattle.jm_linked.specs.Links.{NamesClass};
-ghost use Rattle.jm_interp.specs.At.{Steps};
+ghost use Rattle.jm_interp.specs.At.{Steps, MakesIn};
 ghost use Rattle.jm_interp.specs.Invoking.{CallsWithoutCode, IsCharAt};
 ghost use Rattle.jm_interp.specs.TopObject.{ComesTo};
 
@@ -67,7 +67,8 @@ fn call_of_string<H: Heap>(
     string: Place,
 ) -> Result<StepEnd, Halt>
     requires { CallsWithoutCode H.content at state.old (record { class = number_of String; member = member }) string }
-    ensures { Steps H.content at.entry state.old result state.new }
+    ensures steps { Steps H.content at.entry state.old result state.new }
+    ensures nursery { MakesIn H.content H.nursery_of at.entry state.old state.new }
 {
     match member {
         LENGTH => {
@@ -93,7 +94,8 @@ fn call_of_thread<H: Heap>(
     thread: Place,
 ) -> Result<StepEnd, Halt>
     requires { CallsWithoutCode H.content at state.old (record { class = number_of Thread; member = member }) thread }
-    ensures { Steps H.content at.entry state.old result state.new }
+    ensures steps { Steps H.content at.entry state.old result state.new }
+    ensures nursery { MakesIn H.content H.nursery_of at.entry state.old state.new }
 {
     if member == START {
         return start_thread(at, state, thread);
@@ -113,7 +115,8 @@ pub(crate) fn call_without_code<H: Heap>(
     receiver: Place,
 ) -> Result<StepEnd, Halt>
     requires { CallsWithoutCode H.content at state.old method receiver }
-    ensures { Steps H.content at.entry state.old result state.new }
+    ensures steps { Steps H.content at.entry state.old result state.new }
+    ensures nursery { MakesIn H.content H.nursery_of at.entry state.old state.new }
 {
     let Some(declared) = declared_method(at.linked, method) else {
         return Err(Halt::OutOfMemory);

@@ -62,8 +62,9 @@ fn set_constant<H: Heap>(
 )
     requires { OnFrames H.content at state.old × (c : ClassParts) × (f : Field)
         × BeginsWith at.linked.now.program class number field (Some constant) c f }
-    ensures { (c : ClassParts) (f : Field) → BeginsWith at.entry.linked.now.program class number field (Some constant) c f
+    ensures does { (c : ClassParts) (f : Field) → BeginsWith at.entry.linked.now.program class number field (Some constant) c f
         → Does H.content at.entry state.old (Ok Done) state.new (gives_constant c f) }
+    ensures heap { state.new.heap ≡ state.old.heap }
 {
     let member = MemberNumber {
         class: number,
@@ -89,8 +90,9 @@ fn begin_field<H: Heap>(
 )
     requires { OnFrames H.content at state.old × (c : ClassParts) × (f : Field)
         × BeginsWith at.linked.now.program class number field constant c f }
-    ensures { (c : ClassParts) (f : Field) → BeginsWith at.entry.linked.now.program class number field constant c f
+    ensures does { (c : ClassParts) (f : Field) → BeginsWith at.entry.linked.now.program class number field constant c f
         → Does H.content at.entry state.old (Ok Done) state.new (gives_constant c f) }
+    ensures heap { state.new.heap ≡ state.old.heap }
 {
     if let Some(constant) = constant {
         set_constant(at, state, class, number, field, constant);
@@ -101,7 +103,8 @@ fn begin_field<H: Heap>(
 /// the program's and among all (JVMS 5.5).
 pub(crate) fn set_constants<H: Heap>(at: At<'_>, state: &mut State<H>, class: u32, number: u32)
     requires { OnFrames H.content at state.old × (c : ClassParts) × HasNumbers at.linked.now.program class number c × (length c.fields < 2 ^ 32) }
-    ensures { Does H.content at.entry state.old (Ok Done) state.new (gives_constants (program_class_name at.entry.linked.now.program class)) }
+    ensures does { Does H.content at.entry state.old (Ok Done) state.new (gives_constants (program_class_name at.entry.linked.now.program class)) }
+    ensures heap { state.new.heap ≡ state.old.heap }
 {
     for (index, constant) in constants_of(at.linked, class).iter().enumerate() {
         begin_field(at, state, class, number, index as u32, *constant);

@@ -25,8 +25,9 @@ use jm_world::Stop;
 pub(crate) fn push<H: Heap>(at: At<'_>, state: &mut State<H>, value: Value) -> Result<StepEnd, Halt>
     requires here { (h : InMethod H.content at state.old) × (h.frame.activation.at + 1 < 2 ^ 64) }
     requires held { Holds H.content at state.old value }
-    ensures { Does H.content at.entry state.old result state.new
+    ensures does { Does H.content at.entry state.old result state.new
         (in_method (λ here. here_push here (rename (name_of (H.content state.old.heap)) value) here.frame.stack)) }
+    ensures heap { state.new.heap ≡ state.old.heap }
 {
     match push_top(&mut state.threads[at.index], value) {
         Ok(()) => Ok(StepEnd::Done),
@@ -44,7 +45,8 @@ pub(crate) fn push_value<H: Heap>(
 ) -> Result<StepEnd, Halt>
     requires { (li : LinkedInstr) × StandsOn H.content at state.old (Links at.linked.now li)
         × Pushes state.old.statics.items state.old.literals.items li value }
-    ensures { Steps H.content at.entry state.old result state.new }
+    ensures steps { Steps H.content at.entry state.old result state.new }
+    ensures heap { state.new.heap ≡ state.old.heap }
 {
     push(at, state, value)
 }

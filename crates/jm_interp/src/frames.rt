@@ -31,7 +31,8 @@ pub(crate) fn drop_top(thread: &mut Thread)
 /// A step that drops the top frame, if there is one.
 pub(crate) fn leave_frame<H: Heap>(at: At<'_>, state: &mut State<H>)
     requires { OnFrames H.content at state.old }
-    ensures { Does H.content at.entry state.old (Ok Done) state.new (λ w number t. goes (with_frames w number t (drop 1 t.frames))) }
+    ensures does { Does H.content at.entry state.old (Ok Done) state.new (λ w number t. goes (with_frames w number t (drop 1 t.frames))) }
+    ensures heap { state.new.heap ≡ state.old.heap }
 {
     drop_top(&mut state.threads[at.index]);
 }

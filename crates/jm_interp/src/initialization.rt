@@ -12,7 +12,7 @@ ghost use Rattle.jm_state.specs.Parts.{program_class_name};
 ghost use Rattle.jm_state.specs.declared.halt.StepEnd.TheVariants.{Done};
 ghost use Rattle.jm_state.specs.declared.thread.StackFrame.{StackFrame};
 ghost use Rattle.jm_state.specs.declared.thread.StackFrame.TheVariants.{Initialization};
-ghost use Rattle.jm_interp.specs.At.{OnThread, OnFrames, Does, Steps};
+ghost use Rattle.jm_interp.specs.At.{OnThread, OnFrames, Does, Steps, MakesIn};
 ghost use Rattle.jm_interp.specs.ConstantValues.{puts_in_progress};
 
 use crate::at::At;
@@ -36,7 +36,8 @@ pub(crate) fn initialize_top<H: Heap>(
     stage: Stage,
 ) -> Result<StepEnd, Halt>
     requires { (below : List StackFrame) × OnThread H.content at state.old (Initialization class stage ∷ below) None }
-    ensures { Steps H.content at.entry state.old result state.new }
+    ensures steps { Steps H.content at.entry state.old result state.new }
+    ensures nursery { MakesIn H.content H.nursery_of at.entry state.old state.new }
 {
     match stage {
         Stage::Begin => begin(at, state, class),
@@ -52,8 +53,9 @@ pub(crate) fn initialize_top<H: Heap>(
 /// Marks the class as done, and drops the frame.
 pub(crate) fn finish<H: Heap>(at: At<'_>, state: &mut State<H>, class: u32)
     requires { (stage : Stage) × (below : List StackFrame) × OnThread H.content at state.old (Initialization class stage ∷ below) None }
-    ensures { Does H.content at.entry state.old (Ok Done) state.new
+    ensures does { Does H.content at.entry state.old (Ok Done) state.new
         (λ w number t. finish w number t (program_class_name at.entry.linked.now.program class) (drop 1 t.frames)) }
+    ensures heap { state.new.heap ≡ state.old.heap }
 {
     state.classes.finish(class);
     drop_top(&mut state.threads[at.index]);
@@ -63,8 +65,9 @@ pub(crate) fn finish<H: Heap>(at: At<'_>, state: &mut State<H>, class: u32)
 // first: where it cannot be, nothing has changed.
 fn refuse_class<H: Heap>(at: At<'_>, state: &mut State<H>) -> Result<StepEnd, Halt>
     requires { OnFrames H.content at state.old }
-    ensures { Does H.content at.entry state.old result state.new
+    ensures does { Does H.content at.entry state.old result state.new
         (λ w number t. throw w number (record t { frames = drop 1 t.frames }) (codes "java/lang/NoClassDefFoundError")) }
+    ensures nursery { MakesIn H.content H.nursery_of at.entry state.old state.new }
 {
     match leave_pending(at, state, BuiltInClass::NoClassDefFoundError.number()) {
         Ok(()) => {
@@ -78,8 +81,9 @@ fn refuse_class<H: Heap>(at: At<'_>, state: &mut State<H>) -> Result<StepEnd, Ha
 // The class is in progress by this thread, and the superclass is next (JVMS 5.5).
 fn put_in_progress<H: Heap>(at: At<'_>, state: &mut State<H>, class: u32)
     requires { (below : List StackFrame) × OnThread H.content at state.old (Initialization class Begin ∷ below) None }
-    ensures { Does H.content at.entry state.old (Ok Done) state.new
+    ensures does { Does H.content at.entry state.old (Ok Done) state.new
         (puts_in_progress (program_class_name at.entry.linked.now.program class)) }
+    ensures heap { state.new.heap ≡ state.old.heap }
 {
     state.classes.begin(class, at.index as u64 + 1);
     go_to_stage(&mut state.threads[at.index], class, Stage::Superclass);
@@ -91,7 +95,8 @@ fn put_in_progress<H: Heap>(at: At<'_>, state: &mut State<H>, class: u32)
 fn begin_anew<H: Heap>(at: At<'_>, state: &mut State<H>, class: u32) -> Result<StepEnd, Halt>
     requires { (below : List StackFrame) × OnThread H.content at state.old (Initialization class Begin ∷ below) None
         × (slice_get state.old.classes class ≡ Some NotBegun) }
-    ensures { Steps H.content at.entry state.old result state.new }
+    ensures steps { Steps H.content at.entry state.old result state.new }
+    ensures heap { state.new.heap ≡ state.old.heap }
 {
     let Some(number) = number_among_all(at.linked, class) else {
         return Err(Halt::OutOfMemory);
@@ -108,7 +113,8 @@ fn begin_anew<H: Heap>(at: At<'_>, state: &mut State<H>, class: u32) -> Result<S
 // progress is waited for, and a class that failed cannot be used.
 fn begin<H: Heap>(at: At<'_>, state: &mut State<H>, class: u32) -> Result<StepEnd, Halt>
     requires { (below : List StackFrame) × OnThread H.content at state.old (Initialization class Begin ∷ below) None }
-    ensures { Steps H.content at.entry state.old result state.new }
+    ensures steps { Steps H.content at.entry state.old result state.new }
+    ensures nursery { MakesIn H.content H.nursery_of at.entry state.old state.new }
 {
     match state.classes.get(class) {
         ClassState::Done => {
@@ -130,8 +136,9 @@ fn begin<H: Heap>(at: At<'_>, state: &mut State<H>, class: u32) -> Result<StepEn
 // Goes on to the initializer of the class.
 fn to_initializer<H: Heap>(at: At<'_>, state: &mut State<H>, class: u32)
     requires { (stage : Stage) × (below : List StackFrame) × OnThread H.content at state.old (Initialization class stage ∷ below) None }
-    ensures { Does H.content at.entry state.old (Ok Done) state.new
+    ensures does { Does H.content at.entry state.old (Ok Done) state.new
         (λ w number t. goes (at_stage w number t (program_class_name at.entry.linked.now.program class) Initializer (drop 1 t.frames))) }
+    ensures heap { state.new.heap ≡ state.old.heap }
 {
     go_to_stage(&mut state.threads[at.index], class, Stage::Initializer);
 }
@@ -147,9 +154,10 @@ fn begin_superclass<H: Heap>(
 ) -> Result<StepEnd, Halt>
     requires { (stage : Stage) × (below : List StackFrame) × OnThread H.content at state.old (Initialization class stage ∷ below) None
         × (above < length at.linked.now.program) }
-    ensures { Does H.content at.entry state.old result state.new
+    ensures does { Does H.content at.entry state.old result state.new
         (λ w number t. push_frame w number t (initialization_frame (program_class_name at.entry.linked.now.program class) Initializer ∷ drop 1 t.frames)
         (initialization_frame (program_class_name at.entry.linked.now.program above) Begin)) }
+    ensures nursery { MakesIn H.content H.nursery_of at.entry state.old state.new }
 {
     if state.threads[at.index].frames.len() >= 512 {
         return throw(at, state, BuiltInClass::StackOverflowError.number());
@@ -172,7 +180,8 @@ fn begin_superclass<H: Heap>(
 // OutOfMemory also past the end of numbers, to which no program that fits in memory comes.
 fn superclass_first<H: Heap>(at: At<'_>, state: &mut State<H>, class: u32) -> Result<StepEnd, Halt>
     requires { (below : List StackFrame) × OnThread H.content at state.old (Initialization class Superclass ∷ below) None }
-    ensures { Steps H.content at.entry state.old result state.new }
+    ensures steps { Steps H.content at.entry state.old result state.new }
+    ensures nursery { MakesIn H.content H.nursery_of at.entry state.old state.new }
 {
     let Some(number) = number_among_all(at.linked, class) else {
         return Err(Halt::OutOfMemory);

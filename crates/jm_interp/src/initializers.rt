@@ -14,7 +14,7 @@ ghost use Rattle.jm_linked.specs.declared.method.LinkedMethod.{LinkedMethod};
 ghost use Rattle.jm_state.specs.Parts.{program_class_name};
 ghost use Rattle.jm_state.specs.declared.thread.StackFrame.{StackFrame};
 ghost use Rattle.jm_state.specs.declared.thread.StackFrame.TheVariants.{Initialization};
-ghost use Rattle.jm_interp.specs.At.{OnThread, Does, Steps};
+ghost use Rattle.jm_interp.specs.At.{OnThread, Does, Steps, MakesIn};
 ghost use Rattle.jm_interp.specs.Calls.{IsCalled, callee_of};
 
 use crate::at::At;
@@ -71,9 +71,10 @@ fn call_initializer<H: Heap>(
 ) -> Result<StepEnd, Halt>
     requires { (stage : Stage) × (below : List StackFrame) × OnThread H.content at state.old (Initialization class stage ∷ below) None
         × (number < length at.linked.now.methods) }
-    ensures { (found : FoundMethod) (code : Code) → IsCalled at.entry.linked.now number found code
+    ensures does { (found : FoundMethod) (code : Code) → IsCalled at.entry.linked.now number found code
         → Does H.content at.entry state.old result state.new
         (λ w n t. call_initializer w n t (program_class_name at.entry.linked.now.program class) (drop 1 t.frames) found (Some code)) }
+    ensures nursery { MakesIn H.content H.nursery_of at.entry state.old state.new }
 {
     if state.threads[at.index].frames.len() >= 512 {
         return throw(at, state, BuiltInClass::StackOverflowError.number());
@@ -97,7 +98,8 @@ pub(crate) fn run_initializer<H: Heap>(
     class: u32,
 ) -> Result<StepEnd, Halt>
     requires { (below : List StackFrame) × OnThread H.content at state.old (Initialization class Initializer ∷ below) None }
-    ensures { Steps H.content at.entry state.old result state.new }
+    ensures steps { Steps H.content at.entry state.old result state.new }
+    ensures nursery { MakesIn H.content H.nursery_of at.entry state.old state.new }
 {
     let Some(member) = initializer_of(at.linked, class) else {
         finish(at, state, class);

@@ -3,7 +3,7 @@
 ghost use Rattle.std.specs.Prelude.{Some, List};
 ghost use Rattle.jm_program.specs.declared.descriptor.FieldType.{FieldType};
 ghost use Rattle.jm_world.specs.Classes.{FoundMethod};
-ghost use Rattle.jm_interp.specs.At.{Steps};
+ghost use Rattle.jm_interp.specs.At.{Steps, MakesIn};
 ghost use Rattle.jm_interp.specs.Invoking.{IsCoded, IsInstanceMethod, StepCalls};
 
 use crate::at::At;
@@ -25,7 +25,8 @@ pub(crate) fn call_code<H: Heap>(
 ) -> Result<StepEnd, Halt>
     requires { (found : FoundMethod) × (parameters : List FieldType) × StepCalls H.content at state.old (Some found) receiver parameters
         × IsInstanceMethod at.linked.now found parameters × IsCoded at.linked.now number found }
-    ensures { Steps H.content at.entry state.old result state.new }
+    ensures steps { Steps H.content at.entry state.old result state.new }
+    ensures nursery { MakesIn H.content H.nursery_of at.entry state.old state.new }
 {
     let Some(parameters) = parameters_of(at.linked, number) else {
         return Err(Halt::OutOfMemory);

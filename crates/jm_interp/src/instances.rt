@@ -2,7 +2,7 @@
 
 ghost use Rattle.jm_linked.specs.Links.{Links};
 ghost use Rattle.jm_linked.specs.declared.instruction.LinkedInstr.TheVariants as linked_instr;
-ghost use Rattle.jm_interp.specs.At.{StandsOn, Steps};
+ghost use Rattle.jm_interp.specs.At.{StandsOn, Steps, MakesIn};
 ghost use Rattle.jm_interp.specs.Creating.{IsUsable};
 
 use crate::at::At;
@@ -18,7 +18,8 @@ use jm_values::TagFault;
 fn new_instance<H: Heap>(at: At<'_>, state: &mut State<H>, class: u32) -> Result<StepEnd, Halt>
     requires instruction { StandsOn H.content at state.old (Links at.linked.now (linked_instr.New class)) }
     requires usable { IsUsable H.content at state.old class }
-    ensures { Steps H.content at.entry state.old result state.new }
+    ensures steps { Steps H.content at.entry state.old result state.new }
+    ensures nursery { MakesIn H.content H.nursery_of at.entry state.old state.new }
 {
     let Some(fields) = at.linked.tables().kinds.kinds(class) else {
         unreachable!();
@@ -39,7 +40,8 @@ pub(crate) fn new_object<H: Heap>(
     class: u32,
 ) -> Result<StepEnd, Halt>
     requires { StandsOn H.content at state.old (Links at.linked.now (linked_instr.New class)) }
-    ensures { Steps H.content at.entry state.old result state.new }
+    ensures steps { Steps H.content at.entry state.old result state.new }
+    ensures nursery { MakesIn H.content H.nursery_of at.entry state.old state.new }
 {
     if !is_ready(at, state, class) {
         return begin_initialization(at, state, class);

@@ -7,7 +7,7 @@ ghost use Rattle.jm_world.specs.Classes.{FoundMethod};
 ghost use Rattle.jm_program.specs.declared.instruction.operation.InvokeOp.TheVariants as invoke_op;
 ghost use Rattle.jm_linked.specs.Links.{IsMethodOf, Links};
 ghost use Rattle.jm_linked.specs.declared.instruction.LinkedInstr.TheVariants as linked_instr;
-ghost use Rattle.jm_interp.specs.At.{InMethod, StandsOn, Does, Steps, in_method};
+ghost use Rattle.jm_interp.specs.At.{InMethod, StandsOn, Does, Steps, in_method, MakesIn};
 ghost use Rattle.jm_interp.specs.Calls.{IsCodeOf, HasParameters, calls_static};
 
 use crate::at::At;
@@ -123,8 +123,9 @@ pub(crate) fn call_static<H: Heap>(
     method: InvokedMethod,
 ) -> Result<StepEnd, Halt>
     requires { InMethod H.content at state.old }
-    ensures { (found : FoundMethod) → IsMethodOf at.entry.linked.now.program method.found found
+    ensures does { (found : FoundMethod) → IsMethodOf at.entry.linked.now.program method.found found
         → Does H.content at.entry state.old result state.new (in_method (calls_static found.method.descriptor.parameters found)) }
+    ensures nursery { MakesIn H.content H.nursery_of at.entry state.old state.new }
 {
     let Some(number) = invoked_code(at.linked, method) else {
         return Err(Halt::OutOfMemory);
@@ -147,7 +148,8 @@ pub(crate) fn invoke_static<H: Heap>(
     method: InvokedMethod,
 ) -> Result<StepEnd, Halt>
     requires { StandsOn H.content at state.old (Links at.linked.now (linked_instr.Invoke invoke_op.Static method)) }
-    ensures { Steps H.content at.entry state.old result state.new }
+    ensures steps { Steps H.content at.entry state.old result state.new }
+    ensures nursery { MakesIn H.content H.nursery_of at.entry state.old state.new }
 {
     if !is_ready(at, state, method.found.class) {
         return begin_initialization(at, state, method.found.class);

@@ -11,7 +11,7 @@ ghost use Rattle.jm_world.specs.World.{World};
 ghost use Rattle.jm_state.specs.Runnable.{StateRuns};
 ghost use Rattle.jm_linked.specs.Links.{Links};
 ghost use Rattle.jm_linked.specs.declared.instruction.LinkedInstr.TheVariants as linked_instr;
-ghost use Rattle.jm_interp.specs.At.{OnFrames, StandsOn, HoldsAll, Does, Steps, parts_at};
+ghost use Rattle.jm_interp.specs.At.{OnFrames, StandsOn, HoldsAll, Does, Steps, parts_at, MakesIn};
 ghost use Rattle.jm_interp.specs.Locking.{BesideAny, Lies, LeftAs, OnlyMonitors};
 
 use crate::at::At;
@@ -97,7 +97,8 @@ pub(crate) fn leave<H: Heap>(at: At<'_>, state: &mut State<H>, object: Place) ->
 #[inline(never)]
 pub(crate) fn enter_top<H: Heap>(at: At<'_>, state: &mut State<H>) -> Result<StepEnd, Halt>
     requires { StandsOn H.content at state.old (Links at.linked.now (linked_instr.Monitor monitor.Enter)) }
-    ensures { Steps H.content at.entry state.old result state.new }
+    ensures steps { Steps H.content at.entry state.old result state.new }
+    ensures nursery { MakesIn H.content H.nursery_of at.entry state.old state.new }
 {
     let object = match object_at(&state.threads[at.index], 0) {
         Ok(object) => object,
@@ -118,7 +119,8 @@ pub(crate) fn enter_top<H: Heap>(at: At<'_>, state: &mut State<H>) -> Result<Ste
 #[inline(never)]
 pub(crate) fn leave_top<H: Heap>(at: At<'_>, state: &mut State<H>) -> Result<StepEnd, Halt>
     requires { StandsOn H.content at state.old (Links at.linked.now (linked_instr.Monitor monitor.Exit)) }
-    ensures { Steps H.content at.entry state.old result state.new }
+    ensures steps { Steps H.content at.entry state.old result state.new }
+    ensures nursery { MakesIn H.content H.nursery_of at.entry state.old state.new }
 {
     let object = match object_at(&state.threads[at.index], 0) {
         Ok(object) => object,

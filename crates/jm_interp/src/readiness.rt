@@ -4,7 +4,7 @@ ghost use Rattle.std.specs.Prelude.{◌≡◌, ◌≤◌, ℕ, List, length};
 ghost use Rattle.jm_builtins.specs.List.{the_builtins};
 ghost use Rattle.jm_linked.specs.Links.{NamesClass, class_name_of};
 ghost use Rattle.jm_state.specs.declared.thread.StackFrame.{StackFrame as HeldFrame};
-ghost use Rattle.jm_interp.specs.At.{InMethod, Does, in_method};
+ghost use Rattle.jm_interp.specs.At.{InMethod, Does, in_method, MakesIn};
 ghost use Rattle.jm_interp.specs.Readiness.{Readiness, BegunOnTop, begins};
 ghost use Rattle.jm_interp.specs.Standing.{ThreadRest, Stands};
 
@@ -59,7 +59,8 @@ pub(crate) fn begin_initialization<H: Heap>(
 ) -> Result<StepEnd, Halt>
     requires here { InMethod H.content at state.old }
     requires own { (name : List ℕ) × NamesClass at.linked.now.program class name × (length the_builtins ≤ class) }
-    ensures { Does H.content at.entry state.old result state.new (in_method (begins (class_name_of at.entry.linked.now.program class))) }
+    ensures does { Does H.content at.entry state.old result state.new (in_method (begins (class_name_of at.entry.linked.now.program class))) }
+    ensures nursery { MakesIn H.content H.nursery_of at.entry state.old state.new }
 {
     if state.threads[at.index].frames.len() >= 512 {
         return throw(at, state, BuiltInClass::StackOverflowError.number());

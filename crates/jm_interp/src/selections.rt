@@ -5,7 +5,7 @@ ghost use Rattle.jm_program.specs.declared.class.ClassParts.{ClassParts};
 ghost use Rattle.jm_world.specs.Invocation.{class_of};
 ghost use Rattle.jm_linked.specs.Links.{class_name_of};
 ghost use Rattle.jm_state.specs.Parts.{named_type};
-ghost use Rattle.jm_interp.specs.At.{StandsOn, Steps};
+ghost use Rattle.jm_interp.specs.At.{StandsOn, Steps, MakesIn};
 ghost use Rattle.jm_interp.specs.Invoking.{CallsSelected, Selects};
 
 use crate::at::At;
@@ -39,7 +39,8 @@ fn call_selected<H: Heap>(
     receiver: Place,
 ) -> Result<StepEnd, Halt>
     requires { CallsSelected H.content at state.old selected receiver }
-    ensures { Steps H.content at.entry state.old result state.new }
+    ensures steps { Steps H.content at.entry state.old result state.new }
+    ensures nursery { MakesIn H.content H.nursery_of at.entry state.old state.new }
 {
     match selected {
         Selected::Nothing => refuse(
@@ -67,7 +68,8 @@ pub(crate) fn invoke_selected<H: Heap>(
     otherwise: Refusal,
 ) -> Result<StepEnd, Halt>
     requires { StandsOn H.content at state.old (Selects at.linked.now method otherwise) }
-    ensures { Steps H.content at.entry state.old result state.new }
+    ensures steps { Steps H.content at.entry state.old result state.new }
+    ensures nursery { MakesIn H.content H.nursery_of at.entry state.old state.new }
 {
     let receiver = match receiver_of(at, state, method, otherwise) {
         Ok(receiver) => receiver,

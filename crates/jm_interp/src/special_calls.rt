@@ -3,7 +3,7 @@
 ghost use Rattle.jm_program.specs.declared.instruction.operation.InvokeOp.TheVariants as invoke_op;
 ghost use Rattle.jm_linked.specs.Links.{Links};
 ghost use Rattle.jm_linked.specs.declared.instruction.LinkedInstr.TheVariants as linked_instr;
-ghost use Rattle.jm_interp.specs.At.{StandsOn, Steps};
+ghost use Rattle.jm_interp.specs.At.{StandsOn, Steps, MakesIn};
 ghost use Rattle.jm_interp.specs.Invoking.{CallsDeclared};
 
 use crate::at::At;
@@ -29,7 +29,8 @@ fn call_declared<H: Heap>(
     receiver: Place,
 ) -> Result<StepEnd, Halt>
     requires { CallsDeclared H.content at state.old method.found receiver }
-    ensures { Steps H.content at.entry state.old result state.new }
+    ensures steps { Steps H.content at.entry state.old result state.new }
+    ensures nursery { MakesIn H.content H.nursery_of at.entry state.old state.new }
 {
     let Some(declared) = declared_method(at.linked, method.found) else {
         return Err(Halt::OutOfMemory);
@@ -54,7 +55,8 @@ pub(crate) fn invoke_special<H: Heap>(
     method: InvokedMethod,
 ) -> Result<StepEnd, Halt>
     requires { StandsOn H.content at state.old (Links at.linked.now (linked_instr.Invoke invoke_op.Special method)) }
-    ensures { Steps H.content at.entry state.old result state.new }
+    ensures steps { Steps H.content at.entry state.old result state.new }
+    ensures nursery { MakesIn H.content H.nursery_of at.entry state.old state.new }
 {
     let receiver = match receiver_of(at, state, method, Refusal::Faults(TagFault::WrongKind)) {
         Ok(receiver) => receiver,

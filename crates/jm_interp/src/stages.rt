@@ -7,6 +7,7 @@ ghost use Rattle.jm_world.specs.Matches.{Matches};
 ghost use Rattle.jm_world.specs.Throwing.{unwind};
 ghost use Rattle.jm_world.specs.World.{World, Thread as ModelThread, thread_at};
 ghost use Rattle.jm_world.specs.declared.stage.Stage.{Stage};
+ghost use Rattle.jm_heap.specs.Allocation.{NewLie};
 ghost use Rattle.jm_state.specs.Ends.{Ended};
 ghost use Rattle.jm_state.specs.Parts.{state_parts};
 ghost use Rattle.jm_state.specs.Runnable.{StateRuns};
@@ -28,7 +29,7 @@ use std::alloc::Global;
 /// initialization's, the class has failed, and an exception that is no Error gives its place to a new
 /// ExceptionInInitializerError. Stopped: that cannot be made, or the method of the handler has a
 /// `max_stack` of 0. OutOfMemory: a growth was refused. Then the state is beside the same world as
-/// before.
+/// before. An exception that the stage makes lies in the nursery of the number.
 pub fn unwind_stage<H: Heap>(
     alloc: Global,
     linked: &Linked,
@@ -44,6 +45,7 @@ pub fn unwind_stage<H: Heap>(
     ensures next { (w : World) (t : ModelThread) (k : ℕ) → Matches (state_parts H.content linked.now state.old) w → thread_at w number ≡ Some t
         → t.pending ≡ Some k → Ended result (state_parts H.content linked.now state.new) w (unwind w number t k) }
     ensures runs { StateRuns linked.now state.new }
+    ensures nursery { NewLie (λ p. H.nursery_of p nursery) (H.content state.old.heap) (H.content state.new.heap) }
 {
     // the program is linked
     let _methods = linked.methods();
@@ -61,7 +63,7 @@ pub fn unwind_stage<H: Heap>(
 /// Of any of the program's classes, whose superclass comes first; a class that failed throws
 /// NoClassDefFoundError. Blocked: another thread initializes the class, and nothing changed. Stopped:
 /// an exception cannot be made. OutOfMemory: a growth was refused. Then the state is beside the same
-/// world as before.
+/// world as before. An exception that the stage makes lies in the nursery of the number.
 pub fn init_stage<H: Heap>(
     alloc: Global,
     linked: &Linked,
@@ -78,6 +80,7 @@ pub fn init_stage<H: Heap>(
         → thread_at w number ≡ Some t → t.pending ≡ None → t.frames ≡ initialization_frame class stage ∷ below
         → Ended result (state_parts H.content linked.now state.new) w (initialize w number t class stage below) }
     ensures runs { StateRuns linked.now state.new }
+    ensures nursery { NewLie (λ p. H.nursery_of p nursery) (H.content state.old.heap) (H.content state.new.heap) }
 {
     // the program is linked
     let _methods = linked.methods();

@@ -6,7 +6,7 @@ ghost use Rattle.jm_values.specs.declared.value.Value.TheVariants.{Ref};
 ghost use Rattle.jm_linked.specs.declared.method.LinkedMethod.{LinkedMethod};
 ghost use Rattle.jm_state.specs.declared.thread.StackFrame.{StackFrame as HeldFrame};
 ghost use Rattle.jm_state.specs.declared.thread.StackFrame.TheVariants.{Entry, Method};
-ghost use Rattle.jm_interp.specs.At.{OnThread, Steps};
+ghost use Rattle.jm_interp.specs.At.{OnThread, Steps, MakesIn};
 ghost use Rattle.jm_interp.specs.Calls.{callee_with};
 ghost use Rattle.jm_interp.specs.Entering.{BeginsCode, BeginsWithoutCode, BeginsSelected, HasLocals};
 ghost use Rattle.jm_interp.specs.Standing.{Stands, HasTop, Topped};
@@ -73,7 +73,8 @@ fn enter_code<H: Heap>(
     object: Place,
 ) -> Result<StepEnd, Halt>
     requires { BeginsCode H.content at state.old object number }
-    ensures { Steps H.content at.entry state.old result state.new }
+    ensures steps { Steps H.content at.entry state.old result state.new }
+    ensures nursery { MakesIn H.content H.nursery_of at.entry state.old state.new }
 {
     // `run` has no parameters
     let Some(_none) = parameters_of(at.linked, number) else {
@@ -101,7 +102,8 @@ fn enter_without_code<H: Heap>(
     method: MemberNumber,
 ) -> Result<StepEnd, Halt>
     requires { BeginsWithoutCode H.content at state.old method }
-    ensures { Steps H.content at.entry state.old result state.new }
+    ensures steps { Steps H.content at.entry state.old result state.new }
+    ensures nursery { MakesIn H.content H.nursery_of at.entry state.old state.new }
 {
     let Some(declared) = declared_method(at.linked, method) else {
         return Err(Halt::OutOfMemory);
@@ -121,7 +123,8 @@ fn enter_selected<H: Heap>(
     object: Place,
 ) -> Result<StepEnd, Halt>
     requires { BeginsSelected H.content at state.old object selected }
-    ensures { Steps H.content at.entry state.old result state.new }
+    ensures steps { Steps H.content at.entry state.old result state.new }
+    ensures nursery { MakesIn H.content H.nursery_of at.entry state.old state.new }
 {
     match selected {
         Selected::Nothing => throw(at, state, BuiltInClass::AbstractMethodError.number()),
@@ -139,7 +142,8 @@ fn enter_selected<H: Heap>(
 #[inline(never)]
 pub(crate) fn enter_thread<H: Heap>(at: At<'_>, state: &mut State<H>) -> Result<StepEnd, Halt>
     requires { (below : List HeldFrame) × OnThread H.content at state.old (Entry ∷ below) None }
-    ensures { Steps H.content at.entry state.old result state.new }
+    ensures steps { Steps H.content at.entry state.old result state.new }
+    ensures nursery { MakesIn H.content H.nursery_of at.entry state.old state.new }
 {
     let Some(object) = state.threads[at.index].object else {
         return Err(Halt::Stopped(Stop::TagFault(TagFault::WrongKind)));

@@ -4,7 +4,7 @@ ghost use Rattle.std.specs.Prelude.{◌≡◌, ◌+◌, ◌<◌, ◌^◌, [], �
 ghost use Rattle.jm_values.specs.Content.{name_of};
 ghost use Rattle.jm_world.specs.BuiltInMethods.{start_thread};
 ghost use Rattle.jm_state.specs.Runnable.{StateRuns};
-ghost use Rattle.jm_interp.specs.At.{InMethod, HoldsAll, Steps};
+ghost use Rattle.jm_interp.specs.At.{InMethod, HoldsAll, Steps, MakesIn};
 ghost use Rattle.jm_interp.specs.Starting.{IsNew, Added, LooksAlike};
 ghost use Rattle.jm_interp.specs.TopObject.{StepIs};
 
@@ -66,7 +66,8 @@ pub(crate) fn start_thread<H: Heap>(
     requires here { (h : InMethod H.content at state.old) × (h.frame.activation.at + 1 < 2 ^ 64) }
     requires held { HoldsAll H.content at state.old (object ∷ []) }
     requires step { StepIs H.content at state.old (λ here. start_thread here (name_of (H.content state.old.heap) object) (drop 1 here.frame.stack)) }
-    ensures { Steps H.content at.entry state.old result state.new }
+    ensures steps { Steps H.content at.entry state.old result state.new }
+    ensures nursery { MakesIn H.content H.nursery_of at.entry state.old state.new }
 {
     let serial = state.heap.serial(object);
     if state.started.contains(&serial) {

@@ -2,7 +2,7 @@
 
 ghost use Rattle.jm_world.specs.Next.{throw};
 ghost use Rattle.jm_linked.specs.Links.{class_name_of};
-ghost use Rattle.jm_interp.specs.At.{OnFrames, InMethod, Does, made_step};
+ghost use Rattle.jm_interp.specs.At.{OnFrames, InMethod, Does, made_step, MakesIn};
 
 use crate::at::At;
 use jm_heap::{Heap, Shape};
@@ -18,8 +18,9 @@ pub(crate) fn leave_pending<H: Heap>(
     class: u32,
 ) -> Result<(), Halt>
     requires { OnFrames H.content at state.old }
-    ensures { Does H.content at.entry state.old (made_step result) state.new
+    ensures does { Does H.content at.entry state.old (made_step result) state.new
         (λ w number t. throw w number t (class_name_of at.entry.linked.now.program class)) }
+    ensures nursery { MakesIn H.content H.nursery_of at.entry state.old state.new }
 {
     let shape = Shape::Instance { class, fields: &[] };
     match make_object(at.alloc, at.linked, state, at.nursery, shape) {
@@ -35,7 +36,8 @@ pub(crate) fn leave_pending<H: Heap>(
 #[cold]
 pub(crate) fn throw<H: Heap>(at: At<'_>, state: &mut State<H>, class: u32) -> Result<StepEnd, Halt>
     requires { OnFrames H.content at state.old }
-    ensures { Does H.content at.entry state.old result state.new (λ w number t. throw w number t (class_name_of at.entry.linked.now.program class)) }
+    ensures does { Does H.content at.entry state.old result state.new (λ w number t. throw w number t (class_name_of at.entry.linked.now.program class)) }
+    ensures nursery { MakesIn H.content H.nursery_of at.entry state.old state.new }
 {
     match leave_pending(at, state, class) {
         Ok(()) => Ok(StepEnd::Done),
@@ -47,7 +49,8 @@ pub(crate) fn throw<H: Heap>(at: At<'_>, state: &mut State<H>, class: u32) -> Re
 #[cold]
 pub(crate) fn throws<H: Heap>(at: At<'_>, state: &mut State<H>, class: u32) -> Result<StepEnd, Halt>
     requires { InMethod H.content at state.old }
-    ensures { Does H.content at.entry state.old result state.new (λ w number t. throw w number t (class_name_of at.entry.linked.now.program class)) }
+    ensures does { Does H.content at.entry state.old result state.new (λ w number t. throw w number t (class_name_of at.entry.linked.now.program class)) }
+    ensures nursery { MakesIn H.content H.nursery_of at.entry state.old state.new }
 {
     throw(at, state, class)
 }

@@ -8,7 +8,7 @@ ghost use Rattle.jm_world.specs.Types.{type_of_object};
 ghost use Rattle.jm_linked.specs.Links.{Links, NamesElement, NamesType};
 ghost use Rattle.jm_linked.specs.declared.instruction.LinkedInstr.TheVariants as linked_instr;
 ghost use Rattle.jm_state.specs.Parts.{element_named, named_type};
-ghost use Rattle.jm_interp.specs.At.{StandsOn, Steps};
+ghost use Rattle.jm_interp.specs.At.{StandsOn, Steps, MakesIn};
 ghost use Rattle.jm_interp.specs.TopObject.{ComesTo};
 ghost use Rattle.jm_interp.specs.TypeChecks.{IsExactly};
 
@@ -129,7 +129,8 @@ pub(crate) fn check_cast<H: Heap>(
     to: LinkedType,
 ) -> Result<StepEnd, Halt>
     requires { StandsOn H.content at state.old (Links at.linked.now (linked_instr.Type type_op.CheckCast to)) }
-    ensures { Steps H.content at.entry state.old result state.new }
+    ensures steps { Steps H.content at.entry state.old result state.new }
+    ensures nursery { MakesIn H.content H.nursery_of at.entry state.old state.new }
 {
     let cast = cast_on_top(at, state, to);
     replace(at, state, 1, cast)
@@ -164,7 +165,8 @@ pub(crate) fn instance_of<H: Heap>(
     to: LinkedType,
 ) -> Result<StepEnd, Halt>
     requires { StandsOn H.content at state.old (Links at.linked.now (linked_instr.Type type_op.InstanceOf to)) }
-    ensures { Steps H.content at.entry state.old result state.new }
+    ensures steps { Steps H.content at.entry state.old result state.new }
+    ensures nursery { MakesIn H.content H.nursery_of at.entry state.old state.new }
 {
     let tested = test_on_top(at, state, to);
     replace(at, state, 1, tested)

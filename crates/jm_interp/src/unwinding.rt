@@ -10,7 +10,7 @@ ghost use Rattle.jm_world.specs.declared.class_state.ClassState.TheVariants.{Fai
 ghost use Rattle.jm_state.specs.Parts.{ending_part, named_type, program_class_name};
 ghost use Rattle.jm_state.specs.declared.halt.StepEnd.TheVariants.{Done};
 ghost use Rattle.jm_state.specs.declared.thread.StackFrame.{StackFrame};
-ghost use Rattle.jm_interp.specs.At.{OnThread, OnFrames, Does, Steps};
+ghost use Rattle.jm_interp.specs.At.{OnThread, OnFrames, Does, Steps, MakesIn};
 ghost use Rattle.jm_interp.specs.Catching.{IsKnown, InThrowing, dropped_by, failed_by, handles, is_of, monitor_on_top};
 ghost use Rattle.jm_interp.specs.Ending.{unwound_to};
 
@@ -49,8 +49,9 @@ fn ending_by(linked: &Linked, thrown: ClassId) -> Option<Ending>
 // Drops the top frame, and with the last one the thread ends so.
 fn drop_frame<H: Heap>(at: At<'_>, state: &mut State<H>, ending: Ending)
     requires { OnFrames H.content at state.old × (is_running (ending_part at.linked.now.program ending) ≡ false) }
-    ensures { Does H.content at.entry state.old (Ok Done) state.new
+    ensures does { Does H.content at.entry state.old (Ok Done) state.new
         (λ w number t. unwound_to w number t (drop 1 t.frames) (ending_part at.entry.linked.now.program ending)) }
+    ensures heap { state.new.heap ≡ state.old.heap }
 {
     if state.threads[at.index].frames.len() > 1 {
         leave_frame(at, state);
@@ -62,8 +63,9 @@ fn drop_frame<H: Heap>(at: At<'_>, state: &mut State<H>, ending: Ending)
 // Marks a class as failed (JVMS 5.5).
 fn mark_failed<H: Heap>(at: At<'_>, state: &mut State<H>, class: u32)
     requires { OnFrames H.content at state.old × (class < length at.linked.now.program) }
-    ensures { Does H.content at.entry state.old (Ok Done) state.new
+    ensures does { Does H.content at.entry state.old (Ok Done) state.new
         (λ w number t. goes (with_state w (program_class_name at.entry.linked.now.program class) Failed)) }
+    ensures heap { state.new.heap ≡ state.old.heap }
 {
     state.classes.fail(class);
 }
@@ -73,9 +75,10 @@ fn mark_failed<H: Heap>(at: At<'_>, state: &mut State<H>, class: u32)
 fn fail<H: Heap>(at: At<'_>, state: &mut State<H>, class: u32, ending: Ending)
     requires { OnFrames H.content at state.old × (class < length at.linked.now.program)
         × (is_running (ending_part at.linked.now.program ending) ≡ false) }
-    ensures { Does H.content at.entry state.old (Ok Done) state.new
+    ensures does { Does H.content at.entry state.old (Ok Done) state.new
         (λ w number t. unwound_to (with_state w (program_class_name at.entry.linked.now.program class) Failed) number t (drop 1 t.frames)
         (ending_part at.entry.linked.now.program ending)) }
+    ensures heap { state.new.heap ≡ state.old.heap }
 {
     mark_failed(at, state, class);
     drop_frame(at, state, ending);
@@ -85,9 +88,10 @@ fn fail<H: Heap>(at: At<'_>, state: &mut State<H>, class: u32, ending: Ending)
 // is made first: where it cannot be, nothing has changed.
 fn fail_anew<H: Heap>(at: At<'_>, state: &mut State<H>, class: u32) -> Result<StepEnd, Halt>
     requires { OnFrames H.content at state.old × (class < length at.linked.now.program) }
-    ensures { Does H.content at.entry state.old result state.new
+    ensures does { Does H.content at.entry state.old result state.new
         (λ w number t. unwound_anew w (with_state w (program_class_name at.entry.linked.now.program class) Failed) number t (drop 1 t.frames)
         (codes "java/lang/ExceptionInInitializerError")) }
+    ensures nursery { MakesIn H.content H.nursery_of at.entry state.old state.new }
 {
     let error = BuiltInClass::ExceptionInInitializerError.number();
     match leave_pending(at, state, error) {
@@ -108,7 +112,8 @@ fn handle<H: Heap>(
     target: u32,
 ) -> Result<StepEnd, Halt>
     requires { InThrowing H.content at state.old place }
-    ensures { (handler : Handler) → handler.target ≡ target → Does H.content at.entry state.old result state.new (handles handler) }
+    ensures does { (handler : Handler) → handler.target ≡ target → Does H.content at.entry state.old result state.new (handles handler) }
+    ensures heap { state.new.heap ≡ state.old.heap }
 {
     match catch_on_top(&mut state.threads[at.index], place, target) {
         Ok(()) => Ok(StepEnd::Done),
@@ -129,9 +134,10 @@ fn fail_by<H: Heap>(
     requires class { class < length at.linked.now.program }
     requires known { IsKnown at.linked.now.program thrown }
     requires ends { is_running (ending_part at.linked.now.program ending) ≡ false }
-    ensures { Does H.content at.entry state.old result state.new
+    ensures does { Does H.content at.entry state.old result state.new
         (failed_by (is_of at.entry.linked.now.program (named_type at.entry.linked.now.program thrown) error_class)
         (program_class_name at.entry.linked.now.program class) (ending_part at.entry.linked.now.program ending)) }
+    ensures nursery { MakesIn H.content H.nursery_of at.entry state.old state.new }
 {
     if is_of(at.linked, thrown, BuiltInClass::Error.number()) {
         fail(at, state, class, ending);
@@ -152,7 +158,8 @@ fn drop_synchronized<H: Heap>(
 ) -> Result<StepEnd, Halt>
     requires on { (h : OnFrames H.content at state.old) × (monitor_on_top h.frames ≡ Some object) }
     requires ends { is_running (ending_part at.linked.now.program ending) ≡ false }
-    ensures { Does H.content at.entry state.old result state.new (dropped_by (ending_part at.entry.linked.now.program ending)) }
+    ensures does { Does H.content at.entry state.old result state.new (dropped_by (ending_part at.entry.linked.now.program ending)) }
+    ensures nursery { MakesIn H.content H.nursery_of at.entry state.old state.new }
 {
     if owns(at, state, object) {
         let _left = leave(at, state, object);
@@ -173,7 +180,8 @@ fn drop_synchronized<H: Heap>(
 // the exception.
 fn drop_method<H: Heap>(at: At<'_>, state: &mut State<H>, ending: Ending) -> Result<StepEnd, Halt>
     requires { OnFrames H.content at state.old × (is_running (ending_part at.linked.now.program ending) ≡ false) }
-    ensures { Does H.content at.entry state.old result state.new (dropped_by (ending_part at.entry.linked.now.program ending)) }
+    ensures does { Does H.content at.entry state.old result state.new (dropped_by (ending_part at.entry.linked.now.program ending)) }
+    ensures nursery { MakesIn H.content H.nursery_of at.entry state.old state.new }
 {
     if let Some(object) = monitor_on_top(&state.threads[at.index]) {
         return drop_synchronized(at, state, object, ending);
@@ -194,7 +202,8 @@ pub(crate) fn unwind_top<H: Heap>(
     place: Place,
 ) -> Result<StepEnd, Halt>
     requires { (fs : List StackFrame) × OnThread H.content at state.old fs (Some place) }
-    ensures { Steps H.content at.entry state.old result state.new }
+    ensures steps { Steps H.content at.entry state.old result state.new }
+    ensures nursery { MakesIn H.content H.nursery_of at.entry state.old state.new }
 {
     let thrown = state.heap.class_of(place);
     if !is_known(at.linked, thrown) {

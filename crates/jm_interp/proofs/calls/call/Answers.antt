@@ -8,10 +8,10 @@ use Rattle.jm_interp.proofs.Entered.{as_end}
 use Rattle.jm_interp.proofs.OnThread.{within, read}
 use Rattle.jm_interp.proofs.calls.call.Goals as goal
 
-pub returns-then-len-ge512 : goal.returns-then-len-ge512
-returns-then-len-ge512 g c found code is =
+pub returns-then-len-ge512-clause-does : goal.returns-then-len-ge512-clause-does
+returns-then-len-ge512-clause-does g c found code is =
     too_deep is c.args.count c.args.monitor c.requires.on c.requires.operand c.index.ensures c.len.ensures c.if-len-ge512.true
-    (names_built_in c.args.at.linked.now.program c.number.result _ c.number.ensures.named) c.throws.ensures
+    (names_built_in c.args.at.linked.now.program c.number.result _ c.number.ensures.named) c.throws.ensures.does
 
 pub index_mut-requires : goal.index_mut-requires
 index_mut-requires g c = within c.requires.on.on
@@ -20,8 +20,8 @@ pub frame_of-made-requires : goal.frame_of-made-requires
 frame_of-made-requires g c =
     record { frame = _; below = _; rest = _; stands = read c.requires.on.on c.index_mut.ensures.value; has = c.requires.has }
 
-pub returns-in_default : goal.returns-in_default
-returns-in_default g c found code is =
+pub returns-in_default-clause-does : goal.returns-in_default-clause-does
+returns-in_default-clause-does g c found code is =
     no_memory is c.args.count c.args.monitor c.requires.on c.requires.operand c.index.ensures c.len.ensures c.if-len-ge512.false
     (c.frame_of-made.ensures.stays _ _ (read c.requires.on.on c.index_mut.ensures.value))
 
@@ -58,8 +58,8 @@ push_called-requires-clause-room g c =
     c.index_mut-in-Ok-Done.ensures.value in
     subst (λ (t : held.Thread). vec_len t.frames < vec_capacity t.frames) (sym same) c.in-Ok.ensures.room
 
-pub returns-in-Ok-Done : goal.returns-in-Ok-Done
-returns-in-Ok-Done g c found code is =
+pub returns-in-Ok-Done-clause-does : goal.returns-in-Ok-Done-clause-does
+returns-in-Ok-Done-clause-does g c found code is =
     let h = c.requires.on in
     let its = c.in-Ok.ensures.frame is.method is.method_is _ _ _ (read h.on c.index_mut.ensures.value) in
     let stays = c.frame_of-made.ensures.stays _ _ (read h.on c.index_mut.ensures.value) in
@@ -69,16 +69,16 @@ returns-in-Ok-Done g c found code is =
     calls_so is c.args.count c.args.monitor h c.requires.operand c.index.ensures c.len.ensures c.if-len-ge512.false stays same c.enter_if.ensures.rest done
     its (c.push_called.ensures _ _ _ (read k.on c.index_mut-in-Ok-Done.ensures.value))
 
-pub returns-in-Ok-Blocked : goal.returns-in-Ok-Blocked
-returns-in-Ok-Blocked g c found code is =
+pub returns-in-Ok-Blocked-clause-does : goal.returns-in-Ok-Blocked-clause-does
+returns-in-Ok-Blocked-clause-does g c found code is =
     let h = c.requires.on in
     let its = c.in-Ok.ensures.frame is.method is.method_is _ _ _ (read h.on c.index_mut.ensures.value) in
     enters_not is c.args.count c.args.monitor h c.requires.operand c.index.ensures c.len.ensures c.if-len-ge512.false
     (c.frame_of-made.ensures.stays _ _ (read h.on c.index_mut.ensures.value)) (c.monitor.ensures ∙ ap (λ (f : FrameView). f.monitor) its)
     c.enter_if.ensures.rest tt (as_end c.in-Ok-Blocked.field-0-is c.in-Ok-Blocked.ensures.does)
 
-pub returns-in-Err : goal.returns-in-Err
-returns-in-Err g c found code is =
+pub returns-in-Err-clause-does : goal.returns-in-Err-clause-does
+returns-in-Err-clause-does g c found code is =
     let h = c.requires.on in
     let its = c.in-Ok.ensures.frame is.method is.method_is _ _ _ (read h.on c.index_mut.ensures.value) in
     enters_not is c.args.count c.args.monitor h c.requires.operand c.index.ensures c.len.ensures c.if-len-ge512.false

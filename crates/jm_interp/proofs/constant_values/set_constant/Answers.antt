@@ -13,15 +13,15 @@ index_mut-requires g c =
     place_within_all c.requires.0 begins
     (c.in-Some.ensures (found_field c.requires.0 begins) (is_numbered c.requires.0 begins) (static_there c.requires.0 begins))
 
-pub returns-in-Some : goal.returns-in-Some
-returns-in-Some g c parts field begins =
+pub returns-in-Some-clause-does : goal.returns-in-Some-clause-does
+returns-in-Some-clause-does g c parts field begins =
     let value = subst (λ s. IsConstantValue s c.args.constant c.value_of.result) c.as_slice.ensures.value c.value_of.ensures in
     let type = c.type_of_field.ensures parts field begins.class_is.own begins.field_is in
     constant_given c.requires.0 begins c.value_of.result value c.narrow-value.result (c.narrow-value.ensures ∙ ap (λ t. narrow t c.value_of.result) type)
     (c.in-Some.ensures (found_field c.requires.0 begins) (is_numbered c.requires.0 begins) (static_there c.requires.0 begins))
 
-pub returns-in_default : goal.returns-in_default
-returns-in_default g c parts field begins =
+pub returns-in_default-clause-does : goal.returns-in_default-clause-does
+returns-in_default-clause-does g c parts field begins =
     let value = subst (λ s. IsConstantValue s c.args.constant c.value_of.result) c.as_slice.ensures.value c.value_of.ensures in
     let type = c.type_of_field.ensures parts field begins.class_is.own begins.field_is in
     nowhere_given c.requires.0 begins c.value_of.result value c.narrow-value.result (c.narrow-value.ensures ∙ ap (λ t. narrow t c.value_of.result) type)

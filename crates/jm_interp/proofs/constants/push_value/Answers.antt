@@ -8,5 +8,5 @@ push-requires-clause-here g c = (c.requires.1.method, c.requires.1.room)
 pub push-requires-clause-held : goal.push-requires-clause-held
 push-requires-clause-held g c = value_held c.args.value c.requires.0 c.requires.1 c.requires.2
 
-pub returns : goal.returns
-returns g c = does_as c.requires.1.method.on (λ w m. m) (pushed_is c.args.value c.requires.0 c.requires.1 c.requires.2) c.push.ensures
+pub returns-clause-steps : goal.returns-clause-steps
+returns-clause-steps g c = does_as c.requires.1.method.on (λ w m. m) (pushed_is c.args.value c.requires.0 c.requires.1 c.requires.2) c.push.ensures.does

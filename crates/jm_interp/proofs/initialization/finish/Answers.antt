@@ -9,8 +9,8 @@ finish-requires g c = class_within c.requires.2 c.args.class (own c.requires.2)
 pub index_mut-requires : goal.index_mut-requires
 index_mut-requires g c = within c.requires.2
 
-pub returns : goal.returns
-returns g c =
+pub returns-clause-does : goal.returns-clause-does
+returns-clause-does g c =
     finished c.requires.2 (record { threads = refl; started = refl; statics = refl; literals = refl; monitors = refl; heap = refl; stop = refl })
     c.finish.ensures refl refl
     (c.drop_top.ensures _ _ (read c.requires.2 c.index_mut.ensures.value))

@@ -10,5 +10,5 @@ superclass_first-requires g c = (c.requires.0, at_this c.in-Superclass.is c.requ
 pub run_initializer-requires : goal.run_initializer-requires
 run_initializer-requires g c = (c.requires.0, at_this c.in-Initializer.is c.requires.1)
 
-pub returns-in-End : goal.returns-in-End
-returns-in-End g c = end_done c.requires.1 c.in-End.is c.finish.ensures
+pub returns-in-End-clause-steps : goal.returns-in-End-clause-steps
+returns-in-End-clause-steps g c = end_done c.requires.1 c.in-End.is c.finish.ensures.does

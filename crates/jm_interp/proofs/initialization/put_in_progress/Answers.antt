@@ -15,8 +15,8 @@ overflow_add-at g c = omega (arith, numbered c.requires.1)
 pub go_to_stage-requires : goal.go_to_stage-requires
 go_to_stage-requires g c = (_, _, _, read c.requires.1 c.index_mut.ensures.value)
 
-pub returns : goal.returns
-returns g c =
+pub returns-clause-does : goal.returns-clause-does
+returns-clause-does g c =
     in_progress c.requires.1 (record { threads = refl; started = refl; statics = refl; literals = refl; monitors = refl; heap = refl; stop = refl })
     c.begin.ensures refl refl
     (c.go_to_stage.ensures _ _ _ (read c.requires.1 c.index_mut.ensures.value))

@@ -8,5 +8,5 @@ index_mut-requires g c = within c.requires.2
 pub go_to_stage-requires : goal.go_to_stage-requires
 go_to_stage-requires g c = (_, _, _, read c.requires.2 c.index_mut.ensures.value)
 
-pub returns : goal.returns
-returns g c = staged c.requires.2 (c.go_to_stage.ensures _ _ _ (read c.requires.2 c.index_mut.ensures.value))
+pub returns-clause-does : goal.returns-clause-does
+returns-clause-does g c = staged c.requires.2 (c.go_to_stage.ensures _ _ _ (read c.requires.2 c.index_mut.ensures.value))

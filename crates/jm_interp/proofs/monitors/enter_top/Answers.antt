@@ -16,19 +16,19 @@ go_on_without-requires g c =
     let h = c.requires in
     then_in h c.enter.ensures.rest (found_object h.method 0 c.index.ensures c.in-Ok.ensures.value) (as_end c.in-Ok-Done.field-0-is c.in-Ok-Done.ensures.does)
 
-pub returns-in-Ok-Done : goal.returns-in-Ok-Done
-returns-in-Ok-Done g c =
+pub returns-in-Ok-Done-clause-steps : goal.returns-in-Ok-Done-clause-steps
+returns-in-Ok-Done-clause-steps g c =
     let h = c.requires in
     enters_and_goes h c.enter.ensures.rest (found_object h.method 0 c.index.ensures c.in-Ok.ensures.value)
-    (as_end c.in-Ok-Done.field-0-is c.in-Ok-Done.ensures.does) c.go_on_without.ensures
+    (as_end c.in-Ok-Done.field-0-is c.in-Ok-Done.ensures.does) c.go_on_without.ensures.does
 
-pub returns-in-Ok-Blocked : goal.returns-in-Ok-Blocked
-returns-in-Ok-Blocked g c =
+pub returns-in-Ok-Blocked-clause-steps : goal.returns-in-Ok-Blocked-clause-steps
+returns-in-Ok-Blocked-clause-steps g c =
     let h = c.requires in
     enters_not h c.enter.ensures.rest (found_object h.method 0 c.index.ensures c.in-Ok.ensures.value) tt
     (as_end c.in-Ok-Blocked.field-0-is c.in-Ok-Blocked.ensures.does)
 
-pub returns-in-Err-enter : goal.returns-in-Err-enter
-returns-in-Err-enter g c =
+pub returns-in-Err-enter-clause-steps : goal.returns-in-Err-enter-clause-steps
+returns-in-Err-enter-clause-steps g c =
     let h = c.requires in
     enters_not h c.enter.ensures.rest (found_object h.method 0 c.index.ensures c.in-Ok.ensures.value) tt c.in-Err-enter.ensures.does

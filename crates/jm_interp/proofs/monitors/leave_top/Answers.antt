@@ -15,11 +15,11 @@ leave-requires-clause-numbered g c = numbered c.requires.method.on
 pub leave-requires-clause-lies : goal.leave-requires-clause-lies
 leave-requires-clause-lies g c = let h = c.requires in lies h (found_object h.method 0 c.index.ensures c.in-Ok.ensures.value)
 
-pub returns-then-not-leave : goal.returns-then-not-leave
-returns-then-not-leave g c =
+pub returns-then-not-leave-clause-steps : goal.returns-then-not-leave-clause-steps
+returns-then-not-leave-clause-steps g c =
     let h = c.requires in
     throws_no_owner h (found_object h.method 0 c.index.ensures c.in-Ok.ensures.value) c.leave.ensures.rest c.leave.ensures.runs c.leave.ensures.left
-    c.if-not-leave.true (names_built_in c.args.at.linked.now.program c.number.result _ c.number.ensures.named) c.throws.ensures
+    c.if-not-leave.true (names_built_in c.args.at.linked.now.program c.number.result _ c.number.ensures.named) c.throws.ensures.does
 
 pub go_on_without-requires : goal.go_on_without-requires
 go_on_without-requires g c =
@@ -27,8 +27,8 @@ go_on_without-requires g c =
     left_stands h (found_object h.method 0 c.index.ensures c.in-Ok.ensures.value) c.leave.ensures.rest c.leave.ensures.runs c.leave.ensures.left
     c.if-not-leave.false
 
-pub returns : goal.returns
-returns g c =
+pub returns-clause-steps : goal.returns-clause-steps
+returns-clause-steps g c =
     let h = c.requires in
     leaves_and_goes h (found_object h.method 0 c.index.ensures c.in-Ok.ensures.value) c.leave.ensures.rest c.leave.ensures.runs c.leave.ensures.left
-    c.if-not-leave.false c.go_on_without.ensures
+    c.if-not-leave.false c.go_on_without.ensures.does

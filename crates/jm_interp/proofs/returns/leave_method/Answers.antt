@@ -13,12 +13,12 @@ pub leave_synchronized-requires-clause-here : goal.leave_synchronized-requires-c
 leave_synchronized-requires-clause-here g c =
     let here = monitor_here c.requires.here c.index.ensures c.top_method.ensures c.monitor.ensures in (c.requires.here, sym here ∙ c.in-Some.is)
 
-pub returns-in-Ok : goal.returns-in-Ok
-returns-in-Ok g c =
+pub returns-in-Ok-clause-steps : goal.returns-in-Ok-clause-steps
+returns-in-Ok-clause-steps g c =
     let here = monitor_here c.requires.here c.index.ensures c.top_method.ensures c.monitor.ensures in
     not_locked c.requires.here here c.requires.hands c.in_default.is c.in-Ok.ensures.hands
 
-pub returns-in-Err : goal.returns-in-Err
-returns-in-Err g c =
+pub returns-in-Err-clause-steps : goal.returns-in-Err-clause-steps
+returns-in-Err-clause-steps g c =
     let here = monitor_here c.requires.here c.index.ensures c.top_method.ensures c.monitor.ensures in
     not_locked c.requires.here here c.requires.hands c.in_default.is c.in-Err.ensures.hands

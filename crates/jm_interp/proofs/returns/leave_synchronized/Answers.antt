@@ -13,10 +13,10 @@ owns-requires-clause-lies g c = monitor_lies c.requires.here.0 (sym c.requires.h
 pub throws-requires : goal.throws-requires
 throws-requires g c = c.requires.here.0
 
-pub returns-then-not-owns : goal.returns-then-not-owns
-returns-then-not-owns g c =
+pub returns-then-not-owns-clause-steps : goal.returns-then-not-owns-clause-steps
+returns-then-not-owns-clause-steps g c =
     let named = names_built_in c.args.at.linked.now.program c.number.result _ c.number.ensures.named in
-    not_owned c.requires.here.0 (sym c.requires.here.1) c.requires.hands c.owns.ensures c.if-not-owns.true named c.throws.ensures
+    not_owned c.requires.here.0 (sym c.requires.here.1) c.requires.hands c.owns.ensures c.if-not-owns.true named c.throws.ensures.does
 
 pub hand_on-requires-clause-here : goal.hand_on-requires-clause-here
 hand_on-requires-clause-here g c = c.requires.here.0
@@ -32,10 +32,10 @@ pub leave-left-requires-clause-lies : goal.leave-left-requires-clause-lies
 leave-left-requires-clause-lies g c =
     lies_handed c.requires.here.0 (sym c.requires.here.1) c.requires.hands c.owns.ensures c.if-not-owns.false c.in-Ok.ensures.hands c.in-Ok.ensures.heap
 
-pub returns-in-Ok : goal.returns-in-Ok
-returns-in-Ok g c =
+pub returns-in-Ok-clause-steps : goal.returns-in-Ok-clause-steps
+returns-in-Ok-clause-steps g c =
     left_then c.requires.here.0 (sym c.requires.here.1) c.requires.hands c.owns.ensures c.if-not-owns.false c.in-Ok.ensures.hands c.in-Ok.ensures.heap
     c.leave-left.result c.leave-left.ensures.runs c.leave-left.ensures.left
 
-pub returns-in-Err : goal.returns-in-Err
-returns-in-Err g c = not_handed c.requires.here.0 (sym c.requires.here.1) c.requires.hands c.owns.ensures c.if-not-owns.false c.in-Err.ensures.hands
+pub returns-in-Err-clause-steps : goal.returns-in-Err-clause-steps
+returns-in-Err-clause-steps g c = not_handed c.requires.here.0 (sym c.requires.here.1) c.requires.hands c.owns.ensures c.if-not-owns.false c.in-Err.ensures.hands

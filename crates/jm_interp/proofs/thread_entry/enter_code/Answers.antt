@@ -26,8 +26,8 @@ replace_frame-requires g c =
     (c.monitor.ensures ∙ ap (λ (f : FrameView). f.monitor) its) c.enter_if.ensures.rest (as_end c.in-Ok-Done.field-0-is c.in-Ok-Done.ensures.does) in
     (_, _, _, read k c.index_mut.ensures.value)
 
-pub returns-in-Ok-Done : goal.returns-in-Ok-Done
-returns-in-Ok-Done g c =
+pub returns-in-Ok-Done-clause-steps : goal.returns-in-Ok-Done-clause-steps
+returns-in-Ok-Done-clause-steps g c =
     let p = c.in-Some.ensures in
     let its = c.in-Ok.ensures _ (its_method c.requires p) in
     let m = c.monitor_of-monitor.ensures _ p in
@@ -36,14 +36,14 @@ returns-in-Ok-Done g c =
     let k = entered_in c.requires p m same c.enter_if.ensures.rest done in
     begins_so c.requires p m same c.enter_if.ensures.rest done its (c.replace_frame.ensures _ _ _ (read k c.index_mut.ensures.value))
 
-pub returns-in-Ok-Blocked : goal.returns-in-Ok-Blocked
-returns-in-Ok-Blocked g c =
+pub returns-in-Ok-Blocked-clause-steps : goal.returns-in-Ok-Blocked-clause-steps
+returns-in-Ok-Blocked-clause-steps g c =
     let its = c.in-Ok.ensures _ (its_method c.requires c.in-Some.ensures) in
     enters_not c.requires c.in-Some.ensures (c.monitor_of-monitor.ensures _ c.in-Some.ensures)
     (c.monitor.ensures ∙ ap (λ (f : FrameView). f.monitor) its) c.enter_if.ensures.rest tt (as_end c.in-Ok-Blocked.field-0-is c.in-Ok-Blocked.ensures.does)
 
-pub returns-in-Err : goal.returns-in-Err
-returns-in-Err g c =
+pub returns-in-Err-clause-steps : goal.returns-in-Err-clause-steps
+returns-in-Err-clause-steps g c =
     let its = c.in-Ok.ensures _ (its_method c.requires c.in-Some.ensures) in
     enters_not c.requires c.in-Some.ensures (c.monitor_of-monitor.ensures _ c.in-Some.ensures)
     (c.monitor.ensures ∙ ap (λ (f : FrameView). f.monitor) its) c.enter_if.ensures.rest tt c.in-Err.ensures.does

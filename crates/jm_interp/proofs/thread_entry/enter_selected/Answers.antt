@@ -8,7 +8,7 @@ enter_without_code-requires g c = begins_without_code c.requires c.in-WithoutCod
 pub enter_code-requires : goal.enter_code-requires
 enter_code-requires g c = begins_code c.requires c.in-Coded.is
 
-pub returns-in-Nothing : goal.returns-in-Nothing
-returns-in-Nothing g c =
+pub returns-in-Nothing-clause-steps : goal.returns-in-Nothing-clause-steps
+returns-in-Nothing-clause-steps g c =
     throws_none c.requires.begins (none_found c.requires c.in-Nothing.is)
-    (names_built_in c.args.at.linked.now.program c.number.result _ c.number.ensures.named) c.throw.ensures
+    (names_built_in c.args.at.linked.now.program c.number.result _ c.number.ensures.named) c.throw.ensures.does

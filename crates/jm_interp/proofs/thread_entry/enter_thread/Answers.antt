@@ -7,8 +7,8 @@ use Rattle.jm_interp.proofs.Objects.{lies, told}
 use Rattle.jm_interp.proofs.OnThread.{read}
 use Rattle.jm_interp.proofs.thread_entry.enter_thread.Goals as goal
 
-pub returns-in_default : goal.returns-in_default
-returns-in_default g c =
+pub returns-in_default-clause-steps : goal.returns-in_default-clause-steps
+returns-in_default-clause-steps g c =
     let h = c.requires.1 in
     no_object h (sym (ap (λ (r : ThreadRest). r.object.place) (read h c.index.ensures).rest_is) ∙ cc)
 

@@ -10,5 +10,5 @@ pub drop_synchronized-requires-clause-on : goal.drop_synchronized-requires-claus
 drop_synchronized-requires-clause-on g c =
     (c.requires.0, sym (monitor_here c.requires.0 c.index.ensures c.monitor_on_top.ensures) ∙ c.in-Some.is)
 
-pub returns : goal.returns
-returns g c = not_locked c.requires.0 (monitor_here c.requires.0 c.index.ensures c.monitor_on_top.ensures) c.in_default.is c.drop_frame.ensures
+pub returns-clause-does : goal.returns-clause-does
+returns-clause-does g c = not_locked c.requires.0 (monitor_here c.requires.0 c.index.ensures c.monitor_on_top.ensures) c.in_default.is c.drop_frame.ensures.does

@@ -5,5 +5,5 @@ use Rattle.jm_interp.proofs.unwinding.mark_failed.Goals as goal
 pub fail-requires : goal.fail-requires
 fail-requires g c = class_within c.requires.0.on c.args.class c.requires.1
 
-pub returns : goal.returns
-returns g c = marked c.requires.0.on c.args.class c.requires.1 refl refl refl refl refl refl refl c.fail.ensures refl refl
+pub returns-clause-does : goal.returns-clause-does
+returns-clause-does g c = marked c.requires.0.on c.args.class c.requires.1 refl refl refl refl refl refl refl c.fail.ensures refl refl

@@ -14,10 +14,10 @@ pub fail_by-requires-clause-class : goal.fail_by-requires-clause-class
 fail_by-requires-clause-class g c =
     class_in c.requires.1 (sym (c.class_on_top.ensures _ _ (read c.requires.1 c.index.ensures)) ∙ c.in-Some-class_on_top.is)
 
-pub returns-in-Some-class_on_top : goal.returns-in-Some-class_on_top
-returns-in-Some-class_on_top g c =
+pub returns-in-Some-class_on_top-clause-steps : goal.returns-in-Some-class_on_top-clause-steps
+returns-in-Some-class_on_top-clause-steps g c =
     let on = sym (c.class_on_top.ensures _ _ (read c.requires.1 c.index.ensures)) ∙ c.in-Some-class_on_top.is in
-    fails c.requires.1 on c.class_of-thrown.ensures c.in-Some.ensures c.fail_by.ensures
+    fails c.requires.1 on c.class_of-thrown.ensures c.in-Some.ensures c.fail_by.ensures.does
 
 pub index-requires-2 : goal.index-requires-2
 index-requires-2 g c = within c.requires.1
@@ -29,13 +29,13 @@ pub handle-requires : goal.handle-requires
 handle-requires g c =
     in_throwing c.requires.1 c.class_of-thrown.ensures (c.target_on_top.ensures _ _ (read c.requires.1 c.index-2.ensures)) c.in-Some-target_on_top.is
 
-pub returns-in-Some-target_on_top : goal.returns-in-Some-target_on_top
-returns-in-Some-target_on_top g c =
+pub returns-in-Some-target_on_top-clause-steps : goal.returns-in-Some-target_on_top-clause-steps
+returns-in-Some-target_on_top-clause-steps g c =
     goes_to_handler c.requires.1 c.class_of-thrown.ensures (c.target_on_top.ensures _ _ (read c.requires.1 c.index-2.ensures)) c.in-Some-target_on_top.is
-    c.handle.ensures
+    c.handle.ensures.does
 
-pub returns-in-None : goal.returns-in-None
-returns-in-None g c =
+pub returns-in-None-clause-steps : goal.returns-in-None-clause-steps
+returns-in-None-clause-steps g c =
     let none = sym (c.class_on_top.ensures _ _ (read c.requires.1 c.index.ensures)) ∙ c.in_default-class_on_top.is in
     leaves_method c.requires.1 none c.class_of-thrown.ensures c.in-Some.ensures
-    (c.target_on_top.ensures _ _ (read c.requires.1 c.index-2.ensures)) c.in-None.is c.drop_method.ensures
+    (c.target_on_top.ensures _ _ (read c.requires.1 c.index-2.ensures)) c.in-None.is c.drop_method.ensures.does
