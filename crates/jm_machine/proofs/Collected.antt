@@ -1,5 +1,5 @@
 -- After a full collection exactly what the world reaches is resident.
-use Rattle.std.proofs.Common.{◌≡◌, ℕ, ◌<◌, List, [], ◌∷◌, Option, Some, None, refl, sym, ◌∙◌, length, arith, zero, suc}
+use Rattle.std.proofs.Common.{◌≡◌, ℕ, ◌<◌, List, [], ◌∷◌, Option, Some, None, refl, sym, ◌∙◌, subst, length, arith, zero, suc}
 use Rattle.std.specs.Prelude.{slice_get, option_map, Result, Ok, Err, OnOk}
 use Rattle.jm_values.specs.Content.{Content, object_at}
 use Rattle.jm_world.specs.Matches.{Matches, as_named}
@@ -16,8 +16,9 @@ use Rattle.jm_heap.specs.declared.heap.Kind.TheVariants as kind
 use Rattle.jm_linked.specs.Links.{LinkedView}
 use Rattle.jm_state.specs.Parts.{parts}
 use Rattle.jm_state.specs.Reached.{LeavesReachable}
+use Rattle.jm_state.specs.Places.{places_of}
 use Rattle.jm_state.specs.View.{StateView}
-use Rattle.jm_machine.specs.Collected.{HoldsReachable, LeavesAfter}
+use Rattle.jm_machine.specs.Collected.{CollectsIn, HoldsReachable, LeavesAfter, Word}
 
 within : {A : Type 0} (xs : List A) (k : ℕ) → k < length xs → (x : A) × (slice_get xs k ≡ Some x)
 within [] k h = absurd (omega arith)
@@ -50,3 +51,28 @@ module _ (l : LinkedView) (c : Content ClassId) (v : StateView) (w : World) (h :
 pub told_ok : {A E : Type 0} (r : Result A E) {P Q : Type 0} → (P → Q) → OnOk r P → OnOk r Q
 told_ok (Ok x) f p = f p
 told_ok (Err e) f p = tt
+
+-- a collection on request, by the event that asks for it: of a machine that has stopped none is made
+module _ {H : Type 0} (leaves : Word H) (event : Event) (g h : H) (old new : StateView) where
+  pub stopped_collects : {s : Stop} → old.stop ≡ Some s → CollectsIn leaves event g old h new
+  stopped_collects {s} e = by event
+    where
+      bad : {P : Type 0} → old.stop ≡ None → P
+      bad none = let both : Some s ≡ None = sym e ∙ none in absurd (cc)
+
+      by : (x : Event) → CollectsIn leaves x g old h new
+      by (Step number) = tt
+      by Minor = λ none. bad none
+      by Full = λ none. bad none
+
+  pub step_collects : {A E : Type 0} (r : Result A E) (number : ℕ) → event ≡ Step number → OnOk r (CollectsIn leaves event g old h new)
+  step_collects (Ok x) number is = subst (λ e. CollectsIn leaves e g old h new) (sym is) tt
+  step_collects (Err x) number is = tt
+
+  pub minor_collects : {A E : Type 0} (r : Result A E) → event ≡ Minor → OnOk r (leaves kind.Minor g h (places_of old) (places_of new)) → OnOk r (CollectsIn leaves event g old h new)
+  minor_collects (Ok x) is left = subst (λ e. CollectsIn leaves e g old h new) (sym is) (λ none. left)
+  minor_collects (Err x) is left = tt
+
+  pub full_collects : {A E : Type 0} (r : Result A E) → event ≡ Full → OnOk r (leaves kind.Full g h (places_of old) (places_of new)) → OnOk r (CollectsIn leaves event g old h new)
+  full_collects (Ok x) is left = subst (λ e. CollectsIn leaves e g old h new) (sym is) (λ none. left)
+  full_collects (Err x) is left = tt

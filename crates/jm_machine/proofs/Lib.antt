@@ -1,5 +1,6 @@
 pub mod Events
 pub mod Folds
+pub mod EachEvent
 pub mod MainMethod
 pub mod WithinCells
 pub mod Holding

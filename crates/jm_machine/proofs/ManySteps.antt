@@ -13,7 +13,7 @@ use Rattle.jm_machine.specs.ManySteps.{AreSteps, steps_of}
 use Rattle.jm_machine.specs.declared.steps.StepsEnd.TheVariants.{AllMade, Other, OutOfMemory}
 use Rattle.jm_machine.proofs.Counts.{counts_after, world_after, replies_after}
 
-more_world : (w : World) (thread n : ℕ) (new : MachineView) → MatchesWorld new (after (run_from w (steps_of thread n)) (Step thread)).world
+more_world : {H : Type 0} (w : World) (thread n : ℕ) (new : MachineView H) → MatchesWorld new (after (run_from w (steps_of thread n)) (Step thread)).world
     → MatchesWorld new (run_from w (steps_of thread (n + 1)))
 more_world w thread n new m = subst (MatchesWorld new) (world_after w (Step thread) (n + 1) n 1 refl) m
 
@@ -21,7 +21,7 @@ more_replies : (w : World) (thread n : ℕ) (r other : Reply) → replicate n r 
     → other ≡ (after (run_from w (steps_of thread n)) (Step thread)).reply → replicate n r ++ other ∷ [] ≡ replies_from w (steps_of thread (n + 1))
 more_replies w thread n r other before is = (λ i. before i ++ is i ∷ []) ∙ replies_after w (Step thread) (n + 1) n 1 refl
 
-still_world : (w : World) (thread n : ℕ) (new : MachineView) → MatchesWorld new (run_from w (steps_of thread n))
+still_world : {H : Type 0} (w : World) (thread n : ℕ) (new : MachineView H) → MatchesWorld new (run_from w (steps_of thread n))
     → MatchesWorld new (run_from w (steps_of thread (n + 0)))
 still_world w thread n new m =
     let same : n ≡ n + 0 = omega arith in subst (λ k. MatchesWorld new (run_from w (steps_of thread k))) same m
@@ -32,19 +32,19 @@ still_replies w thread n r before =
     let same : n ≡ n + 0 = omega arith in append-nil (replicate n r) ∙ before ∙ ap (λ k. replies_from w (steps_of thread k)) same
 
 -- so many steps were alike
-pub record AreAlike (w : World) (thread : ℕ) (now : MachineView) (n : ℕ) (r : Reply) : Type 0 where
+pub record AreAlike {H : Type 0} (w : World) (thread : ℕ) (now : MachineView H) (n : ℕ) (r : Reply) : Type 0 where
   pub world : MatchesWorld now (run_from w (steps_of thread n))
   pub replies : replicate n r ≡ replies_from w (steps_of thread n)
   pub reply : r ≡ reply Done w
 
-pub none_alike : (w : World) (thread : ℕ) (now : MachineView) (r : Reply) → MatchesWorld now w → r ≡ reply Done w → AreAlike w thread now 0 r
+pub none_alike : {H : Type 0} (w : World) (thread : ℕ) (now : MachineView H) (r : Reply) → MatchesWorld now w → r ≡ reply Done w → AreAlike w thread now 0 r
 none_alike w thread now r m is = record { world = m; replies = refl; reply = is }
 
 -- where all are done, in one method, they are alike
-pub done_alike : (new : MachineView) {thread n : ℕ} {w : World} → MakesDone (machine_parts new) thread n w → MakesAlike (machine_parts new) thread n w
+pub done_alike : {H : Type 0} (new : MachineView H) {thread n : ℕ} {w : World} → MakesDone (machine_parts new) thread n w → MakesAlike (machine_parts new) thread n w
 done_alike new made = record { world = made.world; replies = made.replies }
 
-module _ {w : World} {thread n : ℕ} {now : MachineView} {r : Reply} (a : AreAlike w thread now n r) (new : MachineView) where
+module _ {H : Type 0} {w : World} {thread n : ℕ} {now : MachineView H} {r : Reply} (a : AreAlike w thread now n r) (new : MachineView H) where
   -- one step more, with any reply
   module _ (other : Reply) (m : MatchesWorld new (after (run_from w (steps_of thread n)) (Step thread)).world)
       (is : other ≡ (after (run_from w (steps_of thread n)) (Step thread)).reply) where

@@ -18,7 +18,7 @@ use Rattle.jm_machine.proofs.Counts.{world_after}
 use Rattle.jm_machine.proofs.ManySteps.{AreAlike, all_made, done_alike, more_alike, one_alike, other_made, step_refused}
 
 -- so many steps were alike, and none of them began at a place
-pub record AlikeApart (l : LinkedView) (places : List CodePlace) (w : World) (thread : ℕ) (now : MachineView) (n : ℕ) (r : Reply) : Type 0 where
+pub record AlikeApart {H : Type 0} (l : LinkedView) (places : List CodePlace) (w : World) (thread : ℕ) (now : MachineView H) (n : ℕ) (r : Reply) : Type 0 where
   pub alike : AreAlike w thread now n r
   pub apart : StandApart l places w thread n
 
@@ -34,14 +34,14 @@ apart_after l places w thread n k before more = λ i below. by i below (cases_lt
         subst (λ v. Stands l places false (top_stands_at v thread)) (world_after w (Step thread) i n (i - n) split) (more (i - n) (omega arith))
 
 -- a run of so many steps, of which so many were free, begins apart from places; and so does one step behind it
-run_apart : (l : LinkedView) (places : List CodePlace) (v : World) (thread free run count : ℕ) (new : MachineView)
+run_apart : {H : Type 0} (l : LinkedView) (places : List CodePlace) (v : World) (thread free run count : ℕ) (new : MachineView H)
     → AreFree l places free (top_stands_at v thread) → MakesDone (machine_parts new) thread run v
     → count ≤ free → count ≤ run + 1 → StandApart l places v thread count
 run_apart l places v thread free run count new are made few many zero below = stands_apart l places free _ are (omega arith)
 run_apart l places v thread free run count new are made few many (suc k) below =
     stays_apart l places free v (run_from v (steps_of thread (suc k))) thread are (omega arith) (made.stays (suc k) (omega arith))
 
-module _ {l : LinkedView} {places : List CodePlace} {w : World} {thread n : ℕ} {now : MachineView} {r : Reply} (a : AlikeApart l places w thread now n r)
+module _ {H : Type 0} {l : LinkedView} {places : List CodePlace} {w : World} {thread n : ℕ} {now : MachineView H} {r : Reply} (a : AlikeApart l places w thread now n r)
     (same : now.linked ≡ l) (free : ℕ) (are : AreFree now.linked places free (top_stands_at (run_from w (steps_of thread n)) thread)) where
   here : AreFree l places free (top_stands_at (run_from w (steps_of thread n)) thread)
   here = subst (λ x. AreFree x places free (top_stands_at (run_from w (steps_of thread n)) thread)) same are
@@ -55,7 +55,7 @@ module _ {l : LinkedView} {places : List CodePlace} {w : World} {thread n : ℕ}
   }
 
   -- a run was made
-  module _ (run : ℕ) (new : MachineView) (made : MakesDone (machine_parts new) thread run (run_from w (steps_of thread n))) where
+  module _ (run : ℕ) (new : MachineView H) (made : MakesDone (machine_parts new) thread run (run_from w (steps_of thread n))) where
     pub run_made : run ≤ free → AlikeApart l places w thread new (n + run) r
     run_made few = record {
       alike = more_alike a.alike new _ (done_alike new made);
@@ -63,7 +63,7 @@ module _ {l : LinkedView} {places : List CodePlace} {w : World} {thread n : ℕ}
     }
 
     -- and one step behind it
-    module _ (behind : run < free) (last : MachineView) where
+    module _ (behind : run < free) (last : MachineView H) where
       one_apart : StandApart l places w thread (n + run + 1)
       one_apart =
           let whole : n + (run + 1) ≡ n + run + 1 = omega arith in

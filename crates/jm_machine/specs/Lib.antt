@@ -13,6 +13,7 @@ pub mod Held
 pub mod Marked
 pub mod ReachedObjects
 pub mod Readers
+pub mod EachEvent
 pub mod ManySteps
 pub mod CodePlaces
 pub mod UpToPlaces

@@ -33,7 +33,7 @@ steps_of thread count = replicate count (Step thread)
 
 -- the model's replies from a world on, of which all but the last are done, with the counts of that
 -- world
-pub record AreSteps (w : World) (thread : ℕ) (new : MachineView) (s : Steps) : Type 0 where
+pub record AreSteps {H : Type 0} (w : World) (thread : ℕ) (new : MachineView H) (s : Steps) : Type 0 where
   pub world : MatchesWorld new (run_from w (steps_of thread (made_of_steps s)))
   pub replies : replies_of_steps s ≡ replies_from w (steps_of thread (made_of_steps s))
   pub reply : s.reply ≡ reply Done w

@@ -32,7 +32,7 @@ abbrev pub first_frames : ℕ → LinkedMethod → ℕ → List StackFrame
 first_frames number m array = main_frame number m array ∷ Initialization m.class Begin ∷ []
 
 -- what comes of a load
-abbrev pub Loaded : Result MachineView LoadFault → List ClassParts → ℕ → Type 0
+abbrev pub Loaded : {H : Type 0} → Result (MachineView H) LoadFault → List ClassParts → ℕ → Type 0
 Loaded (Ok m) program limit = (is_too_small program limit ≡ false) × MatchesWorld m (loaded_world program limit)
 Loaded (Err HeapTooSmall) program limit = is_too_small program limit ≡ true
 Loaded (Err OutOfMemory) program limit = is_too_small program limit ≡ false

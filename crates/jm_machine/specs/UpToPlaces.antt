@@ -18,17 +18,17 @@ abbrev pub StandApart : LinkedView → List CodePlace → World → ℕ → ℕ 
 StandApart l places w thread count = (k : ℕ) → k < count → Stands l places false (top_stands_at (run_from w (steps_of thread k)) thread)
 
 -- steps that no place ended, as step_many makes them
-pub record EndApart (l : LinkedView) (places : List CodePlace) (w : World) (thread : ℕ) (new : MachineView) (s : Steps) : Type 0 where
+pub record EndApart {H : Type 0} (l : LinkedView) (places : List CodePlace) (w : World) (thread : ℕ) (new : MachineView H) (s : Steps) : Type 0 where
   pub steps : AreSteps w thread new s
   pub apart : StandApart l places w thread (made_of_steps s)
 
 -- so many that were done, up to a place
-pub record EndAtPlace (l : LinkedView) (places : List CodePlace) (w : World) (thread : ℕ) (new : MachineView) (made : ℕ) : Type 0 where
+pub record EndAtPlace {H : Type 0} (l : LinkedView) (places : List CodePlace) (w : World) (thread : ℕ) (new : MachineView H) (made : ℕ) : Type 0 where
   pub steps : AreSteps w thread new (record { alike = made; reply = reply Done w; end = AllMade })
   pub apart : StandApart l places w thread made
   pub there : Stands l places true (top_stands_at (run_from w (steps_of thread made)) thread)
 
-abbrev pub AreStepsUpTo : LinkedView → List CodePlace → World → ℕ → MachineView → StepsUpTo → Type 0
+abbrev pub AreStepsUpTo : {H : Type 0} → LinkedView → List CodePlace → World → ℕ → MachineView H → StepsUpTo → Type 0
 AreStepsUpTo l places w thread new (Ended s) = EndApart l places w thread new s
 AreStepsUpTo l places w thread new (AtPlace made) = EndAtPlace l places w thread new made
 

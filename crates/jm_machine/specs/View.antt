@@ -8,22 +8,24 @@ use Rattle.jm_state.specs.Parts.{parts}
 use Rattle.jm_state.specs.Runnable.{IsRunnable}
 use Rattle.jm_state.specs.View.{StateView}
 
--- a linked program with what its run has made: references are places, names are numbers
-pub record MachineView : Type 0 where
+-- a linked program with what its run has made: references are places, names are numbers. The heap is what the
+-- heap's own words speak of, and its content what is seen of it
+pub record MachineView (H : Type 0) : Type 0 where
   pub linked : LinkedView
+  pub heap : H
   pub content : Content ClassId
   pub state : StateView
 
 -- the parts that it stands for, each thing by its name
-abbrev pub machine_parts : MachineView → Parts ClassId
+abbrev pub machine_parts : {H : Type 0} → MachineView H → Parts ClassId
 machine_parts m = parts m.linked m.content m.state
 
 -- places renamed to serials, each of its parts is the world's
-abbrev pub MatchesWorld : MachineView → World → Type 0
+abbrev pub MatchesWorld : {H : Type 0} → MachineView H → World → Type 0
 MatchesWorld m w = Matches (machine_parts m) w
 
 -- what holds of every machine: it keeps to what every run keeps to, and matches some world
-pub record IsMachine (m : MachineView) : Type 0 where
+pub record IsMachine {H : Type 0} (m : MachineView H) : Type 0 where
   pub runs : IsRunnable m.linked m.state
   pub world : World
   pub matches : MatchesWorld m world

@@ -6,14 +6,18 @@ ghost use Rattle.jm_world.specs.Matches.{Matches};
 ghost use Rattle.jm_world.specs.Run.{after, after_event, after_step};
 ghost use Rattle.jm_world.specs.Stepping.{step_thread};
 ghost use Rattle.jm_world.specs.declared.event.Event.TheVariants.{Step};
+ghost use Rattle.jm_heap.specs.Allocation.{NewLie};
+ghost use Rattle.jm_heap.specs.Collection.{IsAsBefore};
 ghost use Rattle.jm_state.specs.Parts.{state_parts};
+ghost use Rattle.jm_state.specs.Places.{places_of};
 ghost use Rattle.jm_state.specs.Reached.{LeavesReachable};
 ghost use Rattle.jm_state.specs.Runnable.{StateRuns};
+ghost use Rattle.jm_state.specs.View.{view_of};
 ghost use Rattle.jm_state.specs.declared.thread.Ending.TheVariants.{Running};
 ghost use Rattle.jm_interp.specs.PlainRuns.{MakesDone};
 ghost use Rattle.jm_interp.specs.ThreadRuns.{IsWithin, Makes};
 ghost use Rattle.jm_machine.specs.Answered.{IsAnswered};
-ghost use Rattle.jm_machine.specs.Collected.{LeavesAfter};
+ghost use Rattle.jm_machine.specs.Collected.{CollectsIn, LeavesAfter};
 ghost use Rattle.jm_machine.specs.Threads.{ending_numbered};
 
 use crate::fault::OutOfMemory;
@@ -59,6 +63,7 @@ fn step_running<H: Heap>(
     requires running { ending_numbered state.old.threads.items number ≡ Some Running }
     ensures event { (w : World) (t : ModelThread) → Matches (state_parts H.content linked.now state.old) w → thread_at w number ≡ Some t → MatchResult result (λ kind. IsAnswered (state_parts H.content linked.now state.new) kind (after_step w (step_thread w number t))) (λ _. Matches (state_parts H.content linked.now state.new) w) }
     ensures runs { StateRuns linked.now state.new }
+    ensures nursery { NewLie (λ p. H.nursery_of p nursery) (H.content state.old.heap) (H.content state.new.heap) }
 {
     match step_thread(alloc, linked, state, number, nursery) {
         Ok(StepEnd::Done) => Ok(ReplyKind::Done),
@@ -83,6 +88,7 @@ fn step_numbered<H: Heap>(
     requires matched { (w : World) × Matches (state_parts H.content linked.now state.old) w }
     ensures event { (w : World) → Matches (state_parts H.content linked.now state.old) w → MatchResult result (λ kind. IsAnswered (state_parts H.content linked.now state.new) kind (after_event w (Step number))) (λ _. Matches (state_parts H.content linked.now state.new) w) }
     ensures runs { StateRuns linked.now state.new }
+    ensures nursery { NewLie (λ p. H.nursery_of p nursery) (H.content state.old.heap) (H.content state.new.heap) }
 {
     match ending_of(&state.threads, number) {
         None => Ok(ReplyKind::None),
@@ -105,6 +111,8 @@ fn collect_kind<H: Heap>(
     ensures runs { StateRuns linked.now state.new }
     ensures kind { MatchResult result (λ kind. kind ≡ ReplyKind.Done) (λ _. Unit {0}) }
     ensures leaves { (w : World) → Matches (state_parts H.content linked.now state.old) w → OnOk result (LeavesReachable kind (H.content state.new.heap) w) }
+    ensures word { OnOk result (H.leaves kind state.old.heap state.new.heap (places_of (view_of state.old)) (places_of (view_of state.new))) }
+    ensures as_before { IsAsBefore (H.content state.old.heap) (H.content state.new.heap) }
 {
     match collect(alloc, linked, state, kind) {
         Ok(()) => Ok(ReplyKind::Done),
@@ -124,6 +132,8 @@ pub(crate) fn make_event<H: Heap>(
     requires matched { (w : World) × Matches (state_parts H.content linked.now state.old) w }
     ensures event { (w : World) → Matches (state_parts H.content linked.now state.old) w → MatchResult result (λ kind. IsAnswered (state_parts H.content linked.now state.new) kind (after w event)) (λ _. Matches (state_parts H.content linked.now state.new) w) }
     ensures leaves { (w : World) → Matches (state_parts H.content linked.now state.old) w → OnOk result (LeavesAfter event (H.content state.new.heap) w) }
+    ensures collects { OnOk result (CollectsIn H.leaves event state.old.heap (view_of state.old) state.new.heap (view_of state.new)) }
+    ensures nursery { NewLie (λ p. H.nursery_of p nursery) (H.content state.old.heap) (H.content state.new.heap) }
     ensures runs { StateRuns linked.now state.new }
 {
     if state.stop.is_some() {

@@ -4,18 +4,20 @@ ghost use Rattle.std.specs.Prelude.{◌≡◌, ℕ, List, MatchResult, OnOk, Mat
 ghost use Rattle.jm_world.specs.Monitors.{monitor_in};
 ghost use Rattle.jm_world.specs.World.{World, live_among, thread_at};
 ghost use Rattle.jm_world.specs.Run.{after, run_from, replies_from};
+ghost use Rattle.jm_heap.specs.Allocation.{NewLie};
 ghost use Rattle.jm_state.specs.Reached.{AreReachable};
 ghost use Rattle.jm_interp.specs.PlainRuns.{MakesDone};
 ghost use Rattle.jm_interp.specs.ThreadRuns.{IsWithin, Makes};
 ghost use Rattle.jm_linked.specs.Links.{name_of_number};
 ghost use Rattle.jm_machine.specs.CodePlaces.{AreFree, name_of_code, top_stands_at};
-ghost use Rattle.jm_machine.specs.Collected.{LeavesAfter};
+ghost use Rattle.jm_machine.specs.Collected.{Collects, LeavesAfter};
+ghost use Rattle.jm_machine.specs.EachEvent.{MakesEach};
 ghost use Rattle.jm_machine.specs.Readers.{model_frame, model_monitor, frame_at, pending_of, IsOfProgram, TellsObject};
 ghost use Rattle.jm_machine.specs.ReachedObjects.{TellsReached};
 ghost use Rattle.jm_machine.specs.ManySteps.{AreSteps, EndsBy, done_reply};
 ghost use Rattle.jm_machine.specs.UpToPlaces.{AreStepsUpTo, EndsUpTo};
 ghost use Rattle.jm_machine.specs.Threads.{class_ended_by, is_live};
-ghost use Rattle.jm_machine.specs.View.{MatchesWorld, machine_parts};
+ghost use Rattle.jm_machine.specs.View.{MachineView, MatchesWorld, machine_parts};
 
 use crate::class::class_name;
 use crate::code_method::{CodeMethod, code_method};
@@ -62,11 +64,11 @@ impl<H: Heap> Model for Machine<H> {
     ghost use Rattle.jm_state.specs.View.{view_of};
     ghost use Rattle.jm_machine.specs.View.{MachineView, IsMachine};
 
-    ghost Value = { MachineView };
+    ghost Value = { MachineView H };
 
-    ghost view = { λ m. record { linked = m.linked; content = H.content m.state.heap; state = view_of m.state } };
+    ghost view = { λ m. record { linked = m.linked; heap = m.state.heap; content = H.content m.state.heap; state = view_of m.state } };
 
-    ghost invariant = { λ m. IsMachine (record { linked = m.linked; content = H.content m.state.heap; state = view_of m.state }) };
+    ghost invariant = { λ m. IsMachine (record { linked = m.linked; heap = m.state.heap; content = H.content m.state.heap; state = view_of m.state }) };
 }
 
 impl<H: Heap + Drop> Machine<H> {
@@ -106,12 +108,16 @@ impl<H: Heap + Drop> Machine<H> {
 }
 
 impl<H: Heap> Machine<H> {
-    /// Makes one event; an object that it makes is made in the nursery of that number, which has no
-    /// part in what it is. After `Full`, of a world that has not stopped, exactly the objects that
-    /// the world reaches are resident. `OutOfMemory`: the machine is that of the world before.
+    /// Makes one event; an object that it makes lies in the nursery of that number, which has no
+    /// part in what it is. A collection on request of a world that has not stopped makes of the heap
+    /// what the heap says of its kind, with the places that the machine holds as roots; after `Full`
+    /// exactly the objects that the world reaches are resident. `OutOfMemory`: the machine is that of
+    /// the world before.
     pub fn step_at(&mut self, nursery: usize, event: Event) -> Result<Reply, OutOfMemory>
         ensures next { (w : World) → MatchesWorld self.old w → MatchResult result (λ reply. MatchesWorld self.new (after w event).world × (reply ≡ (after w event).reply)) (λ _. MatchesWorld self.new w) }
         ensures leaves { (w : World) → MatchesWorld self.old w → OnOk result (LeavesAfter event self.new.content w) }
+        ensures collects { OnOk result (Collects H.leaves event self.old self.new) }
+        ensures nursery { NewLie (λ p. H.nursery_of p nursery) self.old.content self.new.content }
         ensures linked { self.new.linked ≡ self.old.linked }
     {
         let alloc = self.alloc;
@@ -123,6 +129,8 @@ impl<H: Heap> Machine<H> {
     pub fn step(&mut self, event: Event) -> Result<Reply, OutOfMemory>
         ensures next { (w : World) → MatchesWorld self.old w → MatchResult result (λ reply. MatchesWorld self.new (after w event).world × (reply ≡ (after w event).reply)) (λ _. MatchesWorld self.new w) }
         ensures leaves { (w : World) → MatchesWorld self.old w → OnOk result (LeavesAfter event self.new.content w) }
+        ensures collects { OnOk result (Collects H.leaves event self.old self.new) }
+        ensures nursery { NewLie (λ p. H.nursery_of p 0) self.old.content self.new.content }
         ensures linked { self.new.linked ≡ self.old.linked }
     {
         self.step_at(0, event)
@@ -242,11 +250,13 @@ impl<H: Heap> Machine<H> {
         make_plain(&self.linked, &mut self.state, thread, most)
     }
 
-    /// Makes events, one after the other, and answers their replies. `Interrupted`: a growth was
-    /// refused; the machine is where the events that were made lead.
+    /// Makes events, one after the other, as [`Machine::step`] makes each, and answers their replies.
+    /// `Interrupted`: a growth was refused; the machine is where the events that were made lead.
     pub fn run(&mut self, events: &[Event]) -> Result<Vec<Reply>, Interrupted>
         ensures run { (w : World) → MatchesWorld self.old w → MatchResult result (λ replies. MatchesWorld self.new (run_from w events.now) × (replies.items ≡ replies_from w events.now)) (λ fault. MatchesWorld self.new (run_from w (take fault.made events.now))) }
         ensures made { IfErr result (λ fault. fault.made ≤ length events.now) }
+        ensures each { OnOk result (MakesEach H.leaves (λ p. H.nursery_of p 0) events.now self.old self.new) }
+        ensures before { IfErr result (λ fault. (mid : MachineView _) × MakesEach H.leaves (λ p. H.nursery_of p 0) (take fault.made events.now) self.old mid) }
     {
         let Ok(mut replies) = Vec::with_capacity(self.alloc, events.len()) else {
             return Err(Interrupted { made: 0 });

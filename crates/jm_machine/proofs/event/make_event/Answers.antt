@@ -1,9 +1,10 @@
 use Rattle.jm_machine.specs.Collected.{LeavesAfter}
-use Rattle.jm_machine.proofs.Collected.{holds_reachable, stopped_leaves, told_ok}
-use Rattle.std.proofs.Common.{sym, subst, ap, ◌∙◌, MatchResult}
+use Rattle.jm_machine.proofs.Collected.{holds_reachable, stopped_leaves, told_ok, stopped_collects, step_collects, minor_collects, full_collects}
+use Rattle.std.proofs.Common.{refl, sym, subst, ap, ◌∙◌, MatchResult}
 use Rattle.jm_world.specs.Run.{After, after, after_event}
 use Rattle.jm_world.specs.Matches.{Matches}
 use Rattle.jm_state.specs.Parts.{state_parts}
+use Rattle.jm_heap.proofs.NewPlaces.{none_new, none_new_same}
 use Rattle.jm_machine.specs.Answered.{IsAnswered}
 use Rattle.jm_machine.proofs.Events.{after_stop, after_going, some_is, none_is, collected}
 use Rattle.jm_machine.proofs.event.make_event.Goals as goal
@@ -40,3 +41,26 @@ pub returns-in-Full-clause-leaves : goal.returns-in-Full-clause-leaves
 returns-in-Full-clause-leaves g c w m =
     let call = c.collect_kind-in-Full in
     told_ok call.result (λ left. subst (λ e. LeavesAfter e (g.H.Heap.content call.new.state.heap) w) (sym c.in-Full.is) (λ none. holds_reachable _ _ _ w (call.ensures.kept w m) left)) (call.ensures.leaves w m)
+
+pub returns-then-is_some-clause-collects : goal.returns-then-is_some-clause-collects
+returns-then-is_some-clause-collects g c =
+    let x = some_is c.args.state.now.stop (sym c.is_some.ensures ∙ c.if-is_some.true) in
+    stopped_collects g.H.Heap.leaves c.args.event _ _ _ _ x.1
+
+pub returns-in-Step-clause-collects : goal.returns-in-Step-clause-collects
+returns-in-Step-clause-collects g c = step_collects g.H.Heap.leaves c.args.event _ _ _ _ c.step_numbered.result _ c.in-Step.is
+
+pub returns-in-Minor-clause-collects : goal.returns-in-Minor-clause-collects
+returns-in-Minor-clause-collects g c = minor_collects g.H.Heap.leaves c.args.event _ _ _ _ c.collect_kind.result c.in-Minor.is c.collect_kind.ensures.word
+
+pub returns-in-Full-clause-collects : goal.returns-in-Full-clause-collects
+returns-in-Full-clause-collects g c = full_collects g.H.Heap.leaves c.args.event _ _ _ _ c.collect_kind-in-Full.result c.in-Full.is c.collect_kind-in-Full.ensures.word
+
+pub returns-then-is_some-clause-nursery : goal.returns-then-is_some-clause-nursery
+returns-then-is_some-clause-nursery g c = none_new_same _ _ _ refl
+
+pub returns-in-Minor-clause-nursery : goal.returns-in-Minor-clause-nursery
+returns-in-Minor-clause-nursery g c = none_new _ _ _ c.collect_kind.ensures.as_before
+
+pub returns-in-Full-clause-nursery : goal.returns-in-Full-clause-nursery
+returns-in-Full-clause-nursery g c = none_new _ _ _ c.collect_kind-in-Full.ensures.as_before

@@ -18,3 +18,15 @@ returns-in-Err-Stopped-clause-event g c = λ w t m e.
 
 pub returns-in-Err-OutOfMemory-clause-event : goal.returns-in-Err-OutOfMemory-clause-event
 returns-in-Err-OutOfMemory-clause-event g c = λ w t m e. refused _ w (step_thread w c.args.number t) _ c.in-Err-OutOfMemory.field-0-is (c.in-Err-OutOfMemory.ensures.next w t m e)
+
+pub returns-in-Ok-Done-clause-nursery : goal.returns-in-Ok-Done-clause-nursery
+returns-in-Ok-Done-clause-nursery g c = c.step_thread.ensures.nursery
+
+pub returns-in-Ok-Blocked-clause-nursery : goal.returns-in-Ok-Blocked-clause-nursery
+returns-in-Ok-Blocked-clause-nursery g c = c.step_thread.ensures.nursery
+
+pub returns-in-Err-Stopped-clause-nursery : goal.returns-in-Err-Stopped-clause-nursery
+returns-in-Err-Stopped-clause-nursery g c = c.step_thread.ensures.nursery
+
+pub returns-in-Err-OutOfMemory-clause-nursery : goal.returns-in-Err-OutOfMemory-clause-nursery
+returns-in-Err-OutOfMemory-clause-nursery g c = c.step_thread.ensures.nursery

@@ -2,6 +2,7 @@ use Rattle.std.proofs.Common.{subst, take, arith}
 use Rattle.jm_world.specs.Run.{run_from}
 use Rattle.jm_world.specs.declared.event.Event.TheVariants.{Step}
 use Rattle.jm_machine.specs.View.{MatchesWorld}
+use Rattle.jm_machine.proofs.EachEvent.{one_more}
 use Rattle.jm_machine.proofs.Folds.{run_more, replied}
 use Rattle.jm_machine.proofs.machine.Machine.run.Goals as goal
 
@@ -17,6 +18,11 @@ loop-made-preserved g c =
             subst (MatchesWorld c.step.new.self) (run_more w events made (Step 0) c.loop-made-test.true) now.0,
             replied w events made (Step 0) c.loop-made.replies.items c.push_reserved.new.self.items c.in-Ok-step.reply c.loop-made-test.true c.push_reserved.ensures.items before.1 now.1,
           );
+      each = one_more g.H.Heap.leaves _ events made (Step 0) _ _ _ c.loop-made-test.true i.each (record {
+        next = λ w m. (c.in-Ok-step.ensures.next w m).0;
+        collects = c.in-Ok-step.ensures.collects;
+        nursery = c.step.ensures.nursery;
+      });
       len = omega arith;
       room = omega arith;
     }
