@@ -17,7 +17,7 @@ use Rattle.jm_debug.specs.declared.place.Place.{Place}
 use Rattle.jm_debug.proofs.LongTurns.{Passes, turns, turns_breaks, turns_run}
 
 -- the breaks by number of a debugger are those of one that has the same code and the same breaks
-pub stays_marked : {old new : DebuggerView} (marks : List CodePlace) → StaysMarked old new → IsMarked old marks → IsMarked new marks
+pub stays_marked : {H : Type 0} {old new : DebuggerView H} (marks : List CodePlace) → StaysMarked old new → IsMarked old marks → IsMarked new marks
 stays_marked {old} {new} marks same are =
     subst (λ l. AreMarks l new.breaks marks) (sym same.linked) (subst (λ breaks. AreMarks old.machine.linked breaks marks) (sym same.breaks) are)
 
@@ -40,7 +40,7 @@ no_break l breaks marks are (Some i) apart =
     (ap (λ m. holds_break breaks (place_in m i.at)) (sym apart.named) ∙ sym (are apart.number i.at apart.within) ∙ apart.place)
 
 -- turns of a thread that stands apart from them pass no break
-pub passes : {d : DebuggerView} {s : Session} (marks : List CodePlace) (n count : ℕ) → IsSession d s → IsMarked d marks
+pub passes : {H : Type 0} {d : DebuggerView H} {s : Session} (marks : List CodePlace) (n count : ℕ) → IsSession d s → IsMarked d marks
     → StandApart d.machine.linked marks s.world n count → Passes s n count
 passes {d} {s} marks n count at are apart = λ k below.
     ap (λ breaks. break_at breaks (place_of_thread (thread_at (turns k n s).world n))) (turns_breaks k n s ∙ sym at.breaks)

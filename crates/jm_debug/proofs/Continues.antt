@@ -58,16 +58,16 @@ an_event s first blocked n left is none goes =
 
 -- ---- what the debugger is at then
 
-over : (d : DebuggerView) (s : Session) (line answer : List ℕ) (is : Shown) (t : Session) → is ≡ says line t → answer ≡ ended line → IsSession d t
+over : {H : Type 0} (d : DebuggerView H) (s : Session) (line answer : List ℕ) (is : Shown) (t : Session) → is ≡ says line t → answer ≡ ended line → IsSession d t
     → (is.answer ≡ Ok answer) × IsSession d is.next
 over d s line answer is t same text at = (ap (λ (x : Shown). x.answer) same ∙ ap Ok (sym text), subst (IsSession d) (sym (ap (λ (x : Shown). x.next) same)) at)
 
-pub over_ended : (most : ℕ) (d : DebuggerView) (s : Session) (first : Bool) (blocked : ℕ) (answer : List ℕ) → 0 < most → turn_of s blocked ≡ turn.Ended
+pub over_ended : {H : Type 0} (most : ℕ) (d : DebuggerView H) (s : Session) (first : Bool) (blocked : ℕ) (answer : List ℕ) → 0 < most → turn_of s blocked ≡ turn.Ended
     → answer ≡ codes "ended\n" → IsSession d s → IsOver most s first blocked d answer
 over_ended zero d s first blocked answer some is text at = absurd (omega arith)
 over_ended (suc left) d s first blocked answer some is text at = over d s (codes "ended") answer _ s (no_thread s first blocked left is) text at
 
-pub over_blocked : (most : ℕ) (d : DebuggerView) (s : Session) (first : Bool) (blocked : ℕ) (answer : List ℕ) → 0 < most → turn_of s blocked ≡ turn.Blocked
+pub over_blocked : {H : Type 0} (most : ℕ) (d : DebuggerView H) (s : Session) (first : Bool) (blocked : ℕ) (answer : List ℕ) → 0 < most → turn_of s blocked ≡ turn.Blocked
     → answer ≡ codes "blocked\n" → IsSession d s → IsOver most s first blocked d answer
 over_blocked zero d s first blocked answer some is text at = absurd (omega arith)
 over_blocked (suc left) d s first blocked answer some is text at = over d s (codes "blocked") answer _ s (all_blocked s first blocked left is) text at
@@ -77,7 +77,7 @@ met_on : (n : ℕ) (answer : List ℕ) (met : Option Place) → Some answer ≡ 
 met_on n answer None is = cc
 met_on n answer (Some p) is = (p, refl, cc)
 
-pub over_at_break : (most : ℕ) (d : DebuggerView) (s : Session) (first : Bool) (blocked n : ℕ) (answer : List ℕ) → 0 < most → turn_of s blocked ≡ turn.Of n
+pub over_at_break : {H : Type 0} (most : ℕ) (d : DebuggerView H) (s : Session) (first : Bool) (blocked n : ℕ) (answer : List ℕ) → 0 < most → turn_of s blocked ≡ turn.Of n
     → Some answer ≡ option_map (λ p. ended (break_text n p)) (break_before s first n) → IsSession d (record s { cursor = n }) → IsOver most s first blocked d answer
 over_at_break zero d s first blocked n answer some is met at = absurd (omega arith)
 over_at_break (suc left) d s first blocked n answer some is met at =
@@ -89,7 +89,7 @@ none_met n None is = refl
 none_met n (Some p) is = cc
 
 -- the last of some events, to which those before it have led from a session on
-pub last_event : (most before : ℕ) (d : DebuggerView) (s : Session) (first : Bool) (blocked : ℕ) (t : Session) (later : Bool) (row n : ℕ) (kind : ReplyKind) (moved : Moved)
+pub last_event : {H : Type 0} (most before : ℕ) (d : DebuggerView H) (s : Session) (first : Bool) (blocked : ℕ) (t : Session) (later : Bool) (row n : ℕ) (kind : ReplyKind) (moved : Moved)
     → before < most → ((left : ℕ) → continue_from (before + left) first blocked s ≡ continue_from left later row t) → turn_of t row ≡ turn.Of n → break_before t later n ≡ None
     → kind ≡ kind_of n t → IsSession d (turned n t) → MovesBy (before + 1) kind row moved → Moves most s first blocked d (Ok moved)
 last_event most before d s first blocked t later row n kind (Over line) few led is none made at by =
@@ -109,7 +109,7 @@ last_event most before d s first blocked t later row n kind (On some count) few 
           ∙ ap (λ m. continue_from left false m (turned n t)) (sym many),
     )
 
-pub after_event : (most : ℕ) (d : DebuggerView) (s : Session) (first : Bool) (blocked n : ℕ) (kind : ReplyKind) (moved : Moved) → 0 < most → turn_of s blocked ≡ turn.Of n
+pub after_event : {H : Type 0} (most : ℕ) (d : DebuggerView H) (s : Session) (first : Bool) (blocked n : ℕ) (kind : ReplyKind) (moved : Moved) → 0 < most → turn_of s blocked ≡ turn.Of n
     → None ≡ option_map (λ (p : Place). ended (break_text n p)) (break_before s first n) → kind ≡ kind_of n s → IsSession d (turned n s) → MovesBy 1 kind blocked moved
     → Moves most s first blocked d (Ok moved)
 after_event most d s first blocked n kind moved some is none made at by =
@@ -148,24 +148,24 @@ stays s first blocked = stays_on s first blocked (turn_of s blocked) refl
 -- ---- the turns so far
 
 -- a session from which a continue goes on as from where it began, some turns on
-pub record GoesOn (s : Session) (made blocked : ℕ) (d : DebuggerView) : Type 0 where
+pub record GoesOn {H : Type 0} (s : Session) (made blocked : ℕ) (d : DebuggerView H) : Type 0 where
   pub session : Session
   pub is : IsSession d session
   pub rest : (left : ℕ) → continue_from (made + left) true 0 s ≡ continue_from left (nat_eq made 0) blocked session
 
 -- where a session is left
-pub left_at : (s : Session) (made blocked most : ℕ) (d : DebuggerView) → made ≤ most → GoesOn s made blocked d → (t : Session) × ContinuesWithin most s t × IsSession d t
+pub left_at : {H : Type 0} (s : Session) (made blocked most : ℕ) (d : DebuggerView H) → made ≤ most → GoesOn s made blocked d → (t : Session) × ContinuesWithin most s t × IsSession d t
 left_at s made blocked most d within on =
     let here : on.session ≡ (continue_from made true 0 s).next =
     sym (stays on.session (nat_eq made 0) blocked) ∙ ap (λ (x : Shown). x.next) (sym (on.rest 0)) ∙ ap (λ n. (continue_from n true 0 s).next) (add-zero made) in
     (on.session, (made, within, here), on.is)
 
-pub refused_at : (s : Session) (made blocked most : ℕ) (d e : DebuggerView) → made ≤ most → (on : GoesOn s made blocked d) → IsSession e on.session
+pub refused_at : {H : Type 0} (s : Session) (made blocked most : ℕ) (d e : DebuggerView H) → made ≤ most → (on : GoesOn s made blocked d) → IsSession e on.session
     → (t : Session) × ContinuesWithin most s t × IsSession e t
 refused_at s made blocked most d e within on at = left_at s made blocked most e within (record { session = on.session; is = at; rest = on.rest })
 
 -- where it is over
-pub over_at : (s : Session) (made blocked most : ℕ) (d e : DebuggerView) (answer : List ℕ) → made < most → (on : GoesOn s made blocked d)
+pub over_at : {H : Type 0} (s : Session) (made blocked most : ℕ) (d e : DebuggerView H) (answer : List ℕ) → made < most → (on : GoesOn s made blocked d)
     → IsOver (most - made) on.session (nat_eq made 0) blocked e answer → ((continue_from most true 0 s).answer ≡ Ok answer) × IsSession e (continue_from most true 0 s).next
 over_at s made blocked most d e answer below on is =
     let whole : made + (most - made) ≡ most = omega arith in
@@ -174,7 +174,7 @@ over_at s made blocked most d e answer below on is =
     (ap (λ (x : Shown). x.answer) same ∙ is.0, subst (IsSession e) (sym (ap (λ (x : Shown). x.next) same)) is.1)
 
 -- where it is over, and the answer finds no memory
-pub lost_at : (s : Session) (made blocked most : ℕ) (d e : DebuggerView) (answer : List ℕ) → made < most → (on : GoesOn s made blocked d)
+pub lost_at : {H : Type 0} (s : Session) (made blocked most : ℕ) (d e : DebuggerView H) (answer : List ℕ) → made < most → (on : GoesOn s made blocked d)
     → IsOver (most - made) on.session (nat_eq made 0) blocked e answer → (t : Session) × ContinuesWithin most s t × IsSession e t
 lost_at s made blocked most d e answer below on over =
     let is = over_at s made blocked most d e answer below on over in
@@ -188,7 +188,7 @@ later made some = by (eqb_tells made 0)
     by (inr q) = q.0
 
 -- where it goes on
-pub goes_on : (s : Session) (made blocked some count : ℕ) (d e : DebuggerView) (on : GoesOn s made blocked d) → 0 < some → (t : Session) → IsSession e t
+pub goes_on : {H : Type 0} (s : Session) (made blocked some count : ℕ) (d e : DebuggerView H) (on : GoesOn s made blocked d) → 0 < some → (t : Session) → IsSession e t
     → ((left : ℕ) → continue_from (some + left) (nat_eq made 0) blocked on.session ≡ continue_from left false count t) → GoesOn s (made + some) count e
 goes_on s made blocked some count d e on low t is next = record {
   session = t;
@@ -199,7 +199,7 @@ goes_on s made blocked some count d e on low t is next = record {
 }
 
 -- after all of them
-pub all_made : (s : Session) (made blocked most : ℕ) (d : DebuggerView) (answer : List ℕ) → made ≡ most → (on : GoesOn s made blocked d)
+pub all_made : {H : Type 0} (s : Session) (made blocked most : ℕ) (d : DebuggerView H) (answer : List ℕ) → made ≡ most → (on : GoesOn s made blocked d)
     → (continue_from 0 (nat_eq made 0) blocked on.session).answer ≡ Ok answer → ((continue_from most true 0 s).answer ≡ Ok answer) × IsSession d (continue_from most true 0 s).next
 all_made s made blocked most d answer all on said =
     let same : continue_from most true 0 s ≡ continue_from 0 (nat_eq made 0) blocked on.session =

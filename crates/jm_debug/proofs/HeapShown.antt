@@ -29,7 +29,7 @@ on_ok_if (Ok t) P c x y makes is = makes is
 on_ok_if (Err e) P c x y makes is = tt
 
 -- the limit of a machine's heap is the world's
-pub limit_is : (m : MachineView) (w : World) → MatchesWorld m w → m.content.limit ≡ w.limit
+pub limit_is : {H : Type 0} (m : MachineView H) (w : World) → MatchesWorld m w → m.content.limit ≡ w.limit
 unfolding parts
 limit_is m w is = is.limit
 

@@ -175,7 +175,7 @@ led_by (suc k) n s r rest more alone passes is h =
       replies = next.replies;
     }
 
-module _ (s : Session) (n : ℕ) (alone : IsAlone s n) (alike : ℕ) (r : Reply) (new : MachineView) where
+module _ {H : Type 0} (s : Session) (n : ℕ) (alone : IsAlone s n) (alike : ℕ) (r : Reply) (new : MachineView H) where
   -- steps that came to an end
   ended_by : (end : StepsEnd) → Passes s n alike → AreSteps s.world n new (record { alike = alike; reply = r; end = end })
       → LedBy alike n s (other_replies end) (steps_of n (length (other_replies end)))
@@ -184,7 +184,7 @@ module _ (s : Session) (n : ℕ) (alone : IsAlone s n) (alike : ℕ) (r : Reply)
       (are.replies ∙ ap (replies_from s.world) (sym (replicate-append-replicate alike (length (other_replies end)) (event.Step n))))
 
   -- all of them done: they lead on
-  pub all_on : (most : ℕ) (d : DebuggerView) (end : StepsEnd) → other_replies end ≡ [] → 0 < alike → Passes s n alike
+  pub all_on : (most : ℕ) (d : DebuggerView H) (end : StepsEnd) → other_replies end ≡ [] → 0 < alike → Passes s n alike
       → AreSteps s.world n new (record { alike = alike; reply = r; end = end })
       → d.machine ≡ new → d.breaks ≡ s.breaks → d.cursor ≡ n + 1 → Moves most s false 0 d (Ok (On alike 0))
   all_on most d end none some passes are machine breaks cursor =
@@ -202,7 +202,7 @@ module _ (s : Session) (n : ℕ) (alone : IsAlone s n) (alike : ℕ) (r : Reply)
       )
 
   -- behind them the one that answered otherwise
-  pub other_last : (most : ℕ) (d : DebuggerView) (other : Reply) (moved : Moved) → alike < most → Passes s n (alike + 1)
+  pub other_last : (most : ℕ) (d : DebuggerView H) (other : Reply) (moved : Moved) → alike < most → Passes s n (alike + 1)
       → AreSteps s.world n new (record { alike = alike; reply = r; end = Other other })
       → d.machine ≡ new → d.breaks ≡ s.breaks → d.cursor ≡ n + 1 → MovesBy (alike + 1) other.kind 0 moved → Moves most s false 0 d (Ok moved)
   other_last most d other moved few passes are machine breaks cursor by =

@@ -42,7 +42,7 @@ alike_reply zero e w r is = cc
 alike_reply (suc n) e w r is = alike_reply n e (after w e).world r (cc)
 
 -- a turn of some steps, behind some that were made before
-module _ (w : World) (thread before alike : ℕ) (r : Reply) (new : MachineView) where
+module _ {H : Type 0} (w : World) (thread before alike : ℕ) (r : Reply) (new : MachineView H) where
   -- where they lead
   led_to : (k : ℕ) → MatchesWorld new (run_from (repeated before (Step thread) w) (steps_of thread k)) → MatchesWorld new (repeated (before + k) (Step thread) w)
   led_to k m = subst (MatchesWorld new) (run_repeated k (Step thread) (repeated before (Step thread) w) ∙ repeated_twice before k (Step thread) w) m

@@ -10,6 +10,7 @@ use Rattle.jm_world.specs.declared.reply.ReplyKind.{ReplyKind}
 use Rattle.jm_world.specs.RoundRobin.{is_stopped}
 use Rattle.jm_linked.specs.Links.{LinkedView, name_of_number}
 use Rattle.jm_machine.specs.CodePlaces.{is_place}
+use Rattle.jm_machine.specs.Collected.{Word, Collects}
 use Rattle.jm_machine.specs.View.{MachineView, MatchesWorld}
 use Rattle.jm_machine.specs.declared.code_place.CodePlace.{CodePlace}
 use Rattle.jm_debug.specs.Commands.{command}
@@ -27,16 +28,26 @@ use Rattle.jm_debug.specs.declared.turn.Moved.{Moved}
 use Rattle.jm_debug.specs.declared.turn.Moved.TheVariants.{Over, AtBreak, On}
 
 -- a machine, the places that hold a break, and the thread from which the next turn is looked for
-pub record DebuggerView : Type 0 where
-  pub machine : MachineView
+pub record DebuggerView (H : Type 0) : Type 0 where
+  pub machine : MachineView H
   pub breaks : List Place
   pub cursor : ℕ
 
 -- a debugger stands at a session
-pub record IsSession (d : DebuggerView) (s : Session) : Type 0 where
+pub record IsSession {H : Type 0} (d : DebuggerView H) (s : Session) : Type 0 where
   pub world : MatchesWorld d.machine s.world
   pub breaks : d.breaks ≡ s.breaks
   pub cursor : d.cursor ≡ s.cursor
+
+-- what a command that asks for a collection makes of the machine's heap
+abbrev pub CollectsFor : {H : Type 0} → Word H → Option Command → DebuggerView H → DebuggerView H → Type 0
+CollectsFor leaves (Some Minor) old new = Collects leaves event.Minor old.machine new.machine
+CollectsFor leaves (Some Full) old new = Collects leaves event.Full old.machine new.machine
+CollectsFor leaves command old new = Unit {0}
+
+-- and a line
+abbrev pub CollectsAt : {H : Type 0} → Word H → List ℕ → DebuggerView H → DebuggerView H → Type 0
+CollectsAt leaves line old new = CollectsFor leaves (command line) old new
 
 -- the place that is written
 abbrev pub model_place : PlaceText → Place
@@ -83,18 +94,18 @@ LeavesIf s (Some c) t = Leaves s c t
 
 -- the answer's bytes and the next session; a refusal, which changes nothing; or want of memory, which
 -- left it at one of some sessions
-abbrev pub Comes : {X : Type 0} → (X → List ℕ) → DebuggerView → Session → Shown → (Session → Type 0) → Result X DebugFault → Type 0
+abbrev pub Comes : {H : Type 0} → {X : Type 0} → (X → List ℕ) → DebuggerView H → Session → Shown → (Session → Type 0) → Result X DebugFault → Type 0
 Comes bytes d s is left (Ok x) = (is.answer ≡ Ok (bytes x)) × IsSession d is.next
 Comes bytes d s is left (Err BadCommand) = (is.answer ≡ Err BadCommand) × IsSession d s
 Comes bytes d s is left (Err NoSuch) = (is.answer ≡ Err NoSuch) × IsSession d s
 Comes bytes d s is left (Err OutOfMemory) = (t : Session) × left t × IsSession d t
 
 -- of a command
-abbrev pub Obeys : {X : Type 0} → (X → List ℕ) → DebuggerView → Session → Command → Result X DebugFault → Type 0
+abbrev pub Obeys : {H : Type 0} → {X : Type 0} → (X → List ℕ) → DebuggerView H → Session → Command → Result X DebugFault → Type 0
 Obeys bytes d s c result = Comes bytes d s (obeyed s c) (Leaves s c) result
 
 -- of a line
-abbrev pub Answers : {X : Type 0} → (X → List ℕ) → DebuggerView → Session → List ℕ → Result X DebugFault → Type 0
+abbrev pub Answers : {H : Type 0} → {X : Type 0} → (X → List ℕ) → DebuggerView H → Session → List ℕ → Result X DebugFault → Type 0
 Answers bytes d s line result = Comes bytes d s (shown s line) (LeavesIf s (command line)) result
 
 -- whose turn it is has a number from 1 on
@@ -119,10 +130,10 @@ IsFew most blocked (Err fault) = Unit {0}
 
 -- of one turn of a continue that has so many events left, and one at least: it is over, or goes on from
 -- another session; want of memory leaves the session as it was
-abbrev pub IsOver : ℕ → Session → Bool → ℕ → DebuggerView → List ℕ → Type 0
+abbrev pub IsOver : {H : Type 0} → ℕ → Session → Bool → ℕ → DebuggerView H → List ℕ → Type 0
 IsOver most s first blocked d line = let is : Shown = continue_from most first blocked s in (is.answer ≡ Ok line) × IsSession d is.next
 
-abbrev pub Moves : ℕ → Session → Bool → ℕ → DebuggerView → Result Moved DebugFault → Type 0
+abbrev pub Moves : {H : Type 0} → ℕ → Session → Bool → ℕ → DebuggerView H → Result Moved DebugFault → Type 0
 Moves most s first blocked d (Ok (Over line)) = IsOver most s first blocked d line.now
 Moves most s first blocked d (Ok (AtBreak answer)) = IsOver most s first blocked d answer.bytes.items
 Moves most s first blocked d (Ok (On made count)) =
@@ -145,10 +156,10 @@ abbrev pub AreMarks : LinkedView → List Place → List CodePlace → Type 0
 AreMarks l breaks marks = (n at : ℕ) → n < length l.methods → is_place marks n at ≡ holds_break breaks (place_in (name_of_number l n) at)
 
 -- those of a debugger
-abbrev pub IsMarked : DebuggerView → List CodePlace → Type 0
+abbrev pub IsMarked : {H : Type 0} → DebuggerView H → List CodePlace → Type 0
 IsMarked d marks = AreMarks d.machine.linked d.breaks marks
 
 -- and of each that has the same code and the same breaks
-pub record StaysMarked (old new : DebuggerView) : Type 0 where
+pub record StaysMarked {H : Type 0} (old new : DebuggerView H) : Type 0 where
   pub linked : new.machine.linked ≡ old.machine.linked
   pub breaks : new.breaks ≡ old.breaks

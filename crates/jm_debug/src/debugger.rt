@@ -1,13 +1,14 @@
 // The debugger.
 
-ghost use Rattle.std.specs.Prelude.{◌≡◌, ◌<◌, ◌-◌, ◌^◌, ℕ, false, true, MatchResult, option_map};
+ghost use Rattle.std.specs.Prelude.{◌≡◌, ◌<◌, ◌-◌, ◌^◌, ℕ, false, true, MatchResult, OnOk, Some, option_map};
 ghost use Rattle.jm_program.specs.Texts.{utf16_of};
 ghost use Rattle.jm_world.specs.Run.{after};
 ghost use Rattle.jm_world.specs.World.{World};
 ghost use Rattle.jm_world.specs.declared.event.Event.TheVariants.{Step};
+ghost use Rattle.jm_machine.specs.Collected.{Collects};
 ghost use Rattle.jm_machine.specs.View.{MatchesWorld};
 ghost use Rattle.jm_debug.specs.Session.{Session, session_of, continue_from, ended, more, replies, with_break, without_break, with_breaks, break_before, break_text, turn_of, turned};
-ghost use Rattle.jm_debug.specs.Answering.{IsSession, Answers, Comes, ContinuesWithin, IsAlone, IsFew, IsMarked, Moves, Obeys, RepeatsWithin, StaysMarked};
+ghost use Rattle.jm_debug.specs.Answering.{IsSession, Answers, CollectsAt, CollectsFor, Comes, ContinuesWithin, IsAlone, IsFew, IsMarked, Moves, Obeys, RepeatsWithin, StaysMarked};
 
 use crate::breaks::{break_line, put_break, take_break};
 use crate::command::Command;
@@ -61,7 +62,7 @@ impl<H: Heap> Model for Debugger<H> {
     ghost use Rattle.std.specs.Prelude.{◌+◌};
     ghost use Rattle.jm_debug.specs.Answering.{DebuggerView};
 
-    ghost Value = { DebuggerView };
+    ghost Value = { DebuggerView H };
 
     ghost view = { λ d. record { machine = d.machine; breaks = d.breaks.items; cursor = d.last + 1 } };
 }
@@ -127,7 +128,8 @@ impl<H: Heap> Debugger<H> {
     // Makes an event. The room for the answer is taken first, so that no answer is lost once the event
     // is made.
     fn make(&mut self, event: Event) -> Result<String, DebugFault>
-        ensures { (s : Session) → IsSession self.old s → Comes (λ t. t.bytes.items) self.new s (replies s (after s.world event)) (λ t. t ≡ s) result }
+        ensures collects { OnOk result (Collects H.leaves event self.old.machine self.new.machine) }
+        ensures comes { (s : Session) → IsSession self.old s → Comes (λ t. t.bytes.items) self.new s (replies s (after s.world event)) (λ t. t ≡ s) result }
     {
         let mut answer = String::with_capacity(self.alloc, LONGEST_REPLY)?;
         let reply = self.machine.step(event)?;
@@ -298,7 +300,8 @@ impl<H: Heap> Debugger<H> {
 
     // Does what a command asks.
     fn obey(&mut self, command: Command) -> Result<String, DebugFault>
-        ensures { (s : Session) → IsSession self.old s → Obeys (λ t. t.bytes.items) self.new s command result }
+        ensures collects { OnOk result (CollectsFor H.leaves (Some command) self.old self.new) }
+        ensures obeys { (s : Session) → IsSession self.old s → Obeys (λ t. t.bytes.items) self.new s command result }
     {
         match command {
             Command::Break { place } => self.set_break(place),
@@ -330,9 +333,11 @@ impl<H: Heap> Debugger<H> {
     /// `NoSuch`: it names a thread, a frame, a class, a method, an instruction or an object that
     /// there is not, or an object that is not reachable; neither changes anything. `OutOfMemory`: a
     /// growth was refused; a `step` or a `continue` keeps the events that it has made, fewer than
-    /// all of a step, and any other command has changed nothing.
+    /// all of a step, and any other command has changed nothing. `minor` and `full` make of the heap,
+    /// where the machine has not stopped, what the heap says of the collection.
     pub fn command(&mut self, line: &str) -> Result<Vec<u8>, DebugFault>
-        ensures { (s : Session) → IsSession self.old s → Answers (λ v. v.items) self.new s (utf16_of line.now) result }
+        ensures collects { OnOk result (CollectsAt H.leaves (utf16_of line.now) self.old self.new) }
+        ensures answers { (s : Session) → IsSession self.old s → Answers (λ v. v.items) self.new s (utf16_of line.now) result }
     {
         let command = Command::parse(self.alloc, line)?;
         let answer = self.obey(command)?;

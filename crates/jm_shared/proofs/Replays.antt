@@ -5,7 +5,7 @@ use Rattle.jm_world.specs.World.{World}
 use Rattle.jm_state.specs.Parts.{parts}
 use Rattle.jm_machine.specs.View.{MachineView, MatchesWorld}
 
-pub same_output : (a b : MachineView) (w : World) → MatchesWorld a w → MatchesWorld b w → a.state.output ≡ b.state.output
+pub same_output : {G H : Type 0} (a : MachineView G) (b : MachineView H) (w : World) → MatchesWorld a w → MatchesWorld b w → a.state.output ≡ b.state.output
 unfolding parts
 same_output a b w p q = p.output ∙ sym q.output
 

@@ -19,7 +19,7 @@ use Rattle.jm_shared.specs.Legal.{IsLegal, entry_of, reply_of, events_of, world_
 use Rattle.jm_shared.specs.ManyTurns.{entries_of_turns}
 
 -- a journal without entries
-pub begun : (first : World) (es : List Entry) (m : MachineView) → es ≡ [] → MatchesWorld m first → IsLegal first es × MatchesWorld m (world_after first es)
+pub begun : {H : Type 0} (first : World) (es : List Entry) (m : MachineView H) → es ≡ [] → MatchesWorld m first → IsLegal first es × MatchesWorld m (world_after first es)
 begun first es m none matches = subst (λ xs. IsLegal first xs × MatchesWorld m (world_after first xs)) (sym none) (refl, matches)
 
 -- entries behind those that there are
@@ -42,7 +42,7 @@ world_more : (w : World) (es : List Entry) (e : Entry) → world_after w (es ++ 
 world_more w es e = world_append w es (e ∷ [])
 
 -- the journal stays legal, and the machine matches where it leads
-pub turned : (first : World) (es kept fs : List Entry) (e : Entry) (m : MachineView) → IsLegal first es → MatchesWorld m (after (world_after first es) e.event).world → reply_of e ≡ (after (world_after first es) e.event).reply
+pub turned : {H : Type 0} (first : World) (es kept fs : List Entry) (e : Entry) (m : MachineView H) → IsLegal first es → MatchesWorld m (after (world_after first es) e.event).world → reply_of e ≡ (after (world_after first es) e.event).reply
     → fs ≡ kept ++ e ∷ [] → kept ≡ es → IsLegal first fs × MatchesWorld m (world_after first fs)
 turned first es kept fs e m l w r is same =
     let more : fs ≡ es ++ e ∷ [] = is ∙ ap (λ xs. xs ++ e ∷ []) same in
@@ -82,7 +82,7 @@ module _ (t : Receipts) where
       ∙ (λ i. replies_replicate t.steps.alike (turn_entry t.steps.reply) i ++ replies_told t.seat (Step t.thread) (other_replies t.steps.end) i)
 
   -- the journal stays legal, and the machine matches where it leads
-  pub all_turned : (first : World) (es kept fs : List Entry) (m : MachineView) → IsLegal first es → AreSteps (world_after first es) t.thread m t.steps
+  pub all_turned : {H : Type 0} (first : World) (es kept fs : List Entry) (m : MachineView H) → IsLegal first es → AreSteps (world_after first es) t.thread m t.steps
       → fs ≡ kept ++ entries_of_turns t → kept ≡ es → IsLegal first fs × MatchesWorld m (world_after first fs)
   all_turned first es kept fs m l s is same =
       let w = world_after first es in
@@ -105,7 +105,7 @@ made_within most s ends = by s.end ends
 pub none_made : (s : Steps) (most : ℕ) → 0 < most → s.alike ≡ 0 → s.end ≡ OutOfMemory → EndsBy most s
 none_made s most some none end = subst (EndsFor most s) (sym end) (omega arith)
 
-pub no_steps_made : (w : World) (thread : ℕ) (m : MachineView) (s : Steps) → MatchesWorld m w → s.alike ≡ 0 → s.end ≡ OutOfMemory → s.reply ≡ reply Done w
+pub no_steps_made : {H : Type 0} (w : World) (thread : ℕ) (m : MachineView H) (s : Steps) → MatchesWorld m w → s.alike ≡ 0 → s.end ≡ OutOfMemory → s.reply ≡ reply Done w
     → AreSteps w thread m s
 no_steps_made w thread m s matches none end is =
     subst (AreSteps w thread m) (λ i. record { alike = sym none i; reply = s.reply; end = sym end i })

@@ -5,13 +5,13 @@ use Rattle.jm_machine.specs.View.{MachineView, MatchesWorld}
 use Rattle.jm_shared.specs.declared.entry.Entry.{Entry}
 use Rattle.jm_shared.specs.Legal.{IsLegal, world_after}
 
-pub record Book : Type 0 where
-  pub machine : MachineView
+pub record Book (H : Type 0) : Type 0 where
+  pub machine : MachineView H
   pub entries : List Entry
 
-abbrev pub book : MachineView → List Entry → Book
+abbrev pub book : {H : Type 0} → MachineView H → List Entry → Book H
 book machine entries = record { machine = machine; entries = entries }
 
 -- the entries are legal from a world on, and the machine matches the world to which they lead
-abbrev pub IsRunFrom : World → Book → Type 0
+abbrev pub IsRunFrom : {H : Type 0} → World → Book H → Type 0
 IsRunFrom first b = IsLegal first b.entries × MatchesWorld b.machine (world_after first b.entries)

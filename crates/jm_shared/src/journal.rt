@@ -5,6 +5,8 @@ ghost use Rattle.std.specs.Prelude.{OnErr, OnOk, MatchResult};
 ghost use Rattle.jm_world.specs.World.{World};
 ghost use Rattle.jm_world.specs.Run.{after, reply, run_from};
 ghost use Rattle.jm_world.specs.declared.reply.ReplyKind.TheVariants.{Done};
+ghost use Rattle.jm_heap.specs.Allocation.{NewLie};
+ghost use Rattle.jm_machine.specs.Collected.{Collects};
 ghost use Rattle.jm_machine.specs.ManySteps.{AreSteps, EndsBy};
 ghost use Rattle.jm_machine.specs.View.{MatchesWorld};
 ghost use Rattle.jm_shared.specs.Book.{IsRunFrom};
@@ -49,7 +51,7 @@ impl<H: Heap, R: Origin> Model for Journal<H, R> {
     ghost use Rattle.jm_shared.specs.Book.{Book, book, IsRunFrom};
     ghost use Rattle.jm_shared.specs.Stretches.{Rises, entries_of};
 
-    ghost Value = { Book };
+    ghost Value = { Book H };
 
     ghost view = { λ j. book j.machine (entries_of j.stretches.items j.last) };
 
@@ -98,12 +100,16 @@ impl<H: Heap, R: Origin> Journal<H, R> {
 
     /// Makes one event for a seat, in the nursery of the seat's number, and adds one entry. The
     /// time of a turn does not grow with the journal, but where its room doubles.
+    /// A collection on request makes of the heap what the heap says of its kind, and what is new lies
+    /// in that nursery.
     /// `OutOfMemory`: there is no new entry, and the machine is that of the world before. It comes
     /// after 2^64 - 1 turns too, since no number is left.
     pub fn turn(&mut self, seat: u8, event: Event) -> Result<Receipt, OutOfMemory>
         ensures receipt { IfOk result (λ receipt. receipt ≡ receipt_of (length self.old.entries) (entry_of seat event receipt.reply)) }
         ensures entries { MatchResult result (λ receipt. self.new.entries ≡ self.old.entries ++ entry_of seat event receipt.reply ∷ []) (λ _. self.new.entries ≡ self.old.entries) }
         ensures machine { (w : World) → MatchesWorld self.old.machine w → MatchResult result (λ receipt. MatchesWorld self.new.machine (after w event).world × (receipt.reply ≡ (after w event).reply)) (λ _. MatchesWorld self.new.machine w) }
+        ensures collects { OnOk result (Collects H.leaves event self.old.machine self.new.machine) }
+        ensures nursery { NewLie (λ p. H.nursery_of p seat) self.old.machine.content self.new.machine.content }
     {
         let number = self.last.end;
         let Some(end) = number.checked_add(1) else {

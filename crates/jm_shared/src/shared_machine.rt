@@ -34,7 +34,7 @@ impl<H: Heap, S: Sharing> Model for LockedJournal<H, S> {
     ghost use Rattle.std.specs.List.{All};
     ghost use Rattle.jm_shared.specs.Book.{Book};
 
-    ghost Value = { Book };
+    ghost Value = { Book H };
 
     ghost view = { λ l. l.journal };
 

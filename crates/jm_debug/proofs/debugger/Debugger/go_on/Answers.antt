@@ -48,7 +48,7 @@ returns-in_err-from_str g c = λ s at.
 pub returns : goal.returns
 returns g c = λ s at.
     let on = c.loop-made.invariant.on s at in
-    let here = subst (λ (d : DebuggerView). IsSession d on.session) (sym c.self-2.view_is) on.is in
+    let here = subst (λ (d : DebuggerView _). IsSession d on.session) (sym c.self-2.view_is) on.is in
     let all : c.loop-made.made ≡ c.args.most = omega arith in
     let line = c.last_line-line.ensures on.session (nat_eq c.loop-made.made 0) here.world here.cursor in
     all_made s c.loop-made.made c.loop-made.blocked c.args.most _ _ all on (line ∙ ap Ok (sym c.in_ok-from_str.ensures.ok))

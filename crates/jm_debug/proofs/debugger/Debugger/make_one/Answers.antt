@@ -6,7 +6,7 @@ use Rattle.jm_debug.proofs.debugger.Debugger.make_one.Goals as goal
 
 pub returns-in-Some-clause-moves : goal.returns-in-Some-clause-moves
 returns-in-Some-clause-moves g c = λ s most at left is.
-    let here = subst (λ (d : DebuggerView). IsSession d s) (sym c.self.view_is) at in
+    let here = subst (λ (d : DebuggerView _). IsSession d s) (sym c.self.view_is) at in
     let met = rw c.in-Some.is at (c.in_ok-line.ensures s at) in
     over_at_break most _ s c.args.first c.args.blocked c.args.thread _ left is met (record { world = here.world; breaks = here.breaks; cursor = omega arith })
 

@@ -24,5 +24,5 @@ returns-clause-output g c begins =
     let first = g.R.Origin.first in
     let same = c.deref.ensures.value ∙ c.in-Ok.ensures in
     on_ok _ _ _ c.run.result (c.run.ensures.run first begins)
-    (λ replies made. same_output _ _ (world_after first c.args.self.now.entries)
+    (λ replies made. same_output c.run.new.self c.args.self.now.machine (world_after first c.args.self.now.entries)
     (subst (λ es. MatchesWorld c.run.new.self (run_from first es)) same made.0) c.shows.ensures.1)

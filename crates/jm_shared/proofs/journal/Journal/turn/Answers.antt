@@ -1,5 +1,7 @@
 -- The journal has one entry more.
-use Rattle.std.proofs.Common.{◌∙◌, ap, sym, length}
+use Rattle.std.proofs.Common.{◌∙◌, ap, refl, sym, length}
+use Rattle.jm_heap.proofs.NewPlaces.{none_new_same}
+use Rattle.jm_shared.specs.Book.{Book}
 use Rattle.jm_shared.specs.Legal.{world_after, entry_of, receipt_of}
 use Rattle.jm_shared.specs.Stretches.{entries_of}
 use Rattle.jm_shared.proofs.Stretches.{how_many}
@@ -21,3 +23,9 @@ pub returns-clause-receipt : goal.returns-clause-receipt
 returns-clause-receipt g c =
     let entry = entry_of c.args.seat c.args.event c.in_ok-reply.reply in
     ap (λ n. receipt_of n entry) (sym (how_many _ _ c.self.invariant.0) ∙ ap (λ b. length b.entries) c.self.view_is)
+
+pub returns-in_default-clause-nursery : goal.returns-in_default-clause-nursery
+returns-in_default-clause-nursery g c = none_new_same _ _ _ refl
+
+pub returns-in_err-reserve-clause-nursery : goal.returns-in_err-reserve-clause-nursery
+returns-in_err-reserve-clause-nursery g c = none_new_same _ _ _ (ap (λ (b : Book _). b.machine.content) c.self.view_is)
