@@ -1,5 +1,4 @@
 pub mod FrequentRows
-pub mod Whole
 pub mod BuiltInNumbers
 pub mod BuiltIns
 pub mod Classes

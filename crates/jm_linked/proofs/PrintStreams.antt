@@ -23,7 +23,7 @@ use Rattle.jm_world.specs.Hierarchy.{chain, up_from, is_subclass, is_below, hold
 use Rattle.jm_world.specs.Resolution.{select, instance_along}
 use Rattle.jm_world.specs.Loads.{Refusal, Loads, refusal, or_else, when, first_of_all, wrong_kind, is_sealed, is_strange_interface}
 use Rattle.jm_world.specs.Loads.{superclass_of_kind, superclass_refusal, interface_of_kind, parents_refusal}
-use Rattle.jm_linked.specs.Later.{is_class_called, is_print, print_name, print_type, printed_type}
+use Rattle.jm_linked.specs.PrintStreams.{is_class_called, is_print, print_name, print_type, printed_type}
 use Rattle.jm_linked.specs.Links.{class_name_of}
 use Rattle.jm_linked.specs.declared.instruction.Printed.{Printed}
 use Rattle.jm_linked.specs.declared.instruction.Printed.TheVariants as printed

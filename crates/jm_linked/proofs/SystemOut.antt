@@ -28,7 +28,7 @@ use Rattle.jm_world.specs.declared.class_state.ClassState.{ClassState}
 use Rattle.jm_world.specs.declared.class_state.ClassState.TheVariants.{Done}
 use Rattle.jm_world.specs.declared.stage.Stage.TheVariants.{Begin}
 use Rattle.jm_values.specs.declared.fault.TagFault.TheVariants.{WrongKind}
-use Rattle.jm_linked.specs.Later.{is_class_called, is_system_out}
+use Rattle.jm_linked.specs.PrintStreams.{is_class_called, is_system_out}
 use Rattle.jm_linked.specs.Named.{named_states}
 use Rattle.jm_linked.proofs.BuiltIns.{AreOthers, built_in_class}
 

@@ -1,8 +1,7 @@
-pub mod Later
+pub mod PrintStreams
 pub mod Kinds
 pub mod Methods
 pub mod Tables
 pub mod Frequent
 pub mod Links
-pub mod LaterTexts
 pub mod Named

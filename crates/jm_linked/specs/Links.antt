@@ -1,7 +1,8 @@
 -- A linked program beside its classes.
 use Rattle.std.specs.Prelude.{◌≡◌, ℕ, suc, List, [], ◌∷◌, ◌++◌, map, length, Option}
-use Rattle.std.specs.Prelude.{Some, None, Bool, true, false, is_some, unwrap_or, slice_get, option_map, IfSome}
+use Rattle.std.specs.Prelude.{Some, None, Bool, true, false, ◌&&◌, is_some, unwrap_or, slice_get, option_map, IfSome}
 use Rattle.std.specs.List.{AllByRecursion, list_all}
+use Rattle.jm_program.specs.Flags.{is_static}
 use Rattle.jm_program.specs.Instructions.{instr_fits}
 use Rattle.jm_program.specs.declared.class.ClassParts.{ClassParts}
 use Rattle.jm_program.specs.declared.class.Method.{Method}
@@ -14,7 +15,7 @@ use Rattle.jm_program.specs.declared.descriptor.FieldType.{FieldType}
 use Rattle.jm_program.specs.declared.instruction.operation.FieldOp.{FieldOp}
 use Rattle.jm_program.specs.declared.instruction.operation.FieldOp.TheVariants.{GetStatic}
 use Rattle.jm_program.specs.declared.instruction.operation.InvokeOp.{InvokeOp}
-use Rattle.jm_program.specs.declared.instruction.operation.InvokeOp.TheVariants.{Virtual}
+use Rattle.jm_program.specs.declared.instruction.operation.InvokeOp.TheVariants.{Virtual, Special}
 use Rattle.jm_program.specs.declared.instruction.symbolic.Instr.{Instr}
 use Rattle.jm_program.specs.declared.instruction.symbolic.Instr.TheVariants as instr
 use Rattle.jm_program.specs.declared.reference.ClassRef.{ClassRef}
@@ -23,14 +24,16 @@ use Rattle.jm_program.specs.declared.reference.FieldRef.{FieldRef}
 use Rattle.jm_program.specs.declared.reference.MethodRef.{MethodRef}
 use Rattle.jm_builtins.specs.List.{the_builtins}
 use Rattle.jm_builtins.specs.Numbers.{built_in_names}
-use Rattle.jm_world.specs.Classes.{FoundField, FoundMethod, MethodName, as_class, name_of_method, method_named}
+use Rattle.jm_world.specs.Classes.{FoundField, FoundMethod, MethodName, as_class, name_of_method, method_in, method_named}
 use Rattle.jm_world.specs.Fields.{resolved_field}
+use Rattle.jm_world.specs.Here.{Here}
+use Rattle.jm_world.specs.Invocation.{found_special}
 use Rattle.jm_world.specs.Loading.{literal_texts, main_in}
 use Rattle.jm_world.specs.Loads.{Loads}
 use Rattle.jm_world.specs.Resolution.{resolve_method}
 use Rattle.jm_world.specs.Types.{type_of_ref}
 use Rattle.jm_linked.specs.Kinds.{kind_of}
-use Rattle.jm_linked.specs.Later.{is_system_out, is_print, print_among, print_methods}
+use Rattle.jm_linked.specs.PrintStreams.{is_system_out, is_print, print_among, print_methods}
 use Rattle.jm_linked.specs.Methods.{all_methods, selector_of}
 use Rattle.jm_linked.specs.declared.instruction.InvokedMethod.{InvokedMethod}
 use Rattle.jm_linked.specs.declared.instruction.LinkedElement.{LinkedElement}
@@ -39,6 +42,7 @@ use Rattle.jm_linked.specs.declared.instruction.LinkedInstr.{LinkedInstr}
 use Rattle.jm_linked.specs.declared.instruction.LinkedInstr.TheVariants as linked
 use Rattle.jm_linked.specs.declared.instruction.LinkedType.{LinkedType}
 use Rattle.jm_linked.specs.declared.instruction.MemberNumber.{MemberNumber}
+use Rattle.jm_linked.specs.declared.instruction.PrintMethod.{PrintMethod}
 use Rattle.jm_linked.specs.declared.method.LinkedHandler.{LinkedHandler}
 use Rattle.jm_linked.specs.declared.method.LinkedMethod.{LinkedMethod}
 use Rattle.jm_linked.specs.declared.method.Selected.{Selected}
@@ -87,15 +91,23 @@ pub record IsMethodOf (program : List ClassParts) (n : MemberNumber) (found : Fo
   pub class : class_numbered program n.class ≡ Some found.class
   pub method : slice_get found.class.methods n.member ≡ Some found.method
 
--- the uses of fields and the invokes that are linked in another way: getstatic of System.out, and
--- the methods that print
+-- the uses of fields and the invokes that are linked in another way: getstatic of System.out, calls of
+-- the methods that print, and each invokespecial
 abbrev pub reads_system_out : FieldOp → FieldRef → Bool
 reads_system_out GetStatic f = is_system_out f
 reads_system_out _ f = false
 
+abbrev pub is_class_call : InvokeOp → Bool
+is_class_call Virtual = true
+is_class_call Special = true
+is_class_call _ = false
+
 abbrev pub prints : InvokeOp → MethodRef → Bool
-prints Virtual m = is_some (print_among print_methods m)
-prints _ m = false
+prints op m = is_class_call op && is_some (print_among print_methods m)
+
+abbrev pub is_linked_apart : InvokeOp → MethodRef → Bool
+is_linked_apart Special m = true
+is_linked_apart op m = prints op m
 
 -- a use of the field that the reference means (JVMS 5.4.3.2)
 pub record FieldLinks (program : List ClassParts) (op : FieldOp) (n : MemberNumber) (i : Instr) : Type 0 where
@@ -110,7 +122,7 @@ pub record FieldLinks (program : List ClassParts) (op : FieldOp) (n : MemberNumb
 pub record InvokeLinks (program : List ClassParts) (op : InvokeOp) (n : InvokedMethod) (i : Instr) : Type 0 where
   pub method : MethodRef
   pub is : i ≡ instr.Invoke op method
-  pub other : prints op method ≡ false
+  pub other : is_linked_apart op method ≡ false
   pub name : List ℕ
   pub class : method.class ≡ named.Class name
   pub named : NamesClass program n.named name
@@ -118,6 +130,26 @@ pub record InvokeLinks (program : List ClassParts) (op : InvokeOp) (n : InvokedM
   pub resolved : resolve_method program name method.name method.descriptor ≡ Some found
   pub numbered : IsMethodOf program n.found found
   pub selected : selector_of program method.name method.descriptor ≡ Some n.selector
+
+-- a call of a method of a print stream
+pub record PrintLinks (p : PrintMethod) (i : Instr) : Type 0 where
+  pub op : InvokeOp
+  pub of_class : is_class_call op ≡ true
+  pub method : MethodRef
+  pub is : i ≡ instr.Invoke op method
+  pub prints : is_print method p ≡ true
+
+-- an invokespecial; the method of the number is of instances, and has the name and the type that it asks for
+pub record SpecialLinks (program : List ClassParts) (n : InvokedMethod) (i : Instr) : Type 0 where
+  pub method : MethodRef
+  pub is : i ≡ instr.Invoke Special method
+  pub name : List ℕ
+  pub class : method.class ≡ named.Class name
+  pub named : NamesClass program n.named name
+  pub found : FoundMethod
+  pub declares : method_in found.class.methods method.name method.descriptor ≡ Some found.method
+  pub instance : is_static found.method.flags ≡ false
+  pub numbered : IsMethodOf program n.found found
 
 -- the symbolic instruction is the linked one with names in the place of what the linked program
 -- numbers (JVMS 5.4.3)
@@ -132,22 +164,38 @@ LinksIn program linked.Throw i = i ≡ instr.Throw
 LinksIn program (linked.Monitor op) i = i ≡ instr.Monitor op
 LinksIn program linked.SystemOut i = (f : FieldRef) × (i ≡ instr.Field GetStatic f) × (is_system_out f ≡ true)
 LinksIn program (linked.Field op n) i = FieldLinks program op n i
-LinksIn program (linked.Print p) i = (m : MethodRef) × (i ≡ instr.Invoke Virtual m) × (is_print m p ≡ true)
+LinksIn program (linked.Print p) i = PrintLinks p i
+LinksIn program (linked.Special n) i = SpecialLinks program n i
+LinksIn program (linked.NoSpecial n) i = SpecialLinks program n i
 LinksIn program (linked.Invoke op n) i = InvokeLinks program op n i
 LinksIn program (linked.New n) i = (name : List ℕ) × (i ≡ instr.New name) × NamesClass program n name
 LinksIn program (linked.Type op t) i = (class : ClassRef) × (i ≡ instr.Type op class) × NamesType program t (type_of_ref class)
 
-abbrev pub AllLinkIn : List ClassParts → List LinkedInstr → List Instr → Type 0
-AllLinkIn program [] [] = Unit {0}
-AllLinkIn program (x ∷ xs) (i ∷ is) = LinksIn program x i × AllLinkIn program xs is
-AllLinkIn program [] (i ∷ is) = ⊥
-AllLinkIn program (x ∷ xs) [] = ⊥
+-- what the model finds for an invokespecial is the method of the linked one, or none is found
+abbrev pub Calls : List ClassParts → LinkedInstr → Option FoundMethod → Type 0
+Calls program (linked.Special n) (Some found) = IsMethodOf program n.found found
+Calls program (linked.Special n) None = ⊥
+Calls program (linked.NoSpecial n) found = found ≡ None
+Calls program _ found = Unit {0}
+
+-- so it is wherever a method of the class runs (JVMS 6.5 invokespecial)
+abbrev pub CallsFrom : List ClassParts → List ℕ → LinkedInstr → Instr → Type 0
+CallsFrom program class x (instr.Invoke Special m) = (here : Here) → here.world.program ≡ program → here.method.class ≡ class
+    → (name : List ℕ) → m.class ≡ named.Class name → Calls program x (found_special here name m)
+CallsFrom program class x i = Unit {0}
+
+-- the instructions of a method of the class
+abbrev pub AllLinkIn : List ClassParts → List ℕ → List LinkedInstr → List Instr → Type 0
+AllLinkIn program class [] [] = Unit {0}
+AllLinkIn program class (x ∷ xs) (i ∷ is) = (LinksIn program x i × CallsFrom program class x i) × AllLinkIn program class xs is
+AllLinkIn program class [] (i ∷ is) = ⊥
+AllLinkIn program class (x ∷ xs) [] = ⊥
 
 abbrev pub Links : LinkedView → LinkedInstr → Instr → Type 0
 Links l x i = LinksIn l.program x i
 
-abbrev pub AllLink : LinkedView → List LinkedInstr → List Instr → Type 0
-AllLink l xs is = AllLinkIn l.program xs is
+abbrev pub AllLink : LinkedView → List ℕ → List LinkedInstr → List Instr → Type 0
+AllLink l class xs is = AllLinkIn l.program class xs is
 
 -- the row of the exception table that a linked one stands for
 abbrev pub handler_in : List ClassParts → LinkedHandler → Handler
@@ -195,7 +243,7 @@ pub record MethodLinks (l : LinkedView) (m : LinkedMethod) : Type 0 where
   pub result : m.result ≡ option_map kind_of method.descriptor.return_type
   pub max_stack : m.max_stack ≡ code.max_stack
   pub max_locals : m.max_locals ≡ code.max_locals
-  pub instructions : AllLink l m.code code.instructions
+  pub instructions : AllLink l class.name m.code code.instructions
   pub fits : list_all (instr_fits (length code.instructions)) code.instructions ≡ true
   pub handlers : map (handler_of l) m.handlers ≡ code.handlers
   pub catch_types : AllByRecursion (CatchesClass l.program) m.handlers

@@ -34,7 +34,8 @@ pub struct MemberNumber {
 pub struct InvokedMethod {
     /// The number of the class that is named, among all classes.
     pub named: u32,
-    /// The method that its name and type mean there (JVMS 5.4.3.3, 5.4.3.4).
+    /// The method that its name and type mean there (JVMS 5.4.3.3, 5.4.3.4), or the one that an
+    /// `invokespecial` calls.
     pub found: MemberNumber,
     /// The selector of its name and type: a column of the table of the methods that are selected.
     pub selector: u32,
@@ -73,9 +74,14 @@ pub enum LinkedInstr {
     SystemOut,
     /// Any other use of a field.
     Field(FieldOp, MemberNumber),
-    /// `invokevirtual` of a method of java/io/PrintStream, which prints an int, a long, a char, a String
-    /// or the end of a line.
+    /// `invokevirtual` or `invokespecial` of a method of java/io/PrintStream, which prints an int, a long,
+    /// a char, a String or the end of a line.
     Print(PrintMethod),
+    /// Any other `invokespecial`, of the method that it calls: it depends on the class in which the
+    /// instruction stands (JVMS 6.5 invokespecial).
+    Special(InvokedMethod),
+    /// One that finds no method to call.
+    NoSpecial(InvokedMethod),
     /// Any other invoke.
     Invoke(InvokeOp, InvokedMethod),
     /// `new`, by the number of the class among all classes.
@@ -98,6 +104,8 @@ impl Drop for LinkedInstr {
             | LinkedInstr::SystemOut
             | LinkedInstr::Field(_, _)
             | LinkedInstr::Print(_)
+            | LinkedInstr::Special(_)
+            | LinkedInstr::NoSpecial(_)
             | LinkedInstr::Invoke(_, _)
             | LinkedInstr::New(_)
             | LinkedInstr::Type(_, _) => {}

@@ -9,8 +9,7 @@
 //! instruction that programs make often, or a few in a row ([`Frequent`]). One look at a tag tells
 //! them apart.
 //!
-//! What is in a program that the machine cannot run yet is a [`LaterPart`]; a linked program may
-//! have some. The crate stands on `jm_program`, `jm_builtins`, `jm_world` and `jm_tables`.
+//! The crate stands on `jm_program`, `jm_builtins`, `jm_world` and `jm_tables`.
 #![tactic(auto)]
 
 mod assignability;
@@ -18,7 +17,6 @@ mod code;
 mod frequent;
 mod instruction;
 mod kind;
-mod later;
 mod linked;
 mod method;
 mod tables;
@@ -29,7 +27,6 @@ pub use instruction::{
     InvokedMethod, LinkedElement, LinkedInstr, LinkedType, MemberNumber, PrintMethod, Printed,
 };
 pub use kind::ValueKind;
-pub use later::LaterPart;
 pub use linked::Linked;
 pub use method::{LinkedConstant, LinkedHandler, LinkedMethod, Selected};
 pub use tables::Tables;
