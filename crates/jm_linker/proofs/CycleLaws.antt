@@ -89,7 +89,7 @@ found_some f g h (x ∷ xs) = ap (λ t. elim t as (λ _. Bool) [ true ↦ true |
     by (Some c) e = refl
 
 -- the walk up finds the class exactly where it is above
-below_found : (n : ℕ) (program : List ClassParts) (x above : List ℕ) → is_some (class_named program above) ≡ true → is_below n program x above ≡ is_some (above_from (λ c. same_text c.name above) n program x)
+pub below_found : (n : ℕ) (program : List ClassParts) (x above : List ℕ) → is_some (class_named program above) ≡ true → is_below n program x above ≡ is_some (above_from (λ c. same_text c.name above) n program x)
 unfolding above_from
 below_found zero program x above known = refl
 below_found (suc n) program x above known = by (λ k. found_some (λ y. is_below n program y above) (above_from (λ c. same_text c.name above) n program) (λ y. below_found n program y above known) (interfaces_first k)) (class_named program x) refl

@@ -9,6 +9,7 @@ use Rattle.jm_program.specs.declared.descriptor.FieldType.{FieldType}
 use Rattle.jm_program.specs.declared.descriptor.MethodDescriptor.{MethodDescriptor}
 use Rattle.jm_builtins.specs.List.{the_builtins}
 use Rattle.jm_world.specs.Classes.{FoundField, FoundMethod, class_named, height, field_in, method_in}
+use Rattle.jm_world.specs.Invocation.{class_methods}
 use Rattle.jm_world.specs.Hierarchy.{up_from, chain}
 use Rattle.jm_world.specs.Resolution.{first_found, interfaces_first, nameable, field_from, method_from, method_along, resolved_among, resolve_field, resolve_method}
 use Rattle.jm_linker.specs.declared.fault.LinkFault.{LinkFault}
@@ -100,7 +101,7 @@ one_found f x = by (f x)
     by None = refl
     by (Some c) = refl
 
-any_of_one : (test : ClassParts → Bool) (n : ℕ) (program : List ClassParts) (xs : List (List ℕ)) (x : List ℕ) → xs ≡ x ∷ [] → above_any test n program xs ≡ above_from test n program x
+pub any_of_one : (test : ClassParts → Bool) (n : ℕ) (program : List ClassParts) (xs : List (List ℕ)) (x : List ℕ) → xs ≡ x ∷ [] → above_any test n program xs ≡ above_from test n program x
 unfolding above_any
 any_of_one test n program xs x e = ap (first_found (above_from test n program)) e ∙ one_found (above_from test n program) x
 
@@ -178,6 +179,11 @@ init_resolved name t program x c e init =
     ∙ ap (λ b. elim b as (λ _. Option FoundMethod) [ true ↦ method_along (c ∷ []) name t | false ↦ elim (method_along (c ∷ first.0) name t) as (λ _. Option FoundMethod) [ Some found ↦ Some found | None ↦ method_from (height program) program name t x ] ]) init
     ∙ along name t (c ∷ [])
 
+pub init_along : (name : List ℕ) (t : MethodDescriptor) (program : List ClassParts) (x : List ℕ) (c : ClassParts) → class_named program x ≡ Some c → is_init name ≡ true
+    → method_along (class_methods (class_named program x)) name t ≡ resolve_method program x name t
+init_along name t program x c e init =
+    ap (λ o. method_along (class_methods o) name t) e ∙ along name t (c ∷ []) ∙ sym (init_resolved name t program x c e init)
+
 ordinary : (name : List ℕ) (t : MethodDescriptor) (program : List ClassParts) (x : List ℕ) (c : ClassParts) → class_named program x ≡ Some c → is_init name ≡ false → resolve_method program x name t ≡ (elim (found_method name t (first_along (λ c. is_some (method_in c.methods name t)) (chain program x))) as (λ _. Option FoundMethod) [ Some found ↦ Some found | None ↦ method_from (height program) program name t x ])
 unfolding resolve_method
 ordinary name t program x c e init =
@@ -187,7 +193,7 @@ ordinary name t program x c e init =
     ∙ ap (λ cs. elim (method_along cs name t) as (λ _. Option FoundMethod) [ Some found ↦ Some found | None ↦ method_from (height program) program name t x ]) (sym first.1)
     ∙ ap (λ o. elim o as (λ _. Option FoundMethod) [ Some found ↦ Some found | None ↦ method_from (height program) program name t x ]) (along name t (chain program x))
 
-along_passes : (test : ClassParts → Bool) (cs : List ClassParts) (c : ClassParts) → first_along test cs ≡ Some c → test c ≡ true
+pub along_passes : (test : ClassParts → Bool) (cs : List ClassParts) (c : ClassParts) → first_along test cs ≡ Some c → test c ≡ true
 along_passes test [] c e = cc
 along_passes test (k ∷ ks) c e = by (along_passes test ks c) (test k) refl e
   where

@@ -9,6 +9,7 @@ pub mod WalkLaws
 pub mod FoundLaws
 pub mod CycleLaws
 pub mod CodeLaws
+pub mod SpecialLaws
 pub mod MainLaws
 pub mod Numbers
 pub mod RankLaws

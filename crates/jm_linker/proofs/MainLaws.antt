@@ -20,7 +20,7 @@ use Rattle.jm_world.specs.Classes.{FoundMethod, method_in, method_of_class, meth
 use Rattle.jm_world.specs.Loading.{literal_texts, main_type, main_in}
 use Rattle.jm_world.specs.Loads.{Loads, Refusal, refusal, is_main, when, first_of_all, duplicates, duplicate_members, duplicate_member}
 use Rattle.jm_world.specs.Loads.{duplicate_fields, duplicate_methods}
-use Rattle.jm_linked.specs.Later.{is_main_method}
+use Rattle.jm_linker.specs.MainMethod.{is_main_method}
 use Rattle.jm_linked.specs.Links.{LinkedView, MethodLinks, IsLinked, coded_among, coded_from, place_of}
 use Rattle.jm_linked.specs.declared.method.LinkedMethod.{LinkedMethod}
 use Rattle.jm_linked.proofs.Classes.{class_is}

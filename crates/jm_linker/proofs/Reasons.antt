@@ -21,7 +21,6 @@ first_says (fault.NoField name) a b e = first_is a b _ e
 first_says (fault.NoMethod name) a b e = first_is a b _ e
 first_says (fault.WrongKind name) a b e = first_is a b _ e
 first_says fault.NoMain a b e = first_is a b _ e
-first_says (fault.Later part) a b e = e
 first_says fault.OutOfMemory a b e = tt
 
 -- where the first gives none, the second decides

@@ -14,7 +14,6 @@ SaysWhy (fault.NoField name) reason = reason ≡ Some (no_field name)
 SaysWhy (fault.NoMethod name) reason = reason ≡ Some (no_method name)
 SaysWhy (fault.WrongKind name) reason = reason ≡ Some (wrong_kind name)
 SaysWhy fault.NoMain reason = reason ≡ Some no_main
-SaysWhy (fault.Later part) reason = ⊥
 SaysWhy fault.OutOfMemory reason = Unit {0}
 
 -- Ok where there is no reason

@@ -1,7 +1,6 @@
 -- How a fault is printed.
 use Rattle.std.specs.Prelude.{ℕ, List, ◌++◌, codes}
 use Rattle.jm_program.specs.JasminUnits.{name_text}
-use Rattle.jm_linked.specs.LaterTexts.{later_text}
 use Rattle.jm_linker.specs.declared.fault.LinkFault.{LinkFault}
 use Rattle.jm_linker.specs.declared.fault.LinkFault.TheVariants as fault
 
@@ -14,5 +13,4 @@ fault_text (fault.NoField name) = codes "53 NoField(" ++ name_text name ++ codes
 fault_text (fault.NoMethod name) = codes "54 NoMethod(" ++ name_text name ++ codes ")"
 fault_text (fault.WrongKind name) = codes "55 WrongKind(" ++ name_text name ++ codes ")"
 fault_text fault.NoMain = codes "56 NoMain"
-fault_text (fault.Later part) = codes "16 Later(" ++ later_text part ++ codes ")"
 fault_text fault.OutOfMemory = codes "61 OutOfMemory"

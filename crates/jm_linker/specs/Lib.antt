@@ -14,4 +14,6 @@ pub mod Inherited
 pub mod Selectors
 pub mod FoundNumbers
 pub mod LinkedMethods
+pub mod MainMethod
+pub mod Specials
 pub mod Literals

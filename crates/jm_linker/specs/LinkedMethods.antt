@@ -12,14 +12,14 @@ use Rattle.jm_linked.specs.Kinds.{kind_of}
 use Rattle.jm_linked.specs.Links.{AllLinkIn, CatchesClass, coded_among, coded_from, handler_in, place_of}
 use Rattle.jm_linked.specs.declared.method.LinkedMethod.{LinkedMethod}
 
--- the linked code of a method of that number of a class of that number
-pub record LinksCode (program : List ClassParts) (class member : ℕ) (type : MethodDescriptor) (code : Code) (m : LinkedMethod) : Type 0 where
+-- the linked code of a method of that number of a class of that number and that name
+pub record LinksCode (program : List ClassParts) (class member : ℕ) (name : List ℕ) (type : MethodDescriptor) (code : Code) (m : LinkedMethod) : Type 0 where
   pub class_is : m.class ≡ class
   pub member_is : m.member ≡ member
   pub result : m.result ≡ option_map kind_of type.return_type
   pub max_stack : m.max_stack ≡ code.max_stack
   pub max_locals : m.max_locals ≡ code.max_locals
-  pub instructions : AllLinkIn program m.code code.instructions
+  pub instructions : AllLinkIn program name m.code code.instructions
   pub handlers : map (handler_in program) m.handlers ≡ code.handlers
   pub catch_types : AllByRecursion (CatchesClass program) m.handlers
 
@@ -32,7 +32,7 @@ pub record LinksAlone (program : List ClassParts) (m : LinkedMethod) : Type 0 wh
   pub method_is : slice_get class.methods m.member ≡ Some method
   pub code : Code
   pub code_is : method.code ≡ Some code
-  pub links : LinksCode program m.class m.member method.descriptor code m
+  pub links : LinksCode program m.class m.member class.name method.descriptor code m
 
 -- the methods with code of a class come behind others
 pub record LinksClass (program : List ClassParts) (class : ℕ) (methods : List Method) (old new : List LinkedMethod) : Type 0 where

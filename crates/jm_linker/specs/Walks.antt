@@ -6,7 +6,7 @@ use Rattle.std.specs.BTreeMap.{BTreeMap, get}
 use Rattle.jm_program.specs.Names.{same_text}
 use Rattle.jm_program.specs.declared.class.ClassParts.{ClassParts}
 use Rattle.jm_world.specs.Classes.{class_named, field_in, method_in}
-use Rattle.jm_world.specs.Resolution.{first_found, interfaces_first, nameable}
+use Rattle.jm_world.specs.Resolution.{first_found, instance_in, interfaces_first, nameable}
 use Rattle.jm_linker.specs.declared.sought.Sought.{Sought}
 use Rattle.jm_linker.specs.declared.sought.Sought.TheVariants as sought
 use Rattle.jm_linker.specs.Tables.{by_units}
@@ -16,6 +16,7 @@ abbrev pub sought_in : Sought → ClassParts → Bool
 sought_in (sought.Class name) c = same_text c.name name.now
 sought_in (sought.Field f) c = is_some (field_in (nameable c) f.now.field.now.name f.now.field.now.descriptor)
 sought_in (sought.Method m) c = is_some (method_in c.methods m.now.method.now.name m.now.method.now.descriptor)
+sought_in (sought.Instance m) c = is_some (instance_in true (method_in c.methods m.now.method.now.name m.now.method.now.descriptor))
 
 unfoldable pub above_from : (ClassParts → Bool) → ℕ → List ClassParts → List ℕ → Option ClassParts
 above_from test zero program name = None

@@ -1,28 +1,33 @@
 // The methods with code, with their names resolved.
 
-ghost use Rattle.std.specs.Prelude.{◌≡◌, List, IfOk, MatchOption, OnOk, Some, None, false, true, map, option_map, slice_get};
+ghost use Rattle.std.specs.Prelude.{◌≡◌, List, IfOk, MatchOption, MatchResult, OnOk, Some, None, false, true, map, option_map, slice_get};
 ghost use Rattle.std.specs.List.{AllByRecursion, flat_map};
 ghost use Rattle.jm_program.specs.declared.class.ClassParts.{ClassParts};
-ghost use Rattle.jm_program.specs.declared.instruction.operation.InvokeOp.TheVariants.{Virtual};
+ghost use Rattle.jm_program.specs.declared.instruction.operation.InvokeOp.TheVariants.{Special};
 ghost use Rattle.jm_program.specs.declared.instruction.symbolic.Instr.TheVariants as instr;
 ghost use Rattle.jm_world.specs.Loading.{text_of, texts_of_instruction};
 ghost use Rattle.jm_world.specs.Loads.{instruction_refusal, catch_refusal, method_code_refusal, first_of_all, or_else};
 ghost use Rattle.jm_linked.specs.Kinds.{kind_of};
-ghost use Rattle.jm_linked.specs.Later.{is_print};
-ghost use Rattle.jm_linked.specs.Links.{LinksIn, AllLinkIn, coded_from, place_of, prints, reads_system_out};
-ghost use Rattle.jm_linker.specs.Answers.{Answers};
+ghost use Rattle.jm_linked.specs.Links.{LinksIn, CallsFrom, AllLinkIn, coded_from, is_class_call, place_of, prints, reads_system_out};
+ghost use Rattle.jm_linked.specs.PrintStreams.{is_print};
+ghost use Rattle.jm_linker.specs.Answers.{Answers, IsOutOfMemory};
+ghost use Rattle.jm_linker.specs.FoundNumbers.{Invokes};
 ghost use Rattle.jm_linker.specs.LinkedMethods.{LinksCode, LinksAlone, LinksClass};
 ghost use Rattle.jm_linker.specs.Literals.{AreLiterals};
 
 use crate::classes::Classes;
 use crate::constants::linked_constant;
 use crate::fault::LinkFault;
-use crate::later::{is_system_out, print_method};
 use crate::number::short_number;
+use crate::print_streams::{is_system_out, print_method};
 use crate::references::{link_field, link_handlers, link_method, link_new, link_ref};
-use jm_linked::{LinkedCode, LinkedConstant, LinkedInstr, LinkedMethod, PrintMethod, ValueKind};
+use crate::special::called_method;
+use jm_linked::{
+    InvokedMethod, LinkedCode, LinkedConstant, LinkedInstr, LinkedMethod, PrintMethod, ValueKind,
+};
 use jm_program::{
-    Class, Code, Constant, FieldOp, FieldRef, Instr, InvokeOp, MethodDescriptor, MethodRef, Plain,
+    Class, Code, Constant, FieldOp, FieldRef, Instr, InvokeOp, MethodDescriptor, MethodRef, Name,
+    Plain,
 };
 use std::alloc::Global;
 
@@ -69,29 +74,67 @@ fn link_field_use<'a>(
     Ok(LinkedInstr::Field(op, number))
 }
 
-// The method that prints, where the instruction invokes one.
-fn printing(op: InvokeOp, method: &MethodRef) -> Option<PrintMethod>
-    ensures { MatchOption result (prints op method.now ≡ false) (λ print. (op ≡ Virtual) × (is_print method.now print ≡ true)) }
+// Whether it calls a method of a class's instances.
+fn is_class_call(op: InvokeOp) -> bool
+    ensures { result ≡ is_class_call op }
 {
     match op {
-        InvokeOp::Virtual => print_method(method),
-        _ => None,
+        InvokeOp::Virtual | InvokeOp::Special => true,
+        InvokeOp::Static | InvokeOp::Interface => false,
     }
 }
 
+// The method that prints, where the instruction invokes one.
+fn printing(op: InvokeOp, method: &MethodRef) -> Option<PrintMethod>
+    ensures { MatchOption result (prints op method.now ≡ false) (λ print. (is_class_call op ≡ true) × (is_print method.now print ≡ true)) }
+{
+    if is_class_call(op) {
+        print_method(method)
+    } else {
+        None
+    }
+}
+
+// An invokespecial in a class, of the method that it calls.
+fn link_special<'a>(
+    alloc: Global,
+    classes: &Classes<'a>,
+    caller: &'a Name,
+    method: &'a MethodRef,
+    invoked: InvokedMethod,
+) -> Result<LinkedInstr, LinkFault>
+    requires resolved { Invokes classes.now.program.now method.now invoked }
+    requires loads { instruction_refusal classes.now.program.now (instr.Invoke Special method.now) ≡ None }
+    ensures { MatchResult result (λ linked. LinksIn classes.now.program.now linked (instr.Invoke Special method.now)
+        × CallsFrom classes.now.program.now caller.now linked (instr.Invoke Special method.now)) (λ fault. IsOutOfMemory fault) }
+{
+    match called_method(alloc, classes, caller, method, invoked)? {
+        Some(found) => Ok(LinkedInstr::Special(InvokedMethod { found, ..invoked })),
+        None => Ok(LinkedInstr::NoSpecial(invoked)),
+    }
+}
+
+#[tactic(auto, using(crate::proofs::Reasons::memory_says))]
 fn link_invoke<'a>(
     alloc: Global,
     classes: &Classes<'a>,
+    caller: &'a Name,
     op: InvokeOp,
     method: &'a MethodRef,
 ) -> Result<LinkedInstr, LinkFault>
     ensures refusal { Answers result (instruction_refusal classes.now.program.now (instr.Invoke op method.now)) }
     ensures linked { IfOk result (λ linked. LinksIn classes.now.program.now linked (instr.Invoke op method.now)) }
+    ensures calls { IfOk result (λ linked. CallsFrom classes.now.program.now caller.now linked (instr.Invoke op method.now)) }
 {
     let invoked = link_method(alloc, classes, op, method)?;
-    match printing(op, method) {
-        Some(print) => Ok(LinkedInstr::Print(print)),
-        None => Ok(LinkedInstr::Invoke(op, invoked)),
+    if let Some(print) = printing(op, method) {
+        return Ok(LinkedInstr::Print(print));
+    }
+    match op {
+        InvokeOp::Special => link_special(alloc, classes, caller, method, invoked),
+        InvokeOp::Virtual | InvokeOp::Static | InvokeOp::Interface => {
+            Ok(LinkedInstr::Invoke(op, invoked))
+        }
     }
 }
 
@@ -99,11 +142,13 @@ fn link_invoke<'a>(
 fn link_instruction<'a>(
     alloc: Global,
     classes: &Classes<'a>,
+    caller: &'a Name,
     instruction: &'a Instr,
 ) -> Result<LinkedInstr, LinkFault>
     requires { AreLiterals classes.now.program.now (texts_of_instruction instruction.now) }
     ensures refusal { Answers result (instruction_refusal classes.now.program.now instruction.now) }
     ensures linked { IfOk result (λ linked. LinksIn classes.now.program.now linked instruction.now) }
+    ensures calls { IfOk result (λ linked. CallsFrom classes.now.program.now caller.now linked instruction.now) }
 {
     match instruction {
         Instr::Plain(plain) => link_plain(plain),
@@ -113,7 +158,7 @@ fn link_instruction<'a>(
         Instr::Monitor(op) => Ok(LinkedInstr::Monitor(*op)),
         Instr::Constant(constant) => Ok(link_constant(classes, constant)),
         Instr::Field(op, field) => link_field_use(alloc, classes, *op, field.get()),
-        Instr::Invoke(op, method) => link_invoke(alloc, classes, *op, method.get()),
+        Instr::Invoke(op, method) => link_invoke(alloc, classes, caller, *op, method.get()),
         Instr::New(name) => Ok(LinkedInstr::New(link_new(alloc, classes, name.get())?)),
         Instr::Type(op, class) => Ok(LinkedInstr::Type(
             *op,
@@ -122,18 +167,20 @@ fn link_instruction<'a>(
     }
 }
 
+// The instructions of a method of a class.
 fn link_instructions<'a>(
     alloc: Global,
     classes: &Classes<'a>,
+    caller: &'a Name,
     instructions: &'a [Instr],
 ) -> Result<LinkedCode, LinkFault>
     requires { AreLiterals classes.now.program.now (flat_map texts_of_instruction instructions.now) }
     ensures refusal { Answers result (first_of_all (instruction_refusal classes.now.program.now) instructions.now) }
-    ensures linked { IfOk result (λ linked. AllLinkIn classes.now.program.now linked instructions.now) }
+    ensures linked { IfOk result (λ linked. AllLinkIn classes.now.program.now caller.now linked instructions.now) }
 {
     let mut linked = Vec::with_capacity(alloc, instructions.len())?;
     for instruction in instructions {
-        linked.push(link_instruction(alloc, classes, instruction)?)?;
+        linked.push(link_instruction(alloc, classes, caller, instruction)?)?;
     }
     Ok(LinkedCode::new(alloc, linked)?)
 }
@@ -147,22 +194,23 @@ fn result_kind(descriptor: &MethodDescriptor) -> Option<ValueKind>
     }
 }
 
-// The method of a number of a class, by the class's number among the program's.
+// The method of a number of a class, by the class's number among the program's and its name.
 #[tactic(auto, using(crate::proofs::Reasons::first_says))]
 fn link_code<'a>(
     alloc: Global,
     classes: &Classes<'a>,
     class: u32,
     member: u32,
+    caller: &'a Name,
     descriptor: &MethodDescriptor,
     code: &'a Code,
 ) -> Result<LinkedMethod, LinkFault>
     requires { AreLiterals classes.now.program.now (flat_map texts_of_instruction code.now.instructions) }
     ensures refusal { Answers result (or_else (first_of_all (instruction_refusal classes.now.program.now) code.now.instructions)
         (first_of_all (catch_refusal classes.now.program.now) code.now.handlers)) }
-    ensures linked { IfOk result (LinksCode classes.now.program.now class member descriptor.now code.now) }
+    ensures linked { IfOk result (LinksCode classes.now.program.now class member caller.now descriptor.now code.now) }
 {
-    let instructions = link_instructions(alloc, classes, code.instructions.as_slice())?;
+    let instructions = link_instructions(alloc, classes, caller, code.instructions.as_slice())?;
     let handlers = link_handlers(alloc, classes, code.handlers.as_slice())?;
     Ok(LinkedMethod {
         class,
@@ -194,7 +242,16 @@ fn link_class<'a>(
             continue;
         };
         let member = short_number(index)?;
-        let method = link_code(alloc, classes, number, member, &method.descriptor, code)?;
+        let descriptor = &method.descriptor;
+        let method = link_code(
+            alloc,
+            classes,
+            number,
+            member,
+            &parts.name,
+            descriptor,
+            code,
+        )?;
         linked.push(method)?;
     }
     Ok(())

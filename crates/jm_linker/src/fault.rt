@@ -5,7 +5,6 @@ ghost use Rattle.jm_linker.specs.FaultTexts.{fault_text};
 ghost use Rattle.jm_linker.specs.Answers.{SaysWhy};
 ghost use Rattle.jm_world.specs.Loads.{duplicate_class, no_class, cycle, no_field, no_method, wrong_kind, duplicate_member};
 
-use jm_linked::LaterPart;
 use jm_program::Name;
 use std::alloc::{AllocError, AllocFailed, Global};
 use std::error::Error;
@@ -32,8 +31,6 @@ pub enum LinkFault {
     WrongKind(Name),
     /// The first class declares no static main with code.
     NoMain,
-    /// The program loads, and has a part that the machine cannot run yet.
-    Later(LaterPart),
     /// A growth was refused.
     OutOfMemory,
 }
@@ -52,7 +49,6 @@ impl Display for LinkFault {
             LinkFault::NoMethod(name) => write!(f, "54 NoMethod({name})"),
             LinkFault::WrongKind(name) => write!(f, "55 WrongKind({name})"),
             LinkFault::NoMain => f.write_str("56 NoMain"),
-            LinkFault::Later(part) => write!(f, "16 Later({part})"),
             LinkFault::OutOfMemory => f.write_str("61 OutOfMemory"),
         }
     }

@@ -1,10 +1,8 @@
 //! From the classes of a program to a linked program: names are resolved once, here.
 //!
-//! [`link`] answers a linked program exactly where the classes load (JVMS 5.3, 5.4) and nothing
-//! stands in them that the machine cannot run yet; otherwise it answers the first reason, in the
-//! order of `jm_world`'s definition of loading, and after all of these the first part that comes
-//! later. The crate stands on `jm_program`, `jm_builtins`, `jm_world`, `jm_tables` and
-//! `jm_linked`.
+//! [`link`] answers a linked program exactly where the classes load (JVMS 5.3, 5.4); otherwise it
+//! answers the first reason, in the order of `jm_world`'s definition of loading. The crate stands on
+//! `jm_program`, `jm_builtins`, `jm_world`, `jm_tables` and `jm_linked`.
 #![tactic(auto)]
 
 mod classes;
@@ -16,19 +14,20 @@ mod duplicates;
 mod fault;
 mod initializers;
 mod key;
-mod later;
 mod linking;
 mod main_method;
 mod members;
 mod name;
 mod number;
 mod parents;
+mod print_streams;
 mod ranks;
 mod references;
 mod resolution;
 mod selected;
 mod selectors;
 mod sought;
+mod special;
 mod tables;
 mod types;
 mod walk;

@@ -5,20 +5,18 @@ ghost use Rattle.std.specs.List.{AllByRecursion};
 ghost use Rattle.jm_world.specs.Loading.{literal_texts};
 ghost use Rattle.jm_world.specs.Loads.{Loads, refusal, parents_refusal, first_of_all};
 ghost use Rattle.jm_builtins.specs.List.{the_builtins};
-ghost use Rattle.jm_linked.specs.Later.{later_part};
 ghost use Rattle.jm_linked.specs.Links.{coded_from, place_of};
 ghost use Rattle.jm_linked.specs.Tables.{AreTables};
-ghost use Rattle.jm_linker.specs.Answers.{Answers, IsOutOfMemory};
+ghost use Rattle.jm_linker.specs.Answers.{Answers, IsOutOfMemory, SaysWhy};
 ghost use Rattle.jm_linker.specs.BuiltInClasses.{built_in_classes};
 ghost use Rattle.jm_linker.specs.LinkedMethods.{LinksAlone};
-ghost use Rattle.jm_linker.specs.Linking.{Faults, after_members};
+ghost use Rattle.jm_linker.specs.Linking.{after_members};
 
 use crate::classes::{Classes, Names, built_ins_of, classes_of_built_ins};
 use crate::code::link_classes;
 use crate::cycles::check_cycles;
 use crate::duplicates::no_duplicate_classes;
 use crate::fault::LinkFault;
-use crate::later::later_part;
 use crate::main_method::{check_main, main_among_coded};
 use crate::parents::check_parents;
 use crate::tables::tables_of;
@@ -163,20 +161,6 @@ fn linked_of(
     }
 }
 
-// A program that loads, unless a part of it comes later.
-fn without_later(linked: Linked) -> Result<Linked, LinkFault>
-    requires { refusal linked.program ≡ None }
-    ensures { MatchResult result (λ l. (later_part linked.program ≡ None) × (l.program ≡ linked.program)) (Faults linked.program) }
-{
-    match later_part(linked.classes()) {
-        Some(part) => {
-            drop(linked);
-            Err(LinkFault::Later(part))
-        }
-        None => Ok(linked),
-    }
-}
-
 // The linked program of the classes beside the built-in ones.
 fn link_beside(
     alloc: Global,
@@ -184,13 +168,10 @@ fn link_beside(
     built_ins: Vec<ClassParts>,
 ) -> Result<Linked, LinkFault>
     requires { built_ins.items ≡ built_in_classes }
-    ensures { MatchResult result (λ l. (refusal classes.items ≡ None) × (later_part classes.items ≡ None) × (l.program ≡ classes.items)) (Faults classes.items) }
+    ensures { MatchResult result (λ l. (refusal classes.items ≡ None) × (l.program ≡ classes.items)) (λ fault. SaysWhy fault (refusal classes.items)) }
 {
     match link_methods(alloc, &classes, &built_ins) {
-        Ok(parts) => match linked_of(alloc, classes, built_ins, parts) {
-            Ok(linked) => without_later(linked),
-            Err(fault) => Err(fault),
-        },
+        Ok(parts) => linked_of(alloc, classes, built_ins, parts),
         Err(fault) => {
             drop(classes);
             drop(built_ins);
@@ -201,13 +182,12 @@ fn link_beside(
 
 /// The linked program of the classes, of which the first is the main class.
 ///
-/// Ok where the classes load and nothing stands in them that the machine cannot run yet. The
-/// faults, in the order in which they are looked for: two classes of one name; two members of one
-/// name and type; superclasses and interfaces that are not there or of the wrong kind; a class
-/// above itself; no main; what the instructions and exception tables name; and then, when all is
-/// linked, the first part that comes later. (JVMS 5.3, 5.4)
+/// Ok where the classes load. The faults, in the order in which they are looked for: two classes of
+/// one name; two members of one name and type; superclasses and interfaces that are not there or of
+/// the wrong kind; a class above itself; no main; and what the instructions and exception tables name
+/// (JVMS 5.3, 5.4).
 pub fn link(alloc: Global, classes: Vec<Class>) -> Result<Linked, LinkFault>
-    ensures { MatchResult result (λ l. (refusal classes.items ≡ None) × (later_part classes.items ≡ None) × (l.program ≡ classes.items)) (Faults classes.items) }
+    ensures { MatchResult result (λ l. (refusal classes.items ≡ None) × (l.program ≡ classes.items)) (λ fault. SaysWhy fault (refusal classes.items)) }
 {
     match classes_of_built_ins(alloc) {
         Ok(built_ins) => link_beside(alloc, classes, built_ins),

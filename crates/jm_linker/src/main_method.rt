@@ -1,17 +1,45 @@
 // The method with which a run begins.
 
-ghost use Rattle.std.specs.Prelude.{◌≡◌, ◌<◌, None, true, MatchOption, MatchResult, length, slice_get, codes, not};
+ghost use Rattle.std.specs.Prelude.{◌≡◌, ◌<◌, ◌∷◌, [], None, true, MatchOption, MatchResult, length, slice_get, codes, not};
 ghost use Rattle.jm_world.specs.Classes.{method_in};
-ghost use Rattle.jm_world.specs.Loading.{main_type, main_in};
+ghost use Rattle.jm_world.specs.Loading.{main_type, main_in, strings_type};
 ghost use Rattle.jm_world.specs.Loads.{is_main, when, no_main};
+ghost use Rattle.jm_world.specs.Types.{same_type, same_types};
 ghost use Rattle.jm_linked.specs.Links.{coded_among};
 ghost use Rattle.jm_linker.specs.Answers.{Answers, IsOutOfMemory};
 ghost use Rattle.jm_linker.specs.LinkedMethods.{NumbersMain};
+ghost use Rattle.jm_linker.specs.MainMethod.{is_main_method};
 
 use crate::fault::LinkFault;
-use crate::later::is_main_method;
 use crate::number::short_number;
-use jm_program::{AccessFlags, Class, Method};
+use crate::types::returns_nothing;
+use jm_program::{AccessFlags, Class, ElementType, FieldType, Method};
+
+fn is_strings(field_type: &FieldType) -> bool
+    ensures { result ≡ same_type field_type.now strings_type }
+{
+    field_type.dimensions == 1
+        && match &field_type.element {
+            ElementType::Base(_) => false,
+            ElementType::Class(name) => name.is_string(),
+        }
+}
+
+#[tactic(auto, using(crate::proofs::TypeLaws::same_types_one))]
+fn are_main_parameters(types: &[FieldType]) -> bool
+    ensures { result ≡ same_types types.now (strings_type ∷ []) }
+{
+    types.len() == 1 && is_strings(&types[0])
+}
+
+// Whether it is main by its name and type.
+fn is_main_method(method: &Method) -> bool
+    ensures { result ≡ is_main_method method.now }
+{
+    method.name.is_text(b"main")
+        && are_main_parameters(method.descriptor.parameters.as_slice())
+        && returns_nothing(&method.descriptor)
+}
 
 /// The number of `main([Ljava/lang/String;)V` among the methods of a class.
 pub fn main_number(methods: &[Method]) -> Option<usize>

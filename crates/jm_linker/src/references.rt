@@ -93,8 +93,8 @@ pub fn link_ref<'a>(
     }
 }
 
-// The number of a member of a class that the program has.
-fn member_number<'a>(
+/// The number of a member of a class that the program has.
+pub fn member_number<'a>(
     classes: &Classes<'a>,
     class: &'a ClassParts,
     member: u32,

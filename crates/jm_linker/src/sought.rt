@@ -32,6 +32,8 @@ pub enum Sought<'s, 'a> {
     Field(&'s SoughtField<'a>),
     /// A class that declares the method.
     Method(&'s SoughtMethod<'a>),
+    /// A class that declares the method as one of instances.
+    Instance(&'s SoughtMethod<'a>),
 }
 
 impl<'a> SoughtField<'a> {

@@ -20,6 +20,6 @@ loop-instruction-preserved c =
     let inv = c.loop-instruction.invariant in
     let one = c.in_ok-link_instruction.ensures in (
       first_after (instruction_refusal program) c.args.instructions.now n c.instruction-item.result (omega arith) c.instruction-item.is one.refusal inv.0,
-      linked_more program c.loop-instruction.linked.items c.push.new.self.items c.args.instructions.now n c.in_ok-link_instruction.field-0 c.instruction-item.result
-          (omega arith) c.instruction-item.is c.in_ok-push.ensures.items inv.1 one.linked,
+      linked_more program c.args.caller.now c.loop-instruction.linked.items c.push.new.self.items c.args.instructions.now n c.in_ok-link_instruction.field-0 c.instruction-item.result
+          (omega arith) c.instruction-item.is c.in_ok-push.ensures.items inv.1 (one.linked, one.calls),
     )

@@ -8,4 +8,4 @@ abbrev pub invariant-loop-instruction : goal.invariant-loop-instruction
 invariant-loop-instruction l =
     (first_of_all (instruction_refusal l.classes.program.now) l.instructions ≡ first_of_all (instruction_refusal l.classes.program.now)
     (drop l.instruction-index l.instructions))
-    × AllLinkIn l.classes.program.now l.linked.items (take l.instruction-index l.instructions)
+    × AllLinkIn l.classes.program.now l.caller l.linked.items (take l.instruction-index l.instructions)

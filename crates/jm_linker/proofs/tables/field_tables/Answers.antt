@@ -1,5 +1,5 @@
 -- The tables of fields that were gathered.
-use Rattle.std.proofs.Common.{◌≡◌, length, ap, sym, subst, ◌∙◌}
+use Rattle.std.proofs.Common.{length, ap, sym, subst, ◌∙◌}
 use Rattle.std.specs.Prelude.{IfSome, map}
 use Rattle.jm_tables.specs.FieldKinds.{AreKinds}
 use Rattle.jm_tables.specs.Layouts.{AreFields, IsLayout}
