@@ -136,7 +136,6 @@ runs_alike {l} {old} {new} m r =
       literals = same_length _ new.literals old.literals literals ∙ r.literals;
       classes = ap length m.classes ∙ r.classes;
       started = λ k. ap (is_among k) m.started ∙ r.started k ∙ ap (is_started k) (sym (serials_alike m));
-      program = r.program;
     }
 
 -- other places were put into a state and nothing else changed
@@ -157,5 +156,4 @@ runs_still output stop r = record {
   literals = r.literals;
   classes = r.classes;
   started = r.started;
-  program = r.program;
 }

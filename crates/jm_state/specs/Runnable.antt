@@ -1,10 +1,9 @@
 -- What every state of a run of a linked program keeps to, beside its world.
-use Rattle.std.specs.Prelude.{◌≡◌, ◌<◌, ◌≤◌, ◌||◌, ℕ, List, [], ◌∷◌, Option, None, Bool, false, length, map, nat_eq}
+use Rattle.std.specs.Prelude.{◌≡◌, ◌<◌, ◌≤◌, ◌||◌, ℕ, List, [], ◌∷◌, Option, Bool, false, length, map, nat_eq}
 use Rattle.std.specs.List.{AllByRecursion}
 use Rattle.jm_world.specs.BuiltInMethods.{is_object_of}
 use Rattle.jm_world.specs.World.{live_among}
 use Rattle.jm_world.specs.Loading.{first_statics, literal_texts}
-use Rattle.jm_linked.specs.Later.{later_part}
 use Rattle.jm_linked.specs.Links.{LinkedView}
 use Rattle.jm_state.specs.Parts.{thread_part}
 use Rattle.jm_state.specs.Places.{HeldThread, held_thread}
@@ -42,8 +41,6 @@ pub record IsRunnable (l : LinkedView) (s : StateView) : Type 0 where
   pub classes : length s.classes ≡ length l.program
   -- the threads' objects are found by their serials
   pub started : (k : ℕ) → is_among k s.started ≡ is_started k (map (λ (t : Thread). t.serial) s.threads)
-  -- a program in which nothing comes later is loaded
-  pub program : later_part l.program ≡ None
 
 abbrev pub StateRuns : {H : Type 0} → LinkedView → State H → Type 0
 StateRuns l s = IsRunnable l (view_of s)
