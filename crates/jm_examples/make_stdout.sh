@@ -2,10 +2,10 @@
 # Writes stdout, what the program has to print, from the tables that other programs gave: javap of
 # the class files, and of what the real Jasmin made of the texts. Each class is equal when it is
 # written and read again, and the worked text has the bytes of the worked class file. Each program
-# prints what a real Java printed, or is refused for what comes later (expected_runs.py). Each row of
-# the tables of jobs and of questions is as it should be, and so is what four workers do, in whatever
-# order. The works print what their twins in plain Rust print (bench/descriptors, plain, heap, collecting, read
-# and forward, at the sizes in src/works.rt), each case of the collector is as wanted, and nothing is refused.
+# prints what a real Java printed (expected_runs.py). Each row of the tables of jobs and of questions is
+# as it should be, and so is what four workers do, in whatever order. The works print what their twins in
+# plain Rust print (bench/descriptors, plain, heap, collecting, read and forward, at the sizes in
+# src/works.rt), each case of the collector is as wanted, and nothing is refused.
 # Needs javap and python3. No check runs this: stdout is committed.
 set -eu
 cd "$(dirname "$0")"
