@@ -6,7 +6,6 @@ use Rattle.std.proofs.lemmas.Option.{slice_get-get_or, slice_get-map}
 use Rattle.jm_program.specs.declared.descriptor.FieldType.{FieldType}
 use Rattle.jm_program.specs.declared.instruction.operation.OperandType.{OperandType}
 use Rattle.jm_world.specs.Types.{operand_of}
-use Rattle.jm_state.specs.Arguments.{popped}
 
 -- the types of operands for parameters, the last one first
 abbrev pub types_of : List FieldType → List OperandType
