@@ -9,7 +9,7 @@ use Rattle.jm_values.specs.declared.fault.TagFault.{TagFault}
 use Rattle.jm_values.proofs.Lists.{refs_in}
 use Rattle.jm_world.specs.Here.{with_arguments, with_reference}
 use Rattle.jm_world.specs.Next.{Next, faults}
-use Rattle.jm_linked.specs.Later.{print_parameters, printed_type}
+use Rattle.jm_linked.specs.PrintStreams.{print_parameters, printed_type}
 use Rattle.jm_linked.specs.declared.instruction.Printed.{Printed}
 use Rattle.jm_linked.specs.declared.instruction.Printed.TheVariants as printed
 use Rattle.jm_linked.specs.declared.instruction.PrintMethod.{PrintMethod}

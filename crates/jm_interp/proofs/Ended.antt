@@ -57,7 +57,6 @@ module _ {H : Type 0} {content : H → Content ClassId} {at : At} {old : State H
           literals = r.literals;
           classes = r.classes;
           started = λ k. r.started k ∙ ap (is_started k) (sym (serials_stay h t (ap (λ (x : ThreadRest). x.object.serial) s.rest_is)));
-          program = r.program;
         }
 
     pub ends : Does content at old (Ok Done) ended_state (λ w number x. goes (ended_as w number x (ending_part at.linked.now.program e)))

@@ -174,7 +174,6 @@ module _ {H : Type 0} {content : H → Content ClassId} {at : At} {old : State H
         literals = ap length same.literals ∙ r.literals;
         classes = ap length classes ∙ length-set old.classes class st ∙ r.classes;
         started = λ k. ap (is_among k) same.started ∙ r.started k ∙ ap (λ ts. is_started k (map (λ (x : held.Thread). x.serial) ts)) (sym same.threads);
-        program = r.program;
       }
 
   -- the state of the class alone has changed

@@ -70,7 +70,7 @@ pub mod DeclaredMethods
 pub mod ReceiverRows
 pub mod CodelessCalls
 pub mod SelectedCalls
-pub mod SpecialMethods
+pub mod SpecialPrints
 pub mod SpecialRows
 pub mod Started
 pub mod Starts

@@ -138,7 +138,6 @@ runs_with_monitors old ms r = record {
   literals = r.literals;
   classes = r.classes;
   started = r.started;
-  program = r.program;
 }
 
 -- a thread enters the monitor of an object that the machine holds

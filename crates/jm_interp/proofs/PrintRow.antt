@@ -6,7 +6,6 @@ use Rattle.std.proofs.lemmas.Bool.{eqb-true}
 use Rattle.std.proofs.lemmas.List.{append-nil}
 use Rattle.jm_program.specs.declared.class.ClassParts.{ClassParts}
 use Rattle.jm_program.specs.declared.descriptor.ElementType.TheVariants.{Class}
-use Rattle.jm_program.specs.declared.instruction.operation.InvokeOp.TheVariants.{Virtual}
 use Rattle.jm_program.specs.declared.instruction.symbolic.Instr.TheVariants as instr
 use Rattle.jm_frames.specs.FrameView.{with_stack, gone_to}
 use Rattle.jm_values.specs.Rename.{rename, refs, stack_shape, locals_shape}
@@ -33,7 +32,7 @@ use Rattle.jm_world.specs.Loads.{Loads}
 use Rattle.jm_world.specs.Stepping.{row, step_thread}
 use Rattle.jm_heap.specs.declared.class_id.ClassId.{ClassId}
 use Rattle.jm_heap.specs.declared.class_id.ClassId.TheVariants.{Instance, Array}
-use Rattle.jm_linked.specs.Later.{print_name, print_type}
+use Rattle.jm_linked.specs.PrintStreams.{print_name, print_type}
 use Rattle.jm_linked.specs.Links.{class_name_of}
 use Rattle.jm_linked.specs.declared.instruction.LinkedInstr.TheVariants as linked
 use Rattle.jm_linked.specs.declared.instruction.Printed.{Printed}
@@ -68,6 +67,7 @@ use Rattle.jm_interp.specs.At.{parts_at, StandsOn, Does, Steps}
 use Rattle.jm_interp.specs.Standing.{Stands, ThreadRest, running}
 use Rattle.jm_interp.proofs.Here.{place, row_is, top_held, inside_with, part_with}
 use Rattle.jm_interp.proofs.Objects.{IsObject, object_of, told}
+use Rattle.jm_interp.proofs.SpecialPrints.{either_way}
 use Rattle.jm_interp.proofs.StringText.{text_told, text_untold}
 use Rattle.jm_interp.proofs.OnThread.{Leads, model, read, does_as, stops, refused, runs_with, goes_to, with_thread_at, ChangedTo}
 
@@ -180,9 +180,11 @@ module _ {H : Type 0} {content : H → Content ClassId} {at : At} {old : State H
 
   print_is : Leads h.method.on step_thread (λ w. received (name_of (content old.heap))
       (printing_of p h.method.frame.activation.stack) (left_by p h.method.frame.activation.stack) (on_receiver w))
+  unfolding parts
   print_is w m =
       row_is h w m
-      ∙ ap (row (place h.method w)) (h.is.1 ∙ ap (instr.Invoke Virtual) (ref_is h.is.0 p h.is.2))
+      ∙ ap (row (place h.method w)) (h.is.is ∙ ap (instr.Invoke h.is.op) (ref_is h.is.method p h.is.prints))
+      ∙ either_way (place h.method w) p (subst Loads m.program h.method.on.beside.linked.loads) h.is.op h.is.of_class
       ∙ receives (name_of (content old.heap)) p h.method.frame.activation.stack (on_receiver w)
 
   module _ {d : held.Thread} (got : d ≡ slice_index_or old.threads.items at.index d) where

@@ -8,11 +8,11 @@ use Rattle.jm_world.specs.Classes.{class_named, height}
 use Rattle.jm_world.specs.Hierarchy.{dimensions_assignable, holds_of_any, is_assignable, is_below, is_subclass, parents}
 use Rattle.jm_world.specs.Types.{type_of_object}
 use Rattle.jm_heap.specs.declared.class_id.ClassId.{ClassId}
+use Rattle.jm_linked.proofs.Classes.{same_self}
 use Rattle.jm_linked.specs.Links.{NamesElement, NamesType, class_name_of}
 use Rattle.jm_linked.specs.declared.instruction.LinkedType.{LinkedType}
 use Rattle.jm_state.specs.Parts.{named_type}
 use Rattle.jm_interp.specs.TypeChecks.{IsExactly}
-use Rattle.jm_interp.proofs.SpecialMethods.{same_self}
 
 pub taller : (program : List ClassParts) → height program ≡ suc (length program + 28)
 taller program = omega arith

@@ -134,7 +134,6 @@ module _ {H : Type 0} (content : H → Content ClassId) (l : LinkedView) {old ne
         classes = r.classes;
         started = λ k. added.started k ∙ ap (λ b. nat_eq serial k || b) (r.started k)
             ∙ sym (ap (is_started k) serials ∙ started_more k (map (λ (t : held.Thread). t.serial) old.threads.items) (Some serial));
-        program = r.program;
       })
 
   module _ (w : World) (m : Matches (state_parts content l old) w) (there : serial_at (content old.heap) place ≡ Some serial)

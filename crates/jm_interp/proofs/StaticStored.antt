@@ -167,7 +167,6 @@ module _ {H : Type 0} {content : H → Content ClassId} {at : At} {old : State H
         literals = r.literals;
         classes = r.classes;
         started = r.started;
-        program = r.program;
       }
 
   module _ (inside : Holds content at old v) where

@@ -27,7 +27,7 @@ fn is_print_stream(id: ClassId) -> bool
     }
 }
 
-/// Makes invokevirtual of a method of a print stream: it writes at the end of the output,
+/// Makes invokevirtual or invokespecial of a method of a print stream: it writes at the end of the output,
 /// which is as it was where a growth is refused. Null throws NullPointerException.
 #[inline(never)]
 pub(crate) fn print<H: Heap>(

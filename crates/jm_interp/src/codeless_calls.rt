@@ -106,8 +106,7 @@ fn call_of_thread<H: Heap>(
 /// Calls an instance method that has no code, by the number with which its class declares it: an
 /// abstract one throws AbstractMethodError (JVMS 6.5 invokevirtual), and one of a built-in class is one
 /// event. OutOfMemory: the class declares no method of that number, as it does, or it is one of
-/// java/io/PrintStream's or java/lang/Thread's, which stand in no program that is loaded but as
-/// instructions of their own.
+/// java/io/PrintStream's, which are called by an instruction of their own.
 pub(crate) fn call_without_code<H: Heap>(
     at: At<'_>,
     state: &mut State<H>,

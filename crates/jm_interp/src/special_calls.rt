@@ -1,15 +1,12 @@
 // Invokes of constructors, private methods and methods of a superclass (JVMS 6.5 invokespecial).
 
-ghost use Rattle.jm_program.specs.declared.instruction.operation.InvokeOp.TheVariants as invoke_op;
-ghost use Rattle.jm_linked.specs.Links.{Links};
 ghost use Rattle.jm_linked.specs.declared.instruction.LinkedInstr.TheVariants as linked_instr;
-ghost use Rattle.jm_interp.specs.At.{StandsOn, Steps, MakesIn};
+ghost use Rattle.jm_interp.specs.At.{Fetched, Steps, MakesIn};
 ghost use Rattle.jm_interp.specs.Invoking.{CallsDeclared};
 
 use crate::at::At;
 use crate::codeless_calls::call_without_code;
 use crate::declared::declared_method;
-use crate::fields::has_fields_of;
 use crate::instance_calls::call_code;
 use crate::invocation::invoked_code;
 use crate::receivers::receiver_of;
@@ -20,7 +17,7 @@ use jm_linked::InvokedMethod;
 use jm_state::{Halt, State, StepEnd};
 use jm_values::{Place, TagFault};
 
-// Calls the instance method that an invoke means. OutOfMemory: the class
+// Calls an instance method. OutOfMemory: the class
 // declares none of that number, or it has code and no number among those with code, as all have.
 fn call_declared<H: Heap>(
     at: At<'_>,
@@ -44,30 +41,39 @@ fn call_declared<H: Heap>(
     }
 }
 
-/// Makes `invokespecial` (JVMS 6.5): `<init>` is the named class's own, and another method is the one
-/// that the name and the type mean in the named class, which is the current class or its superclass;
-/// one of an interface throws AbstractMethodError. A receiver that is not of the named class is of a
-/// wrong kind. OutOfMemory: a growth was refused, and nothing has changed.
+/// Makes `invokespecial` of the method that it calls from the current class (JVMS 6.5), which was found
+/// when the program was linked. A receiver that is not of the named class is of a wrong kind, and null
+/// throws NullPointerException. OutOfMemory: a growth was refused, and nothing has changed.
 #[inline(never)]
 pub(crate) fn invoke_special<H: Heap>(
     at: At<'_>,
     state: &mut State<H>,
     method: InvokedMethod,
 ) -> Result<StepEnd, Halt>
-    requires { StandsOn H.content at state.old (Links at.linked.now (linked_instr.Invoke invoke_op.Special method)) }
+    requires { Fetched H.content at state.old (linked_instr.Special method) }
     ensures steps { Steps H.content at.entry state.old result state.new }
     ensures nursery { MakesIn H.content H.nursery_of at.entry state.old state.new }
 {
-    let receiver = match receiver_of(at, state, method, Refusal::Faults(TagFault::WrongKind)) {
-        Ok(receiver) => receiver,
-        Err(refusal) => return refuse(at, state, refusal),
-    };
-    if !has_fields_of(at.linked, method.named, method.found.class) {
-        return refuse(
-            at,
-            state,
-            Refusal::Throws(BuiltInClass::AbstractMethodError),
-        );
+    match receiver_of(at, state, method, Refusal::Faults(TagFault::WrongKind)) {
+        Ok(receiver) => call_declared(at, state, method, receiver),
+        Err(refusal) => refuse(at, state, refusal),
     }
-    call_declared(at, state, method, receiver)
+}
+
+/// Makes one that finds no method: the same, but AbstractMethodError in the place of the call.
+#[inline(never)]
+pub(crate) fn refuse_special<H: Heap>(
+    at: At<'_>,
+    state: &mut State<H>,
+    method: InvokedMethod,
+) -> Result<StepEnd, Halt>
+    requires { Fetched H.content at state.old (linked_instr.NoSpecial method) }
+    ensures steps { Steps H.content at.entry state.old result state.new }
+    ensures nursery { MakesIn H.content H.nursery_of at.entry state.old state.new }
+{
+    let refusal = match receiver_of(at, state, method, Refusal::Faults(TagFault::WrongKind)) {
+        Ok(_) => Refusal::Throws(BuiltInClass::AbstractMethodError),
+        Err(refusal) => refusal,
+    };
+    refuse(at, state, refusal)
 }

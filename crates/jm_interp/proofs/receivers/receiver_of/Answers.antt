@@ -20,15 +20,13 @@ class_of-requires g c =
 pub returns-in-Some-true : goal.returns-in-Some-true
 returns-in-Some-true g c find h =
     let same = parameters_are h c.in-Some.ensures c.as_slice-parameters.ensures in
-    let program = c.args.at.linked.now.program in
     receives_it h (found_arguments h c.index.ensures same c.in_ok-receiver.ensures.arguments)
     (found_below h c.index.ensures same c.in_ok-receiver.ensures.value) c.class_of.ensures
-    (c.in-Some-true.ensures (class_type h.is.links.name) (named_class program h.is.links)) c.in-Some-true.field-0-test
+    (c.in-Some-true.ensures (class_type h.is.links.name) (named_class c.args.at.linked.now h.is.links)) c.in-Some-true.field-0-test
 
 pub returns-in-Some-false : goal.returns-in-Some-false
 returns-in-Some-false g c find h =
     let same = parameters_are h c.in-Some.ensures c.as_slice-parameters.ensures in
-    let program = c.args.at.linked.now.program in
     of_another h (found_arguments h c.index.ensures same c.in_ok-receiver.ensures.arguments)
     (found_below h c.index.ensures same c.in_ok-receiver.ensures.value) c.class_of.ensures
-    (c.in-Some-false.ensures (class_type h.is.links.name) (named_class program h.is.links)) c.in-Some-false.field-0-test
+    (c.in-Some-false.ensures (class_type h.is.links.name) (named_class c.args.at.linked.now h.is.links)) c.in-Some-false.field-0-test
