@@ -23,21 +23,21 @@ unfolding loaded_world
 limit_of program limit = refl
 
 -- and so has the machine that matches it
-same_program : (m : MachineView) (program : List ClassParts) (limit : ℕ) → MatchesWorld m (loaded_world program limit) → m.linked.program ≡ program
+same_program : {H : Type 0} (m : MachineView H) (program : List ClassParts) (limit : ℕ) → MatchesWorld m (loaded_world program limit) → m.linked.program ≡ program
 unfolding parts
 same_program m program limit h = h.program ∙ program_of program limit
 
-same_limit : (m : MachineView) (program : List ClassParts) (limit : ℕ) → MatchesWorld m (loaded_world program limit) → m.content.limit ≡ limit
+same_limit : {H : Type 0} (m : MachineView H) (program : List ClassParts) (limit : ℕ) → MatchesWorld m (loaded_world program limit) → m.content.limit ≡ limit
 unfolding parts
 same_limit m program limit h = h.limit ∙ limit_of program limit
 
-pub stands : (m : MachineView) (program : List ClassParts) (limit : ℕ) → MatchesWorld m (loaded_world program limit) → StandsAtItsBeginning limit m
+pub stands : {H : Type 0} (m : MachineView H) (program : List ClassParts) (limit : ℕ) → MatchesWorld m (loaded_world program limit) → StandsAtItsBeginning limit m
 stands m program limit h =
     let same : loaded_world program limit ≡ beginning m = ap (λ p. loaded_world p limit) (sym (same_program m program limit h)) ∙ ap (loaded_world m.linked.program) (sym (same_limit m program limit h)) in
     record { limit_is = same_limit m program limit h; matches = subst (MatchesWorld m) same h }
 
 -- the step of loading has an answer
-pub loads : (m : MachineView) (program : List ClassParts) (limit : ℕ) → is_too_small program limit ≡ false → MatchesWorld m (loaded_world program limit) → loaded_program limit program ≡ Ok m.linked.program
+pub loads : {H : Type 0} (m : MachineView H) (program : List ClassParts) (limit : ℕ) → is_too_small program limit ≡ false → MatchesWorld m (loaded_world program limit) → loaded_program limit program ≡ Ok m.linked.program
 loads m program limit fits h =
     let answer : Bool → Result (List ClassParts) Cause = λ small. if small then Err (because heap_too_small) else Ok program in
     ap answer fits ∙ ap Ok (sym (same_program m program limit h))
@@ -67,6 +67,6 @@ unfolding loaded_world
 begins_with_main program limit = record { thread = first_thread (main_in program); threads = refl; live = refl; goes_on = refl }
 
 -- a session begins where its machine does
-pub session_begins : (v : Verdict) (m : MachineView) (limit : ℕ) (t : Talk) → v ≡ Ok (debugs m.linked.program limit) → m.content.limit ≡ limit → t.first ≡ session_of (beginning m) → Debugs v t
+pub session_begins : {H : Type 0} (v : Verdict) (m : MachineView H) (limit : ℕ) (t : Talk) → v ≡ Ok (debugs m.linked.program limit) → m.content.limit ≡ limit → t.first ≡ session_of (beginning m) → Debugs v t
 session_begins v m limit t is limit_is first =
     record { program = m.linked.program; limit = limit; debugs_is = is; first_is = first ∙ ap (λ n. session_of (loaded_world m.linked.program n)) limit_is }

@@ -51,18 +51,18 @@ texts_answered s (text ∷ texts) = ap (λ rest. printed (shown s text).answer +
 text_is : (line : List ℕ) (b : Bool) → is_utf8 line ≡ b → text_in line ≡ (if b then Some (utf16_of line) else None)
 text_is line b is = ap (λ (t : Bool). if t then Some (utf16_of line) else None) is
 
-says_of : (d : DebuggerView) (s : Session) (text : List ℕ) (r : Result (Vec ℕ Global) DebugFault) → Answers (λ v. v.items) d s text r → AnswersLine (λ v. v.items) d (shown s text) r
+says_of : {H : Type 0} (d : DebuggerView H) (s : Session) (text : List ℕ) (r : Result (Vec ℕ Global) DebugFault) → Answers (λ v. v.items) d s text r → AnswersLine (λ v. v.items) d (shown s text) r
 says_of d s text (Ok v) h = h
 says_of d s text (Err BadCommand) h = (h.0, subst (IsSession d) (sym (refused_stays s text BadCommand h.0)) h.1)
 says_of d s text (Err NoSuch) h = (h.0, subst (IsSession d) (sym (refused_stays s text NoSuch h.0)) h.1)
 says_of d s text (Err OutOfMemory) h = tt
 
-pub says_of_text : (d : DebuggerView) (s : Session) (line : List ℕ) (r : Result (Vec ℕ Global) DebugFault) → IsUtf8 line → Answers (λ v. v.items) d s (utf16_of line) r
+pub says_of_text : {H : Type 0} (d : DebuggerView H) (s : Session) (line : List ℕ) (r : Result (Vec ℕ Global) DebugFault) → IsUtf8 line → Answers (λ v. v.items) d s (utf16_of line) r
     → AnswersLine (λ v. v.items) d (shown_for s (text_in line)) r
 says_of_text d s line r text h =
     subst (λ (t : Option (List ℕ)). AnswersLine (λ (v : Vec ℕ Global). v.items) d (shown_for s t) r) (sym (text_is line true (is_utf8-from_IsUtf8 line text))) (says_of d s (utf16_of line) r h)
 
-pub says_of_no_text : (d : DebuggerView) (s : Session) (line : List ℕ) → ¬ (IsUtf8 line) → IsSession d s → AnswersLine (λ (v : Vec ℕ Global). v.items) d (shown_for s (text_in line)) (Err BadCommand)
+pub says_of_no_text : {H : Type 0} (d : DebuggerView H) (s : Session) (line : List ℕ) → ¬ (IsUtf8 line) → IsSession d s → AnswersLine (λ (v : Vec ℕ Global). v.items) d (shown_for s (text_in line)) (Err BadCommand)
 says_of_no_text d s line none session =
     subst (λ (t : Option (List ℕ)). AnswersLine (λ (v : Vec ℕ Global). v.items) d (shown_for s t) (Err BadCommand)) (sym (text_is line false (no_text line none))) (refl, session)
 
@@ -105,7 +105,7 @@ module _ {O : Type 0} (says : Words O) where
 
   -- ---- one line
 
-  pub line_answered : (d : DebuggerView) (s : Session) (line : Option (List ℕ)) (r : Result (Unit {0}) Status) (answer : List ℕ) (a b : Watch O) → printed (shown_for s line).answer ≡ answer
+  pub line_answered : {H : Type 0} (d : DebuggerView H) (s : Session) (line : Option (List ℕ)) (r : Result (Unit {0}) Status) (answer : List ℕ) (a b : Watch O) → printed (shown_for s line).answer ≡ answer
       → IsSession d (shown_for s line).next → MatchResult r (λ _. AllWritten says a b answer) (λ _. BreaksOff says a b answer) → IfErr r (λ status. status ≡ ends.Files)
       → Answered says d s line r a b
   line_answered d s line (Ok x) answer a b is session written status = (subst (AllWritten says a b) (sym is) written, session)
@@ -118,7 +118,7 @@ module _ {O : Type 0} (says : Words O) where
     left = talk_broken (talk s (line ∷ []) call_failed) e a b (subst (BreaksOff says a b) (sym (output_of_one s line ∙ is)) broken) status;
   }
 
-  pub line_refused_for_memory : (d : DebuggerView) (s : Session) (line : Option (List ℕ)) (status : Status) (a b : Watch O) → TalkLeft says (talk s [] memory_refused) status a b
+  pub line_refused_for_memory : {H : Type 0} (d : DebuggerView H) (s : Session) (line : Option (List ℕ)) (status : Status) (a b : Watch O) → TalkLeft says (talk s [] memory_refused) status a b
       → Answered says d s line (Err status) a b
   line_refused_for_memory d s line status a b left = record { lines = []; rest = line ∷ []; whole = refl; close = memory_refused; breaks = tt; left = left }
 
@@ -132,19 +132,19 @@ module _ {O : Type 0} (says : Words O) where
   no_last_line s line status a none fresh is =
       inl (talk_told (talk s (lines_of line) input_ended) status a a fresh (subst (λ bytes. AllWritten says a a (talk_output (talk s (lines_of bytes) input_ended))) (sym none) (nothing_written says a)) is)
 
-  pub last_answered : (d : DebuggerView) (s : Session) (line : List ℕ) (status : Status) (a b : Watch O) → (line ≡ [] → ⊥) → IsWithinLine line → a.failed ≡ false → (done : Unit {0})
+  pub last_answered : {H : Type 0} (d : DebuggerView H) (s : Session) (line : List ℕ) (status : Status) (a b : Watch O) → (line ≡ [] → ⊥) → IsWithinLine line → a.failed ≡ false → (done : Unit {0})
       → Answered says d s (text_in line) (Ok done) a b → status ≡ ends.Done → Finishes says s (lines_of line) status a b
   last_answered d s line status a b some within fresh done answered is =
       let whole = subst (AllWritten says a b) (sym (output_of_one s (text_in line))) answered.0 in
       subst (λ lines. Finishes says s lines status a b) (sym (one_line line some within)) (inl (talk_told (talk s (text_in line ∷ []) input_ended) status a b fresh whole is))
 
-  pub last_broken_off : (d : DebuggerView) (s : Session) (line : List ℕ) (status : Status) (a b : Watch O) → (line ≡ [] → ⊥) → IsWithinLine line
+  pub last_broken_off : {H : Type 0} (d : DebuggerView H) (s : Session) (line : List ℕ) (status : Status) (a b : Watch O) → (line ≡ [] → ⊥) → IsWithinLine line
       → Answered says d s (text_in line) (Err status) a b → Finishes says s (lines_of line) status a b
   last_broken_off d s line status a b some within broken = subst (λ lines. Finishes says s lines status a b) (sym (one_line line some within)) (inr broken)
 
 -- ---- what was read and answered so far
 
-pub record SoFar {R O : Type 0} (r : Reads R) (o : Words O) (s : Session) (d : DebuggerView) (unread : List ℕ) (reader new_reader : Watch R) (out new_out : Watch O) : Type 0 where
+pub record SoFar {H : Type 0} {R O : Type 0} (r : Reads R) (o : Words O) (s : Session) (d : DebuggerView H) (unread : List ℕ) (reader new_reader : Watch R) (out new_out : Watch O) : Type 0 where
   pub bytes : List ℕ
   pub before : List (List ℕ)
   pub read : HasRead r bytes reader new_reader
@@ -157,7 +157,7 @@ at_most_one [] within = omega arith
 at_most_one (b ∷ line) within = let one : length (lines_of (b ∷ line)) ≡ 1 = ap (λ lines. length (map text_in lines)) (last_line b line within) in omega (arith, one)
 
 module _ {R O : Type 0} (r : Reads R) (o : Words O) (s : Session) where
-  pub begun : (d : DebuggerView) (unread : List ℕ) (reader : Watch R) (out : Watch O) → unread ≡ [] → IsSession d s → SoFar r o s d unread reader reader out out
+  pub begun : {H : Type 0} (d : DebuggerView H) (unread : List ℕ) (reader : Watch R) (out : Watch O) → unread ≡ [] → IsSession d s → SoFar r o s d unread reader reader out out
   begun d unread reader out none session = record {
     bytes = [];
     before = [];
@@ -167,7 +167,7 @@ module _ {R O : Type 0} (r : Reads R) (o : Words O) (s : Session) where
     written = nothing_written o out;
   }
 
-  module _ (d : DebuggerView) (unread : List ℕ) (reader mid_reader : Watch R) (out mid_out : Watch O) (so_far : SoFar r o s d unread reader mid_reader out mid_out) where
+  module _ {H : Type 0} (d : DebuggerView H) (unread : List ℕ) (reader mid_reader : Watch R) (out mid_out : Watch O) (so_far : SoFar r o s d unread reader mid_reader out mid_out) where
     abbrev done : List (Option (List ℕ))
     done = map text_in so_far.before
 
@@ -175,7 +175,7 @@ module _ {R O : Type 0} (r : Reads R) (o : Words O) (s : Session) where
     abbrev pub here : Session
     here = session_behind s (map text_in so_far.before)
 
-    pub one_more : (line : Vec ℕ Global) (rest : List ℕ) (next : DebuggerView) (new_reader : Watch R) (new_out : Watch O) (x : Unit {0}) → ReadsLine r (Ok (Line line)) unread rest mid_reader new_reader
+    pub one_more : (line : Vec ℕ Global) (rest : List ℕ) (next : DebuggerView H) (new_reader : Watch R) (new_out : Watch O) (x : Unit {0}) → ReadsLine r (Ok (Line line)) unread rest mid_reader new_reader
         → Answered o next here (text_in line.items) (Ok x) mid_out new_out → SoFar r o s next rest reader new_reader out new_out
     one_more line rest next new_reader new_out x (more, read, within, whole) (written, session) =
         let lines : map text_in (so_far.before ++ line.items ∷ []) ≡ done ++ text_in line.items ∷ [] = map-append text_in so_far.before (line.items ∷ []) in
@@ -217,7 +217,7 @@ module _ {R O : Type 0} (r : Reads R) (o : Words O) (s : Session) where
           talk_then o s done off.lines off.close status out mid_out new_out so_far.written off.left,
         )
 
-    pub broken_off_at_line : (line : Vec ℕ Global) (rest : List ℕ) (next : DebuggerView) (status : Status) (new_reader : Watch R) (new_out : Watch O)
+    pub broken_off_at_line : (line : Vec ℕ Global) (rest : List ℕ) (next : DebuggerView H) (status : Status) (new_reader : Watch R) (new_out : Watch O)
         → ReadsLine r (Ok (Line line)) unread rest mid_reader new_reader → Answered o next here (text_in line.items) (Err status) mid_out new_out → IsHeld r o s status reader new_reader out new_out
     broken_off_at_line line rest next status new_reader new_out (more, read, within, whole) off =
         let lines = line_more so_far.bytes unread rest more line.items so_far.before so_far.lines whole within [] in

@@ -4,11 +4,10 @@ use Rattle.std.specs.Prelude.{IfSome, OnOk}
 use Rattle.jm_execute.specs.Written.{Watch, Words, AllWritten, LinesWritten, LineFailed, Reads, WritesLines}
 use Rattle.jm_world.specs.World.{World}
 use Rattle.jm_world.specs.declared.event.Event.{Event}
-use Rattle.jm_execute.specs.Endings.{Ending, completed, interrupted, assembled, answered, exhausted, turned_away, Ends, Hears, IsDone, IsDoneUnread, IsTalk, Leaves, LeavesIf, LinesTold, Tells, output_of}
+use Rattle.jm_execute.specs.Endings.{Ending, completed, interrupted, assembled, answered, exhausted, turned_away, Ends, FailureTold, Hears, IsDone, IsDoneUnread, IsTalk, Leaves, LeavesIf, LinesTold, Tells, output_of}
 use Rattle.jm_execute.specs.Talks.{Talk, TalkLeft, TalkLeftIf}
 use Rattle.jm_execute.specs.Verdicts.{Verdict}
 use Rattle.jm_execute.specs.declared.status.Status.{Status}
-use Rattle.jm_execute.specs.declared.status.Status.TheVariants as ends
 use Rattle.jm_execute.proofs.Writing.{nothing_written, no_lines}
 
 module _ {W : Type 0} (says : Words W) where
@@ -40,14 +39,17 @@ module _ {O E : Type 0} (o : Words O) (w : Words E) where
   pub told_whole : (e : Ending) (status : Status) (out new_out : Watch O) (err new_err : Watch E) → new_out.failed ≡ false → Leaves o w e status out new_out err new_err → Tells w e status err new_err
   told_whole e status out new_out err new_err whole leaves = (subst (λ b. LeavesIf b o w e status out new_out err new_err) whole leaves).1
 
-  -- what a session leaves, where nothing is told
-  session_told_if : (b : Bool) (t : Talk) (status : Status) (out new_out : Watch O) (err : Watch E) → err.failed ≡ false → TalkLeftIf b o t status out new_out → LeavesIf b o w (answered t) status out new_out err err
-  session_told_if false t status out new_out err fresh left = (left.0, (left.1, no_lines_told w err fresh))
-  session_told_if true t status out new_out err fresh left =
-      (elim left.0 [ inl broken ↦ inl broken | inr unflushed ↦ inr (tt, unflushed) ], left.1, no_lines_told w err fresh)
+  -- what a session leaves, of which nothing is told but that its output could not be written whole
+  session_told_if : (b : Bool) (t : Talk) (status : Status) (out new_out : Watch O) (err new_err : Watch E) → err.failed ≡ false → TalkLeftIf b o t status out new_out
+      → FailureTold w b err new_err → LeavesIf b o w (answered t) status out new_out err new_err
+  session_told_if false t status out new_out err new_err fresh left told =
+      (left.0, (left.1, subst (λ e. LinesTold w (Some []) e.failed err e) (sym told) (no_lines_told w err fresh)))
+  session_told_if true t status out new_out err new_err fresh left told =
+      (elim left.0 [ inl broken ↦ inl broken | inr unflushed ↦ inr (tt, unflushed) ], left.1, told)
 
-  pub session_told : (t : Talk) (status : Status) (out new_out : Watch O) (err : Watch E) → err.failed ≡ false → TalkLeft o t status out new_out → Leaves o w (answered t) status out new_out err err
-  session_told t status out new_out err fresh left = session_told_if new_out.failed t status out new_out err fresh left
+  pub session_told : (t : Talk) (status : Status) (out new_out : Watch O) (err new_err : Watch E) → err.failed ≡ false → TalkLeft o t status out new_out
+      → FailureTold w new_out.failed err new_err → Leaves o w (answered t) status out new_out err new_err
+  session_told t status out new_out err new_err fresh left told = session_told_if new_out.failed t status out new_out err new_err fresh left told
 
 -- ---- where nothing is read
 

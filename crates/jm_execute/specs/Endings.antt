@@ -108,7 +108,7 @@ abbrev pub lines_at_failure : Ending → Option (List ℕ)
 lines_at_failure (completed shows w) = Some failure_line
 lines_at_failure (interrupted w) = Some failure_line
 lines_at_failure (assembled bytes) = None
-lines_at_failure (answered t) = Some []
+lines_at_failure (answered t) = Some failure_line
 lines_at_failure exhausted = None
 lines_at_failure (turned_away reason) = None
 
@@ -135,6 +135,11 @@ abbrev pub LinesTold : {W : Type 0} → Words W → Option (List ℕ) → Bool �
 LinesTold says lines true old new = LineFailed says new
 LinesTold says None false old new = ⊤
 LinesTold says (Some lines) false old new = LinesWritten says old new lines
+
+-- the line that says that the output could not be written whole, where that is so
+abbrev pub FailureTold : {W : Type 0} → Words W → Bool → Watch W → Watch W → Type 0
+FailureTold says true old new = LinesTold says (Some failure_line) new.failed old new
+FailureTold says false old new = new ≡ old
 
 -- the status is the ending's, and its lines are told
 abbrev pub Tells : {W : Type 0} → Words W → Ending → Status → Watch W → Watch W → Type 0

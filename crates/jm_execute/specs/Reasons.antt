@@ -15,7 +15,7 @@ pub data Reason : Type 0 where
   no_class : List ℕ → FileFault → Reason
   -- the class of the text of this name passes a limit of class files
   no_class_file : List ℕ → WriteFault → Reason
-  -- the class does not load, or something is in it that cannot be run yet
+  -- the classes do not load
   not_linked : LinkFault → Reason
   -- the first objects pass the heap's limit
   heap_too_small : Reason

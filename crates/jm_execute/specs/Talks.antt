@@ -104,7 +104,7 @@ IsHeld r o s status reader new_reader out new_out = (t : Talk) × (t.first ≡ s
 -- ---- one line
 
 -- the debugger's answer to a line; want of memory says nothing
-abbrev pub AnswersLine : {X : Type 0} → (X → List ℕ) → DebuggerView → Shown → Result X DebugFault → Type 0
+abbrev pub AnswersLine : {H : Type 0} → {X : Type 0} → (X → List ℕ) → DebuggerView H → Shown → Result X DebugFault → Type 0
 AnswersLine bytes d here (Ok answer) = (here.answer ≡ Ok (bytes answer)) × IsSession d here.next
 AnswersLine bytes d here (Err BadCommand) = (here.answer ≡ Err BadCommand) × IsSession d here.next
 AnswersLine bytes d here (Err NoSuch) = (here.answer ≡ Err NoSuch) × IsSession d here.next
@@ -125,7 +125,7 @@ pub record BrokenOff {O : Type 0} (says : Words O) (s : Session) (all : List (Op
   pub left : TalkLeft says (talk s lines close) status out new_out
 
 -- a line is answered, or the session is broken off at it
-abbrev pub Answered : {O : Type 0} → Words O → DebuggerView → Session → Option (List ℕ) → Result (Unit {0}) Status → Watch O → Watch O → Type 0
+abbrev pub Answered : {H : Type 0} → {O : Type 0} → Words O → DebuggerView H → Session → Option (List ℕ) → Result (Unit {0}) Status → Watch O → Watch O → Type 0
 Answered says d s line (Ok done) out new_out = AllWritten says out new_out (printed (shown_for s line).answer) × IsSession d (shown_for s line).next
 Answered says d s line (Err status) out new_out = BrokenOff says s (line ∷ []) status out new_out
 

@@ -1,6 +1,6 @@
 -- What the files of a job say: a run of a program, a class with the bytes of its file, a session of the debugger, or why there is none.
 -- Each is a chain of steps; the first step that has no answer says why.
-use Rattle.std.specs.Prelude.{ℕ, List, [], ◌∷◌, Option, Some, None, Result, Ok, Err, Bool, if◌then◌else◌}
+use Rattle.std.specs.Prelude.{ℕ, List, [], ◌∷◌, Option, Some, None, Result, Ok, Err, Bool, option_map, if◌then◌else◌}
 use Rattle.std.specs.String.{string_bytes}
 use Rattle.jm_bytes.specs.Reading.{and_then, fault_as}
 use Rattle.jm_program.specs.declared.class.ClassParts.{ClassParts}
@@ -11,8 +11,6 @@ use Rattle.jm_world.specs.RoundRobin.{robin}
 use Rattle.jm_world.specs.Schedules.{schedule}
 use Rattle.jm_world.specs.World.{World}
 use Rattle.jm_world.specs.declared.event.Event.{Event}
-use Rattle.jm_linked.specs.Later.{later_part}
-use Rattle.jm_linked.specs.declared.later.LaterPart.{LaterPart}
 use Rattle.jm_linker.specs.declared.fault.LinkFault.{LinkFault}
 use Rattle.jm_linker.specs.declared.fault.LinkFault.TheVariants as link
 use Rattle.jm_execute.specs.declared.job.Contents.{Contents}
@@ -106,15 +104,9 @@ load_fault (no_method name) = link.NoMethod name
 load_fault (wrong_kind name) = link.WrongKind name
 load_fault no_main = link.NoMain
 
--- that reason, or else the first part that cannot be run yet
-abbrev pub first_fault : Option Refusal → Option LaterPart → Option LinkFault
-first_fault (Some reason) later = Some (load_fault reason)
-first_fault None (Some part) = Some (link.Later part)
-first_fault None None = None
-
 -- why the classes are not linked, if they are not
 abbrev pub link_fault : List ClassParts → Option LinkFault
-link_fault program = first_fault (refusal program) (later_part program)
+link_fault program = option_map load_fault (refusal program)
 
 abbrev pub unless_fault : Option LinkFault → List ClassParts → Result (List ClassParts) Cause
 unless_fault (Some fault) program = Err (because (reason.not_linked fault))

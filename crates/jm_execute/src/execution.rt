@@ -7,7 +7,7 @@ ghost use Rattle.jm_shared.specs.Seats.{fresh_hands};
 ghost use Rattle.jm_world.specs.World.{World};
 ghost use Rattle.jm_world.specs.declared.event.Event.{Event};
 ghost use Rattle.jm_execute.specs.Beginnings.{HasOneThread, beginning};
-ghost use Rattle.jm_execute.specs.Endings.{Ending, assembled, completed, exhausted, interrupted, output_of, Allows, Ends, IsDone, IsDoneUnread, IsTalk, Leaves, Tells};
+ghost use Rattle.jm_execute.specs.Endings.{Ending, assembled, completed, exhausted, interrupted, output_of, Allows, Ends, FailureTold, IsDone, IsDoneUnread, IsTalk, Leaves, Tells};
 ghost use Rattle.jm_debug.specs.Session.{session_of};
 ghost use Rattle.jm_execute.specs.Reports.{heap_shown};
 ghost use Rattle.jm_execute.specs.Talks.{IsHeld};
@@ -336,6 +336,16 @@ fn answer_session<H: Heap + Drop, W: Wait, R: Readable, O: Watchable>(
     status
 }
 
+// Tells that a write to the output failed, where one has.
+fn tell_failure<O: Watchable, E: Watchable>(out: &Watched<O>, err: &mut Watched<E>)
+    requires { err.old.failed ≡ false }
+    ensures { FailureTold (words E.contents E.ends) out.now.failed err.old err.new }
+{
+    if out.has_failed() {
+        let _told = err.write_line("jm: write failed");
+    }
+}
+
 fn execute_debug<W: Wait, R: Readable, O: Watchable, E: Watchable>(
     rt: &W,
     alloc: Global,
@@ -350,7 +360,11 @@ fn execute_debug<W: Wait, R: Readable, O: Watchable, E: Watchable>(
         result reader.old reader.new out.old out.new err.old err.new }
 {
     match prepare_session(alloc, job) {
-        Ok(machine) => answer_session(rt, alloc, machine, reader, out),
+        Ok(machine) => {
+            let status = answer_session(rt, alloc, machine, reader, out);
+            tell_failure(out, err);
+            status
+        }
         Err(obstacle) => tell_obstacle(obstacle, err),
     }
 }
@@ -377,9 +391,9 @@ fn execute_debug<W: Wait, R: Readable, O: Watchable, E: Watchable>(
 /// The status is `Done` at the end of `reader`, and `Files` where it fails; the line for want of
 /// memory is the last, and then the status is `OutOfMemory`.
 ///
-/// Where a write to `out` fails, a beginning of the output stands in it, and the status is `Files`;
-/// no other job ends so but one with a file that could not be read, or a session whose reader failed. A failing `err` changes no
-/// status.
+/// Where a write to `out` fails, a beginning of the output stands in it, the status is `Files`, and
+/// `err` gets a line that says so; no other job ends with this status but one with a file that could
+/// not be read, or a session whose reader failed. A failing `err` changes no status.
 #[tactic(auto, unfolding(crate::specs::Verdicts::verdict))]
 pub fn execute<W: Wait, R: Readable, O: Watchable, E: Watchable>(
     rt: &W,

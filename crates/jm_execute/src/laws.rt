@@ -67,8 +67,8 @@ pub fn answers_to_texts()
 /// of any heap that has run the events again (`Journal::run_again` of `jm_shared`) are both at the session
 /// of the world to which these events lead (`Debugger::new` of `jm_debug`); what they answer to a line is
 /// the same, unless one of them is refused memory.
-pub fn equal_views()
-    ensures { (first : World) (entries : List Entry) (line : List ℕ) (d e : DebuggerView) (r q : Result (Vec ℕ Global) DebugFault)
+pub fn equal_views<G, H>()
+    ensures { (first : World) (entries : List Entry) (line : List ℕ) (d : DebuggerView G) (e : DebuggerView H) (r q : Result (Vec ℕ Global) DebugFault)
         → Answers (λ v. v.items) d (session_of (world_after first entries)) line r
         → Answers (λ v. v.items) e (session_of (world_after first entries)) line q
         → told r ≢ Err OutOfMemory → told q ≢ Err OutOfMemory → told r ≡ told q }

@@ -3,7 +3,6 @@
 ghost use Rattle.std.specs.Prelude.{◌≡◌, None, [], IfErr, IfOk};
 ghost use Rattle.jm_world.specs.Loading.{loaded_world};
 ghost use Rattle.jm_world.specs.World.{World};
-ghost use Rattle.jm_linked.specs.Later.{later_part};
 ghost use Rattle.jm_gen_heap.specs.Residents.{content_of};
 ghost use Rattle.jm_machine.specs.Start.{IsEmpty};
 ghost use Rattle.jm_execute.specs.Beginnings.{StandsAtItsBeginning};
@@ -40,8 +39,7 @@ fn classes_of(alloc: Global, files: &[InputFile]) -> Result<Vec<Class>, Obstacle
 }
 
 fn linked_program<'a>(alloc: Global, classes: Vec<Class>) -> Result<Linked, Obstacle<'a>>
-    ensures program { Gives result (linked_program classes.items) (λ linked. linked.program) }
-    ensures whole { IfOk result (λ linked. later_part linked.program ≡ None) }
+    ensures { Gives result (linked_program classes.items) (λ linked. linked.program) }
 {
     match link(alloc, classes) {
         Ok(linked) => Ok(linked),
@@ -55,8 +53,7 @@ fn loaded_machine<'a, H: Heap + Drop>(
     linked: Linked,
     heap: H,
 ) -> Result<Machine<H>, Obstacle<'a>>
-    requires empty { IsEmpty (H.content heap) }
-    requires whole { later_part linked.program ≡ None }
+    requires { IsEmpty (H.content heap) }
     ensures program { Gives result (loaded_program (H.content heap).limit linked.program) (λ machine. machine.linked.program) }
     ensures ready { IfOk result (StandsAtItsBeginning (H.content heap).limit) }
 {

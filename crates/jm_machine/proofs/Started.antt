@@ -23,7 +23,6 @@ use Rattle.jm_world.specs.declared.class_state.ClassState.TheVariants.{NotBegun}
 use Rattle.jm_world.specs.declared.stage.Stage.TheVariants.{Begin}
 use Rattle.jm_world.proofs.LoadsWellFormed.{runs_are_well_formed}
 use Rattle.jm_heap.specs.declared.class_id.ClassId.{ClassId}
-use Rattle.jm_linked.specs.Later.{later_part}
 use Rattle.jm_linked.specs.Links.{LinkedView, IsLinked, MethodLinks, name_of_number, name_among, name_in_class, member_name}
 use Rattle.jm_linked.specs.declared.method.LinkedMethod.{LinkedMethod}
 use Rattle.jm_linked.specs.Named.{named_statics, named_literals, named_states}
@@ -122,7 +121,7 @@ pub record IsFirst (l : LinkedView) (t : held.Thread) (array : ℕ) : Type 0 whe
   pub pending : t.pending ≡ None
   pub ending : t.ending ≡ Running
 
-module _ (l : LinkedView) (i : IsLinked l) (none_later : later_part l.program ≡ None) (out array : ℕ) (t : held.Thread) (h : IsFirst l t array)
+module _ (l : LinkedView) (i : IsLinked l) (out array : ℕ) (t : held.Thread) (h : IsFirst l t array)
     (strings : List ℕ) (count : length strings ≡ length (literal_texts l.program)) where
   first_held : held_thread t ≡ record { object = None; serial = None; frames = reverse (first_frames l.main i.main array); pending = None; ending = Running }
   first_held =
@@ -184,7 +183,6 @@ module _ (l : LinkedView) (i : IsLinked l) (none_later : later_part l.program �
     literals = count;
     classes = ap length states_is ∙ length-replicate (length l.program) NotBegun;
     started = λ k. ap (λ o. is_object_of k o || false) (sym h.serial);
-    program = none_later;
   }
 
   -- so the state does that is seen so

@@ -1,7 +1,6 @@
 // How a program is loaded.
 
 ghost use Rattle.std.specs.Prelude.{◌≡◌, ◌<◌, ◌^◌, IfOk, Some, None, false, slice_get};
-ghost use Rattle.jm_linked.specs.Later.{later_part};
 ghost use Rattle.jm_linked.specs.declared.method.LinkedMethod.{LinkedMethod as Method};
 ghost use Rattle.jm_machine.specs.Start.{IsEmpty, first_frames};
 ghost use Rattle.jm_state.specs.Parts.{state_parts};
@@ -60,7 +59,6 @@ pub(crate) fn make_first_state<H: Heap + Drop>(
     linked: &Linked,
     mut heap: H,
 ) -> Result<State<H>, OutOfMemory>
-    requires not_later { later_part linked.now.program ≡ None }
     requires empty { IsEmpty (H.content heap) }
     requires room { is_too_small linked.now.program (H.content heap).limit ≡ false }
     requires small { (H.content heap).limit < 2 ^ 64 }

@@ -73,19 +73,16 @@ impl<H: Heap> Model for Machine<H> {
 
 impl<H: Heap + Drop> Machine<H> {
     ghost use Rattle.std.specs.Prelude.{◌≡◌, None};
-    ghost use Rattle.jm_linked.specs.Later.{later_part};
     ghost use Rattle.jm_machine.specs.Start.{IsEmpty, Loaded};
 
-    /// The machine from which a run of a linked program begins in which nothing comes later (what
-    /// `jm_linker::link` answers is so), over an empty heap whose next serial is 0: `System.out` and
-    /// the empty array that main is given are made, and then of each string literal, in order, the
+    /// The machine from which a run of a linked program begins, over an empty heap whose next serial is
+    /// 0: `System.out` and the empty array that main is given are made, and then of each string literal, in order, the
     /// array of its chars and its String (JVMS 5.1); each other static field is zero or null, main's
     /// frame stands below the initialization of its class (JVMS 5.2), and no class of the program is
     /// begun. `HeapTooSmall`: exactly where the first objects, those of the literals among them, pass
     /// the heap's limit. `OutOfMemory`: a growth was refused, or a literal has 2^32 code units or
     /// more, which no array has. What it took is dropped after a refusal.
     pub fn load(alloc: Global, linked: Linked, heap: H) -> Result<Machine<H>, LoadFault>
-        requires not_later { later_part linked.program ≡ None }
         requires empty { IsEmpty (H.content heap) }
         ensures { Loaded result linked.program (H.content heap).limit }
     {

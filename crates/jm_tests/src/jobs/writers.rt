@@ -3,8 +3,8 @@
 ghost use Rattle.std.specs.Prelude.{⊤};
 
 use jm_execute::{
-    AssembleJob, Contents, InputFile, Job, RunEvents, RunJob, Watchable, Watched, WriteFailed,
-    execute, put_by_write, put_line_by_write, put_through_by_flush,
+    AssembleJob, Contents, DebugJob, InputFile, Job, RunEvents, RunJob, Watchable, Watched,
+    WriteFailed, execute, put_by_write, put_line_by_write, put_through_by_flush,
 };
 use std::alloc::{AllocError, Global};
 use std::fmt::Display;
@@ -87,6 +87,10 @@ asm | 53 | whole | - | 0
 asm | 52 | failed | jm: A.class: not written | 2
 asm | 0 | failed | jm: A.class: not written | 2
 asm | closed | failed | closed | 2
+debug | 16 | whole | - | 0
+debug | 15 | failed | jm: write failed | 2
+debug | 0 | failed | jm: write failed | 2
+debug | closed | failed | closed | 2
 refused | closed | whole | closed | 4
 ";
 
@@ -113,12 +117,21 @@ fn assembly_job(alloc: Global, text: &str) -> Result<Job, AllocError> {
     }))
 }
 
-// The job of this name; an empty text is refused.
+// A session of the debugger.
+fn debug_job(alloc: Global) -> Result<Job, AllocError> {
+    Ok(Job::Debug(DebugJob {
+        heap: 100,
+        program: vec![in alloc; file(alloc, FIVE)?]?,
+    }))
+}
+
+// The job of this name; an empty text is refused. What is read in a session is no command.
 fn job_of(alloc: Global, name: &str) -> Result<Job, AllocError> {
     match name {
         "run 7" => run_job(alloc, "t 1 x 7"),
         "run 6" => run_job(alloc, "t 1 x 6"),
         "asm" => assembly_job(alloc, EMPTY),
+        "debug" => debug_job(alloc),
         _ => assembly_job(alloc, ""),
     }
 }

@@ -1,5 +1,4 @@
 -- The session begins with the program's first world.
-use Rattle.jm_debug.specs.Session.{session_of}
 use Rattle.jm_execute.specs.Beginnings.{beginning}
 use Rattle.jm_execute.specs.Endings.{answered}
 use Rattle.jm_execute.proofs.Beginnings.{session_begins}
@@ -9,8 +8,8 @@ use Rattle.jm_execute.proofs.execution.execute_debug.Goals as goal
 pub returns-in-Ok : goal.returns-in-Ok
 returns-in-Ok g c =
     let m = c.in-Ok.machine in
-    let (t, first, heard, left) = c.answer_session.ensures (beginning m) c.in-Ok.ensures.ready.matches in
-    (answered t, session_begins _ m _ t c.in-Ok.ensures.session c.in-Ok.ensures.ready.limit_is first, heard, session_told _ _ t _ _ _ _ c.requires.err left)
+    let (t, first, heard, left) = c.answer_session-status.ensures (beginning m) c.in-Ok.ensures.ready.matches in
+    (answered t, session_begins _ m _ t c.in-Ok.ensures.session c.in-Ok.ensures.ready.limit_is first, heard, session_told _ _ t _ _ _ _ _ c.requires.err left c.tell_failure.ensures)
 
 pub returns-in-Err : goal.returns-in-Err
 returns-in-Err g c =

@@ -20,11 +20,8 @@ pub returns-in_err-linked-clause-program : goal.returns-in_err-linked-clause-pro
 unfolding program_of
 returns-in_err-linked-clause-program g c =
     let p = err_from_is_err_and c.from_residual-in_err-linked.result c.from_residual-in_err-linked.ensures.1 in
-    rw (p.1, p.2) (hindered_next _ _ _ _ c.in_ok-check_read.ensures (hindered_next _ _ _ _ c.in_ok-classes.ensures (hindered _ _ _ c.in_err-linked.ensures.program)))
+    rw (p.1, p.2) (hindered_next _ _ _ _ c.in_ok-check_read.ensures (hindered_next _ _ _ _ c.in_ok-classes.ensures (hindered _ _ _ c.in_err-linked.ensures)))
 
 pub returns-clause-program : goal.returns-clause-program
 unfolding program_of
-returns-clause-program g c = given_next _ _ _ _ _ c.in_ok-check_read.ensures (given_next _ _ _ _ _ c.in_ok-classes.ensures (given_next _ _ _ _ _ c.in_ok-linked.ensures.program c.loaded_machine.ensures.program))
-
-pub loaded_machine-requires-clause-whole : goal.loaded_machine-requires-clause-whole
-loaded_machine-requires-clause-whole g c = c.in_ok-linked.ensures.whole
+returns-clause-program g c = given_next _ _ _ _ _ c.in_ok-check_read.ensures (given_next _ _ _ _ _ c.in_ok-classes.ensures (given_next _ _ _ _ _ c.in_ok-linked.ensures c.loaded_machine.ensures.program))

@@ -9,7 +9,7 @@ use Rattle.jm_execute.proofs.session.answer_of.Goals as goal
 
 pub returns-in-Ok : goal.returns-in-Ok
 returns-in-Ok g c = λ s session.
-    let said = subst (λ (text : List ℕ). Answers (λ (v : Vec ℕ Global). v.items) c.command.new.self s (utf16_of text) c.command.result) c.in-Ok.ensures.cases.0 (c.command.ensures s session) in
+    let said = subst (λ (text : List ℕ). Answers (λ (v : Vec ℕ Global). v.items) c.command.new.self s (utf16_of text) c.command.result) c.in-Ok.ensures.cases.0 (c.command.ensures.answers s session) in
     says_of_text _ s c.args.line.now c.command.result c.in-Ok.ensures.cases.1 said
 
 pub returns-in-Err : goal.returns-in-Err

@@ -26,7 +26,7 @@ returns g c =
     let statics = c.in_ok-statics.ensures ∙ ap (λ cs. Ref out ∷ static_values cs) c.classes-program.ensures.classes in
     let states = c.in_ok-classes.classes in
     let strings = c.in_ok-literals.literals.items in
-    let both = begun l linked c.requires.not_later out c.get-arguments.result t
+    let both = begun l linked out c.get-arguments.result t
     (record { object = refl; serial = refl; frames = c.in_ok-frames.ensures; pending = refl; ending = refl }) strings first.1
     _ _ states first.0 c.in_ok-places.ensures.limit
     (counted c.classes-program.result.now l.program states c.in_ok-classes.ensures c.classes-program.ensures.classes)
