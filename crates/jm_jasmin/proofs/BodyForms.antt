@@ -1,6 +1,6 @@
 -- The lines of a body come to the same code in whatever lines they stand.
 use Rattle.std.proofs.Common.{◌≡◌, ℕ, zero, suc, ◌≤◌, Bool, true, false, not, List, [], ◌∷◌, ◌++◌, length, Option, Some, None, Result, Ok, Err, refl}
-use Rattle.std.proofs.Common.{ap, sym, ◌∙◌, arith, is_some}
+use Rattle.std.proofs.Common.{ap, sym, ◌∙◌, arith, is_some, subst, append_assoc}
 use mathlib.Core.Path.{fun_ext}
 use Rattle.std.specs.Prelude.{codes, nat_lt, nat_le, if◌then◌else◌, ◌||◌, ◌^◌, ◌-◌}
 use Rattle.jm_bytes.specs.Reading.{each}
@@ -14,6 +14,11 @@ use Rattle.jm_program.specs.declared.code.Handler.{Handler}
 use Rattle.jm_program.specs.declared.instruction.symbolic.Instr.{Instr}
 use Rattle.jm_class_format.specs.Symbols.{or_else}
 use Rattle.jm_jasmin_lex.specs.Token.{TokenParts}
+use Rattle.jm_program.specs.declared.instruction.plain.SwitchPair.{SwitchPair}
+use Rattle.jm_jasmin_ops.specs.Label.{LabelParts}
+use Rattle.jm_jasmin_ops.specs.declared.labelled.LabelledPair.{LabelledPair}
+use Rattle.jm_jasmin_ops.specs.declared.labelled.LabelledTable.{LabelledTable}
+use Rattle.jm_jasmin_ops.specs.declared.labelled.LabelledLookup.{LabelledLookup}
 use Rattle.jm_jasmin_ops.specs.declared.labelled.LabelledInstr.{LabelledInstr}
 use Rattle.jm_jasmin_ops.specs.declared.labelled.LabelledInstr.TheVariants as labelled
 use Rattle.jm_jasmin_ops.specs.declared.fault.AsmFault.{AsmFault}
@@ -21,7 +26,7 @@ use Rattle.jm_jasmin_ops.specs.declared.fault.AsmFault.TheVariants as fault
 use Rattle.jm_jasmin.specs.Lines.{line_number, taken_on}
 use Rattle.jm_jasmin.specs.Items.{instruction_here, instruction_count, value_here, label_value, stack_here, stack_limit, locals_here, locals_limit}
 use Rattle.jm_jasmin.specs.Items.{locals_accepted, instruction_accepted, accepted, with_item, next_item, item_at, in_body}
-use Rattle.jm_jasmin.specs.Labels.{end_at, place_at, target, instruction_of, handler_of, part_of}
+use Rattle.jm_jasmin.specs.Labels.{end_at, place_at, target, pair_of, table_of, lookup_of, instruction_of, handler_of, part_of}
 use Rattle.jm_jasmin.specs.Body.{empty_between, empty_range_in, empty_range, unless_fault, limit_or_one, checked_locals, checked_count, code_of}
 use Rattle.jm_jasmin.specs.declared.item.CatchRow.{CatchRow}
 use Rattle.jm_jasmin.specs.declared.item.Item.{Item}
@@ -32,10 +37,10 @@ use Rattle.jm_jasmin.specs.InstructionForms.{InstructionLine}
 use Rattle.jm_jasmin.specs.InstructionForms.InstructionLine.{named, branch, branch_wide}
 use Rattle.jm_jasmin.specs.MethodForms.{BodyLine, BodyLines}
 use Rattle.jm_jasmin.specs.MethodForms.BodyLine.{stack, locals, source_line, catch, catch_all, throws, var, label, instruction}
-use Rattle.jm_jasmin.specs.MethodForms.BodyLines.{ends, and_line}
+use Rattle.jm_jasmin.specs.MethodForms.BodyLines.{ends, and_line, and_switch}
 use Rattle.jm_jasmin.proofs.WordForms.{Says, opens, begins_says, stops, goes_on_with}
-use Rattle.jm_jasmin.proofs.InstructionForms.{in_line}
-use Rattle.jm_jasmin.proofs.MethodForms.{in_that_line, item_read}
+use Rattle.jm_jasmin.proofs.InstructionForms.{label_in, labels_in, pairs_in, in_line}
+use Rattle.jm_jasmin.proofs.MethodForms.{in_that_line, item_read, switch_goes_on, switch_read}
 use Rattle.jm_jasmin.proofs.MnemonicForms.{label_text, mnemonic_text}
 use Rattle.jm_class_format.specs.declared.opcode.Opcode.TheVariants as opcode
 
@@ -213,6 +218,19 @@ module _ (m : Method) (behind : List Line) (on : opens (codes ".end") behind ≡
       let step = step_read m items js i j us rest e (line_unplaced (instruction_count items) g.0 l i p) a g.1.1 in
       let r = body_read (items ++ i ∷ []) others all q n rest (js ++ j ∷ []) step.1 (omega (arith, g.1.3)) g.1.2 in
       (r.0, r.1, goes_on_with in_body (next_item m) js (js ++ j ∷ []) n us rest here step.0 ∙ r.2, r.3, r.4, omega (arith, g.1.3, r.5))
+  body_read items lines all (and_switch is own i {lines = others} p a q) zero us js e le says =
+      let g = switch_read (instruction_count items) own (others ++ behind) i p us (subst (λ (ls : List Line). Says ls us) (append_assoc own others behind) says)
+      in
+      absurd (omega (arith, g.5))
+  body_read items lines all (and_switch is own i {lines = others} p a q) (suc n) us js e le says =
+      let says_own : Says (own ++ (others ++ behind)) us = subst (λ (ls : List Line). Says ls us) (append_assoc own others behind) says in
+      let g = switch_read (instruction_count items) own (others ++ behind) i p us says_own in
+      let j : Item = item.Instruction g.0 in
+      let rest : List TokenParts = g.1 in
+      let here : in_body us ≡ true = ap not (begins_says (codes ".end") (own ++ (others ++ behind)) us says_own ∙ switch_goes_on own (others ++ behind) i p) in
+      let step = step_read m items js (item.Instruction i) j us rest e (ap item.Instruction g.3) a g.2 in
+      let r = body_read (items ++ item.Instruction i ∷ []) others all q n rest (js ++ j ∷ []) step.1 (omega (arith, g.5)) g.4 in
+      (r.0, r.1, goes_on_with in_body (next_item m) js (js ++ j ∷ []) n us rest here step.0 ∙ r.2, r.3, r.4, omega (arith, g.5, r.5))
 
 -- ---- the code
 
@@ -230,14 +248,56 @@ end_any number t None h = absurd cc
 end_any number t (Some v) h = h
 
 module _ (v : List ℕ → Option ℕ) (count : ℕ) where
+  target_part : (l : LabelParts) (t : ℕ) → target v count (label_in 0 l) ≡ Ok t → target v count l ≡ Ok t
+  unfolding target
+  target_part l t h = place_any count l.line t (v (utf16_of l.name)) h
+
+  targets_part : (ls : List LabelParts) (ts : List ℕ) → each (target v count) (labels_in 0 ls) ≡ Ok ts → each (target v count) ls ≡ Ok ts
+  unfolding each
+  targets_part [] ts h = h
+  targets_part (l ∷ ls) ts h =
+      let a = and_then_ok (target v count (label_in 0 l)) _ ts h in
+      let b = and_then_ok (each (target v count) (labels_in 0 ls)) _ ts a.2 in
+      rw (target_part l a.0 a.1, targets_part ls b.0 b.1) b.2
+
+  table_part : (t : LabelledTable) (x : Instr) → instruction_of v count (in_line 0 (labelled.TableSwitch t)) ≡ Ok x
+      → instruction_of v count (labelled.TableSwitch t) ≡ Ok x
+  unfolding instruction_of table_of
+  table_part t x h =
+      let a = and_then_ok (each (target v count) (labels_in 0 t.targets)) _ x h in
+      let b = and_then_ok (target v count (label_in 0 t.default)) _ x a.2 in
+      rw (targets_part t.targets a.0 a.1, target_part t.default b.0 b.1) b.2
+
+  pair_part : (p : LabelledPair) (x : SwitchPair) → pair_of v count (record { key = p.key; target = label_in 0 p.target }) ≡ Ok x → pair_of v count p ≡ Ok x
+  unfolding pair_of
+  pair_part p x h =
+      let a = and_then_ok (target v count (label_in 0 p.target)) _ x h in
+      rw (target_part p.target a.0 a.1) a.2
+
+  pairs_part : (ps : List LabelledPair) (xs : List SwitchPair) → each (pair_of v count) (pairs_in 0 ps) ≡ Ok xs → each (pair_of v count) ps ≡ Ok xs
+  unfolding each
+  pairs_part [] xs h = h
+  pairs_part (p ∷ ps) xs h =
+      let a = and_then_ok (pair_of v count (record { key = p.key; target = label_in 0 p.target })) _ xs h in
+      let b = and_then_ok (each (pair_of v count) (pairs_in 0 ps)) _ xs a.2 in
+      rw (pair_part p a.0 a.1, pairs_part ps b.0 b.1) b.2
+
+  lookup_part : (l : LabelledLookup) (x : Instr) → instruction_of v count (in_line 0 (labelled.LookupSwitch l)) ≡ Ok x
+      → instruction_of v count (labelled.LookupSwitch l) ≡ Ok x
+  unfolding instruction_of lookup_of
+  lookup_part l x h =
+      let a = and_then_ok (each (pair_of v count) (pairs_in 0 l.pairs)) _ x h in
+      let b = and_then_ok (target v count (label_in 0 l.default)) _ x a.2 in
+      rw (pairs_part l.pairs a.0 a.1, target_part l.default b.0 b.1) b.2
+
   instruction_part : (i : LabelledInstr) (x : Instr) → instruction_of v count (in_line 0 i) ≡ Ok x → instruction_of v count i ≡ Ok x
   unfolding instruction_of target
   instruction_part (labelled.Named i) x h = h
   instruction_part (labelled.Branch op l) x h =
       let a = and_then_ok (place_at count 0 (v (utf16_of l.name))) _ x h in
       rw (place_any count l.line a.0 (v (utf16_of l.name)) a.1) a.2
-  instruction_part (labelled.TableSwitch t) x h = h
-  instruction_part (labelled.LookupSwitch l) x h = h
+  instruction_part (labelled.TableSwitch t) x h = table_part t x h
+  instruction_part (labelled.LookupSwitch l) x h = lookup_part l x h
 
   handler_part : (row : CatchRow) (x : Handler)
       → handler_of v count (record { catch_type = row.catch_type; start = row.start; end = row.end; target = row.target; line = 0 }) ≡ Ok x

@@ -1,5 +1,5 @@
 -- The line of an instruction is read as its form says.
-use Rattle.std.proofs.Common.{◌≡◌, ℕ, suc, ◌+◌, List, ◌∷◌, length, Option, Some, None, Result, Ok, Err, refl, eq-eqb, position}
+use Rattle.std.proofs.Common.{◌≡◌, ℕ, suc, ◌+◌, List, [], ◌∷◌, length, Option, Some, None, Result, Ok, Err, refl, eq-eqb, position}
 use Rattle.std.specs.Prelude.{ℤ}
 use Rattle.jm_bytes.specs.Reading.{and_then, fault_as}
 use Rattle.jm_program.specs.Texts.{utf16_of}
@@ -17,6 +17,8 @@ use Rattle.jm_jasmin_ops.specs.Words.{word, label}
 use Rattle.jm_jasmin_ops.specs.Operands.{integer, ranged, natural_within, loaded, loaded_long, element_type, units, class_name, class_ref}
 use Rattle.jm_jasmin_ops.specs.Operands.{field_named, field_typed, method, counted, member, parted_at, method_at, is_parenthesis}
 use Rattle.jm_jasmin_ops.specs.Instruction.{named_instr, operands, instruction_in}
+use Rattle.jm_jasmin_ops.specs.Label.{LabelParts}
+use Rattle.jm_jasmin_ops.specs.declared.labelled.LabelledPair.{LabelledPair}
 use Rattle.jm_jasmin_ops.specs.declared.labelled.LabelledInstr.{LabelledInstr}
 use Rattle.jm_jasmin_ops.specs.declared.labelled.LabelledInstr.TheVariants as labelled
 use Rattle.jm_jasmin_ops.specs.declared.fault.AsmFault.{AsmFault}
@@ -115,10 +117,24 @@ operands_read op ws i (type o text c class h k) number at below = rw (h, k) refl
 
 -- ---- the line
 
--- the instruction whose label stands in that line
+-- the label in that line
+abbrev pub label_in : ℕ → LabelParts → LabelParts
+label_in number l = record { name = l.name; line = number }
+
+abbrev pub labels_in : ℕ → List LabelParts → List LabelParts
+labels_in number [] = []
+labels_in number (l ∷ ls) = label_in number l ∷ labels_in number ls
+
+abbrev pub pairs_in : ℕ → List LabelledPair → List LabelledPair
+pairs_in number [] = []
+pairs_in number (p ∷ ps) = record { key = p.key; target = label_in number p.target } ∷ pairs_in number ps
+
+-- the instruction whose labels stand in that line
 abbrev pub in_line : ℕ → LabelledInstr → LabelledInstr
-in_line number (labelled.Branch op l) = labelled.Branch op (record { name = l.name; line = number })
-in_line number other = other
+in_line number (labelled.Named i) = labelled.Named i
+in_line number (labelled.Branch op l) = labelled.Branch op (label_in number l)
+in_line number (labelled.TableSwitch t) = labelled.TableSwitch (record { low = t.low; targets = labels_in number t.targets; default = label_in number t.default })
+in_line number (labelled.LookupSwitch l) = labelled.LookupSwitch (record { pairs = pairs_in number l.pairs; default = label_in number l.default })
 
 pub instruction_reads : (t : Word) (ws : Words) (i : LabelledInstr) → InstructionLine (t ∷ ws) i → (number : ℕ) (at : ℕ → ℕ) (below : List TokenParts)
     → instruction_in (standing number at (t ∷ ws)) below ≡ Ok

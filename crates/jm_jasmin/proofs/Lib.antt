@@ -20,6 +20,7 @@ pub mod HeaderForms
 pub mod FieldForms
 pub mod InstructionForms
 pub mod MnemonicForms
+pub mod SwitchForms
 pub mod MethodForms
 pub mod BodyForms
 pub mod ClassForms

@@ -10,12 +10,14 @@ use Rattle.jm_program.specs.Names.{same_text}
 use Rattle.jm_program.specs.declared.class.Method.{Method}
 use Rattle.jm_program.specs.declared.descriptor.MethodDescriptor.{MethodDescriptor}
 use Rattle.jm_program.proofs.DescriptorLaws.{both_true}
+use Rattle.jm_class_format.specs.declared.opcode.Opcode.{Opcode}
 use Rattle.jm_class_format.specs.declared.opcode.Opcode.TheVariants as opcode
 use Rattle.jm_class_format.specs.Members.{own_receiver}
 use Rattle.jm_class_format.specs.Symbols.{class_name_of, method_name_of, method_type_of}
 use Rattle.jm_jasmin_lex.specs.Token.{TokenParts}
 use Rattle.jm_jasmin_lex.specs.Lines.{first_line}
 use Rattle.jm_jasmin_ops.specs.declared.labelled.LabelledInstr.{LabelledInstr}
+use Rattle.jm_jasmin_ops.specs.Mnemonics.{opcode_named}
 use Rattle.jm_jasmin_ops.specs.Instruction.{instruction_at, instruction_in}
 use Rattle.jm_jasmin_ops.specs.declared.fault.AsmFault.{AsmFault}
 use Rattle.jm_jasmin.specs.Lines.{begins, line_number, by_line}
@@ -27,12 +29,14 @@ use Rattle.jm_jasmin.specs.Items.{is_label_line, without_last, label_line, instr
 use Rattle.jm_jasmin.specs.declared.item.Item.{Item}
 use Rattle.jm_jasmin.specs.declared.item.Item.TheVariants as item
 use Rattle.jm_jasmin.specs.WordForms.{Line, bare}
-use Rattle.jm_jasmin.specs.InstructionForms.{IsUpTo, InstructionLine}
+use Rattle.jm_jasmin.specs.InstructionForms.{IsUpTo, InstructionLine, default_words, SwitchLines}
+use Rattle.jm_jasmin.specs.InstructionForms.SwitchLines.{table, lookup}
 use Rattle.jm_jasmin.specs.InstructionForms.InstructionLine.{named, branch, branch_wide}
 use Rattle.jm_jasmin.specs.MethodForms.{without_code, no_parenthesis, catch_row, catch_words, MethodLine, BodyLine}
 use Rattle.jm_jasmin.specs.MethodForms.MethodLine.{method}
 use Rattle.jm_jasmin.specs.MethodForms.BodyLine.{stack, locals, source_line, catch, catch_all, throws, var, label, instruction}
-use Rattle.jm_jasmin.proofs.WordForms.{token_in, standing, Says, Goes, begins_says, first_says, by_front}
+use Rattle.jm_jasmin.proofs.SwitchForms.{table_named, lookup_named, switch_reads}
+use Rattle.jm_jasmin.proofs.WordForms.{token_in, standing, Says, Goes, opens, begins_says, first_says, by_front}
 use Rattle.jm_jasmin.proofs.WordForms.Says.{line}
 use Rattle.jm_jasmin.proofs.HeaderForms.{units_are, parted, flags_are, flags_read, at_least, behind_is}
 use Rattle.jm_jasmin.proofs.InstructionForms.{in_line, instruction_reads}
@@ -265,6 +269,14 @@ module _ (before : ℕ) (lines : List Line) (us : List TokenParts) where
       words_read text (bare target ∷ []) i (mnemonic_text text (opcode.BranchWide op) names) (mnemonic_no_colon text (opcode.BranchWide op) names)
       (branch_wide text target op names h) says
 
+  -- a line that begins with a mnemonic is no directive and no label
+  by_mnemonic : (text : List ℕ) (ws : Line) (op : Opcode) → opcode_named text ≡ Some op → Says ((bare text ∷ ws) ∷ lines) us
+      → item_at before us ≡ instruction_lines us
+  by_mnemonic text ws op names says =
+      let f = front_says (bare text ∷ ws) lines us says in
+      let other : is_label_line (first_line us).0 ≡ false = ap is_label_line f.2 ∙ no_label f.0 f.1 text ws (mnemonic_no_colon text op names) in
+      no_directives before text ws lines us (mnemonic_text text op names) says ∙ by_instruction before us other
+
   pub item_read : (l : Line) (i : Item) → BodyLine before l i → Says (l ∷ lines) us → GoesAt (item_at before us) (λ n. in_that_line n i) lines us
   item_read l i (stack text n h) says =
       goes_as (by_line limit_line us) (item_at before us) (λ k. in_that_line k i) lines us
@@ -307,3 +319,29 @@ module _ (before : ℕ) (lines : List Line) (us : List TokenParts) where
       (no_directives before text [] lines us (label_text text h) says ∙ by_label before us here)
       (line_read_at (label_line before) (λ n. in_that_line n i) l lines us says (λ number at. label_reads before number at text))
   item_read l x (instruction l2 i h) says = instruction_item l i h says
+
+-- ---- the lines of a switch
+
+switch_here : (before : ℕ) (own behind : List Line) (i : LabelledInstr) → SwitchLines own i → (us : List TokenParts) → Says (own ++ behind) us
+    → item_at before us ≡ instruction_lines us
+switch_here before own behind i (table text name low lines targets is_low are some is_label) us says =
+    by_mnemonic before ((lines ++ default_words name ∷ []) ++ behind) us (codes "tableswitch") (bare text ∷ []) opcode.TableSwitch table_named says
+switch_here before own behind i (lookup name lines pairs are is_label) us says =
+    by_mnemonic before ((lines ++ default_words name ∷ []) ++ behind) us (codes "lookupswitch") [] opcode.LookupSwitch lookup_named says
+
+switch_by : (us rest : List TokenParts) (i : LabelledInstr) (used : ℕ) → instruction_at us ≡ Ok (record { instruction = i; used = used }) → drop used us ≡ rest
+    → instruction_lines us ≡ Ok (item.Instruction i, rest)
+unfolding instruction_lines
+switch_by us rest i used h d = rw (h, d) refl
+
+pub switch_goes_on : (own behind : List Line) (i : LabelledInstr) → SwitchLines own i → opens (codes ".end") (own ++ behind) ≡ false
+switch_goes_on own behind i (table text name low lines targets is_low are some is_label) = refl
+switch_goes_on own behind i (lookup name lines pairs are is_label) = refl
+
+-- the item of a switch, and the tokens behind its lines
+pub switch_read : (before : ℕ) (own behind : List Line) (i : LabelledInstr) → SwitchLines own i → (us : List TokenParts) → Says (own ++ behind) us
+    → (j : LabelledInstr) × (rest : List TokenParts) × (item_at before us ≡ Ok (item.Instruction j, rest)) × (in_line 0 j ≡ i) × Says behind rest
+    × (length rest < length us)
+switch_read before own behind i h us says =
+    let r = switch_reads own behind i h us says in
+    (r.instruction, r.rest, switch_here before own behind i h us says ∙ switch_by us r.rest r.instruction r.used r.reads r.behind_it, r.same, r.says, r.fewer)

@@ -26,7 +26,7 @@ same_is (x ∷ a) (y ∷ b) h =
     cc
 
 -- two texts of which one passes a test and the other does not
-other_text : (test : List ℕ → Bool) (a b : List ℕ) → test a ≡ true → test b ≡ false → same_text a b ≡ false
+pub other_text : (test : List ℕ → Bool) (a b : List ℕ) → test a ≡ true → test b ≡ false → same_text a b ≡ false
 other_text test a b h k = by (same_text a b) refl
   where
     by : (same : Bool) → same_text a b ≡ same → same ≡ false

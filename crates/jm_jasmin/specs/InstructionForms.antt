@@ -1,10 +1,11 @@
--- The line of an instruction, by its mnemonic and its operands (Jasmin User Guide, "Instructions"; JVMS 6.5). A switch takes several lines
--- and is not among these.
-use Rattle.std.specs.Prelude.{◌≡◌, ℕ, ℤ, pos, negsuc, int_le, nat_le, ◌+◌, ◌&&◌, true, false, List, [], ◌∷◌, Some, Ok, codes, position}
+-- The lines of an instruction, by its mnemonic and its operands (Jasmin User Guide, "Instructions"; JVMS 6.5): a switch takes several, and
+-- every other one.
+use Rattle.std.specs.Prelude.{◌≡◌, ℕ, ℤ, pos, negsuc, int_le, int_lt, nat_le, nat_lt, suc, ◌+◌, ◌+ℤ◌, ◌&&◌, true, false, List, [], ◌∷◌, ◌++◌, length, Option, Some, None, Ok, codes, position}
 use Rattle.jm_class_format.specs.Symbols.{class_name_of, class_ref_of, field_type_of}
 use Rattle.jm_class_format.specs.declared.opcode.Opcode.{Opcode}
 use Rattle.jm_class_format.specs.declared.opcode.Opcode.TheVariants as opcode
 use Rattle.jm_program.specs.Descriptors.{argument_slots}
+use Rattle.jm_program.specs.Instructions.{is_above}
 use Rattle.jm_program.specs.Texts.{utf16_of}
 use Rattle.jm_program.specs.declared.constant.Constant.TheVariants as constant
 use Rattle.jm_program.specs.declared.descriptor.FieldType.{FieldType}
@@ -22,6 +23,8 @@ use Rattle.jm_jasmin_lex.specs.Literals.{units_of_literal}
 use Rattle.jm_jasmin_ops.specs.Mnemonics.{opcode_named}
 use Rattle.jm_jasmin_ops.specs.Operands.{element_if, member, field_of, method_at, is_parenthesis}
 use Rattle.jm_jasmin_ops.specs.Profile.{is_real, is_named, is_offset, has_colon}
+use Rattle.jm_jasmin_ops.specs.Label.{LabelParts}
+use Rattle.jm_jasmin_ops.specs.declared.labelled.LabelledPair.{LabelledPair}
 use Rattle.jm_jasmin_ops.specs.declared.labelled.LabelledInstr.{LabelledInstr}
 use Rattle.jm_jasmin_ops.specs.declared.labelled.LabelledInstr.TheVariants as labelled
 use Rattle.jm_jasmin.specs.WordForms.{bare, quoted, Line}
@@ -100,3 +103,37 @@ pub data InstructionLine : Line → LabelledInstr → Type 0 where
       → InstructionLine (bare text ∷ bare target ∷ []) (labelled.Branch op (record { name = target; line = 0 }))
   branch_wide : (text target : List ℕ) (op : _) → opcode_named text ≡ Some (opcode.BranchWide op) → IsLabelName target
       → InstructionLine (bare text ∷ bare target ∷ []) (labelled.Branch op (record { name = target; line = 0 }))
+
+-- ---- switches
+
+-- the label of a name
+abbrev pub label_of : List ℕ → LabelParts
+label_of name = record { name = name; line = 0 }
+
+-- default : L
+abbrev pub default_words : List ℕ → Line
+default_words target = bare (codes "default") ∷ bare (codes ":") ∷ bare target ∷ []
+
+-- the targets of the keys LOW + k and above it, a label a line; each of the keys is an int
+pub data TargetLines (low : ℤ) : ℕ → List Line → List LabelParts → Type 0 where
+  no_target : (k : ℕ) → TargetLines low k [] []
+  target : (k : ℕ) (text : List ℕ) {lines : List Line} {targets : List LabelParts} → int_lt (low +ℤ pos k) (pos 2147483648) ≡ true → IsLabelName text
+      → TargetLines low (suc k) lines targets → TargetLines low k ((bare text ∷ []) ∷ lines) (label_of text ∷ targets)
+
+-- KEY : L a line, each key above the one before it
+pub data PairLines : Option ℤ → List Line → List LabelledPair → Type 0 where
+  no_pair : (previous : Option ℤ) → PairLines previous [] []
+  pair : (previous : Option ℤ) (text name : List ℕ) (n : ℤ) {lines : List Line} {pairs : List LabelledPair} → IsBetween (negsuc 2147483647) (pos 2147483647) text n
+      → is_above previous n ≡ true → IsLabelName name → PairLines (Some n) lines pairs
+      → PairLines previous ((bare text ∷ bare (codes ":") ∷ bare name ∷ []) ∷ lines) (record { key = n; target = label_of name } ∷ pairs)
+
+pub data SwitchLines : List Line → LabelledInstr → Type 0 where
+  -- tableswitch LOW, a target at least, and the default
+  table : (text name : List ℕ) (low : ℤ) (lines : List Line) (targets : List LabelParts) → IsBetween (negsuc 2147483647) (pos 2147483647) text low
+      → TargetLines low 0 lines targets → nat_lt 0 (length targets) ≡ true → IsLabelName name
+      → SwitchLines ((bare (codes "tableswitch") ∷ bare text ∷ []) ∷ (lines ++ default_words name ∷ []))
+      (labelled.TableSwitch (record { low = low; targets = targets; default = label_of name }))
+  -- lookupswitch, its pairs, and the default
+  lookup : (name : List ℕ) (lines : List Line) (pairs : List LabelledPair) → PairLines None lines pairs → IsLabelName name
+      → SwitchLines ((bare (codes "lookupswitch") ∷ []) ∷ (lines ++ default_words name ∷ []))
+      (labelled.LookupSwitch (record { pairs = pairs; default = label_of name }))

@@ -18,7 +18,7 @@ use Rattle.jm_jasmin.specs.declared.item.Item.{Item}
 use Rattle.jm_jasmin.specs.declared.item.Item.TheVariants as item
 use Rattle.jm_jasmin.specs.WordForms.{bare, Line}
 use Rattle.jm_jasmin.specs.HeaderForms.{Flags}
-use Rattle.jm_jasmin.specs.InstructionForms.{IsUpTo, InstructionLine}
+use Rattle.jm_jasmin.specs.InstructionForms.{IsUpTo, InstructionLine, SwitchLines}
 
 abbrev pub without_code : ℕ → List ℕ → MethodDescriptor → Method
 without_code bits name d = record { flags = record { bits = bits }; name = name; descriptor = d; code = None }
@@ -62,6 +62,9 @@ pub data BodyLines (m : Method) : List Item → List Line → List Item → Type
   ends : (items : List Item) → BodyLines m items [] items
   and_line : (items : List Item) (l : Line) (i : Item) {lines : List Line} {all : List Item}
       → BodyLine (instruction_count items) l i → accepted m 0 items i ≡ Ok tt → BodyLines m (items ++ i ∷ []) lines all → BodyLines m items (l ∷ lines) all
+  and_switch : (items : List Item) (own : List Line) (i : LabelledInstr) {lines : List Line} {all : List Item}
+      → SwitchLines own i → accepted m 0 items (item.Instruction i) ≡ Ok tt → BodyLines m (items ++ item.Instruction i ∷ []) lines all
+      → BodyLines m items (own ++ lines) all
 
 -- .method, the lines of its body in any order, and .end method; the items come to the code
 pub data MethodLines (in_interface : Bool) : List Line → Method → Type 0 where
