@@ -1,0 +1,2 @@
+//! Assembler texts from classes (Jasmin User Guide).
+#![tactic(auto)]
