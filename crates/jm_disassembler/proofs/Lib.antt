@@ -1,2 +1,4 @@
 pub mod Laid
 pub mod Spelled
+pub mod Types
+pub mod Numbers
