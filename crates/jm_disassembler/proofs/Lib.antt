@@ -2,3 +2,5 @@ pub mod Laid
 pub mod Spelled
 pub mod Types
 pub mod Numbers
+pub mod Labels
+pub mod Strings

@@ -140,3 +140,53 @@ all_counted [] h = refl
 all_counted (b ∷ bs) h =
     let p = both_true (is_decimal b) (list_all is_decimal bs) h in
     rw (p.0, all_counted bs p.1) (omega arith)
+
+no_sign : (ds : List ℕ) → list_all is_decimal ds ≡ true → profile.is_signed ds ≡ false
+unfolding profile.is_signed
+no_sign [] h = refl
+no_sign (b ∷ bs) h =
+    let p = both_true (is_decimal b) (list_all is_decimal bs) h in
+    let first : is_decimal b ≡ true = p.0 in
+    grind (arith, nat_tests)
+
+all_dropped : (ds : List ℕ) → drop (length ds) ds ≡ []
+all_dropped [] = refl
+all_dropped (b ∷ bs) = all_dropped bs
+
+and_no : (x : Bool) → (x && false) ≡ false
+and_no true = refl
+and_no false = refl
+
+nothing_behind : (b : Bool) → profile.is_real_behind b [] ≡ false
+unfolding profile.is_real_behind profile.is_exponent
+nothing_behind b = and_no b
+
+digits_not_real : (ds : List ℕ) → list_all is_decimal ds ≡ true → profile.is_unsigned_real ds ≡ false
+unfolding profile.is_unsigned_real
+digits_not_real ds h = rw (all_counted ds h, all_dropped ds) (nothing_behind (nat_lt 0 (length ds)))
+
+minus_sign : (ds : List ℕ) → profile.is_signed (45 ∷ ds) ≡ true
+unfolding profile.is_signed
+minus_sign ds = refl
+
+pub signed_not_real : (z : ℤ) → IsLong z → is_real (signed_decimal z) ≡ false
+unfolding is_real profile.unsigned
+signed_not_real (pos n) lt =
+    let d = (decimal_is n (omega arith)).decimals in
+    rw (no_sign (decimal n) d) (digits_not_real (decimal n) d)
+signed_not_real (negsuc n) lt = by_sign (decimal (suc n)) (decimal_is (suc n) (omega arith)).decimals
+  where
+    by_sign : (ds : List ℕ) → list_all is_decimal ds ≡ true
+        → profile.is_unsigned_real (if profile.is_signed (45 ∷ ds) then ds else 45 ∷ ds) ≡ false
+    by_sign ds d = rw (minus_sign ds) (digits_not_real ds d)
+
+digit_names_nothing : (ds : List ℕ) → list_all is_decimal ds ≡ true → is_named ds ≡ false
+digit_names_nothing [] h = refl
+digit_names_nothing (b ∷ bs) h =
+    let p = both_true (is_decimal b) (list_all is_decimal bs) h in
+    let first : is_decimal b ≡ true = p.0 in
+    grind (arith, nat_tests)
+
+pub signed_not_named : (z : ℤ) → IsLong z → is_named (signed_decimal z) ≡ false
+signed_not_named (pos n) lt = digit_names_nothing (decimal n) (decimal_is n (omega arith)).decimals
+signed_not_named (negsuc n) lt = refl
