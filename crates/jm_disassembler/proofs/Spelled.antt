@@ -73,15 +73,28 @@ unit_spelled u lt h =
     let one : encode_utf16 u ≡ u ∷ [] = rw short refl in
     subst (λ (us : List ℕ). Spelled (encode u) us) one (character_spelled u s w)
 
-not_true : (b : Bool) → not b ≡ true → b ≡ false
+pub not_true : (b : Bool) → not b ≡ true → b ≡ false
 not_true true h = absurd cc
 not_true false h = refl
 
-not_high : (u : ℕ) → is_low u ≡ true → is_high u ≡ false
+pub not_high : (u : ℕ) → is_low u ≡ true → is_high u ≡ false
 not_high u h = grind (arith, nat_tests)
 
-pair_spelled : (high low : ℕ) → is_high high ≡ true → is_low low ≡ true → Spelled (encode (character_of high low)) (high ∷ low ∷ [])
-pair_spelled high low h l =
+pub unit_scalar : (u : ℕ) → u < 2 ^ 16 → is_surrogate u ≡ false → (scalar u ≡ true) × (encode_utf16 u ≡ u ∷ [])
+unit_scalar u lt h =
+    let s : scalar u ≡ true = grind (arith, nat_tests) in
+    let short : nat_lt u 0x1_0000 ≡ true = grind (arith, nat_tests) in
+    let one : encode_utf16 u ≡ u ∷ [] = rw short refl in
+    (s, one)
+
+-- the character of a pair
+pub record IsPair (high low : ℕ) : Type 0 where
+  pub is_scalar : scalar (character_of high low) ≡ true
+  pub above : 0x1_0000 ≤ character_of high low
+  pub units : encode_utf16 (character_of high low) ≡ high ∷ low ∷ []
+
+pub pair_of : (high low : ℕ) → is_high high ≡ true → is_low low ≡ true → IsPair high low
+pair_of high low h l =
     let a : 0xD800 ≤ high = grind (arith, nat_tests) in
     let b : high < 0xDC00 = grind (arith, nat_tests) in
     let d : 0xDC00 ≤ low = grind (arith, nat_tests) in
@@ -91,19 +104,26 @@ pair_spelled high low h l =
     let least : 0x1_0000 ≤ c = omega arith in
     let most : c < 0x11_0000 = omega arith in
     let s : scalar c ≡ true = scalar_above c least most in
-    let w : is_word_byte c ≡ true = high_byte c (omega arith) in
     let long : nat_lt c 0x1_0000 ≡ false = grind (arith, nat_tests) in
     let rest : c - 0x1_0000 ≡ (high - 0xD800) * 0x400 + (low - 0xDC00) = omega arith in
     let first : 0xD800 + (c - 0x1_0000) / 0x400 ≡ high = rw (rest, div-mul-add (high - 0xD800) 0x400 (low - 0xDC00) within) (omega arith) in
     let second : 0xDC00 + (c - 0x1_0000) % 0x400 ≡ low = rw (rest, mod-mul-add (high - 0xD800) 0x400 (low - 0xDC00) within) (omega arith) in
     let two : encode_utf16 c ≡ high ∷ low ∷ [] = both c high low long first second in
-    subst (λ (us : List ℕ). Spelled (encode c) us) two (character_spelled c s w)
+    record { is_scalar = s; above = least; units = two }
   where
     scalar_above : (c : ℕ) → 0x1_0000 ≤ c → c < 0x11_0000 → scalar c ≡ true
     scalar_above c p q = grind (arith, nat_tests)
     both : (c high low : ℕ) → nat_lt c 0x1_0000 ≡ false → 0xD800 + (c - 0x1_0000) / 0x400 ≡ high → 0xDC00 + (c - 0x1_0000) % 0x400 ≡ low
         → encode_utf16 c ≡ high ∷ low ∷ []
     both c high low f p q = rw (f, p, q) refl
+
+pair_spelled : (high low : ℕ) → is_high high ≡ true → is_low low ≡ true → Spelled (encode (character_of high low)) (high ∷ low ∷ [])
+pair_spelled high low h l =
+    let p = pair_of high low h l in
+    let c : ℕ = character_of high low in
+    let above : 0x1_0000 ≤ c = p.above in
+    let w : is_word_byte c ≡ true = high_byte c (omega arith) in
+    subst (λ (us : List ℕ). Spelled (encode c) us) p.units (character_spelled c p.is_scalar w)
 
 abbrev FromNone : List ℕ → Type 0
 FromNone us = plain_from false us ≡ true → UnitsInRange us → Spelled (text_from InName None us) us
@@ -112,11 +132,11 @@ FromNone us = plain_from false us ≡ true → UnitsInRange us → Spelled (text
 abbrev FromHigh : List ℕ → Type 0
 FromHigh us = (high : ℕ) → is_high high ≡ true → plain_from true us ≡ true → UnitsInRange us → Spelled (text_from InName (Some high) us) (high ∷ us)
 
-first_of_two : (b x y : Bool) → b ≡ true → (if b then x else y) ≡ true → x ≡ true
+pub first_of_two : (b x y : Bool) → b ≡ true → (if b then x else y) ≡ true → x ≡ true
 first_of_two true x y e h = h
 first_of_two false x y e h = absurd cc
 
-second_of_two : (b x y : Bool) → b ≡ false → (if b then x else y) ≡ true → y ≡ true
+pub second_of_two : (b x y : Bool) → b ≡ false → (if b then x else y) ≡ true → y ≡ true
 second_of_two true x y e h = absurd cc
 second_of_two false x y e h = h
 
