@@ -4,3 +4,4 @@ pub mod Types
 pub mod Numbers
 pub mod Labels
 pub mod Strings
+pub mod Mnemonics
