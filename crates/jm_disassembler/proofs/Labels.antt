@@ -76,7 +76,7 @@ pub same_itself : (a : List ℕ) → same_text a a ≡ true
 same_itself [] = refl
 same_itself (x ∷ a) = and_true (nat_eq x x) (same_text a a) (eq-eqb x x refl) (same_itself a)
 
-same_is : (a b : List ℕ) → same_text a b ≡ true → a ≡ b
+pub same_is : (a b : List ℕ) → same_text a b ≡ true → a ≡ b
 same_is [] [] h = refl
 same_is [] (y ∷ b) h = absurd cc
 same_is (x ∷ a) [] h = absurd cc

@@ -5,3 +5,5 @@ pub mod Numbers
 pub mod Labels
 pub mod Strings
 pub mod Mnemonics
+pub mod Words
+pub mod Instructions

@@ -140,11 +140,11 @@ pub second_of_two : (b x y : Bool) → b ≡ false → (if b then x else y) ≡ 
 second_of_two true x y e h = absurd cc
 second_of_two false x y e h = h
 
-step_none : (u : ℕ) (us : List ℕ) → is_high u ≡ false → text_from InName None (u ∷ us) ≡ unit_text InName u ++ text_from InName None us
+pub step_none : (u : ℕ) (us : List ℕ) → is_high u ≡ false → text_from InName None (u ∷ us) ≡ unit_text InName u ++ text_from InName None us
 unfolding text_from step_text after_text
 step_none u us e = rw e refl
 
-unit_plain : (u : ℕ) → is_escaped InName u ≡ false → unit_text InName u ≡ encode u
+pub unit_plain : (u : ℕ) → is_escaped InName u ≡ false → unit_text InName u ≡ encode u
 unfolding unit_text
 unit_plain u h = rw h refl
 
