@@ -1,2 +1,364 @@
 -- The line of an instruction is laid out, and it is that of the instruction.
-use Rattle.std.proofs.Common.{◌≡◌, ℕ, zero, suc, ◌+◌, ◌-◌, ◌<◌, ◌≤◌, ◌^◌, ◌==◌, Bool, true, false, not, ◌&&◌, ◌||◌, List, [], ◌∷◌, ◌++◌, length, Option, Some, None, Result, Ok, refl, replicate, codes}
+use Rattle.std.proofs.Common.{◌≡◌, ℕ, zero, suc, ◌+◌, ◌-◌, ◌<◌, ◌≤◌, ◌^◌, ◌==◌, Bool, true, false, not, ◌&&◌, ◌||◌, List, [], ◌∷◌, ◌++◌, length, take, drop, Option, Some, None, Result, Ok, refl, replicate, codes}
+use Rattle.std.proofs.Common.{ap, sym, ◌∙◌, arith, subst, append_assoc, length-append, nat_lt, nat_le, position}
+use Rattle.std.specs.Prelude.{ℤ, pos, negsuc, int_le, FitsSigned}
+use Rattle.std.specs.Int.{w8, w16, w32, w64}
+use Rattle.std.specs.List.{list_all, flat_map}
+use Rattle.std.specs.Fmt.{decimal, signed_decimal}
+use Rattle.std.proofs.lemmas.Int.{ints}
+use Rattle.std.proofs.lemmas.List.Folds.{list_all-append}
+use Rattle.std.proofs.lemmas.Bool.Decides.{nat_tests}
+use Rattle.std.proofs.Math.Seq.{take-append_seam, drop-append_seam}
+use Rattle.jm_program.proofs.DescriptorLaws.{both_true, and_true}
+use Rattle.jm_program.specs.Names.{is_class_name, is_unqualified, is_invoked_name, is_method_name, is_clinit}
+use Rattle.jm_program.specs.Descriptors.{argument_slots, element_text, field_text, return_text, method_text, is_method_type, is_kept_method_type}
+use Rattle.jm_program.specs.Instructions.{instr_fits, can_be_element, type_op_fits}
+use Rattle.jm_program.specs.References.{type_fits, class_ref_fits, field_ref_fits, receiver_slots, method_ref_fits}
+use Rattle.jm_program.specs.Texts.{utf16_of}
+use Rattle.jm_program.specs.JasminUnits.{name_text, string_text}
+use Rattle.jm_program.specs.JasminTypes.{type_line, method_line, class_line, field_ref_line, method_ref_line}
+use Rattle.jm_program.specs.JasminInstructions.{simple_line}
+use Rattle.jm_program.specs.Mnemonics.{operand_letter, branch_mnemonic, array_line, primitive_name, return_mnemonic, monitor_mnemonic, field_mnemonic, invoke_mnemonic, type_mnemonic}
+use Rattle.jm_program.specs.declared.constant.Constant.{Constant}
+use Rattle.jm_program.specs.declared.constant.Constant.TheVariants as constant
+use Rattle.jm_program.specs.declared.descriptor.ElementType.{ElementType}
+use Rattle.jm_program.specs.declared.descriptor.ElementType.TheVariants.{Base, Class}
+use Rattle.jm_program.specs.declared.descriptor.BaseType.{BaseType}
+use Rattle.jm_program.specs.declared.descriptor.BaseType.TheVariants as base
+use Rattle.jm_program.specs.declared.descriptor.FieldType.{FieldType}
+use Rattle.jm_program.specs.declared.descriptor.MethodDescriptor.{MethodDescriptor}
+use Rattle.jm_program.specs.declared.reference.ClassRef.{ClassRef}
+use Rattle.jm_program.specs.declared.reference.ClassRef.TheVariants as class_ref
+use Rattle.jm_program.specs.declared.reference.FieldRef.{FieldRef}
+use Rattle.jm_program.specs.declared.reference.MethodRef.{MethodRef}
+use Rattle.jm_program.specs.declared.instruction.operation.Branch.{Branch}
+use Rattle.jm_program.specs.declared.instruction.operation.Branch.TheVariants as branch_op
+use Rattle.jm_program.specs.declared.instruction.operation.PrimitiveType.{PrimitiveType}
+use Rattle.jm_program.specs.declared.instruction.operation.PrimitiveType.TheVariants as primitive
+use Rattle.jm_program.specs.declared.instruction.operation.ArrayOp.{ArrayOp}
+use Rattle.jm_program.specs.declared.instruction.operation.ArrayOp.TheVariants as array
+use Rattle.jm_program.specs.declared.instruction.operation.TypeOp.{TypeOp}
+use Rattle.jm_program.specs.declared.instruction.operation.TypeOp.TheVariants as type_op
+use Rattle.jm_program.specs.declared.instruction.operation.InvokeOp.{InvokeOp}
+use Rattle.jm_program.specs.declared.instruction.operation.InvokeOp.TheVariants as invoke
+use Rattle.jm_program.specs.declared.instruction.plain.Plain.{Plain}
+use Rattle.jm_program.specs.declared.instruction.plain.Plain.TheVariants as plain
+use Rattle.jm_program.specs.declared.instruction.symbolic.Instr.{Instr}
+use Rattle.jm_program.specs.declared.instruction.symbolic.Instr.TheVariants as instr
+use Rattle.jm_class_format.specs.Symbols.{class_name_of, class_ref_of, element_ref, field_type_of, method_ref_of}
+use Rattle.jm_class_format.specs.declared.opcode.Opcode.{Opcode}
+use Rattle.jm_class_format.specs.declared.opcode.Opcode.TheVariants as opcode
+use Rattle.jm_class_writer.specs.PoolUse.{class_text}
+use Rattle.jm_class_writer.specs.Ranges.{UnitsInRange, InstrInRange, ConstantInRange, FieldRefInRange, MethodRefInRange, ClassRefInRange}
+use Rattle.jm_class_writer.proofs.Symbols.{class_name_read, field_name_read, invoked_name_read, field_type_read, method_type_read, class_ref_read}
+use Rattle.jm_jasmin_lex.specs.Integers.{integer_of}
+use Rattle.jm_jasmin_ops.specs.Operands.{member, element_if, field_of, method_at, is_parenthesis}
+use Rattle.jm_jasmin_ops.specs.declared.labelled.LabelledInstr.{LabelledInstr}
+use Rattle.jm_jasmin_ops.specs.declared.labelled.LabelledInstr.TheVariants as labelled
+use Rattle.jm_jasmin.specs.WordForms.{Line, bare, quoted}
+use Rattle.jm_jasmin.specs.InstructionForms.{IsBetween, IsUpTo, Element, Operands, InstructionLine, label_of}
+use Rattle.jm_jasmin.specs.InstructionForms.Element.{boolean, char, byte, short, int, long}
+use Rattle.jm_jasmin.specs.InstructionForms.Operands.{simple, on_array, return, throw, monitor, push_byte, push_short, load_int, load_string, load_long, load, store}
+use Rattle.jm_jasmin.specs.InstructionForms.Operands.{increment, field, invoke_method, invoke_interface, new, new_array, type}
+use Rattle.jm_jasmin.specs.InstructionForms.InstructionLine.{named, branch, branch_wide}
+use Rattle.jm_disassembler.specs.Labels.{label_name}
+use Rattle.jm_disassembler.specs.Instructions.{front, plain_text, array_text, constant_text, count_text, instr_text}
+use Rattle.jm_disassembler.specs.Names.{is_plain, is_plain_type, is_plain_method_type, is_sayable, is_sayable_class, begins_with_quote}
+use Rattle.jm_disassembler.specs.Said.{is_no_parenthesis, no_parenthesis, element_no_parenthesis, class_no_parenthesis, field_ref_said, method_ref_said, instr_said}
+use Rattle.jm_disassembler.proofs.Laid.{is_word_byte, begins_word, is_word, apart, Laid}
+use Rattle.jm_disassembler.proofs.Laid.Laid.{ends, comment, blank, word, string}
+use Rattle.jm_disassembler.proofs.Spelled.{Spelled, then_spelled, name_spelled}
+use Rattle.jm_disassembler.proofs.Types.{byte_spelled, type_spelled, method_type_spelled, class_spelled}
+use Rattle.jm_disassembler.proofs.Numbers.{IsLong, decimal_is, word_of_digits, natural_read, signed_read, signed_word, signed_not_real, signed_not_named}
+use Rattle.jm_disassembler.proofs.Labels.{name_word, is_label_name}
+use Rattle.jm_disassembler.proofs.Strings.{string_inside, string_value}
+use Rattle.jm_disassembler.proofs.Mnemonics.{Names, simple_names, load_names, store_names, field_names, type_names, return_names, monitor_names, invoke_opcode, invoke_names, branch_opcode, branch_names, array_opcode, array_word, array_names, push_byte_names, push_short_names, constant_names, long_names, increment_names, new_names, throw_names, primitive_word}
+use Rattle.jm_disassembler.proofs.Words.{name_begins, class_some, class_name_word, type_is_word, class_begins, class_is_word, unqualified_no_slash, method_no_slash, no_slash, found_at, member_is}
+
+-- ---- numbers
+
+pub short_is : (n : ℕ) → n < 2 ^ 16 → IsUpTo 65535 (decimal n) n
+short_is n lt = record { value = natural_read n (omega arith); fits = grind (arith, nat_tests) }
+
+pub decimal_word : (n : ℕ) → n < 2 ^ 64 → is_word (decimal n) ≡ true
+decimal_word n lt = word_of_digits (decimal n) (decimal_is n lt)
+
+long_8 : (z : ℤ) → FitsSigned w8 z → IsLong z
+long_8 (pos n) h = grind (arith, ints)
+long_8 (negsuc n) h = grind (arith, ints)
+
+long_16 : (z : ℤ) → FitsSigned w16 z → IsLong z
+long_16 (pos n) h = grind (arith, ints)
+long_16 (negsuc n) h = grind (arith, ints)
+
+pub long_32 : (z : ℤ) → FitsSigned w32 z → IsLong z
+long_32 (pos n) h = grind (arith, ints)
+long_32 (negsuc n) h = grind (arith, ints)
+
+pub long_64 : (z : ℤ) → FitsSigned w64 z → IsLong z
+long_64 (pos n) h = grind (arith, ints)
+long_64 (negsuc n) h = grind (arith, ints)
+
+byte_is : (z : ℤ) → FitsSigned w8 z → IsBetween (negsuc 127) (pos 127) (signed_decimal z) z
+byte_is z h = record { value = signed_read z (long_8 z h); fits = and_true (int_le (negsuc 127) z) (int_le z (pos 127)) (grind (arith, ints)) (grind (arith, ints)) }
+
+signed_short_is : (z : ℤ) → FitsSigned w16 z → IsBetween (negsuc 32767) (pos 32767) (signed_decimal z) z
+signed_short_is z h =
+    record { value = signed_read z (long_16 z h); fits = and_true (int_le (negsuc 32767) z) (int_le z (pos 32767)) (grind (arith, ints)) (grind (arith, ints)) }
+
+pub int_is : (z : ℤ) → FitsSigned w32 z → IsBetween (negsuc 2147483647) (pos 2147483647) (signed_decimal z) z
+int_is z h =
+    record {
+      value = signed_read z (long_32 z h);
+      fits = and_true (int_le (negsuc 2147483647) z) (int_le z (pos 2147483647)) (grind (arith, ints)) (grind (arith, ints));
+    }
+
+-- ---- words of the line
+
+abbrev pub plain_words : Plain → Line
+plain_words (plain.Simple op) = bare (simple_line op) ∷ []
+plain_words (plain.PushByte n) = bare (codes "bipush") ∷ bare (signed_decimal n) ∷ []
+plain_words (plain.PushShort n) = bare (codes "sipush") ∷ bare (signed_decimal n) ∷ []
+plain_words (plain.Load t n) = bare (operand_letter t ++ codes "load") ∷ bare (decimal n) ∷ []
+plain_words (plain.Store t n) = bare (operand_letter t ++ codes "store") ∷ bare (decimal n) ∷ []
+plain_words (plain.Increment n by) = bare (codes "iinc") ∷ bare (decimal n) ∷ bare (signed_decimal by) ∷ []
+plain_words (plain.Branch op target) = bare (branch_mnemonic op) ∷ bare (label_name target) ∷ []
+plain_words (plain.TableSwitch t) = bare (codes "tableswitch") ∷ bare (signed_decimal t.low) ∷ []
+plain_words (plain.LookupSwitch l) = bare (codes "lookupswitch") ∷ []
+
+abbrev pub array_words : ArrayOp → Line
+array_words (array.New t) = bare (codes "newarray") ∷ bare (primitive_name t) ∷ []
+array_words op = bare (array_line op) ∷ []
+
+abbrev pub constant_words : Constant → Line
+constant_words (constant.Int n) = bare (codes "ldc") ∷ bare (signed_decimal n) ∷ []
+constant_words (constant.Long n) = bare (codes "ldc2_w") ∷ bare (signed_decimal n) ∷ []
+constant_words (constant.String units) = bare (codes "ldc") ∷ quoted (34 ∷ (string_text units ++ 34 ∷ [])) ∷ []
+
+-- CLASS/NAME
+abbrev pub field_word : FieldRef → List ℕ
+field_word f = class_line f.class ++ 47 ∷ name_text f.name
+
+-- CLASS/NAME(TYPES)TYPE
+abbrev pub method_word : MethodRef → List ℕ
+method_word m = class_line m.class ++ 47 ∷ (name_text m.name ++ method_line m.descriptor)
+
+abbrev pub count_words : InvokeOp → MethodRef → Line
+count_words invoke.Interface m = bare (decimal (argument_slots m.descriptor + 1)) ∷ []
+count_words _ m = []
+
+abbrev pub instr_words : Instr → Line
+instr_words (instr.Plain p) = plain_words p
+instr_words (instr.Array op) = array_words op
+instr_words (instr.Return op) = bare (return_mnemonic op) ∷ []
+instr_words instr.Throw = bare (codes "athrow") ∷ []
+instr_words (instr.Monitor op) = bare (monitor_mnemonic op) ∷ []
+instr_words (instr.Constant c) = constant_words c
+instr_words (instr.Field op f) = bare (field_mnemonic op) ∷ bare (field_word f) ∷ bare (type_line f.descriptor) ∷ []
+instr_words (instr.Invoke op m) = bare (invoke_mnemonic op) ∷ bare (method_word m) ∷ count_words op m
+instr_words (instr.New name) = bare (codes "new") ∷ bare (name_text name) ∷ []
+instr_words (instr.Type op class) = bare (type_mnemonic op) ∷ bare (class_line class) ∷ []
+
+-- ---- references
+
+pub field_spelled : (f : FieldRef) → field_ref_said f ≡ true → FieldRefInRange f → Spelled (field_word f) (class_text f.class ++ 47 ∷ f.name)
+field_spelled f h all =
+    let p = both_true (is_sayable_class f.class && is_plain f.name) (is_plain_type f.descriptor) h in
+    let q = both_true (is_sayable_class f.class) (is_plain f.name) p.0 in
+    then_spelled (class_line f.class) (47 ∷ name_text f.name) (class_text f.class) (47 ∷ f.name) (class_spelled f.class q.0 all.0)
+    (then_spelled (47 ∷ []) (name_text f.name) (47 ∷ []) f.name (byte_spelled 47 refl) (name_spelled f.name q.1 all.1))
+
+field_is_word : (f : FieldRef) → field_ref_fits f ≡ true → field_ref_said f ≡ true → FieldRefInRange f → is_word (field_word f) ≡ true
+field_is_word f fits h all =
+    let p = both_true (is_sayable_class f.class && is_plain f.name) (is_plain_type f.descriptor) h in
+    let q = both_true (is_sayable_class f.class) (is_plain f.name) p.0 in
+    let k = both_true (class_ref_fits f.class && is_unqualified f.name) (type_fits f.descriptor) fits in
+    let l = both_true (class_ref_fits f.class) (is_unqualified f.name) k.0 in
+    and_true (begins_word (field_word f)) (list_all is_word_byte (field_word f)) (class_begins f.class (47 ∷ name_text f.name) l.0 q.0) (field_spelled f h all).bytes
+
+field_form : (op : _) (f : FieldRef) → field_ref_fits f ≡ true → field_ref_said f ≡ true → FieldRefInRange f
+    → Operands (opcode.Field op) (bare (field_word f) ∷ bare (type_line f.descriptor) ∷ []) (instr.Field op f)
+field_form op f fits h all =
+    let p = both_true (is_sayable_class f.class && is_plain f.name) (is_plain_type f.descriptor) h in
+    let k = both_true (class_ref_fits f.class && is_unqualified f.name) (type_fits f.descriptor) fits in
+    let l = both_true (class_ref_fits f.class) (is_unqualified f.name) k.0 in
+    let names : List ℕ × List ℕ = (class_text f.class, f.name) in
+    let units = (field_spelled f h all).units_are in
+    let parted : member 0 (utf16_of (field_word f)) ≡ Ok names = ap (member 0) units ∙ member_is (class_text f.class) f.name (unqualified_no_slash f.name l.1) in
+    let named_so : field_of names ≡ Ok (f.class, f.name) = rw (class_ref_read f.class l.0, field_name_read f.name l.1) refl in
+    let types : field_type_of (utf16_of (type_line f.descriptor)) ≡ Ok f.descriptor =
+        ap field_type_of (type_spelled f.descriptor p.1 all.2).units_are ∙ field_type_read f.descriptor k.1 in
+    field op (field_word f) (type_line f.descriptor) names (f.class, f.name) f.descriptor parted named_so types
+
+-- the types of a method behind the (
+abbrev types_behind : MethodDescriptor → List ℕ
+types_behind d = flat_map field_text d.parameters ++ 41 ∷ return_text d.return_type
+
+said_parts : (m : MethodRef) → method_ref_said m ≡ true
+    → (is_sayable_class m.class ≡ true) × (class_no_parenthesis m.class ≡ true) × (is_plain m.name ≡ true) × (no_parenthesis m.name ≡ true)
+    × (is_plain_method_type m.descriptor ≡ true)
+said_parts m h =
+    let a = both_true (is_sayable_class m.class && class_no_parenthesis m.class && is_plain m.name && no_parenthesis m.name) (is_plain_method_type m.descriptor) h in
+    let b = both_true (is_sayable_class m.class && class_no_parenthesis m.class && is_plain m.name) (no_parenthesis m.name) a.0 in
+    let c = both_true (is_sayable_class m.class && class_no_parenthesis m.class) (is_plain m.name) b.0 in
+    let d = both_true (is_sayable_class m.class) (class_no_parenthesis m.class) c.0 in
+    (d.0, d.1, c.1, b.1, a.1)
+
+fits_parts : (op : InvokeOp) (m : MethodRef) → method_ref_fits op m ≡ true
+    → (class_ref_fits m.class ≡ true) × (is_invoked_name m.name ≡ true) × (is_method_type m.descriptor ≡ true) × (is_kept_method_type m.descriptor ≡ true)
+    × (nat_le (argument_slots m.descriptor + receiver_slots op) 255 ≡ true)
+fits_parts op m h =
+    let few : Bool = nat_le (argument_slots m.descriptor + receiver_slots op) 255 in
+    let a = both_true (class_ref_fits m.class && is_invoked_name m.name && is_method_type m.descriptor && is_kept_method_type m.descriptor) few h in
+    let b = both_true (class_ref_fits m.class && is_invoked_name m.name && is_method_type m.descriptor) (is_kept_method_type m.descriptor) a.0 in
+    let c = both_true (class_ref_fits m.class && is_invoked_name m.name) (is_method_type m.descriptor) b.0 in
+    let d = both_true (class_ref_fits m.class) (is_invoked_name m.name) c.0 in
+    (d.0, d.1, c.1, b.1, a.1)
+
+method_spelled : (m : MethodRef) → method_ref_said m ≡ true → MethodRefInRange m
+    → Spelled (method_word m) ((class_text m.class ++ 47 ∷ m.name) ++ 40 ∷ types_behind m.descriptor)
+method_spelled m h all =
+    let p = said_parts m h in
+    let back = then_spelled (name_text m.name) (method_line m.descriptor) m.name (method_text m.descriptor) (name_spelled m.name p.2 all.1)
+        (method_type_spelled m.descriptor p.4 all.2) in
+    let whole = then_spelled (class_line m.class) (47 ∷ (name_text m.name ++ method_line m.descriptor)) (class_text m.class) (47 ∷ (m.name ++ method_text m.descriptor))
+        (class_spelled m.class p.0 all.0)
+        (then_spelled (47 ∷ []) (name_text m.name ++ method_line m.descriptor) (47 ∷ []) (m.name ++ method_text m.descriptor) (byte_spelled 47 refl) back) in
+    subst (λ (us : List ℕ). Spelled (method_word m) us) (sym (append_assoc (class_text m.class) (47 ∷ m.name) (method_text m.descriptor))) whole
+
+method_is_word : (op : InvokeOp) (m : MethodRef) → method_ref_fits op m ≡ true → method_ref_said m ≡ true → MethodRefInRange m → is_word (method_word m) ≡ true
+method_is_word op m fits h all =
+    let p = said_parts m h in
+    let k = fits_parts op m fits in
+    and_true (begins_word (method_word m)) (list_all is_word_byte (method_word m))
+    (class_begins m.class (47 ∷ (name_text m.name ++ method_line m.descriptor)) k.0 p.0) (method_spelled m h all).bytes
+
+letter_no_parenthesis : (b : BaseType) → no_parenthesis (element_text (Base b)) ≡ true
+letter_no_parenthesis base.Byte = refl
+letter_no_parenthesis base.Char = refl
+letter_no_parenthesis base.Double = refl
+letter_no_parenthesis base.Float = refl
+letter_no_parenthesis base.Int = refl
+letter_no_parenthesis base.Long = refl
+letter_no_parenthesis base.Short = refl
+letter_no_parenthesis base.Boolean = refl
+
+both_no : (a b : List ℕ) → no_parenthesis a ≡ true → no_parenthesis b ≡ true → no_parenthesis (a ++ b) ≡ true
+both_no a b p q = rw (list_all-append is_no_parenthesis a b, p, q) refl
+
+element_none : (e : ElementType) → element_no_parenthesis e ≡ true → no_parenthesis (element_text e) ≡ true
+element_none (Base b) h = letter_no_parenthesis b
+element_none (Class name) h = both_no (76 ∷ name) (59 ∷ []) h refl
+
+brackets_none : (n : ℕ) → no_parenthesis (replicate n 91) ≡ true
+brackets_none zero = refl
+brackets_none (suc n) = brackets_none n
+
+class_none : (c : ClassRef) → class_no_parenthesis c ≡ true → no_parenthesis (class_text c) ≡ true
+class_none (class_ref.Class name) h = h
+class_none (class_ref.Array t) h = both_no (replicate t.dimensions 91) (element_text t.element) (brackets_none t.dimensions) (element_none t.element h)
+
+method_read : (op : InvokeOp) (m : MethodRef) → method_ref_fits op m ≡ true
+    → method_ref_of op (class_text m.class, m.name, 40 ∷ types_behind m.descriptor) ≡ Ok m
+unfolding method_ref_of
+method_read op m h =
+    let k = fits_parts op m h in
+    rw (class_ref_read m.class k.0, invoked_name_read m.name k.1, method_type_read (receiver_slots op) m.descriptor k.2 k.3 k.4) refl
+
+method_found : (op : InvokeOp) (m : MethodRef) → method_ref_fits op m ≡ true → method_ref_said m ≡ true → MethodRefInRange m
+    → method_at 0 op (utf16_of (method_word m)) (position is_parenthesis (utf16_of (method_word m))) ≡ Ok m
+method_found op m fits h all =
+    let p = said_parts m h in
+    let k = fits_parts op m fits in
+    let name_ok = (both_true (is_method_name m.name) (not (is_clinit m.name)) k.1).0 in
+    let first : List ℕ = class_text m.class ++ 47 ∷ m.name in
+    let us : List ℕ = first ++ 40 ∷ types_behind m.descriptor in
+    let none : no_parenthesis first ≡ true = both_no (class_text m.class) (47 ∷ m.name) (class_none m.class p.1) p.3 in
+    let at : position is_parenthesis us ≡ Some (length first) = found_at is_parenthesis first 40 (types_behind m.descriptor) none refl in
+    let parted = member_is (class_text m.class) m.name (method_no_slash m.name name_ok) in
+    let here : method_at 0 op us (position is_parenthesis us) ≡ Ok m =
+        rw (at, take-append_seam first (40 ∷ types_behind m.descriptor), drop-append_seam first (40 ∷ types_behind m.descriptor), parted, method_read op m fits) refl in
+    rw (method_spelled m h all).units_are here
+
+-- ---- forms
+
+element_form : (t : PrimitiveType) → Element (primitive_name t) t
+unfolding primitive_name
+element_form primitive.Boolean = boolean
+element_form primitive.Char = char
+element_form primitive.Byte = byte
+element_form primitive.Short = short
+element_form primitive.Int = int
+element_form primitive.Long = long
+
+array_form : (op : ArrayOp) → InstructionLine (array_words op) (labelled.Named (instr.Array op))
+array_form (array.New t) = named (codes "newarray") opcode.NewArray (bare (primitive_name t) ∷ []) _ (array_names (array.New t)).named (new_array (primitive_name t) t (element_form t))
+array_form (array.Load k) = named (array_line (array.Load k)) (opcode.Array (array.Load k)) [] _ (array_names (array.Load k)).named (on_array (array.Load k))
+array_form (array.Store k) = named (array_line (array.Store k)) (opcode.Array (array.Store k)) [] _ (array_names (array.Store k)).named (on_array (array.Store k))
+array_form array.Length = named (array_line array.Length) (opcode.Array array.Length) [] _ (array_names array.Length).named (on_array array.Length)
+
+constant_form : (c : Constant) → ConstantInRange c → InstructionLine (constant_words c) (labelled.Named (instr.Constant c))
+constant_form (constant.Int n) h =
+    named (codes "ldc") opcode.LoadConstant (bare (signed_decimal n) ∷ []) _ constant_names.named
+    (load_int (signed_decimal n) n (int_is n h) (signed_not_real n (long_32 n h)) (signed_not_named n (long_32 n h)))
+constant_form (constant.Long n) h =
+    named (codes "ldc2_w") opcode.LoadLong (bare (signed_decimal n) ∷ []) _ long_names.named
+    (load_long (signed_decimal n) n (signed_read n (long_64 n h)) (signed_not_real n (long_64 n h)))
+constant_form (constant.String units) h =
+    let text : List ℕ = 34 ∷ (string_text units ++ 34 ∷ []) in
+    let P : List ℕ → Type 0 = λ us. InstructionLine (bare (codes "ldc") ∷ quoted text ∷ []) (labelled.Named (instr.Constant (constant.String us))) in
+    subst P (string_value units h) (named (codes "ldc") opcode.LoadConstant (quoted text ∷ []) _ constant_names.named (load_string text))
+
+-- what a branch says
+pub branch_form : (op : Branch) (target : ℕ) → target < 2 ^ 64
+    → InstructionLine (bare (branch_mnemonic op) ∷ bare (label_name target) ∷ []) (labelled.Branch op (label_of (label_name target)))
+branch_form (branch_op.If c) target lt = branch _ (label_name target) (branch_op.If c) (branch_names (branch_op.If c)).named (is_label_name target lt)
+branch_form (branch_op.IfInts c) target lt = branch _ (label_name target) (branch_op.IfInts c) (branch_names (branch_op.IfInts c)).named (is_label_name target lt)
+branch_form (branch_op.IfReferences e) target lt =
+    branch _ (label_name target) (branch_op.IfReferences e) (branch_names (branch_op.IfReferences e)).named (is_label_name target lt)
+branch_form (branch_op.IfNull e) target lt = branch _ (label_name target) (branch_op.IfNull e) (branch_names (branch_op.IfNull e)).named (is_label_name target lt)
+branch_form branch_op.Goto target lt = branch _ (label_name target) branch_op.Goto (branch_names branch_op.Goto).named (is_label_name target lt)
+branch_form branch_op.GotoW target lt = branch_wide _ (label_name target) branch_op.GotoW (branch_names branch_op.GotoW).named (is_label_name target lt)
+
+invoke_form : (op : InvokeOp) (m : MethodRef) → method_ref_fits op m ≡ true → method_ref_said m ≡ true → MethodRefInRange m
+    → InstructionLine (bare (invoke_mnemonic op) ∷ bare (method_word m) ∷ count_words op m) (labelled.Named (instr.Invoke op m))
+invoke_form invoke.Virtual m fits h all =
+    named _ (opcode.Invoke invoke.Virtual) (bare (method_word m) ∷ []) _ (invoke_names invoke.Virtual).named (invoke_method invoke.Virtual (method_word m) m (method_found invoke.Virtual m fits h all))
+invoke_form invoke.Special m fits h all =
+    named _ (opcode.Invoke invoke.Special) (bare (method_word m) ∷ []) _ (invoke_names invoke.Special).named (invoke_method invoke.Special (method_word m) m (method_found invoke.Special m fits h all))
+invoke_form invoke.Static m fits h all =
+    named _ (opcode.Invoke invoke.Static) (bare (method_word m) ∷ []) _ (invoke_names invoke.Static).named (invoke_method invoke.Static (method_word m) m (method_found invoke.Static m fits h all))
+invoke_form invoke.Interface m fits h all =
+    let few : nat_le (argument_slots m.descriptor + 1) 255 ≡ true = (fits_parts invoke.Interface m fits).4 in
+    let le : argument_slots m.descriptor + 1 ≤ 255 = grind (arith, nat_tests) in
+    let count : IsUpTo 255 (decimal (argument_slots m.descriptor + 1)) (argument_slots m.descriptor + 1) =
+        record { value = natural_read (argument_slots m.descriptor + 1) (omega arith); fits = few } in
+    named _ opcode.InvokeInterface (bare (method_word m) ∷ bare (decimal (argument_slots m.descriptor + 1)) ∷ []) _ (invoke_names invoke.Interface).named
+    (invoke_interface (method_word m) (decimal (argument_slots m.descriptor + 1)) m (method_found invoke.Interface m fits h all) count)
+
+element_so : (op : TypeOp) (c : ClassRef) → type_op_fits op c ≡ true → element_if op c ≡ Ok c
+unfolding element_ref
+element_so type_op.NewArray (class_ref.Class name) h = refl
+element_so type_op.NewArray (class_ref.Array t) h =
+    let p = both_true (class_ref_fits (class_ref.Array t)) (nat_lt t.dimensions 255) h in
+    rw p.1 refl
+element_so type_op.CheckCast c h = refl
+element_so type_op.InstanceOf c h = refl
+
+class_so : (op : TypeOp) (c : ClassRef) → type_op_fits op c ≡ true → class_ref_fits c ≡ true
+class_so type_op.NewArray c h = (both_true (class_ref_fits c) (can_be_element c) h).0
+class_so type_op.CheckCast c h = h
+class_so type_op.InstanceOf c h = h
+
+type_form : (op : TypeOp) (c : ClassRef) → type_op_fits op c ≡ true → is_sayable_class c ≡ true → ClassRefInRange c
+    → InstructionLine (bare (type_mnemonic op) ∷ bare (class_line c) ∷ []) (labelled.Named (instr.Type op c))
+type_form op c fits h all =
+    let read : class_ref_of (utf16_of (class_line c)) ≡ Ok c = ap class_ref_of (class_spelled c h all).units_are ∙ class_ref_read c (class_so op c fits) in
+    named _ (opcode.Type op) (bare (class_line c) ∷ []) _ (type_names op).named (type op (class_line c) c c read (element_so op c fits))
+
+new_form : (name : List ℕ) → is_class_name name ≡ true → is_sayable name ≡ true → UnitsInRange name
+    → InstructionLine (bare (codes "new") ∷ bare (name_text name) ∷ []) (labelled.Named (instr.New name))
+new_form name fits h all =
+    let plain = (both_true (not (begins_with_quote name)) (is_plain name) h).1 in
+    let read : class_name_of (utf16_of (name_text name)) ≡ Ok name = ap class_name_of (name_spelled name plain all).units_are ∙ class_name_read name fits in
+    named _ opcode.New (bare (name_text name) ∷ []) _ new_names.named (new (name_text name) name read)
