@@ -6,6 +6,7 @@ use Rattle.std.specs.Int.{w8, w16, w32, w64}
 use Rattle.std.specs.List.{list_all, flat_map}
 use Rattle.std.specs.Fmt.{decimal, signed_decimal}
 use Rattle.std.proofs.lemmas.Int.{ints}
+use Rattle.std.proofs.lemmas.List.{append-nil}
 use Rattle.std.proofs.lemmas.List.Folds.{list_all-append}
 use Rattle.std.proofs.lemmas.Bool.Decides.{nat_tests}
 use Rattle.std.proofs.Math.Seq.{take-append_seam, drop-append_seam}
@@ -72,7 +73,7 @@ use Rattle.jm_disassembler.proofs.Types.{byte_spelled, type_spelled, method_type
 use Rattle.jm_disassembler.proofs.Numbers.{IsLong, decimal_is, word_of_digits, natural_read, signed_read, signed_word, signed_not_real, signed_not_named}
 use Rattle.jm_disassembler.proofs.Labels.{name_word, is_label_name}
 use Rattle.jm_disassembler.proofs.Strings.{string_inside, string_value}
-use Rattle.jm_disassembler.proofs.Mnemonics.{Names, simple_names, load_names, store_names, field_names, type_names, return_names, monitor_names, invoke_opcode, invoke_names, branch_opcode, branch_names, array_opcode, array_word, array_names, push_byte_names, push_short_names, constant_names, long_names, increment_names, new_names, throw_names, primitive_word}
+use Rattle.jm_disassembler.proofs.Mnemonics.{Names, simple_names, load_names, store_names, field_names, type_names, return_names, monitor_names, invoke_opcode, invoke_names, branch_opcode, branch_names, array_opcode, array_word, array_names, push_byte_names, push_short_names, constant_names, long_names, increment_names, new_names, throw_names, table_names, lookup_names, primitive_word}
 use Rattle.jm_disassembler.proofs.Words.{name_begins, class_some, class_name_word, type_is_word, class_begins, class_is_word, unqualified_no_slash, method_no_slash, no_slash, found_at, member_is}
 
 -- ---- numbers
@@ -362,3 +363,134 @@ new_form name fits h all =
     let plain = (both_true (not (begins_with_quote name)) (is_plain name) h).1 in
     let read : class_name_of (utf16_of (name_text name)) ≡ Ok name = ap class_name_of (name_spelled name plain all).units_are ∙ class_name_read name fits in
     named _ opcode.New (bare (name_text name) ∷ []) _ new_names.named (new (name_text name) name read)
+
+-- ---- layout
+
+gap_laid : (k : ℕ) (rest : List ℕ) (ws : Line) → Laid rest ws → Laid (replicate k 32 ++ rest) ws
+gap_laid zero rest ws h = h
+gap_laid (suc k) rest ws h = blank (gap_laid k rest ws h)
+
+some_gap : (k : ℕ) (rest : List ℕ) → 0 < k → apart (replicate k 32 ++ rest) ≡ true
+some_gap zero rest lt = absurd (omega arith)
+some_gap (suc k) rest lt = refl
+
+pub front_laid : (m rest : List ℕ) (ws : Line) → is_word m ≡ true → nat_lt (length m) 16 ≡ true → Laid rest ws → Laid (front m ++ rest) (bare m ∷ ws)
+front_laid m rest ws is_one is_short h =
+    let lt : length m < 16 = grind (arith, nat_tests) in
+    let k : ℕ = 16 - length m in
+    let some : 0 < k = omega arith in
+    subst (λ (t : List ℕ). Laid t (bare m ∷ ws)) (sym (append_assoc m (replicate k 32) rest))
+    (word m is_one (some_gap k rest some) (gap_laid k rest ws h))
+
+module _ (tail : List ℕ) (at_end : Laid tail []) (part : apart tail ≡ true) where
+  -- a mnemonic alone
+  alone : (m : List ℕ) → is_word m ≡ true → Laid (m ++ tail) (bare m ∷ [])
+  alone m is_one = word m is_one part at_end
+
+  -- a mnemonic and an operand
+  operand : {op : Opcode} (m w : List ℕ) → Names m op → is_word w ≡ true → Laid ((front m ++ w) ++ tail) (bare m ∷ bare w ∷ [])
+  operand m w n is_one =
+      subst (λ (t : List ℕ). Laid t (bare m ∷ bare w ∷ [])) (sym (append_assoc (front m) w tail))
+      (front_laid m (w ++ tail) (bare w ∷ []) n.word n.short (word w is_one part at_end))
+
+  -- a mnemonic and two operands
+  operands : {op : Opcode} (m v w : List ℕ) → Names m op → is_word v ≡ true → is_word w ≡ true
+      → Laid ((front m ++ (v ++ 32 ∷ w)) ++ tail) (bare m ∷ bare v ∷ bare w ∷ [])
+  operands m v w n is_first is_second =
+      let back : Laid (v ++ (32 ∷ (w ++ tail))) (bare v ∷ bare w ∷ []) = word v is_first refl (blank (word w is_second part at_end)) in
+      let whole = front_laid m (v ++ (32 ∷ (w ++ tail))) (bare v ∷ bare w ∷ []) n.word n.short back in
+      let same : (front m ++ (v ++ 32 ∷ w)) ++ tail ≡ front m ++ (v ++ (32 ∷ (w ++ tail))) =
+          append_assoc (front m) (v ++ 32 ∷ w) tail ∙ ap (λ (t : List ℕ). front m ++ t) (append_assoc v (32 ∷ w) tail) in
+      subst (λ (t : List ℕ). Laid t (bare m ∷ bare v ∷ bare w ∷ [])) (sym same) whole
+
+  plain_laid : (count : ℕ) (p : Plain) → count < 2 ^ 64 → instr_fits count (instr.Plain p) ≡ true → InstrInRange (instr.Plain p)
+      → Laid (plain_text p ++ tail) (plain_words p)
+  unfolding plain_text
+  plain_laid count (plain.Simple op) few fits all = alone (simple_line op) (simple_names op).word
+  plain_laid count (plain.PushByte n) few fits all = operand (codes "bipush") (signed_decimal n) push_byte_names (signed_word n (long_8 n all))
+  plain_laid count (plain.PushShort n) few fits all = operand (codes "sipush") (signed_decimal n) push_short_names (signed_word n (long_16 n all))
+  plain_laid count (plain.Load t n) few fits all = operand (operand_letter t ++ codes "load") (decimal n) (load_names t) (decimal_word n (omega arith))
+  plain_laid count (plain.Store t n) few fits all = operand (operand_letter t ++ codes "store") (decimal n) (store_names t) (decimal_word n (omega arith))
+  plain_laid count (plain.Increment n by) few fits all =
+      let lt : n < 2 ^ 16 = all.0 in
+      operands (codes "iinc") (decimal n) (signed_decimal by) increment_names (decimal_word n (omega arith)) (signed_word by (long_16 by all.1))
+  plain_laid count (plain.Branch op target) few fits all =
+      let lt : target < count = grind (arith, nat_tests) in
+      operand (branch_mnemonic op) (label_name target) (branch_names op) (name_word target (omega arith))
+  plain_laid count (plain.TableSwitch t) few fits all = operand (codes "tableswitch") (signed_decimal t.low) table_names (signed_word t.low (long_32 t.low all))
+  plain_laid count (plain.LookupSwitch l) few fits all = alone (codes "lookupswitch") lookup_names.word
+
+  array_laid : (op : ArrayOp) → Laid (array_text op ++ tail) (array_words op)
+  unfolding array_text
+  array_laid (array.New t) = operand (codes "newarray") (primitive_name t) (array_names (array.New t)) (primitive_word t)
+  array_laid (array.Load k) = alone (array_line (array.Load k)) (array_names (array.Load k)).word
+  array_laid (array.Store k) = alone (array_line (array.Store k)) (array_names (array.Store k)).word
+  array_laid array.Length = alone (array_line array.Length) (array_names array.Length).word
+
+  constant_laid : (c : Constant) → ConstantInRange c → Laid (constant_text c ++ tail) (constant_words c)
+  unfolding constant_text
+  constant_laid (constant.Int n) all = operand (codes "ldc") (signed_decimal n) constant_names (signed_word n (long_32 n all))
+  constant_laid (constant.Long n) all = operand (codes "ldc2_w") (signed_decimal n) long_names (signed_word n (long_64 n all))
+  constant_laid (constant.String units) all =
+      let inside : List ℕ = string_text units ++ 34 ∷ [] in
+      let back : Laid (34 ∷ (inside ++ tail)) (quoted (34 ∷ inside) ∷ []) = string inside (string_inside units all) part at_end in
+      subst (λ (t : List ℕ). Laid t (bare (codes "ldc") ∷ quoted (34 ∷ inside) ∷ [])) (sym (append_assoc (front (codes "ldc")) (34 ∷ inside) tail))
+      (front_laid (codes "ldc") (34 ∷ (inside ++ tail)) (quoted (34 ∷ inside) ∷ []) constant_names.word constant_names.short back)
+
+  field_text_is : (f : FieldRef) → field_ref_line f ≡ field_word f ++ 32 ∷ type_line f.descriptor
+  unfolding field_ref_line
+  field_text_is f =
+      let c : List ℕ = class_line f.class in
+      let n : List ℕ = name_text f.name in
+      let t : List ℕ = type_line f.descriptor in
+      append_assoc ((c ++ 47 ∷ []) ++ n) (32 ∷ []) t ∙ ap (λ (x : List ℕ). x ++ 32 ∷ t) (append_assoc c (47 ∷ []) n)
+
+  method_text_is : (m : MethodRef) → method_ref_line m ≡ method_word m
+  unfolding method_ref_line
+  method_text_is m =
+      let c : List ℕ = class_line m.class in
+      let n : List ℕ = name_text m.name in
+      append_assoc (c ++ 47 ∷ []) n (method_line m.descriptor) ∙ append_assoc c (47 ∷ []) (n ++ method_line m.descriptor)
+
+  field_laid : (op : _) (f : FieldRef) → field_ref_fits f ≡ true → field_ref_said f ≡ true → FieldRefInRange f
+      → Laid ((front (field_mnemonic op) ++ field_ref_line f) ++ tail) (bare (field_mnemonic op) ∷ bare (field_word f) ∷ bare (type_line f.descriptor) ∷ [])
+  field_laid op f fits h all =
+      let types = (both_true (is_sayable_class f.class && is_plain f.name) (is_plain_type f.descriptor) h).1 in
+      subst (λ (t : List ℕ). Laid ((front (field_mnemonic op) ++ t) ++ tail) (bare (field_mnemonic op) ∷ bare (field_word f) ∷ bare (type_line f.descriptor) ∷ []))
+      (sym (field_text_is f))
+      (operands (field_mnemonic op) (field_word f) (type_line f.descriptor) (field_names op) (field_is_word f fits h all) (type_is_word f.descriptor types all.2))
+
+  one_method : (op : InvokeOp) (m : MethodRef) → method_ref_fits op m ≡ true → method_ref_said m ≡ true → MethodRefInRange m
+      → Laid ((front (invoke_mnemonic op) ++ (method_ref_line m ++ [])) ++ tail) (bare (invoke_mnemonic op) ∷ bare (method_word m) ∷ [])
+  one_method op m fits h all =
+      subst (λ (t : List ℕ). Laid ((front (invoke_mnemonic op) ++ t) ++ tail) (bare (invoke_mnemonic op) ∷ bare (method_word m) ∷ []))
+      (sym (append-nil (method_ref_line m) ∙ method_text_is m)) (operand (invoke_mnemonic op) (method_word m) (invoke_names op) (method_is_word op m fits h all))
+
+  invoke_laid : (op : InvokeOp) (m : MethodRef) → method_ref_fits op m ≡ true → method_ref_said m ≡ true → MethodRefInRange m
+      → Laid ((front (invoke_mnemonic op) ++ (method_ref_line m ++ count_text op m)) ++ tail) (bare (invoke_mnemonic op) ∷ bare (method_word m) ∷ count_words op m)
+  unfolding count_text
+  invoke_laid invoke.Virtual m fits h all = one_method invoke.Virtual m fits h all
+  invoke_laid invoke.Special m fits h all = one_method invoke.Special m fits h all
+  invoke_laid invoke.Static m fits h all = one_method invoke.Static m fits h all
+  invoke_laid invoke.Interface m fits h all =
+      let few : nat_le (argument_slots m.descriptor + 1) 255 ≡ true = (fits_parts invoke.Interface m fits).4 in
+      let le : argument_slots m.descriptor + 1 ≤ 255 = grind (arith, nat_tests) in
+      let n : ℕ = argument_slots m.descriptor + 1 in
+      subst (λ (t : List ℕ). Laid ((front (invoke_mnemonic invoke.Interface) ++ (t ++ 32 ∷ decimal n)) ++ tail)
+      (bare (invoke_mnemonic invoke.Interface) ∷ bare (method_word m) ∷ bare (decimal n) ∷ []))
+      (sym (method_text_is m)) (operands (invoke_mnemonic invoke.Interface) (method_word m) (decimal n) (invoke_names invoke.Interface)
+      (method_is_word invoke.Interface m fits h all) (decimal_word n (omega arith)))
+
+  pub instr_laid : (count : ℕ) (i : Instr) → count < 2 ^ 64 → instr_fits count i ≡ true → instr_said i ≡ true → InstrInRange i
+      → Laid (instr_text i ++ tail) (instr_words i)
+  unfolding instr_text
+  instr_laid count (instr.Plain p) few fits h all = plain_laid count p few fits all
+  instr_laid count (instr.Array op) few fits h all = array_laid op
+  instr_laid count (instr.Return op) few fits h all = alone (return_mnemonic op) (return_names op).word
+  instr_laid count instr.Throw few fits h all = alone (codes "athrow") throw_names.word
+  instr_laid count (instr.Monitor op) few fits h all = alone (monitor_mnemonic op) (monitor_names op).word
+  instr_laid count (instr.Constant c) few fits h all = constant_laid c all
+  instr_laid count (instr.Field op f) few fits h all = field_laid op f fits h all
+  instr_laid count (instr.Invoke op m) few fits h all = invoke_laid op m fits h all
+  instr_laid count (instr.New name) few fits h all = operand (codes "new") (name_text name) new_names (class_name_word name fits h all)
+  instr_laid count (instr.Type op c) few fits h all = operand (type_mnemonic op) (class_line c) (type_names op) (class_is_word c (class_so op c fits) h all)
