@@ -38,6 +38,7 @@ use Rattle.jm_program.specs.declared.instruction.operation.PrimitiveType.{Primit
 use Rattle.jm_program.specs.declared.instruction.operation.PrimitiveType.TheVariants as primitive
 use Rattle.jm_program.specs.declared.instruction.operation.ArrayOp.{ArrayOp}
 use Rattle.jm_program.specs.declared.instruction.operation.ArrayOp.TheVariants as array
+use Rattle.jm_program.specs.declared.instruction.operation.FieldOp.{FieldOp}
 use Rattle.jm_program.specs.declared.instruction.operation.TypeOp.{TypeOp}
 use Rattle.jm_program.specs.declared.instruction.operation.TypeOp.TheVariants as type_op
 use Rattle.jm_program.specs.declared.instruction.operation.InvokeOp.{InvokeOp}
@@ -100,10 +101,10 @@ pub long_64 : (z : ℤ) → FitsSigned w64 z → IsLong z
 long_64 (pos n) h = grind (arith, ints)
 long_64 (negsuc n) h = grind (arith, ints)
 
-byte_is : (z : ℤ) → FitsSigned w8 z → IsBetween (negsuc 127) (pos 127) (signed_decimal z) z
+pub byte_is : (z : ℤ) → FitsSigned w8 z → IsBetween (negsuc 127) (pos 127) (signed_decimal z) z
 byte_is z h = record { value = signed_read z (long_8 z h); fits = and_true (int_le (negsuc 127) z) (int_le z (pos 127)) (grind (arith, ints)) (grind (arith, ints)) }
 
-signed_short_is : (z : ℤ) → FitsSigned w16 z → IsBetween (negsuc 32767) (pos 32767) (signed_decimal z) z
+pub signed_short_is : (z : ℤ) → FitsSigned w16 z → IsBetween (negsuc 32767) (pos 32767) (signed_decimal z) z
 signed_short_is z h =
     record { value = signed_read z (long_16 z h); fits = and_true (int_le (negsuc 32767) z) (int_le z (pos 32767)) (grind (arith, ints)) (grind (arith, ints)) }
 
@@ -190,6 +191,12 @@ field_form op f fits h all =
     let types : field_type_of (utf16_of (type_line f.descriptor)) ≡ Ok f.descriptor =
         ap field_type_of (type_spelled f.descriptor p.1 all.2).units_are ∙ field_type_read f.descriptor k.1 in
     field op (field_word f) (type_line f.descriptor) names (f.class, f.name) f.descriptor parted named_so types
+
+pub field_line_form : (op : FieldOp) (f : FieldRef) → field_ref_fits f ≡ true → field_ref_said f ≡ true → FieldRefInRange f
+    → InstructionLine (bare (field_mnemonic op) ∷ bare (field_word f) ∷ bare (type_line f.descriptor) ∷ []) (labelled.Named (instr.Field op f))
+field_line_form op f fits h all =
+    named (field_mnemonic op) (opcode.Field op) (bare (field_word f) ∷ bare (type_line f.descriptor) ∷ []) (instr.Field op f) (field_names op).named
+    (field_form op f fits h all)
 
 -- the types of a method behind the (
 abbrev types_behind : MethodDescriptor → List ℕ
@@ -292,13 +299,13 @@ element_form primitive.Short = short
 element_form primitive.Int = int
 element_form primitive.Long = long
 
-array_form : (op : ArrayOp) → InstructionLine (array_words op) (labelled.Named (instr.Array op))
+pub array_form : (op : ArrayOp) → InstructionLine (array_words op) (labelled.Named (instr.Array op))
 array_form (array.New t) = named (codes "newarray") opcode.NewArray (bare (primitive_name t) ∷ []) _ (array_names (array.New t)).named (new_array (primitive_name t) t (element_form t))
 array_form (array.Load k) = named (array_line (array.Load k)) (opcode.Array (array.Load k)) [] _ (array_names (array.Load k)).named (on_array (array.Load k))
 array_form (array.Store k) = named (array_line (array.Store k)) (opcode.Array (array.Store k)) [] _ (array_names (array.Store k)).named (on_array (array.Store k))
 array_form array.Length = named (array_line array.Length) (opcode.Array array.Length) [] _ (array_names array.Length).named (on_array array.Length)
 
-constant_form : (c : Constant) → ConstantInRange c → InstructionLine (constant_words c) (labelled.Named (instr.Constant c))
+pub constant_form : (c : Constant) → ConstantInRange c → InstructionLine (constant_words c) (labelled.Named (instr.Constant c))
 constant_form (constant.Int n) h =
     named (codes "ldc") opcode.LoadConstant (bare (signed_decimal n) ∷ []) _ constant_names.named
     (load_int (signed_decimal n) n (int_is n h) (signed_not_real n (long_32 n h)) (signed_not_named n (long_32 n h)))
@@ -321,7 +328,7 @@ branch_form (branch_op.IfNull e) target lt = branch _ (label_name target) (branc
 branch_form branch_op.Goto target lt = branch _ (label_name target) branch_op.Goto (branch_names branch_op.Goto).named (is_label_name target lt)
 branch_form branch_op.GotoW target lt = branch_wide _ (label_name target) branch_op.GotoW (branch_names branch_op.GotoW).named (is_label_name target lt)
 
-invoke_form : (op : InvokeOp) (m : MethodRef) → method_ref_fits op m ≡ true → method_ref_said m ≡ true → MethodRefInRange m
+pub invoke_form : (op : InvokeOp) (m : MethodRef) → method_ref_fits op m ≡ true → method_ref_said m ≡ true → MethodRefInRange m
     → InstructionLine (bare (invoke_mnemonic op) ∷ bare (method_word m) ∷ count_words op m) (labelled.Named (instr.Invoke op m))
 invoke_form invoke.Virtual m fits h all =
     named _ (opcode.Invoke invoke.Virtual) (bare (method_word m) ∷ []) _ (invoke_names invoke.Virtual).named (invoke_method invoke.Virtual (method_word m) m (method_found invoke.Virtual m fits h all))
@@ -351,13 +358,13 @@ class_so type_op.NewArray c h = (both_true (class_ref_fits c) (can_be_element c)
 class_so type_op.CheckCast c h = h
 class_so type_op.InstanceOf c h = h
 
-type_form : (op : TypeOp) (c : ClassRef) → type_op_fits op c ≡ true → is_sayable_class c ≡ true → ClassRefInRange c
+pub type_form : (op : TypeOp) (c : ClassRef) → type_op_fits op c ≡ true → is_sayable_class c ≡ true → ClassRefInRange c
     → InstructionLine (bare (type_mnemonic op) ∷ bare (class_line c) ∷ []) (labelled.Named (instr.Type op c))
 type_form op c fits h all =
     let read : class_ref_of (utf16_of (class_line c)) ≡ Ok c = ap class_ref_of (class_spelled c h all).units_are ∙ class_ref_read c (class_so op c fits) in
     named _ (opcode.Type op) (bare (class_line c) ∷ []) _ (type_names op).named (type op (class_line c) c c read (element_so op c fits))
 
-new_form : (name : List ℕ) → is_class_name name ≡ true → is_sayable name ≡ true → UnitsInRange name
+pub new_form : (name : List ℕ) → is_class_name name ≡ true → is_sayable name ≡ true → UnitsInRange name
     → InstructionLine (bare (codes "new") ∷ bare (name_text name) ∷ []) (labelled.Named (instr.New name))
 new_form name fits h all =
     let plain = (both_true (not (begins_with_quote name)) (is_plain name) h).1 in

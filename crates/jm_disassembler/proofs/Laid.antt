@@ -67,6 +67,8 @@ pub data Laid : List ℕ → Line → Type 0 where
 pub data Texts : List ℕ → List Line → Type 0 where
   nothing : Texts [] []
   line : {bytes text : List ℕ} {w : Word} {ws : Line} {lines : List Line} → Laid bytes (w ∷ ws) → Texts text lines → Texts (bytes ++ text) ((w ∷ ws) ∷ lines)
+  -- without a word
+  skip : {bytes text : List ℕ} {lines : List Line} → Laid bytes [] → Texts text lines → Texts (bytes ++ text) lines
 
 -- ---- their signs
 
@@ -301,6 +303,18 @@ module _ (whole : List ℕ) where
   behind_line number w ws [] ts stand = absurd stand
   behind_line number w ws (u ∷ us) ts stand = rw stand.1 (omega arith)
 
+  nothing_said : (number : ℕ) (us ts : List TokenParts) (lines : List Line) → Stand number [] us → lines_said ts ≡ lines → lines_said (us ++ ts) ≡ lines
+  nothing_said number [] ts lines stand said = said
+  nothing_said number (u ∷ us) ts lines stand said = absurd stand
+
+  weaker : (number : ℕ) (ts : List TokenParts) → Behind (number + 1) ts → Behind number ts
+  weaker number [] h = tt
+  weaker number (t ∷ ts) h = omega arith
+
+  earlier : (number : ℕ) (us ts : List TokenParts) → Stand number [] us → Behind (number + 1) ts → Behind number (us ++ ts)
+  earlier number [] ts stand h = weaker number ts h
+  earlier number (u ∷ us) ts stand h = absurd stand
+
   text_lies : (text : List ℕ) (lines : List Line) → Texts text lines → (front : List ℕ) (at number : ℕ) → whole ≡ front ++ text → at ≡ length front
       → TextRead lines text at number
   unfolding signs lines_said
@@ -314,6 +328,17 @@ module _ (whole : List ℕ) where
         lie = l.lie;
         said = said_so number w ws l.us r.ts more l.stand r.said r.behind;
         behind = behind_line number w ws l.us r.ts l.stand;
+      }
+
+  text_lies text lines (skip {bytes = bytes} {text = rest} h q) front at number is e =
+      let r = text_lies rest lines q (front ++ bytes) (at + length bytes) (number + 1) (is ∙ sym (append_assoc front bytes rest))
+          (omega (arith, length-append front bytes)) in
+      let l = line_lies bytes [] h front rest at (at + length bytes) number is e refl r.ts r.lie in
+      record {
+        ts = l.us ++ r.ts;
+        lie = l.lie;
+        said = nothing_said number l.us r.ts lines l.stand r.said;
+        behind = earlier number l.us r.ts l.stand r.behind;
       }
 
 -- the tokens of a text are those of its lines

@@ -7,3 +7,4 @@ pub mod Strings
 pub mod Mnemonics
 pub mod Words
 pub mod Instructions
+pub mod Switches
