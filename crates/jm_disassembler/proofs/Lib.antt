@@ -8,3 +8,6 @@ pub mod Mnemonics
 pub mod Words
 pub mod Instructions
 pub mod Switches
+pub mod Marks
+pub mod Bodies
+

@@ -1,5 +1,5 @@
 -- The labels of a text, by the numbers of the instructions that they stand before.
-use Rattle.std.specs.Prelude.{ℕ, ◌+◌, Bool, true, false, List, [], ◌∷◌, ◌++◌, length, replicate, Option, Some, None, slice_get, set}
+use Rattle.std.specs.Prelude.{ℕ, ◌+◌, Bool, true, false, List, [], ◌∷◌, ◌++◌, length, replicate, set, get_or}
 use Rattle.std.specs.Fmt.{decimal}
 use Rattle.std.specs.List.{flat_map}
 use Rattle.jm_program.specs.declared.code.Code.{Code}
@@ -49,10 +49,6 @@ abbrev pub marks_of : Code → List Bool
 marks_of c =
     marked (marked (replicate (length c.instructions + 1) false) (flat_map instr_targets c.instructions)) (flat_map handler_places c.handlers)
 
-abbrev pub mark_or : Option Bool → Bool
-mark_or None = false
-mark_or (Some b) = b
-
 -- whether a label stands before the instruction of that number
 abbrev pub is_marked : List Bool → ℕ → Bool
-is_marked marks n = mark_or (slice_get marks n)
+is_marked marks n = get_or marks n false
