@@ -221,3 +221,120 @@ body_laid commented marks count k (i ∷ is) ls few lt all range rest lines h =
         append_assoc (label_lines marks k) (source_rows k ls ++ (own ++ bl)) lines
         ∙ ap (λ (x : List Line). label_lines marks k ++ x) (append_assoc (source_rows k ls) (own ++ bl) lines ∙ ap (λ (x : List Line). source_rows k ls ++ x) (append_assoc own bl lines)) in
     texts_as _ _ _ texts (subst (λ (l : List Line). Texts (label_text marks k ++ (source_lines k ls ++ (il ++ (bt ++ rest)))) l) (sym all_lines) whole)
+
+-- ---- the items are accepted
+
+-- items with so many instructions, and with no label of a place from another on
+pub record Before (pre : List Item) (count from : ℕ) : Type 0 where
+  pub counted : instruction_count pre ≡ count
+  pub fresh : (t : ℕ) → from ≤ t → t < 2 ^ 64 → label_value pre (label_name t) ≡ None
+
+later : (pre : List Item) (count from to : ℕ) → from ≤ to → Before pre count from → Before pre count to
+later pre count from to le b = record { counted = b.counted; fresh = λ t h lt. b.fresh t (omega arith) lt }
+
+pub before_other : (pre : List Item) (count from : ℕ) (x : Item) → ((name : List ℕ) → value_here name x ≡ None) → instruction_here x ≡ 0
+    → Before pre count from → Before (pre ++ x ∷ []) count from
+before_other pre count from x none no_more_one b = record {
+  counted = count_kept pre x no_more_one ∙ b.counted;
+  fresh = λ t h lt. label_kept pre x (label_name t) (none (label_name t)) ∙ b.fresh t h lt;
+}
+
+before_instruction : (pre : List Item) (k : ℕ) (from : ℕ) (i : LabelledInstr) → Before pre k from → Before (pre ++ item.Instruction i ∷ []) (suc k) from
+before_instruction pre k from i b = record {
+  counted = omega (arith, count_next pre i, b.counted);
+  fresh = λ t h lt. label_kept pre (item.Instruction i) (label_name t) refl ∙ b.fresh t h lt;
+}
+
+before_label : (pre : List Item) (k : ℕ) → k < 2 ^ 64 → Before pre k k → Before (pre ++ item.Label (label_name k) k ∷ []) k (suc k)
+before_label pre k few b = record {
+  counted = count_kept pre (item.Label (label_name k) k) refl ∙ b.counted;
+  fresh = λ t h lt. no_label t h lt;
+}
+  where
+    no_label : (t : ℕ) → suc k ≤ t → t < 2 ^ 64 → label_value (pre ++ item.Label (label_name k) k ∷ []) (label_name t) ≡ None
+    no_label t h lt =
+        let other : (k == t) ≡ false = grind (arith, nat_tests) in
+        let names : same_text (label_name k) (label_name t) ≡ false = other_label k t few lt other in
+        label_set pre (label_name k) k (label_name t) ∙ rw names (b.fresh t (omega arith) lt)
+
+module _ (m : Method) where
+  -- lines and items behind those before them
+  abbrev Goes : List Item → List Line → List Item → Type 0
+  Goes pre lines items = BodyLines m pre lines (pre ++ items)
+
+  one_step : (pre : List Item) (l : Line) (x : Item) (lines : List Line) (items : List Item) → BodyLine (instruction_count pre) l x → accepted m 0 pre x ≡ Ok tt
+      → Goes (pre ++ x ∷ []) lines items → Goes pre (l ∷ lines) (x ∷ items)
+  one_step pre l x lines items p a q = and_line pre l x p a (subst (λ (all : List Item). BodyLines m (pre ++ x ∷ []) lines all) (append_assoc pre (x ∷ []) items) q)
+
+  label_goes : (marks : List Bool) (k : ℕ) (pre : List Item) (lines : List Line) (items : List Item) (b : Bool) → is_marked marks k ≡ b → k < 2 ^ 64
+      → Before pre k k → ((pre2 : List Item) → Before pre2 k (suc k) → Goes pre2 lines items) → Goes pre (label_lines marks k ++ lines) (label_items marks k ++ items)
+  label_goes marks k pre lines items true e lt b more =
+      let x : Item = item.Label (label_name k) k in
+      let new : label_value pre (label_name k) ≡ None = b.fresh k (omega arith) lt in
+      let named_so : item.Label (without_last (utf16_of (label_word k))) (instruction_count pre) ≡ x = rw (label_is k lt, b.counted) refl in
+      let form : BodyLine (instruction_count pre) (bare (label_word k) ∷ []) x =
+          subst (λ (y : Item). BodyLine (instruction_count pre) (bare (label_word k) ∷ []) y) named_so (label (label_word k) (label_ends k)) in
+      rw e (one_step pre (bare (label_word k) ∷ []) x lines items form (rw new refl) (more (pre ++ x ∷ []) (before_label pre k lt b)))
+  label_goes marks k pre lines items false e lt b more = rw e (more pre (later pre k k (suc k) (omega arith) b))
+
+  source_form : (pre : List Item) (k from : ℕ) (l : LineNumber) → Before pre k from → l.start ≡ k → LineInRange l
+      → BodyLine (instruction_count pre) (source_words l) (item.Line l)
+  source_form pre k from l b e lt =
+      let P : ℕ → Type 0 = λ n. BodyLine (instruction_count pre) (source_words l) (item.Line (record { start = n; line = l.line })) in
+      subst P (b.counted ∙ sym e) (source_line (decimal l.line) l.line (short_is l.line lt))
+
+  abbrev SourcesGo : ℕ → ℕ → List LineNumber → List Line → List Item → Type 0
+  SourcesGo k from ls lines items =
+      (pre : List Item) → EachOf LineInRange ls → Before pre k from → ((pre2 : List Item) → Before pre2 k from → Goes pre2 lines items)
+      → Goes pre (source_rows k ls ++ lines) (source_items k ls ++ items)
+
+  source_goes : (k from : ℕ) (l : LineNumber) (ls : List LineNumber) (pre : List Item) (lines : List Line) (items : List Item) (s : Bool) → (l.start == k) ≡ s
+      → EachOf LineInRange (l ∷ ls) → Before pre k from → ((pre2 : List Item) → Before pre2 k from → Goes pre2 lines items)
+      → SourcesGo k from ls lines items
+      → Goes pre ((if s then source_words l ∷ source_rows k ls else []) ++ lines) ((if s then item.Line l ∷ source_items k ls else []) ++ items)
+  source_goes k from l ls pre lines items true e range b more next =
+      let same : l.start ≡ k = eqb-true l.start k e in
+      one_step pre (source_words l) (item.Line l) (source_rows k ls ++ lines) (source_items k ls ++ items) (source_form pre k from l b same range.0) refl
+      (next (pre ++ item.Line l ∷ []) range.1 (before_other pre k from (item.Line l) (λ name. refl) refl b) more)
+  source_goes k from l ls pre lines items false e range b more next = more pre b
+
+  sources_go : (k from : ℕ) (ls : List LineNumber) (lines : List Line) (items : List Item) → SourcesGo k from ls lines items
+  sources_go k from [] lines items pre range b more = more pre b
+  sources_go k from (l ∷ ls) lines items pre range b more =
+      source_goes k from l ls pre lines items (l.start == k) refl range b more (sources_go k from ls lines items)
+
+  instr_goes : (count k from : ℕ) (i : Instr) (pre : List Item) (lines : List Line) (items : List Item) → Form i → is_abstract m.flags ≡ false
+      → k < 4294967295 → Before pre k from
+      → Goes (pre ++ item.Instruction (labelled_of i) ∷ []) lines items
+      → Goes pre ((instr_words i ∷ row_lines i) ++ lines) (item.Instruction (labelled_of i) ∷ items)
+  unfolding instruction_accepted
+  instr_goes count k from i pre lines items f concrete few b more =
+      let x : Item = item.Instruction (labelled_of i) in
+      let room : nat_lt (instruction_count pre) 4294967295 ≡ true = rw b.counted (grind (arith, nat_tests)) in
+      let fine : accepted m 0 pre x ≡ Ok tt = rw (concrete, room) refl in
+      elim f [
+        | one e h ↦ subst (λ (rows : List Line). Goes pre ((instr_words i ∷ rows) ++ lines) (x ∷ items)) (sym e)
+            (one_step pre (instr_words i) x lines items (instruction (instr_words i) (labelled_of i) h) fine more)
+        | several h ↦ and_switch pre (instr_words i ∷ row_lines i) (labelled_of i) h fine
+            (subst (λ (all : List Item). BodyLines m (pre ++ x ∷ []) lines all) (append_assoc pre (x ∷ []) items) more)
+      ]
+
+  pub body_goes : (marks : List Bool) (count k : ℕ) (is : List Instr) (ls : List LineNumber) (pre : List Item) → is_abstract m.flags ≡ false → count < 2 ^ 64
+      → k + length is < 4294967295 → EachOf (Sayable count) is → EachOf LineInRange ls → Before pre k k
+      → BodyLines m pre (body_lines marks k is ls) (pre ++ body_items marks k is ls)
+  body_goes marks count k [] ls pre concrete few lt all range b =
+      let last : Goes pre (label_lines marks k ++ []) (label_items marks k ++ []) =
+          label_goes marks k pre [] [] (is_marked marks k) refl (omega arith) b (λ pre2 c. subst (λ (all : List Item). BodyLines m pre2 [] all) (sym (append-nil pre2)) (no_more pre2)) in
+      subst (λ (lines : List Line). BodyLines m pre lines (pre ++ label_items marks k)) (append-nil (label_lines marks k))
+      (subst (λ (items : List Item). BodyLines m pre (label_lines marks k ++ []) (pre ++ items)) (append-nil (label_items marks k)) last)
+  body_goes marks count k (i ∷ is) ls pre concrete few lt all range b =
+      let behind : List LineNumber = lines_behind k ls in
+      let bl : List Line = body_lines marks (suc k) is behind in
+      let bi : List Item = body_items marks (suc k) is behind in
+      let x : Item = item.Instruction (labelled_of i) in
+      let own : List Line = instr_words i ∷ row_lines i in
+      let form = instr_form count i few all.0.fits all.0.said all.0.range in
+      label_goes marks k pre (source_rows k ls ++ (own ++ bl)) (source_items k ls ++ (x ∷ bi)) (is_marked marks k) refl (omega arith) b
+      (λ pre2 c. sources_go k (suc k) ls (own ++ bl) (x ∷ bi) pre2 range c
+      (λ pre3 d. instr_goes count k (suc k) i pre3 bl bi form concrete (omega arith) d
+      (body_goes marks count (suc k) is behind (pre3 ++ x ∷ []) concrete few (omega arith) all.1 (behind_range LineInRange k ls range) (before_instruction pre3 k (suc k) (labelled_of i) d))))
