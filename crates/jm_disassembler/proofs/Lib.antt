@@ -10,4 +10,5 @@ pub mod Instructions
 pub mod Switches
 pub mod Marks
 pub mod Bodies
+pub mod Codes
 
