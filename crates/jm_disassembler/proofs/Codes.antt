@@ -14,6 +14,9 @@ use Rattle.jm_program.proofs.DescriptorLaws.{both_true, and_true}
 use Rattle.jm_program.specs.Codes.{handler_fits}
 use Rattle.jm_program.specs.Instructions.{instr_fits}
 use Rattle.jm_program.specs.Names.{same_text}
+use Rattle.jm_program.specs.Flags.{is_abstract}
+use Rattle.jm_program.specs.Fits.{method_slots}
+use Rattle.jm_program.specs.declared.class.Method.{Method}
 use Rattle.jm_program.specs.declared.code.Code.{Code}
 use Rattle.jm_program.specs.declared.code.Handler.{Handler}
 use Rattle.jm_program.specs.declared.code.LineNumber.{LineNumber}
@@ -27,13 +30,13 @@ use Rattle.jm_jasmin.specs.declared.part.Part.{Part}
 use Rattle.jm_jasmin.specs.declared.part.Part.TheVariants as part
 use Rattle.jm_jasmin.specs.Items.{instruction_here, instruction_count, value_here, label_value, stack_here, stack_limit, locals_here, locals_limit}
 use Rattle.jm_jasmin.specs.Labels.{end_at, place_at, handler_of, part_of}
-use Rattle.jm_jasmin.specs.Body.{instruction_in, handler_in, line_in, tables_of, empty_between, empty_range_in, empty_range}
-use Rattle.jm_disassembler.specs.Labels.{label_name, instr_targets, handler_places, is_marked}
+use Rattle.jm_jasmin.specs.Body.{checked_locals, checked_count, code_of, instruction_in, handler_in, line_in, tables_of, empty_between, empty_range_in, empty_range}
+use Rattle.jm_disassembler.specs.Labels.{label_name, instr_targets, handler_places, marks_of, is_marked}
 use Rattle.jm_disassembler.specs.Bodies.{lines_said, lines_behind}
 use Rattle.jm_disassembler.proofs.Labels.{same_itself, other_label}
 use Rattle.jm_disassembler.proofs.Switches.{Each, Known, labelled_of, instr_found}
-use Rattle.jm_disassembler.proofs.Marks.{Marked, handler_parts}
-use Rattle.jm_disassembler.proofs.Bodies.{label_items, source_items, body_items, Sayable, EachOf}
+use Rattle.jm_disassembler.proofs.Marks.{Up, Marked, handler_parts, instrs_up, handlers_up, code_marked}
+use Rattle.jm_disassembler.proofs.Bodies.{label_items, source_items, body_items, Sayable, EachOf, behind_range}
 
 -- ---- items one after the other
 
@@ -365,3 +368,187 @@ no_lines_left n (l ∷ ls) h e =
   where
     contradicts : (n m : ℕ) → nat_le n m ≡ true → m < n → ⊥
     contradicts n m h lt = grind (arith, nat_tests)
+
+pub record Tables (ps : List Part) (is : List Instr) (hs : List Handler) (ls : List LineNumber) : Type 0 where
+  pub instructions : flat_map instruction_in ps ≡ is
+  pub handlers : flat_map handler_in ps ≡ hs
+  pub lines : flat_map line_in ps ≡ ls
+
+tables_then : (ps qs : List Part) (is js : List Instr) (hs ks : List Handler) (ls ms : List LineNumber) → Tables ps is hs ls → Tables qs js ks ms
+    → Tables (ps ++ qs) (is ++ js) (hs ++ ks) (ls ++ ms)
+tables_then ps qs is js hs ks ls ms a b = record {
+  instructions = rw (flat_map-append instruction_in ps qs, a.instructions, b.instructions) refl;
+  handlers = rw (flat_map-append handler_in ps qs, a.handlers, b.handlers) refl;
+  lines = rw (flat_map-append line_in ps qs, a.lines, b.lines) refl;
+}
+
+instruction_tables : (i : Instr) (ps : List Part) (is : List Instr) (hs : List Handler) (ls : List LineNumber) → Tables ps is hs ls
+    → Tables (part.Instruction i ∷ ps) (i ∷ is) hs ls
+instruction_tables i ps is hs ls a = record { instructions = ap (λ (x : List Instr). i ∷ x) a.instructions; handlers = a.handlers; lines = a.lines }
+
+label_none : (marks : List Bool) (k : ℕ) → Tables (label_parts marks k) [] [] []
+label_none marks k = let t = label_tables marks k in record { instructions = t.0; handlers = t.1; lines = t.2 }
+
+starts_behind : (n k : ℕ) (ls : List LineNumber) → EachOf (Starts n) ls → EachOf (Starts n) (lines_behind k ls)
+starts_behind n k ls h = behind_range (Starts n) k ls h
+
+pub body_tables : (n : ℕ) (marks : List Bool) (k : ℕ) (is : List Instr) (ls : List LineNumber) → k + length is ≡ n → lines_said k ls ≡ true
+    → EachOf (Starts n) ls → Tables (body_parts marks k is ls) is [] ls
+body_tables n marks k [] ls e said starts =
+    let none : ls ≡ [] = no_lines_left n ls (subst (λ (m : ℕ). lines_said m ls ≡ true) (omega (arith, e)) said) starts in
+    subst (λ (l : List LineNumber). Tables (label_parts marks k) [] [] l) (sym none) (label_none marks k)
+body_tables n marks k (i ∷ is) ls e said starts =
+    let behind : List LineNumber = lines_behind k ls in
+    let more : List Part = body_parts marks (suc k) is behind in
+    let rest = body_tables n marks (suc k) is behind (omega (arith, e)) (behind_said k ls said) (starts_behind n k ls starts) in
+    let s = source_tables k ls in
+    let source : Tables (source_parts k ls) [] [] (flat_map line_in (source_parts k ls)) = record { instructions = s.0; handlers = s.1; lines = refl } in
+    let tail = tables_then (source_parts k ls) (part.Instruction i ∷ more) [] (i ∷ is) [] [] (flat_map line_in (source_parts k ls)) behind source
+        (instruction_tables i more is [] behind rest) in
+    let whole = tables_then (label_parts marks k) (source_parts k ls ++ (part.Instruction i ∷ more)) [] (i ∷ is) [] [] [] (flat_map line_in (source_parts k ls) ++ behind)
+        (label_none marks k) tail in
+    subst (λ (l : List LineNumber). Tables (body_parts marks k (i ∷ is) ls) (i ∷ is) [] l) s.2 whole
+
+-- ---- the exception table
+
+abbrev pub handler_item : Handler → Item
+handler_item h =
+    item.Catch (record { catch_type = h.catch_type; start = label_name h.start; end = label_name h.end; target = label_name h.target; line = 0 })
+
+abbrev pub handler_items : List Handler → List Item
+handler_items [] = []
+handler_items (h ∷ hs) = handler_item h ∷ handler_items hs
+
+abbrev pub handler_row_parts : List Handler → List Part
+handler_row_parts [] = []
+handler_row_parts (h ∷ hs) = part.Handler h ∷ handler_row_parts hs
+
+handler_limit : (hs : List Handler) → NoLimit (handler_items hs)
+handler_limit [] = no_limit_none
+handler_limit (h ∷ hs) = no_limit_more (handler_item h) (handler_items hs) refl refl (handler_limit hs)
+
+handler_count : (hs : List Handler) → instruction_count (handler_items hs) ≡ 0
+unfolding instruction_count
+handler_count [] = refl
+handler_count (h ∷ hs) = rw (handler_count hs) refl
+
+handler_tables : (hs : List Handler) → Tables (handler_row_parts hs) [] hs []
+handler_tables [] = record { instructions = refl; handlers = refl; lines = refl }
+handler_tables (h ∷ hs) =
+    let t = handler_tables hs in
+    record { instructions = t.instructions; handlers = ap (λ (x : List Handler). h ∷ x) t.handlers; lines = t.lines }
+
+module _ (v : List ℕ → Option ℕ) (n : ℕ) where
+  handler_found : (h : Handler) → handler_fits n h ≡ true → Each (Known v) (handler_places h) → part_of v n (handler_item h) ≡ Ok (part.Handler h)
+  unfolding part_of handler_of
+  handler_found h fits known =
+      let p = handler_parts n h fits in
+      let a : nat_lt h.start h.end ≡ true = p.0 in
+      let b : nat_le h.end n ≡ true = p.1 in
+      let start : nat_lt h.start n ≡ true = grind (arith, nat_tests) in
+      rw (known.0, start, known.1.0, known.1.1.0, p.2) refl
+
+  handler_range : (h : Handler) → handler_fits n h ≡ true → Each (Known v) (handler_places h) → empty_range_in v n (handler_item h) ≡ None
+  handler_range h fits known = rw (known.0, known.1.0, (handler_parts n h fits).0) refl
+
+  pub handlers_come : (hs : List Handler) → list_all (handler_fits n) hs ≡ true → Each (Known v) (flat_map handler_places hs)
+      → Comes v n (handler_items hs) (handler_row_parts hs)
+  handlers_come [] fits known = comes_none v n
+  handlers_come (h ∷ hs) fits known =
+      let p = both_true (handler_fits n h) (list_all (handler_fits n) hs) fits in
+      let k = each_front (Known v) (handler_places h) (flat_map handler_places hs) known in
+      comes_more v n (handler_item h) (part.Handler h) (handler_items hs) (handler_row_parts hs) (handler_found h p.0 k.0) (handler_range h p.0 k.0)
+      (handlers_come hs p.1 k.1)
+
+-- ---- the code
+
+abbrev pub code_items : Code → List Item
+code_items c =
+    item.StackLimit c.max_stack ∷ item.LocalsLimit c.max_locals ∷ (handler_items c.handlers ++ body_items (marks_of c) 0 c.instructions c.lines)
+
+-- what is known of a code
+pub record SayableCode (slots : ℕ) (c : Code) : Type 0 where
+  pub few : length c.instructions < 4294967295
+  pub some : nat_lt 0 (length c.instructions) ≡ true
+  pub locals : nat_le slots c.max_locals ≡ true
+  pub instructions : EachOf (Sayable (length c.instructions)) c.instructions
+  pub instructions_fit : list_all (instr_fits (length c.instructions)) c.instructions ≡ true
+  pub handlers : list_all (handler_fits (length c.instructions)) c.handlers ≡ true
+  pub lines : lines_said 0 c.lines ≡ true
+  pub starts : EachOf (Starts (length c.instructions)) c.lines
+
+items_stack : (c : Code) → stack_limit (code_items c) ≡ Some c.max_stack
+unfolding stack_limit
+items_stack c =
+    let rest = no_limit_then (handler_items c.handlers) (body_items (marks_of c) 0 c.instructions c.lines) (handler_limit c.handlers) (body_limit (marks_of c) 0 c.instructions c.lines) in
+    rw rest.stack refl
+
+items_locals : (c : Code) → locals_limit (code_items c) ≡ Some c.max_locals
+unfolding locals_limit
+items_locals c =
+    let rest = no_limit_then (handler_items c.handlers) (body_items (marks_of c) 0 c.instructions c.lines) (handler_limit c.handlers) (body_limit (marks_of c) 0 c.instructions c.lines) in
+    rw rest.locals refl
+
+other_count : (x : Item) (xs : List Item) → instruction_here x ≡ 0 → instruction_count (x ∷ xs) ≡ instruction_count xs
+unfolding instruction_count
+other_count x xs h = omega (arith, h)
+
+items_count : (c : Code) → instruction_count (code_items c) ≡ length c.instructions
+items_count c =
+    let body : List Item = body_items (marks_of c) 0 c.instructions c.lines in
+    let rest : List Item = handler_items c.handlers ++ body in
+    omega (
+      arith,
+      other_count (item.StackLimit c.max_stack) (item.LocalsLimit c.max_locals ∷ rest) refl,
+      other_count (item.LocalsLimit c.max_locals) rest refl,
+      count_append (handler_items c.handlers) body,
+      handler_count c.handlers,
+      body_count (marks_of c) 0 c.instructions c.lines,
+    )
+
+items_label : (c : Code) (t : ℕ) → length c.instructions < 4294967295 → t ≤ length c.instructions → is_marked (marks_of c) t ≡ true
+    → label_value (code_items c) (label_name t) ≡ Some t
+items_label c t few le m =
+    let body : List Item = body_items (marks_of c) 0 c.instructions c.lines in
+    let rest : List Item = handler_items c.handlers ++ body in
+    let found : label_value body (label_name t) ≡ Some t = in_body (marks_of c) 0 t c.instructions c.lines (omega arith) (omega arith) (omega arith) m in
+    instruction_label (item.StackLimit c.max_stack) (item.LocalsLimit c.max_locals ∷ rest) (label_name t) refl
+    ∙ instruction_label (item.LocalsLimit c.max_locals) rest (label_name t) refl
+    ∙ label_append (handler_items c.handlers) body (label_name t) ∙ rw found refl
+
+all_known : (c : Code) (ts : List ℕ) → length c.instructions < 4294967295 → Each (Up (length c.instructions + 1)) ts → Each (Marked (marks_of c)) ts
+    → Each (Known (label_value (code_items c))) ts
+all_known c [] few up m = tt
+all_known c (t ∷ ts) few up m =
+    let lt : t < length c.instructions + 1 = up.0 in
+    (items_label c t few (omega arith) m.0, all_known c ts few up.1 m.1)
+
+-- with the limits, which say nothing else
+limits_come : (v : List ℕ → Option ℕ) (n a b : ℕ) (xs : List Item) (ps : List Part) → Comes v n xs ps
+    → Comes v n (item.StackLimit a ∷ item.LocalsLimit b ∷ xs) (part.Nothing ∷ part.Nothing ∷ ps)
+unfolding part_of
+limits_come v n a b xs ps h =
+    comes_more v n (item.StackLimit a) part.Nothing (item.LocalsLimit b ∷ xs) (part.Nothing ∷ ps) refl refl
+    (comes_more v n (item.LocalsLimit b) part.Nothing xs ps refl refl h)
+
+pub code_comes : (m : Method) (c : Code) → is_abstract m.flags ≡ false → SayableCode (method_slots m) c → code_of m 0 0 (code_items c) ≡ Ok (Some c)
+unfolding code_of checked_locals checked_count tables_of
+code_comes m c concrete s =
+    let n : ℕ = length c.instructions in
+    let xs : List Item = code_items c in
+    let v : List ℕ → Option ℕ = label_value xs in
+    let marks : List Bool = marks_of c in
+    let a = code_marked c s.instructions_fit s.handlers in
+    let targets = all_known c (flat_map instr_targets c.instructions) s.few (instrs_up n c.instructions s.instructions_fit) a.targets in
+    let places = all_known c (flat_map handler_places c.handlers) s.few (handlers_up n c.handlers s.handlers) a.places in
+    let body : List Item = body_items marks 0 c.instructions c.lines in
+    let few : length c.instructions < 4294967295 = s.few in
+    let ps : List Part = handler_row_parts c.handlers ++ body_parts marks 0 c.instructions c.lines in
+    let comes = limits_come v n c.max_stack c.max_locals (handler_items c.handlers ++ body) ps
+        (comes_then v n (handler_items c.handlers) body (handler_row_parts c.handlers) (body_parts marks 0 c.instructions c.lines)
+        (handlers_come v n c.handlers s.handlers places)
+        (body_comes v n (omega arith) marks 0 c.instructions c.lines (omega arith) s.instructions targets)) in
+    let t = tables_then (handler_row_parts c.handlers) (body_parts marks 0 c.instructions c.lines) [] c.instructions c.handlers [] [] c.lines
+        (handler_tables c.handlers) (body_tables n marks 0 c.instructions c.lines (omega arith) s.lines s.starts) in
+    let handlers : flat_map handler_in ps ≡ c.handlers = t.handlers ∙ append-nil c.handlers in
+    rw (items_locals c, concrete, s.locals, items_count c, comes.ranges, comes.parts, s.some, items_stack c, t.instructions, handlers, t.lines) refl

@@ -102,7 +102,7 @@ instr_up count (instr.Invoke op m) h = tt
 instr_up count (instr.New name) h = tt
 instr_up count (instr.Type op c) h = tt
 
-instrs_up : (count : ℕ) (is : List Instr) → list_all (instr_fits count) is ≡ true → Each (Up (count + 1)) (flat_map instr_targets is)
+pub instrs_up : (count : ℕ) (is : List Instr) → list_all (instr_fits count) is ≡ true → Each (Up (count + 1)) (flat_map instr_targets is)
 instrs_up count [] h = tt
 instrs_up count (i ∷ is) h =
     let p = both_true (instr_fits count i) (list_all (instr_fits count) is) h in
@@ -126,7 +126,7 @@ handler_up count h fits =
     let end : h.end < count + 1 = grind (arith, nat_tests) in
     (start, (end, (next count h.target p.2, tt)))
 
-handlers_up : (count : ℕ) (hs : List Handler) → list_all (handler_fits count) hs ≡ true → Each (Up (count + 1)) (flat_map handler_places hs)
+pub handlers_up : (count : ℕ) (hs : List Handler) → list_all (handler_fits count) hs ≡ true → Each (Up (count + 1)) (flat_map handler_places hs)
 handlers_up count [] fits = tt
 handlers_up count (h ∷ hs) fits =
     let p = both_true (handler_fits count h) (list_all (handler_fits count) hs) fits in
