@@ -11,4 +11,6 @@ pub mod Switches
 pub mod Marks
 pub mod Bodies
 pub mod Codes
+pub mod Flags
+pub mod Methods
 

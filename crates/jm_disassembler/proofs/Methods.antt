@@ -1,0 +1,2 @@
+-- The lines of a method.
+use Rattle.std.proofs.Common.{◌≡◌, ℕ}
