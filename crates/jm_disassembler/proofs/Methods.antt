@@ -1,2 +1,243 @@
 -- The lines of a method.
-use Rattle.std.proofs.Common.{◌≡◌, ℕ}
+use Rattle.std.proofs.Common.{◌≡◌, ℕ, zero, suc, ◌+◌, ◌-◌, ◌<◌, ◌≤◌, ◌^◌, ◌==◌, Bool, true, false, not, ◌&&◌, ◌||◌, List, [], ◌∷◌, ◌++◌, length, Option, Some, None, Result, Ok, Err, refl, codes}
+use Rattle.std.proofs.Common.{ap, sym, ◌∙◌, arith, subst, append_assoc, nat_lt, nat_le, get_or}
+use Rattle.std.specs.Prelude.{if◌then◌else◌, All}
+use Rattle.std.specs.List.{list_all, flat_map}
+use Rattle.std.specs.Fmt.{decimal}
+use Rattle.std.proofs.lemmas.List.{append-nil}
+use Rattle.std.proofs.lemmas.Bool.Decides.{nat_tests}
+use Rattle.jm_bytes.specs.Reading.{each}
+use Rattle.jm_program.proofs.DescriptorLaws.{both_true, and_true}
+use Rattle.jm_program.specs.Flags.{is_static, is_synchronized, is_native, is_abstract}
+use Rattle.jm_program.specs.Names.{same_text, is_class_name, is_method_name, is_init, is_clinit}
+use Rattle.jm_program.specs.Texts.{utf16_of}
+use Rattle.jm_program.specs.Descriptors.{argument_slots, field_text, return_text, method_text, is_method_type, is_kept_method_type}
+use Rattle.jm_program.specs.Instructions.{instr_fits}
+use Rattle.jm_program.specs.Codes.{catch_type_fits, handler_fits, line_fits, code_fits}
+use Rattle.jm_program.specs.Fits.{is_class_initializer, is_finalizer, method_slots, body_fits, method_fits}
+use Rattle.jm_program.specs.JasminUnits.{name_text}
+use Rattle.jm_program.specs.JasminTypes.{method_line}
+use Rattle.jm_program.specs.declared.class.Method.{Method}
+use Rattle.jm_program.specs.declared.code.Code.{Code}
+use Rattle.jm_program.specs.declared.code.Handler.{Handler}
+use Rattle.jm_program.specs.declared.code.LineNumber.{LineNumber}
+use Rattle.jm_program.specs.declared.descriptor.MethodDescriptor.{MethodDescriptor}
+use Rattle.jm_program.specs.declared.instruction.symbolic.Instr.{Instr}
+use Rattle.jm_class_format.specs.Members.{own_receiver}
+use Rattle.jm_class_format.specs.Symbols.{class_name_of, method_name_of, method_type_of}
+use Rattle.jm_class_writer.specs.Ranges.{OfSome, UnitsInRange, InstrInRange, HandlerInRange, MethodTypeInRange, MethodInRange}
+use Rattle.jm_class_writer.proofs.PartLaws.{all_tail, all_head}
+use Rattle.jm_class_writer.proofs.Symbols.{class_name_read, method_name_read, method_type_read}
+use Rattle.jm_jasmin.specs.declared.item.Item.{Item}
+use Rattle.jm_jasmin.specs.declared.item.Item.TheVariants as item
+use Rattle.jm_jasmin.specs.MethodHeader.{is_misplaced_abstract, left_out_method}
+use Rattle.jm_jasmin.specs.Items.{instruction_count, label_value, stack_limit, locals_limit, locals_accepted, accepted}
+use Rattle.jm_jasmin.specs.Labels.{part_of}
+use Rattle.jm_jasmin.specs.Body.{empty_range, checked_locals, checked_count, code_of, tables_of}
+use Rattle.jm_jasmin.specs.Methods.{with_code}
+use Rattle.jm_jasmin.specs.WordForms.{Line, bare}
+use Rattle.jm_jasmin.specs.MethodForms.{without_code, no_parenthesis as is_other_unit, catch_row, catch_words, MethodLine, BodyLine, BodyLines, MethodLines}
+use Rattle.jm_jasmin.specs.MethodForms.MethodLine.{method as method_line_is}
+use Rattle.jm_jasmin.specs.MethodForms.BodyLine.{stack, locals, catch, catch_all}
+use Rattle.jm_jasmin.specs.MethodForms.BodyLines.{ends as no_more, and_line}
+use Rattle.jm_jasmin.specs.MethodForms.MethodLines.{method as method_lines_are}
+use Rattle.jm_disassembler.specs.Names.{is_plain, is_sayable, begins_with_quote, is_plain_method_type}
+use Rattle.jm_disassembler.specs.Said.{instr_said, no_parenthesis}
+use Rattle.jm_disassembler.specs.Labels.{label_name, marks_of}
+use Rattle.jm_disassembler.specs.Bodies.{caught_said, handler_said, lines_said, code_said, caught_text, handler_text, limit_text, body_text, code_text}
+use Rattle.jm_disassembler.specs.Flags.{member_rows, flags_text, flags_said}
+use Rattle.jm_disassembler.specs.Members.{flags_note, method_name_said, body_of, method_text as text_of_method}
+use Rattle.jm_disassembler.proofs.Laid.{is_word, begins_word, is_word_byte, apart, Laid, Texts}
+use Rattle.jm_disassembler.proofs.Laid.Laid.{ends, blank, word}
+use Rattle.jm_disassembler.proofs.Laid.Texts.{nothing, line, skip}
+use Rattle.jm_disassembler.proofs.Spelled.{Spelled, then_spelled, name_spelled}
+use Rattle.jm_disassembler.proofs.Types.{ascii_spelled, method_type_spelled}
+use Rattle.jm_disassembler.proofs.Labels.{same_is, name_of_label, name_word}
+use Rattle.jm_disassembler.proofs.Words.{name_begins, class_name_word, method_some}
+use Rattle.jm_disassembler.proofs.Instructions.{short_is, decimal_word}
+use Rattle.jm_disassembler.proofs.Marks.{handler_parts}
+use Rattle.jm_disassembler.proofs.Bodies.{EachOf, Sayable, LineInRange, Before, before_other, body_lines, body_items, body_laid, body_goes}
+use Rattle.jm_disassembler.proofs.Codes.{Starts, SayableCode, handler_item, handler_items, code_items, code_comes}
+use Rattle.jm_disassembler.proofs.Flags.{flag_words, member_flags, flags_are, flags_laid, flags_note_laid, flags_note_apart}
+
+-- ---- a code that can be said
+
+-- each number of it is one of its type
+pub record CodeNumbers (c : Code) : Type 0 where
+  pub stack : c.max_stack < 2 ^ 16
+  pub locals : c.max_locals < 2 ^ 16
+  pub lines : EachOf LineInRange c.lines
+  pub instructions : All InstrInRange c.instructions
+  pub handlers : All HandlerInRange c.handlers
+
+sayable_all : (n : ℕ) (is : List Instr) → list_all (instr_fits n) is ≡ true → list_all instr_said is ≡ true → All InstrInRange is → EachOf (Sayable n) is
+sayable_all n [] fits said range = tt
+sayable_all n (i ∷ is) fits said range =
+    let a = both_true (instr_fits n i) (list_all (instr_fits n) is) fits in
+    let b = both_true (instr_said i) (list_all instr_said is) said in
+    (record { fits = a.0; said = b.0; range = all_head InstrInRange i is range }, sayable_all n is a.1 b.1 (all_tail InstrInRange i is range))
+
+starts_all : (n : ℕ) (ls : List LineNumber) → list_all (line_fits n) ls ≡ true → EachOf (Starts n) ls
+starts_all n [] h = tt
+starts_all n (l ∷ ls) h =
+    let p = both_true (line_fits n l) (list_all (line_fits n) ls) h in
+    let fits : nat_lt l.start n ≡ true = p.0 in
+    (below l.start n fits, starts_all n ls p.1)
+  where
+    below : (a b : ℕ) → nat_lt a b ≡ true → a < b
+    below a b h = grind (arith, nat_tests)
+
+pub code_sayable : (slots : ℕ) (c : Code) → code_fits slots c ≡ true → code_said c ≡ true → CodeNumbers c → SayableCode slots c
+code_sayable slots c fits said numbers =
+    let n : ℕ = length c.instructions in
+    let a = both_true (nat_le slots c.max_locals && nat_lt 0 n && list_all (instr_fits n) c.instructions && list_all (handler_fits n) c.handlers)
+        (list_all (line_fits n) c.lines) fits in
+    let b = both_true (nat_le slots c.max_locals && nat_lt 0 n && list_all (instr_fits n) c.instructions) (list_all (handler_fits n) c.handlers) a.0 in
+    let d = both_true (nat_le slots c.max_locals && nat_lt 0 n) (list_all (instr_fits n) c.instructions) b.0 in
+    let e = both_true (nat_le slots c.max_locals) (nat_lt 0 n) d.0 in
+    let p = both_true (nat_lt n 4294967295 && list_all instr_said c.instructions && list_all handler_said c.handlers) (lines_said 0 c.lines) said in
+    let q = both_true (nat_lt n 4294967295 && list_all instr_said c.instructions) (list_all handler_said c.handlers) p.0 in
+    let r = both_true (nat_lt n 4294967295) (list_all instr_said c.instructions) q.0 in
+    let few : nat_lt n 4294967295 ≡ true = r.0 in
+    record {
+      few = grind (arith, nat_tests);
+      some = e.1;
+      locals = e.0;
+      instructions = sayable_all n c.instructions d.1 r.1 numbers.instructions;
+      instructions_fit = d.1;
+      handlers = b.1;
+      lines = p.1;
+      starts = starts_all n c.lines a.1;
+    }
+
+pub handlers_said : (c : Code) → code_said c ≡ true → list_all handler_said c.handlers ≡ true
+handlers_said c said =
+    let n : ℕ = length c.instructions in
+    let p = both_true (nat_lt n 4294967295 && list_all instr_said c.instructions && list_all handler_said c.handlers) (lines_said 0 c.lines) said in
+    (both_true (nat_lt n 4294967295 && list_all instr_said c.instructions) (list_all handler_said c.handlers) p.0).1
+
+-- ---- the exception table
+
+abbrev pub handler_words : Handler → Line
+handler_words h = catch_words (caught_text h.catch_type) (label_name h.start) (label_name h.end) (label_name h.target)
+
+abbrev pub handler_rows : List Handler → List Line
+handler_rows [] = []
+handler_rows (h ∷ hs) = handler_words h ∷ handler_rows hs
+
+caught_word : (o : Option (List ℕ)) → catch_type_fits o ≡ true → caught_said o ≡ true → OfSome UnitsInRange o → is_word (caught_text o) ≡ true
+caught_word None fits said range = refl
+caught_word (Some name) fits said range =
+    class_name_word name fits (both_true (is_sayable name) (if same_text name (codes "all") then false else true) said).0 range
+
+-- the places of a row are instructions, of so many
+places_few : (n : ℕ) (h : Handler) → n < 2 ^ 64 → handler_fits n h ≡ true → (h.start < 2 ^ 64) × (h.end < 2 ^ 64) × (h.target < 2 ^ 64)
+places_few n h few fits =
+    let p = handler_parts n h fits in
+    let a : nat_lt h.start h.end ≡ true = p.0 in
+    let b : nat_le h.end n ≡ true = p.1 in
+    let c : nat_lt h.target n ≡ true = p.2 in
+    let start : h.start < 2 ^ 64 = grind (arith, nat_tests) in
+    let end : h.end < 2 ^ 64 = grind (arith, nat_tests) in
+    let target : h.target < 2 ^ 64 = grind (arith, nat_tests) in
+    (start, end, target)
+
+handler_laid : (n : ℕ) (h : Handler) → n < 2 ^ 64 → handler_fits n h ≡ true → handler_said h ≡ true → HandlerInRange h → Laid (handler_text h) (handler_words h)
+unfolding handler_text
+handler_laid n h few fits said range =
+    let p = places_few n h few fits in
+    let caught = caught_word h.catch_type (handler_parts n h fits).3 said range in
+    let target : Laid (label_name h.target ++ 10 ∷ []) (bare (label_name h.target) ∷ []) = word (label_name h.target) (name_word h.target p.2) refl ends in
+    let using_it = blank (word (codes "using") refl refl (blank target)) in
+    let end = word (label_name h.end) (name_word h.end p.1) refl using_it in
+    let to_end = blank (word (codes "to") refl refl (blank end)) in
+    let start = word (label_name h.start) (name_word h.start p.0) refl to_end in
+    let from_start = blank (word (codes "from") refl refl (blank start)) in
+    blank (blank (word (codes ".catch") refl refl (blank (word (caught_text h.catch_type) caught refl from_start))))
+
+handlers_laid : (n : ℕ) (hs : List Handler) → n < 2 ^ 64 → list_all (handler_fits n) hs ≡ true → list_all handler_said hs ≡ true → All HandlerInRange hs
+    → (rest : List ℕ) (lines : List Line) → Texts rest lines → Texts (flat_map handler_text hs ++ rest) (handler_rows hs ++ lines)
+handlers_laid n [] few fits said range rest lines t = t
+handlers_laid n (h ∷ hs) few fits said range rest lines t =
+    let a = both_true (handler_fits n h) (list_all (handler_fits n) hs) fits in
+    let b = both_true (handler_said h) (list_all handler_said hs) said in
+    subst (λ (x : List ℕ). Texts x (handler_rows (h ∷ hs) ++ lines)) (sym (append_assoc (handler_text h) (flat_map handler_text hs) rest))
+    (line (handler_laid n h few a.0 b.0 (all_head HandlerInRange h hs range)) (handlers_laid n hs few a.1 b.1 (all_tail HandlerInRange h hs range) rest lines t))
+
+not_all : (name : List ℕ) → is_plain name ≡ true → UnitsInRange name → (if same_text name (codes "all") then false else true) ≡ true
+    → same_text (name_text name) (codes "all") ≡ false
+not_all name plain range said = by (same_text (name_text name) (codes "all")) refl
+  where
+    test : (b : Bool) → (if b then false else true) ≡ true → b ≡ false
+    test true h = absurd cc
+    test false h = refl
+    same_as : name ≡ codes "all" → same_text name (codes "all") ≡ true
+    same_as e = ap (λ (n : List ℕ). same_text n (codes "all")) e
+    by : (b : Bool) → same_text (name_text name) (codes "all") ≡ b → b ≡ false
+    by true e =
+        let text : name_text name ≡ codes "all" = same_is (name_text name) (codes "all") e in
+        let same : name ≡ codes "all" =
+            sym (name_spelled name plain range).units_are ∙ ap utf16_of text ∙ (ascii_spelled (codes "all") refl).units_are in
+        absurd (cc (same_as same, test (same_text name (codes "all")) said))
+    by false e = refl
+
+caught_form : (before : ℕ) (o : Option (List ℕ)) (start end target : List ℕ) → catch_type_fits o ≡ true → caught_said o ≡ true → OfSome UnitsInRange o
+    → BodyLine before (catch_words (caught_text o) start end target) (item.Catch (catch_row o start end target))
+caught_form before None start end target fits said range = catch_all start end target
+caught_form before (Some name) start end target fits said range =
+    let p = both_true (is_sayable name) (if same_text name (codes "all") then false else true) said in
+    let plain = (both_true (not (begins_with_quote name)) (is_plain name) p.0).1 in
+    let read : class_name_of (utf16_of (name_text name)) ≡ Ok name = ap class_name_of (name_spelled name plain range).units_are ∙ class_name_read name fits in
+    catch (name_text name) start end target name (not_all name plain range p.1) read
+
+handler_form : (n before : ℕ) (h : Handler) → n < 2 ^ 64 → handler_fits n h ≡ true → handler_said h ≡ true → HandlerInRange h
+    → BodyLine before (handler_words h) (handler_item h)
+handler_form n before h few fits said range =
+    let p = places_few n h few fits in
+    let form = caught_form before h.catch_type (label_name h.start) (label_name h.end) (label_name h.target) (handler_parts n h fits).3 said range in
+    let same : item.Catch (catch_row h.catch_type (label_name h.start) (label_name h.end) (label_name h.target)) ≡ handler_item h =
+        rw ((name_of_label h.start p.0).units_are, (name_of_label h.end p.1).units_are, (name_of_label h.target p.2).units_are) refl in
+    subst (λ (x : Item). BodyLine before (handler_words h) x) same form
+
+module _ (m : Method) where
+  handlers_go : (n : ℕ) (hs : List Handler) → n < 2 ^ 64 → list_all (handler_fits n) hs ≡ true → list_all handler_said hs ≡ true → All HandlerInRange hs
+      → (pre : List Item) (lines : List Line) (items : List Item) → Before pre 0 0 → ((pre2 : List Item) → Before pre2 0 0 → BodyLines m pre2 lines (pre2 ++ items))
+      → BodyLines m pre (handler_rows hs ++ lines) (pre ++ (handler_items hs ++ items))
+  handlers_go n [] few fits said range pre lines items b more = more pre b
+  handlers_go n (h ∷ hs) few fits said range pre lines items b more =
+      let p = both_true (handler_fits n h) (list_all (handler_fits n) hs) fits in
+      let q = both_true (handler_said h) (list_all handler_said hs) said in
+      let x : Item = handler_item h in
+      let next = handlers_go n hs few p.1 q.1 (all_tail HandlerInRange h hs range) (pre ++ x ∷ []) lines items (before_other pre 0 0 x (λ name. refl) refl b) more in
+      and_line pre (handler_words h) x (handler_form n (instruction_count pre) h few p.0 q.0 (all_head HandlerInRange h hs range)) refl
+      (subst (λ (all : List Item). BodyLines m (pre ++ x ∷ []) (handler_rows hs ++ lines) all) (append_assoc pre (x ∷ []) (handler_items hs ++ items)) next)
+
+-- ---- the lines of a code
+
+abbrev pub stack_words : Code → Line
+stack_words c = bare (codes ".limit") ∷ bare (codes "stack") ∷ bare (decimal c.max_stack) ∷ []
+
+abbrev pub locals_words : Code → Line
+locals_words c = bare (codes ".limit") ∷ bare (codes "locals") ∷ bare (decimal c.max_locals) ∷ []
+
+abbrev pub code_lines : Code → List Line
+code_lines c = stack_words c ∷ locals_words c ∷ (handler_rows c.handlers ++ body_lines (marks_of c) 0 c.instructions c.lines)
+
+limits_laid : (c : Code) → CodeNumbers c → (rest : List ℕ) (lines : List Line) → Texts rest lines
+    → Texts (limit_text c ++ rest) (stack_words c ∷ locals_words c ∷ lines)
+unfolding limit_text
+limits_laid c numbers rest lines t =
+    let s : List ℕ = decimal c.max_stack in
+    let l : List ℕ = decimal c.max_locals in
+    let stack_lt : c.max_stack < 2 ^ 16 = numbers.stack in
+    let locals_lt : c.max_locals < 2 ^ 16 = numbers.locals in
+    let first : List ℕ = codes "  .limit stack " ++ (s ++ 10 ∷ []) in
+    let second : List ℕ = codes "  .limit locals " ++ (l ++ 10 ∷ []) in
+    let stack_laid : Laid first (stack_words c) =
+        blank (blank (word (codes ".limit") refl refl (blank (word (codes "stack") refl refl (blank (word s (decimal_word c.max_stack (omega arith)) refl ends)))))) in
+    let locals_laid : Laid second (locals_words c) =
+        blank (blank (word (codes ".limit") refl refl (blank (word (codes "locals") refl refl (blank (word l (decimal_word c.max_locals (omega arith)) refl ends)))))) in
+    let parts : (s ++ (10 ∷ second)) ++ rest ≡ (s ++ 10 ∷ []) ++ (second ++ rest) =
+        append_assoc s (10 ∷ second) rest ∙ sym (append_assoc s (10 ∷ []) (second ++ rest)) in
+    subst (λ (x : List ℕ). Texts (codes "  .limit stack " ++ x) (stack_words c ∷ locals_words c ∷ lines)) (sym parts)
+    (line stack_laid (line locals_laid t))
