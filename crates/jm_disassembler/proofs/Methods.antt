@@ -241,3 +241,250 @@ limits_laid c numbers rest lines t =
         append_assoc s (10 ∷ second) rest ∙ sym (append_assoc s (10 ∷ []) (second ++ rest)) in
     subst (λ (x : List ℕ). Texts (codes "  .limit stack " ++ x) (stack_words c ∷ locals_words c ∷ lines)) (sym parts)
     (line stack_laid (line locals_laid t))
+
+code_laid : (commented : Bool) (slots : ℕ) (c : Code) → SayableCode slots c → list_all handler_said c.handlers ≡ true → CodeNumbers c
+    → (rest : List ℕ) (lines : List Line) → Texts rest lines → Texts (code_text commented c ++ rest) (code_lines c ++ lines)
+unfolding code_text
+code_laid commented slots c s hs numbers rest lines t =
+    let n : ℕ = length c.instructions in
+    let few : n < 4294967295 = s.few in
+    let body : List ℕ = body_text commented (marks_of c) 0 c.instructions c.lines in
+    let rows : List Line = body_lines (marks_of c) 0 c.instructions c.lines in
+    let hts : List ℕ = flat_map handler_text c.handlers in
+    let with_body = body_laid commented (marks_of c) n 0 c.instructions c.lines (omega arith) (omega arith) s.instructions numbers.lines rest lines t in
+    let with_handlers = handlers_laid n c.handlers (omega arith) s.handlers hs numbers.handlers (body ++ rest) (rows ++ lines) with_body in
+    let with_limits = limits_laid c numbers (hts ++ (body ++ rest)) (handler_rows c.handlers ++ (rows ++ lines)) with_handlers in
+    let texts : (limit_text c ++ (hts ++ body)) ++ rest ≡ limit_text c ++ (hts ++ (body ++ rest)) =
+        append_assoc (limit_text c) (hts ++ body) rest ∙ ap (λ (x : List ℕ). limit_text c ++ x) (append_assoc hts body rest) in
+    subst (λ (x : List ℕ). Texts x (code_lines c ++ lines)) (sym texts)
+    (subst (λ (ls : List Line). Texts (limit_text c ++ (hts ++ (body ++ rest))) (stack_words c ∷ locals_words c ∷ ls)) (sym (append_assoc (handler_rows c.handlers) rows lines))
+    with_limits)
+
+before_limits : (a b : ℕ) → Before (item.StackLimit a ∷ item.LocalsLimit b ∷ []) 0 0
+unfolding instruction_count label_value
+before_limits a b = record { counted = refl; fresh = λ t h lt. refl }
+
+code_goes : (m : Method) (c : Code) → is_abstract m.flags ≡ false → SayableCode (method_slots m) c → list_all handler_said c.handlers ≡ true → CodeNumbers c
+    → BodyLines m [] (code_lines c) (code_items c)
+unfolding stack_limit locals_limit locals_accepted
+code_goes m c concrete s hs numbers =
+    let n : ℕ = length c.instructions in
+    let few : n < 4294967295 = s.few in
+    let first : Item = item.StackLimit c.max_stack in
+    let second : Item = item.LocalsLimit c.max_locals in
+    let body : List Item = body_items (marks_of c) 0 c.instructions c.lines in
+    let fine : accepted m 0 (first ∷ []) second ≡ Ok tt = rw (concrete, s.locals) refl in
+    and_line [] (stack_words c) first (stack (decimal c.max_stack) c.max_stack (short_is c.max_stack numbers.stack)) refl
+    (and_line (first ∷ []) (locals_words c) second (locals (decimal c.max_locals) c.max_locals (short_is c.max_locals numbers.locals)) fine
+    (handlers_go m n c.handlers (omega arith) s.handlers hs numbers.handlers (first ∷ second ∷ []) (body_lines (marks_of c) 0 c.instructions c.lines) body
+    (before_limits c.max_stack c.max_locals)
+    (λ pre b. body_goes m (marks_of c) n 0 c.instructions c.lines pre concrete (omega arith) (omega arith) s.instructions numbers.lines b)))
+
+-- ---- the declaration
+
+-- what is known of a method
+pub record SayableMethod (in_interface : Bool) (m : Method) : Type 0 where
+  pub fits : method_fits in_interface m ≡ true
+  pub flags : flags_said 0 m.flags.bits member_rows ≡ true
+  pub name : method_name_said m.name ≡ true
+  pub types : is_plain_method_type m.descriptor ≡ true
+  pub code : OfSome (λ c. (code_said c ≡ true) × CodeNumbers c) m.code
+  pub name_range : UnitsInRange m.name
+  pub types_range : MethodTypeInRange m.descriptor
+
+-- the rules of a method, one by one
+record MethodRules (in_interface : Bool) (m : Method) : Type 0 where
+  name : is_method_name m.name ≡ true
+  types : is_method_type m.descriptor ≡ true
+  kept : is_kept_method_type m.descriptor ≡ true
+  few : nat_le (method_slots m) 255 ≡ true
+  alone : (is_static m.flags && is_synchronized m.flags) ≡ false
+  ends_well : is_finalizer m ≡ false
+  body : body_fits in_interface m m.code ≡ true
+
+not_true : (b : Bool) → not b ≡ true → b ≡ false
+not_true true h = absurd cc
+not_true false h = refl
+
+rules_of : (in_interface : Bool) (m : Method) → method_fits in_interface m ≡ true → MethodRules in_interface m
+rules_of in_interface m h =
+    let n : Bool = is_method_name m.name in
+    let t : Bool = is_method_type m.descriptor in
+    let k : Bool = is_kept_method_type m.descriptor in
+    let f : Bool = nat_le (method_slots m) 255 in
+    let x : Bool = not (is_native m.flags) in
+    let s : Bool = not (is_static m.flags && is_synchronized m.flags) in
+    let e : Bool = not (is_finalizer m) in
+    let a = both_true (n && t && k && f && x && s && e) (body_fits in_interface m m.code) h in
+    let b = both_true (n && t && k && f && x && s) e a.0 in
+    let c = both_true (n && t && k && f && x) s b.0 in
+    let d = both_true (n && t && k && f) x c.0 in
+    let g = both_true (n && t && k) f d.0 in
+    let i = both_true (n && t) k g.0 in
+    let j = both_true n t i.0 in
+    record {
+      name = j.0;
+      types = j.1;
+      kept = i.1;
+      few = g.1;
+      alone = not_true (is_static m.flags && is_synchronized m.flags) c.1;
+      ends_well = not_true (is_finalizer m) b.1;
+      body = a.1;
+    }
+
+abbrev pub declared : Method → Method
+declared m = without_code m.flags.bits m.name m.descriptor
+
+misplaced : (in_interface : Bool) (m : Method) (o : Option Code) → body_fits in_interface m o ≡ true → is_misplaced_abstract (declared m) ≡ false
+unfolding is_misplaced_abstract
+misplaced in_interface m None h =
+    let a = both_true (is_abstract m.flags && not (is_static m.flags) && not (is_init m.name)) (not (is_clinit m.name)) h in
+    let b = both_true (is_abstract m.flags && not (is_static m.flags)) (not (is_init m.name)) a.0 in
+    let c = both_true (is_abstract m.flags) (not (is_static m.flags)) b.0 in
+    rw (c.0, not_true (is_static m.flags) c.1, not_true (is_init m.name) b.1, not_true (is_clinit m.name) a.1) refl
+misplaced in_interface m (Some code) h =
+    let a = both_true (not (is_abstract m.flags) && (not in_interface || is_class_initializer m)) (code_fits (method_slots m) code) h in
+    let b = both_true (not (is_abstract m.flags)) (not in_interface || is_class_initializer m) a.0 in
+    rw (not_true (is_abstract m.flags) b.0) refl
+
+-- what an interface does not leave out
+interface_keeps : (in_interface : Bool) (m : Method) (o : Option Code) → body_fits in_interface m o ≡ true
+    → (in_interface && not (is_abstract m.flags) && not (is_class_initializer m)) ≡ false
+interface_keeps in_interface m None h =
+    let a = both_true (is_abstract m.flags && not (is_static m.flags) && not (is_init m.name)) (not (is_clinit m.name)) h in
+    let b = both_true (is_abstract m.flags && not (is_static m.flags)) (not (is_init m.name)) a.0 in
+    let c = both_true (is_abstract m.flags) (not (is_static m.flags)) b.0 in
+    by in_interface (is_abstract m.flags) (is_class_initializer m) c.0
+  where
+    by : (i a c : Bool) → a ≡ true → (i && not a && not c) ≡ false
+    by true true c e = refl
+    by true false c e = absurd cc
+    by false a c e = refl
+interface_keeps in_interface m (Some code) h =
+    let a = both_true (not (is_abstract m.flags) && (not in_interface || is_class_initializer m)) (code_fits (method_slots m) code) h in
+    let b = both_true (not (is_abstract m.flags)) (not in_interface || is_class_initializer m) a.0 in
+    by in_interface (is_abstract m.flags) (is_class_initializer m) b.1
+  where
+    by : (i a c : Bool) → (not i || c) ≡ true → (i && not a && not c) ≡ false
+    by true true c e = refl
+    by true false true e = refl
+    by true false false e = absurd cc
+    by false a c e = refl
+
+nothing_left_out : (in_interface : Bool) (m : Method) → MethodRules in_interface m → left_out_method in_interface (declared m) ≡ None
+unfolding left_out_method
+nothing_left_out in_interface m r = rw (r.alone, r.ends_well, interface_keeps in_interface m m.code r.body) refl
+
+-- NAME(TYPES)TYPE
+abbrev pub declared_word : Method → List ℕ
+declared_word m = name_text m.name ++ method_line m.descriptor
+
+declared_spelled : (in_interface : Bool) (m : Method) → SayableMethod in_interface m → Spelled (declared_word m) (m.name ++ method_text m.descriptor)
+declared_spelled in_interface m s =
+    let p = both_true (is_sayable m.name) (no_parenthesis m.name) s.name in
+    let plain = (both_true (not (begins_with_quote m.name)) (is_plain m.name) p.0).1 in
+    then_spelled (name_text m.name) (method_line m.descriptor) m.name (method_text m.descriptor) (name_spelled m.name plain s.name_range)
+    (method_type_spelled m.descriptor s.types s.types_range)
+
+declared_is_word : (in_interface : Bool) (m : Method) → SayableMethod in_interface m → is_word (declared_word m) ≡ true
+declared_is_word in_interface m s =
+    let r = rules_of in_interface m s.fits in
+    let p = both_true (is_sayable m.name) (no_parenthesis m.name) s.name in
+    and_true (begins_word (declared_word m)) (list_all is_word_byte (declared_word m)) (name_begins m.name (method_line m.descriptor) (method_some m.name r.name) p.0)
+    (declared_spelled in_interface m s).bytes
+
+abbrev pub head_words : Method → Line
+head_words m = bare (codes ".method") ∷ (flag_words m.flags.bits member_rows ++ bare (declared_word m) ∷ [])
+
+head_form : (in_interface : Bool) (m : Method) → SayableMethod in_interface m → MethodLine in_interface (head_words m) (declared m)
+head_form in_interface m s =
+    let r = rules_of in_interface m s.fits in
+    let p = both_true (is_sayable m.name) (no_parenthesis m.name) s.name in
+    let few : nat_le (argument_slots m.descriptor + own_receiver m.flags) 255 ≡ true = r.few in
+    method_line_is (flag_words m.flags.bits member_rows) (declared_word m) m.name (flat_map field_text m.descriptor.parameters ++ 41 ∷ return_text m.descriptor.return_type)
+    m.flags.bits m.descriptor (flags_are 0 m.flags.bits member_rows member_flags s.flags) (declared_spelled in_interface m s).units_are p.1
+    (method_name_read m.name r.name) (method_type_read (own_receiver m.flags) m.descriptor r.types r.kept few)
+    (misplaced in_interface m m.code r.body) (nothing_left_out in_interface m r)
+
+-- ---- the method
+
+abbrev pub lines_of_body : Option Code → List Line
+lines_of_body None = []
+lines_of_body (Some c) = code_lines c
+
+abbrev pub items_of_body : Option Code → List Item
+items_of_body None = []
+items_of_body (Some c) = code_items c
+
+abbrev pub end_words : Line
+end_words = bare (codes ".end") ∷ bare (codes "method") ∷ []
+
+abbrev pub method_lines : Method → List Line
+method_lines m = head_words m ∷ (lines_of_body m.code ++ end_words ∷ [])
+
+concrete_of : (in_interface : Bool) (m : Method) (c : Code) → body_fits in_interface m (Some c) ≡ true → (is_abstract m.flags ≡ false) × (code_fits (method_slots m) c ≡ true)
+concrete_of in_interface m c h =
+    let a = both_true (not (is_abstract m.flags) && (not in_interface || is_class_initializer m)) (code_fits (method_slots m) c) h in
+    let b = both_true (not (is_abstract m.flags)) (not in_interface || is_class_initializer m) a.0 in
+    (not_true (is_abstract m.flags) b.0, a.1)
+
+abstract_of : (in_interface : Bool) (m : Method) → body_fits in_interface m None ≡ true → is_abstract m.flags ≡ true
+abstract_of in_interface m h =
+    let a = both_true (is_abstract m.flags && not (is_static m.flags) && not (is_init m.name)) (not (is_clinit m.name)) h in
+    let b = both_true (is_abstract m.flags && not (is_static m.flags)) (not (is_init m.name)) a.0 in
+    (both_true (is_abstract m.flags) (not (is_static m.flags)) b.0).0
+
+no_code : (m : Method) → is_abstract m.flags ≡ true → code_of m 0 0 [] ≡ Ok None
+unfolding code_of checked_locals checked_count each empty_range
+no_code m h = rw h refl
+
+body_goes_on : (in_interface : Bool) (m : Method) (o : Option Code) → body_fits in_interface m o ≡ true → OfSome (λ c. (code_said c ≡ true) × CodeNumbers c) o
+    → BodyLines (declared m) [] (lines_of_body o) (items_of_body o) × (code_of (declared m) 0 0 (items_of_body o) ≡ Ok o)
+body_goes_on in_interface m None fits said = (no_more [], no_code (declared m) (abstract_of in_interface m fits))
+body_goes_on in_interface m (Some c) fits said =
+    let p = concrete_of in_interface m c fits in
+    let s = code_sayable (method_slots m) c p.1 said.0 said.1 in
+    (code_goes (declared m) c p.0 s (handlers_said c said.0) said.1, code_comes (declared m) c p.0 s)
+
+pub method_form : (in_interface : Bool) (m : Method) → SayableMethod in_interface m → MethodLines in_interface (method_lines m) m
+method_form in_interface m s =
+    let r = rules_of in_interface m s.fits in
+    let b = body_goes_on in_interface m m.code r.body s.code in
+    method_lines_are (head_words m) (lines_of_body m.code) (declared m) (items_of_body m.code) m.code (head_form in_interface m s) b.0 b.1
+
+body_laid_out : (commented in_interface : Bool) (m : Method) (o : Option Code) → body_fits in_interface m o ≡ true → OfSome (λ c. (code_said c ≡ true) × CodeNumbers c) o
+    → (rest : List ℕ) (lines : List Line) → Texts rest lines → Texts (body_of commented o ++ rest) (lines_of_body o ++ lines)
+body_laid_out commented in_interface m None fits said rest lines t = t
+body_laid_out commented in_interface m (Some c) fits said rest lines t =
+    let p = concrete_of in_interface m c fits in
+    code_laid commented (method_slots m) c (code_sayable (method_slots m) c p.1 said.0 said.1) (handlers_said c said.0) said.1 rest lines t
+
+pub method_laid : (commented in_interface : Bool) (m : Method) → SayableMethod in_interface m → (rest : List ℕ) (lines : List Line) → Texts rest lines
+    → Texts (text_of_method commented m ++ rest) (method_lines m ++ lines)
+unfolding text_of_method
+method_laid commented in_interface m s rest lines t =
+    let r = rules_of in_interface m s.fits in
+    let flags : List ℕ = flags_text m.flags.bits member_rows in
+    let w : List ℕ = declared_word m in
+    let note : List ℕ = flags_note commented m.flags.bits (flags_said 0 m.flags.bits member_rows) in
+    let body : List ℕ = body_of commented m.code in
+    let end : List ℕ = codes ".end method\n" in
+    let end_laid : Laid end end_words = word (codes ".end") refl refl (blank (word (codes "method") refl refl ends)) in
+    let with_end : Texts (end ++ rest) (end_words ∷ lines) = line end_laid t in
+    let with_body = body_laid_out commented in_interface m m.code r.body s.code (end ++ rest) (end_words ∷ lines) with_end in
+    let name_laid : Laid (w ++ note) (bare w ∷ []) =
+        word w (declared_is_word in_interface m s) (flags_note_apart commented m.flags.bits _ s.flags) (flags_note_laid commented m.flags.bits _ s.flags) in
+    let head_laid : Laid (codes ".method " ++ (flags ++ (w ++ note))) (head_words m) =
+        word (codes ".method") refl refl (blank (flags_laid m.flags.bits member_rows member_flags (w ++ note) (bare w ∷ []) name_laid)) in
+    let whole = skip ends (line head_laid with_body) in
+    let inner : (name_text m.name ++ (method_line m.descriptor ++ (note ++ (body ++ end)))) ++ rest ≡ (w ++ note) ++ (body ++ (end ++ rest)) =
+        append_assoc (name_text m.name) (method_line m.descriptor ++ (note ++ (body ++ end))) rest
+        ∙ ap (λ (x : List ℕ). name_text m.name ++ x) (append_assoc (method_line m.descriptor) (note ++ (body ++ end)) rest
+        ∙ ap (λ (x : List ℕ). method_line m.descriptor ++ x) (append_assoc note (body ++ end) rest ∙ ap (λ (x : List ℕ). note ++ x) (append_assoc body end rest)))
+        ∙ sym (append_assoc (name_text m.name) (method_line m.descriptor) (note ++ (body ++ (end ++ rest)))) ∙ sym (append_assoc w note (body ++ (end ++ rest))) in
+    let texts : (flags ++ (name_text m.name ++ (method_line m.descriptor ++ (note ++ (body ++ end))))) ++ rest ≡ (flags ++ (w ++ note)) ++ (body ++ (end ++ rest)) =
+        append_assoc flags (name_text m.name ++ (method_line m.descriptor ++ (note ++ (body ++ end)))) rest ∙ ap (λ (x : List ℕ). flags ++ x) inner
+        ∙ sym (append_assoc flags (w ++ note) (body ++ (end ++ rest))) in
+    subst (λ (x : List ℕ). Texts (codes "\n.method " ++ x) (method_lines m ++ lines)) (sym texts)
+    (subst (λ (ls : List Line). Texts (codes "\n.method " ++ ((flags ++ (w ++ note)) ++ (body ++ (end ++ rest)))) (head_words m ∷ ls))
+    (sym (append_assoc (lines_of_body m.code) (end_words ∷ []) lines)) whole)
