@@ -13,4 +13,7 @@ pub mod Bodies
 pub mod Codes
 pub mod Flags
 pub mod Methods
+pub mod Fields
+pub mod Headers
+pub mod Classes
 

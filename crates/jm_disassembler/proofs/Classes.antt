@@ -1,0 +1,2 @@
+-- The text of a class.
+use Rattle.std.proofs.Common.{◌≡◌, ℕ}
