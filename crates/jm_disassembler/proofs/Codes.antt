@@ -32,7 +32,8 @@ use Rattle.jm_jasmin.specs.Items.{instruction_here, instruction_count, value_her
 use Rattle.jm_jasmin.specs.Labels.{end_at, place_at, handler_of, part_of}
 use Rattle.jm_jasmin.specs.Body.{checked_locals, checked_count, code_of, instruction_in, handler_in, line_in, tables_of, empty_between, empty_range_in, empty_range}
 use Rattle.jm_disassembler.specs.Labels.{label_name, instr_targets, handler_places, marks_of, is_marked}
-use Rattle.jm_disassembler.specs.Bodies.{lines_said, lines_behind}
+use Rattle.jm_disassembler.specs.Bodies.{row_said, lines_said, lines_behind}
+use Rattle.jm_disassembler.specs.Said.{is_short}
 use Rattle.jm_disassembler.proofs.Labels.{same_itself, other_label}
 use Rattle.jm_disassembler.proofs.Switches.{Each, Known, labelled_of, instr_found}
 use Rattle.jm_disassembler.proofs.Marks.{Up, Marked, handler_parts, instrs_up, handlers_up, code_marked}
@@ -341,18 +342,23 @@ source_tables k (l ∷ ls) = by (l.start == k) (source_tables k ls)
     by true h = (h.0, h.1, ap (λ (x : List LineNumber). l ∷ x) h.2)
     by false h = (refl, refl, refl)
 
+above : (k n : ℕ) → (n == k) ≡ false → nat_le k n ≡ true → nat_le (suc k) n ≡ true
+above k n e h = grind (arith, nat_tests)
+
 -- the lines that are left begin behind the instructions
 behind_said : (k : ℕ) (ls : List LineNumber) → lines_said k ls ≡ true → lines_said (suc k) (lines_behind k ls) ≡ true
 behind_said k [] h = refl
 behind_said k (l ∷ ls) h =
-    let p = both_true (nat_le k l.start) (lines_said l.start ls) h in
-    by (l.start == k) refl p.0 p.1
+    let p = both_true (row_said k l) (lines_said l.start ls) h in
+    let q = both_true (nat_le k l.start) (is_short l.line) p.0 in
+    by (l.start == k) refl q.0 q.1 p.1
     (λ e. behind_said k ls (subst (λ (n : ℕ). lines_said n ls ≡ true) e p.1))
   where
-    by : (b : Bool) → (l.start == k) ≡ b → nat_le k l.start ≡ true → lines_said l.start ls ≡ true → (l.start ≡ k → lines_said (suc k) (lines_behind k ls) ≡ true)
+    by : (b : Bool) → (l.start == k) ≡ b → nat_le k l.start ≡ true → is_short l.line ≡ true → lines_said l.start ls ≡ true → (l.start ≡ k → lines_said (suc k) (lines_behind k ls) ≡ true)
         → lines_said (suc k) (if b then lines_behind k ls else l ∷ ls) ≡ true
-    by true e le more next = next (eqb-true l.start k e)
-    by false e le more next = and_true (nat_le (suc k) l.start) (lines_said l.start ls) (grind (arith, nat_tests)) more
+    by true e le small more next = next (eqb-true l.start k e)
+    by false e le small more next =
+        and_true (row_said (suc k) l) (lines_said l.start ls) (and_true (nat_le (suc k) l.start) (is_short l.line) (above k l.start e le) small) more
 
 -- each line begins at an instruction
 abbrev pub Starts : ℕ → LineNumber → Type 0
@@ -361,8 +367,8 @@ Starts n l = l.start < n
 no_lines_left : (n : ℕ) (ls : List LineNumber) → lines_said n ls ≡ true → EachOf (Starts n) ls → ls ≡ []
 no_lines_left n [] h e = refl
 no_lines_left n (l ∷ ls) h e =
-    let p = both_true (nat_le n l.start) (lines_said l.start ls) h in
-    let le : nat_le n l.start ≡ true = p.0 in
+    let p = both_true (row_said n l) (lines_said l.start ls) h in
+    let le : nat_le n l.start ≡ true = (both_true (nat_le n l.start) (is_short l.line) p.0).0 in
     let lt : l.start < n = e.0 in
     absurd (contradicts n l.start le lt)
   where

@@ -15,5 +15,6 @@ pub mod Flags
 pub mod Methods
 pub mod Fields
 pub mod Headers
+pub mod Ranges
 pub mod Classes
 

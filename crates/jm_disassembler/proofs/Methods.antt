@@ -42,9 +42,9 @@ use Rattle.jm_jasmin.specs.MethodForms.BodyLine.{stack, locals, catch, catch_all
 use Rattle.jm_jasmin.specs.MethodForms.BodyLines.{ends as no_more, and_line}
 use Rattle.jm_jasmin.specs.MethodForms.MethodLines.{method as method_lines_are}
 use Rattle.jm_disassembler.specs.Names.{is_plain, is_sayable, begins_with_quote, is_plain_method_type}
-use Rattle.jm_disassembler.specs.Said.{instr_said, no_parenthesis}
+use Rattle.jm_disassembler.specs.Said.{is_short, instr_said, no_parenthesis}
 use Rattle.jm_disassembler.specs.Labels.{label_name, marks_of}
-use Rattle.jm_disassembler.specs.Bodies.{caught_said, handler_said, lines_said, code_said, caught_text, handler_text, limit_text, body_text, code_text}
+use Rattle.jm_disassembler.specs.Bodies.{caught_said, handler_said, row_said, lines_said, sizes_said, code_said, caught_text, handler_text, limit_text, body_text, code_text}
 use Rattle.jm_disassembler.specs.Flags.{member_rows, flags_text, flags_said}
 use Rattle.jm_disassembler.specs.Members.{flags_note, method_name_said, body_of, method_text as text_of_method}
 use Rattle.jm_disassembler.proofs.Laid.{is_word, begins_word, is_word_byte, apart, Laid, Texts}
@@ -87,6 +87,18 @@ starts_all n (l ∷ ls) h =
     below : (a b : ℕ) → nat_lt a b ≡ true → a < b
     below a b h = grind (arith, nat_tests)
 
+-- what is said of a code, one by one
+pub said_of_code : (c : Code) → code_said c ≡ true
+    → (is_short c.max_stack ≡ true) × (is_short c.max_locals ≡ true) × (nat_lt (length c.instructions) 4294967295 ≡ true)
+    × (list_all handler_said c.handlers ≡ true) × (list_all instr_said c.instructions ≡ true) × (lines_said 0 c.lines ≡ true)
+said_of_code c said =
+    let a = both_true (sizes_said c && list_all handler_said c.handlers && list_all instr_said c.instructions) (lines_said 0 c.lines) said in
+    let b = both_true (sizes_said c && list_all handler_said c.handlers) (list_all instr_said c.instructions) a.0 in
+    let d = both_true (sizes_said c) (list_all handler_said c.handlers) b.0 in
+    let e = both_true (is_short c.max_stack && is_short c.max_locals) (nat_lt (length c.instructions) 4294967295) d.0 in
+    let f = both_true (is_short c.max_stack) (is_short c.max_locals) e.0 in
+    (f.0, f.1, e.1, d.1, b.1, a.1)
+
 pub code_sayable : (slots : ℕ) (c : Code) → code_fits slots c ≡ true → code_said c ≡ true → CodeNumbers c → SayableCode slots c
 code_sayable slots c fits said numbers =
     let n : ℕ = length c.instructions in
@@ -95,26 +107,21 @@ code_sayable slots c fits said numbers =
     let b = both_true (nat_le slots c.max_locals && nat_lt 0 n && list_all (instr_fits n) c.instructions) (list_all (handler_fits n) c.handlers) a.0 in
     let d = both_true (nat_le slots c.max_locals && nat_lt 0 n) (list_all (instr_fits n) c.instructions) b.0 in
     let e = both_true (nat_le slots c.max_locals) (nat_lt 0 n) d.0 in
-    let p = both_true (nat_lt n 4294967295 && list_all instr_said c.instructions && list_all handler_said c.handlers) (lines_said 0 c.lines) said in
-    let q = both_true (nat_lt n 4294967295 && list_all instr_said c.instructions) (list_all handler_said c.handlers) p.0 in
-    let r = both_true (nat_lt n 4294967295) (list_all instr_said c.instructions) q.0 in
-    let few : nat_lt n 4294967295 ≡ true = r.0 in
+    let p = said_of_code c said in
+    let few : nat_lt n 4294967295 ≡ true = p.2 in
     record {
       few = grind (arith, nat_tests);
       some = e.1;
       locals = e.0;
-      instructions = sayable_all n c.instructions d.1 r.1 numbers.instructions;
+      instructions = sayable_all n c.instructions d.1 p.4 numbers.instructions;
       instructions_fit = d.1;
       handlers = b.1;
-      lines = p.1;
+      lines = p.5;
       starts = starts_all n c.lines a.1;
     }
 
 pub handlers_said : (c : Code) → code_said c ≡ true → list_all handler_said c.handlers ≡ true
-handlers_said c said =
-    let n : ℕ = length c.instructions in
-    let p = both_true (nat_lt n 4294967295 && list_all instr_said c.instructions && list_all handler_said c.handlers) (lines_said 0 c.lines) said in
-    (both_true (nat_lt n 4294967295 && list_all instr_said c.instructions) (list_all handler_said c.handlers) p.0).1
+handlers_said c said = (said_of_code c said).3
 
 -- ---- the exception table
 

@@ -19,7 +19,7 @@ use Rattle.jm_program.specs.declared.jasmin.units.Context.TheVariants.{InName}
 use Rattle.jm_class_writer.specs.Ranges.{UnitsInRange}
 use Rattle.jm_class_writer.proofs.PartLaws.{all_tail, all_head}
 use Rattle.std.specs.Prelude.{if◌then◌else◌}
-use Rattle.jm_disassembler.specs.Names.{plain_from, is_plain}
+use Rattle.jm_disassembler.specs.Names.{is_unit, is_plain_unit, plain_from, is_plain}
 use Rattle.jm_disassembler.proofs.Laid.{is_word_byte}
 
 pub record Spelled (text units : List ℕ) : Type 0 where
@@ -151,15 +151,16 @@ unit_plain u h = rw h refl
 none_by : (u : ℕ) (us : List ℕ) → FromNone us → FromHigh us → (b : Bool) → is_high u ≡ b → FromNone (u ∷ us)
 unfolding text_from step_text after_text unit_text lone_text
 none_by u us none high true e h all =
-    rw e (high u e (first_of_two (is_high u) (plain_from true us) (not (is_escaped InName u) && plain_from false us) e h) (all_tail (λ (x : ℕ). x < 2 ^ 16) u us all))
+    rw e (high u e (first_of_two (is_high u) (plain_from true us) (is_plain_unit u && plain_from false us) e h) (all_tail (λ (x : ℕ). x < 2 ^ 16) u us all))
 none_by u us none high false e h all =
-    let p = both_true (not (is_escaped InName u)) (plain_from false us)
-        (second_of_two (is_high u) (plain_from true us) (not (is_escaped InName u) && plain_from false us) e h) in
+    let q = both_true (is_plain_unit u) (plain_from false us)
+        (second_of_two (is_high u) (plain_from true us) (is_plain_unit u && plain_from false us) e h) in
+    let p = both_true (not (is_escaped InName u)) (is_unit u) q.0 in
     let here : not (is_escaped InName u) ≡ true = p.0 in
     let plain : is_escaped InName u ≡ false = not_true (is_escaped InName u) here in
     let all_of : text_from InName None (u ∷ us) ≡ encode u ++ text_from InName None us =
         step_none u us e ∙ ap (λ (t : List ℕ). t ++ text_from InName None us) (unit_plain u plain) in
-    subst (λ (t : List ℕ). Spelled t (u ∷ us)) (sym all_of) (then_spelled (encode u) (text_from InName None us) (u ∷ []) us (unit_spelled u (all_head (λ (x : ℕ). x < 2 ^ 16) u us all) plain) (none p.1 (all_tail (λ (x : ℕ). x < 2 ^ 16) u us all)))
+    subst (λ (t : List ℕ). Spelled t (u ∷ us)) (sym all_of) (then_spelled (encode u) (text_from InName None us) (u ∷ []) us (unit_spelled u (all_head (λ (x : ℕ). x < 2 ^ 16) u us all) plain) (none q.1 (all_tail (λ (x : ℕ). x < 2 ^ 16) u us all)))
 
 high_by : (u : ℕ) (us : List ℕ) → FromNone us → FromHigh (u ∷ us)
 unfolding text_from step_text after_text pair_text

@@ -25,7 +25,7 @@ use Rattle.jm_program.specs.declared.reference.ClassRef.TheVariants as class_ref
 use Rattle.jm_class_writer.specs.PoolUse.{class_text}
 use Rattle.jm_class_writer.specs.Ranges.{UnitsInRange, TypeInRange, ClassRefInRange}
 use Rattle.jm_jasmin_ops.specs.Operands.{is_slash, parted_at, member}
-use Rattle.jm_disassembler.specs.Names.{plain_from, is_plain, begins_with_quote, is_sayable, is_plain_type, is_sayable_class}
+use Rattle.jm_disassembler.specs.Names.{is_unit, is_plain_unit, plain_from, is_plain, begins_with_quote, is_sayable, is_plain_type, is_sayable_class}
 use Rattle.jm_disassembler.specs.Said.{is_no_parenthesis, no_parenthesis}
 use Rattle.jm_disassembler.proofs.Laid.{is_word_byte, begins_word, is_word}
 use Rattle.jm_disassembler.proofs.Labels.{same_is}
@@ -61,12 +61,12 @@ step_pair high low us h l = rw (h, not_high low l, l) refl
 name_by : (u : ℕ) (us rest : List ℕ) (b : Bool) → is_high u ≡ b → is_sayable (u ∷ us) ≡ true → begins_word (name_text (u ∷ us) ++ rest) ≡ true
 name_by u [] rest true e h =
     let p = both_true (not (u == 34)) (is_plain (u ∷ [])) h in
-    let no = first_of_two (is_high u) false (not (is_escaped InName u) && true) e p.1 in
+    let no = first_of_two (is_high u) false (is_plain_unit u && true) e p.1 in
     absurd (cc no)
 name_by u (low ∷ us) rest true e h =
     let p = both_true (not (u == 34)) (is_plain (u ∷ low ∷ us)) h in
     let q = both_true (is_low low) (plain_from false us)
-        (first_of_two (is_high u) (plain_from true (low ∷ us)) (not (is_escaped InName u) && plain_from false (low ∷ us)) e p.1) in
+        (first_of_two (is_high u) (plain_from true (low ∷ us)) (is_plain_unit u && plain_from false (low ∷ us)) e p.1) in
     let c : ℕ = character_of u low in
     let above : 0x1_0000 ≤ c = (pair_of u low e q.0).above in
     let semicolon : (c == 59) ≡ false = grind (arith, nat_tests) in
@@ -74,9 +74,8 @@ name_by u (low ∷ us) rest true e h =
     rw (step_pair u low us e q.0, append_assoc (encode c) (text_from InName None us) rest) (encode_begins c _ semicolon quote)
 name_by u us rest false e h =
     let p = both_true (not (u == 34)) (is_plain (u ∷ us)) h in
-    let q = both_true (not (is_escaped InName u)) (plain_from false us)
-        (second_of_two (is_high u) (plain_from true us) (not (is_escaped InName u) && plain_from false us) e p.1) in
-    let plain : is_escaped InName u ≡ false = not_true (is_escaped InName u) q.0 in
+    let q = both_true (is_plain_unit u) (plain_from false us) (second_of_two (is_high u) (plain_from true us) (is_plain_unit u && plain_from false us) e p.1) in
+    let plain : is_escaped InName u ≡ false = not_true (is_escaped InName u) (both_true (not (is_escaped InName u)) (is_unit u) q.0).0 in
     let quote : (u == 34) ≡ false = not_true (u == 34) p.0 in
     let semicolon : (u == 59) ≡ false = no_semicolon u plain in
     let all_of : text_from InName None (u ∷ us) ≡ encode u ++ text_from InName None us =

@@ -11,7 +11,7 @@ use Rattle.jm_program.specs.declared.instruction.symbolic.Instr.{Instr}
 use Rattle.jm_disassembler.specs.Labels.{label_name, label_word, marks_of, is_marked}
 use Rattle.jm_disassembler.specs.Instructions.{instr_text, rows_text}
 use Rattle.jm_disassembler.specs.Names.{is_sayable}
-use Rattle.jm_disassembler.specs.Said.{instr_said}
+use Rattle.jm_disassembler.specs.Said.{is_short, instr_said}
 
 -- ---- what can be said
 
@@ -24,9 +24,12 @@ abbrev pub handler_said : Handler → Bool
 handler_said h = caught_said h.catch_type
 
 -- lines stand before the instructions that they are of, one after the other, so they begin in that order
+abbrev pub row_said : ℕ → LineNumber → Bool
+row_said least l = nat_le least l.start && is_short l.line
+
 abbrev pub lines_said : ℕ → List LineNumber → Bool
 lines_said least [] = true
-lines_said least (l ∷ ls) = nat_le least l.start && lines_said l.start ls
+lines_said least (l ∷ ls) = row_said least l && lines_said l.start ls
 
 -- ---- its lines
 
@@ -77,7 +80,9 @@ code_text commented c = limit_text c ++ (flat_map handler_text c.handlers ++ bod
 
 -- ---- and whether they can be
 
--- labels are numbers, of at most so many instructions
+-- limits are of 16 bits; labels are numbers, of at most so many instructions
+abbrev pub sizes_said : Code → Bool
+sizes_said c = is_short c.max_stack && is_short c.max_locals && nat_lt (length c.instructions) 4294967295
+
 abbrev pub code_said : Code → Bool
-code_said c =
-    nat_lt (length c.instructions) 4294967295 && list_all instr_said c.instructions && list_all handler_said c.handlers && lines_said 0 c.lines
+code_said c = sizes_said c && list_all handler_said c.handlers && list_all instr_said c.instructions && lines_said 0 c.lines

@@ -1,5 +1,5 @@
 -- Names and types that a word can spell (Jasmin User Guide, "Names", "Type descriptors").
-use Rattle.std.specs.Prelude.{ℕ, Bool, true, false, not, ◌&&◌, ◌==◌, if◌then◌else◌, List, [], ◌∷◌, Option, Some, None}
+use Rattle.std.specs.Prelude.{ℕ, nat_lt, Bool, true, false, not, ◌&&◌, ◌==◌, if◌then◌else◌, List, [], ◌∷◌, Option, Some, None}
 use Rattle.std.specs.List.{list_all}
 use Rattle.jm_program.specs.JasminUnits.{is_escaped}
 use Rattle.jm_program.specs.Surrogates.{is_high, is_low}
@@ -11,12 +11,20 @@ use Rattle.jm_program.specs.declared.descriptor.MethodDescriptor.{MethodDescript
 use Rattle.jm_program.specs.declared.reference.ClassRef.{ClassRef}
 use Rattle.jm_program.specs.declared.reference.ClassRef.TheVariants as class_ref
 
+-- of 16 bits
+abbrev pub is_unit : ℕ → Bool
+is_unit u = nat_lt u 65536
+
+-- it stands for itself
+abbrev pub is_plain_unit : ℕ → Bool
+is_plain_unit u = not (is_escaped InName u) && is_unit u
+
 -- the code units behind a first half of a pair, or behind none: each stands for itself in a word of Jasmin, which has no blank, no control
 -- character, no ; and no \, and each half of a pair has its partner
 abbrev pub plain_from : Bool → List ℕ → Bool
 plain_from false [] = true
 plain_from true [] = false
-plain_from false (u ∷ us) = if is_high u then plain_from true us else not (is_escaped InName u) && plain_from false us
+plain_from false (u ∷ us) = if is_high u then plain_from true us else is_plain_unit u && plain_from false us
 plain_from true (u ∷ us) = is_low u && plain_from false us
 
 -- a word can spell them, at its start or behind something else
