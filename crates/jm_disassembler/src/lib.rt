@@ -1,2 +1,8 @@
 //! Assembler texts from classes (Jasmin User Guide).
 #![tactic(auto)]
+
+mod fault;
+mod unsaid;
+
+pub use fault::DisassemblyFault;
+pub use unsaid::{ClassPart, FieldPart, MethodPart, Unsaid};

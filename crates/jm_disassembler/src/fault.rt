@@ -1,0 +1,24 @@
+// Why a class has no text.
+
+use crate::unsaid::Unsaid;
+use std::alloc::{AllocError, AllocFailed};
+use std::fmt;
+use thiserror::Error;
+
+/// Why a class has no text.
+#[derive(Clone, Copy, PartialEq, Eq, Error)]
+pub enum DisassemblyFault {
+    /// The first part, in the order of a text, that no text can say.
+    #[error("90 NoText({0})")]
+    NoText(Unsaid),
+    /// A growth was refused.
+    #[error("61 OutOfMemory")]
+    OutOfMemory,
+}
+
+/// As it is displayed.
+impl fmt::Debug for DisassemblyFault {
+    fn fmt<W: fmt::Write>(&self, f: &mut fmt::Formatter<W>) -> fmt::Result {
+        fmt::Display::fmt(self, f)
+    }
+}
