@@ -13,13 +13,15 @@ use Rattle.jm_program.specs.declared.class.ClassParts.{ClassParts}
 use Rattle.jm_program.specs.declared.class.Field.{Field}
 use Rattle.jm_program.specs.declared.class.Method.{Method}
 use Rattle.jm_program.specs.declared.class.Version.{Version}
+use Rattle.jm_program.specs.declared.flags.AccessFlags.{AccessFlags}
+use Rattle.jm_program.specs.JasminUnits.{name_text}
 use Rattle.jm_program.specs.declared.code.Code.{Code}
 use Rattle.jm_program.specs.declared.code.Handler.{Handler}
 use Rattle.jm_program.specs.declared.constant.Constant.{Constant}
 use Rattle.jm_program.specs.declared.instruction.symbolic.Instr.{Instr}
 use Rattle.jm_class_writer.specs.Ranges.{OfSome, UnitsInRange, ConstantInRange}
 use Rattle.jm_jasmin.specs.Text.{denoted}
-use Rattle.jm_jasmin.specs.WordForms.{Line}
+use Rattle.jm_jasmin.specs.WordForms.{Word, Line, bare}
 use Rattle.jm_jasmin.specs.Each.{EachOf, AtMostOne, OneLine}
 use Rattle.jm_jasmin.specs.Each.OneLine.{one_line}
 use Rattle.jm_jasmin.specs.Each.AtMostOne.{left_out, given}
@@ -33,7 +35,8 @@ use Rattle.jm_jasmin.proofs.TextForms.{class_text as lines_denote}
 use Rattle.jm_disassembler.specs.Names.{is_sayable, is_plain_type, is_plain_method_type}
 use Rattle.jm_disassembler.specs.Said.{constant_said, instr_said}
 use Rattle.jm_disassembler.specs.Bodies.{handler_said, sizes_said, lines_said, code_said}
-use Rattle.jm_disassembler.specs.Flags.{member_rows, flags_said}
+use Rattle.jm_disassembler.specs.Flags.{class_rows, interface_rows, member_rows, flags_said}
+use Rattle.jm_disassembler.proofs.Flags.{flag_words}
 use Rattle.jm_disassembler.specs.Members.{field_name_said, method_name_said, field_text, method_text}
 use Rattle.jm_disassembler.specs.Texts.{version_text, source_text, class_flags_said, declaration_front, declaration_text, super_text, implements_text, fields_text, class_text}
 use Rattle.jm_disassembler.specs.Unsaid.{value_said, field_part, numbered_field, fields_part, code_part, handler_or, instruction_or, method_part, numbered_method, methods_part, source_said, super_said, interface_or, header_part, members_part, class_or, first_unsaid}
@@ -263,3 +266,129 @@ members_none (Some u) others h = absurd cc
 interface_none : (o : Option ℕ) → interface_or o ≡ None → o ≡ None
 interface_none None h = refl
 interface_none (Some k) h = absurd cc
+
+abbrev class_lines_of : ClassParts → List Line
+class_lines_of c =
+    version_words c.version ∷ (source_lines c.source_file ++ declaration_words c.flags c.name ∷ (super_lines c.superclass
+    ++ (implements_lines c.interfaces ++ (field_lines c.fields ++ all_method_lines c.methods))))
+
+less : (n : ℕ) → nat_lt n 52 ≡ true → n < 2 ^ 16
+less n h = grind (arith, nat_tests)
+
+same : (n : ℕ) → (n == 52) ≡ true → n < 2 ^ 16
+same n h = grind (arith, nat_tests)
+
+major_small : (v : Version) → version_fits v ≡ true → v.major < 2 ^ 16
+major_small v h =
+    let p = both_true (nat_le 45 v.major) (nat_lt v.major 52 || (v.major == 52 && v.minor == 0)) h in
+    by (nat_lt v.major 52) refl p.1
+  where
+    by : (b : Bool) → nat_lt v.major 52 ≡ b → (b || (v.major == 52 && v.minor == 0)) ≡ true → v.major < 2 ^ 16
+    by true e k = less v.major e
+    by false e k = same v.major (both_true (v.major == 52) (v.minor == 0) k).0
+
+declaration_by : (flags : AccessFlags) (name : List ℕ) (b : Bool) → (w : Word) × (ws : Line)
+    × ((if b then bare (codes ".interface") ∷ (flag_words flags.bits interface_rows ++ bare (name_text name) ∷ [])
+    else bare (codes ".class") ∷ (flag_words flags.bits class_rows ++ bare (name_text name) ∷ [])) ≡ w ∷ ws)
+declaration_by flags name true = (_, _, refl)
+declaration_by flags name false = (_, _, refl)
+
+declaration_some : (flags : AccessFlags) (name : List ℕ) → (w : Word) × (ws : Line) × (declaration_words flags name ≡ w ∷ ws)
+declaration_some flags name = declaration_by flags name (is_interface flags)
+
+first_line : {bytes text : List ℕ} {lines : List Line} (l : Line) → (w : Word) × (ws : Line) × (l ≡ w ∷ ws) → Laid bytes l → Texts text lines
+    → Texts (bytes ++ text) (l ∷ lines)
+first_line {bytes} {text} {lines} l s a b =
+    subst (λ (x : Line). Texts (bytes ++ text) (x ∷ lines)) (sym s.2) (line (subst (λ (x : Line). Laid bytes x) s.2 a) b)
+
+-- what is known of the lines before the fields
+record HeaderKnown (c : ClassParts) (superclass : List ℕ) : Type 0 where
+  version : version_fits c.version ≡ true
+  minor : c.version.minor < 2 ^ 16
+  source : source_said c.source_file ≡ true
+  flags : class_flags_said c.flags ≡ true
+  name_fits : is_class_name c.name ≡ true
+  name : is_sayable c.name ≡ true
+  super_fits : is_class_name superclass ≡ true
+  super : is_sayable superclass ≡ true
+  interfaces_fit : list_all is_class_name c.interfaces ≡ true
+  interfaces : list_all is_sayable c.interfaces ≡ true
+
+module _ (commented : Bool) (c : ClassParts) (superclass : List ℕ) (is_super : c.superclass ≡ Some superclass) (h : HeaderKnown c superclass)
+    (fs : Known SayableField c.fields) (ms : Known (SayableMethod (is_interface c.flags)) c.methods) where
+  form : ClassLines (class_lines_of c) c
+  form =
+      let made = class_lines (version_words c.version ∷ []) (source_lines c.source_file) (declaration_words c.flags c.name) (super_words superclass)
+          (implements_lines c.interfaces) (field_lines c.fields) (all_method_lines c.methods) (Some c.version) c.source_file
+          (record { flags = c.flags; name = c.name }) superclass c.interfaces c.fields c.methods
+          (given (version_words c.version) c.version (version_form c.version h.version (major_small c.version h.version) h.minor))
+          (source_option c.source_file h.source)
+          (declaration_form c.flags c.name h.name_fits h.name (name_range c.name h.name) h.flags)
+          (super_form superclass h.super_fits h.super (name_range superclass h.super))
+          (interfaces_form c.interfaces h.interfaces_fit h.interfaces) (fields_form c.fields fs) (methods_form (is_interface c.flags) c.methods ms) in
+      let P : Option (List ℕ) → Type 0 = λ o. ClassLines
+          (version_words c.version ∷ (source_lines c.source_file ++ declaration_words c.flags c.name ∷ (super_lines o
+          ++ (implements_lines c.interfaces ++ (field_lines c.fields ++ all_method_lines c.methods)))))
+          (record {
+            version = c.version;
+            flags = c.flags;
+            name = c.name;
+            superclass = o;
+            interfaces = c.interfaces;
+            fields = c.fields;
+            methods = c.methods;
+            source_file = c.source_file;
+          }) in
+      subst P (sym is_super) made
+
+  laid : Texts (class_text commented c) (class_lines_of c)
+  unfolding class_text declaration_text
+  laid =
+      let members = all_fields commented c.fields fs _ _ (all_methods commented (is_interface c.flags) c.methods ms) in
+      let interfaces = interfaces_laid c.interfaces h.interfaces_fit h.interfaces _ _ members in
+      let above = super_laid commented superclass h.super_fits h.super _ _ interfaces in
+      let P : Option (List ℕ) → Type 0 = λ o. Texts
+          (super_text o ++ (flat_map implements_text c.interfaces ++ (fields_text commented c.fields ++ flat_map (method_text commented) c.methods)))
+          (super_lines o ++ (implements_lines c.interfaces ++ (field_lines c.fields ++ all_method_lines c.methods))) in
+      let from_super = subst P (sym is_super) above in
+      let declared = declaration_laid commented c.flags c.name (class_name_word c.name h.name_fits h.name (name_range c.name h.name)) h.flags in
+      let from_declared = first_line (declaration_words c.flags c.name) (declaration_some c.flags c.name) declared from_super in
+      let from_source = source_laid commented c.source_file h.source _ _ from_declared in
+      line (version_laid c.version (major_small c.version h.version) h.minor) from_source
+
+  denotes : denoted (class_text commented c) ≡ Ok c
+  denotes =
+      let t = text_tokens (class_text commented c) (class_lines_of c) laid in
+      lines_denote (class_text commented c) t.0 c t.1 (subst (λ (ls : List Line). ClassLines ls c) (sym t.2) form)
+
+super_by : (commented : Bool) (c : ClassParts) (o : Option (List ℕ)) → c.superclass ≡ o → superclass_fits c.name o ≡ true → super_said o ≡ true
+    → ((superclass : List ℕ) → is_class_name superclass ≡ true → is_sayable superclass ≡ true → HeaderKnown c superclass)
+    → Known SayableField c.fields → Known (SayableMethod (is_interface c.flags)) c.methods → denoted (class_text commented c) ≡ Ok c
+super_by commented c None e fits said h fs ms = absurd cc
+super_by commented c (Some superclass) e fits said h fs ms = denotes commented c superclass e (h superclass fits said) fs ms
+
+-- the text of a class of which each part can be said denotes the class
+pub text_denotes : (commented : Bool) (c : ClassParts) → Fits c → c.version.minor < 2 ^ 16 → first_unsaid c ≡ None → denoted (class_text commented c) ≡ Ok c
+unfolding first_unsaid
+text_denotes commented c fits minor said =
+    let a = class_none (header_part c) _ said in
+    let b = members_none (fields_part 0 c.fields) _ a.1 in
+    let d = chosen (source_said c.source_file) _ _ a.0 in
+    let e = chosen (class_flags_said c.flags) _ _ d.1 in
+    let f = chosen (is_sayable c.name) _ _ e.1 in
+    let g = chosen (super_said c.superclass) _ _ f.1 in
+    let interfaces = none_found is_sayable c.interfaces (interface_none _ g.1) in
+    super_by commented c c.superclass refl fits.superclass g.0
+    (λ superclass name_fits name_said. record {
+      version = fits.version;
+      minor = minor;
+      source = d.0;
+      flags = e.0;
+      name_fits = fits.name;
+      name = f.0;
+      super_fits = name_fits;
+      super = name_said;
+      interfaces_fit = fits.interfaces;
+      interfaces = interfaces;
+    })
+    (fields_known 0 c.fields fits.fields b.0) (methods_known (is_interface c.flags) 0 c.methods fits.methods b.1)
