@@ -41,7 +41,7 @@ use Rattle.jm_disassembler.proofs.Laid.{is_word_byte, in_line, apart, Laid, Text
 use Rattle.jm_disassembler.proofs.Laid.Laid.{ends, comment, blank, word}
 use Rattle.jm_disassembler.proofs.Laid.Texts.{nothing, line}
 use Rattle.jm_disassembler.proofs.Numbers.{is_decimal, decimal_is}
-use Rattle.jm_disassembler.proofs.Labels.{label_is_word, label_ends, label_is, other_label}
+use Rattle.jm_disassembler.proofs.LabelWords.{label_is_word, label_ends, label_is, other_label}
 use Rattle.jm_disassembler.proofs.Instructions.{plain_words, array_words, constant_words, instr_words, instr_laid, short_is, decimal_word}
 use Rattle.jm_disassembler.proofs.Switches.{labelled_of, row_lines, Form, instr_form, rows_laid}
 use Rattle.jm_disassembler.proofs.Switches.Form.{one, several}

@@ -36,7 +36,7 @@ use Rattle.jm_disassembler.specs.Names.{is_sayable, is_plain_type, is_plain_meth
 use Rattle.jm_disassembler.specs.Said.{constant_said, instr_said}
 use Rattle.jm_disassembler.specs.Bodies.{handler_said, sizes_said, lines_said, code_said}
 use Rattle.jm_disassembler.specs.Flags.{class_rows, interface_rows, member_rows, flags_said}
-use Rattle.jm_disassembler.proofs.Flags.{flag_words}
+use Rattle.jm_disassembler.proofs.FlagWords.{flag_words}
 use Rattle.jm_disassembler.specs.Members.{field_name_said, method_name_said, field_text, method_text}
 use Rattle.jm_disassembler.specs.Texts.{version_text, source_text, class_flags_said, declaration_front, declaration_text, super_text, implements_text, fields_text, class_text}
 use Rattle.jm_disassembler.specs.Unsaid.{value_said, field_part, numbered_field, fields_part, code_part, handler_or, instruction_or, method_part, numbered_method, methods_part, source_said, super_said, interface_or, header_part, members_part, class_or, first_unsaid}

@@ -34,7 +34,7 @@ use Rattle.jm_jasmin.specs.Body.{checked_locals, checked_count, code_of, instruc
 use Rattle.jm_disassembler.specs.Labels.{label_name, instr_targets, handler_places, marks_of, is_marked}
 use Rattle.jm_disassembler.specs.Bodies.{row_said, lines_said, lines_behind}
 use Rattle.jm_disassembler.specs.Said.{is_short}
-use Rattle.jm_disassembler.proofs.Labels.{same_itself, other_label}
+use Rattle.jm_disassembler.proofs.LabelWords.{same_itself, other_label}
 use Rattle.jm_disassembler.proofs.Switches.{Each, Known, labelled_of, instr_found}
 use Rattle.jm_disassembler.proofs.Marks.{Up, Marked, handler_parts, instrs_up, handlers_up, code_marked}
 use Rattle.jm_disassembler.proofs.Bodies.{label_items, source_items, body_items, Sayable, EachOf, behind_range}

@@ -35,12 +35,12 @@ use Rattle.jm_disassembler.proofs.Laid.{is_word, apart, Laid}
 use Rattle.jm_disassembler.proofs.Laid.Laid.{ends, blank, word, string}
 use Rattle.jm_disassembler.proofs.Spelled.{Spelled, name_spelled}
 use Rattle.jm_disassembler.proofs.Types.{is_ascii_word, ascii_spelled, type_spelled}
-use Rattle.jm_disassembler.proofs.Labels.{same_itself, same_is}
+use Rattle.jm_disassembler.proofs.LabelWords.{same_itself, same_is}
 use Rattle.jm_disassembler.proofs.Numbers.{signed_read, signed_word}
 use Rattle.jm_disassembler.proofs.Words.{name_is_word, type_is_word, unqualified_some}
 use Rattle.jm_disassembler.proofs.Instructions.{int_is, long_32, long_64}
 use Rattle.jm_disassembler.proofs.Strings.{string_inside, string_value}
-use Rattle.jm_disassembler.proofs.Flags.{flag_words, member_flags, flags_are, flags_laid, flags_note_laid, flags_note_apart}
+use Rattle.jm_disassembler.proofs.FlagWords.{flag_words, member_flags, flags_are, flags_laid, flags_note_laid, flags_note_apart}
 
 -- a name is not a word of ASCII, and so its text is another word
 pub other_word : (name w : List ℕ) → is_plain name ≡ true → UnitsInRange name → list_all is_ascii_word w ≡ true → same_text name w ≡ false

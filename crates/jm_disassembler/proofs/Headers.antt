@@ -42,7 +42,7 @@ use Rattle.jm_disassembler.proofs.Spelled.{Spelled, then_spelled, name_spelled}
 use Rattle.jm_disassembler.proofs.Types.{byte_spelled}
 use Rattle.jm_disassembler.proofs.Numbers.{is_decimal, decimal_is, decimal_spelled, word_of_digits}
 use Rattle.jm_disassembler.proofs.Words.{class_name_word, name_is_word, found_at}
-use Rattle.jm_disassembler.proofs.Flags.{flag_words, class_flags, interface_flags, flags_are, flags_laid, flags_note_laid, flags_note_apart}
+use Rattle.jm_disassembler.proofs.FlagWords.{flag_words, class_flags, interface_flags, flags_are, flags_laid, flags_note_laid, flags_note_apart}
 
 -- ---- .bytecode
 

@@ -72,7 +72,7 @@ use Rattle.jm_disassembler.proofs.Laid.Laid.{ends, comment, blank, word, string}
 use Rattle.jm_disassembler.proofs.Spelled.{Spelled, then_spelled, name_spelled}
 use Rattle.jm_disassembler.proofs.Types.{byte_spelled, type_spelled, method_type_spelled, class_spelled}
 use Rattle.jm_disassembler.proofs.Numbers.{IsLong, decimal_is, word_of_digits, natural_read, signed_read, signed_word, signed_not_real, signed_not_named}
-use Rattle.jm_disassembler.proofs.Labels.{name_word, is_label_name}
+use Rattle.jm_disassembler.proofs.LabelWords.{name_word, is_label_name}
 use Rattle.jm_disassembler.proofs.Strings.{string_inside, string_value}
 use Rattle.jm_disassembler.proofs.Mnemonics.{Names, simple_names, load_names, store_names, field_names, type_names, return_names, monitor_names, invoke_opcode, invoke_names, branch_opcode, branch_names, array_opcode, array_word, array_names, push_byte_names, push_short_names, constant_names, long_names, increment_names, new_names, throw_names, table_names, lookup_names, primitive_word}
 use Rattle.jm_disassembler.proofs.Words.{name_begins, class_some, class_name_word, type_is_word, class_begins, class_is_word, unqualified_no_slash, method_no_slash, no_slash, found_at, member_is}

@@ -52,13 +52,13 @@ use Rattle.jm_disassembler.proofs.Laid.Laid.{ends, blank, word}
 use Rattle.jm_disassembler.proofs.Laid.Texts.{nothing, line, skip}
 use Rattle.jm_disassembler.proofs.Spelled.{Spelled, then_spelled, name_spelled}
 use Rattle.jm_disassembler.proofs.Types.{ascii_spelled, method_type_spelled}
-use Rattle.jm_disassembler.proofs.Labels.{same_is, name_of_label, name_word}
+use Rattle.jm_disassembler.proofs.LabelWords.{same_is, name_of_label, name_word}
 use Rattle.jm_disassembler.proofs.Words.{name_begins, class_name_word, method_some}
 use Rattle.jm_disassembler.proofs.Instructions.{short_is, decimal_word}
 use Rattle.jm_disassembler.proofs.Marks.{handler_parts}
 use Rattle.jm_disassembler.proofs.Bodies.{EachOf, Sayable, LineInRange, Before, before_other, body_lines, body_items, body_laid, body_goes}
 use Rattle.jm_disassembler.proofs.Codes.{Starts, SayableCode, handler_item, handler_items, code_items, code_comes}
-use Rattle.jm_disassembler.proofs.Flags.{flag_words, member_flags, flags_are, flags_laid, flags_note_laid, flags_note_apart}
+use Rattle.jm_disassembler.proofs.FlagWords.{flag_words, member_flags, flags_are, flags_laid, flags_note_laid, flags_note_apart}
 
 -- ---- a code that can be said
 

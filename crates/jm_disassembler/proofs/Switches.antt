@@ -40,7 +40,7 @@ use Rattle.jm_disassembler.proofs.Laid.{apart, Laid, Texts}
 use Rattle.jm_disassembler.proofs.Laid.Laid.{ends, blank, word}
 use Rattle.jm_disassembler.proofs.Laid.Texts.{nothing, line}
 use Rattle.jm_disassembler.proofs.Numbers.{signed_word}
-use Rattle.jm_disassembler.proofs.Labels.{name_word, is_label_name, name_of_label}
+use Rattle.jm_disassembler.proofs.LabelWords.{name_word, is_label_name, name_of_label}
 use Rattle.jm_disassembler.proofs.Mnemonics.{simple_names, load_names, store_names, push_byte_names, push_short_names, increment_names, return_names, monitor_names, throw_names}
 use Rattle.jm_disassembler.proofs.Instructions.{plain_words, instr_words, short_is, byte_is, signed_short_is, int_is, long_32, array_form, constant_form, branch_form, field_line_form, invoke_form, type_form, new_form}
 

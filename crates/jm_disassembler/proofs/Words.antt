@@ -28,7 +28,7 @@ use Rattle.jm_jasmin_ops.specs.Operands.{is_slash, parted_at, member}
 use Rattle.jm_disassembler.specs.Names.{is_unit, is_plain_unit, plain_from, is_plain, begins_with_quote, is_sayable, is_plain_type, is_sayable_class}
 use Rattle.jm_disassembler.specs.Said.{is_no_parenthesis, no_parenthesis}
 use Rattle.jm_disassembler.proofs.Laid.{is_word_byte, begins_word, is_word}
-use Rattle.jm_disassembler.proofs.Labels.{same_is}
+use Rattle.jm_disassembler.proofs.LabelWords.{same_is}
 use Rattle.jm_disassembler.proofs.Spelled.{Spelled, name_spelled, pair_of, not_true, not_high, first_of_two, second_of_two, step_none, unit_plain}
 use Rattle.jm_disassembler.proofs.Types.{type_spelled, class_spelled}
 

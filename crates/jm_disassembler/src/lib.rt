@@ -2,6 +2,12 @@
 #![tactic(auto)]
 
 mod fault;
+mod flags;
+mod instruction;
+mod labels;
+mod names;
+mod said;
+mod string;
 mod unsaid;
 
 pub use fault::DisassemblyFault;

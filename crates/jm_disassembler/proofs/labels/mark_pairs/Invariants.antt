@@ -1,0 +1,8 @@
+-- The places that are left, behind those that are marked.
+use Rattle.std.proofs.Common.{◌≡◌, drop}
+use Rattle.std.specs.List.{flat_map}
+use Rattle.jm_disassembler.specs.Labels.{pair_targets, instr_targets, handler_places, marked}
+use Rattle.jm_disassembler.proofs.labels.mark_pairs.Given as goal
+
+abbrev pub invariant-loop-pair : goal.invariant-loop-pair
+invariant-loop-pair l = marked l.marks (pair_targets (drop l.pair-index l.pairs)) ≡ marked l.initial.marks (pair_targets l.pairs)

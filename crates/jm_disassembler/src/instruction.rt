@@ -1,0 +1,318 @@
+// The lines of an instruction, its operands in one column (Jasmin User Guide, "Instructions").
+
+ghost use Rattle.std.specs.Prelude.{◌≡◌, ◌≤◌, ◌++◌, OnOk, IsTrue, codes, ℕ};
+ghost use Rattle.jm_program.specs.Instructions.{instr_fits};
+ghost use Rattle.jm_program.specs.JasminTypes.{method_ref_line};
+ghost use Rattle.jm_program.specs.declared.instruction.operation.Branch.TheVariants.{If, IfInts};
+ghost use Rattle.std.specs.List.{flat_map};
+ghost use Rattle.std.specs.Fmt.{signed_decimal};
+ghost use Rattle.jm_program.specs.Descriptors.{argument_slots};
+ghost use Rattle.jm_program.specs.JasminUnits.{string_text};
+ghost use Rattle.jm_program.specs.Mnemonics.{operand_letter, branch_mnemonic, field_mnemonic, invoke_mnemonic, type_mnemonic};
+ghost use Rattle.jm_disassembler.specs.Instructions.{front, target_row, default_row, pair_row, table_rows, lookup_rows, plain_text, array_text, constant_text, count_text, instr_text, rows_text};
+
+use jm_program::{
+    ArrayOp, Branch, Comparison, Constant, Equality, FieldOp, Instr, InvokeOp, LookupSwitch,
+    MethodRef, OperandType, Plain, SwitchPair, TableSwitch, TypeOp,
+};
+use crate::string::write_string;
+use std::alloc::AllocError;
+use std::fmt::Write;
+
+// ---- mnemonics, with blanks up to the column of the operands
+
+#[tactic(auto, unfolding(jm_program::specs::Mnemonics::operand_letter))]
+fn load_front(kind: OperandType) -> &'static str
+    ensures { result.now ≡ front (operand_letter kind ++ codes "load") }
+{
+    match kind {
+        OperandType::Int => "iload           ",
+        OperandType::Long => "lload           ",
+        OperandType::Reference => "aload           ",
+    }
+}
+
+#[tactic(auto, unfolding(jm_program::specs::Mnemonics::operand_letter))]
+fn store_front(kind: OperandType) -> &'static str
+    ensures { result.now ≡ front (operand_letter kind ++ codes "store") }
+{
+    match kind {
+        OperandType::Int => "istore          ",
+        OperandType::Long => "lstore          ",
+        OperandType::Reference => "astore          ",
+    }
+}
+
+#[tactic(auto, unfolding(jm_program::specs::Mnemonics::branch_mnemonic, jm_program::specs::Mnemonics::comparison_name))]
+fn if_front(comparison: Comparison) -> &'static str
+    ensures { result.now ≡ front (branch_mnemonic (If comparison)) }
+{
+    match comparison {
+        Comparison::Equal => "ifeq            ",
+        Comparison::NotEqual => "ifne            ",
+        Comparison::Less => "iflt            ",
+        Comparison::GreaterOrEqual => "ifge            ",
+        Comparison::Greater => "ifgt            ",
+        Comparison::LessOrEqual => "ifle            ",
+    }
+}
+
+#[tactic(auto, unfolding(jm_program::specs::Mnemonics::branch_mnemonic, jm_program::specs::Mnemonics::comparison_name))]
+fn if_ints_front(comparison: Comparison) -> &'static str
+    ensures { result.now ≡ front (branch_mnemonic (IfInts comparison)) }
+{
+    match comparison {
+        Comparison::Equal => "if_icmpeq       ",
+        Comparison::NotEqual => "if_icmpne       ",
+        Comparison::Less => "if_icmplt       ",
+        Comparison::GreaterOrEqual => "if_icmpge       ",
+        Comparison::Greater => "if_icmpgt       ",
+        Comparison::LessOrEqual => "if_icmple       ",
+    }
+}
+
+#[tactic(auto, unfolding(jm_program::specs::Mnemonics::branch_mnemonic, jm_program::specs::Mnemonics::equality_name, jm_program::specs::Mnemonics::null_mnemonic))]
+fn branch_front(op: Branch) -> &'static str
+    ensures { result.now ≡ front (branch_mnemonic op) }
+{
+    match op {
+        Branch::If(comparison) => if_front(comparison),
+        Branch::IfInts(comparison) => if_ints_front(comparison),
+        Branch::IfReferences(Equality::Equal) => "if_acmpeq       ",
+        Branch::IfReferences(Equality::NotEqual) => "if_acmpne       ",
+        Branch::IfNull(Equality::Equal) => "ifnull          ",
+        Branch::IfNull(Equality::NotEqual) => "ifnonnull       ",
+        Branch::Goto => "goto            ",
+        Branch::GotoW => "goto_w          ",
+    }
+}
+
+#[tactic(auto, unfolding(jm_program::specs::Mnemonics::field_mnemonic))]
+fn field_front(op: FieldOp) -> &'static str
+    ensures { result.now ≡ front (field_mnemonic op) }
+{
+    match op {
+        FieldOp::GetStatic => "getstatic       ",
+        FieldOp::PutStatic => "putstatic       ",
+        FieldOp::GetField => "getfield        ",
+        FieldOp::PutField => "putfield        ",
+    }
+}
+
+#[tactic(auto, unfolding(jm_program::specs::Mnemonics::invoke_mnemonic))]
+fn invoke_front(op: InvokeOp) -> &'static str
+    ensures { result.now ≡ front (invoke_mnemonic op) }
+{
+    match op {
+        InvokeOp::Virtual => "invokevirtual   ",
+        InvokeOp::Special => "invokespecial   ",
+        InvokeOp::Static => "invokestatic    ",
+        InvokeOp::Interface => "invokeinterface ",
+    }
+}
+
+#[tactic(auto, unfolding(jm_program::specs::Mnemonics::type_mnemonic))]
+fn type_front(op: TypeOp) -> &'static str
+    ensures { result.now ≡ front (type_mnemonic op) }
+{
+    match op {
+        TypeOp::NewArray => "anewarray       ",
+        TypeOp::CheckCast => "checkcast       ",
+        TypeOp::InstanceOf => "instanceof      ",
+    }
+}
+
+// ---- the first line
+
+fn write_low(out: &mut String, low: &i32) -> Result<(), AllocError>
+    ensures { OnOk result (out.new.bytes.items ≡ out.old.bytes.items ++ (front (codes "tableswitch") ++ signed_decimal low.now)) }
+{
+    write!(out, "tableswitch     {low}")
+}
+
+#[tactic(auto, unfolding(crate::specs::Instructions::plain_text))]
+fn write_plain(out: &mut String, plain: &Plain) -> Result<(), AllocError>
+    ensures { OnOk result (out.new.bytes.items ≡ out.old.bytes.items ++ plain_text plain.now) }
+{
+    match plain {
+        Plain::Simple(simple) => write!(out, "{simple}"),
+        Plain::PushByte(number) => write!(out, "bipush          {number}"),
+        Plain::PushShort(number) => write!(out, "sipush          {number}"),
+        Plain::Load(kind, local) => {
+            let front = load_front(*kind);
+            write!(out, "{front}{local}")
+        }
+        Plain::Store(kind, local) => {
+            let front = store_front(*kind);
+            write!(out, "{front}{local}")
+        }
+        Plain::Increment(local, by) => write!(out, "iinc            {local} {by}"),
+        Plain::Branch(op, target) => {
+            let front = branch_front(*op);
+            write!(out, "{front}L{target}")
+        }
+        Plain::TableSwitch(table) => write_low(out, &table.get().low),
+        Plain::LookupSwitch(_) => write!(out, "lookupswitch"),
+    }
+}
+
+#[tactic(auto, unfolding(crate::specs::Instructions::array_text))]
+fn write_array(out: &mut String, op: ArrayOp) -> Result<(), AllocError>
+    ensures { OnOk result (out.new.bytes.items ≡ out.old.bytes.items ++ array_text op) }
+{
+    match op {
+        ArrayOp::New(element) => write!(out, "newarray        {element}"),
+        _ => write!(out, "{op}"),
+    }
+}
+
+fn write_literal(out: &mut String, units: &[u16]) -> Result<(), AllocError>
+    ensures { OnOk result (out.new.bytes.items ≡ out.old.bytes.items ++ (front (codes "ldc") ++ (codes "\"" ++ (string_text units.now ++ codes "\"")))) }
+{
+    out.push_str("ldc             \"")?;
+    write_string(out, units)?;
+    out.push_str("\"")
+}
+
+#[tactic(auto, unfolding(crate::specs::Instructions::constant_text))]
+fn write_constant(out: &mut String, constant: &Constant) -> Result<(), AllocError>
+    ensures { OnOk result (out.new.bytes.items ≡ out.old.bytes.items ++ constant_text constant.now) }
+{
+    match constant {
+        Constant::Int(number) => write!(out, "ldc             {number}"),
+        Constant::Long(number) => write!(out, "ldc2_w          {number}"),
+        Constant::String(units) => write_literal(out, units.get().as_slice()),
+    }
+}
+
+// ---- references
+
+// What `invokeinterface` counts: the argument slots and the receiver's.
+#[tactic(auto, unfolding(crate::specs::Instructions::count_text))]
+fn write_count(out: &mut String, op: InvokeOp, method: &MethodRef) -> Result<(), AllocError>
+    requires { argument_slots method.now.descriptor ≤ 255 }
+    ensures { OnOk result (out.new.bytes.items ≡ out.old.bytes.items ++ count_text op method.now) }
+{
+    match op {
+        InvokeOp::Interface => {
+            let slots = u16::from(method.descriptor.argument_slots().unwrap()) + 1;
+            write!(out, " {slots}")
+        }
+        _ => Ok(()),
+    }
+}
+
+fn write_invoke(out: &mut String, op: InvokeOp, method: &MethodRef) -> Result<(), AllocError>
+    requires { argument_slots method.now.descriptor ≤ 255 }
+    ensures { OnOk result (out.new.bytes.items ≡ out.old.bytes.items ++ (front (invoke_mnemonic op) ++ (method_ref_line method.now ++ count_text op method.now))) }
+{
+    let front = invoke_front(op);
+    write!(out, "{front}{method}")?;
+    write_count(out, op, method)
+}
+
+// ---- the instruction
+
+/// Writes the first line of an instruction up to its end. After an error some of it may stand
+/// there.
+#[tactic(auto, unfolding(crate::specs::Instructions::instr_text))]
+pub fn write_instruction(out: &mut String, instruction: &Instr) -> Result<(), AllocError>
+    requires { (count : ℕ) × IsTrue (instr_fits count instruction.now) }
+    ensures { OnOk result (out.new.bytes.items ≡ out.old.bytes.items ++ instr_text instruction.now) }
+{
+    match instruction {
+        Instr::Plain(plain) => write_plain(out, plain),
+        Instr::Array(op) => write_array(out, *op),
+        Instr::Return(op) => write!(out, "{op}"),
+        Instr::Throw => out.push_str("athrow"),
+        Instr::Monitor(op) => write!(out, "{op}"),
+        Instr::Constant(constant) => write_constant(out, constant),
+        Instr::Field(op, field) => {
+            let front = field_front(*op);
+            let field = field.get();
+            write!(out, "{front}{field}")
+        }
+        Instr::Invoke(op, method) => write_invoke(out, *op, method.get()),
+        Instr::New(name) => {
+            let name = name.get();
+            write!(out, "new             {name}")
+        }
+        Instr::Type(op, class) => {
+            let front = type_front(*op);
+            let class = class.get();
+            write!(out, "{front}{class}")
+        }
+    }
+}
+
+// ---- the lines below a switch
+
+#[tactic(auto, unfolding(crate::specs::Instructions::target_row))]
+fn write_target(out: &mut String, target: u32) -> Result<(), AllocError>
+    ensures { OnOk result (out.new.bytes.items ≡ out.old.bytes.items ++ target_row target) }
+{
+    write!(out, "    L{target}\n")
+}
+
+#[tactic(auto, unfolding(crate::specs::Instructions::default_row))]
+fn write_default(out: &mut String, target: u32) -> Result<(), AllocError>
+    ensures { OnOk result (out.new.bytes.items ≡ out.old.bytes.items ++ default_row target) }
+{
+    write!(out, "    default : L{target}\n")
+}
+
+#[tactic(auto, unfolding(crate::specs::Instructions::pair_row))]
+fn write_pair(out: &mut String, pair: &SwitchPair) -> Result<(), AllocError>
+    ensures { OnOk result (out.new.bytes.items ≡ out.old.bytes.items ++ pair_row pair.now) }
+{
+    let key = pair.key;
+    let target = pair.target;
+    write!(out, "    {key} : L{target}\n")
+}
+
+fn write_targets(out: &mut String, targets: &[u32]) -> Result<(), AllocError>
+    ensures { OnOk result (out.new.bytes.items ≡ out.old.bytes.items ++ flat_map target_row targets.now) }
+{
+    for target in targets {
+        write_target(out, *target)?;
+    }
+    Ok(())
+}
+
+fn write_pairs(out: &mut String, pairs: &[SwitchPair]) -> Result<(), AllocError>
+    ensures { OnOk result (out.new.bytes.items ≡ out.old.bytes.items ++ flat_map pair_row pairs.now) }
+{
+    for pair in pairs {
+        write_pair(out, pair)?;
+    }
+    Ok(())
+}
+
+#[tactic(auto, unfolding(crate::specs::Instructions::table_rows))]
+fn write_table(out: &mut String, table: &TableSwitch) -> Result<(), AllocError>
+    ensures { OnOk result (out.new.bytes.items ≡ out.old.bytes.items ++ table_rows table.now) }
+{
+    write_targets(out, table.targets.as_slice())?;
+    write_default(out, table.default)
+}
+
+#[tactic(auto, unfolding(crate::specs::Instructions::lookup_rows))]
+fn write_lookup(out: &mut String, lookup: &LookupSwitch) -> Result<(), AllocError>
+    ensures { OnOk result (out.new.bytes.items ≡ out.old.bytes.items ++ lookup_rows lookup.now) }
+{
+    write_pairs(out, lookup.pairs.as_slice())?;
+    write_default(out, lookup.default)
+}
+
+/// Writes the lines of a switch below its first one; no other instruction has any. After an error
+/// some of them may stand there.
+#[tactic(auto, unfolding(crate::specs::Instructions::rows_text))]
+pub fn write_rows(out: &mut String, instruction: &Instr) -> Result<(), AllocError>
+    ensures { OnOk result (out.new.bytes.items ≡ out.old.bytes.items ++ rows_text instruction.now) }
+{
+    match instruction {
+        Instr::Plain(Plain::TableSwitch(table)) => write_table(out, table.get()),
+        Instr::Plain(Plain::LookupSwitch(lookup)) => write_lookup(out, lookup.get()),
+        _ => Ok(()),
+    }
+}
