@@ -1,10 +1,13 @@
 //! Assembler texts from classes (Jasmin User Guide).
 #![tactic(auto)]
 
+mod body;
 mod fault;
 mod flags;
+mod header;
 mod instruction;
 mod labels;
+mod member;
 mod names;
 mod said;
 mod string;

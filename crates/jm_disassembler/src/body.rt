@@ -1,0 +1,104 @@
+// The lines of a method's body (Jasmin User Guide, "Method Definitions").
+
+ghost use Rattle.std.specs.Prelude.{◌≡◌, ◌≤◌, ◌++◌, OnOk, Option, List, ℕ, IsTrue, length};
+ghost use Rattle.std.specs.List.{flat_map, list_all};
+ghost use Rattle.jm_program.specs.Instructions.{instr_fits};
+ghost use Rattle.jm_disassembler.specs.Bodies.{note, instr_lines, label_text, source_text, source_lines, lines_behind, body_text, caught_text, handler_text, limit_text, code_text};
+
+use crate::instruction::{write_instruction, write_rows};
+use crate::labels::{is_marked, marks_of};
+use jm_program::{Code, Handler, Instr, LineNumber, Name};
+use std::alloc::{AllocError, Global};
+use std::fmt::Write;
+
+// ---- instructions
+
+// The end of an instruction's line, with its number behind it where that is wanted.
+fn write_note(out: &mut String, commented: bool, number: usize) -> Result<(), AllocError>
+    ensures { OnOk result (out.new.bytes.items ≡ out.old.bytes.items ++ note commented number) }
+{
+    if commented {
+        write!(out, "  ; {number}\n")
+    } else {
+        out.push_str("\n")
+    }
+}
+
+#[tactic(auto, unfolding(crate::specs::Bodies::instr_lines))]
+fn write_instr(
+    out: &mut String,
+    commented: bool,
+    number: usize,
+    instruction: &Instr,
+) -> Result<(), AllocError>
+    requires { (count : ℕ) × IsTrue (instr_fits count instruction.now) }
+    ensures { OnOk result (out.new.bytes.items ≡ out.old.bytes.items ++ instr_lines commented number instruction.now) }
+{
+    out.push_str("  ")?;
+    write_instruction(out, instruction)?;
+    write_note(out, commented, number)?;
+    write_rows(out, instruction)
+}
+
+#[tactic(auto, unfolding(crate::specs::Bodies::label_text))]
+fn write_label(out: &mut String, marks: &[bool], number: usize) -> Result<(), AllocError>
+    ensures { OnOk result (out.new.bytes.items ≡ out.old.bytes.items ++ label_text marks.now number) }
+{
+    if is_marked(marks, number) {
+        write!(out, "L{number}:\n")?;
+    }
+    Ok(())
+}
+
+// ---- the line number table
+
+#[tactic(auto, unfolding(crate::specs::Bodies::source_text))]
+fn write_line(out: &mut String, row: &LineNumber) -> Result<(), AllocError>
+    ensures { OnOk result (out.new.bytes.items ≡ out.old.bytes.items ++ source_text row.now) }
+{
+    let line = row.line;
+    write!(out, "  .line {line}\n")
+}
+
+// ---- the exception table
+
+fn write_caught(out: &mut String, caught: &Option<Name>) -> Result<(), AllocError>
+    ensures { OnOk result (out.new.bytes.items ≡ out.old.bytes.items ++ caught_text caught.now) }
+{
+    match caught {
+        None => out.push_str("all"),
+        Some(name) => write!(out, "{name}"),
+    }
+}
+
+#[tactic(auto, unfolding(crate::specs::Bodies::handler_text))]
+fn write_handler(out: &mut String, handler: &Handler) -> Result<(), AllocError>
+    ensures { OnOk result (out.new.bytes.items ≡ out.old.bytes.items ++ handler_text handler.now) }
+{
+    let start = handler.start;
+    let end = handler.end;
+    let target = handler.target;
+    out.push_str("  .catch ")?;
+    write_caught(out, &handler.catch_type)?;
+    write!(out, " from L{start} to L{end} using L{target}\n")
+}
+
+fn write_handlers(out: &mut String, handlers: &[Handler]) -> Result<(), AllocError>
+    ensures { OnOk result (out.new.bytes.items ≡ out.old.bytes.items ++ flat_map handler_text handlers.now) }
+{
+    for handler in handlers {
+        write_handler(out, handler)?;
+    }
+    Ok(())
+}
+
+// ---- the body
+
+#[tactic(auto, unfolding(crate::specs::Bodies::limit_text))]
+fn write_limits(out: &mut String, code: &Code) -> Result<(), AllocError>
+    ensures { OnOk result (out.new.bytes.items ≡ out.old.bytes.items ++ limit_text code.now) }
+{
+    let stack = code.max_stack;
+    let locals = code.max_locals;
+    write!(out, "  .limit stack {stack}\n  .limit locals {locals}\n")
+}

@@ -1,0 +1,89 @@
+// The lines before the fields (Jasmin User Guide, "Jasmin Assembler Directives").
+
+ghost use Rattle.std.specs.Prelude.{◌≡◌, ◌<◌, ◌^◌, ◌++◌, OnOk, Option, List, ℕ};
+ghost use Rattle.std.specs.List.{flat_map};
+ghost use Rattle.jm_disassembler.specs.Texts.{version_text, source_text, class_flags_said, declaration_front, declaration_text, super_text, implements_text};
+
+use crate::flags::{
+    class_flags_said as plain_flags_said, interface_flags_said, write_class_flags,
+    write_interface_flags,
+};
+use crate::member::write_flags_note;
+use jm_program::{AccessFlags, ClassParts, Name, Sequence, Version};
+use std::alloc::{AllocError, Global};
+use std::fmt::Write;
+
+/// Writes `.bytecode`.
+#[tactic(auto, unfolding(crate::specs::Texts::version_text))]
+pub fn write_version(out: &mut String, version: Version) -> Result<(), AllocError>
+    ensures { OnOk result (out.new.bytes.items ≡ out.old.bytes.items ++ version_text version) }
+{
+    let major = version.major;
+    let minor = version.minor;
+    write!(out, ".bytecode {major}.{minor}\n")
+}
+
+/// Writes `.super`.
+pub fn write_super(out: &mut String, superclass: &Option<Name>) -> Result<(), AllocError>
+    ensures { OnOk result (out.new.bytes.items ≡ out.old.bytes.items ++ super_text superclass.now) }
+{
+    match superclass {
+        None => Ok(()),
+        Some(name) => write!(out, ".super {name}\n"),
+    }
+}
+
+#[tactic(auto, unfolding(crate::specs::Texts::implements_text))]
+fn write_interface(out: &mut String, name: &Name) -> Result<(), AllocError>
+    ensures { OnOk result (out.new.bytes.items ≡ out.old.bytes.items ++ implements_text name.now) }
+{
+    write!(out, ".implements {name}\n")
+}
+
+/// Writes a line for each interface.
+pub fn write_interfaces(out: &mut String, names: &[Name]) -> Result<(), AllocError>
+    ensures { OnOk result (out.new.bytes.items ≡ out.old.bytes.items ++ flat_map implements_text names.now) }
+{
+    for name in names {
+        write_interface(out, name)?;
+    }
+    Ok(())
+}
+
+/// Whether the words of a class's flags say them all.
+pub fn class_flags_said(flags: AccessFlags) -> bool
+    ensures { result ≡ class_flags_said flags }
+{
+    if flags.has(AccessFlags::INTERFACE) {
+        interface_flags_said(flags.bits)
+    } else {
+        plain_flags_said(flags.bits)
+    }
+}
+
+fn write_front(out: &mut String, flags: AccessFlags) -> Result<(), AllocError>
+    ensures { OnOk result (out.new.bytes.items ≡ out.old.bytes.items ++ declaration_front flags) }
+{
+    if flags.has(AccessFlags::INTERFACE) {
+        out.push_str(".interface ")?;
+        write_interface_flags(out, flags.bits)
+    } else {
+        out.push_str(".class ")?;
+        write_class_flags(out, flags.bits)
+    }
+}
+
+/// Writes `.class` or `.interface`.
+#[tactic(auto, unfolding(crate::specs::Texts::declaration_text))]
+pub fn write_declaration(
+    out: &mut String,
+    commented: bool,
+    class: &ClassParts,
+) -> Result<(), AllocError>
+    ensures { OnOk result (out.new.bytes.items ≡ out.old.bytes.items ++ declaration_text commented class.now) }
+{
+    let name = &class.name;
+    write_front(out, class.flags)?;
+    write!(out, "{name}")?;
+    write_flags_note(out, commented, class.flags.bits, class_flags_said(class.flags))
+}
