@@ -1,7 +1,7 @@
 -- The line of an instruction is laid out, and it is that of the instruction.
 use Rattle.std.proofs.Common.{◌≡◌, ℕ, zero, suc, ◌+◌, ◌-◌, ◌<◌, ◌≤◌, ◌^◌, ◌==◌, Bool, true, false, not, ◌&&◌, ◌||◌, List, [], ◌∷◌, ◌++◌, length, take, drop, Option, Some, None, Result, Ok, refl, replicate, codes}
 use Rattle.std.proofs.Common.{ap, sym, ◌∙◌, arith, subst, append_assoc, length-append, nat_lt, nat_le, position}
-use Rattle.std.specs.Prelude.{ℤ, pos, negsuc, int_le, FitsSigned}
+use Rattle.std.specs.Prelude.{ℤ, pos, negsuc, int_le, FitsSigned, min}
 use Rattle.std.specs.Int.{w8, w16, w32, w64}
 use Rattle.std.specs.List.{list_all, flat_map}
 use Rattle.std.specs.Fmt.{decimal, signed_decimal}
@@ -483,10 +483,13 @@ module _ (tail : List ℕ) (at_end : Laid tail []) (part : apart tail ≡ true) 
       let few : nat_le (argument_slots m.descriptor + 1) 255 ≡ true = (fits_parts invoke.Interface m fits).4 in
       let le : argument_slots m.descriptor + 1 ≤ 255 = grind (arith, nat_tests) in
       let n : ℕ = argument_slots m.descriptor + 1 in
-      subst (λ (t : List ℕ). Laid ((front (invoke_mnemonic invoke.Interface) ++ (t ++ 32 ∷ decimal n)) ++ tail)
+      let least : n ≡ min n 256 = omega arith in
+      subst (λ (k : ℕ). Laid ((front (invoke_mnemonic invoke.Interface) ++ (method_ref_line m ++ 32 ∷ decimal k)) ++ tail)
+      (bare (invoke_mnemonic invoke.Interface) ∷ bare (method_word m) ∷ bare (decimal n) ∷ [])) least
+      (subst (λ (t : List ℕ). Laid ((front (invoke_mnemonic invoke.Interface) ++ (t ++ 32 ∷ decimal n)) ++ tail)
       (bare (invoke_mnemonic invoke.Interface) ∷ bare (method_word m) ∷ bare (decimal n) ∷ []))
       (sym (method_text_is m)) (operands (invoke_mnemonic invoke.Interface) (method_word m) (decimal n) (invoke_names invoke.Interface)
-      (method_is_word invoke.Interface m fits h all) (decimal_word n (omega arith)))
+      (method_is_word invoke.Interface m fits h all) (decimal_word n (omega arith))))
 
   pub instr_laid : (count : ℕ) (i : Instr) → count < 2 ^ 64 → instr_fits count i ≡ true → instr_said i ≡ true → InstrInRange i
       → Laid (instr_text i ++ tail) (instr_words i)

@@ -10,6 +10,7 @@ pub mod Instructions
 pub mod Switches
 pub mod Marks
 pub mod MarkLoops
+pub mod Writing
 pub mod Bodies
 pub mod Codes
 pub mod FlagWords

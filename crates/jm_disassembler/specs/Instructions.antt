@@ -1,5 +1,5 @@
 -- The lines of an instruction, its operands in one column (Jasmin User Guide, "Instructions").
-use Rattle.std.specs.Prelude.{ℕ, ◌+◌, ◌-◌, List, [], ◌∷◌, ◌++◌, length, replicate, codes}
+use Rattle.std.specs.Prelude.{ℕ, ◌+◌, ◌-◌, List, [], ◌∷◌, ◌++◌, length, replicate, codes, min}
 use Rattle.std.specs.List.{flat_map}
 use Rattle.std.specs.Fmt.{decimal, signed_decimal}
 use Rattle.jm_program.specs.Descriptors.{argument_slots}
@@ -66,9 +66,9 @@ constant_text (constant.Int n) = front (codes "ldc") ++ signed_decimal n
 constant_text (constant.Long n) = front (codes "ldc2_w") ++ signed_decimal n
 constant_text (constant.String units) = front (codes "ldc") ++ (codes "\"" ++ (string_text units ++ codes "\""))
 
--- what invokeinterface counts: the argument slots and the receiver's
+-- what invokeinterface counts: the argument slots and the receiver's; 256 for more, which no class has
 unfoldable pub count_text : InvokeOp → MethodRef → List ℕ
-count_text invoke.Interface m = codes " " ++ decimal (argument_slots m.descriptor + 1)
+count_text invoke.Interface m = codes " " ++ decimal (min (argument_slots m.descriptor + 1) 256)
 count_text _ m = []
 
 unfoldable pub instr_text : Instr → List ℕ

@@ -1,8 +1,7 @@
 // The lines of a method's body (Jasmin User Guide, "Method Definitions").
 
-ghost use Rattle.std.specs.Prelude.{◌≡◌, ◌≤◌, ◌++◌, OnOk, Option, List, ℕ, IsTrue, length};
-ghost use Rattle.std.specs.List.{flat_map, list_all};
-ghost use Rattle.jm_program.specs.Instructions.{instr_fits};
+ghost use Rattle.std.specs.Prelude.{◌≡◌, ◌≤◌, ◌++◌, OnOk, IfOk, Option, length, drop};
+ghost use Rattle.std.specs.List.{flat_map};
 ghost use Rattle.jm_disassembler.specs.Bodies.{note, instr_lines, label_text, source_text, source_lines, lines_behind, body_text, caught_text, handler_text, limit_text, code_text};
 
 use crate::instruction::{write_instruction, write_rows};
@@ -31,7 +30,6 @@ fn write_instr(
     number: usize,
     instruction: &Instr,
 ) -> Result<(), AllocError>
-    requires { (count : ℕ) × IsTrue (instr_fits count instruction.now) }
     ensures { OnOk result (out.new.bytes.items ≡ out.old.bytes.items ++ instr_lines commented number instruction.now) }
 {
     out.push_str("  ")?;
@@ -101,4 +99,67 @@ fn write_limits(out: &mut String, code: &Code) -> Result<(), AllocError>
     let stack = code.max_stack;
     let locals = code.max_locals;
     write!(out, "  .limit stack {stack}\n  .limit locals {locals}\n")
+}
+
+// Writes the lines of the rows at the front that begin at an instruction, and counts them.
+fn write_sources(
+    out: &mut String,
+    number: usize,
+    lines: &[LineNumber],
+) -> Result<usize, AllocError>
+    ensures text { OnOk result (out.new.bytes.items ≡ out.old.bytes.items ++ source_lines number lines.now) }
+    ensures behind { IfOk result (λ count. drop count lines.now ≡ lines_behind number lines.now) }
+    ensures few { IfOk result (λ count. count ≤ length lines.now) }
+{
+    let mut count = 0;
+    for row in lines {
+        if row.start as usize != number {
+            return Ok(count);
+        }
+        write_line(out, row)?;
+        count += 1;
+    }
+    Ok(count)
+}
+
+fn write_body(
+    out: &mut String,
+    commented: bool,
+    marks: &[bool],
+    instructions: &[Instr],
+    lines: &[LineNumber],
+) -> Result<(), AllocError>
+    ensures { OnOk result (out.new.bytes.items ≡ out.old.bytes.items ++ body_text commented marks.now 0 instructions.now lines.now) }
+{
+    let mut at = 0;
+    for number in 0..instructions.len() {
+        write_label(out, marks, number)?;
+        let count = write_sources(out, number, &lines[at..])?;
+        at += count;
+        write_instr(out, commented, number, &instructions[number])?;
+    }
+    write_label(out, marks, instructions.len())
+}
+
+/// Writes the lines between `.method` and `.end method`. After an error some of them may stand
+/// there.
+#[tactic(auto, unfolding(crate::specs::Bodies::code_text))]
+pub fn write_code(
+    alloc: Global,
+    out: &mut String,
+    commented: bool,
+    code: &Code,
+) -> Result<(), AllocError>
+    ensures { OnOk result (out.new.bytes.items ≡ out.old.bytes.items ++ code_text commented code.now) }
+{
+    let marks = marks_of(alloc, code)?;
+    write_limits(out, code)?;
+    write_handlers(out, code.handlers.as_slice())?;
+    write_body(
+        out,
+        commented,
+        &marks,
+        code.instructions.as_slice(),
+        code.lines.as_slice(),
+    )
 }

@@ -1,6 +1,7 @@
 // The lines before the fields (Jasmin User Guide, "Jasmin Assembler Directives").
 
-ghost use Rattle.std.specs.Prelude.{◌≡◌, ◌<◌, ◌^◌, ◌++◌, OnOk, Option, List, ℕ};
+ghost use Rattle.std.specs.Prelude.{◌≡◌, ◌<◌, ◌^◌, ◌++◌, OnOk, IfOk, Option, codes};
+ghost use Rattle.jm_disassembler.specs.Flags.{class_rows, interface_rows, flags_text};
 ghost use Rattle.std.specs.List.{flat_map};
 ghost use Rattle.jm_disassembler.specs.Texts.{version_text, source_text, class_flags_said, declaration_front, declaration_text, super_text, implements_text};
 
@@ -61,15 +62,27 @@ pub fn class_flags_said(flags: AccessFlags) -> bool
     }
 }
 
+fn write_interface_front(out: &mut String, bits: u16) -> Result<(), AllocError>
+    ensures { OnOk result (out.new.bytes.items ≡ out.old.bytes.items ++ (codes ".interface " ++ flags_text bits interface_rows)) }
+{
+    out.push_str(".interface ")?;
+    write_interface_flags(out, bits)
+}
+
+fn write_class_front(out: &mut String, bits: u16) -> Result<(), AllocError>
+    ensures { OnOk result (out.new.bytes.items ≡ out.old.bytes.items ++ (codes ".class " ++ flags_text bits class_rows)) }
+{
+    out.push_str(".class ")?;
+    write_class_flags(out, bits)
+}
+
 fn write_front(out: &mut String, flags: AccessFlags) -> Result<(), AllocError>
     ensures { OnOk result (out.new.bytes.items ≡ out.old.bytes.items ++ declaration_front flags) }
 {
     if flags.has(AccessFlags::INTERFACE) {
-        out.push_str(".interface ")?;
-        write_interface_flags(out, flags.bits)
+        write_interface_front(out, flags.bits)
     } else {
-        out.push_str(".class ")?;
-        write_class_flags(out, flags.bits)
+        write_class_front(out, flags.bits)
     }
 }
 
@@ -86,4 +99,29 @@ pub fn write_declaration(
     write_front(out, class.flags)?;
     write!(out, "{name}")?;
     write_flags_note(out, commented, class.flags.bits, class_flags_said(class.flags))
+}
+
+// A name of the same code units.
+fn name_of(alloc: Global, units: &[u16]) -> Result<Name, AllocError>
+    ensures { IfOk result (λ name. name ≡ units.now) }
+{
+    let units = Vec::from_slice(alloc, units)?;
+    Ok(Name::new(units))
+}
+
+/// Writes `.source`, where the class has one.
+pub fn write_source(
+    alloc: Global,
+    out: &mut String,
+    source: &Option<Sequence<u16>>,
+) -> Result<(), AllocError>
+    ensures { OnOk result (out.new.bytes.items ≡ out.old.bytes.items ++ source_text source.now) }
+{
+    match source {
+        None => Ok(()),
+        Some(units) => {
+            let name = name_of(alloc, units.as_slice())?;
+            write!(out, ".source {name}\n")
+        }
+    }
 }

@@ -1,7 +1,6 @@
 // The lines of an instruction, its operands in one column (Jasmin User Guide, "Instructions").
 
-ghost use Rattle.std.specs.Prelude.{◌≡◌, ◌≤◌, ◌++◌, OnOk, IsTrue, codes, ℕ};
-ghost use Rattle.jm_program.specs.Instructions.{instr_fits};
+ghost use Rattle.std.specs.Prelude.{◌≡◌, ◌+◌, ◌++◌, OnOk, codes, min};
 ghost use Rattle.jm_program.specs.JasminTypes.{method_ref_line};
 ghost use Rattle.jm_program.specs.declared.instruction.operation.Branch.TheVariants.{If, IfInts};
 ghost use Rattle.std.specs.List.{flat_map};
@@ -13,7 +12,7 @@ ghost use Rattle.jm_disassembler.specs.Instructions.{front, target_row, default_
 
 use jm_program::{
     ArrayOp, Branch, Comparison, Constant, Equality, FieldOp, Instr, InvokeOp, LookupSwitch,
-    MethodRef, OperandType, Plain, SwitchPair, TableSwitch, TypeOp,
+    MethodDescriptor, MethodRef, OperandType, Plain, SwitchPair, TableSwitch, TypeOp,
 };
 use crate::string::write_string;
 use std::alloc::AllocError;
@@ -187,15 +186,24 @@ fn write_constant(out: &mut String, constant: &Constant) -> Result<(), AllocErro
 
 // ---- references
 
+// The argument slots with the receiver's, or 256 for more than 255.
+fn slots_with_receiver(descriptor: &MethodDescriptor) -> u16
+    ensures { result ≡ min (argument_slots descriptor.now + 1) 256 }
+{
+    match descriptor.argument_slots() {
+        Some(slots) => u16::from(slots) + 1,
+        None => 256,
+    }
+}
+
 // What `invokeinterface` counts: the argument slots and the receiver's.
 #[tactic(auto, unfolding(crate::specs::Instructions::count_text))]
 fn write_count(out: &mut String, op: InvokeOp, method: &MethodRef) -> Result<(), AllocError>
-    requires { argument_slots method.now.descriptor ≤ 255 }
     ensures { OnOk result (out.new.bytes.items ≡ out.old.bytes.items ++ count_text op method.now) }
 {
     match op {
         InvokeOp::Interface => {
-            let slots = u16::from(method.descriptor.argument_slots().unwrap()) + 1;
+            let slots = slots_with_receiver(&method.descriptor);
             write!(out, " {slots}")
         }
         _ => Ok(()),
@@ -203,7 +211,6 @@ fn write_count(out: &mut String, op: InvokeOp, method: &MethodRef) -> Result<(),
 }
 
 fn write_invoke(out: &mut String, op: InvokeOp, method: &MethodRef) -> Result<(), AllocError>
-    requires { argument_slots method.now.descriptor ≤ 255 }
     ensures { OnOk result (out.new.bytes.items ≡ out.old.bytes.items ++ (front (invoke_mnemonic op) ++ (method_ref_line method.now ++ count_text op method.now))) }
 {
     let front = invoke_front(op);
@@ -217,7 +224,6 @@ fn write_invoke(out: &mut String, op: InvokeOp, method: &MethodRef) -> Result<()
 /// there.
 #[tactic(auto, unfolding(crate::specs::Instructions::instr_text))]
 pub fn write_instruction(out: &mut String, instruction: &Instr) -> Result<(), AllocError>
-    requires { (count : ℕ) × IsTrue (instr_fits count instruction.now) }
     ensures { OnOk result (out.new.bytes.items ≡ out.old.bytes.items ++ instr_text instruction.now) }
 {
     match instruction {

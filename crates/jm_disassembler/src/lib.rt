@@ -2,7 +2,9 @@
 #![tactic(auto)]
 
 mod body;
+mod disassembly;
 mod fault;
+mod first;
 mod flags;
 mod header;
 mod instruction;

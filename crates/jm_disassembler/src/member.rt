@@ -3,13 +3,14 @@
 ghost use Rattle.std.specs.Prelude.{◌≡◌, ◌++◌, OnOk, Option, codes};
 ghost use Rattle.jm_program.specs.JasminUnits.{string_text};
 ghost use Rattle.std.specs.List.{flat_map};
-ghost use Rattle.jm_disassembler.specs.Members.{flags_note, constant_value, value_text, field_text};
+ghost use Rattle.jm_disassembler.specs.Members.{flags_note, constant_value, value_text, field_text, body_of, method_text};
 ghost use Rattle.jm_disassembler.specs.Texts.{fields_text};
 
+use crate::body::write_code;
 use crate::flags::{member_flags_said, write_member_flags, write_wordless_flags};
 use crate::string::write_string;
-use jm_program::{Constant, Field};
-use std::alloc::AllocError;
+use jm_program::{Code, Constant, Field, Method};
+use std::alloc::{AllocError, Global};
 use std::fmt::Write;
 
 /// Writes the end of a line with flags, and behind it those that have no word, where that is
@@ -87,4 +88,55 @@ pub fn write_fields(out: &mut String, commented: bool, fields: &[Field]) -> Resu
     out.push_str("\n")?;
     write_field(out, commented, first)?;
     write_more_fields(out, commented, others)
+}
+
+// ---- methods
+
+fn write_body(
+    alloc: Global,
+    out: &mut String,
+    commented: bool,
+    code: &Option<Code>,
+) -> Result<(), AllocError>
+    ensures { OnOk result (out.new.bytes.items ≡ out.old.bytes.items ++ body_of commented code.now) }
+{
+    match code {
+        None => Ok(()),
+        Some(code) => write_code(alloc, out, commented, code),
+    }
+}
+
+#[tactic(auto, unfolding(crate::specs::Members::method_text))]
+fn write_method(
+    alloc: Global,
+    out: &mut String,
+    commented: bool,
+    method: &Method,
+) -> Result<(), AllocError>
+    ensures { OnOk result (out.new.bytes.items ≡ out.old.bytes.items ++ method_text commented method.now) }
+{
+    let bits = method.flags.bits;
+    let name = &method.name;
+    let descriptor = &method.descriptor;
+    out.push_str("\n.method ")?;
+    write_member_flags(out, bits)?;
+    write!(out, "{name}{descriptor}")?;
+    write_flags_note(out, commented, bits, member_flags_said(bits))?;
+    write_body(alloc, out, commented, &method.code)?;
+    out.push_str(".end method\n")
+}
+
+/// Writes the lines of methods, an empty one before each.
+pub fn write_methods(
+    alloc: Global,
+    out: &mut String,
+    commented: bool,
+    methods: &[Method],
+) -> Result<(), AllocError>
+    ensures { OnOk result (out.new.bytes.items ≡ out.old.bytes.items ++ flat_map (method_text commented) methods.now) }
+{
+    for method in methods {
+        write_method(alloc, out, commented, method)?;
+    }
+    Ok(())
 }
