@@ -1,7 +1,7 @@
 -- The text of a class of which each part can be said denotes that class.
 use Rattle.std.proofs.Common.{◌≡◌, ℕ, zero, suc, ◌+◌, ◌<◌, ◌≤◌, ◌^◌, ◌==◌, Bool, true, false, not, ◌&&◌, ◌||◌, List, [], ◌∷◌, ◌++◌, length, Option, Some, None, Ok, refl, codes, position}
 use Rattle.std.proofs.Common.{ap, sym, ◌∙◌, arith, subst, append_assoc, nat_lt, nat_le, IsTrue}
-use Rattle.std.specs.Prelude.{if◌then◌else◌}
+use Rattle.std.specs.Prelude.{if◌then◌else◌, IfOk, Result, Err}
 use Rattle.std.specs.List.{list_all, flat_map, position_or_len}
 use Rattle.std.proofs.lemmas.List.{append-nil}
 use Rattle.std.proofs.lemmas.Bool.Decides.{nat_tests}
@@ -392,3 +392,16 @@ text_denotes commented c fits minor said =
       interfaces = interfaces;
     })
     (fields_known 0 c.fields fits.fields b.0) (methods_known (is_interface c.flags) 0 c.methods fits.methods b.1)
+
+-- the same of what a call was given and what it wrote
+pub written_denotes : (commented : Bool) (c parts : ClassParts) (minor : ℕ) (text : List ℕ) → parts ≡ c → Fits c → minor ≡ parts.version.minor → minor < 2 ^ 16
+    → text ≡ class_text commented parts → first_unsaid c ≡ None → denoted text ≡ Ok c
+written_denotes commented c parts minor text same fits is small written said =
+    let version : parts.version.minor ≡ c.version.minor = ap (λ (p : ClassParts). p.version.minor) same in
+    let lt : c.version.minor < 2 ^ 16 = omega (arith, is, version, small) in
+    ap denoted (written ∙ ap (class_text commented) same) ∙ text_denotes commented c fits lt said
+
+pub if_written : {X E : Type 0} (view : X → List ℕ) (r : Result X E) (c parts : ClassParts) (minor : ℕ) → parts ≡ c → Fits c → minor ≡ parts.version.minor
+    → minor < 2 ^ 16 → IfOk r (λ x. view x ≡ class_text true parts) → IfOk r (λ x. first_unsaid c ≡ None → denoted (view x) ≡ Ok c)
+if_written view (Ok x) c parts minor same fits is small written = λ said. written_denotes true c parts minor (view x) same fits is small written said
+if_written view (Err e) c parts minor same fits is small written = tt

@@ -1,11 +1,18 @@
 // The assembler text of a class (Jasmin User Guide).
 
-ghost use Rattle.std.specs.Prelude.{◌≡◌, ◌<◌, ◌^◌, ◌++◌, OnOk, IfOk, None};
+ghost use Rattle.std.specs.Prelude.{◌≡◌, ◌<◌, ◌^◌, ◌++◌, OnOk, IfOk, None, Ok};
+ghost use Rattle.jm_program.specs.declared.class.ClassParts.{ClassParts};
+ghost use Rattle.jm_jasmin.specs.Text.{denoted};
 ghost use Rattle.jm_disassembler.specs.Texts.{class_text};
+ghost use Rattle.jm_disassembler.specs.Unsaid.{first_unsaid};
+ghost use Rattle.jm_disassembler.specs.Disassembly.{Disassembles};
 
+use crate::fault::DisassemblyFault;
+use crate::first::first_of;
 use crate::header::{write_declaration, write_interfaces, write_source, write_super, write_version};
 use crate::member::{write_fields, write_methods};
-use jm_program::ClassParts;
+use crate::unsaid::Unsaid;
+use jm_program::{Class, ClassParts};
 use std::alloc::{AllocError, Global};
 
 #[tactic(auto, unfolding(crate::specs::Texts::class_text))]
@@ -24,4 +31,66 @@ fn write_class(
     write_interfaces(out, class.interfaces.as_slice())?;
     write_fields(out, commented, class.fields.as_slice())?;
     write_methods(alloc, out, commented, class.methods.as_slice())
+}
+
+fn text_of(alloc: Global, commented: bool, class: &ClassParts) -> Result<String, AllocError>
+    ensures { IfOk result (λ text. text.bytes.items ≡ class_text commented class.now) }
+{
+    let mut text = String::new(alloc);
+    write_class(alloc, &mut text, commented, class)?;
+    Ok(text)
+}
+
+// A number of 16 bits.
+fn is_minor(minor: u16) -> u16
+    ensures value { result ≡ minor }
+    ensures small { result < 2 ^ 16 }
+{
+    minor
+}
+
+/// The first part of a class that no text can say, in the order of a text, if there is one.
+pub fn first_unsaid(class: &Class) -> Option<Unsaid>
+    ensures { result ≡ first_unsaid class.now }
+{
+    first_of(class.parts())
+}
+
+/// The text of a class: it denotes that very class, so to assemble it gives the class back, want
+/// of memory apart. It takes time and memory in the class.
+///
+/// # Errors
+/// [`DisassemblyFault::NoText`] with the first part that no text can say, exactly where there is
+/// one: a name or a type with a blank, a control character, a `;`, a `\` or half of a surrogate
+/// pair, or with a `"` where its word begins; a method's name or its class with a `(`; a field
+/// without a value by the name `=`; a handler of a class by the name `all`; a flag that has no
+/// word; line numbers that do not follow the instructions; and java/lang/Object, which has no
+/// superclass. [`DisassemblyFault::OutOfMemory`] where a growth was refused.
+pub fn disassemble(alloc: Global, class: &Class) -> Result<String, DisassemblyFault>
+    ensures { Disassembles (λ text. text.bytes.items) result class.now }
+{
+    let parts = class.parts();
+    let _minor = is_minor(parts.version.minor);
+    match first_of(parts) {
+        Some(part) => Err(DisassemblyFault::NoText(part)),
+        None => {
+            let text = text_of(alloc, false, parts)?;
+            Ok(text)
+        }
+    }
+}
+
+/// The text of a class with comments: behind each instruction its number, and behind the flags of
+/// the class or a member those that no word says. Where each part can be said the text denotes
+/// the class, too; elsewhere it serves a reader, and no assembler. It takes time and memory in the
+/// class.
+///
+/// # Errors
+/// [`AllocError`] where a growth was refused.
+pub fn disassemble_with_comments(alloc: Global, class: &Class) -> Result<String, AllocError>
+    ensures { IfOk result (λ text. first_unsaid class.now ≡ None → denoted text.bytes.items ≡ Ok class.now) }
+{
+    let parts = class.parts();
+    let _minor = is_minor(parts.version.minor);
+    text_of(alloc, true, parts)
 }

@@ -1,7 +1,9 @@
 // Why a class has no text.
 
+ghost use Rattle.std.specs.Prelude.{◌≡◌};
+
 use crate::unsaid::Unsaid;
-use std::alloc::{AllocError, AllocFailed};
+use std::alloc::AllocError;
 use std::fmt;
 use thiserror::Error;
 
@@ -20,5 +22,15 @@ pub enum DisassemblyFault {
 impl fmt::Debug for DisassemblyFault {
     fn fmt<W: fmt::Write>(&self, f: &mut fmt::Formatter<W>) -> fmt::Result {
         fmt::Display::fmt(self, f)
+    }
+}
+
+impl From<AllocError> for DisassemblyFault {
+    ghost use Rattle.jm_disassembler.specs.declared.fault.DisassemblyFault.TheVariants.{OutOfMemory};
+
+    ghost from_gives = { λ _ fault. fault ≡ OutOfMemory };
+
+    fn from(_error: AllocError) -> DisassemblyFault {
+        DisassemblyFault::OutOfMemory
     }
 }

@@ -59,8 +59,9 @@ fn fields_part(fields: &[Field]) -> Option<Unsaid>
     ensures { result ≡ fields_part 0 fields.now }
 {
     for number in 0..fields.len() {
-        if let Some(part) = field_part(&fields[number]) {
-            return Some(Unsaid::Field(number, part));
+        match field_part(&fields[number]) {
+            Some(part) => return Some(Unsaid::Field(number, part)),
+            None => {}
         }
     }
     None
@@ -177,8 +178,9 @@ fn methods_part(methods: &[Method]) -> Option<Unsaid>
     ensures { result ≡ methods_part 0 methods.now }
 {
     for number in 0..methods.len() {
-        if let Some(part) = method_part(&methods[number]) {
-            return Some(Unsaid::Method(number, part));
+        match method_part(&methods[number]) {
+            Some(part) => return Some(Unsaid::Method(number, part)),
+            None => {}
         }
     }
     None
@@ -231,7 +233,7 @@ fn header_part(class: &ClassParts) -> Option<ClassPart>
 
 /// The first part of a class that no text can say, in the order of the text.
 #[tactic(auto, unfolding(crate::specs::Unsaid::first_unsaid))]
-pub fn first_unsaid(class: &ClassParts) -> Option<Unsaid>
+pub fn first_of(class: &ClassParts) -> Option<Unsaid>
     ensures { result ≡ first_unsaid class.now }
 {
     if let Some(part) = header_part(class) {

@@ -15,5 +15,6 @@ mod said;
 mod string;
 mod unsaid;
 
+pub use disassembly::{disassemble, disassemble_with_comments, first_unsaid};
 pub use fault::DisassemblyFault;
 pub use unsaid::{ClassPart, FieldPart, MethodPart, Unsaid};
