@@ -1,8 +1,8 @@
 -- The lines of a body are laid out, and their items are accepted one after the other.
-use Rattle.std.proofs.Common.{◌≡◌, ℕ, zero, suc, ◌+◌, ◌-◌, ◌<◌, ◌≤◌, ◌^◌, ◌==◌, Bool, true, false, not, ◌&&◌, ◌||◌, List, [], ◌∷◌, ◌++◌, length, Option, Some, None, Result, Ok, Err, refl, codes, is_some}
-use Rattle.std.proofs.Common.{ap, sym, ◌∙◌, arith, subst, append_assoc, nat_lt, nat_le, eqb-true}
-use Rattle.std.specs.Prelude.{if◌then◌else◌, All}
-use Rattle.std.specs.List.{list_all, flat_map}
+use Rattle.std.proofs.Common.{◌≡◌, ℕ, suc, ◌+◌, ◌<◌, ◌≤◌, ◌^◌, ◌==◌, Bool, true, false, List, [], ◌∷◌, ◌++◌, length, None, Ok, refl, codes}
+use Rattle.std.proofs.Common.{ap, sym, ◌∙◌, arith, subst, append_assoc, nat_lt, eqb-true}
+use Rattle.std.specs.Prelude.{if◌then◌else◌}
+use Rattle.std.specs.List.{list_all}
 use Rattle.std.specs.Fmt.{decimal}
 use Rattle.std.proofs.lemmas.List.{append-nil}
 use Rattle.std.proofs.lemmas.Bool.Decides.{nat_tests}
@@ -22,13 +22,11 @@ use Rattle.jm_program.specs.declared.instruction.plain.Plain.TheVariants as plai
 use Rattle.jm_program.specs.declared.instruction.symbolic.Instr.{Instr}
 use Rattle.jm_program.specs.declared.instruction.symbolic.Instr.TheVariants as instr
 use Rattle.jm_class_writer.specs.Ranges.{InstrInRange}
-use Rattle.jm_class_writer.proofs.PartLaws.{all_tail, all_head}
 use Rattle.jm_jasmin_ops.specs.declared.labelled.LabelledInstr.{LabelledInstr}
 use Rattle.jm_jasmin.specs.declared.item.Item.{Item}
 use Rattle.jm_jasmin.specs.declared.item.Item.TheVariants as item
 use Rattle.jm_jasmin.specs.Items.{instruction_here, instruction_count, value_here, label_value, instruction_accepted, accepted, without_last}
 use Rattle.jm_jasmin.specs.WordForms.{Word, Line, bare}
-use Rattle.jm_jasmin.specs.InstructionForms.{InstructionLine, SwitchLines}
 use Rattle.jm_jasmin.specs.MethodForms.{BodyLine, BodyLines}
 use Rattle.jm_jasmin.specs.MethodForms.BodyLine.{source_line, label, instruction}
 use Rattle.jm_jasmin.specs.MethodForms.BodyLines.{ends as no_more, and_line, and_switch}
@@ -37,9 +35,9 @@ use Rattle.jm_disassembler.specs.Labels.{label_name, label_word, is_marked}
 use Rattle.jm_disassembler.specs.Instructions.{instr_text, rows_text}
 use Rattle.jm_disassembler.specs.Said.{instr_said}
 use Rattle.jm_disassembler.specs.Bodies.{note, instr_lines, label_text, source_text, source_lines, lines_behind, body_text}
-use Rattle.jm_disassembler.proofs.Laid.{is_word_byte, in_line, apart, Laid, Texts}
+use Rattle.jm_disassembler.proofs.Laid.{in_line, apart, Laid, Texts}
 use Rattle.jm_disassembler.proofs.Laid.Laid.{ends, comment, blank, word}
-use Rattle.jm_disassembler.proofs.Laid.Texts.{nothing, line}
+use Rattle.jm_disassembler.proofs.Laid.Texts.{line}
 use Rattle.jm_disassembler.proofs.Numbers.{is_decimal, decimal_is}
 use Rattle.jm_disassembler.proofs.LabelWords.{label_is_word, label_ends, label_is, other_label}
 use Rattle.jm_disassembler.proofs.Instructions.{plain_words, array_words, constant_words, instr_words, instr_laid, short_is, decimal_word}
@@ -160,7 +158,7 @@ instr_laid_out commented count k i few lt s rest lines h =
     let r : List ℕ = rows_text i in
     let first : Laid (32 ∷ 32 ∷ (t ++ n)) (instr_words i) = blank (blank (instr_laid n (note_laid commented k lt) (note_apart commented k) count i few s.fits s.said s.range)) in
     let parts : (t ++ (n ++ r)) ++ rest ≡ (t ++ n) ++ (r ++ rest) =
-        ap (λ (x : List ℕ). x ++ rest) (sym (append_assoc t n r)) ∙ append_assoc (t ++ n) r rest in
+    ap (λ (x : List ℕ). x ++ rest) (sym (append_assoc t n r)) ∙ append_assoc (t ++ n) r rest in
     texts_as _ ((32 ∷ 32 ∷ (t ++ n)) ++ (r ++ rest)) _ (ap (λ (x : List ℕ). 32 ∷ 32 ∷ x) parts)
     (some_line (instr_words i) (words_some i) first (rows_laid count i few s.fits s.range rest lines h))
 
@@ -214,12 +212,12 @@ body_laid commented marks count k (i ∷ is) ls few lt all range rest lines h =
     let with_sources = sources_laid k ls range (il ++ (bt ++ rest)) ((instr_words i ∷ row_lines i) ++ (bl ++ lines)) one_more in
     let whole = label_laid marks k (omega arith) _ _ with_sources in
     let texts : (label_text marks k ++ (source_lines k ls ++ (il ++ bt))) ++ rest ≡ label_text marks k ++ (source_lines k ls ++ (il ++ (bt ++ rest))) =
-        append_assoc (label_text marks k) (source_lines k ls ++ (il ++ bt)) rest
-        ∙ ap (λ (x : List ℕ). label_text marks k ++ x) (append_assoc (source_lines k ls) (il ++ bt) rest ∙ ap (λ (x : List ℕ). source_lines k ls ++ x) (append_assoc il bt rest)) in
+    append_assoc (label_text marks k) (source_lines k ls ++ (il ++ bt)) rest
+    ∙ ap (λ (x : List ℕ). label_text marks k ++ x) (append_assoc (source_lines k ls) (il ++ bt) rest ∙ ap (λ (x : List ℕ). source_lines k ls ++ x) (append_assoc il bt rest)) in
     let own : List Line = instr_words i ∷ row_lines i in
     let all_lines : (label_lines marks k ++ (source_rows k ls ++ (own ++ bl))) ++ lines ≡ label_lines marks k ++ (source_rows k ls ++ (own ++ (bl ++ lines))) =
-        append_assoc (label_lines marks k) (source_rows k ls ++ (own ++ bl)) lines
-        ∙ ap (λ (x : List Line). label_lines marks k ++ x) (append_assoc (source_rows k ls) (own ++ bl) lines ∙ ap (λ (x : List Line). source_rows k ls ++ x) (append_assoc own bl lines)) in
+    append_assoc (label_lines marks k) (source_rows k ls ++ (own ++ bl)) lines
+    ∙ ap (λ (x : List Line). label_lines marks k ++ x) (append_assoc (source_rows k ls) (own ++ bl) lines ∙ ap (λ (x : List Line). source_rows k ls ++ x) (append_assoc own bl lines)) in
     texts_as _ _ _ texts (subst (λ (l : List Line). Texts (label_text marks k ++ (source_lines k ls ++ (il ++ (bt ++ rest)))) l) (sym all_lines) whole)
 
 -- ---- the items are accepted
@@ -273,7 +271,7 @@ module _ (m : Method) where
       let new : label_value pre (label_name k) ≡ None = b.fresh k (omega arith) lt in
       let named_so : item.Label (without_last (utf16_of (label_word k))) (instruction_count pre) ≡ x = rw (label_is k lt, b.counted) refl in
       let form : BodyLine (instruction_count pre) (bare (label_word k) ∷ []) x =
-          subst (λ (y : Item). BodyLine (instruction_count pre) (bare (label_word k) ∷ []) y) named_so (label (label_word k) (label_ends k)) in
+      subst (λ (y : Item). BodyLine (instruction_count pre) (bare (label_word k) ∷ []) y) named_so (label (label_word k) (label_ends k)) in
       rw e (one_step pre (bare (label_word k) ∷ []) x lines items form (rw new refl) (more (pre ++ x ∷ []) (before_label pre k lt b)))
   label_goes marks k pre lines items false e lt b more = rw e (more pre (later pre k k (suc k) (omega arith) b))
 
@@ -324,7 +322,7 @@ module _ (m : Method) where
       → BodyLines m pre (body_lines marks k is ls) (pre ++ body_items marks k is ls)
   body_goes marks count k [] ls pre concrete few lt all range b =
       let last : Goes pre (label_lines marks k ++ []) (label_items marks k ++ []) =
-          label_goes marks k pre [] [] (is_marked marks k) refl (omega arith) b (λ pre2 c. subst (λ (all : List Item). BodyLines m pre2 [] all) (sym (append-nil pre2)) (no_more pre2)) in
+      label_goes marks k pre [] [] (is_marked marks k) refl (omega arith) b (λ pre2 c. subst (λ (all : List Item). BodyLines m pre2 [] all) (sym (append-nil pre2)) (no_more pre2)) in
       subst (λ (lines : List Line). BodyLines m pre lines (pre ++ label_items marks k)) (append-nil (label_lines marks k))
       (subst (λ (items : List Item). BodyLines m pre (label_lines marks k ++ []) (pre ++ items)) (append-nil (label_items marks k)) last)
   body_goes marks count k (i ∷ is) ls pre concrete few lt all range b =

@@ -1,9 +1,8 @@
 -- The text of a class of which each part can be said denotes that class.
-use Rattle.std.proofs.Common.{◌≡◌, ℕ, zero, suc, ◌+◌, ◌<◌, ◌≤◌, ◌^◌, ◌==◌, Bool, true, false, not, ◌&&◌, ◌||◌, List, [], ◌∷◌, ◌++◌, length, Option, Some, None, Ok, refl, codes, position}
-use Rattle.std.proofs.Common.{ap, sym, ◌∙◌, arith, subst, append_assoc, nat_lt, nat_le, IsTrue}
+use Rattle.std.proofs.Common.{◌≡◌, ℕ, suc, ◌+◌, ◌<◌, ◌≤◌, ◌^◌, ◌==◌, Bool, true, false, not, ◌&&◌, ◌||◌, List, [], ◌∷◌, ◌++◌, length, Option, Some, None, Ok, refl, codes, position}
+use Rattle.std.proofs.Common.{ap, sym, ◌∙◌, arith, subst, append_assoc, nat_lt, nat_le}
 use Rattle.std.specs.Prelude.{if◌then◌else◌, IfOk, Result, Err}
 use Rattle.std.specs.List.{list_all, flat_map, position_or_len}
-use Rattle.std.proofs.lemmas.List.{append-nil}
 use Rattle.std.proofs.lemmas.Bool.Decides.{nat_tests}
 use Rattle.jm_program.proofs.DescriptorLaws.{both_true, and_true}
 use Rattle.jm_program.specs.Flags.{is_interface}
@@ -19,40 +18,39 @@ use Rattle.jm_program.specs.declared.code.Code.{Code}
 use Rattle.jm_program.specs.declared.code.Handler.{Handler}
 use Rattle.jm_program.specs.declared.constant.Constant.{Constant}
 use Rattle.jm_program.specs.declared.instruction.symbolic.Instr.{Instr}
-use Rattle.jm_class_writer.specs.Ranges.{OfSome, UnitsInRange, ConstantInRange}
+use Rattle.jm_class_writer.specs.Ranges.{OfSome, ConstantInRange}
 use Rattle.jm_jasmin.specs.Text.{denoted}
 use Rattle.jm_jasmin.specs.WordForms.{Word, Line, bare}
 use Rattle.jm_jasmin.specs.Each.{EachOf, AtMostOne, OneLine}
 use Rattle.jm_jasmin.specs.Each.OneLine.{one_line}
 use Rattle.jm_jasmin.specs.Each.AtMostOne.{left_out, given}
 use Rattle.jm_jasmin.specs.Each.EachOf.{none as none_more, more}
-use Rattle.jm_jasmin.specs.HeaderForms.{SourceLine, SuperLine, ImplementsLine}
+use Rattle.jm_jasmin.specs.HeaderForms.{SourceLine, ImplementsLine}
 use Rattle.jm_jasmin.specs.FieldForms.{FieldLine}
 use Rattle.jm_jasmin.specs.MethodForms.{MethodLines}
 use Rattle.jm_jasmin.specs.ClassForms.{ClassLines}
 use Rattle.jm_jasmin.specs.ClassForms.ClassLines.{class_lines}
 use Rattle.jm_jasmin.proofs.TextForms.{class_text as lines_denote}
 use Rattle.jm_disassembler.specs.Names.{is_sayable, is_plain_type, is_plain_method_type}
-use Rattle.jm_disassembler.specs.Said.{constant_said, instr_said}
+use Rattle.jm_disassembler.specs.Said.{instr_said}
 use Rattle.jm_disassembler.specs.Bodies.{handler_said, sizes_said, lines_said, code_said}
 use Rattle.jm_disassembler.specs.Flags.{class_rows, interface_rows, member_rows, flags_said}
 use Rattle.jm_disassembler.proofs.FlagWords.{flag_words}
 use Rattle.jm_disassembler.specs.Members.{field_name_said, method_name_said, field_text, method_text}
-use Rattle.jm_disassembler.specs.Texts.{version_text, source_text, class_flags_said, declaration_front, declaration_text, super_text, implements_text, fields_text, class_text}
+use Rattle.jm_disassembler.specs.Texts.{source_text, class_flags_said, declaration_text, super_text, implements_text, fields_text, class_text}
 use Rattle.jm_disassembler.specs.Unsaid.{value_said, field_part, numbered_field, fields_part, code_part, handler_or, instruction_or, method_part, numbered_method, methods_part, source_said, super_said, interface_or, header_part, members_part, class_or, first_unsaid}
 use Rattle.jm_disassembler.specs.declared.unsaid.ClassPart.{ClassPart}
 use Rattle.jm_disassembler.specs.declared.unsaid.FieldPart.{FieldPart}
 use Rattle.jm_disassembler.specs.declared.unsaid.MethodPart.{MethodPart}
-use Rattle.jm_disassembler.specs.declared.unsaid.MethodPart.TheVariants as method
 use Rattle.jm_disassembler.specs.declared.unsaid.Unsaid.{Unsaid}
-use Rattle.jm_disassembler.proofs.Laid.{is_word, Laid, Texts, text_tokens}
-use Rattle.jm_disassembler.proofs.Laid.Laid.{ends, blank, word}
+use Rattle.jm_disassembler.proofs.Laid.{Laid, Texts, text_tokens}
+use Rattle.jm_disassembler.proofs.Laid.Laid.{ends}
 use Rattle.jm_disassembler.proofs.Laid.Texts.{nothing, line, skip}
 use Rattle.jm_disassembler.proofs.Words.{class_name_word, name_is_word}
 use Rattle.jm_disassembler.proofs.Methods.{CodeNumbers, SayableMethod, method_lines, method_form, method_laid}
 use Rattle.jm_disassembler.proofs.Fields.{SayableField, field_words, field_form, field_laid}
 use Rattle.jm_disassembler.proofs.Headers.{version_words, version_form, version_laid, named_laid, source_words, source_form, super_words, super_form, implements_words, implements_form, declaration_words, declaration_form, declaration_laid}
-use Rattle.jm_disassembler.proofs.Ranges.{plain_range, name_range, type_range, method_type_range, constant_range, short_range, code_numbers}
+use Rattle.jm_disassembler.proofs.Ranges.{name_range, type_range, method_type_range, constant_range, code_numbers}
 
 -- ---- no part is unsaid
 
@@ -133,9 +131,9 @@ code_known (Some c) h =
     let hs = none_found handler_said c.handlers b.0 in
     let is = none_found instr_said c.instructions d.0 in
     let said : code_said c ≡ true =
-        and_true (sizes_said c && list_all handler_said c.handlers && list_all instr_said c.instructions) (lines_said 0 c.lines)
-        (and_true (sizes_said c && list_all handler_said c.handlers) (list_all instr_said c.instructions)
-        (and_true (sizes_said c) (list_all handler_said c.handlers) a.0 hs) is) e.0 in
+    and_true (sizes_said c && list_all handler_said c.handlers && list_all instr_said c.instructions) (lines_said 0 c.lines)
+    (and_true (sizes_said c && list_all handler_said c.handlers) (list_all instr_said c.instructions)
+    (and_true (sizes_said c) (list_all handler_said c.handlers) a.0 hs) is) e.0 in
     (said, code_numbers c said)
 
 method_known : (in_interface : Bool) (m : Method) → method_fits in_interface m ≡ true → method_part m ≡ None → SayableMethod in_interface m
@@ -319,26 +317,26 @@ module _ (commented : Bool) (c : ClassParts) (superclass : List ℕ) (is_super :
   form : ClassLines (class_lines_of c) c
   form =
       let made = class_lines (version_words c.version ∷ []) (source_lines c.source_file) (declaration_words c.flags c.name) (super_words superclass)
-          (implements_lines c.interfaces) (field_lines c.fields) (all_method_lines c.methods) (Some c.version) c.source_file
-          (record { flags = c.flags; name = c.name }) superclass c.interfaces c.fields c.methods
-          (given (version_words c.version) c.version (version_form c.version h.version (major_small c.version h.version) h.minor))
-          (source_option c.source_file h.source)
-          (declaration_form c.flags c.name h.name_fits h.name (name_range c.name h.name) h.flags)
-          (super_form superclass h.super_fits h.super (name_range superclass h.super))
-          (interfaces_form c.interfaces h.interfaces_fit h.interfaces) (fields_form c.fields fs) (methods_form (is_interface c.flags) c.methods ms) in
+      (implements_lines c.interfaces) (field_lines c.fields) (all_method_lines c.methods) (Some c.version) c.source_file
+      (record { flags = c.flags; name = c.name }) superclass c.interfaces c.fields c.methods
+      (given (version_words c.version) c.version (version_form c.version h.version (major_small c.version h.version) h.minor))
+      (source_option c.source_file h.source)
+      (declaration_form c.flags c.name h.name_fits h.name (name_range c.name h.name) h.flags)
+      (super_form superclass h.super_fits h.super (name_range superclass h.super))
+      (interfaces_form c.interfaces h.interfaces_fit h.interfaces) (fields_form c.fields fs) (methods_form (is_interface c.flags) c.methods ms) in
       let P : Option (List ℕ) → Type 0 = λ o. ClassLines
-          (version_words c.version ∷ (source_lines c.source_file ++ declaration_words c.flags c.name ∷ (super_lines o
-          ++ (implements_lines c.interfaces ++ (field_lines c.fields ++ all_method_lines c.methods)))))
-          (record {
-            version = c.version;
-            flags = c.flags;
-            name = c.name;
-            superclass = o;
-            interfaces = c.interfaces;
-            fields = c.fields;
-            methods = c.methods;
-            source_file = c.source_file;
-          }) in
+      (version_words c.version ∷ (source_lines c.source_file ++ declaration_words c.flags c.name ∷ (super_lines o
+      ++ (implements_lines c.interfaces ++ (field_lines c.fields ++ all_method_lines c.methods)))))
+      (record {
+        version = c.version;
+        flags = c.flags;
+        name = c.name;
+        superclass = o;
+        interfaces = c.interfaces;
+        fields = c.fields;
+        methods = c.methods;
+        source_file = c.source_file;
+      }) in
       subst P (sym is_super) made
 
   laid : Texts (class_text commented c) (class_lines_of c)
@@ -348,8 +346,8 @@ module _ (commented : Bool) (c : ClassParts) (superclass : List ℕ) (is_super :
       let interfaces = interfaces_laid c.interfaces h.interfaces_fit h.interfaces _ _ members in
       let above = super_laid commented superclass h.super_fits h.super _ _ interfaces in
       let P : Option (List ℕ) → Type 0 = λ o. Texts
-          (super_text o ++ (flat_map implements_text c.interfaces ++ (fields_text commented c.fields ++ flat_map (method_text commented) c.methods)))
-          (super_lines o ++ (implements_lines c.interfaces ++ (field_lines c.fields ++ all_method_lines c.methods))) in
+      (super_text o ++ (flat_map implements_text c.interfaces ++ (fields_text commented c.fields ++ flat_map (method_text commented) c.methods)))
+      (super_lines o ++ (implements_lines c.interfaces ++ (field_lines c.fields ++ all_method_lines c.methods))) in
       let from_super = subst P (sym is_super) above in
       let declared = declaration_laid commented c.flags c.name (class_name_word c.name h.name_fits h.name (name_range c.name h.name)) h.flags in
       let from_declared = first_line (declaration_words c.flags c.name) (declaration_some c.flags c.name) declared from_super in

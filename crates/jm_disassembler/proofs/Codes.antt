@@ -1,12 +1,10 @@
 -- The items of a method's lines come to its code.
-use Rattle.std.proofs.Common.{◌≡◌, ℕ, zero, suc, ◌+◌, ◌-◌, ◌<◌, ◌≤◌, ◌^◌, ◌==◌, Bool, true, false, not, ◌&&◌, ◌||◌, List, [], ◌∷◌, ◌++◌, length, Option, Some, None, Result, Ok, Err, refl, codes, is_some}
-use Rattle.std.proofs.Common.{ap, sym, ◌∙◌, arith, subst, append_assoc, nat_lt, nat_le, eqb-true}
+use Rattle.std.proofs.Common.{◌≡◌, ℕ, suc, ◌+◌, ◌<◌, ◌≤◌, ◌^◌, ◌==◌, Bool, true, false, ◌&&◌, List, [], ◌∷◌, ◌++◌, length, Option, Some, None, Ok, refl}
+use Rattle.std.proofs.Common.{ap, sym, ◌∙◌, arith, subst, nat_lt, nat_le, eqb-true}
 use Rattle.std.specs.Prelude.{if◌then◌else◌}
 use Rattle.std.specs.List.{list_all, flat_map}
-use Rattle.std.specs.Fmt.{decimal}
 use Rattle.std.proofs.lemmas.List.{append-nil}
 use Rattle.std.proofs.lemmas.Grind.{flat_map-append}
-use Rattle.std.proofs.lemmas.Bool.{eq-eqb}
 use Rattle.std.proofs.lemmas.Bool.Decides.{nat_tests}
 use Rattle.jm_bytes.specs.Reading.{each}
 use Rattle.jm_bytes.specs.Laws.{and_then_ok, same_Ok}
@@ -23,14 +21,13 @@ use Rattle.jm_program.specs.declared.code.LineNumber.{LineNumber}
 use Rattle.jm_program.specs.declared.instruction.symbolic.Instr.{Instr}
 use Rattle.jm_class_format.specs.Symbols.{or_else}
 use Rattle.jm_jasmin_ops.specs.declared.fault.AsmFault.{AsmFault}
-use Rattle.jm_jasmin.specs.declared.item.CatchRow.{CatchRow}
 use Rattle.jm_jasmin.specs.declared.item.Item.{Item}
 use Rattle.jm_jasmin.specs.declared.item.Item.TheVariants as item
 use Rattle.jm_jasmin.specs.declared.part.Part.{Part}
 use Rattle.jm_jasmin.specs.declared.part.Part.TheVariants as part
 use Rattle.jm_jasmin.specs.Items.{instruction_here, instruction_count, value_here, label_value, stack_here, stack_limit, locals_here, locals_limit}
-use Rattle.jm_jasmin.specs.Labels.{end_at, place_at, handler_of, part_of}
-use Rattle.jm_jasmin.specs.Body.{checked_locals, checked_count, code_of, instruction_in, handler_in, line_in, tables_of, empty_between, empty_range_in, empty_range}
+use Rattle.jm_jasmin.specs.Labels.{handler_of, part_of}
+use Rattle.jm_jasmin.specs.Body.{checked_locals, checked_count, code_of, instruction_in, handler_in, line_in, tables_of, empty_range_in, empty_range}
 use Rattle.jm_disassembler.specs.Labels.{label_name, instr_targets, handler_places, marks_of, is_marked}
 use Rattle.jm_disassembler.specs.Bodies.{row_said, lines_said, lines_behind}
 use Rattle.jm_disassembler.specs.Said.{is_short}
@@ -178,7 +175,7 @@ here_or_later marks k t i is ls few low m true e later =
     let own : label_value (label_items marks k) (label_name k) ≡ Some k = own_here marks k (subst (λ (n : ℕ). is_marked marks n ≡ true) same m) in
     let none = below_body marks (suc k) k is (lines_behind k ls) (omega arith) (omega arith) in
     let all_of : label_value (body_items marks k (i ∷ is) ls) (label_name k) ≡ Some k =
-        body_label marks k i is ls (label_name k) ∙ rw (none, own) refl in
+    body_label marks k i is ls (label_name k) ∙ rw (none, own) refl in
     subst (λ (n : ℕ). label_value (body_items marks k (i ∷ is) ls) (label_name n) ≡ Some n) (sym same) all_of
 here_or_later marks k t i is ls few low m false e later =
     let lt : suc k ≤ t = grind (arith, nat_tests) in
@@ -410,9 +407,9 @@ body_tables n marks k (i ∷ is) ls e said starts =
     let s = source_tables k ls in
     let source : Tables (source_parts k ls) [] [] (flat_map line_in (source_parts k ls)) = record { instructions = s.0; handlers = s.1; lines = refl } in
     let tail = tables_then (source_parts k ls) (part.Instruction i ∷ more) [] (i ∷ is) [] [] (flat_map line_in (source_parts k ls)) behind source
-        (instruction_tables i more is [] behind rest) in
+    (instruction_tables i more is [] behind rest) in
     let whole = tables_then (label_parts marks k) (source_parts k ls ++ (part.Instruction i ∷ more)) [] (i ∷ is) [] [] [] (flat_map line_in (source_parts k ls) ++ behind)
-        (label_none marks k) tail in
+    (label_none marks k) tail in
     subst (λ (l : List LineNumber). Tables (body_parts marks k (i ∷ is) ls) (i ∷ is) [] l) s.2 whole
 
 -- ---- the exception table
@@ -551,10 +548,10 @@ code_comes m c concrete s =
     let few : length c.instructions < 4294967295 = s.few in
     let ps : List Part = handler_row_parts c.handlers ++ body_parts marks 0 c.instructions c.lines in
     let comes = limits_come v n c.max_stack c.max_locals (handler_items c.handlers ++ body) ps
-        (comes_then v n (handler_items c.handlers) body (handler_row_parts c.handlers) (body_parts marks 0 c.instructions c.lines)
-        (handlers_come v n c.handlers s.handlers places)
-        (body_comes v n (omega arith) marks 0 c.instructions c.lines (omega arith) s.instructions targets)) in
+    (comes_then v n (handler_items c.handlers) body (handler_row_parts c.handlers) (body_parts marks 0 c.instructions c.lines)
+    (handlers_come v n c.handlers s.handlers places)
+    (body_comes v n (omega arith) marks 0 c.instructions c.lines (omega arith) s.instructions targets)) in
     let t = tables_then (handler_row_parts c.handlers) (body_parts marks 0 c.instructions c.lines) [] c.instructions c.handlers [] [] c.lines
-        (handler_tables c.handlers) (body_tables n marks 0 c.instructions c.lines (omega arith) s.lines s.starts) in
+    (handler_tables c.handlers) (body_tables n marks 0 c.instructions c.lines (omega arith) s.lines s.starts) in
     let handlers : flat_map handler_in ps ≡ c.handlers = t.handlers ∙ append-nil c.handlers in
     rw (items_locals c, concrete, s.locals, items_count c, comes.ranges, comes.parts, s.some, items_stack c, t.instructions, handlers, t.lines) refl

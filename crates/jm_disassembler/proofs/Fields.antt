@@ -1,10 +1,9 @@
 -- The line of a field.
-use Rattle.std.proofs.Common.{◌≡◌, ℕ, zero, suc, ◌+◌, ◌<◌, ◌^◌, ◌==◌, Bool, true, false, not, ◌&&◌, ◌||◌, List, [], ◌∷◌, ◌++◌, length, Option, Some, None, Result, Ok, refl, codes, is_some}
-use Rattle.std.proofs.Common.{ap, sym, ◌∙◌, arith, subst, append_assoc}
-use Rattle.std.specs.Prelude.{ℤ, pos, negsuc, int_le, if◌then◌else◌}
-use Rattle.std.specs.List.{list_all, flat_map}
+use Rattle.std.proofs.Common.{◌≡◌, ℕ, ◌==◌, Bool, true, false, not, ◌&&◌, ◌||◌, List, [], ◌∷◌, ◌++◌, Option, Some, None, Ok, refl, codes, is_some}
+use Rattle.std.proofs.Common.{ap, sym, ◌∙◌, subst}
+use Rattle.std.specs.List.{list_all}
 use Rattle.std.specs.Fmt.{signed_decimal}
-use Rattle.jm_program.proofs.DescriptorLaws.{both_true, and_true}
+use Rattle.jm_program.proofs.DescriptorLaws.{both_true}
 use Rattle.jm_program.specs.Flags.{is_static}
 use Rattle.jm_program.specs.Names.{same_text, is_unqualified}
 use Rattle.jm_program.specs.Texts.{utf16_of}
@@ -19,7 +18,7 @@ use Rattle.jm_program.specs.declared.descriptor.BaseType.TheVariants as base
 use Rattle.jm_program.specs.declared.descriptor.ElementType.{ElementType}
 use Rattle.jm_program.specs.declared.descriptor.ElementType.TheVariants.{Base, Class}
 use Rattle.jm_class_format.specs.Symbols.{field_name_of, field_type_of}
-use Rattle.jm_class_writer.specs.Ranges.{OfSome, UnitsInRange, ConstantInRange, TypeInRange, FieldInRange}
+use Rattle.jm_class_writer.specs.Ranges.{OfSome, UnitsInRange, ConstantInRange, FieldInRange}
 use Rattle.jm_class_writer.proofs.Symbols.{field_name_read, field_type_read}
 use Rattle.jm_jasmin.specs.declared.field.ValueKind.{ValueKind}
 use Rattle.jm_jasmin.specs.declared.field.ValueKind.TheVariants as value
@@ -29,11 +28,11 @@ use Rattle.jm_jasmin.specs.FieldForms.{Value, FieldLine}
 use Rattle.jm_jasmin.specs.FieldForms.Value.{int, long, string as string_value_is}
 use Rattle.jm_jasmin.specs.FieldForms.FieldLine.{plain, valued}
 use Rattle.jm_disassembler.specs.Names.{is_plain, is_sayable, begins_with_quote, is_plain_type}
-use Rattle.jm_disassembler.specs.Flags.{member_rows, flags_text, flags_said}
-use Rattle.jm_disassembler.specs.Members.{flags_note, field_name_said, constant_value, value_text, field_text}
-use Rattle.jm_disassembler.proofs.Laid.{is_word, apart, Laid}
-use Rattle.jm_disassembler.proofs.Laid.Laid.{ends, blank, word, string}
-use Rattle.jm_disassembler.proofs.Spelled.{Spelled, name_spelled}
+use Rattle.jm_disassembler.specs.Flags.{member_rows, flags_said}
+use Rattle.jm_disassembler.specs.Members.{flags_note, field_name_said, value_text, field_text}
+use Rattle.jm_disassembler.proofs.Laid.{apart, Laid}
+use Rattle.jm_disassembler.proofs.Laid.Laid.{blank, word, string}
+use Rattle.jm_disassembler.proofs.Spelled.{name_spelled}
 use Rattle.jm_disassembler.proofs.Types.{is_ascii_word, ascii_spelled, type_spelled}
 use Rattle.jm_disassembler.proofs.LabelWords.{same_itself, same_is}
 use Rattle.jm_disassembler.proofs.Numbers.{signed_read, signed_word}
@@ -49,6 +48,7 @@ other_word name w is_it range ascii other = by (same_text (name_text name) w) re
   where
     same_as : name ≡ w → same_text name w ≡ same_text w w
     same_as e = ap (λ (n : List ℕ). same_text n w) e
+
     by : (b : Bool) → same_text (name_text name) w ≡ b → b ≡ false
     by true e =
         let text : name_text name ≡ w = same_is (name_text name) w e in
@@ -145,9 +145,9 @@ field_by f None s fits said range =
     let plain_name = (both_true (not (begins_with_quote f.name)) (is_plain f.name) p.0).1 in
     let other : same_text f.name (codes "=") ≡ false = not_true (same_text f.name (codes "=")) p.1 in
     let named : field_name_of (utf16_of (name_text f.name)) ≡ Ok f.name =
-        ap field_name_of (name_spelled f.name plain_name s.range.0).units_are ∙ field_name_read f.name k.0 in
+    ap field_name_of (name_spelled f.name plain_name s.range.0).units_are ∙ field_name_read f.name k.0 in
     let typed : field_type_of (utf16_of (type_line f.descriptor)) ≡ Ok f.descriptor =
-        ap field_type_of (type_spelled f.descriptor s.types s.range.1).units_are ∙ field_type_read f.descriptor k.1 in
+    ap field_type_of (type_spelled f.descriptor s.types s.range.1).units_are ∙ field_type_read f.descriptor k.1 in
     plain (flag_words f.flags.bits member_rows) (name_text f.name) (type_line f.descriptor) f.name f.flags.bits f.descriptor
     (flags_are 0 f.flags.bits member_rows member_flags s.flags) named typed (other_word f.name (codes "=") plain_name s.range.0 refl other)
 field_by f (Some c) s fits said range =
@@ -155,9 +155,9 @@ field_by f (Some c) s fits said range =
     let p = both_true (is_sayable f.name) (true || not (same_text f.name (codes "="))) said in
     let plain_name = (both_true (not (begins_with_quote f.name)) (is_plain f.name) p.0).1 in
     let named : field_name_of (utf16_of (name_text f.name)) ≡ Ok f.name =
-        ap field_name_of (name_spelled f.name plain_name s.range.0).units_are ∙ field_name_read f.name k.0 in
+    ap field_name_of (name_spelled f.name plain_name s.range.0).units_are ∙ field_name_read f.name k.0 in
     let typed : field_type_of (utf16_of (type_line f.descriptor)) ≡ Ok f.descriptor =
-        ap field_type_of (type_spelled f.descriptor s.types s.range.1).units_are ∙ field_type_read f.descriptor k.1 in
+    ap field_type_of (type_spelled f.descriptor s.types s.range.1).units_are ∙ field_type_read f.descriptor k.1 in
     let a = both_true (is_static f.flags && f.descriptor.dimensions == 0) (constant_is_of c f.descriptor.element) fits in
     let b = both_true (is_static f.flags) (f.descriptor.dimensions == 0) a.0 in
     let kind : value_kind f.descriptor ≡ Some (kind_of c) = rw b.1 (kind_is c f.descriptor.element a.1) in

@@ -1,18 +1,15 @@
 -- The words of flags come to the flags.
-use Rattle.std.proofs.Common.{◌≡◌, ℕ, zero, suc, ◌==◌, Bool, true, false, not, ◌&&◌, List, [], ◌∷◌, ◌++◌, Option, Some, None, refl, codes}
-use Rattle.std.proofs.Common.{ap, sym, ◌∙◌, arith, subst, append_assoc, eqb-true}
+use Rattle.std.proofs.Common.{◌≡◌, ℕ, Bool, true, false, List, [], ◌∷◌, ◌++◌, Some, refl}
+use Rattle.std.proofs.Common.{sym, ◌∙◌, subst, append_assoc, eqb-true}
 use Rattle.std.specs.Prelude.{bit_or, if◌then◌else◌}
-use Rattle.std.specs.List.{list_all, flat_map}
-use Rattle.std.proofs.lemmas.Bool.Decides.{nat_tests}
 use Rattle.jm_jasmin.specs.Words.{flag_named}
 use Rattle.jm_jasmin.specs.WordForms.{Line, bare}
 use Rattle.jm_jasmin.specs.HeaderForms.{Flags}
 use Rattle.jm_jasmin.specs.HeaderForms.Flags.{none, flag}
-use Rattle.jm_program.proofs.DescriptorLaws.{both_true, and_true}
-use Rattle.jm_disassembler.specs.Flags.{FlagRow, class_rows, interface_rows, member_rows, has_flag, flag_text, flags_text, come_to, flags_said}
-use Rattle.jm_disassembler.specs.Members.{wordless_rows, flags_note}
-use Rattle.jm_disassembler.proofs.Laid.{is_word, in_line, apart, Laid}
-use Rattle.jm_disassembler.proofs.Laid.Laid.{ends, comment, blank, word}
+use Rattle.jm_disassembler.specs.Flags.{FlagRow, class_rows, interface_rows, member_rows, has_flag, flags_text, come_to, flags_said}
+use Rattle.jm_disassembler.specs.Members.{flags_note}
+use Rattle.jm_disassembler.proofs.Laid.{is_word, apart, Laid}
+use Rattle.jm_disassembler.proofs.Laid.Laid.{ends, blank, word}
 
 abbrev pub flag_words : ℕ → List FlagRow → Line
 flag_words bits [] = []

@@ -1,11 +1,11 @@
 -- The lines before the fields.
-use Rattle.std.proofs.Common.{◌≡◌, ℕ, zero, suc, ◌+◌, ◌-◌, ◌*◌, ◌<◌, ◌≤◌, ◌^◌, ◌==◌, Bool, true, false, not, ◌&&◌, ◌||◌, List, [], ◌∷◌, ◌++◌, length, take, drop, Option, Some, None, Result, Ok, refl, codes, position}
+use Rattle.std.proofs.Common.{◌≡◌, ℕ, ◌+◌, ◌-◌, ◌*◌, ◌<◌, ◌≤◌, ◌^◌, ◌==◌, Bool, true, false, not, ◌||◌, List, [], ◌∷◌, ◌++◌, length, drop, Some, Ok, refl, codes, position}
 use Rattle.std.proofs.Common.{ap, sym, ◌∙◌, arith, subst, append_assoc, length-append, nat_lt, nat_le}
 use Rattle.std.specs.Prelude.{if◌then◌else◌}
 use Rattle.std.specs.List.{list_all}
 use Rattle.std.specs.Fmt.{decimal}
 use Rattle.std.specs.Char.{digit_value}
-use Rattle.std.specs.Str.Parse.{AllDigits, digits_value, digits_value_after}
+use Rattle.std.specs.Str.Parse.{AllDigits, digits_value_after}
 use Rattle.std.proofs.lemmas.Fmt.{decimal_is_IsNumeral}
 use Rattle.std.proofs.lemmas.Str.{digit_value_digit}
 use Rattle.std.proofs.lemmas.Str.Parse.{digit_at}
@@ -22,7 +22,6 @@ use Rattle.jm_program.specs.declared.flags.AccessFlags.{AccessFlags}
 use Rattle.jm_class_format.specs.Symbols.{class_name_of}
 use Rattle.jm_class_writer.specs.Ranges.{UnitsInRange}
 use Rattle.jm_class_writer.proofs.Symbols.{class_name_read}
-use Rattle.jm_jasmin.specs.declared.header.Declared.{Declared}
 use Rattle.jm_jasmin.specs.Header as header
 use Rattle.jm_jasmin.specs.Header.{digits_from, version_in}
 use Rattle.jm_jasmin.specs.WordForms.{Line, bare}
@@ -36,12 +35,12 @@ use Rattle.jm_disassembler.specs.Names.{is_plain, is_sayable, begins_with_quote}
 use Rattle.jm_disassembler.specs.Flags.{class_rows, interface_rows, flags_text, flags_said}
 use Rattle.jm_disassembler.specs.Members.{flags_note}
 use Rattle.jm_disassembler.specs.Texts.{version_text, class_flags_said, declaration_front}
-use Rattle.jm_disassembler.proofs.Laid.{is_word, begins_word, is_word_byte, apart, Laid}
+use Rattle.jm_disassembler.proofs.Laid.{is_word, begins_word, is_word_byte, Laid}
 use Rattle.jm_disassembler.proofs.Laid.Laid.{ends, blank, word}
 use Rattle.jm_disassembler.proofs.Spelled.{Spelled, then_spelled, name_spelled}
 use Rattle.jm_disassembler.proofs.Types.{byte_spelled}
-use Rattle.jm_disassembler.proofs.Numbers.{is_decimal, decimal_is, decimal_spelled, word_of_digits}
-use Rattle.jm_disassembler.proofs.Words.{class_name_word, name_is_word, found_at}
+use Rattle.jm_disassembler.proofs.Numbers.{is_decimal, decimal_is, decimal_spelled}
+use Rattle.jm_disassembler.proofs.Words.{found_at}
 use Rattle.jm_disassembler.proofs.FlagWords.{flag_words, class_flags, interface_flags, flags_are, flags_laid, flags_note_laid, flags_note_apart}
 
 -- ---- .bytecode
@@ -107,10 +106,10 @@ version_read v fits major minor =
     let a : List ℕ = decimal v.major in
     let b : List ℕ = decimal v.minor in
     let at : position is_point (a ++ 46 ∷ b) ≡ Some (length a) =
-        found_at is_point a 46 b (digits_no_point a (decimal_is v.major (omega arith)).decimals) refl in
+    found_at is_point a 46 b (digits_no_point a (decimal_is v.major (omega arith)).decimals) refl in
     let size : length a + 1 ≡ length (a ++ 46 ∷ []) = sym (length-append a (46 ∷ [])) in
     let back : drop (length (a ++ 46 ∷ [])) (a ++ 46 ∷ b) ≡ b =
-        ap (drop (length (a ++ 46 ∷ []))) (sym (append_assoc a (46 ∷ []) b)) ∙ drop-append_seam (a ++ 46 ∷ []) b in
+    ap (drop (length (a ++ 46 ∷ []))) (sym (append_assoc a (46 ∷ []) b)) ∙ drop-append_seam (a ++ 46 ∷ []) b in
     rw (at, take-append_seam a (46 ∷ b), size, back, decimal_read v.major major, decimal_read v.minor minor, fits) refl
 
 version_spelled : (v : Version) → v.major < 2 ^ 16 → v.minor < 2 ^ 16 → Spelled (version_word v) (version_word v)

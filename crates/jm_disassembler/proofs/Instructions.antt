@@ -1,6 +1,6 @@
 -- The line of an instruction is laid out, and it is that of the instruction.
-use Rattle.std.proofs.Common.{◌≡◌, ℕ, zero, suc, ◌+◌, ◌-◌, ◌<◌, ◌≤◌, ◌^◌, ◌==◌, Bool, true, false, not, ◌&&◌, ◌||◌, List, [], ◌∷◌, ◌++◌, length, take, drop, Option, Some, None, Result, Ok, refl, replicate, codes}
-use Rattle.std.proofs.Common.{ap, sym, ◌∙◌, arith, subst, append_assoc, length-append, nat_lt, nat_le, position}
+use Rattle.std.proofs.Common.{◌≡◌, ℕ, zero, suc, ◌+◌, ◌-◌, ◌<◌, ◌≤◌, ◌^◌, Bool, true, not, ◌&&◌, List, [], ◌∷◌, ◌++◌, length, Some, Ok, refl, replicate, codes}
+use Rattle.std.proofs.Common.{ap, sym, ◌∙◌, arith, subst, append_assoc, nat_lt, nat_le, position}
 use Rattle.std.specs.Prelude.{ℤ, pos, negsuc, int_le, FitsSigned, min}
 use Rattle.std.specs.Int.{w8, w16, w32, w64}
 use Rattle.std.specs.List.{list_all, flat_map}
@@ -26,7 +26,6 @@ use Rattle.jm_program.specs.declared.descriptor.ElementType.{ElementType}
 use Rattle.jm_program.specs.declared.descriptor.ElementType.TheVariants.{Base, Class}
 use Rattle.jm_program.specs.declared.descriptor.BaseType.{BaseType}
 use Rattle.jm_program.specs.declared.descriptor.BaseType.TheVariants as base
-use Rattle.jm_program.specs.declared.descriptor.FieldType.{FieldType}
 use Rattle.jm_program.specs.declared.descriptor.MethodDescriptor.{MethodDescriptor}
 use Rattle.jm_program.specs.declared.reference.ClassRef.{ClassRef}
 use Rattle.jm_program.specs.declared.reference.ClassRef.TheVariants as class_ref
@@ -53,29 +52,27 @@ use Rattle.jm_class_format.specs.declared.opcode.Opcode.TheVariants as opcode
 use Rattle.jm_class_writer.specs.PoolUse.{class_text}
 use Rattle.jm_class_writer.specs.Ranges.{UnitsInRange, InstrInRange, ConstantInRange, FieldRefInRange, MethodRefInRange, ClassRefInRange}
 use Rattle.jm_class_writer.proofs.Symbols.{class_name_read, field_name_read, invoked_name_read, field_type_read, method_type_read, class_ref_read}
-use Rattle.jm_jasmin_lex.specs.Integers.{integer_of}
 use Rattle.jm_jasmin_ops.specs.Operands.{member, element_if, field_of, method_at, is_parenthesis}
-use Rattle.jm_jasmin_ops.specs.declared.labelled.LabelledInstr.{LabelledInstr}
 use Rattle.jm_jasmin_ops.specs.declared.labelled.LabelledInstr.TheVariants as labelled
 use Rattle.jm_jasmin.specs.WordForms.{Line, bare, quoted}
 use Rattle.jm_jasmin.specs.InstructionForms.{IsBetween, IsUpTo, Element, Operands, InstructionLine, label_of}
 use Rattle.jm_jasmin.specs.InstructionForms.Element.{boolean, char, byte, short, int, long}
-use Rattle.jm_jasmin.specs.InstructionForms.Operands.{simple, on_array, return, throw, monitor, push_byte, push_short, load_int, load_string, load_long, load, store}
-use Rattle.jm_jasmin.specs.InstructionForms.Operands.{increment, field, invoke_method, invoke_interface, new, new_array, type}
+use Rattle.jm_jasmin.specs.InstructionForms.Operands.{on_array, load_int, load_string, load_long}
+use Rattle.jm_jasmin.specs.InstructionForms.Operands.{field, invoke_method, invoke_interface, new, new_array, type}
 use Rattle.jm_jasmin.specs.InstructionForms.InstructionLine.{named, branch, branch_wide}
 use Rattle.jm_disassembler.specs.Labels.{label_name}
 use Rattle.jm_disassembler.specs.Instructions.{front, plain_text, array_text, constant_text, count_text, instr_text}
 use Rattle.jm_disassembler.specs.Names.{is_plain, is_plain_type, is_plain_method_type, is_sayable, is_sayable_class, begins_with_quote}
 use Rattle.jm_disassembler.specs.Said.{is_no_parenthesis, no_parenthesis, element_no_parenthesis, class_no_parenthesis, field_ref_said, method_ref_said, instr_said}
 use Rattle.jm_disassembler.proofs.Laid.{is_word_byte, begins_word, is_word, apart, Laid}
-use Rattle.jm_disassembler.proofs.Laid.Laid.{ends, comment, blank, word, string}
+use Rattle.jm_disassembler.proofs.Laid.Laid.{blank, word, string}
 use Rattle.jm_disassembler.proofs.Spelled.{Spelled, then_spelled, name_spelled}
 use Rattle.jm_disassembler.proofs.Types.{byte_spelled, type_spelled, method_type_spelled, class_spelled}
 use Rattle.jm_disassembler.proofs.Numbers.{IsLong, decimal_is, word_of_digits, natural_read, signed_read, signed_word, signed_not_real, signed_not_named}
 use Rattle.jm_disassembler.proofs.LabelWords.{name_word, is_label_name}
 use Rattle.jm_disassembler.proofs.Strings.{string_inside, string_value}
-use Rattle.jm_disassembler.proofs.Mnemonics.{Names, simple_names, load_names, store_names, field_names, type_names, return_names, monitor_names, invoke_opcode, invoke_names, branch_opcode, branch_names, array_opcode, array_word, array_names, push_byte_names, push_short_names, constant_names, long_names, increment_names, new_names, throw_names, table_names, lookup_names, primitive_word}
-use Rattle.jm_disassembler.proofs.Words.{name_begins, class_some, class_name_word, type_is_word, class_begins, class_is_word, unqualified_no_slash, method_no_slash, no_slash, found_at, member_is}
+use Rattle.jm_disassembler.proofs.Mnemonics.{Names, simple_names, load_names, store_names, field_names, type_names, return_names, monitor_names, invoke_names, branch_names, array_names, push_byte_names, push_short_names, constant_names, long_names, increment_names, new_names, throw_names, table_names, lookup_names, primitive_word}
+use Rattle.jm_disassembler.proofs.Words.{class_name_word, type_is_word, class_begins, class_is_word, unqualified_no_slash, method_no_slash, found_at, member_is}
 
 -- ---- numbers
 
@@ -189,7 +186,7 @@ field_form op f fits h all =
     let parted : member 0 (utf16_of (field_word f)) ≡ Ok names = ap (member 0) units ∙ member_is (class_text f.class) f.name (unqualified_no_slash f.name l.1) in
     let named_so : field_of names ≡ Ok (f.class, f.name) = rw (class_ref_read f.class l.0, field_name_read f.name l.1) refl in
     let types : field_type_of (utf16_of (type_line f.descriptor)) ≡ Ok f.descriptor =
-        ap field_type_of (type_spelled f.descriptor p.1 all.2).units_are ∙ field_type_read f.descriptor k.1 in
+    ap field_type_of (type_spelled f.descriptor p.1 all.2).units_are ∙ field_type_read f.descriptor k.1 in
     field op (field_word f) (type_line f.descriptor) names (f.class, f.name) f.descriptor parted named_so types
 
 pub field_line_form : (op : FieldOp) (f : FieldRef) → field_ref_fits f ≡ true → field_ref_said f ≡ true → FieldRefInRange f
@@ -228,10 +225,10 @@ method_spelled : (m : MethodRef) → method_ref_said m ≡ true → MethodRefInR
 method_spelled m h all =
     let p = said_parts m h in
     let back = then_spelled (name_text m.name) (method_line m.descriptor) m.name (method_text m.descriptor) (name_spelled m.name p.2 all.1)
-        (method_type_spelled m.descriptor p.4 all.2) in
+    (method_type_spelled m.descriptor p.4 all.2) in
     let whole = then_spelled (class_line m.class) (47 ∷ (name_text m.name ++ method_line m.descriptor)) (class_text m.class) (47 ∷ (m.name ++ method_text m.descriptor))
-        (class_spelled m.class p.0 all.0)
-        (then_spelled (47 ∷ []) (name_text m.name ++ method_line m.descriptor) (47 ∷ []) (m.name ++ method_text m.descriptor) (byte_spelled 47 refl) back) in
+    (class_spelled m.class p.0 all.0)
+    (then_spelled (47 ∷ []) (name_text m.name ++ method_line m.descriptor) (47 ∷ []) (m.name ++ method_text m.descriptor) (byte_spelled 47 refl) back) in
     subst (λ (us : List ℕ). Spelled (method_word m) us) (sym (append_assoc (class_text m.class) (47 ∷ m.name) (method_text m.descriptor))) whole
 
 method_is_word : (op : InvokeOp) (m : MethodRef) → method_ref_fits op m ≡ true → method_ref_said m ≡ true → MethodRefInRange m → is_word (method_word m) ≡ true
@@ -285,7 +282,7 @@ method_found op m fits h all =
     let at : position is_parenthesis us ≡ Some (length first) = found_at is_parenthesis first 40 (types_behind m.descriptor) none refl in
     let parted = member_is (class_text m.class) m.name (method_no_slash m.name name_ok) in
     let here : method_at 0 op us (position is_parenthesis us) ≡ Ok m =
-        rw (at, take-append_seam first (40 ∷ types_behind m.descriptor), drop-append_seam first (40 ∷ types_behind m.descriptor), parted, method_read op m fits) refl in
+    rw (at, take-append_seam first (40 ∷ types_behind m.descriptor), drop-append_seam first (40 ∷ types_behind m.descriptor), parted, method_read op m fits) refl in
     rw (method_spelled m h all).units_are here
 
 -- ---- forms
@@ -340,7 +337,7 @@ invoke_form invoke.Interface m fits h all =
     let few : nat_le (argument_slots m.descriptor + 1) 255 ≡ true = (fits_parts invoke.Interface m fits).4 in
     let le : argument_slots m.descriptor + 1 ≤ 255 = grind (arith, nat_tests) in
     let count : IsUpTo 255 (decimal (argument_slots m.descriptor + 1)) (argument_slots m.descriptor + 1) =
-        record { value = natural_read (argument_slots m.descriptor + 1) (omega arith); fits = few } in
+    record { value = natural_read (argument_slots m.descriptor + 1) (omega arith); fits = few } in
     named _ opcode.InvokeInterface (bare (method_word m) ∷ bare (decimal (argument_slots m.descriptor + 1)) ∷ []) _ (invoke_names invoke.Interface).named
     (invoke_interface (method_word m) (decimal (argument_slots m.descriptor + 1)) m (method_found invoke.Interface m fits h all) count)
 
@@ -407,7 +404,7 @@ module _ (tail : List ℕ) (at_end : Laid tail []) (part : apart tail ≡ true) 
       let back : Laid (v ++ (32 ∷ (w ++ tail))) (bare v ∷ bare w ∷ []) = word v is_first refl (blank (word w is_second part at_end)) in
       let whole = front_laid m (v ++ (32 ∷ (w ++ tail))) (bare v ∷ bare w ∷ []) n.word n.short back in
       let same : (front m ++ (v ++ 32 ∷ w)) ++ tail ≡ front m ++ (v ++ (32 ∷ (w ++ tail))) =
-          append_assoc (front m) (v ++ 32 ∷ w) tail ∙ ap (λ (t : List ℕ). front m ++ t) (append_assoc v (32 ∷ w) tail) in
+      append_assoc (front m) (v ++ 32 ∷ w) tail ∙ ap (λ (t : List ℕ). front m ++ t) (append_assoc v (32 ∷ w) tail) in
       subst (λ (t : List ℕ). Laid t (bare m ∷ bare v ∷ bare w ∷ [])) (sym same) whole
 
   plain_laid : (count : ℕ) (p : Plain) → count < 2 ^ 64 → instr_fits count (instr.Plain p) ≡ true → InstrInRange (instr.Plain p)

@@ -1,6 +1,6 @@
 -- Labels as words: where each is used and where each stands.
-use Rattle.std.proofs.Common.{◌≡◌, ℕ, zero, suc, ◌+◌, ◌-◌, ◌<◌, ◌^◌, ◌==◌, Bool, true, false, not, ◌&&◌, ◌||◌, List, [], ◌∷◌, ◌++◌, length, take, Option, Some, None, refl}
-use Rattle.std.proofs.Common.{ap, sym, ◌∙◌, arith, subst, nat_lt, eqb-true}
+use Rattle.std.proofs.Common.{◌≡◌, ℕ, ◌+◌, ◌-◌, ◌<◌, ◌^◌, ◌==◌, Bool, true, false, List, [], ◌∷◌, ◌++◌, length, refl}
+use Rattle.std.proofs.Common.{ap, sym, ◌∙◌, arith, nat_lt, eqb-true}
 use Rattle.std.specs.Prelude.{slice_index, nat_eq}
 use Rattle.std.specs.List.{list_all, list_any}
 use Rattle.std.specs.Fmt.{decimal}
@@ -17,7 +17,7 @@ use Rattle.jm_jasmin_ops.specs.Profile.{is_signed, is_signed_digits, is_offset, 
 use Rattle.jm_jasmin.specs.Items.{ends_with_colon, without_last}
 use Rattle.jm_jasmin.specs.InstructionForms.{IsLabelName}
 use Rattle.jm_disassembler.specs.Labels.{label_name, label_word}
-use Rattle.jm_disassembler.proofs.Laid.{is_word_byte, is_word}
+use Rattle.jm_disassembler.proofs.Laid.{is_word}
 use Rattle.jm_disassembler.proofs.Spelled.{Spelled, then_spelled}
 use Rattle.jm_disassembler.proofs.Types.{byte_spelled}
 use Rattle.jm_disassembler.proofs.Numbers.{is_decimal, decimal_is, decimal_spelled}

@@ -1,5 +1,5 @@
 -- Texts line by line, in the order in which they are read, and their tokens.
-use Rattle.std.proofs.Common.{◌≡◌, ℕ, zero, suc, ◌+◌, ◌-◌, ◌<◌, ◌≤◌, ◌==◌, Bool, true, false, not, ◌&&◌, ◌||◌, List, [], ◌∷◌, ◌++◌, length, take, drop, map, Ok, refl}
+use Rattle.std.proofs.Common.{◌≡◌, ℕ, suc, ◌+◌, ◌-◌, ◌≤◌, ◌==◌, Bool, true, false, not, ◌&&◌, ◌||◌, List, [], ◌∷◌, ◌++◌, length, Ok, refl}
 use Rattle.std.proofs.Common.{ap, sym, ◌∙◌, arith, subst, append_assoc, length-append}
 use Rattle.std.specs.List.{list_all, slice_range}
 use Rattle.std.specs.Char.{is_ascii_hexdigit}
@@ -20,7 +20,7 @@ use Rattle.jm_jasmin_lex.specs.Grammar.Lie.{nothing as no_sign, blank as blank_s
 use Rattle.jm_jasmin_lex.specs.declared.token.TokenKind.{TokenKind}
 use Rattle.jm_jasmin_lex.specs.declared.token.TokenKind.TheVariants as kind
 use Rattle.jm_jasmin_lex.specs.declared.place.Sign.{Sign}
-use Rattle.jm_jasmin_lex.specs.declared.place.Sign.TheVariants.{Blank, LineEnd, Other}
+use Rattle.jm_jasmin_lex.specs.declared.place.Sign.TheVariants.{Blank, Other}
 use Rattle.jm_jasmin_lex.proofs.TokensLie.{lying_tokens}
 use Rattle.jm_jasmin.specs.WordForms.{Word, bare, quoted, Line, word_of, in_front, lines_said}
 
@@ -228,7 +228,7 @@ module _ (whole : List ℕ) where
   a_token k w front rest inside at number ts is e tells size signs_are part more =
       let here : slice_range whole at (at + length inside) ≡ w = there front w rest at (at + length inside) is e (ap (λ (n : ℕ). at + n) size) in
       let all : Lie whole false at number (inside ++ signs rest) (token_at whole k at (at + length inside) number ∷ ts) =
-          token k inside (signs rest) tells part (subst (λ (n : ℕ). Lie whole false (at + n) number (signs rest) ts) (sym size) more) in
+      token k inside (signs rest) tells part (subst (λ (n : ℕ). Lie whole false (at + n) number (signs rest) ts) (sym size) more) in
       rw signs_are (subst (λ (t : List ℕ). Lie whole false at number (inside ++ signs rest) (record { kind = k; text = t; start = at; line = number } ∷ ts)) here all)
 
   line_lies : (bytes : List ℕ) (ws : Line) → Laid bytes ws → (front rest : List ℕ) (at end number : ℕ) → whole ≡ front ++ (bytes ++ rest)
@@ -241,28 +241,28 @@ module _ (whole : List ℕ) where
       record { us = []; lie = a_semicolon ((c ++ 10 ∷ []) ++ rest) at number ts (rw (append_assoc c (10 ∷ []) rest) c_lies); stand = tt }
   line_lies bytes ws (blank {bytes = more} h) front rest at end number is e f ts behind =
       let r = line_lies more ws h (front ++ 32 ∷ []) rest (at + 1) end number (is ∙ sym (append_assoc front (32 ∷ []) (more ++ rest)))
-          (omega (arith, length-append front (32 ∷ []))) (omega arith) ts behind in
+      (omega (arith, length-append front (32 ∷ []))) (omega arith) ts behind in
       record { us = r.us; lie = a_blank (more ++ rest) at number (r.us ++ ts) r.lie; stand = r.stand }
   line_lies bytes ws (word w {bytes = more} {ws = others} h part q) front rest at end number is e f ts behind =
       let split : (w ++ more) ++ rest ≡ w ++ (more ++ rest) = append_assoc w more rest in
       let whole_is : whole ≡ front ++ (w ++ (more ++ rest)) = is ∙ ap (λ (x : List ℕ). front ++ x) split in
       let r = line_lies more others q (front ++ w) rest (at + length w) end number (whole_is ∙ sym (append_assoc front w (more ++ rest)))
-          (omega (arith, length-append front w)) (omega (arith, length-append w more)) ts behind in
+      (omega (arith, length-append front w)) (omega (arith, length-append w more)) ts behind in
       let bytes_are = (both_true (begins_word w) (list_all is_word_byte w) h).1 in
       let t : TokenParts = record { kind = kind.Word; text = w; start = at; line = number } in
       let lies = a_token kind.Word w front (more ++ rest) (others_of w) at number (r.us ++ ts) whole_is e (is_a_word w h) (others_length w)
-          (word_signs w (more ++ rest) bytes_are) (parted more rest part) r.lie in
+      (word_signs w (more ++ rest) bytes_are) (parted more rest part) r.lie in
       record { us = t ∷ r.us; lie = subst (λ (x : List ℕ). Lie whole false at number (signs x) (t ∷ (r.us ++ ts))) (sym split) lies; stand = (refl, refl, r.stand) }
   line_lies bytes ws (string w {bytes = more} {ws = others} h part q) front rest at end number is e f ts behind =
       let text : List ℕ = 34 ∷ w in
       let split : (w ++ more) ++ rest ≡ w ++ (more ++ rest) = append_assoc w more rest in
       let whole_is : whole ≡ front ++ (text ++ (more ++ rest)) = is ∙ ap (λ (x : List ℕ). front ++ 34 ∷ x) split in
       let r = line_lies more others q (front ++ text) rest (at + length text) end number (whole_is ∙ sym (append_assoc front text (more ++ rest)))
-          (omega (arith, length-append front text)) (omega (arith, length-append w more)) ts behind in
+      (omega (arith, length-append front text)) (omega (arith, length-append w more)) ts behind in
       let s = in_string w (more ++ rest) h in
       let t : TokenParts = record { kind = kind.Text; text = text; start = at; line = number } in
       let lies = a_token kind.Text text front (more ++ rest) (Other 34 ∷ s.inside) at number (r.us ++ ts) whole_is e (string_token s.is) (ap suc s.count)
-          (quote_sign (w ++ (more ++ rest)) ∙ ap (λ (x : List Sign). Other 34 ∷ x) s.signs_are) (parted more rest part) r.lie in
+      (quote_sign (w ++ (more ++ rest)) ∙ ap (λ (x : List Sign). Other 34 ∷ x) s.signs_are) (parted more rest part) r.lie in
       record { us = t ∷ r.us; lie = subst (λ (x : List ℕ). Lie whole false at number (signs (34 ∷ x)) (t ∷ (r.us ++ ts))) (sym split) lies; stand = (refl, refl, r.stand) }
 
   -- no token of the rest stands in a line before it
@@ -321,7 +321,7 @@ module _ (whole : List ℕ) where
   text_lies text lines nothing front at number is e = record { ts = []; lie = line_end_sign no_sign; said = refl; behind = tt }
   text_lies text lines (line {bytes = bytes} {text = rest} {w = w} {ws = ws} {lines = more} h q) front at number is e =
       let r = text_lies rest more q (front ++ bytes) (at + length bytes) (number + 1) (is ∙ sym (append_assoc front bytes rest))
-          (omega (arith, length-append front bytes)) in
+      (omega (arith, length-append front bytes)) in
       let l = line_lies bytes (w ∷ ws) h front rest at (at + length bytes) number is e refl r.ts r.lie in
       record {
         ts = l.us ++ r.ts;
@@ -329,10 +329,9 @@ module _ (whole : List ℕ) where
         said = said_so number w ws l.us r.ts more l.stand r.said r.behind;
         behind = behind_line number w ws l.us r.ts l.stand;
       }
-
   text_lies text lines (skip {bytes = bytes} {text = rest} h q) front at number is e =
       let r = text_lies rest lines q (front ++ bytes) (at + length bytes) (number + 1) (is ∙ sym (append_assoc front bytes rest))
-          (omega (arith, length-append front bytes)) in
+      (omega (arith, length-append front bytes)) in
       let l = line_lies bytes [] h front rest at (at + length bytes) number is e refl r.ts r.lie in
       record {
         ts = l.us ++ r.ts;

@@ -19,4 +19,3 @@ pub mod Fields
 pub mod Headers
 pub mod Ranges
 pub mod Classes
-

@@ -1,15 +1,14 @@
 -- The lines of a method.
-use Rattle.std.proofs.Common.{◌≡◌, ℕ, zero, suc, ◌+◌, ◌-◌, ◌<◌, ◌≤◌, ◌^◌, ◌==◌, Bool, true, false, not, ◌&&◌, ◌||◌, List, [], ◌∷◌, ◌++◌, length, Option, Some, None, Result, Ok, Err, refl, codes}
-use Rattle.std.proofs.Common.{ap, sym, ◌∙◌, arith, subst, append_assoc, nat_lt, nat_le, get_or}
+use Rattle.std.proofs.Common.{◌≡◌, ℕ, ◌+◌, ◌<◌, ◌^◌, Bool, true, false, not, ◌&&◌, ◌||◌, List, [], ◌∷◌, ◌++◌, length, Option, Some, None, Ok, refl, codes}
+use Rattle.std.proofs.Common.{ap, sym, ◌∙◌, arith, subst, append_assoc, nat_lt, nat_le}
 use Rattle.std.specs.Prelude.{if◌then◌else◌, All}
 use Rattle.std.specs.List.{list_all, flat_map}
 use Rattle.std.specs.Fmt.{decimal}
-use Rattle.std.proofs.lemmas.List.{append-nil}
 use Rattle.std.proofs.lemmas.Bool.Decides.{nat_tests}
 use Rattle.jm_bytes.specs.Reading.{each}
 use Rattle.jm_program.proofs.DescriptorLaws.{both_true, and_true}
 use Rattle.jm_program.specs.Flags.{is_static, is_synchronized, is_native, is_abstract}
-use Rattle.jm_program.specs.Names.{same_text, is_class_name, is_method_name, is_init, is_clinit}
+use Rattle.jm_program.specs.Names.{same_text, is_method_name, is_init, is_clinit}
 use Rattle.jm_program.specs.Texts.{utf16_of}
 use Rattle.jm_program.specs.Descriptors.{argument_slots, field_text, return_text, method_text, is_method_type, is_kept_method_type}
 use Rattle.jm_program.specs.Instructions.{instr_fits}
@@ -21,22 +20,19 @@ use Rattle.jm_program.specs.declared.class.Method.{Method}
 use Rattle.jm_program.specs.declared.code.Code.{Code}
 use Rattle.jm_program.specs.declared.code.Handler.{Handler}
 use Rattle.jm_program.specs.declared.code.LineNumber.{LineNumber}
-use Rattle.jm_program.specs.declared.descriptor.MethodDescriptor.{MethodDescriptor}
 use Rattle.jm_program.specs.declared.instruction.symbolic.Instr.{Instr}
 use Rattle.jm_class_format.specs.Members.{own_receiver}
-use Rattle.jm_class_format.specs.Symbols.{class_name_of, method_name_of, method_type_of}
-use Rattle.jm_class_writer.specs.Ranges.{OfSome, UnitsInRange, InstrInRange, HandlerInRange, MethodTypeInRange, MethodInRange}
+use Rattle.jm_class_format.specs.Symbols.{class_name_of}
+use Rattle.jm_class_writer.specs.Ranges.{OfSome, UnitsInRange, InstrInRange, HandlerInRange, MethodTypeInRange}
 use Rattle.jm_class_writer.proofs.PartLaws.{all_tail, all_head}
 use Rattle.jm_class_writer.proofs.Symbols.{class_name_read, method_name_read, method_type_read}
 use Rattle.jm_jasmin.specs.declared.item.Item.{Item}
 use Rattle.jm_jasmin.specs.declared.item.Item.TheVariants as item
 use Rattle.jm_jasmin.specs.MethodHeader.{is_misplaced_abstract, left_out_method}
 use Rattle.jm_jasmin.specs.Items.{instruction_count, label_value, stack_limit, locals_limit, locals_accepted, accepted}
-use Rattle.jm_jasmin.specs.Labels.{part_of}
-use Rattle.jm_jasmin.specs.Body.{empty_range, checked_locals, checked_count, code_of, tables_of}
-use Rattle.jm_jasmin.specs.Methods.{with_code}
+use Rattle.jm_jasmin.specs.Body.{empty_range, checked_locals, checked_count, code_of}
 use Rattle.jm_jasmin.specs.WordForms.{Line, bare}
-use Rattle.jm_jasmin.specs.MethodForms.{without_code, no_parenthesis as is_other_unit, catch_row, catch_words, MethodLine, BodyLine, BodyLines, MethodLines}
+use Rattle.jm_jasmin.specs.MethodForms.{without_code, catch_row, catch_words, MethodLine, BodyLine, BodyLines, MethodLines}
 use Rattle.jm_jasmin.specs.MethodForms.MethodLine.{method as method_line_is}
 use Rattle.jm_jasmin.specs.MethodForms.BodyLine.{stack, locals, catch, catch_all}
 use Rattle.jm_jasmin.specs.MethodForms.BodyLines.{ends as no_more, and_line}
@@ -44,12 +40,12 @@ use Rattle.jm_jasmin.specs.MethodForms.MethodLines.{method as method_lines_are}
 use Rattle.jm_disassembler.specs.Names.{is_plain, is_sayable, begins_with_quote, is_plain_method_type}
 use Rattle.jm_disassembler.specs.Said.{is_short, instr_said, no_parenthesis}
 use Rattle.jm_disassembler.specs.Labels.{label_name, marks_of}
-use Rattle.jm_disassembler.specs.Bodies.{caught_said, handler_said, row_said, lines_said, sizes_said, code_said, caught_text, handler_text, limit_text, body_text, code_text}
+use Rattle.jm_disassembler.specs.Bodies.{caught_said, handler_said, lines_said, sizes_said, code_said, caught_text, handler_text, limit_text, body_text, code_text}
 use Rattle.jm_disassembler.specs.Flags.{member_rows, flags_text, flags_said}
 use Rattle.jm_disassembler.specs.Members.{flags_note, method_name_said, body_of, method_text as text_of_method}
-use Rattle.jm_disassembler.proofs.Laid.{is_word, begins_word, is_word_byte, apart, Laid, Texts}
+use Rattle.jm_disassembler.proofs.Laid.{is_word, begins_word, is_word_byte, Laid, Texts}
 use Rattle.jm_disassembler.proofs.Laid.Laid.{ends, blank, word}
-use Rattle.jm_disassembler.proofs.Laid.Texts.{nothing, line, skip}
+use Rattle.jm_disassembler.proofs.Laid.Texts.{line, skip}
 use Rattle.jm_disassembler.proofs.Spelled.{Spelled, then_spelled, name_spelled}
 use Rattle.jm_disassembler.proofs.Types.{ascii_spelled, method_type_spelled}
 use Rattle.jm_disassembler.proofs.LabelWords.{same_is, name_of_label, name_word}
@@ -103,7 +99,7 @@ pub code_sayable : (slots : ℕ) (c : Code) → code_fits slots c ≡ true → c
 code_sayable slots c fits said numbers =
     let n : ℕ = length c.instructions in
     let a = both_true (nat_le slots c.max_locals && nat_lt 0 n && list_all (instr_fits n) c.instructions && list_all (handler_fits n) c.handlers)
-        (list_all (line_fits n) c.lines) fits in
+    (list_all (line_fits n) c.lines) fits in
     let b = both_true (nat_le slots c.max_locals && nat_lt 0 n && list_all (instr_fits n) c.instructions) (list_all (handler_fits n) c.handlers) a.0 in
     let d = both_true (nat_le slots c.max_locals && nat_lt 0 n) (list_all (instr_fits n) c.instructions) b.0 in
     let e = both_true (nat_le slots c.max_locals) (nat_lt 0 n) d.0 in
@@ -178,13 +174,15 @@ not_all name plain range said = by (same_text (name_text name) (codes "all")) re
     test : (b : Bool) → (if b then false else true) ≡ true → b ≡ false
     test true h = absurd cc
     test false h = refl
+
     same_as : name ≡ codes "all" → same_text name (codes "all") ≡ true
     same_as e = ap (λ (n : List ℕ). same_text n (codes "all")) e
+
     by : (b : Bool) → same_text (name_text name) (codes "all") ≡ b → b ≡ false
     by true e =
         let text : name_text name ≡ codes "all" = same_is (name_text name) (codes "all") e in
         let same : name ≡ codes "all" =
-            sym (name_spelled name plain range).units_are ∙ ap utf16_of text ∙ (ascii_spelled (codes "all") refl).units_are in
+        sym (name_spelled name plain range).units_are ∙ ap utf16_of text ∙ (ascii_spelled (codes "all") refl).units_are in
         absurd (cc (same_as same, test (same_text name (codes "all")) said))
     by false e = refl
 
@@ -203,7 +201,7 @@ handler_form n before h few fits said range =
     let p = places_few n h few fits in
     let form = caught_form before h.catch_type (label_name h.start) (label_name h.end) (label_name h.target) (handler_parts n h fits).3 said range in
     let same : item.Catch (catch_row h.catch_type (label_name h.start) (label_name h.end) (label_name h.target)) ≡ handler_item h =
-        rw ((name_of_label h.start p.0).units_are, (name_of_label h.end p.1).units_are, (name_of_label h.target p.2).units_are) refl in
+    rw ((name_of_label h.start p.0).units_are, (name_of_label h.end p.1).units_are, (name_of_label h.target p.2).units_are) refl in
     subst (λ (x : Item). BodyLine before (handler_words h) x) same form
 
 module _ (m : Method) where
@@ -241,11 +239,11 @@ limits_laid c numbers rest lines t =
     let first : List ℕ = codes "  .limit stack " ++ (s ++ 10 ∷ []) in
     let second : List ℕ = codes "  .limit locals " ++ (l ++ 10 ∷ []) in
     let stack_laid : Laid first (stack_words c) =
-        blank (blank (word (codes ".limit") refl refl (blank (word (codes "stack") refl refl (blank (word s (decimal_word c.max_stack (omega arith)) refl ends)))))) in
+    blank (blank (word (codes ".limit") refl refl (blank (word (codes "stack") refl refl (blank (word s (decimal_word c.max_stack (omega arith)) refl ends)))))) in
     let locals_laid : Laid second (locals_words c) =
-        blank (blank (word (codes ".limit") refl refl (blank (word (codes "locals") refl refl (blank (word l (decimal_word c.max_locals (omega arith)) refl ends)))))) in
+    blank (blank (word (codes ".limit") refl refl (blank (word (codes "locals") refl refl (blank (word l (decimal_word c.max_locals (omega arith)) refl ends)))))) in
     let parts : (s ++ (10 ∷ second)) ++ rest ≡ (s ++ 10 ∷ []) ++ (second ++ rest) =
-        append_assoc s (10 ∷ second) rest ∙ sym (append_assoc s (10 ∷ []) (second ++ rest)) in
+    append_assoc s (10 ∷ second) rest ∙ sym (append_assoc s (10 ∷ []) (second ++ rest)) in
     subst (λ (x : List ℕ). Texts (codes "  .limit stack " ++ x) (stack_words c ∷ locals_words c ∷ lines)) (sym parts)
     (line stack_laid (line locals_laid t))
 
@@ -262,7 +260,7 @@ code_laid commented slots c s hs numbers rest lines t =
     let with_handlers = handlers_laid n c.handlers (omega arith) s.handlers hs numbers.handlers (body ++ rest) (rows ++ lines) with_body in
     let with_limits = limits_laid c numbers (hts ++ (body ++ rest)) (handler_rows c.handlers ++ (rows ++ lines)) with_handlers in
     let texts : (limit_text c ++ (hts ++ body)) ++ rest ≡ limit_text c ++ (hts ++ (body ++ rest)) =
-        append_assoc (limit_text c) (hts ++ body) rest ∙ ap (λ (x : List ℕ). limit_text c ++ x) (append_assoc hts body rest) in
+    append_assoc (limit_text c) (hts ++ body) rest ∙ ap (λ (x : List ℕ). limit_text c ++ x) (append_assoc hts body rest) in
     subst (λ (x : List ℕ). Texts x (code_lines c ++ lines)) (sym texts)
     (subst (λ (ls : List Line). Texts (limit_text c ++ (hts ++ (body ++ rest))) (stack_words c ∷ locals_words c ∷ ls)) (sym (append_assoc (handler_rows c.handlers) rows lines))
     with_limits)
@@ -480,18 +478,18 @@ method_laid commented in_interface m s rest lines t =
     let with_end : Texts (end ++ rest) (end_words ∷ lines) = line end_laid t in
     let with_body = body_laid_out commented in_interface m m.code r.body s.code (end ++ rest) (end_words ∷ lines) with_end in
     let name_laid : Laid (w ++ note) (bare w ∷ []) =
-        word w (declared_is_word in_interface m s) (flags_note_apart commented m.flags.bits _ s.flags) (flags_note_laid commented m.flags.bits _ s.flags) in
+    word w (declared_is_word in_interface m s) (flags_note_apart commented m.flags.bits _ s.flags) (flags_note_laid commented m.flags.bits _ s.flags) in
     let head_laid : Laid (codes ".method " ++ (flags ++ (w ++ note))) (head_words m) =
-        word (codes ".method") refl refl (blank (flags_laid m.flags.bits member_rows member_flags (w ++ note) (bare w ∷ []) name_laid)) in
+    word (codes ".method") refl refl (blank (flags_laid m.flags.bits member_rows member_flags (w ++ note) (bare w ∷ []) name_laid)) in
     let whole = skip ends (line head_laid with_body) in
     let inner : (name_text m.name ++ (method_line m.descriptor ++ (note ++ (body ++ end)))) ++ rest ≡ (w ++ note) ++ (body ++ (end ++ rest)) =
-        append_assoc (name_text m.name) (method_line m.descriptor ++ (note ++ (body ++ end))) rest
-        ∙ ap (λ (x : List ℕ). name_text m.name ++ x) (append_assoc (method_line m.descriptor) (note ++ (body ++ end)) rest
-        ∙ ap (λ (x : List ℕ). method_line m.descriptor ++ x) (append_assoc note (body ++ end) rest ∙ ap (λ (x : List ℕ). note ++ x) (append_assoc body end rest)))
-        ∙ sym (append_assoc (name_text m.name) (method_line m.descriptor) (note ++ (body ++ (end ++ rest)))) ∙ sym (append_assoc w note (body ++ (end ++ rest))) in
+    append_assoc (name_text m.name) (method_line m.descriptor ++ (note ++ (body ++ end))) rest
+    ∙ ap (λ (x : List ℕ). name_text m.name ++ x) (append_assoc (method_line m.descriptor) (note ++ (body ++ end)) rest
+    ∙ ap (λ (x : List ℕ). method_line m.descriptor ++ x) (append_assoc note (body ++ end) rest ∙ ap (λ (x : List ℕ). note ++ x) (append_assoc body end rest)))
+    ∙ sym (append_assoc (name_text m.name) (method_line m.descriptor) (note ++ (body ++ (end ++ rest)))) ∙ sym (append_assoc w note (body ++ (end ++ rest))) in
     let texts : (flags ++ (name_text m.name ++ (method_line m.descriptor ++ (note ++ (body ++ end))))) ++ rest ≡ (flags ++ (w ++ note)) ++ (body ++ (end ++ rest)) =
-        append_assoc flags (name_text m.name ++ (method_line m.descriptor ++ (note ++ (body ++ end)))) rest ∙ ap (λ (x : List ℕ). flags ++ x) inner
-        ∙ sym (append_assoc flags (w ++ note) (body ++ (end ++ rest))) in
+    append_assoc flags (name_text m.name ++ (method_line m.descriptor ++ (note ++ (body ++ end)))) rest ∙ ap (λ (x : List ℕ). flags ++ x) inner
+    ∙ sym (append_assoc flags (w ++ note) (body ++ (end ++ rest))) in
     subst (λ (x : List ℕ). Texts (codes "\n.method " ++ x) (method_lines m ++ lines)) (sym texts)
     (subst (λ (ls : List Line). Texts (codes "\n.method " ++ ((flags ++ (w ++ note)) ++ (body ++ (end ++ rest)))) (head_words m ∷ ls))
     (sym (append_assoc (lines_of_body m.code) (end_words ∷ []) lines)) whole)

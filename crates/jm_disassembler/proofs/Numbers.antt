@@ -1,16 +1,15 @@
 -- Numbers as words, and what is read of them.
-use Rattle.std.proofs.Common.{◌≡◌, ℕ, zero, suc, ◌+◌, ◌-◌, ◌<◌, ◌≤◌, ◌^◌, ◌==◌, Bool, true, false, not, ◌&&◌, ◌||◌, List, [], ◌∷◌, ◌++◌, length, drop, Option, Some, None, refl}
-use Rattle.std.proofs.Common.{ap, sym, ◌∙◌, arith, subst, nat_lt, nat_le, get_or}
-use Rattle.std.specs.Prelude.{ℤ, pos, negsuc, neg_ℤ, slice_index, if◌then◌else◌}
-use Rattle.std.specs.List.{list_all, list_any, prefix_len}
+use Rattle.std.proofs.Common.{◌≡◌, ℕ, suc, ◌-◌, ◌<◌, ◌≤◌, ◌^◌, ◌==◌, Bool, true, false, not, ◌&&◌, ◌||◌, List, [], ◌∷◌, length, drop, Some, refl}
+use Rattle.std.proofs.Common.{arith, nat_lt, nat_le}
+use Rattle.std.specs.Prelude.{ℤ, pos, negsuc, slice_index, if◌then◌else◌}
+use Rattle.std.specs.List.{list_all}
 use Rattle.std.specs.Fmt.{decimal, signed_decimal}
-use Rattle.std.specs.Char.{digit_value}
-use Rattle.std.specs.Str.Parse.{AllDigits, IsNumeral, digits_value}
+use Rattle.std.specs.Str.Parse.{AllDigits}
 use Rattle.std.proofs.lemmas.Fmt.{decimal_is_IsNumeral}
 use Rattle.std.proofs.lemmas.Str.Parse.{digit_at}
 use Rattle.std.proofs.lemmas.Bool.Decides.{nat_tests}
 use Rattle.jm_program.proofs.DescriptorLaws.{both_true, and_true}
-use Rattle.jm_jasmin_lex.specs.Integers.{is_digit, numeral, positive, negative, integer_of}
+use Rattle.jm_jasmin_lex.specs.Integers.{is_digit, numeral, integer_of}
 use Rattle.jm_jasmin_ops.specs.Profile as profile
 use Rattle.jm_jasmin_ops.specs.Profile.{begins_with, is_named, is_real, is_offset, has_colon}
 use Rattle.jm_disassembler.proofs.Laid.{is_word_byte, is_word}

@@ -1,7 +1,7 @@
 -- The texts of names and types as words: their bytes, and the code units that are read of them.
-use Rattle.std.proofs.Common.{◌≡◌, ℕ, zero, suc, ◌+◌, ◌-◌, ◌*◌, ◌/◌, ◌%◌, ◌<◌, ◌≤◌, ◌^◌, ◌==◌, Bool, true, false, not, ◌&&◌, ◌||◌, List, [], ◌∷◌, ◌++◌, length, Option, Some, None, refl, replicate}
-use Rattle.std.proofs.Common.{ap, sym, ◌∙◌, arith, subst, append_assoc, All, nat_lt, nat_le, cond}
-use Rattle.std.specs.List.{list_all, flat_map}
+use Rattle.std.proofs.Common.{◌≡◌, ℕ, ◌+◌, ◌-◌, ◌*◌, ◌/◌, ◌%◌, ◌<◌, ◌≤◌, ◌^◌, Bool, true, false, not, ◌&&◌, List, [], ◌∷◌, ◌++◌, Some, None, refl}
+use Rattle.std.proofs.Common.{ap, sym, ◌∙◌, arith, subst, nat_lt, cond}
+use Rattle.std.specs.List.{list_all}
 use Rattle.std.specs.Str.{IsUtf8, chars}
 use Rattle.std.specs.Char.Escape.{encode_utf16}
 use Rattle.std.proofs.lemmas.Str.{chars-nil, chars-append, chars-encodes, IsUtf8-nil, IsUtf8-append, IsUtf8-encode}
@@ -10,11 +10,11 @@ use Rattle.std.proofs.lemmas.List.Folds.{list_all-append}
 use Rattle.std.proofs.lemmas.Grind.{flat_map-append}
 use Rattle.std.proofs.lemmas.Bool.Decides.{nat_tests}
 use Rattle.std.proofs.lemmas.Nat.{div-mul-add, mod-mul-add}
-use Rattle.std.proofs.Math.Utf8.{encode, encodes, scalar, scalars, low_scalar}
-use Rattle.jm_program.proofs.DescriptorLaws.{both_true, and_true}
+use Rattle.std.proofs.Math.Utf8.{encode, scalar, scalars}
+use Rattle.jm_program.proofs.DescriptorLaws.{both_true}
 use Rattle.jm_program.specs.Texts.{utf16_of}
 use Rattle.jm_program.specs.Surrogates.{is_high, is_low, is_surrogate, character_of}
-use Rattle.jm_program.specs.JasminUnits.{is_escaped, unit_text, pair_text, lone_text, after_text, step_text, waits, text_from, name_text}
+use Rattle.jm_program.specs.JasminUnits.{is_escaped, unit_text, pair_text, lone_text, after_text, step_text, text_from, name_text}
 use Rattle.jm_program.specs.declared.jasmin.units.Context.TheVariants.{InName}
 use Rattle.jm_class_writer.specs.Ranges.{UnitsInRange}
 use Rattle.jm_class_writer.proofs.PartLaws.{all_tail, all_head}
@@ -48,6 +48,7 @@ encode_bytes c h = by (nat_lt c 128) (nat_lt c 2048) (nat_lt c 65536)
   where
     above : (n k : ℕ) → 128 ≤ n → is_word_byte (n + k) ≡ true
     above n k le = high_byte (n + k) (omega arith)
+
     by : (x y z : Bool) → list_all is_word_byte (cond x (c ∷ []) (cond y ((192 + c / 64) ∷ (128 + c % 64) ∷ [])
         (cond z ((224 + c / 4096) ∷ (128 + c / 64 % 64) ∷ (128 + c % 64) ∷ [])
         ((240 + c / 262144) ∷ (128 + c / 4096 % 64) ∷ (128 + c / 64 % 64) ∷ (128 + c % 64) ∷ [])))) ≡ true
@@ -113,6 +114,7 @@ pair_of high low h l =
   where
     scalar_above : (c : ℕ) → 0x1_0000 ≤ c → c < 0x11_0000 → scalar c ≡ true
     scalar_above c p q = grind (arith, nat_tests)
+
     both : (c high low : ℕ) → nat_lt c 0x1_0000 ≡ false → 0xD800 + (c - 0x1_0000) / 0x400 ≡ high → 0xDC00 + (c - 0x1_0000) % 0x400 ≡ low
         → encode_utf16 c ≡ high ∷ low ∷ []
     both c high low f p q = rw (f, p, q) refl
@@ -154,12 +156,12 @@ none_by u us none high true e h all =
     rw e (high u e (first_of_two (is_high u) (plain_from true us) (is_plain_unit u && plain_from false us) e h) (all_tail (λ (x : ℕ). x < 2 ^ 16) u us all))
 none_by u us none high false e h all =
     let q = both_true (is_plain_unit u) (plain_from false us)
-        (second_of_two (is_high u) (plain_from true us) (is_plain_unit u && plain_from false us) e h) in
+    (second_of_two (is_high u) (plain_from true us) (is_plain_unit u && plain_from false us) e h) in
     let p = both_true (not (is_escaped InName u)) (is_unit u) q.0 in
     let here : not (is_escaped InName u) ≡ true = p.0 in
     let plain : is_escaped InName u ≡ false = not_true (is_escaped InName u) here in
     let all_of : text_from InName None (u ∷ us) ≡ encode u ++ text_from InName None us =
-        step_none u us e ∙ ap (λ (t : List ℕ). t ++ text_from InName None us) (unit_plain u plain) in
+    step_none u us e ∙ ap (λ (t : List ℕ). t ++ text_from InName None us) (unit_plain u plain) in
     subst (λ (t : List ℕ). Spelled t (u ∷ us)) (sym all_of) (then_spelled (encode u) (text_from InName None us) (u ∷ []) us (unit_spelled u (all_head (λ (x : ℕ). x < 2 ^ 16) u us all) plain) (none q.1 (all_tail (λ (x : ℕ). x < 2 ^ 16) u us all)))
 
 high_by : (u : ℕ) (us : List ℕ) → FromNone us → FromHigh (u ∷ us)

@@ -1,7 +1,6 @@
 -- A string as it is written: its end is found, and its value is that of the code units.
-use Rattle.std.proofs.Common.{◌≡◌, ℕ, zero, suc, ◌+◌, ◌-◌, ◌*◌, ◌/◌, ◌%◌, ◌<◌, ◌≤◌, ◌^◌, ◌==◌, Bool, true, false, not, ◌&&◌, ◌||◌, List, [], ◌∷◌, ◌++◌, length, Option, Some, None, refl, codes}
-use Rattle.std.proofs.Common.{ap, sym, ◌∙◌, arith, subst, append_assoc, nat_lt, nat_le, cond}
-use Rattle.std.specs.List.{list_all}
+use Rattle.std.proofs.Common.{◌≡◌, ℕ, zero, suc, ◌+◌, ◌*◌, ◌/◌, ◌%◌, ◌<◌, ◌≤◌, ◌^◌, ◌==◌, Bool, true, false, List, [], ◌∷◌, ◌++◌, Some, None, refl}
+use Rattle.std.proofs.Common.{ap, sym, ◌∙◌, arith, subst, append_assoc, nat_lt, cond}
 use Rattle.std.specs.Fmt.{digits}
 use Rattle.std.specs.Str.{IsUtf8, chars}
 use Rattle.std.specs.Char.{is_ascii_hexdigit}
@@ -9,9 +8,9 @@ use Rattle.std.specs.Char.Escape.{encode_utf16}
 use Rattle.std.proofs.lemmas.Str.{chars-nil, chars-append, chars-encodes, IsUtf8-nil, IsUtf8-append, IsUtf8-encode, encode_ascii}
 use Rattle.std.proofs.lemmas.List.{append-nil}
 use Rattle.std.proofs.lemmas.Bool.Decides.{nat_tests}
-use Rattle.std.proofs.Math.Utf8.{encode, encodes, scalar, scalars}
+use Rattle.std.proofs.Math.Utf8.{encode, scalar, scalars}
 use Rattle.jm_program.specs.Surrogates.{is_high, is_low, is_surrogate, character_of}
-use Rattle.jm_program.specs.JasminUnits.{is_escaped, escape_text, unit_text, pair_text, lone_text, after_text, step_text, waits, text_from, string_text}
+use Rattle.jm_program.specs.JasminUnits.{is_escaped, escape_text, unit_text, pair_text, lone_text, after_text, step_text, text_from, string_text}
 use Rattle.jm_program.specs.declared.jasmin.units.Context.TheVariants.{InString}
 use Rattle.jm_class_writer.specs.Ranges.{UnitsInRange}
 use Rattle.jm_class_writer.proofs.PartLaws.{all_tail, all_head}
@@ -20,7 +19,7 @@ use Rattle.jm_jasmin_lex.specs.Literals.Value.{none as no_value, character, unit
 use Rattle.jm_jasmin_lex.proofs.Strings.{value_of_literal}
 use Rattle.jm_disassembler.proofs.Laid.{is_word_byte, Inside}
 use Rattle.jm_disassembler.proofs.Laid.Inside.{closing, space, plain, unit as unit_inside}
-use Rattle.jm_disassembler.proofs.Spelled.{IsPair, pair_of, unit_scalar}
+use Rattle.jm_disassembler.proofs.Spelled.{pair_of, unit_scalar}
 
 -- ---- a digit
 
@@ -88,8 +87,10 @@ high_inside n k bs le h =
   where
     byte_of : (b : ℕ) → 128 ≤ b → is_word_byte b ≡ true
     byte_of b le = grind (arith, nat_tests)
+
     no_quote : (b : ℕ) → 128 ≤ b → (b == 34) ≡ false
     no_quote b le = grind (arith, nat_tests)
+
     no_backslash : (b : ℕ) → 128 ≤ b → (b == 92) ≡ false
     no_backslash b le = grind (arith, nat_tests)
 
@@ -167,10 +168,10 @@ escape_piece u lt =
     let d = hex (u % 16) (omega arith) in
     let text : List ℕ = 92 ∷ 117 ∷ a.h ∷ b.h ∷ c.h ∷ d.h ∷ [] in
     let ascii : Plain text =
-        plain_more 92 _ (omega arith) (plain_more 117 _ (omega arith) (plain_more a.h _ (hex_small a.h a.is_hex) (plain_more b.h _ (hex_small b.h b.is_hex)
-        (plain_more c.h _ (hex_small c.h c.is_hex) (plain_more d.h _ (hex_small d.h d.is_hex) plain_none))))) in
+    plain_more 92 _ (omega arith) (plain_more 117 _ (omega arith) (plain_more a.h _ (hex_small a.h a.is_hex) (plain_more b.h _ (hex_small b.h b.is_hex)
+    (plain_more c.h _ (hex_small c.h c.is_hex) (plain_more d.h _ (hex_small d.h d.is_hex) plain_none))))) in
     let sum : ((hexadecimal_value a.h * 16 + hexadecimal_value b.h) * 16 + hexadecimal_value c.h) * 16 + hexadecimal_value d.h ≡ u =
-        rw (a.value, b.value, c.value, d.value) (omega arith) in
+    rw (a.value, b.value, c.value, d.value) (omega arith) in
     rw (a.is, b.is, c.is, d.is) (record {
       cs = text;
       utf8 = ascii.utf8;
@@ -254,7 +255,7 @@ string_value units all =
     let one : chars (34 ∷ []) ≡ 34 ∷ [] = ascii_chars 34 (omega arith) in
     let back : chars (text ++ 34 ∷ []) ≡ p.cs ++ 34 ∷ [] = rw (chars-append text (34 ∷ []) p.utf8, p.chars_are, one) refl in
     let all_chars : chars (34 ∷ (text ++ 34 ∷ [])) ≡ 34 ∷ (p.cs ++ 34 ∷ []) =
-        chars-append (34 ∷ []) (text ++ 34 ∷ []) quote ∙ rw (one, back) refl in
+    chars-append (34 ∷ []) (text ++ 34 ∷ []) quote ∙ rw (one, back) refl in
     let value : Value p.cs units = subst (λ (cs : List ℕ). Value cs units) (append-nil p.cs)
-        (subst (λ (us : List ℕ). Value (p.cs ++ []) us) (append-nil units) (p.value [] [] no_value)) in
+    (subst (λ (us : List ℕ). Value (p.cs ++ []) us) (append-nil units) (p.value [] [] no_value)) in
     value_of_literal (34 ∷ (text ++ 34 ∷ [])) p.cs units all_chars value

@@ -1,19 +1,17 @@
 -- Switches, and each instruction with its labels.
-use Rattle.std.proofs.Common.{◌≡◌, ℕ, zero, suc, ◌+◌, ◌-◌, ◌<◌, ◌≤◌, ◌^◌, ◌==◌, Bool, true, false, not, ◌&&◌, ◌||◌, List, [], ◌∷◌, ◌++◌, length, Option, Some, None, Result, Ok, refl, codes}
-use Rattle.std.proofs.Common.{ap, sym, ◌∙◌, arith, subst, append_assoc, nat_lt, nat_le}
-use Rattle.std.specs.Prelude.{ℤ, pos, negsuc, ◌+ℤ◌, int_le, int_lt, FitsSigned, All, if◌then◌else◌}
+use Rattle.std.proofs.Common.{◌≡◌, ℕ, suc, ◌+◌, ◌<◌, ◌^◌, true, ◌&&◌, List, [], ◌∷◌, ◌++◌, length, Option, Some, None, Ok, refl, codes}
+use Rattle.std.proofs.Common.{ap, sym, ◌∙◌, arith, subst, append_assoc, nat_lt}
+use Rattle.std.specs.Prelude.{ℤ, pos, ◌+ℤ◌, int_le, int_lt, FitsSigned, All}
 use Rattle.std.specs.Int.{w32}
 use Rattle.std.specs.List.{list_all, flat_map}
 use Rattle.std.specs.Fmt.{decimal, signed_decimal}
 use Rattle.std.proofs.lemmas.Int.{ints}
 use Rattle.std.proofs.lemmas.Bool.Decides.{nat_tests}
 use Rattle.jm_bytes.specs.Reading.{each}
-use Rattle.jm_program.proofs.DescriptorLaws.{both_true, and_true}
+use Rattle.jm_program.proofs.DescriptorLaws.{both_true}
 use Rattle.jm_program.specs.Instructions.{is_above, has_high, keys_rise, instr_fits}
 use Rattle.jm_program.specs.Texts.{utf16_of}
 use Rattle.jm_program.specs.declared.instruction.plain.SwitchPair.{SwitchPair}
-use Rattle.jm_program.specs.declared.instruction.plain.TableSwitch.{TableSwitch}
-use Rattle.jm_program.specs.declared.instruction.plain.LookupSwitch.{LookupSwitch}
 use Rattle.jm_program.specs.declared.instruction.plain.Plain.{Plain}
 use Rattle.jm_program.specs.declared.instruction.plain.Plain.TheVariants as plain
 use Rattle.jm_program.specs.declared.instruction.symbolic.Instr.{Instr}
@@ -25,7 +23,7 @@ use Rattle.jm_jasmin_ops.specs.Label.{LabelParts}
 use Rattle.jm_jasmin_ops.specs.declared.labelled.LabelledPair.{LabelledPair}
 use Rattle.jm_jasmin_ops.specs.declared.labelled.LabelledInstr.{LabelledInstr}
 use Rattle.jm_jasmin_ops.specs.declared.labelled.LabelledInstr.TheVariants as labelled
-use Rattle.jm_jasmin.specs.Labels.{place_at, target, pair_of, table_of, lookup_of, instruction_of}
+use Rattle.jm_jasmin.specs.Labels.{target, pair_of, table_of, lookup_of, instruction_of}
 use Rattle.jm_jasmin.specs.WordForms.{Line, bare}
 use Rattle.jm_jasmin.specs.InstructionForms.{InstructionLine, SwitchLines, TargetLines, PairLines, label_of, default_words}
 use Rattle.jm_jasmin.specs.InstructionForms.InstructionLine.{named}
@@ -36,13 +34,13 @@ use Rattle.jm_jasmin.specs.InstructionForms.SwitchLines.{table, lookup}
 use Rattle.jm_disassembler.specs.Labels.{label_name, pair_targets, plain_targets, instr_targets}
 use Rattle.jm_disassembler.specs.Instructions.{target_row, default_row, pair_row, table_rows, lookup_rows, rows_text}
 use Rattle.jm_disassembler.specs.Said.{instr_said}
-use Rattle.jm_disassembler.proofs.Laid.{apart, Laid, Texts}
+use Rattle.jm_disassembler.proofs.Laid.{Laid, Texts}
 use Rattle.jm_disassembler.proofs.Laid.Laid.{ends, blank, word}
-use Rattle.jm_disassembler.proofs.Laid.Texts.{nothing, line}
+use Rattle.jm_disassembler.proofs.Laid.Texts.{line}
 use Rattle.jm_disassembler.proofs.Numbers.{signed_word}
 use Rattle.jm_disassembler.proofs.LabelWords.{name_word, is_label_name, name_of_label}
 use Rattle.jm_disassembler.proofs.Mnemonics.{simple_names, load_names, store_names, push_byte_names, push_short_names, increment_names, return_names, monitor_names, throw_names}
-use Rattle.jm_disassembler.proofs.Instructions.{plain_words, instr_words, short_is, byte_is, signed_short_is, int_is, long_32, array_form, constant_form, branch_form, field_line_form, invoke_form, type_form, new_form}
+use Rattle.jm_disassembler.proofs.Instructions.{instr_words, short_is, byte_is, signed_short_is, int_is, long_32, array_form, constant_form, branch_form, field_line_form, invoke_form, type_form, new_form}
 
 -- of each
 abbrev pub Each : {A : Type 0} → (A → Type 0) → List A → Type 0

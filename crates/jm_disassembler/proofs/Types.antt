@@ -1,12 +1,12 @@
 -- Types and references as words.
-use Rattle.std.proofs.Common.{◌≡◌, ℕ, zero, suc, ◌<◌, ◌==◌, Bool, true, false, not, ◌&&◌, List, [], ◌∷◌, ◌++◌, Option, Some, None, refl, replicate, codes}
-use Rattle.std.proofs.Common.{ap, sym, ◌∙◌, arith, subst, append_assoc, All, nat_lt}
+use Rattle.std.proofs.Common.{◌≡◌, ℕ, zero, suc, ◌<◌, Bool, true, not, ◌&&◌, List, [], ◌∷◌, ◌++◌, Option, Some, None, refl, replicate}
+use Rattle.std.proofs.Common.{sym, arith, subst, append_assoc, All, nat_lt}
 use Rattle.std.specs.List.{list_all, flat_map}
 use Rattle.std.proofs.lemmas.Str.{encode_ascii}
 use Rattle.std.proofs.lemmas.Bool.Decides.{nat_tests}
 use Rattle.std.proofs.Math.Utf8.{encode, scalar}
 use Rattle.std.specs.Char.Escape.{encode_utf16}
-use Rattle.jm_program.proofs.DescriptorLaws.{both_true, and_true}
+use Rattle.jm_program.proofs.DescriptorLaws.{both_true}
 use Rattle.jm_program.specs.Descriptors.{base_letter, element_text, field_text, return_text, method_text}
 use Rattle.jm_program.specs.JasminUnits.{name_text}
 use Rattle.jm_program.specs.JasminTypes.{element_line, type_line, return_line, method_line, class_line}
@@ -19,9 +19,9 @@ use Rattle.jm_program.specs.declared.descriptor.MethodDescriptor.{MethodDescript
 use Rattle.jm_program.specs.declared.reference.ClassRef.{ClassRef}
 use Rattle.jm_program.specs.declared.reference.ClassRef.TheVariants as class_ref
 use Rattle.jm_class_writer.specs.PoolUse.{class_text}
-use Rattle.jm_class_writer.specs.Ranges.{OfSome, UnitsInRange, ElementInRange, TypeInRange, MethodTypeInRange, ClassRefInRange}
+use Rattle.jm_class_writer.specs.Ranges.{OfSome, ElementInRange, TypeInRange, MethodTypeInRange, ClassRefInRange}
 use Rattle.jm_class_writer.proofs.PartLaws.{all_tail, all_head}
-use Rattle.jm_disassembler.specs.Names.{is_plain, is_sayable, begins_with_quote, is_plain_element, is_plain_type, is_plain_return, is_plain_method_type, is_sayable_class}
+use Rattle.jm_disassembler.specs.Names.{is_plain, begins_with_quote, is_plain_element, is_plain_type, is_plain_return, is_plain_method_type, is_sayable_class}
 use Rattle.jm_disassembler.proofs.Laid.{is_word_byte}
 use Rattle.jm_disassembler.proofs.Spelled.{Spelled, nothing_spelled, then_spelled, character_spelled, name_spelled}
 

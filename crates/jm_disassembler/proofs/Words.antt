@@ -1,18 +1,17 @@
 -- Names, types and references are words, and they are read as what they are.
-use Rattle.std.proofs.Common.{◌≡◌, ℕ, zero, suc, ◌+◌, ◌-◌, ◌/◌, ◌%◌, ◌<◌, ◌≤◌, ◌^◌, ◌==◌, Bool, true, false, not, ◌&&◌, ◌||◌, List, [], ◌∷◌, ◌++◌, length, take, drop, Option, Some, None, Result, Ok, refl, replicate, codes}
-use Rattle.std.proofs.Common.{ap, sym, ◌∙◌, arith, subst, append_assoc, length-append, one-add, nat_lt, nat_le, cond, position}
+use Rattle.std.proofs.Common.{◌≡◌, ℕ, zero, suc, ◌+◌, ◌-◌, ◌/◌, ◌%◌, ◌<◌, ◌≤◌, ◌==◌, Bool, true, false, not, ◌&&◌, ◌||◌, List, [], ◌∷◌, ◌++◌, length, drop, Some, None, Ok, refl, replicate, codes}
+use Rattle.std.proofs.Common.{ap, sym, ◌∙◌, arith, subst, append_assoc, length-append, one-add, nat_lt, cond, position}
 use Rattle.std.specs.Prelude.{reverse}
 use Rattle.std.specs.List.{list_all, position_or_len}
-use Rattle.std.proofs.lemmas.List.{append-nil, reverse-append, length-reverse, reverse-reverse}
+use Rattle.std.proofs.lemmas.List.{append-nil, reverse-append, length-reverse}
 use Rattle.std.proofs.lemmas.List.Folds.{list_all-append}
 use Rattle.std.proofs.lemmas.Bool.Decides.{nat_tests}
 use Rattle.std.proofs.Math.Utf8.{encode}
 use Rattle.std.proofs.Math.Seq.{take-append_seam, drop-append_seam}
 use Rattle.jm_program.proofs.DescriptorLaws.{both_true, and_true}
-use Rattle.jm_program.specs.Names.{same_text, is_name_unit, is_unqualified, is_method_unit, is_ordinary_method_name, is_init, is_clinit, is_method_name, is_class_name}
+use Rattle.jm_program.specs.Names.{is_name_unit, is_unqualified, is_method_unit, is_ordinary_method_name, is_init, is_clinit, is_method_name, is_class_name}
 use Rattle.jm_program.specs.Surrogates.{is_high, is_low, character_of}
-use Rattle.jm_program.specs.Texts.{utf16_of}
-use Rattle.jm_program.specs.JasminUnits.{is_escaped, unit_text, pair_text, lone_text, after_text, step_text, waits, text_from, name_text}
+use Rattle.jm_program.specs.JasminUnits.{is_escaped, pair_text, lone_text, after_text, step_text, text_from, name_text}
 use Rattle.jm_program.specs.JasminTypes.{type_line, element_line, class_line}
 use Rattle.jm_program.specs.References.{class_ref_fits}
 use Rattle.jm_program.specs.declared.jasmin.units.Context.TheVariants.{InName}
@@ -22,11 +21,9 @@ use Rattle.jm_program.specs.declared.descriptor.ElementType.TheVariants.{Base, C
 use Rattle.jm_program.specs.declared.descriptor.FieldType.{FieldType}
 use Rattle.jm_program.specs.declared.reference.ClassRef.{ClassRef}
 use Rattle.jm_program.specs.declared.reference.ClassRef.TheVariants as class_ref
-use Rattle.jm_class_writer.specs.PoolUse.{class_text}
 use Rattle.jm_class_writer.specs.Ranges.{UnitsInRange, TypeInRange, ClassRefInRange}
-use Rattle.jm_jasmin_ops.specs.Operands.{is_slash, parted_at, member}
+use Rattle.jm_jasmin_ops.specs.Operands.{is_slash, member}
 use Rattle.jm_disassembler.specs.Names.{is_unit, is_plain_unit, plain_from, is_plain, begins_with_quote, is_sayable, is_plain_type, is_sayable_class}
-use Rattle.jm_disassembler.specs.Said.{is_no_parenthesis, no_parenthesis}
 use Rattle.jm_disassembler.proofs.Laid.{is_word_byte, begins_word, is_word}
 use Rattle.jm_disassembler.proofs.LabelWords.{same_is}
 use Rattle.jm_disassembler.proofs.Spelled.{Spelled, name_spelled, pair_of, not_true, not_high, first_of_two, second_of_two, step_none, unit_plain}
@@ -66,7 +63,7 @@ name_by u [] rest true e h =
 name_by u (low ∷ us) rest true e h =
     let p = both_true (not (u == 34)) (is_plain (u ∷ low ∷ us)) h in
     let q = both_true (is_low low) (plain_from false us)
-        (first_of_two (is_high u) (plain_from true (low ∷ us)) (is_plain_unit u && plain_from false (low ∷ us)) e p.1) in
+    (first_of_two (is_high u) (plain_from true (low ∷ us)) (is_plain_unit u && plain_from false (low ∷ us)) e p.1) in
     let c : ℕ = character_of u low in
     let above : 0x1_0000 ≤ c = (pair_of u low e q.0).above in
     let semicolon : (c == 59) ≡ false = grind (arith, nat_tests) in
@@ -79,7 +76,7 @@ name_by u us rest false e h =
     let quote : (u == 34) ≡ false = not_true (u == 34) p.0 in
     let semicolon : (u == 59) ≡ false = no_semicolon u plain in
     let all_of : text_from InName None (u ∷ us) ≡ encode u ++ text_from InName None us =
-        step_none u us e ∙ ap (λ (t : List ℕ). t ++ text_from InName None us) (unit_plain u plain) in
+    step_none u us e ∙ ap (λ (t : List ℕ). t ++ text_from InName None us) (unit_plain u plain) in
     rw (all_of, append_assoc (encode u) (text_from InName None us) rest) (encode_begins u _ semicolon quote)
   where
     no_semicolon : (u : ℕ) → is_escaped InName u ≡ false → (u == 59) ≡ false
@@ -196,14 +193,14 @@ unfolding member
 member_is class name h =
     let us : List ℕ = class ++ 47 ∷ name in
     let turned : reverse us ≡ reverse name ++ 47 ∷ reverse class =
-        reverse-append class (47 ∷ name) ∙ ap (λ (x : List ℕ). x ++ reverse class) (reverse-append (47 ∷ []) name) ∙ append_assoc (reverse name) (47 ∷ []) (reverse class) in
+    reverse-append class (47 ∷ name) ∙ ap (λ (x : List ℕ). x ++ reverse class) (reverse-append (47 ∷ []) name) ∙ append_assoc (reverse name) (47 ∷ []) (reverse class) in
     let at : position is_slash (reverse us) ≡ Some (length name) =
-        ap (position is_slash) turned ∙ found_at is_slash (reverse name) 47 (reverse class) (all_reversed no_slash name h) refl ∙ ap Some (length-reverse name) in
+    ap (position is_slash) turned ∙ found_at is_slash (reverse name) 47 (reverse class) (all_reversed no_slash name h) refl ∙ ap Some (length-reverse name) in
     let size : length us ≡ length class + suc (length name) = length-append class (47 ∷ name) in
     let front : length us - (length name + 1) ≡ length class = omega (arith, size) in
     let back : length us - length name ≡ length (class ++ 47 ∷ []) = omega (arith, size, length-append class (47 ∷ [])) in
     let parts : drop (length (class ++ 47 ∷ [])) us ≡ name =
-        ap (drop (length (class ++ 47 ∷ []))) (sym (append_assoc class (47 ∷ []) name)) ∙ drop-append_seam (class ++ 47 ∷ []) name in
+    ap (drop (length (class ++ 47 ∷ []))) (sym (append_assoc class (47 ∷ []) name)) ∙ drop-append_seam (class ++ 47 ∷ []) name in
     rw (at, front, back, parts, take-append_seam class (47 ∷ name)) refl
 
 ordinary_no_slash : (name : List ℕ) → is_ordinary_method_name name ≡ true → list_all no_slash name ≡ true

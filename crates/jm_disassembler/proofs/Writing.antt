@@ -92,7 +92,7 @@ body_next commented marks is ls behind k i d out one two new total lt at a b c e
     let last : body_text commented marks (k + 1) rest behind ≡ u = ap (λ (n : ℕ). body_text commented marks n rest behind) (omega arith) ∙ ap (body_text commented marks (suc k) rest) c in
     let all_of : new ≡ ((out ++ l) ++ s) ++ t = e ∙ ap (λ (x : List ℕ). x ++ t) (b ∙ ap (λ (x : List ℕ). x ++ s) a) in
     let front : new ++ u ≡ out ++ (l ++ (s ++ (t ++ u))) =
-        ap (λ (x : List ℕ). x ++ u) all_of ∙ append_assoc ((out ++ l) ++ s) t u ∙ append_assoc (out ++ l) s (t ++ u) ∙ append_assoc out l (s ++ (t ++ u)) in
+    ap (λ (x : List ℕ). x ++ u) all_of ∙ append_assoc ((out ++ l) ++ s) t u ∙ append_assoc (out ++ l) s (t ++ u) ∙ append_assoc out l (s ++ (t ++ u)) in
     ap (λ (x : List ℕ). new ++ x) last ∙ front ∙ sym (ap (λ (x : List Instr). out ++ body_text commented marks k x ls) here) ∙ h
 
 pub body_end : (commented : Bool) (marks : List Bool) (is : List Instr) (ls : List LineNumber) (k : ℕ) (out total : List ℕ) → k ≡ length is

@@ -1,5 +1,5 @@
 -- Access flags and their words (Jasmin User Guide, "Jasmin Assembler Directives", .class, .field, .method; JVMS 4.1, 4.5, 4.6).
-use Rattle.std.specs.Prelude.{ℕ, Bool, true, false, ◌==◌, bit_and, bit_or, if◌then◌else◌, List, [], ◌∷◌, ◌++◌, codes}
+use Rattle.std.specs.Prelude.{ℕ, Bool, ◌==◌, bit_and, bit_or, if◌then◌else◌, List, [], ◌∷◌, ◌++◌, codes}
 use Rattle.std.specs.List.{flat_map}
 
 -- a flag and its word

@@ -1,6 +1,5 @@
 -- The lines of fields and methods (Jasmin User Guide, "Field Definitions", "Method Definitions").
-use Rattle.std.specs.Prelude.{ℕ, Bool, true, false, not, ◌&&◌, ◌||◌, ◌==◌, if◌then◌else◌, List, [], ◌∷◌, ◌++◌, Option, Some, None, codes, is_none, is_some}
-use Rattle.std.specs.List.{flat_map}
+use Rattle.std.specs.Prelude.{ℕ, Bool, not, ◌&&◌, ◌||◌, if◌then◌else◌, List, [], ◌∷◌, ◌++◌, Option, Some, None, codes, is_some}
 use Rattle.std.specs.Fmt.{signed_decimal}
 use Rattle.jm_program.specs.Names.{same_text}
 use Rattle.jm_program.specs.JasminUnits.{name_text, string_text}
@@ -10,10 +9,10 @@ use Rattle.jm_program.specs.declared.class.Method.{Method}
 use Rattle.jm_program.specs.declared.code.Code.{Code}
 use Rattle.jm_program.specs.declared.constant.Constant.{Constant}
 use Rattle.jm_program.specs.declared.constant.Constant.TheVariants as constant
-use Rattle.jm_disassembler.specs.Names.{is_sayable, is_plain_type, is_plain_method_type}
+use Rattle.jm_disassembler.specs.Names.{is_sayable}
 use Rattle.jm_disassembler.specs.Said.{no_parenthesis}
 use Rattle.jm_disassembler.specs.Bodies.{code_text}
-use Rattle.jm_disassembler.specs.Flags.{FlagRow, member_rows, flag_text, flags_text, flags_said}
+use Rattle.jm_disassembler.specs.Flags.{FlagRow, member_rows, flags_text, flags_said}
 
 -- flags without a word
 abbrev pub wordless_rows : List FlagRow

@@ -1,6 +1,6 @@
 -- The first part of a class that no text can say, in the order of the text.
-use Rattle.std.specs.Prelude.{ℕ, zero, suc, Bool, true, false, not, ◌&&◌, ◌==◌, nat_lt, if◌then◌else◌, List, [], ◌∷◌, length, Option, Some, None}
-use Rattle.std.specs.List.{list_all, position}
+use Rattle.std.specs.Prelude.{ℕ, suc, Bool, true, false, not, ◌&&◌, ◌==◌, if◌then◌else◌, List, [], ◌∷◌, length, Option, Some, None}
+use Rattle.std.specs.List.{position}
 use Rattle.jm_program.specs.declared.class.ClassParts.{ClassParts}
 use Rattle.jm_program.specs.declared.class.Field.{Field}
 use Rattle.jm_program.specs.declared.class.Method.{Method}
@@ -17,7 +17,7 @@ use Rattle.jm_disassembler.specs.declared.unsaid.MethodPart.TheVariants as metho
 use Rattle.jm_disassembler.specs.declared.unsaid.Unsaid.{Unsaid}
 use Rattle.jm_disassembler.specs.declared.unsaid.Unsaid.TheVariants as unsaid
 use Rattle.jm_disassembler.specs.Names.{is_sayable, is_plain_type, is_plain_method_type}
-use Rattle.jm_disassembler.specs.Said.{constant_said, instr_said, is_short}
+use Rattle.jm_disassembler.specs.Said.{constant_said, instr_said}
 use Rattle.jm_disassembler.specs.Bodies.{handler_said, sizes_said, lines_said}
 use Rattle.jm_disassembler.specs.Flags.{member_rows, flags_said}
 use Rattle.jm_disassembler.specs.Members.{field_name_said, method_name_said}
@@ -32,8 +32,8 @@ value_said (Some c) = constant_said c
 abbrev pub field_part : Field → Option FieldPart
 field_part f =
     if flags_said 0 f.flags.bits member_rows then
-        (if field_name_said f.name f.constant then (if is_plain_type f.descriptor && value_said f.constant then None else Some field.Type)
-        else Some field.Name)
+    (if field_name_said f.name f.constant then (if is_plain_type f.descriptor && value_said f.constant then None else Some field.Type)
+    else Some field.Name)
     else Some field.Flags
 
 abbrev pub numbered_field : ℕ → Option FieldPart → Option Unsaid → Option Unsaid
@@ -59,14 +59,14 @@ abbrev pub code_part : Option Code → Option MethodPart
 code_part None = None
 code_part (Some c) =
     if sizes_said c then
-        handler_or (position (λ (h : Handler). not (handler_said h)) c.handlers)
-        (instruction_or (position (λ (i : Instr). not (instr_said i)) c.instructions) (if lines_said 0 c.lines then None else Some method.Lines))
+    handler_or (position (λ (h : Handler). not (handler_said h)) c.handlers)
+    (instruction_or (position (λ (i : Instr). not (instr_said i)) c.instructions) (if lines_said 0 c.lines then None else Some method.Lines))
     else Some method.Length
 
 abbrev pub method_part : Method → Option MethodPart
 method_part m =
     if flags_said 0 m.flags.bits member_rows then
-        (if method_name_said m.name then (if is_plain_method_type m.descriptor then code_part m.code else Some method.Type) else Some method.Name)
+    (if method_name_said m.name then (if is_plain_method_type m.descriptor then code_part m.code else Some method.Type) else Some method.Name)
     else Some method.Flags
 
 abbrev pub numbered_method : ℕ → Option MethodPart → Option Unsaid → Option Unsaid
@@ -95,11 +95,11 @@ interface_or None = None
 abbrev pub header_part : ClassParts → Option ClassPart
 header_part c =
     if source_said c.source_file then
-        (if class_flags_said c.flags then
-        (if is_sayable c.name then
-        (if super_said c.superclass then interface_or (position (λ (name : List ℕ). not (is_sayable name)) c.interfaces) else Some class.Superclass)
-        else Some class.Name)
-        else Some class.Flags)
+    (if class_flags_said c.flags then
+    (if is_sayable c.name then
+    (if super_said c.superclass then interface_or (position (λ (name : List ℕ). not (is_sayable name)) c.interfaces) else Some class.Superclass)
+    else Some class.Name)
+    else Some class.Flags)
     else Some class.SourceFile
 
 abbrev pub members_part : Option Unsaid → Option Unsaid → Option Unsaid

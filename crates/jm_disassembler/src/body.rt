@@ -102,11 +102,7 @@ fn write_limits(out: &mut String, code: &Code) -> Result<(), AllocError>
 }
 
 // Writes the lines of the rows at the front that begin at an instruction, and counts them.
-fn write_sources(
-    out: &mut String,
-    number: usize,
-    lines: &[LineNumber],
-) -> Result<usize, AllocError>
+fn write_sources(out: &mut String, number: usize, lines: &[LineNumber]) -> Result<usize, AllocError>
     ensures text { OnOk result (out.new.bytes.items ≡ out.old.bytes.items ++ source_lines number lines.now) }
     ensures behind { IfOk result (λ count. drop count lines.now ≡ lines_behind number lines.now) }
     ensures few { IfOk result (λ count. count ≤ length lines.now) }

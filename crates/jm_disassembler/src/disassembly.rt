@@ -9,7 +9,9 @@ ghost use Rattle.jm_disassembler.specs.Disassembly.{Disassembles};
 
 use crate::fault::DisassemblyFault;
 use crate::first::first_of;
-use crate::header::{write_declaration, write_interfaces, write_source, write_super, write_version};
+use crate::header::{
+    write_declaration, write_interfaces, write_source, write_super, write_version,
+};
 use crate::member::{write_fields, write_methods};
 use crate::unsaid::Unsaid;
 use jm_program::{Class, ClassParts};

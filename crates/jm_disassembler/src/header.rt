@@ -98,7 +98,12 @@ pub fn write_declaration(
     let name = &class.name;
     write_front(out, class.flags)?;
     write!(out, "{name}")?;
-    write_flags_note(out, commented, class.flags.bits, class_flags_said(class.flags))
+    write_flags_note(
+        out,
+        commented,
+        class.flags.bits,
+        class_flags_said(class.flags),
+    )
 }
 
 // A name of the same code units.

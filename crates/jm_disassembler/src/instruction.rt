@@ -10,11 +10,11 @@ ghost use Rattle.jm_program.specs.JasminUnits.{string_text};
 ghost use Rattle.jm_program.specs.Mnemonics.{operand_letter, branch_mnemonic, field_mnemonic, invoke_mnemonic, type_mnemonic};
 ghost use Rattle.jm_disassembler.specs.Instructions.{front, target_row, default_row, pair_row, table_rows, lookup_rows, plain_text, array_text, constant_text, count_text, instr_text, rows_text};
 
+use crate::string::write_string;
 use jm_program::{
     ArrayOp, Branch, Comparison, Constant, Equality, FieldOp, Instr, InvokeOp, LookupSwitch,
     MethodDescriptor, MethodRef, OperandType, Plain, SwitchPair, TableSwitch, TypeOp,
 };
-use crate::string::write_string;
 use std::alloc::AllocError;
 use std::fmt::Write;
 

@@ -60,7 +60,6 @@ fn mark_handler(marks: &mut [bool], handler: &Handler)
     mark(marks, handler.target);
 }
 
-
 fn mark_instructions(marks: &mut [bool], instructions: &[Instr])
     ensures { marks.new ≡ marked marks.old (flat_map instr_targets instructions.now) }
 {
@@ -92,5 +91,9 @@ pub fn marks_of(alloc: Global, code: &Code) -> Result<Vec<bool>, AllocError>
 pub fn is_marked(marks: &[bool], number: usize) -> bool
     ensures { result ≡ is_marked marks.now number }
 {
-    if number < marks.len() { marks[number] } else { false }
+    if number < marks.len() {
+        marks[number]
+    } else {
+        false
+    }
 }

@@ -65,11 +65,7 @@ fn write_field(out: &mut String, commented: bool, field: &Field) -> Result<(), A
     write_flags_note(out, commented, bits, member_flags_said(bits))
 }
 
-fn write_more_fields(
-    out: &mut String,
-    commented: bool,
-    fields: &[Field],
-) -> Result<(), AllocError>
+fn write_more_fields(out: &mut String, commented: bool, fields: &[Field]) -> Result<(), AllocError>
     ensures { OnOk result (out.new.bytes.items ≡ out.old.bytes.items ++ flat_map (field_text commented) fields.now) }
 {
     for field in fields {

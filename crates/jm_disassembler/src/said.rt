@@ -5,12 +5,8 @@ ghost use Rattle.std.specs.List.{list_all};
 ghost use Rattle.jm_disassembler.specs.Names.{is_unit};
 ghost use Rattle.jm_disassembler.specs.Said.{no_parenthesis, is_no_parenthesis, element_no_parenthesis, class_no_parenthesis, field_ref_said, method_ref_said, key_said, is_within, is_int, is_long, is_short, plain_said, constant_said, instr_said};
 
-use crate::names::{
-    is_plain, is_plain_method_type, is_plain_type, is_sayable, is_sayable_class,
-};
-use jm_program::{
-    ClassRef, Constant, ElementType, FieldRef, Instr, MethodRef, Plain, SwitchPair,
-};
+use crate::names::{is_plain, is_plain_method_type, is_plain_type, is_sayable, is_sayable_class};
+use jm_program::{ClassRef, Constant, ElementType, FieldRef, Instr, MethodRef, Plain, SwitchPair};
 
 const PARENTHESIS: u16 = 40;
 

@@ -19,9 +19,8 @@ loop-number-preserved c =
     let first : List ℕ = c.write_label.new.out.bytes.items in
     let second : List ℕ = c.write_sources.new.out.bytes.items in
     let text : second ≡ first ++ source_lines l.number rows =
-        subst (λ (x : List LineNumber). second ≡ first ++ source_lines l.number x) whole c.in_ok-count.ensures.text in
-    let at_most : l.at ≤ length all = l.invariant.0 in
-    (
+    subst (λ (x : List LineNumber). second ≡ first ++ source_lines l.number x) whole c.in_ok-count.ensures.text in
+    let at_most : l.at ≤ length all = l.invariant.0 in (
       omega (arith, few, length-drop l.at all, at_most),
       body_next c.args.commented c.args.marks.now c.args.instructions.now rows (drop (l.at + n) all) l.number c.index-instructions-number.result
           c.index-instructions-number.result l.out.bytes.items first second c.write_instr.new.out.bytes.items _ c.loop-number-test.true

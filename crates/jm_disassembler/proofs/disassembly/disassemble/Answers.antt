@@ -10,8 +10,7 @@ returns-in_ok-text-in-None c =
     let class : ClassParts = c.args.class.now in
     let parts : ClassParts = c.parts-parts.result.now in
     let same : parts ≡ class = c.parts-parts.ensures.parts in
-    let said : first_unsaid class ≡ None = ap first_unsaid (sym same) ∙ sym c.first_of.ensures ∙ c.in-None.is in
-    (
+    let said : first_unsaid class ≡ None = ap first_unsaid (sym same) ∙ sym c.first_of.ensures ∙ c.in-None.is in (
       said,
       written_denotes false class parts c.is_minor-minor.result _ same c.parts-parts.ensures.fits c.is_minor-minor.ensures.value c.is_minor-minor.ensures.small
           c.in_ok-text-in-None.ensures said,

@@ -1,8 +1,7 @@
 -- Each turn writes one unit more.
-use Rattle.std.proofs.Common.{◌≡◌, ℕ, List, Option, Result, Ok, Err, ◌+◌, ◌++◌, get_or, drop, sym, ap, ◌∙◌, append_assoc, IsTrue, Some, subst}
+use Rattle.std.proofs.Common.{◌≡◌, ℕ, List, Option, Result, Ok, Err, ◌+◌, ◌++◌, get_or, drop, sym, ap, ◌∙◌}
 use Rattle.std.specs.Prelude.{OnOk}
-use Rattle.jm_program.specs.Surrogates.{is_high}
-use Rattle.jm_program.specs.JasminUnits.{step_text, lone_text, text_from, waits}
+use Rattle.jm_program.specs.JasminUnits.{step_text, text_from}
 use Rattle.jm_program.specs.declared.jasmin.units.Context.TheVariants.{InString}
 use Rattle.jm_program.proofs.JasminLaws.{waits_high, text_step, text_end}
 use Rattle.jm_disassembler.proofs.string.write_string.Goals as goal
@@ -13,8 +12,7 @@ loop-unit-preserved c =
     let unit : ℕ = get_or c.args.units.now l.unit-index 0 in
     let e = c.in_ok-write_step.ensures in
     let rest : List ℕ = drop (l.unit-index + 1) c.args.units.now in
-    let w = c.waits-waiting.ensures in
-    (
+    let w = c.waits-waiting.ensures in (
       λ high h. waits_high unit high (sym w ∙ h),
       ap (λ (t : List ℕ). t ++ text_from InString c.waits-waiting.result rest) e
           ∙ ap (λ (o : Option ℕ). (l.out.bytes.items ++ step_text InString l.waiting unit) ++ text_from InString o rest) w
