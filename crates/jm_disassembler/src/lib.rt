@@ -1,4 +1,5 @@
-//! Assembler texts from classes (Jasmin User Guide).
+//! Assembler texts from classes (Jasmin User Guide): the text that is printed denotes that very class, or
+//! the first part of it that no text can say is named (specs/Unsaid.antt).
 #![tactic(auto)]
 
 mod body;
