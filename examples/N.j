@@ -1,0 +1,3 @@
+.class public N
+.super java/lang/Object
+.field n LN;

@@ -1,0 +1,8 @@
+.class public Main
+.super java/lang/Object
+.method public static main([Ljava/lang/String;)V
+.limit stack 8
+.limit locals 8
+bipush 128
+return
+.end method
