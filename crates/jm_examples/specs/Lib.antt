@@ -1,3 +1,4 @@
 pub mod Row
 pub mod Again
 pub mod Storing
+pub mod TextAgain

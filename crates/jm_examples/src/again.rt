@@ -40,8 +40,8 @@ fn are_equal(one: &Class, other: &Class) -> bool
     one.parts() == other.parts()
 }
 
-// What comes of a class that was read again.
-fn compared(read: Class, class: &Class) -> Again
+/// What comes of a class that was read or assembled again.
+pub fn compared(read: Class, class: &Class) -> Again
     ensures { read ≡ class.now → result ≡ Again.Equal }
 {
     let are_equal = are_equal(&read, class);

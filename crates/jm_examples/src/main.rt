@@ -1,7 +1,8 @@
 //! Reads the class files and assembles the texts that files.txt of its data lists, and prints a table:
 //! for each class how many fields and methods it has and, over its methods, the sums of max_stack and of
 //! max_locals and the rows of the codes, of the exception tables and of the line number tables, and
-//! whether it is equal when it is written and read again; for each file that is refused why. Then a line
+//! whether it is equal when it is written and read again, and when it is given a text and assembled
+//! again, or what of it no text can say; for each file that is refused why. Then a line
 //! compares the bytes of the worked text with the worked class file. Then it runs the programs among its
 //! data, and prints what each prints and how it ends. It does the jobs of the tables that tables.txt
 //! lists and answers the rows of those in answers/, and prints how many rows of each are as they should
@@ -35,6 +36,7 @@ mod row;
 mod schedules;
 mod shared_run;
 mod tables;
+mod text_again;
 mod tokens;
 mod turns;
 mod values;
@@ -56,6 +58,7 @@ use std::sync::Wait;
 use std::thread::Threads;
 use std::{env, fs, io};
 use tables::{print_answers, print_tables};
+use text_again::text_again;
 use turns::print_turns;
 use works::{print_small_works, print_works};
 
@@ -73,7 +76,9 @@ fn main(rt: HostRuntime) -> anyhow::Result<()> {
 
 // Does all that is among the data.
 fn print_all<R: Threads + Wait + Sync>(rt: &HostRuntime, threads: &R) -> io::Result<()> {
-    println!(rt; "file fields methods max_stack max_locals instructions handlers lines again")?;
+    println!(rt;
+        "file fields methods max_stack max_locals instructions handlers lines again text"
+    )?;
     print_files(rt, "files.txt")?;
     print_bytes(rt, "sum.j", "sum.class")?;
     print_programs(rt, threads, "programs.txt")?;
@@ -129,8 +134,9 @@ fn print_class(rt: &(impl Print + AllocGlobal), file: &str, class: Class) -> io:
     let name = name_of(file);
     let row = row_of(class.parts());
     let again = read_again(rt.alloc(), &class);
+    let text = text_again(rt.alloc(), &class);
     drop(class);
-    println!(rt; "{name} {row} {again}")
+    println!(rt; "{name} {row} {again} {text}")
 }
 
 // Prints whether a text's class is written as the bytes of a class file.
