@@ -3,7 +3,6 @@ use Rattle.std.specs.Prelude.{◌≡◌, Err, ℕ, List}
 use Rattle.jm_program.specs.declared.class.ClassParts.{ClassParts}
 use Rattle.jm_jasmin_ops.specs.declared.fault.AsmFault.TheVariants as asm
 use Rattle.jm_disassembler.specs.Disassembly.{Disassembles}
-use Rattle.jm_examples.specs.declared.again.Again.{Again}
 use Rattle.jm_examples.specs.declared.again.Again.TheVariants.{Equal}
 use Rattle.jm_examples.specs.declared.text_again.TextAgain.{TextAgain}
 use Rattle.jm_examples.specs.declared.text_again.TextAgain.TheVariants.{Assembled, NotAssembled, NoText}
