@@ -17,7 +17,7 @@
     astore_1
     aconst_null
     astore_2
-    bipush 11
+    bipush 21
     newarray int
     astore_1
     getstatic java/lang/System/out Ljava/io/PrintStream;

@@ -1,88 +1,91 @@
 -- What is read from a block, and what a bump and a write change.
-use Rattle.std.proofs.Common.{◌≡◌, ℕ, zero, suc, ◌+◌, ◌-◌, ◌<◌, ◌≤◌, List, [], ◌∷◌, ◌++◌, Some, None, refl, sym, ap, ◌∙◌, subst, length, arith, take, drop, get_or}
+use Rattle.std.proofs.Common.{◌≡◌, ◌≢◌, ℕ, zero, suc, ◌+◌, ◌-◌, ◌<◌, ◌≤◌, List, [], ◌∷◌, ◌++◌, Bool, true, false, cond, Some, None, refl, sym, ap, ◌∙◌, subst, inl, inr, ◌⊎◌, length, map, arith, take, drop, get_or, length-append}
 use Rattle.std.specs.Prelude.{slice_get, slice_set}
-use Rattle.std.proofs.lemmas.List.{take-append-le, drop-append-le, take_all, drop-set-lt, drop-set-add, take-set-le, length-drop, length-take}
+use Rattle.std.proofs.lemmas.List.{take-append-le, drop-append-le, take_all, drop-set-lt, drop-set-add, take-set-le, length-drop, length-take, length-take-le, drop-take, length-map}
 use Rattle.std.proofs.lemmas.Option.{slice_get_within, slice_get_past, slice_get_read}
 use Rattle.jm_values.specs.declared.value.Value.{Value}
 use Rattle.jm_blocks.specs.Objects.{Object, object_of, with_value}
-use Rattle.jm_blocks.specs.Spelled.{spelled, IsPacked}
+use Rattle.jm_heap.specs.Packing.{Lists, list_of, with_list, kind_of, same_kind}
+use Rattle.jm_blocks.specs.Spelled.{spelled, entry_kind, entry_object, share, end_of, IsBlock}
+use Rattle.jm_heap.specs.declared.storage.Storage.{Storage as Kind}
 use Rattle.jm_blocks.specs.declared.block.Entry.{Entry}
+use Rattle.jm_blocks.proofs.KindLists.{same_self, same_is, own_list, other_list}
 
-pub packed_le : (s : ℕ) (hs : List Entry) (e : ℕ) → IsPacked s hs e → s ≤ e
-packed_le s [] e p = omega arith
-packed_le s (h ∷ hs) e p = let rest = packed_le (s + h.length) hs e p.1 in omega arith
+pub share_own : (e : Entry) → share (entry_kind e) e ≡ e.length
+share_own e = ap (λ b. cond b e.length 0) (same_self (entry_kind e))
 
-pub packed_more : (s : ℕ) (hs : List Entry) (e : ℕ) (h : Entry) (f : ℕ) → IsPacked s hs e → h.start ≡ e → f ≡ e + h.length → IsPacked s (hs ++ h ∷ []) f
-packed_more s [] e h f p a b = (omega arith, omega arith)
-packed_more s (g ∷ hs) e h f p a b = (p.0, packed_more (s + g.length) hs e h f p.1 a b)
-
-pub length_spelled : (hs : List Entry) (vs : List Value) → length (spelled hs vs) ≡ length hs
-length_spelled [] vs = refl
-length_spelled (h ∷ hs) vs = ap suc (length_spelled hs (drop h.length vs))
-
-nothing : (vs : List Value) → length vs ≡ 0 → vs ≡ []
-nothing [] e = refl
-nothing (v ∷ vs) e = absurd (omega arith)
-
--- the end of what is left, when the first object's values are taken away
-pub rest_end : (s n : ℕ) (vs : List Value) (hs : List Entry) → IsPacked (s + n) hs (s + length vs) → IsPacked (s + n) hs (s + n + length (drop n vs)) × (n ≤ length vs)
-rest_end s n vs hs p =
-    let le = packed_le (s + n) hs (s + length vs) p in
-    let within : n ≤ length vs = omega arith in
-    let end : s + length vs ≡ s + n + length (drop n vs) = omega (arith, length-drop n vs) in
-    (subst (λ e. IsPacked (s + n) hs e) end p, within)
-
--- an object more
-pub spelled_more : (s : ℕ) (hs : List Entry) (vs ws : List Value) (h : Entry) → IsPacked s hs (s + length vs) → h.length ≡ length ws → spelled (hs ++ h ∷ []) (vs ++ ws) ≡ spelled hs vs ++ object_of h.header ws ∷ []
-spelled_more s [] vs ws h p e =
-    let none : vs ≡ [] = nothing vs (omega arith) in
-    let all : take h.length ws ≡ ws = take_all h.length ws (omega arith) in
-    ap (λ us. object_of h.header (take h.length (us ++ ws)) ∷ []) none ∙ ap (λ us. object_of h.header us ∷ []) all
-spelled_more s (g ∷ hs) vs ws h p e =
-    let r = rest_end s g.length vs hs p.1 in
-    let first : take g.length (vs ++ ws) ≡ take g.length vs = take-append-le g.length vs ws r.1 in
-    let rest : drop g.length (vs ++ ws) ≡ drop g.length vs ++ ws = drop-append-le g.length vs ws r.1 in
-    let more : spelled (hs ++ h ∷ []) (drop g.length vs ++ ws) ≡ spelled hs (drop g.length vs) ++ object_of h.header ws ∷ [] = spelled_more (s + g.length) hs (drop g.length vs) ws h r.0 e in
-    ap (λ us. object_of g.header us ∷ spelled (hs ++ h ∷ []) (drop g.length (vs ++ ws))) first
-    ∙ ap (λ us. object_of g.header (take g.length vs) ∷ spelled (hs ++ h ∷ []) us) rest
-    ∙ ap (λ os. object_of g.header (take g.length vs) ∷ os) more
-
--- where an object's values lie
-pub record LiesAt (s : ℕ) (hs : List Entry) (vs : List Value) (k : ℕ) (h : Entry) : Type 0 where
-  pub after : s ≤ h.start
-  pub within : h.start + h.length ≤ s + length vs
-  pub object : slice_get (spelled hs vs) k ≡ Some (object_of h.header (take h.length (drop (h.start - s) vs)))
-
-pub spelled_get : (s : ℕ) (hs : List Entry) (vs : List Value) (k : ℕ) (h : Entry) → IsPacked s hs (s + length vs) → slice_get hs k ≡ Some h → LiesAt s hs vs k h
-spelled_get s [] vs k h p e = cc
-spelled_get s (g ∷ hs) vs zero h p e =
-    let same : g ≡ h = cc in
-    let r = rest_end s g.length vs hs p.1 in
-    let none : g.start - s ≡ 0 = omega (arith, p.0) in
-    subst (λ x. LiesAt s (g ∷ hs) vs zero x) same (record {
-      after = omega (arith, p.0);
-      within = omega (arith, p.0, r.1);
-      object = ap (λ n. Some (object_of g.header (take g.length (drop n vs)))) (sym none);
-    })
-spelled_get s (g ∷ hs) vs (suc k) h p e =
-    let r = rest_end s g.length vs hs p.1 in
-    let at = spelled_get (s + g.length) hs (drop g.length vs) k h r.0 e in
-    let same : drop (h.start - (s + g.length)) (drop g.length vs) ≡ drop (h.start - s) vs = dropped (h.start - s) g.length vs (h.start - (s + g.length)) (omega (arith, at.after)) in
-    record {
-      after = omega (arith, at.after);
-      within = omega (arith, at.within, length-drop g.length vs, r.1);
-      object = at.object ∙ ap (λ us. Some (object_of h.header (take h.length us))) same;
-    }
+pub share_at_most : (k : Kind) (e : Entry) → share k e ≤ e.length
+share_at_most k e = by (same_kind (entry_kind e) k)
   where
-    dropped : (n m : ℕ) (us : List Value) (d : ℕ) → n ≡ m + d → drop d (drop m us) ≡ drop n us
-    dropped n zero us d e = ap (λ x. drop x us) (omega (arith, e))
-    dropped n (suc m) [] d e = nil d ∙ sym (nil n)
-      where
-        nil : (d : ℕ) → ◌≡◌ {A = List Value} (drop d []) []
-        nil zero = refl
-        nil (suc d) = refl
-    dropped zero (suc m) (u ∷ us) d e = absurd (omega arith)
-    dropped (suc n) (suc m) (u ∷ us) d e = dropped n m us d (omega arith)
+    by : (b : Bool) → cond b e.length 0 ≤ e.length
+    by true = omega arith
+    by false = omega arith
+
+pub end_push : (k : Kind) (es : List Entry) (e : Entry) → end_of k (es ++ e ∷ []) ≡ end_of k es + share k e
+end_push k [] e = omega arith
+end_push k (g ∷ es) e = let more = end_push k es e in omega (arith, more)
+
+-- what an entry takes ends before the list does
+pub share_within : (k : Kind) (es : List Entry) (i : ℕ) (e : Entry) → slice_get es i ≡ Some e → end_of k (take i es) + share k e ≤ end_of k es
+share_within k [] i e h = cc
+share_within k (g ∷ es) zero e h = let same : share k g ≡ share k e = cc in omega (arith, same)
+share_within k (g ∷ es) (suc i) e h = let rest = share_within k es i e h in omega (arith, rest)
+
+-- and before what a later one takes begins
+pub share_before : (k : Kind) (es : List Entry) (i j : ℕ) (d : Entry) → i < j → slice_get es i ≡ Some d → end_of k (take i es) + share k d ≤ end_of k (take j es)
+share_before k [] i j d b h = cc
+share_before k (g ∷ es) i zero d b h = absurd (omega arith)
+share_before k (g ∷ es) zero (suc j) d b h = let same : share k g ≡ share k d = cc in omega (arith, same)
+share_before k (g ∷ es) (suc i) (suc j) d b h = let rest = share_before k es i j d (omega arith) h in omega (arith, rest)
+
+pub entry_within : (es : List Entry) (l : Lists) (cells i : ℕ) (e : Entry) → IsBlock es l cells → slice_get es i ≡ Some e → e.start + e.length ≤ length (list_of (entry_kind e) l)
+entry_within es l cells i e b h = omega (arith, share_within (entry_kind e) es i e h, share_own e, b.starts i e h, b.ends (entry_kind e))
+
+pub length_spelled : (es : List Entry) (l : Lists) → length (spelled es l) ≡ length es
+length_spelled es l = length-map es (entry_object l)
+
+pub spelled_get : (es : List Entry) (l : Lists) (i : ℕ) (e : Entry) → slice_get es i ≡ Some e → slice_get (spelled es l) i ≡ Some (entry_object l e)
+spelled_get [] l i e h = cc
+spelled_get (g ∷ es) l zero e h = let same : g ≡ e = cc in ap (λ x. Some (entry_object l x)) same
+spelled_get (g ∷ es) l (suc i) e h = spelled_get es l i e h
+
+-- two lists of objects, entry by entry
+spelled_same : (es : List Entry) (l m : Lists) → ((i : ℕ) (e : Entry) → slice_get es i ≡ Some e → entry_object m e ≡ entry_object l e) → spelled es m ≡ spelled es l
+spelled_same [] l m h = refl
+spelled_same (e ∷ es) l m h =
+    ap (λ o. o ∷ spelled es m) (h zero e refl) ∙ ap (λ os. entry_object l e ∷ os) (spelled_same es l m (λ i g s. h (suc i) g s))
+
+spelled_changed : (es : List Entry) (l m : Lists) (k : ℕ) (h : Entry) (o : Object) → slice_get es k ≡ Some h → entry_object m h ≡ o → ((i : ℕ) (e : Entry) → slice_get es i ≡ Some e → i ≢ k → entry_object m e ≡ entry_object l e) → spelled es m ≡ slice_set (spelled es l) k o
+spelled_changed [] l m k h o at is others = cc
+spelled_changed (e ∷ es) l m zero h o at is others =
+    let same : e ≡ h = cc in
+    ap (λ x. x ∷ spelled es m) (ap (entry_object m) same ∙ is) ∙ ap (λ os. o ∷ os) (spelled_same es l m (λ i g s. others (suc i) g s (λ z. absurd (omega (arith, z)))))
+spelled_changed (e ∷ es) l m (suc k) h o at is others =
+    ap (λ x. x ∷ spelled es m) (others zero e refl (λ z. absurd (omega (arith, z)))) ∙ ap (λ os. entry_object l e ∷ os) (spelled_changed es l m k h o at is (λ i g s n. others (suc i) g s (λ z. n (omega (arith, z)))))
+
+pub spelled_push : (es : List Entry) (l : Lists) (h : Entry) → spelled (es ++ h ∷ []) l ≡ spelled es l ++ entry_object l h ∷ []
+spelled_push [] l h = refl
+spelled_push (e ∷ es) l h = ap (λ os. entry_object l e ∷ os) (spelled_push es l h)
+
+part_pushed : (n s : ℕ) (xs ws : List Value) → s + n ≤ length xs → take n (drop s (xs ++ ws)) ≡ take n (drop s xs)
+part_pushed n s xs ws h =
+    ap (take n) (drop-append-le s xs ws (omega (arith, h))) ∙ take-append-le n (drop s xs) ws (omega (arith, h, length-drop s xs))
+
+part_new : (n s : ℕ) (xs ws : List Value) → s ≡ length xs → n ≡ length ws → take n (drop s (xs ++ ws)) ≡ ws
+part_new n s xs ws a b =
+    ap (λ i. take n (drop i (xs ++ ws))) a ∙ ap (take n) (past xs) ∙ take_all n ws (omega (arith, b))
+  where
+    past : (ys : List Value) → drop (length ys) (ys ++ ws) ≡ ws
+    past [] = refl
+    past (y ∷ ys) = past ys
+
+part_set_after : (n s m : ℕ) (xs : List Value) (v : Value) → s + n ≤ m → take n (drop s (slice_set xs m v)) ≡ take n (drop s xs)
+part_set_after n s m xs v h =
+    let at : m ≡ s + (m - s) = omega (arith, h) in
+    ap (λ i. take n (drop s (slice_set xs i v))) at ∙ ap (take n) (drop-set-add s xs (m - s) v) ∙ take-set-le n (drop s xs) (m - s) v (omega (arith, h))
+
+part_set_before : (n s m : ℕ) (xs : List Value) (v : Value) → m < s → take n (drop s (slice_set xs m v)) ≡ take n (drop s xs)
+part_set_before n s m xs v h = ap (take n) (drop-set-lt s xs m v h)
 
 take_set : (n i : ℕ) (vs : List Value) (v : Value) → take n (slice_set vs i v) ≡ slice_set (take n vs) i v
 take_set zero i vs v = refl
@@ -90,75 +93,127 @@ take_set (suc n) i [] v = refl
 take_set (suc n) zero (u ∷ us) v = refl
 take_set (suc n) (suc i) (u ∷ us) v = ap (λ ws. u ∷ ws) (take_set n i us v)
 
--- a value changed
-pub spelled_set : (s : ℕ) (hs : List Entry) (vs : List Value) (k : ℕ) (h : Entry) (i : ℕ) (v : Value) (o : Object) → IsPacked s hs (s + length vs) → slice_get hs k ≡ Some h → slice_get (spelled hs vs) k ≡ Some o → i < h.length → spelled hs (slice_set vs (h.start - s + i) v) ≡ slice_set (spelled hs vs) k (with_value o i v)
-spelled_set s [] vs k h i v o p e a b = cc
-spelled_set s (g ∷ hs) vs zero h i v o p e a b =
-    let same : g ≡ h = cc in
-    let is : object_of g.header (take g.length vs) ≡ o = cc in
-    let lengths : g.length ≡ h.length = ap (λ x. x.length) same in
-    let starts : g.start ≡ h.start = ap (λ x. x.start) same in
-    let at : h.start - s + i ≡ i = omega (arith, p.0, starts) in
-    ap (λ n. object_of g.header (take g.length (slice_set vs n v)) ∷ spelled hs (drop g.length (slice_set vs n v))) at
-    ∙ ap (λ us. object_of g.header us ∷ spelled hs (drop g.length (slice_set vs i v))) (take_set g.length i vs v)
-    ∙ ap (λ us. object_of g.header (slice_set (take g.length vs) i v) ∷ spelled hs us) (drop-set-lt g.length vs i v (omega (arith, b, lengths)))
-    ∙ ap (λ x. with_value x i v ∷ spelled hs (drop g.length vs)) is
-spelled_set s (g ∷ hs) vs (suc k) h i v o p e a b =
-    let r = rest_end s g.length vs hs p.1 in
-    let at = spelled_get (s + g.length) hs (drop g.length vs) k h r.0 e in
-    let j : h.start - s + i ≡ g.length + (h.start - (s + g.length) + i) = omega (arith, at.after) in
-    let more = spelled_set (s + g.length) hs (drop g.length vs) k h i v o r.0 e a b in
-    ap (λ n. object_of g.header (take g.length (slice_set vs n v)) ∷ spelled hs (drop g.length (slice_set vs n v))) j
-    ∙ ap (λ us. object_of g.header us ∷ spelled hs (drop g.length (slice_set vs (g.length + (h.start - (s + g.length) + i)) v))) (take-set-le g.length vs (g.length + (h.start - (s + g.length) + i)) v (omega arith))
-    ∙ ap (λ us. object_of g.header (take g.length vs) ∷ spelled hs us) (drop-set-add g.length vs (h.start - (s + g.length) + i) v)
-    ∙ ap (λ os. object_of g.header (take g.length vs) ∷ os) more
+part_set : (n s i : ℕ) (xs : List Value) (v : Value) → take n (drop s (slice_set xs (s + i) v)) ≡ slice_set (take n (drop s xs)) i v
+part_set n s i xs v = ap (take n) (drop-set-add s xs i v) ∙ take_set n i (drop s xs) v
 
--- past the end of the headers there is no object
-pub none_past : (hs : List Entry) (vs : List Value) (k : ℕ) → length hs ≤ k → slice_get (spelled hs vs) k ≡ None
-none_past hs vs k h = let n = length_spelled hs vs in slice_get_past (spelled hs vs) k (omega arith)
+part_cut : (n s m : ℕ) (xs : List Value) → s + n ≤ m → take n (drop s (take m xs)) ≡ take n (drop s xs)
+part_cut n s m xs h =
+    let at : m ≡ s + (m - s) = omega (arith, h) in
+    ap (λ i. take n (drop s (take i xs))) at ∙ ap (take n) (drop-take s (m - s) xs) ∙ shorter n (m - s) (drop s xs) (omega (arith, h))
+  where
+    shorter : (a b : ℕ) (ys : List Value) → a ≤ b → take a (take b ys) ≡ take a ys
+    shorter zero b ys h = refl
+    shorter (suc a) zero ys h = absurd (omega arith)
+    shorter (suc a) (suc b) [] h = refl
+    shorter (suc a) (suc b) (y ∷ ys) h = ap (λ zs. y ∷ zs) (shorter a b ys (omega arith))
 
--- an object has a header
-pub header_within : (hs : List Entry) (vs : List Value) (k : ℕ) (o : Object) → slice_get (spelled hs vs) k ≡ Some o → k < length hs
-header_within hs vs k o e = let n = length_spelled hs vs in let w = slice_get_within (spelled hs vs) k o e in omega arith
+-- lists of which one has changed, and in that one what an entry takes has not
+entry_same : (l : Lists) (k : Kind) (vs : List Value) (e : Entry) → (k ≡ entry_kind e → take e.length (drop e.start vs) ≡ take e.length (drop e.start (list_of k l))) → entry_object (with_list k vs l) e ≡ entry_object l e
+entry_same l k vs e h = by (same_kind k (entry_kind e)) refl
+  where
+    by : (b : Bool) → same_kind k (entry_kind e) ≡ b → entry_object (with_list k vs l) e ≡ entry_object l e
+    by true is =
+        let same : k ≡ entry_kind e = same_is k (entry_kind e) is in
+        ap (λ j. object_of e.header (take e.length (drop e.start (list_of j (with_list k vs l))))) (sym same)
+        ∙ ap (λ us. object_of e.header (take e.length (drop e.start us))) (own_list k vs l)
+        ∙ ap (object_of e.header) (h same)
+        ∙ ap (λ j. object_of e.header (take e.length (drop e.start (list_of j l)))) same
+    by false is = ap (λ us. object_of e.header (take e.length (drop e.start us))) (other_list (entry_kind e) k vs l is)
 
--- the same from the start of a block on
-whole : (hs : List Entry) (vs : List Value) → IsPacked 0 hs (length vs) → IsPacked 0 hs (0 + length vs)
-whole hs vs p = let e : length vs ≡ 0 + length vs = omega arith in subst (λ n. IsPacked 0 hs n) e p
+entry_own : (l : Lists) (k : Kind) (vs : List Value) (e : Entry) → k ≡ entry_kind e → entry_object (with_list k vs l) e ≡ object_of e.header (take e.length (drop e.start vs))
+entry_own l k vs e same =
+    ap (λ j. object_of e.header (take e.length (drop e.start (list_of j (with_list k vs l))))) (sym same)
+    ∙ ap (λ us. object_of e.header (take e.length (drop e.start us))) (own_list k vs l)
 
-pub lies_at : (hs : List Entry) (vs : List Value) (k n : ℕ) (h : Entry) → IsPacked 0 hs (length vs) → n ≡ length hs → k < n → h ≡ get_or hs k h → LiesAt 0 hs vs k h
-lies_at hs vs k n h p m b e = spelled_get 0 hs vs k h (whole hs vs p) (slice_get_read hs n k h m b e)
+-- an object more
+pub spelled_more : (es : List Entry) (l : Lists) (cells : ℕ) (k : Kind) (ws : List Value) (h : Entry) → IsBlock es l cells → k ≡ entry_kind h → h.start ≡ length (list_of k l) → h.length ≡ length ws → spelled (es ++ h ∷ []) (with_list k (list_of k l ++ ws) l) ≡ spelled es l ++ object_of h.header ws ∷ []
+spelled_more es l cells k ws h b own start many =
+    spelled_push es (with_list k (list_of k l ++ ws) l) h
+    ∙ ap (λ os. os ++ entry_object (with_list k (list_of k l ++ ws) l) h ∷ []) (spelled_same es l (with_list k (list_of k l ++ ws) l) (λ i e s. entry_same l k (list_of k l ++ ws) e (λ same. part_pushed e.length e.start (list_of k l) ws (subst (λ j. e.start + e.length ≤ length (list_of j l)) (sym same) (entry_within es l cells i e b s)))))
+    ∙ ap (λ o. spelled es l ++ o ∷ []) (entry_own l k (list_of k l ++ ws) h own ∙ ap (object_of h.header) (part_new h.length h.start (list_of k l) ws start many))
 
-pub object_found : (os : List Object) (hs : List Entry) (vs us : List Value) (k n : ℕ) (h : Entry) → spelled hs vs ≡ os → IsPacked 0 hs (length vs) → n ≡ length hs → k < n → h ≡ get_or hs k h → us ≡ take h.length (drop h.start vs) → slice_get os k ≡ Some (object_of h.header us)
-object_found os hs vs us k n h v p m b e u =
-    let at = lies_at hs vs k n h p m b e in
-    let start : h.start - 0 ≡ h.start = omega arith in
-    ap (λ xs. slice_get xs k) (sym v) ∙ at.object ∙ ap (λ i. Some (object_of h.header (take h.length (drop i vs)))) start ∙ ap (λ xs. Some (object_of h.header xs)) (sym u)
+-- a value changed: two entries of one kind do not meet
+pub spelled_set : (es : List Entry) (l : Lists) (cells j : ℕ) (h : Entry) (i : ℕ) (v : Value) → IsBlock es l cells → slice_get es j ≡ Some h → i < h.length → spelled es (with_list (entry_kind h) (slice_set (list_of (entry_kind h) l) (h.start + i) v) l) ≡ slice_set (spelled es l) j (with_value (entry_object l h) i v)
+spelled_set es l cells j h i v b at inside =
+    spelled_changed es l (with_list (entry_kind h) (slice_set (list_of (entry_kind h) l) (h.start + i) v) l) j h (with_value (entry_object l h) i v) at
+    (entry_own l (entry_kind h) (slice_set (list_of (entry_kind h) l) (h.start + i) v) h refl ∙ ap (object_of h.header) (part_set h.length h.start i (list_of (entry_kind h) l) v))
+    (λ n e s apart. entry_same l (entry_kind h) (slice_set (list_of (entry_kind h) l) (h.start + i) v) e (λ same. other n e s apart same))
+  where
+    other : (n : ℕ) (e : Entry) → slice_get es n ≡ Some e → n ≢ j → entry_kind h ≡ entry_kind e → take e.length (drop e.start (slice_set (list_of (entry_kind h) l) (h.start + i) v)) ≡ take e.length (drop e.start (list_of (entry_kind h) l))
+    other n e s apart same = by (n_or n j apart)
+      where
+        n_or : (a c : ℕ) → a ≢ c → (a < c) ⊎ (c < a)
+        n_or a c d = grind (arith, d)
+
+        by : (n < j) ⊎ (j < n) → take e.length (drop e.start (slice_set (list_of (entry_kind h) l) (h.start + i) v)) ≡ take e.length (drop e.start (list_of (entry_kind h) l))
+        by (inl before) =
+            let ends : end_of (entry_kind e) (take n es) + share (entry_kind e) e ≤ end_of (entry_kind e) (take j es) = share_before (entry_kind e) es n j e before s in
+            let own = share_own e in
+            let mine = b.starts n e s in
+            let its : h.start ≡ end_of (entry_kind e) (take j es) = subst (λ k. h.start ≡ end_of k (take j es)) same (b.starts j h at) in
+            part_set_after e.length e.start (h.start + i) (list_of (entry_kind h) l) v (omega (arith, ends, own, mine, its))
+        by (inr after) =
+            let ends : end_of (entry_kind h) (take j es) + share (entry_kind h) h ≤ end_of (entry_kind h) (take n es) = share_before (entry_kind h) es j n h after at in
+            let own = share_own h in
+            let its = b.starts j h at in
+            let mine : e.start ≡ end_of (entry_kind h) (take n es) = subst (λ k. e.start ≡ end_of k (take n es)) (sym same) (b.starts n e s) in
+            part_set_before e.length e.start (h.start + i) (list_of (entry_kind h) l) v (omega (arith, ends, own, mine, its, inside))
+
+-- the last object given up
+pub spelled_less : (es : List Entry) (l : Lists) (cells : ℕ) (h : Entry) → IsBlock (es ++ h ∷ []) l cells → spelled es (with_list (entry_kind h) (take h.start (list_of (entry_kind h) l)) l) ≡ spelled es l
+spelled_less es l cells h b =
+    spelled_same es l (with_list (entry_kind h) (take h.start (list_of (entry_kind h) l)) l) (λ i e s. entry_same l (entry_kind h) (take h.start (list_of (entry_kind h) l)) e (λ same. part_cut e.length e.start h.start (list_of (entry_kind h) l) (below i e s same)))
+  where
+    below : (i : ℕ) (e : Entry) → slice_get es i ≡ Some e → entry_kind h ≡ entry_kind e → e.start + e.length ≤ h.start
+    below i e s same =
+        let there : slice_get (es ++ h ∷ []) i ≡ Some e = still es i e s in
+        let last : slice_get (es ++ h ∷ []) (length es) ≡ Some h = at_end es in
+        let before = share_before (entry_kind e) (es ++ h ∷ []) i (length es) e (slice_get_within es i e s) there in
+        let own = share_own e in
+        let mine = b.starts i e there in
+        let its : h.start ≡ end_of (entry_kind e) (take (length es) (es ++ h ∷ [])) = subst (λ k. h.start ≡ end_of k (take (length es) (es ++ h ∷ []))) same (b.starts (length es) h last) in
+        omega (arith, before, own, mine, its)
+      where
+        still : (ds : List Entry) (n : ℕ) (d : Entry) → slice_get ds n ≡ Some d → slice_get (ds ++ h ∷ []) n ≡ Some d
+        still [] n d e = cc
+        still (g ∷ ds) zero d e = e
+        still (g ∷ ds) (suc n) d e = still ds n d e
+
+        at_end : (ds : List Entry) → slice_get (ds ++ h ∷ []) (length ds) ≡ Some h
+        at_end [] = refl
+        at_end (g ∷ ds) = at_end ds
+
+-- an object has an entry
+pub entry_there : (es : List Entry) (l : Lists) (os : List Object) (k : ℕ) (o : Object) → spelled es l ≡ os → slice_get os k ≡ Some o → k < length es
+entry_there es l os k o v e =
+    let within = slice_get_within (spelled es l) k o (ap (λ xs. slice_get xs k) v ∙ e) in
+    omega (arith, within, length_spelled es l)
+
+-- the object of the entry that is read
+module _ (es : List Entry) (l : Lists) (os : List Object) (k : ℕ) (h : Entry) (o : Object) (v : spelled es l ≡ os) (r : h ≡ get_or es k h) (e : slice_get os k ≡ Some o) where
+  pub read_there : slice_get es k ≡ Some h
+  read_there = slice_get_read es (length es) k h refl (entry_there es l os k o v e) r
+
+  pub object_is : entry_object l h ≡ o
+  object_is =
+      let mine : slice_get os k ≡ Some (entry_object l h) = ap (λ xs. slice_get xs k) (sym v) ∙ spelled_get es l k h read_there in
+      cc
+
+pub kind_there : (es : List Entry) (l : Lists) (os : List Object) (kind : Kind) (k : ℕ) (h : Entry) (o : Object) → spelled es l ≡ os → kind ≡ entry_kind h → h ≡ get_or es k h → slice_get os k ≡ Some o → kind_of o.class ≡ kind
+kind_there es l os kind k h o v own r e = ap (λ x. kind_of x.class) (sym (object_is es l os k h o v r e)) ∙ sym own
+
+inside_entry : (l : Lists) (h : Entry) (i : ℕ) (o : Object) → entry_object l h ≡ o → i < length o.values → i < h.length
+inside_entry l h i o is b =
+    let many : length (take h.length (drop h.start (list_of (entry_kind h) l))) ≡ length o.values = ap (λ x. length x.values) is in
+    let short = length-take h.length (drop h.start (list_of (entry_kind h) l)) in
+    omega arith
 
 -- where a value of an object lies
-pub value_within : (os : List Object) (hs : List Entry) (vs : List Value) (k i : ℕ) (h : Entry) (o : Object) → spelled hs vs ≡ os → IsPacked 0 hs (length vs) → h ≡ get_or hs k h → slice_get os k ≡ Some o → i < length o.values → (k < length hs) × (i < h.length) × (h.start + i < length vs)
-value_within os hs vs k i h o v p e f b =
-    let there : slice_get (spelled hs vs) k ≡ Some o = ap (λ xs. slice_get xs k) v ∙ f in
-    let w = header_within hs vs k o there in
-    let at = lies_at hs vs k (length hs) h p refl w e in
-    let start : h.start - 0 ≡ h.start = omega arith in
-    let found : slice_get (spelled hs vs) k ≡ Some (object_of h.header (take h.length (drop (h.start - 0) vs))) = at.object in
-    let is : object_of h.header (take h.length (drop (h.start - 0) vs)) ≡ o = cc in
-    let many : length (take h.length (drop (h.start - 0) vs)) ≡ length o.values = ap (λ x. length x.values) is in
-    let short = length-take h.length (drop (h.start - 0) vs) in
-    let inside : i < h.length = omega arith in
-    (w, inside, omega (arith, at.within, inside))
-
-pub value_set : (os : List Object) (hs : List Entry) (vs : List Value) (k i : ℕ) (h : Entry) (v : Value) (o : Object) → spelled hs vs ≡ os → IsPacked 0 hs (length vs) → h ≡ get_or hs k h → slice_get os k ≡ Some o → i < length o.values → spelled hs (slice_set vs (h.start + i) v) ≡ slice_set os k (with_value o i v)
-value_set os hs vs k i h v o e p g f b =
-    let w = value_within os hs vs k i h o e p g f b in
-    let there : slice_get (spelled hs vs) k ≡ Some o = ap (λ xs. slice_get xs k) e ∙ f in
-    let at : h.start + i ≡ h.start - 0 + i = omega arith in
-    ap (λ n. spelled hs (slice_set vs n v)) at
-    ∙ spelled_set 0 hs vs k h i v o (whole hs vs p) (slice_get_read hs (length hs) k h refl w.0 g) there w.1
-    ∙ ap (λ xs. slice_set xs k (with_value o i v)) e
-
-pub bumped : (os : List Object) (hs : List Entry) (vs ws : List Value) (h : Entry) → spelled hs vs ≡ os → IsPacked 0 hs (length vs) → h.length ≡ length ws → spelled (hs ++ h ∷ []) (vs ++ ws) ≡ os ++ object_of h.header ws ∷ []
-bumped os hs vs ws h e p m = spelled_more 0 hs vs ws h (whole hs vs p) m ∙ ap (λ xs. xs ++ object_of h.header ws ∷ []) e
+pub value_within : (es : List Entry) (l : Lists) (os : List Object) (cells : ℕ) (kind : Kind) (k i : ℕ) (h : Entry) (o : Object) → spelled es l ≡ os → IsBlock es l cells → kind ≡ entry_kind h → h ≡ get_or es k h → slice_get os k ≡ Some o → i < length o.values → h.start + i < length (list_of kind l)
+value_within es l os cells kind k i h o v block own r e b =
+    let at = entry_within es l cells k h block (read_there es l os k h o v r e) in
+    let inside = inside_entry l h i o (object_is es l os k h o v r e) b in
+    subst (λ j. h.start + i < length (list_of j l)) (sym own) (omega (arith, at, inside))
 
 get_take : (n i : ℕ) (vs : List Value) → i < n → slice_get (take n vs) i ≡ slice_get vs i
 get_take zero i vs h = absurd (omega arith)
@@ -172,15 +227,24 @@ get_take_drop n (suc m) i [] h = get_take n i [] h
 get_take_drop n (suc m) i (v ∷ vs) h = let at : suc (m + i) ≡ suc m + i = omega arith in get_take_drop n m i vs h ∙ ap (slice_get (v ∷ vs)) at
 
 -- one value of an object, read where it lies
-pub value_read : (os : List Object) (hs : List Entry) (vs : List Value) (k i : ℕ) (h : Entry) (v : Value) (o : Object) → spelled hs vs ≡ os → IsPacked 0 hs (length vs) → h ≡ get_or hs k h → slice_get os k ≡ Some o → i < length o.values → v ≡ get_or vs (h.start + i) v → slice_get o.values i ≡ Some v
-value_read os hs vs k i h v o e p g f b r =
-    let w = value_within os hs vs k i h o e p g f b in
-    let there : slice_get (spelled hs vs) k ≡ Some o = ap (λ xs. slice_get xs k) e ∙ f in
-    let at = lies_at hs vs k (length hs) h p refl w.0 g in
-    let found : slice_get (spelled hs vs) k ≡ Some (object_of h.header (take h.length (drop (h.start - 0) vs))) = at.object in
-    let is : o ≡ object_of h.header (take h.length (drop (h.start - 0) vs)) = cc in
-    let start : h.start - 0 + i ≡ h.start + i = omega arith in
-    ap (λ x. slice_get x.values i) is
-    ∙ get_take_drop h.length (h.start - 0) i vs w.1
-    ∙ ap (slice_get vs) start
-    ∙ slice_get_read vs (length vs) (h.start + i) v refl w.2 r
+pub value_read : (es : List Entry) (l : Lists) (os : List Object) (cells : ℕ) (kind : Kind) (k i : ℕ) (h : Entry) (u : Value) (o : Object) → spelled es l ≡ os → IsBlock es l cells → kind ≡ entry_kind h → h ≡ get_or es k h → slice_get os k ≡ Some o → i < length o.values → slice_get (list_of kind l) (h.start + i) ≡ Some u → slice_get o.values i ≡ Some u
+value_read es l os cells kind k i h u o v block own r e b read =
+    let inside = inside_entry l h i o (object_is es l os k h o v r e) b in
+    ap (λ x. slice_get x.values i) (sym (object_is es l os k h o v r e))
+    ∙ get_take_drop h.length h.start i (list_of (entry_kind h) l) inside
+    ∙ ap (λ j. slice_get (list_of j l) (h.start + i)) (sym own)
+    ∙ read
+
+-- and written there
+pub value_set : (es : List Entry) (l : Lists) (os : List Object) (cells : ℕ) (kind : Kind) (k i : ℕ) (h : Entry) (u : Value) (o : Object) → spelled es l ≡ os → IsBlock es l cells → kind ≡ entry_kind h → h ≡ get_or es k h → slice_get os k ≡ Some o → i < length o.values → spelled es (with_list kind (slice_set (list_of kind l) (h.start + i) u) l) ≡ slice_set os k (with_value o i u)
+value_set es l os cells kind k i h u o v block own r e b =
+    let is = object_is es l os k h o v r e in
+    ap (λ j. spelled es (with_list j (slice_set (list_of j l) (h.start + i) u) l)) own
+    ∙ spelled_set es l cells k h i u block (read_there es l os k h o v r e) (inside_entry l h i o is b)
+    ∙ ap (λ x. slice_set (spelled es l) k (with_value x i u)) is
+    ∙ ap (λ xs. slice_set xs k (with_value o i u)) v
+
+pub object_there : (os : List Object) (k : ℕ) → k < length os → (o : Object) × (slice_get os k ≡ Some o)
+object_there [] k b = absurd (omega arith)
+object_there (o ∷ os) zero b = (o, refl)
+object_there (o ∷ os) (suc k) b = object_there os k (omega arith)

@@ -1,13 +1,19 @@
 // A block of cells.
 
-ghost use Rattle.std.specs.Prelude.{◌≡◌, ◌+◌, ◌<◌, ◌≤◌, ◌^◌, ◌++◌, ◌∷◌, [], Some, None, MatchOption, IfSome, OnOk, OnErr, IsTrue, true};
+ghost use Rattle.std.specs.Prelude.{◌≡◌, ◌+◌, ◌<◌, ◌≤◌, ◌^◌, ◌++◌, ◌∷◌, [], Some, None, MatchOption, OnOk, OnErr, IfSome, IsTrue, true};
 ghost use Rattle.std.specs.Prelude.{take, drop, length, map, slice_get, slice_set, replicate};
 ghost use Rattle.jm_values.specs.Objects.{default_of};
 ghost use Rattle.jm_heap.specs.Cells.{class_size};
 ghost use Rattle.jm_blocks.specs.Objects.{Object, object_of, with_value};
+ghost use Rattle.jm_values.specs.declared.value.Value.{Value};
+ghost use Rattle.jm_heap.specs.Elements.{elements, element_kind};
+ghost use Rattle.jm_heap.specs.Packing.{Fits, kind_of};
+ghost use Rattle.jm_heap.specs.declared.storage.Storage.TheVariants as kind;
 ghost use Rattle.jm_blocks.specs.Cells.{object_cells, sizes_of, block_cells, has_room, HoldsItsCells};
 
 use crate::header::Header;
+use crate::packed::Packed;
+use jm_heap::{Elements, Storage};
 use jm_program::OperandType;
 use jm_values::Value;
 use std::alloc::{AllocError, Global};
@@ -19,10 +25,7 @@ const CELLS: u64 = 512;
 /// The cells of the largest object that shares a block.
 const SHARED: u64 = 256;
 
-/// So many values are few.
-const FEW: usize = 8;
-
-/// An object's header, and where its values lie among the values of its block.
+/// An object's header, and where its values lie in the list of their kind.
 #[derive(Clone, Copy)]
 struct Entry {
     header: Header,
@@ -30,73 +33,11 @@ struct Entry {
     length: u32,
 }
 
-// So many values from a start on.
-#[inline]
-fn part(values: &[Value], start: usize, count: usize) -> &[Value]
-    requires { start + count ≤ length values.now }
-    ensures { result.now ≡ take count (drop start values.now) }
-{
-    &values[start..start + count]
-}
-
-// Puts values at the end; a few of them one by one, which takes less than a call that copies them. A
-// growth that is refused changes nothing.
-#[inline(always)]
-fn push_values(values: &mut Vec<Value>, more: &[Value]) -> Result<(), AllocError>
-    ensures ok { OnOk result (values.new.items ≡ values.old.items ++ more.now) }
-    ensures err { OnErr result (values.new.items ≡ values.old.items) }
-{
-    if more.len() > FEW {
-        return values.extend_from_slice(more);
-    }
-    values.reserve(more.len())?;
-    for value in more {
-        values.push_reserved(*value);
-    }
-    Ok(())
-}
-
-// So many copies of a value at the end. A growth that is refused changes nothing.
-fn push_copies(values: &mut Vec<Value>, value: &Value, count: usize) -> Result<(), AllocError>
-    ensures ok { OnOk result (values.new.items ≡ values.old.items ++ replicate count value.now) }
-    ensures err { OnErr result (values.new.items ≡ values.old.items) }
-{
-    values.reserve(count)?;
-    for _copy in 0..count {
-        values.push_reserved(*value);
-    }
-    Ok(())
-}
-
-// The value that a variable begins with (JVMS 2.3, 2.4).
-fn default_value(operand: OperandType) -> Value
-    ensures { result ≡ default_of operand }
-{
-    match operand {
-        OperandType::Int => Value::Int(0),
-        OperandType::Long => Value::Long(0),
-        OperandType::Reference => Value::Null,
-    }
-}
-
-// The default values of fields at the end. A growth that is refused changes nothing.
-#[inline]
-fn push_defaults(values: &mut Vec<Value>, fields: &[OperandType]) -> Result<(), AllocError>
-    ensures ok { OnOk result (values.new.items ≡ values.old.items ++ map default_of fields.now) }
-    ensures err { OnErr result (values.new.items ≡ values.old.items) }
-{
-    values.reserve(fields.len())?;
-    for field in fields {
-        values.push_reserved(default_value(*field));
-    }
-    Ok(())
-}
-
 /// Objects one after the other, each a header and its values: several that have at most 256 cells
 /// each and 512 together, or one.
 pub struct Block {
     entries: Vec<Entry>,
-    values: Vec<Value>,
+    values: Packed,
     cells: u64,
 }
 
@@ -119,9 +60,9 @@ impl Model for Block {
 
     ghost use Rattle.jm_blocks.specs.Spelled.{spelled, IsBlock};
 
-    ghost view = { λ b. spelled b.entries.items b.values.items };
+    ghost view = { λ b. spelled b.entries.items b.values };
 
-    ghost invariant = { λ b. IsBlock b.entries.items b.values.items b.cells };
+    ghost invariant = { λ b. IsBlock b.entries.items b.values b.cells };
 }
 
 impl Block {
@@ -131,7 +72,7 @@ impl Block {
     {
         Block {
             entries: Vec::new(alloc),
-            values: Vec::new(alloc),
+            values: Packed::new(alloc),
             cells: 0,
         }
     }
@@ -174,90 +115,103 @@ impl Block {
         self.cells + cells <= CELLS
     }
 
-    /// The object of this number: its header and its values, which are fewer than 2^32.
-    #[inline]
-    pub fn object(&self, index: usize) -> Option<(Header, &[Value])>
-        ensures short { IfSome result (λ o. length o.1.now < 2 ^ 32) }
-        ensures value { MatchOption result (slice_get self.now index ≡ None) (λ o. slice_get self.now index ≡ Some (object_of o.0 o.1.now)) }
-    {
-        if index >= self.entries.len() {
-            return None;
-        }
-        let entry = self.entries[index];
-        Some((
-            entry.header,
-            part(
-                self.values.as_slice(),
-                entry.start as usize,
-                entry.length as usize,
-            ),
-        ))
-    }
-
-    /// The object of this number, which is there: its header and its values, which are fewer than 2^32.
+    /// The object of this number, which is there: its header and its values, as they lie.
     #[inline(always)]
-    pub fn object_at(&self, index: usize) -> (Header, &[Value])
+    pub fn object_at(&self, index: usize) -> (Header, Elements<'_>)
         requires { (o : Object) × (slice_get self.now index ≡ Some o) }
-        ensures short { length result.1.now < 2 ^ 32 }
-        ensures value { slice_get self.now index ≡ Some (object_of result.0 result.1.now) }
+        ensures short { length (elements result.1) < 2 ^ 32 }
+        ensures value { slice_get self.now index ≡ Some (object_of result.0 (elements result.1)) }
+        ensures kind { element_kind result.1 ≡ kind_of result.0.class }
     {
         let entry = self.entries[index];
         (
             entry.header,
-            part(
-                self.values.as_slice(),
+            self.values.elements(
+                Storage::of(entry.header.class),
                 entry.start as usize,
                 entry.length as usize,
             ),
         )
     }
 
+    /// The object of this number: its header and its values, as they lie.
+    #[inline]
+    pub fn object(&self, index: usize) -> Option<(Header, Elements<'_>)>
+        ensures short { IfSome result (λ o. length (elements o.1) < 2 ^ 32) }
+        ensures value { MatchOption result (slice_get self.now index ≡ None) (λ o. slice_get self.now index ≡ Some (object_of o.0 (elements o.1))) }
+        ensures kind { IfSome result (λ o. element_kind o.1 ≡ kind_of o.0.class) }
+    {
+        if index >= self.entries.len() {
+            return None;
+        }
+        Some(self.object_at(index))
+    }
+
     /// One value of the object of this number.
     #[inline]
     pub fn get(&self, index: usize, number: usize) -> Value
         requires { (o : Object) × (slice_get self.now index ≡ Some o) × (number < length o.values) }
-        ensures { (o : Object) → slice_get self.now index ≡ Some o → slice_get o.values number ≡ Some result }
+        ensures value { (o : Object) → slice_get self.now index ≡ Some o → slice_get o.values number ≡ Some result }
+        ensures fits { (o : Object) → slice_get self.now index ≡ Some o → Fits (kind_of o.class) result }
     {
-        let _end = self.values.len();
         let entry = self.entries[index];
-        self.values[entry.start as usize + number]
+        let kind = Storage::of(entry.header.class);
+        let _end = self.values.len(kind);
+        self.values.get(kind, entry.start as usize + number)
     }
 
-    /// Puts an object at the end. A growth that is refused changes nothing.
+    /// Changes one value of an object, which is one of its type.
     #[inline(always)]
-    pub fn bump(&mut self, header: Header, values: &[Value]) -> Result<(), AllocError>
-        requires short { length values.now < 2 ^ 32 }
-        requires room { has_room (sizes_of self.old) (class_size header.class (length values.now)) ≡ true }
-        ensures ok { OnOk result (self.new ≡ self.old ++ object_of header values.now ∷ []) }
+    pub fn set(&mut self, index: usize, number: usize, value: Value)
+        requires { (o : Object) × (slice_get self.old index ≡ Some o) × (number < length o.values) × Fits (kind_of o.class) value }
+        ensures { (o : Object) → slice_get self.old index ≡ Some o → self.new ≡ slice_set self.old index (with_value o number value) }
+    {
+        let entry = self.entries[index];
+        let kind = Storage::of(entry.header.class);
+        let _end = self.values.len(kind);
+        self.values.set(kind, entry.start as usize + number, value);
+    }
+
+    /// Puts an object at the end with values as they lie in some block, which are of its kind: one copy
+    /// of memory. A growth that is refused changes nothing.
+    #[inline(always)]
+    pub fn bump(&mut self, header: Header, values: Elements<'_>) -> Result<(), AllocError>
+        requires short { length (elements values) < 2 ^ 32 }
+        requires room { has_room (sizes_of self.old) (class_size header.class (length (elements values))) ≡ true }
+        requires same { element_kind values ≡ kind_of header.class }
+        ensures ok { OnOk result (self.new ≡ self.old ++ object_of header (elements values.entry) ∷ []) }
         ensures err { OnErr result (self.new ≡ self.old) }
     {
-        let start = self.values.len();
+        let start = self.values.len(Storage::of(header.class));
+        let count = values.len();
         self.entries.reserve(1)?;
-        push_values(&mut self.values, values)?;
-        self.cells += header.class.size(values.len() as u64);
+        self.values.push_elements(values)?;
+        self.cells += header.class.size(count as u64);
         self.entries.push_reserved(Entry {
             header,
             start: start as u32,
-            length: values.len() as u32,
+            length: count as u32,
         });
         Ok(())
     }
 
-    /// Puts an object at the end whose values are so many copies of one. A growth that is refused
-    /// changes nothing.
+    /// Puts an object at the end whose values are so many copies of one, which is one of its type. A
+    /// growth that is refused changes nothing.
     pub fn bump_copies(
         &mut self,
         header: Header,
         value: Value,
         count: u32,
     ) -> Result<(), AllocError>
-        requires { has_room (sizes_of self.old) (class_size header.class count) ≡ true }
+        requires room { has_room (sizes_of self.old) (class_size header.class count) ≡ true }
+        requires fits { Fits (kind_of header.class) value }
         ensures ok { OnOk result (self.new ≡ self.old ++ object_of header (replicate count value) ∷ []) }
         ensures err { OnErr result (self.new ≡ self.old) }
     {
-        let start = self.values.len();
+        let kind = Storage::of(header.class);
+        let start = self.values.len(kind);
         self.entries.reserve(1)?;
-        push_copies(&mut self.values, &value, count as usize)?;
+        self.values.push(kind, value, count as usize)?;
         self.cells += header.class.size(count as u64);
         self.entries.push_reserved(Entry {
             header,
@@ -267,7 +221,7 @@ impl Block {
         Ok(())
     }
 
-    /// Puts an object at the end whose values are the default values of fields. A growth that is
+    /// Puts an instance at the end whose values are the default values of fields. A growth that is
     /// refused changes nothing.
     #[inline(always)]
     pub fn bump_defaults(
@@ -277,12 +231,13 @@ impl Block {
     ) -> Result<(), AllocError>
         requires short { length fields.now < 2 ^ 32 }
         requires room { has_room (sizes_of self.old) (class_size header.class (length fields.now)) ≡ true }
+        requires instance { kind.Fields ≡ kind_of header.class }
         ensures ok { OnOk result (self.new ≡ self.old ++ object_of header (map default_of fields.now) ∷ []) }
         ensures err { OnErr result (self.new ≡ self.old) }
     {
-        let start = self.values.len();
+        let start = self.values.len(Storage::Fields);
         self.entries.reserve(1)?;
-        push_defaults(&mut self.values, fields)?;
+        self.values.push_defaults(fields)?;
         self.cells += header.class.size(fields.len() as u64);
         self.entries.push_reserved(Entry {
             header,
@@ -301,17 +256,7 @@ impl Block {
         let entry = self.entries[last];
         self.cells -= entry.header.class.size(entry.length as u64);
         self.entries.truncate(last);
-        self.values.truncate(entry.start as usize);
-    }
-
-    /// Changes one value of an object.
-    #[inline]
-    pub fn set(&mut self, index: usize, number: usize, value: Value)
-        requires { (o : Object) × (slice_get self.old index ≡ Some o) × (number < length o.values) }
-        ensures { (o : Object) → slice_get self.old index ≡ Some o → self.new ≡ slice_set self.old index (with_value o number value) }
-    {
-        let _end = self.values.len();
-        let entry = self.entries[index];
-        self.values[entry.start as usize + number] = value;
+        self.values
+            .truncate(Storage::of(entry.header.class), entry.start as usize);
     }
 }

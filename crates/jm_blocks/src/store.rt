@@ -4,6 +4,9 @@ ghost use Rattle.std.specs.Prelude.{◌≡◌, ℕ, ◌+◌, ◌*◌, ◌<◌, �
 ghost use Rattle.jm_values.specs.Objects.{default_of};
 ghost use Rattle.jm_blocks.specs.Objects.{Object, object_of};
 ghost use Rattle.jm_blocks.specs.Cells.{object_cells};
+ghost use Rattle.jm_heap.specs.Elements.{elements, element_kind};
+ghost use Rattle.jm_heap.specs.Packing.{Fits, kind_of};
+ghost use Rattle.jm_heap.specs.declared.storage.Storage.TheVariants as kind;
 ghost use Rattle.jm_blocks.specs.Places.{place_at, lane_of};
 ghost use Rattle.jm_blocks.specs.Stores.{Blocks, objects_in, HasObject, HasValue, Bumped, IsSet, IsAfter, IsFirst, IsLast, IsEmpty};
 ghost use Rattle.jm_blocks.specs.Stores.{last_has_room, store_with, next_place, store_cells};
@@ -11,6 +14,7 @@ ghost use Rattle.jm_blocks.specs.Stores.{last_has_room, store_with, next_place, 
 use crate::block::Block;
 use crate::header::Header;
 use crate::position::Position;
+use jm_heap::Elements;
 use jm_program::OperandType;
 use jm_values::{Place, Value};
 use std::alloc::{AllocError, Global};
@@ -86,9 +90,10 @@ impl BlockStore {
 
     /// The object at a place: its header and its values, which are fewer than 2^32.
     #[inline]
-    pub fn object(&self, place: Place) -> Option<(Header, &[Value])>
-        ensures short { IfSome result (λ o. length o.1.now < 2 ^ 32) }
-        ensures value { MatchOption result (objects_in self.now place ≡ None) (λ o. objects_in self.now place ≡ Some (object_of o.0 o.1.now)) }
+    pub fn object(&self, place: Place) -> Option<(Header, Elements<'_>)>
+        ensures short { IfSome result (λ o. length (elements o.1) < 2 ^ 32) }
+        ensures value { MatchOption result (objects_in self.now place ≡ None) (λ o. objects_in self.now place ≡ Some (object_of o.0 (elements o.1))) }
+        ensures kind { IfSome result (λ o. element_kind o.1 ≡ kind_of o.0.class) }
     {
         let position = Position::of(place);
         if position.lane != self.lane {
@@ -103,10 +108,11 @@ impl BlockStore {
 
     /// The object at a place, where one is: its header and its values, which are fewer than 2^32.
     #[inline(always)]
-    pub fn object_at(&self, place: Place) -> (Header, &[Value])
+    pub fn object_at(&self, place: Place) -> (Header, Elements<'_>)
         requires { HasObject self.now place }
-        ensures short { length result.1.now < 2 ^ 32 }
-        ensures value { objects_in self.now place ≡ Some (object_of result.0 result.1.now) }
+        ensures short { length (elements result.1) < 2 ^ 32 }
+        ensures value { objects_in self.now place ≡ Some (object_of result.0 (elements result.1)) }
+        ensures kind { element_kind result.1 ≡ kind_of result.0.class }
     {
         let position = Position::of(place);
         let block = &self.blocks[position.block];
@@ -117,17 +123,19 @@ impl BlockStore {
     #[inline]
     pub fn get(&self, place: Place, number: usize) -> Value
         requires { HasValue self.now place number }
-        ensures { (o : Object) → objects_in self.now place ≡ Some o → slice_get o.values number ≡ Some result }
+        ensures value { (o : Object) → objects_in self.now place ≡ Some o → slice_get o.values number ≡ Some result }
+        ensures fits { (o : Object) → objects_in self.now place ≡ Some o → Fits (kind_of o.class) result }
     {
         let position = Position::of(place);
         let block = &self.blocks[position.block];
         block.get(position.index, number)
     }
 
-    /// Changes one value of the object at a place.
-    #[inline]
+    /// Changes one value of the object at a place, which is one of its type.
+    #[inline(always)]
     pub fn set(&mut self, place: Place, number: usize, value: Value)
-        requires { HasValue self.old place number }
+        requires there { HasValue self.old place number }
+        requires fits { (o : Object) → objects_in self.old place ≡ Some o → Fits (kind_of o.class) value }
         ensures set { IsSet self.old self.new place number value }
         ensures lane { self.new.lane ≡ self.old.lane }
         ensures cells { store_cells self.new.lists ≡ store_cells self.old.lists }
@@ -182,18 +190,19 @@ impl BlockStore {
         Ok(self.place_in(count, 0))
     }
 
-    /// Puts an object at the place that is reserved for one of its cells, above all others. A growth
-    /// that is refused changes nothing.
+    /// Puts an object at the place that is reserved for one of its cells, above all others, with values
+    /// as they lie in some block, which are of its kind. A growth that is refused changes nothing.
     #[inline(always)]
     pub fn fill(
         &mut self,
         alloc: Global,
         header: Header,
-        values: &[Value],
+        values: Elements<'_>,
     ) -> Result<(), AllocError>
-        requires { length values.now < 2 ^ 32 }
-        ensures ok { let o = object_of header values.now in OnOk result (Bumped self.old self.new (next_place self.old (object_cells o)) o) }
-        ensures blocks { OnOk result (self.new ≡ store_with self.old (object_of header values.now)) }
+        requires short { length (elements values) < 2 ^ 32 }
+        requires same { element_kind values ≡ kind_of header.class }
+        ensures ok { let o = object_of header (elements values.entry) in OnOk result (Bumped self.old self.new (next_place self.old (object_cells o)) o) }
+        ensures blocks { OnOk result (self.new ≡ store_with self.old (object_of header (elements values.entry))) }
         ensures err { OnErr result (self.new ≡ self.old) }
     {
         let blocks = self.blocks.len();
@@ -219,6 +228,7 @@ impl BlockStore {
         value: Value,
         count: u32,
     ) -> Result<(), AllocError>
+        requires { Fits (kind_of header.class) value }
         ensures ok { let o = object_of header (replicate count value) in OnOk result (Bumped self.old self.new (next_place self.old (object_cells o)) o) }
         ensures blocks { OnOk result (self.new ≡ store_with self.old (object_of header (replicate count value))) }
         ensures err { OnErr result (self.new ≡ self.old) }
@@ -246,7 +256,8 @@ impl BlockStore {
         header: Header,
         fields: &[OperandType],
     ) -> Result<(), AllocError>
-        requires { length fields.now < 2 ^ 32 }
+        requires short { length fields.now < 2 ^ 32 }
+        requires instance { kind.Fields ≡ kind_of header.class }
         ensures ok { let o = object_of header (map default_of fields.now) in OnOk result (Bumped self.old self.new (next_place self.old (object_cells o)) o) }
         ensures blocks { OnOk result (self.new ≡ store_with self.old (object_of header (map default_of fields.now))) }
         ensures err { OnErr result (self.new ≡ self.old) }

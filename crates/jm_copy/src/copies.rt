@@ -1,6 +1,9 @@
 // What a collection has made so far.
 
-ghost use Rattle.std.specs.Prelude.{◌≡◌, ◌≢◌, ◌<◌, ◌^◌, ℕ, length, slice_get, Some, IfOk, OnErr, nat_eq};
+ghost use Rattle.std.specs.Prelude.{◌≡◌, ◌≢◌, ◌<◌, ◌^◌, ℕ, [], length, slice_get, Some, MatchOption, IfOk, OnErr, nat_eq};
+ghost use Rattle.jm_values.specs.Rename.{stack_shape};
+ghost use Rattle.jm_heap.specs.Elements.{elements, element_kind};
+ghost use Rattle.jm_heap.specs.Packing.{Fits, kind_of};
 ghost use Rattle.jm_blocks.specs.Objects.{Object, object_of, with_value};
 ghost use Rattle.jm_blocks.specs.Places.{lane_of};
 ghost use Rattle.jm_copy.specs.Copying.{IsReplaced, raw_copy};
@@ -8,6 +11,7 @@ ghost use Rattle.jm_copy.specs.Copies.{HasMade, IsPut, IsPutIn, Stays, made, sto
 
 use crate::words::Words;
 use jm_blocks::{BlockStore, Header, Position};
+use jm_heap::Elements;
 use jm_nursery::Survival;
 use jm_values::{Place, Value};
 use std::alloc::{AllocError, Global};
@@ -28,10 +32,11 @@ fn push(
     alloc: Global,
     store: &mut BlockStore,
     header: Header,
-    values: &[Value],
+    values: Elements<'_>,
 ) -> Result<Place, AllocError>
-    requires { length values.now < 2 ^ 32 }
-    ensures ok { IfOk result (λ p. IsPutIn store.old store.new p (object_of header values.now)) }
+    requires short { length (elements values) < 2 ^ 32 }
+    requires same { element_kind values ≡ kind_of header.class }
+    ensures ok { IfOk result (λ p. IsPutIn store.old store.new p (object_of header (elements values.entry))) }
     ensures err { OnErr result (store.new ≡ store.old) }
 {
     let cells = header.class.size(values.len() as u64);
@@ -48,10 +53,11 @@ impl Copies {
         &mut self,
         alloc: Global,
         header: Header,
-        values: &[Value],
+        values: Elements<'_>,
     ) -> Result<Place, AllocError>
-        requires { length values.now < 2 ^ 32 }
-        ensures ok { IfOk result (λ p. IsPut self.old self.new p (raw_copy (object_of header values.now))) }
+        requires short { length (elements values) < 2 ^ 32 }
+        requires same { element_kind values ≡ kind_of header.class }
+        ensures ok { IfOk result (λ p. IsPut self.old self.new p (raw_copy (object_of header (elements values.entry)))) }
         ensures err { OnErr result (self.new ≡ self.old) }
     {
         match Survival::of(header) {
@@ -83,27 +89,31 @@ impl Copies {
     #[inline]
     pub fn value(&self, place: Place, number: usize) -> Value
         requires { (a : Object) × (made self.now place ≡ Some a) × (number < length a.values) }
-        ensures { (a : Object) → made self.now place ≡ Some a → slice_get a.values number ≡ Some result }
+        ensures value { (a : Object) → made self.now place ≡ Some a → slice_get a.values number ≡ Some result }
+        ensures fits { (a : Object) → made self.now place ≡ Some a → Fits (kind_of a.class) result }
     {
         self.store(place).get(place, number)
     }
 
-    /// How many values a new object has.
+    /// How many values of a new object are to be forwarded: all that it has, or none where nothing in
+    /// it can be a reference.
     #[inline]
-    pub fn count(&self, place: Place) -> usize
+    pub fn to_forward(&self, place: Place) -> Option<usize>
         requires { HasMade self.now place }
-        ensures { (a : Object) → made self.now place ≡ Some a → length a.values ≡ result }
+        ensures { (a : Object) → made self.now place ≡ Some a → MatchOption result (stack_shape.refs a.values ≡ []) (λ n. length a.values ≡ n) }
     {
         match self.store(place).object(place) {
-            Some((_, values)) => values.len(),
-            None => 0,
+            Some((_, values)) if values.is_plain() => None,
+            Some((_, values)) => Some(values.len()),
+            None => Some(0),
         }
     }
 
     /// Changes one value of a new object.
     #[inline]
     pub fn set(&mut self, place: Place, number: usize, value: Value)
-        requires { (a : Object) × (made self.old place ≡ Some a) × (number < length a.values) }
+        requires fits { (a : Object) → made self.old place ≡ Some a → Fits (kind_of a.class) value }
+        requires there { (a : Object) × (made self.old place ≡ Some a) × (number < length a.values) }
         ensures set { (a : Object) → made self.old place ≡ Some a → IsReplaced (made self.old) (made self.new) place (with_value a number value) }
         ensures stays { Stays self.old self.new }
         ensures words { self.new.words ≡ self.old.words }

@@ -1,6 +1,7 @@
 // The old objects that point to young ones.
 
 ghost use Rattle.std.specs.Prelude.{◌≡◌, ◌<◌, ◌^◌, ◌++◌, ◌∷◌, [], ℕ, Some, IfOk, OnOk, if◌then◌else◌};
+ghost use Rattle.jm_heap.specs.Elements.{elements};
 ghost use Rattle.jm_blocks.specs.Objects.{Object};
 ghost use Rattle.jm_blocks.specs.Stores.{HasObject, objects_in};
 ghost use Rattle.jm_copy.specs.Copies.{IsMark};
@@ -8,6 +9,7 @@ ghost use Rattle.jm_copy.specs.Pointing.{ListsAbove, names_lane, points_to, with
 
 use crate::scan::next_of;
 use jm_blocks::{BlockStore, Position};
+use jm_heap::Elements;
 use jm_values::{Place, Value};
 use std::alloc::{AllocError, Global};
 
@@ -25,11 +27,14 @@ fn names_lane(value: Value, lane: u64) -> bool
 }
 
 // Whether one of the values names a place of a lane.
-fn points_to(values: &[Value], lane: u64) -> bool
-    ensures { result ≡ points_to lane values.now }
+fn points_to(values: Elements<'_>, lane: u64) -> bool
+    ensures { result ≡ points_to lane (elements values.entry) }
 {
-    for value in values {
-        if names_lane(*value, lane) {
+    if values.is_plain() {
+        return false;
+    }
+    for number in 0..values.len() {
+        if names_lane(values.get(number), lane) {
             return true;
         }
     }

@@ -61,7 +61,7 @@ fn pass(to: &Copies, marks: &Marks, place: Place) -> Marks
     }
 }
 
-// Forwards each value of one new object.
+// Forwards each value of one new object; one in which nothing can be a reference is passed over.
 fn scan_object(
     alloc: Global,
     from: Source<'_>,
@@ -74,7 +74,9 @@ fn scan_object(
     ensures copying { OnOk result (ScansObject from.entry.stores.now from.entry.roots.now to.old to.new place) }
     ensures extends { Extends from.entry.stores.now to.old to.new }
 {
-    let count = to.count(place);
+    let Some(count) = to.to_forward(place) else {
+        return Ok(());
+    };
     for number in 0..count {
         forward_value(alloc, from, to, place, number)?;
     }

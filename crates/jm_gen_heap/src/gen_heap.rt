@@ -6,6 +6,8 @@ ghost use Rattle.jm_values.specs.Rename.{rename, refs};
 ghost use Rattle.jm_values.specs.Objects.{ObjectOf, size_by};
 ghost use Rattle.jm_values.specs.Content.{AllResident, HasValue, IsSet, Kept, Made, serial_at, object_at, name_of};
 ghost use Rattle.jm_heap.specs.Cells.{class_size, resident_cells};
+ghost use Rattle.jm_heap.specs.Elements.{elements, element_kind};
+ghost use Rattle.jm_heap.specs.Packing.{Fits as Holds, kind_of};
 ghost use Rattle.jm_heap.specs.NewObject.{new_object};
 ghost use Rattle.jm_heap.specs.Residents.{AreResident};
 ghost use Rattle.jm_heap.specs.Allocation.{IsRefused, IsRefusedHere, MadeHereOrNot};
@@ -18,9 +20,8 @@ ghost use Rattle.jm_gen_heap.specs.Allocating.{AllSurvived, Fits, HasAged, HasMa
 ghost use Rattle.jm_gen_heap.specs.Steps.{IsWritten};
 
 use crate::generations::Generations;
-use crate::request::cells_of;
 use jm_copy::Collector;
-use jm_heap::{ClassId, Heap, HeapFault, Kind, Roots, Shape};
+use jm_heap::{ClassId, Elements, Heap, HeapFault, Kind, Roots, Shape};
 use jm_values::{Place, Value};
 use std::alloc::{AllocError, Global};
 use std::marker::Model;
@@ -81,7 +82,7 @@ impl<C: Collector> GenHeap<C> {
         ensures same { OnErr result (self.new ≡ self.old) }
         ensures err { IfErr result (IsRefusedHere (content_of self.old) (new_object shape.entry)) }
     {
-        let cells = cells_of(shape);
+        let cells = shape.cells();
         if !self.generations.fits(cells) {
             return Ok(None);
         }
@@ -135,7 +136,7 @@ impl<C: Collector> GenHeap<C> {
         ensures stays { OldStay self.old self.new (size_by class_size (new_object shape.entry)) }
         ensures err { IfErr result (IsRefused (content_of self.old) roots.old (new_object shape.entry)) }
     {
-        self.make_room(roots, cells_of(shape))?;
+        self.make_room(roots, shape.cells())?;
         self.generations.make(nursery, shape)
     }
 
@@ -194,16 +195,17 @@ impl<C: Collector> GenHeap<C> {
     }
 
     /// The class or array type of the object at a place, and its values, which are fewer than 2^32.
-    #[inline]
-    pub fn object(&self, place: Place) -> (ClassId, &[Value])
+    #[inline(always)]
+    pub fn object(&self, place: Place) -> (ClassId, Elements<'_>)
         requires { (k : ℕ) × (o : ObjectOf ClassId) × (serial_at (content_of self.now) place ≡ Some k) × (object_at (content_of self.now) k ≡ Some o) }
         ensures class { (k : ℕ) (o : ObjectOf ClassId) → serial_at (content_of self.now) place ≡ Some k
             → object_at (content_of self.now) k ≡ Some o → result.0 ≡ o.type }
         ensures length { (k : ℕ) (o : ObjectOf ClassId) → serial_at (content_of self.now) place ≡ Some k
-            → object_at (content_of self.now) k ≡ Some o → length result.1.now ≡ length o.values }
-        ensures short { length result.1.now < 2 ^ 32 }
-        ensures values { (i : ℕ) (v : Value) → slice_get result.1.now i ≡ Some v → HasValue (content_of self.now) place i (rename (name_of (content_of self.now)) v) }
-        ensures resident { (i : ℕ) (v : Value) → slice_get result.1.now i ≡ Some v → AllResident (content_of self.now) (refs v) }
+            → object_at (content_of self.now) k ≡ Some o → length (elements result.1) ≡ length o.values }
+        ensures short { length (elements result.1) < 2 ^ 32 }
+        ensures values { (i : ℕ) (v : Value) → slice_get (elements result.1) i ≡ Some v → HasValue (content_of self.now) place i (rename (name_of (content_of self.now)) v) }
+        ensures resident { (i : ℕ) (v : Value) → slice_get (elements result.1) i ≡ Some v → AllResident (content_of self.now) (refs v) }
+        ensures kind { element_kind result.1 ≡ kind_of result.0 }
     {
         let (header, values) = self.generations.object_at(place);
         (header.class, values)
@@ -220,14 +222,16 @@ impl<C: Collector> GenHeap<C> {
     }
 
     /// Changes one value of the object at a place. Where a growth is refused, nothing has changed.
-    #[inline]
+    #[inline(always)]
     pub fn set(&mut self, place: Place, index: u32, value: Value) -> Result<(), AllocError>
         requires there { (v : Value) × HasValue (content_of self.old) place index v }
         requires resident { AllResident (content_of self.old) (refs value) }
+        requires fits { (k : ℕ) (o : ObjectOf ClassId) → serial_at (content_of self.old) place ≡ Some k → object_at (content_of self.old) k ≡ Some o → Holds (kind_of o.type) value }
         ensures ok { OnOk result (IsSet (content_of self.old) (content_of self.new) place index value) }
         ensures exact { OnOk result (IsWritten self.old self.new place index value) }
         ensures err { OnErr result (self.new ≡ self.old) }
     {
+        let _cells = self.generations.used();
         self.generations.set(place, index, value)
     }
 
@@ -321,8 +325,8 @@ impl<C: Collector> Heap for GenHeap<C> {
         GenHeap::allocate_here(self, nursery, shape)
     }
 
-    #[inline]
-    fn object(&self, place: Place) -> (ClassId, &[Value]) {
+    #[inline(always)]
+    fn object(&self, place: Place) -> (ClassId, Elements<'_>) {
         GenHeap::object(self, place)
     }
 
@@ -331,7 +335,7 @@ impl<C: Collector> Heap for GenHeap<C> {
         GenHeap::get(self, place, index)
     }
 
-    #[inline]
+    #[inline(always)]
     fn set(&mut self, place: Place, index: u32, value: Value) -> Result<(), AllocError> {
         GenHeap::set(self, place, index, value)
     }

@@ -11,6 +11,8 @@ ghost use Rattle.jm_heap.specs.Cells.{class_size, resident_cells};
 ghost use Rattle.jm_heap.specs.Allocation.{MadeHere, IsRefusedHere};
 ghost use Rattle.jm_heap.specs.NewObject.{new_object};
 ghost use Rattle.jm_values.specs.Objects.{size_by};
+ghost use Rattle.jm_heap.specs.Elements.{elements, element_kind};
+ghost use Rattle.jm_heap.specs.Packing.{Fits, kind_of};
 ghost use Rattle.jm_blocks.specs.Objects.{Object, object_of};
 ghost use Rattle.jm_blocks.specs.Stores.{HasValue, objects_in};
 ghost use Rattle.jm_nursery.specs.Nurseries.{AreNurseries, IsMade, young_cells};
@@ -32,7 +34,7 @@ use crate::pointers::{Pointers, names_young};
 use crate::request::{default_element, header_of};
 use jm_blocks::{Block, BlockStore, Header, Position};
 use jm_copy::Collector;
-use jm_heap::{HeapFault, Roots, Shape};
+use jm_heap::{Elements, HeapFault, Roots, Shape};
 use jm_nursery::{Nurseries, empty_nurseries};
 use jm_values::{Place, Value};
 use std::alloc::{AllocError, Global};
@@ -104,7 +106,8 @@ fn set_old(
     number: usize,
     value: Value,
 ) -> Result<(), AllocError>
-    requires { HasValue tenured.old place number }
+    requires there { HasValue tenured.old place number }
+    requires fits { (o : Object) → objects_in tenured.old place ≡ Some o → Fits (kind_of o.class) value }
     ensures ok { OnOk result (IsSetOld tenured.old tenured.new pointers.old pointers.new place number value) }
     ensures err { OnErr result ((tenured.new ≡ tenured.old) × (pointers.new ≡ pointers.old)) }
 {
@@ -234,10 +237,11 @@ impl Generations {
 
     /// The object at a place: its header and its values, which are fewer than 2^32.
     #[inline(always)]
-    pub fn object_at(&self, place: Place) -> (Header, &[Value])
+    pub fn object_at(&self, place: Place) -> (Header, Elements<'_>)
         requires { (k : ℕ) × (serial_at (content_of self.now) place ≡ Some k) }
-        ensures short { length result.1.now < 2 ^ 32 }
-        ensures value { lying self.now place ≡ Some (object_of result.0 result.1.now) }
+        ensures short { length (elements result.1) < 2 ^ 32 }
+        ensures value { lying self.now place ≡ Some (object_of result.0 (elements result.1)) }
+        ensures kind { element_kind result.1 ≡ kind_of result.0.class }
         ensures keeps { AreGenerations self.now }
     {
         self.store_of(place).object_at(place)
@@ -245,10 +249,11 @@ impl Generations {
 
     /// Changes one value of the object at a place. An old object that gets a reference to a young one
     /// is remembered. Where a growth is refused, nothing has changed.
-    #[inline]
+    #[inline(always)]
     pub fn set(&mut self, place: Place, index: u32, value: Value) -> Result<(), AllocError>
         requires there { (v : Value) × HasContent (content_of self.old) place index v }
         requires names { AllResident (content_of self.old) (refs value) }
+        requires fits { (o : Object) → lying self.old place ≡ Some o → Fits (kind_of o.class) value }
         ensures ok { OnOk result (IsWritten self.old self.new place index value) }
         ensures set { OnOk result (IsSet (content_of self.old) (content_of self.new) place index value) }
         ensures err { OnErr result (self.new ≡ self.old) }

@@ -13,3 +13,5 @@ pub mod MakingLemmas
 pub mod AllocatingLemmas
 pub mod ResidentLemmas
 pub mod NewPlaces
+pub mod Counting
+pub mod Plain

@@ -6,6 +6,8 @@ ghost use Rattle.jm_values.specs.declared.value.Value.{Value};
 ghost use Rattle.jm_values.specs.Objects.{ObjectOf};
 ghost use Rattle.jm_values.specs.Content.{Content, IsSound, AllResident, Kept, Made, HasValue, IsSet, serial_at, object_at, name_of};
 ghost use Rattle.jm_heap.specs.Cells.{class_size, resident_cells};
+ghost use Rattle.jm_heap.specs.Elements.{elements, element_kind, LieAs};
+ghost use Rattle.jm_heap.specs.Packing.{Fits, kind_of};
 ghost use Rattle.jm_heap.specs.NewObject.{new_object};
 ghost use Rattle.jm_heap.specs.Residents.{AreResident};
 ghost use Rattle.jm_heap.specs.Allocation.{IsRefused, IsRefusedHere, MadeHereOrNot};
@@ -14,6 +16,7 @@ ghost use Rattle.jm_heap.specs.declared.class_id.ClassId.{ClassId};
 ghost use Rattle.jm_heap.specs.declared.heap.Kind.{Kind};
 
 use crate::class_id::ClassId;
+use crate::elements::Elements;
 use crate::fault::HeapFault;
 use crate::roots::Roots;
 use crate::shape::Shape;
@@ -94,13 +97,14 @@ pub trait Heap {
     /// The class or array type of the object at a place, and its values, which are fewer than 2^32: the
     /// fields of an instance, in the order of its shape, or the elements of an array. It takes no
     /// memory.
-    fn object(&self, place: Place) -> (ClassId, &[Value])
+    fn object(&self, place: Place) -> (ClassId, Elements<'_>)
         requires { (k : ℕ) × (o : ObjectOf ClassId) × (serial_at (content self.now) place ≡ Some k) × (object_at (content self.now) k ≡ Some o) }
         ensures class { (k : ℕ) (o : ObjectOf ClassId) → serial_at (content self.now) place ≡ Some k → object_at (content self.now) k ≡ Some o → result.0 ≡ o.type }
-        ensures length { (k : ℕ) (o : ObjectOf ClassId) → serial_at (content self.now) place ≡ Some k → object_at (content self.now) k ≡ Some o → length result.1.now ≡ length o.values }
-        ensures short { length result.1.now < 2 ^ 32 }
-        ensures values { (i : ℕ) (v : Value) → slice_get result.1.now i ≡ Some v → HasValue (content self.now) place i (rename (name_of (content self.now)) v) }
-        ensures resident { (i : ℕ) (v : Value) → slice_get result.1.now i ≡ Some v → AllResident (content self.now) (refs v) };
+        ensures length { (k : ℕ) (o : ObjectOf ClassId) → serial_at (content self.now) place ≡ Some k → object_at (content self.now) k ≡ Some o → length (elements result.1) ≡ length o.values }
+        ensures short { length (elements result.1) < 2 ^ 32 }
+        ensures values { (i : ℕ) (v : Value) → slice_get (elements result.1) i ≡ Some v → HasValue (content self.now) place i (rename (name_of (content self.now)) v) }
+        ensures resident { (i : ℕ) (v : Value) → slice_get (elements result.1) i ≡ Some v → AllResident (content self.now) (refs v) }
+        ensures lie { LieAs (element_kind result.1) (kind_of result.0) };
 
     /// The value of a number of the object at a place: a field of an instance, in the order of
     /// its shape, or an element of an array. It takes no memory.
@@ -109,11 +113,13 @@ pub trait Heap {
         ensures value { HasValue (content self.now) place index (rename (name_of (content self.now)) result) }
         ensures resident { AllResident (content self.now) (refs result) };
 
-    /// Changes one value of the object at a place. Where a growth is refused, nothing has changed.
+    /// Changes one value of the object at a place, to one that an object of its type holds. Where a
+    /// growth is refused, nothing has changed.
     fn set(&mut self, place: Place, index: u32, value: Value) -> Result<(), AllocError>
         requires sound { IsSound (content self.old) }
         requires there { (v : Value) × HasValue (content self.old) place index v }
         requires resident { AllResident (content self.old) (refs value) }
+        requires fits { (k : ℕ) (o : ObjectOf ClassId) → serial_at (content self.old) place ≡ Some k → object_at (content self.old) k ≡ Some o → Fits (kind_of o.type) value }
         ensures ok { OnOk result (IsSet (content self.old) (content self.new) place index value) }
         ensures err { OnErr result (content self.new ≡ content self.old) };
 

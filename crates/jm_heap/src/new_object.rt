@@ -1,50 +1,17 @@
 // The object that is made of a shape.
 
-ghost use Rattle.std.specs.Prelude.{◌≡◌, ◌<◌, ◌^◌, IfOk, Some, length, map, replicate};
-ghost use Rattle.jm_values.specs.Objects.{size_by, default_of};
-ghost use Rattle.jm_heap.specs.Cells.{class_size};
+ghost use Rattle.std.specs.Prelude.{◌≡◌, IfOk, Some, map, replicate};
+ghost use Rattle.jm_values.specs.Objects.{default_of};
 ghost use Rattle.jm_heap.specs.NewObject.{new_object, operand_of_component};
 ghost use Rattle.jm_heap.specs.Layout.{all_values};
 ghost use Rattle.jm_heap.specs.Stored.{numbered};
-ghost use Rattle.jm_heap.specs.declared.class_id.ClassId.TheVariants.{Array};
 
-use crate::class_id::{ClassId, Component, Element};
+use crate::class_id::{Component, Element};
 use crate::shape::Shape;
 use crate::slot::{Slot, Values};
 use jm_program::{BaseType, OperandType};
 use jm_values::Value;
 use std::alloc::{AllocError, Global};
-
-// The class or array type of the object.
-#[tactic(auto, unfolding(crate::specs::NewObject::new_object))]
-fn class_of(shape: Shape<'_>) -> ClassId
-    ensures { result ≡ (new_object shape.entry).type }
-{
-    match shape {
-        Shape::Instance { class, .. } => ClassId::Instance(class),
-        Shape::Array { component, .. } => ClassId::Array(component),
-    }
-}
-
-// The cells of an array of so many elements.
-fn array_cells(component: Component, count: u32) -> u64
-    ensures value { result ≡ class_size (Array component) count }
-    ensures few { count < 2 ^ 32 }
-{
-    ClassId::Array(component).size(count as u64)
-}
-
-/// The cells that the object takes. Where they are fewer than 2^32, its values are too.
-#[tactic(auto, unfolding(crate::specs::NewObject::new_object))]
-pub fn cells_of(shape: Shape<'_>) -> u64
-    ensures value { result ≡ size_by class_size (new_object shape.entry) }
-    ensures short { result < 2 ^ 32 → length (new_object shape.entry).values < 2 ^ 32 }
-{
-    match shape {
-        Shape::Instance { class, fields } => ClassId::Instance(class).size(fields.len() as u64),
-        Shape::Array { component, length } => array_cells(component, length),
-    }
-}
 
 // The value that a variable begins with (JVMS 2.3, 2.4).
 fn default_value(operand: OperandType) -> Value
@@ -120,5 +87,5 @@ pub fn make(alloc: Global, serial: u64, shape: Shape<'_>) -> Result<Slot, AllocE
     ensures { IfOk result (λ slot. slot ≡ Some (numbered serial (new_object shape.entry))) }
 {
     let values = values_of(alloc, shape)?;
-    Ok(Slot::taken(serial, class_of(shape), values))
+    Ok(Slot::taken(serial, shape.class(), values))
 }

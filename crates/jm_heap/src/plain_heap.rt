@@ -13,6 +13,7 @@ ghost use Rattle.jm_values.specs.Content.{Content, HasValue, IsSet, IsSound, Kep
 ghost use Rattle.jm_heap.specs.declared.class_id.ClassId.{ClassId};
 
 use crate::class_id::ClassId;
+use crate::elements::Elements;
 use crate::fault::HeapFault;
 use crate::heap::{Heap, Kind};
 use crate::mark::mark;
@@ -144,7 +145,7 @@ impl PlainHeap {
         ensures same { OnErr result (self.new ≡ self.old) }
         ensures err { IfErr result (IsRefusedHere self.old (new_object shape.entry)) }
     {
-        let cells = new_object::cells_of(shape);
+        let cells = shape.cells();
         if cells > self.limit as u64 - self.used {
             return Ok(None);
         }
@@ -320,8 +321,9 @@ impl Heap for PlainHeap {
     }
 
     #[inline]
-    fn object(&self, place: Place) -> (ClassId, &[Value]) {
-        PlainHeap::object(self, place)
+    fn object(&self, place: Place) -> (ClassId, Elements<'_>) {
+        let (class, values) = PlainHeap::object(self, place);
+        (class, Elements::Fields(values))
     }
 
     fn get(&self, place: Place, index: u32) -> Value {

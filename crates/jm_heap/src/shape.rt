@@ -1,6 +1,12 @@
 // What object is to be made.
 
-use crate::class_id::Component;
+ghost use Rattle.std.specs.Prelude.{◌≡◌, ◌<◌, ◌^◌, length};
+ghost use Rattle.jm_values.specs.Objects.{size_by};
+ghost use Rattle.jm_heap.specs.Cells.{class_size};
+ghost use Rattle.jm_heap.specs.NewObject.{new_object};
+ghost use Rattle.jm_heap.specs.declared.class_id.ClassId.TheVariants.{Array};
+
+use crate::class_id::{ClassId, Component};
 use jm_program::OperandType;
 
 /// An object that is to be made: an instance of a class, by its number, with the kinds of all its
@@ -15,4 +21,40 @@ pub enum Shape<'a> {
         component: Component,
         length: u32,
     },
+}
+
+// The cells of an array of so many elements.
+#[inline]
+fn array_cells(component: Component, count: u32) -> u64
+    ensures value { result ≡ class_size (Array component) count }
+    ensures few { count < 2 ^ 32 }
+{
+    ClassId::Array(component).size(count as u64)
+}
+
+impl Shape<'_> {
+    /// The class of the instance, or the type of the array.
+    #[inline]
+    #[tactic(auto, unfolding(crate::specs::NewObject::new_object))]
+    pub fn class(self) -> ClassId
+        ensures { result ≡ (new_object self.entry).type }
+    {
+        match self {
+            Shape::Instance { class, .. } => ClassId::Instance(class),
+            Shape::Array { component, .. } => ClassId::Array(component),
+        }
+    }
+
+    /// The cells that the object takes. Where they are fewer than 2^32, its values are too.
+    #[inline]
+    #[tactic(auto, unfolding(crate::specs::NewObject::new_object))]
+    pub fn cells(self) -> u64
+        ensures value { result ≡ size_by class_size (new_object self.entry) }
+        ensures short { result < 2 ^ 32 → length (new_object self.entry).values < 2 ^ 32 }
+    {
+        match self {
+            Shape::Instance { class, fields } => ClassId::Instance(class).size(fields.len() as u64),
+            Shape::Array { component, length } => array_cells(component, length),
+        }
+    }
 }

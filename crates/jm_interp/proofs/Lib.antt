@@ -25,6 +25,7 @@ pub mod MonitorRows
 pub mod MadeOnTop
 pub mod NewPlaces
 pub mod ArrayRows
+pub mod Fitting
 pub mod ArrayStores
 pub mod TypeRows
 pub mod FieldPlaces

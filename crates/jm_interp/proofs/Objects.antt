@@ -1,5 +1,5 @@
 -- The object of a place that a machine holds.
-use Rattle.std.proofs.Common.{◌≡◌, ℕ, List, Option, Some, sym, ap, ◌∙◌}
+use Rattle.std.proofs.Common.{◌≡◌, ℕ, List, Option, Some, sym, ap, ◌∙◌, subst}
 use Rattle.std.specs.Prelude.{slice_get, option_map}
 use Rattle.jm_values.specs.Shape.{Among}
 use Rattle.jm_values.specs.Content.{Content, name_of, serial_at, object_at}
@@ -13,6 +13,7 @@ use Rattle.jm_state.specs.declared.state.State.{State}
 use Rattle.jm_state.specs.declared.thread.StackFrame.{StackFrame}
 use Rattle.jm_interp.specs.declared.at.At.{At}
 use Rattle.jm_interp.specs.At.{parts_at, OnThread}
+use Rattle.jm_interp.specs.Strings.{OfObject}
 use Rattle.jm_values.proofs.SoundContents.{object_of_place, name_is}
 use Rattle.jm_world.proofs.Changed.{reach_shared, place_stands}
 
@@ -56,3 +57,12 @@ module _ {H : Type 0} {content : H → Content ClassId} {at : At} {old : State H
   pub told : {place : ℕ} {P : ObjectOf ClassId → Type 0} (t : IsObject place)
       → ((k : ℕ) (o : ObjectOf ClassId) → serial_at (content old.heap) place ≡ Some k → object_at (content old.heap) k ≡ Some o → P o) → P t.object
   told t say = say t.serial t.object t.serial_is t.object_is
+
+  -- what is so of it is so of whatever object lies there
+  pub said : {place : ℕ} (P : ObjectOf ClassId → Type 0) (t : IsObject place) → P t.object → OfObject (content old.heap) place P
+  said P t is k o serial object =
+      let serials : Some t.serial ≡ Some k = sym t.serial_is ∙ serial in
+      let same : t.serial ≡ k = cc in
+      let objects : Some t.object ≡ Some o = sym t.object_is ∙ ap (object_at (content old.heap)) same ∙ object in
+      let it : t.object ≡ o = cc in
+      subst P it is

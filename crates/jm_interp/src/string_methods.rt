@@ -7,7 +7,7 @@ ghost use Rattle.jm_interp.specs.StringMethods.{LengthGives, CharGives};
 
 use crate::arrays::{index_in, value_of};
 use crate::at::At;
-use crate::strings::chars_of;
+use crate::strings::{chars_of, unit_of};
 use crate::top_object::Refusal;
 use jm_builtins::BuiltInClass;
 use jm_heap::Heap;
@@ -54,8 +54,9 @@ pub(crate) fn char_at<H: Heap>(
     let Some(chars) = chars_of(&state.heap, string) else {
         return Err(Refusal::Faults(TagFault::WrongKind));
     };
-    match index_in(index, state.heap.length(chars)) {
-        Some(index) => Ok(state.heap.get(chars, index)),
+    let (_class, units) = state.heap.object(chars);
+    match index_in(index, units.len() as u32) {
+        Some(index) => Ok(unit_of(units, index as usize)),
         None => Err(Refusal::Throws(BuiltInClass::StringIndexOutOfBoundsException)),
     }
 }

@@ -1,16 +1,17 @@
 // The chars of a String (JVMS 2.4, 5.1).
 
-ghost use Rattle.std.specs.Prelude.{◌≡◌, ℕ, [], ◌∷◌, ◌++◌, IfOk, IfSome, MatchResult, Some, option_map};
+ghost use Rattle.std.specs.Prelude.{◌≡◌, ◌<◌, ℕ, [], ◌∷◌, ◌++◌, IfOk, IfSome, MatchResult, Some, length, option_map, slice_get};
 ghost use Rattle.jm_values.specs.Content.{AllResident, name_of, serial_at, object_at};
 ghost use Rattle.jm_values.specs.Objects.{ObjectOf};
 ghost use Rattle.jm_world.specs.Text.{units_of, utf8_text};
+ghost use Rattle.jm_heap.specs.Elements.{elements};
 ghost use Rattle.jm_heap.specs.declared.class_id.ClassId.{ClassId};
 ghost use Rattle.jm_interp.specs.Characters.{Continues, IsHalf, Said, WritesUnits};
 ghost use Rattle.jm_interp.specs.Strings.{is_string, chars_of, LiesAt, OfObject, StringGives, StringHalts};
 
 use crate::characters::{char_of, write_end, write_unit};
 use jm_builtins::BuiltInClass;
-use jm_heap::{ClassId, Heap};
+use jm_heap::{ClassId, Elements, Heap};
 use jm_state::Halt;
 use jm_values::{Place, TagFault, Value};
 use jm_world::Stop;
@@ -37,16 +38,31 @@ pub(crate) fn chars_of<H: Heap>(heap: &H, string: Place) -> Option<Place>
         → chars_of o ≡ option_map (name_of (H.content heap.now)) result }
     ensures resident { IfSome result (λ chars. AllResident (H.content heap.now) (chars ∷ [])) }
 {
-    let (class, values) = heap.object(string);
+    let (class, elements) = heap.object(string);
     if !is_string(class) {
         return None;
     }
+    let Elements::Fields(values) = elements else {
+        return None;
+    };
     match values.get(0) {
         Some(first) => match first {
             Value::Ref(chars) => Some(*chars),
             Value::Int(_) | Value::Long(_) | Value::Null => None,
         },
         None => None,
+    }
+}
+
+/// One of the elements of an array of chars, or of whatever else stands in its place.
+#[inline(always)]
+pub(crate) fn unit_of(units: Elements<'_>, number: usize) -> Value
+    requires { number < length (elements units) }
+    ensures { slice_get (elements units.entry) number ≡ Some result }
+{
+    match units {
+        Elements::Chars(units) => Value::Int(i32::from(units[number])),
+        _ => units.get(number),
     }
 }
 
@@ -75,8 +91,9 @@ fn write_chars<H: Heap>(output: &mut Vec<u8>, heap: &H, array: Place) -> Result<
         (λ e. Continues output.old.items output.new.items) }
 {
     let mut half = None;
-    for index in 0..heap.length(array) {
-        half = match write_element(output, half, heap.get(array, index)) {
+    let (_class, units) = heap.object(array);
+    for index in 0..units.len() {
+        half = match write_element(output, half, unit_of(units, index)) {
             Ok(half) => half,
             Err(refused) => return Err(refused),
         };

@@ -9,9 +9,10 @@ use Rattle.jm_builtins.specs.declared.built_in_class.BuiltInClass.TheVariants.{S
 use Rattle.jm_values.specs.declared.value.Value.{Value}
 use Rattle.jm_values.specs.declared.value.Value.TheVariants.{Int, Null, Ref}
 use Rattle.jm_values.specs.Objects.{ObjectOf, copies, size_by}
-use Rattle.jm_values.specs.Content.{Content, AllResident, HasValue, IsSet, name_of}
+use Rattle.jm_values.specs.Content.{Content, AllResident, HasValue, IsSet, name_of, serial_at, object_at}
 use Rattle.jm_values.proofs.SoundContents.{name_is}
 use Rattle.jm_heap.specs.Cells.{class_size}
+use Rattle.jm_heap.specs.Packing.{Fits, kind_of}
 use Rattle.jm_heap.specs.declared.class_id.ClassId.{ClassId}
 use Rattle.jm_heap.specs.declared.class_id.ClassId.TheVariants.{Instance, Array}
 use Rattle.jm_heap.specs.declared.class_id.Element.TheVariants.{Base}
@@ -22,7 +23,7 @@ use Rattle.jm_machine.specs.Start.{IsEmpty}
 use Rattle.jm_machine.specs.FirstObjects.{Holds, HasRoomFor, HasLast, Adds, Turns, cells_of_all, stream, arguments, char_array, blank_chars}
 use Rattle.jm_machine.specs.FirstObjects.{string_of, literal_objects, first_objects}
 use Rattle.jm_machine.proofs.Counting.{first_more, next_fits, both_fit}
-use Rattle.jm_machine.proofs.Holding.{last_set, holds_none, empty_sound}
+use Rattle.jm_machine.proofs.Holding.{last_set, holds_none, empty_sound, only_object}
 
 cells_append : (xs ys : List (ObjectOf ClassId)) → cells_of_all (xs ++ ys) ≡ cells_of_all xs + cells_of_all ys
 cells_append [] ys = omega arith
@@ -89,6 +90,13 @@ module _ (old mid : Content ClassId) (r0 r1 : List ℕ) (some : 0 < length r0) (
         let lies = made.places (length room.objects) place (string_at room.objects room.holds) in
         let is = made.objects_are (length room.objects) blank_string (get_end room.objects blank_string) in
         (Null, (length room.objects, blank_string, lies, is, refl))
+
+    pub field_fits : (v : Value) (k : ℕ) (o : ObjectOf ClassId) → serial_at mid place ≡ Some k → object_at mid k ≡ Some o → Fits (kind_of o.type) v
+    unfolding field_there
+    field_fits v k o lies is =
+        let there = field_there.1 in
+        let same = only_object mid place there.0 k there.1 o there.2 there.3 lies is in
+        subst (λ x. Fits (kind_of x.type) v) (sym same) tt
 
     pub chars_there : AllResident mid (chars ∷ [])
     chars_there p (inl e) = (last, made.places last p (at_chars ∙ ap Some (sym e)))

@@ -7,13 +7,15 @@ use Rattle.jm_program.specs.declared.descriptor.BaseType.TheVariants as base
 use Rattle.jm_values.specs.declared.value.Value.{Value}
 use Rattle.jm_values.specs.declared.value.Value.TheVariants.{Int}
 use Rattle.jm_values.specs.Objects.{ObjectOf, copies}
-use Rattle.jm_values.specs.Content.{Content, HasValue, IsSet}
+use Rattle.jm_values.specs.Content.{Content, HasValue, IsSet, serial_at, object_at}
 use Rattle.jm_heap.specs.declared.class_id.ClassId.{ClassId}
 use Rattle.jm_heap.specs.declared.class_id.ClassId.TheVariants.{Array}
 use Rattle.jm_heap.specs.declared.class_id.Element.TheVariants.{Base}
+use Rattle.jm_heap.specs.Packing.{Fits, kind_of}
+use Rattle.jm_heap.specs.declared.storage.Storage.TheVariants as kind
 use Rattle.jm_heap.proofs.SlotLemmas.{get_end}
 use Rattle.jm_machine.specs.FirstObjects.{Holds, HasLast, Turns, blank_chars, char_array}
-use Rattle.jm_machine.proofs.Holding.{last_set}
+use Rattle.jm_machine.proofs.Holding.{last_set, only_object}
 
 abbrev pub chars_of : List Value → ObjectOf ClassId
 chars_of vs = record { type = Array (record { dimensions = 0; element = Base base.Char }); values = vs }
@@ -79,6 +81,14 @@ module _ (old now : Content ClassId) (roots us : List ℕ) (p n many : ℕ) (l :
       let lies = h.places (length l.front) p (last_at l.front l.holds) in
       let is = h.objects_are (length l.front) (filled_chars us n) (get_end l.front (filled_chars us n)) in
       (Int (pos 0), (length l.front, filled_chars us n, lies, is, next_is us n (get_or us n 0) here))
+
+  pub element_fits : (v : Value) → Fits kind.Chars v → (k : ℕ) (o : ObjectOf ClassId) → serial_at now p ≡ Some k → object_at now k ≡ Some o
+      → Fits (kind_of o.type) v
+  unfolding element_there
+  element_fits v fits k o lies is =
+      let there = element_there.1 in
+      let same = only_object now p there.0 k there.1 o there.2 there.3 lies is in
+      subst (λ x. Fits (kind_of x.type) v) (sym same) fits
 
   pub element_set : (new : Content ClassId) (v : Value) → v ≡ Int (pos (get_or us n 0)) → IsSet now new p n v
       → Turns old new roots (blank_chars us) (filled_chars us (n + 1))

@@ -5,9 +5,11 @@ use Rattle.std.proofs.lemmas.Bool.{le-ltb}
 use Rattle.std.proofs.lemmas.Bool.Decides.{nat_tests}
 use Rattle.std.proofs.lemmas.List.{length-map, take_all, take_more}
 use Rattle.std.proofs.lemmas.List.Sums.{sum_by-cons, sum_by_more_le}
+use Rattle.jm_program.specs.declared.descriptor.BaseType.TheVariants as base
+use Rattle.jm_values.specs.Objects.{cells_of_elements}
 use Rattle.jm_values.specs.declared.value.Value.TheVariants.{Int}
 use Rattle.jm_heap.specs.Cells.{class_size}
-use Rattle.jm_machine.specs.FirstObjects.{first_objects, objects_from, literal_objects, cells_of_all}
+use Rattle.jm_machine.specs.FirstObjects.{first_objects, objects_from, literal_cells, literal_objects, cells_of_all}
 
 objects_more : (k : ℕ) (us : List (List ℕ)) (t : List ℕ)
     → objects_from k (us ++ t ∷ []) ≡ objects_from k us ++ literal_objects (k + length (objects_from k us)) t
@@ -25,22 +27,18 @@ first_more ts i t within is =
     sym (ap first_objects (take_more ts i t within ∙ ap (λ x. us ++ x ∷ []) (sym is))
     ∙ ap (λ os. first_objects [] ++ os) (objects_more 2 us t ∙ ap (λ j. objects_from 2 us ++ literal_objects j t) number))
 
--- a literal takes 3 cells and one for each char, and 3 of its String
-abbrev pub literal_cells : List ℕ → ℕ
-literal_cells t = 6 + length t
-
 literal_size : (k : ℕ) (t : List ℕ) → cells_of_all (literal_objects k t) ≡ literal_cells t
 unfolding class_size
-literal_size k t = let many = length-map t (λ u. Int (pos u)) in omega (arith, many)
+literal_size k t = let chars = ap (cells_of_elements base.Char) (length-map t (λ u. Int (pos u))) in omega (arith, chars)
 
 from_cells : (k : ℕ) (ts : List (List ℕ)) → cells_of_all (objects_from k ts) ≡ sum_by literal_cells ts
 unfolding class_size
 from_cells k [] = refl
 from_cells k (t ∷ ts) =
-    let many = length-map t (λ u. Int (pos u)) in
+    let one = literal_size k t in
     let rest = from_cells (k + 2) ts in
     let total = sum_by-cons literal_cells t ts in
-    omega (arith, many, rest, total)
+    omega (arith, one, rest, total)
 
 pub first_cells : (ts : List (List ℕ)) → cells_of_all (first_objects ts) ≡ 5 + sum_by literal_cells ts
 unfolding class_size
@@ -74,7 +72,7 @@ within_at ts limit left i so_far past =
     sym (le-ltb limit (cells_of_all (first_objects ts)) (omega (arith, all, so_far, whole)))
 
 pub passed_at : (ts : List (List ℕ)) (limit left i : ℕ) (t : List ℕ) → left + (5 + sum_by literal_cells (take i ts)) ≡ limit → i < length ts
-    → t ≡ get_or ts i t → left < 6 + length t → true ≡ nat_lt limit (cells_of_all (first_objects ts))
+    → t ≡ get_or ts i t → left < literal_cells t → true ≡ nat_lt limit (cells_of_all (first_objects ts))
 passed_at ts limit left i t so_far inside is less =
     let most = sum_by_more_le literal_cells ts i t inside in
     let one = ap literal_cells is in

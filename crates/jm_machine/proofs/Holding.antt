@@ -79,6 +79,14 @@ module _ (c : Content ClassId) (roots : List ℕ) (objects : List (ObjectOf Clas
   pub used : used_by class_size c roots ≤ cells_of_all objects
   used = used_at_most c roots objects object_is
 
+-- one object lies at a place
+pub only_object : (c : Content ClassId) (p k j : ℕ) (o x : ObjectOf ClassId) → serial_at c p ≡ Some k → object_at c k ≡ Some o
+    → serial_at c p ≡ Some j → object_at c j ≡ Some x → x ≡ o
+only_object c p k j o x lies is again that =
+    let number : k ≡ j = cc in
+    let both : Some o ≡ Some x = sym is ∙ ap (object_at c) number ∙ that in
+    cc
+
 -- each object takes 2 cells at least
 at_least : (t : ClassId) (n : ℕ) → 2 ≤ class_size t n
 unfolding class_size

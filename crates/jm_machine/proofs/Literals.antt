@@ -14,7 +14,7 @@ use Rattle.jm_world.specs.Loading as model
 use Rattle.jm_world.specs.Loading.{literal_texts, literals_from, is_too_small}
 use Rattle.jm_world.specs.Matches.{as_named}
 use Rattle.jm_world.specs.Objects as world
-use Rattle.jm_world.specs.Objects.{new_array, size_of}
+use Rattle.jm_world.specs.Objects.{new_array}
 use Rattle.jm_world.specs.Renaming.{literal_shape}
 use Rattle.jm_world.specs.Types.{class_type, instance_of}
 use Rattle.jm_world.specs.World.{Literal}
@@ -24,6 +24,7 @@ use Rattle.jm_heap.specs.declared.class_id.ClassId.TheVariants.{Instance, Array}
 use Rattle.jm_linked.specs.Links.{class_name_of}
 use Rattle.jm_linked.specs.Named.{named_literals}
 use Rattle.jm_state.specs.Parts.{named_type}
+use Rattle.jm_state.proofs.Sizes.{sizes_alike}
 use Rattle.jm_machine.specs.FirstObjects.{Holds, AreStrings, objects_from, first_objects, cells_of_all}
 use Rattle.jm_machine.proofs.Holding.{among_index, object_is}
 
@@ -64,11 +65,6 @@ first_objects_named program =
     (objects_named program 2 (literal_texts program))
 
 -- their cells are those of the world's
-sizes_alike : (program : List ClassParts) (t : ClassId) (n : ℕ) → size_of (named_type program t) n ≡ class_size t n
-unfolding named_type size_of class_size
-sizes_alike program (Instance class) n = refl
-sizes_alike program (Array component) n = refl
-
 cells_named : (program : List ClassParts) (os : List (ObjectOf ClassId)) → world.cells_of_all (map (as_named (named_type program)) os) ≡ cells_of_all os
 cells_named program [] = refl
 cells_named program (o ∷ os) =

@@ -17,6 +17,7 @@ use Rattle.jm_heap.specs.declared.class_id.ClassId.{ClassId}
 use Rattle.jm_heap.specs.declared.class_id.ClassId.TheVariants.{Instance, Array}
 use Rattle.jm_linked.specs.Links.{LinkedView}
 use Rattle.jm_state.specs.Parts.{named_type}
+use Rattle.jm_state.proofs.Sizes.{sizes_alike}
 use Rattle.jm_machine.specs.ReachedObjects.{AreInOrder, numbered_cells, view_of_objects}
 use Rattle.jm_machine.specs.Seen.{object_or_none, object_seen}
 use Rattle.jm_machine.proofs.ReachedObjects.{rising_differ}
@@ -76,13 +77,8 @@ residents_most c ks d = cells_within c.residents ks d
 
 -- an object takes as many cells as the world says
 module _ (program : List ClassParts) where
-  size_named : (t : ClassId) (n : ℕ) → size_of (named_type program t) n ≡ class_size t n
-  unfolding named_type size_of class_size
-  size_named (Instance class) n = refl
-  size_named (Array component) n = refl
-
   seen_size : (o : Option (ObjectOf ClassId)) (x : ObjectOf ClassId) → o ≡ Some x → size (object_or_none (named_type program) o) ≡ cells_of class_size o
-  seen_size o x e = ap (λ y. size (object_or_none (named_type program) y)) e ∙ size_named x.type (length x.values) ∙ sym (ap (cells_of class_size) e)
+  seen_size o x e = ap (λ y. size (object_or_none (named_type program) y)) e ∙ sizes_alike program x.type (length x.values) ∙ sym (ap (cells_of class_size) e)
 
 module _ (l : LinkedView) (c : Content ClassId) where
   -- the cells of the object at a place

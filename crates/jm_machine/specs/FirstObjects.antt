@@ -4,7 +4,7 @@ use Rattle.jm_program.specs.declared.descriptor.BaseType.TheVariants as base
 use Rattle.jm_builtins.specs.Numbers.{number_of}
 use Rattle.jm_builtins.specs.declared.built_in_class.BuiltInClass.TheVariants.{String, PrintStream}
 use Rattle.jm_values.specs.declared.value.Value.TheVariants.{Int, Ref}
-use Rattle.jm_values.specs.Objects.{ObjectOf, copies, size_by}
+use Rattle.jm_values.specs.Objects.{ObjectOf, cells_of_elements, copies, size_by}
 use Rattle.jm_values.specs.Content.{Content, IsSound, serial_at, object_at}
 use Rattle.jm_heap.specs.Cells.{class_size}
 use Rattle.jm_heap.specs.declared.class_id.ClassId.{ClassId}
@@ -28,6 +28,10 @@ string_of chars = record { type = Instance (number_of String); values = Ref char
 
 abbrev pub literal_objects : ℕ → List ℕ → List (ObjectOf ClassId)
 literal_objects chars text = char_array text ∷ string_of chars ∷ []
+
+-- a literal takes 3 cells and those of its chars, and 3 of its String
+abbrev pub literal_cells : List ℕ → ℕ
+literal_cells text = 6 + cells_of_elements base.Char (length text)
 
 -- the objects of literals, numbered from a number on
 abbrev pub objects_from : ℕ → List (List ℕ) → List (ObjectOf ClassId)

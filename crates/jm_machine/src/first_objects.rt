@@ -3,9 +3,11 @@
 ghost use Rattle.std.specs.Prelude.{◌≡◌, ◌≤◌, ◌<◌, ◌-◌, ◌^◌, ◌∷◌, [], IfOk, OnOk, nat_lt, length, pos};
 ghost use Rattle.jm_values.specs.declared.value.Value.TheVariants.{Int};
 ghost use Rattle.jm_heap.specs.NewObject.{new_object};
+ghost use Rattle.jm_heap.specs.Packing.{Fits};
+ghost use Rattle.jm_heap.specs.declared.storage.Storage.TheVariants as kind;
 ghost use Rattle.jm_machine.specs.Start.{IsEmpty};
 ghost use Rattle.jm_machine.specs.FirstObjects.{Holds, HasRoomFor, Adds, Turns, HasLast, blank_chars, char_array, string_of, literal_objects};
-ghost use Rattle.jm_machine.specs.FirstObjects.{first_objects, cells_of_all, AreStrings};
+ghost use Rattle.jm_machine.specs.FirstObjects.{first_objects, literal_cells, cells_of_all, AreStrings};
 
 use crate::fault::OutOfMemory;
 use jm_builtins::BuiltInClass;
@@ -18,12 +20,25 @@ const STRING: u32 = BuiltInClass::String as u32;
 
 const PRINT_STREAM: u32 = BuiltInClass::PrintStream as u32;
 
+// What the array of a literal's chars holds.
+const CHARS: Component = Component {
+    dimensions: 0,
+    element: Element::Base(BaseType::Char),
+};
+
 // The cells that the print stream of System.out and main's empty array take: an instance takes 2 and
-// one for each field, an array 3 and one for each element.
+// one for each field, an array 3 and those of its elements.
 const FIRST_CELLS: u64 = 5;
 
-// The cells that a literal takes beside one for each of its chars: 3 of its array, and 3 of its String.
+// The cells that a literal takes beside those of its chars: 3 of its array, and 3 of its String.
 const LITERAL_CELLS: u64 = 6;
+
+// The cells of a literal.
+fn literal_cells(text: &[u16]) -> u64
+    ensures { result ≡ literal_cells text.now }
+{
+    LITERAL_CELLS + CHARS.cells(text.len() as u64)
+}
 
 /// Whether the first objects of a program with these literals pass a limit.
 pub(crate) fn pass_limit(literals: &[Shared<Sequence<u16>>], limit: u64) -> bool
@@ -33,8 +48,7 @@ pub(crate) fn pass_limit(literals: &[Shared<Sequence<u16>>], limit: u64) -> bool
         return true;
     };
     for text in literals {
-        let cells = LITERAL_CELLS + text.as_slice().len() as u64;
-        match left.checked_sub(cells) {
+        match left.checked_sub(literal_cells(text.as_slice())) {
             Some(rest) => left = rest,
             None => return true,
         }
@@ -63,7 +77,8 @@ fn make_object<H: Heap>(
 
 // A char as a value (JVMS 2.3.1).
 fn char_value(unit: u16) -> Value
-    ensures { result ≡ Int (pos unit) }
+    ensures value { result ≡ Int (pos unit) }
+    ensures fits { Fits kind.Chars result }
 {
     Value::Int(i32::from(unit))
 }
@@ -91,10 +106,7 @@ fn make_chars<H: Heap>(heap: &mut H, roots: &mut Roots, text: &[u16]) -> Result<
         return Err(OutOfMemory);
     };
     let array = Shape::Array {
-        component: Component {
-            dimensions: 0,
-            element: Element::Base(BaseType::Char),
-        },
+        component: CHARS,
         length,
     };
     make_object(heap, roots, array)?;

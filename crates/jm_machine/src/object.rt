@@ -100,17 +100,13 @@ impl<'a, H: Heap> WorldObject<'a, H> {
         self.heap.length(self.place)
     }
 
-    /// The cells that it takes: an instance 2 and one for each field, an array 3 and one for each
-    /// element, where a long is one.
-    #[tactic(auto, unfolding(jm_world::specs::Objects::size_of))]
+    /// The cells that it takes: an instance 2 and one for each field, an array 3 and those of its
+    /// elements, packed.
     pub fn cells(&self) -> u64
         ensures { result ≡ size self.now.object }
     {
-        let length = u64::from(self.length());
-        match self.kind() {
-            ObjectKind::Instance { .. } => 2 + length,
-            ObjectKind::Array { .. } => 3 + length,
-        }
+        let class = self.heap.class_of(self.place);
+        class.size(self.length() as u64)
     }
 
     /// The value of a field, of those of the topmost superclass first, in a class as declared, or

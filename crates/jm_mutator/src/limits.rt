@@ -44,8 +44,8 @@ pub fn fills_to_the_limit<H: Heap>(mutator: &mut Mutator<H>) -> Result<(), Failu
     mutator.make(node())?;
     mutator.make(node())?;
     mutator.set_int(0, 0, 42)?;
-    let room = mutator.limit().saturating_sub(7);
-    let length = u32::try_from(room).unwrap_or(u32::MAX);
+    let ints = mutator.limit().saturating_sub(7).saturating_mul(2);
+    let length = u32::try_from(ints).unwrap_or(u32::MAX);
     for _ in 0..4 {
         fill(mutator, length)?;
     }

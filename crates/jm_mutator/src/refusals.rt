@@ -88,7 +88,7 @@ pub fn a_refusal_leaves_all_as_it_was<H: Heap>(
     mutator.copy(0, 1)?;
     mutator.copy(0, 2)?;
     for number in 0..count {
-        make_after_refusal(mutator, 3, ints(9), number)?;
+        make_after_refusal(mutator, 3, ints(18), number)?;
         make_after_refusal(mutator, 3, node(), number)?;
         mutator.set_int(3, 0, number.cast_signed())?;
         mutator.link(3, 1, 1)?;

@@ -13,7 +13,7 @@ pub fn node<'a>() -> Shape<'a> {
     }
 }
 
-/// An array of ints: 3 cells and one for each.
+/// An array of ints: 3 cells and one for each two.
 pub fn ints<'a>(length: u32) -> Shape<'a> {
     Shape::Array {
         component: Component {

@@ -1,12 +1,18 @@
 // The nurseries of the workers.
 
-ghost use Rattle.std.specs.Prelude.{◌≡◌, ℕ, ◌+◌, ◌*◌, ◌/◌, ◌%◌, ◌<◌, ◌≤◌, ◌^◌, [], Some, IfOk, OnErr, length, map, slice_get, replicate, nat_le};
+ghost use Rattle.std.specs.Prelude.{◌≡◌, ℕ, ◌+◌, ◌-◌, ◌*◌, ◌/◌, ◌%◌, ◌<◌, ◌≤◌, ◌^◌, [], Some, IfOk, OnErr, length, map, slice_get, replicate, nat_le};
 ghost use Rattle.jm_values.specs.Objects.{default_of};
-ghost use Rattle.jm_blocks.specs.Objects.{object_of};
+ghost use Rattle.jm_blocks.specs.Objects.{Object, object_of};
+ghost use Rattle.jm_heap.specs.Elements.{elements, element_kind};
+ghost use Rattle.jm_heap.specs.Packing.{Fits, kind_of};
+ghost use Rattle.jm_heap.specs.declared.storage.Storage.TheVariants as kind;
+ghost use Rattle.jm_blocks.specs.Places.{lane_of};
+ghost use Rattle.jm_blocks.specs.Stores.{Blocks, objects_in};
 ghost use Rattle.jm_blocks.specs.Cells.{object_cells};
 ghost use Rattle.jm_nursery.specs.Nurseries.{Young, AreNurseries, HasYoungValue, IsMade, IsWritten, quota, young_cells, nursery_at};
 
 use jm_blocks::{BlockStore, Header, Position};
+use jm_heap::Elements;
 use jm_program::OperandType;
 use jm_values::{Place, Value};
 use std::alloc::{AllocError, Global};
@@ -125,7 +131,8 @@ impl Nurseries {
         value: Value,
         count: u32,
     ) -> Result<Place, AllocError>
-        requires { let o = object_of header (replicate count value) in young_cells self.old.lanes + object_cells o ≤ self.old.limit }
+        requires room { let o = object_of header (replicate count value) in young_cells self.old.lanes + object_cells o ≤ self.old.limit }
+        requires fits { Fits (kind_of header.class) value }
         ensures ok { let o = object_of header (replicate count value) in IfOk result (λ p. IsMade self.old self.new (worker % 16) p o) }
         ensures err { OnErr result (self.new ≡ self.old) }
     {
@@ -144,11 +151,12 @@ impl Nurseries {
         alloc: Global,
         worker: usize,
         header: Header,
-        values: &[Value],
+        values: Elements<'_>,
     ) -> Result<Place, AllocError>
-        requires short { length values.now < 2 ^ 32 }
-        requires room { young_cells self.old.lanes + object_cells (object_of header values.now) ≤ self.old.limit }
-        ensures ok { IfOk result (λ p. IsMade self.old self.new (worker % 16) p (object_of header values.now)) }
+        requires short { length (elements values) < 2 ^ 32 }
+        requires same { element_kind values ≡ kind_of header.class }
+        requires room { young_cells self.old.lanes + object_cells (object_of header (elements values)) ≤ self.old.limit }
+        ensures ok { IfOk result (λ p. IsMade self.old self.new (worker % 16) p (object_of header (elements values.entry))) }
         ensures err { OnErr result (self.new ≡ self.old) }
     {
         let size = header.class.size(values.len() as u64);
@@ -171,6 +179,7 @@ impl Nurseries {
     ) -> Result<Place, AllocError>
         requires short { length fields.now < 2 ^ 32 }
         requires room { young_cells self.old.lanes + object_cells (object_of header (map default_of fields.now)) ≤ self.old.limit }
+        requires instance { kind.Fields ≡ kind_of header.class }
         ensures ok { IfOk result (λ p. IsMade self.old self.new (worker % 16) p (object_of header (map default_of fields.now))) }
         ensures err { OnErr result (self.new ≡ self.old) }
     {
@@ -183,9 +192,10 @@ impl Nurseries {
     }
 
     /// Changes one value of the object at a place in the lane of a nursery.
-    #[inline]
+    #[inline(always)]
     pub fn set(&mut self, place: Place, number: usize, value: Value)
-        requires { HasYoungValue self.old.lanes place number }
+        requires there { HasYoungValue self.old.lanes place number }
+        requires fits { (s : Blocks) (o : Object) → slice_get self.old.lanes (lane_of place - 1) ≡ Some s → objects_in s place ≡ Some o → Fits (kind_of o.class) value }
         ensures { IsWritten self.old self.new place number value }
     {
         let position = Position::of(place);

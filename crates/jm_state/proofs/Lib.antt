@@ -1,5 +1,6 @@
 pub mod Gathered
 pub mod Alike
+pub mod Sizes
 pub mod Made
 pub mod Runs
 pub mod Popping

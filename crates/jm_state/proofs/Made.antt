@@ -33,14 +33,9 @@ use Rattle.jm_state.specs.Places.{IsPutBack, places_of}
 use Rattle.jm_state.specs.Reached.{AreReachable, FindsReachable, LeavesReachable}
 use Rattle.jm_state.specs.Runnable.{IsRunnable}
 use Rattle.jm_state.specs.View.{StateView}
+use Rattle.jm_state.proofs.Sizes.{sizes_alike}
 use Rattle.jm_state.proofs.Runs.{serials_alike, monitors_alike, runs_alike}
 use Rattle.jm_state.proofs.Alike.{places_are, held_put}
-
--- a heap counts an object's cells as the world does
-sizes_alike : (program : List ClassParts) (t : ClassId) (n : ℕ) → size_of (named_type program t) n ≡ class_size t n
-unfolding named_type size_of class_size
-sizes_alike program (Instance class) n = refl
-sizes_alike program (Array component) n = refl
 
 -- what a heap did, beside the world of the parts before
 module _ {m new : Parts ClassId} {w : World} (h : Matches m w) (a : HasMoved m new) (sizes : (t : ClassId) (n : ℕ) → size_of (m.named t) n ≡ class_size t n)

@@ -2,6 +2,7 @@
 
 mod cases;
 mod collections;
+mod elements;
 mod journals;
 mod programs;
 mod readers;

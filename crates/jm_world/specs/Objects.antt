@@ -1,12 +1,14 @@
 -- Objects of a program: their types by name, their fields and their sizes (JVMS 2.5.3, 2.7).
-use Rattle.std.specs.Prelude.{ℕ, ◌+◌, List, [], ◌∷◌, map, Option, Some, None, Bool, true, false, not, reverse}
+use Rattle.std.specs.Prelude.{ℕ, zero, suc, ◌+◌, List, [], ◌∷◌, map, Option, Some, None, Bool, true, false, not, reverse}
 use Rattle.std.specs.List.{filter, flat_map}
 use Rattle.jm_program.specs.Names.{same_text}
 use Rattle.jm_program.specs.Flags.{is_static}
 use Rattle.jm_program.specs.declared.class.ClassParts.{ClassParts}
 use Rattle.jm_program.specs.declared.class.Field.{Field}
+use Rattle.jm_program.specs.declared.descriptor.ElementType.{ElementType}
+use Rattle.jm_program.specs.declared.descriptor.ElementType.TheVariants.{Base, Class}
 use Rattle.jm_program.specs.declared.descriptor.FieldType.{FieldType}
-use Rattle.jm_values.specs.Objects.{ObjectOf, copies, size_by}
+use Rattle.jm_values.specs.Objects.{ObjectOf, copies, size_by, cells_of_elements}
 use Rattle.jm_world.specs.Types.{ObjectType, instance_of, array_of, same_type, default_value}
 use Rattle.jm_world.specs.Hierarchy.{chain}
 
@@ -47,11 +49,18 @@ new_instance program class = record { type = instance_of class; values = map (λ
 abbrev pub new_array : FieldType → ℕ → Object
 new_array component count = record { type = array_of component; values = copies count (default_value component) }
 
--- the cells that an object of so many values takes: 2 and its fields, or 3 and its elements; a long
--- is one cell
+-- the cells that so many elements take: those of a primitive type are packed, and a reference is one
+-- cell
+abbrev pub element_cells : ℕ → ElementType → ℕ → ℕ
+element_cells zero (Base b) n = cells_of_elements b n
+element_cells zero (Class c) n = n
+element_cells (suc d) element n = n
+
+-- the cells that an object of so many values takes: 2 and its fields, or 3 and those of its elements;
+-- a long is one cell
 unfoldable pub size_of : ObjectType → ℕ → ℕ
 size_of (instance_of class) fields = 2 + fields
-size_of (array_of component) elements = 3 + elements
+size_of (array_of component) elements = 3 + element_cells component.dimensions component.element elements
 
 abbrev pub size : Object → ℕ
 size o = size_by size_of o

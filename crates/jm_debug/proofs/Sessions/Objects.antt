@@ -45,11 +45,11 @@ the_array = main (
 
 an_array_is_cut : Goes the_array (
     (codes "step 1 13", codes "done\n")
-    ∷ (codes "object #3", codes "#3 [I 6 cells\n[0] = int 0\n[1] = int 7\n[2] = int 0\n")
+    ∷ (codes "object #3", codes "#3 [I 5 cells\n[0] = int 0\n[1] = int 7\n[2] = int 0\n")
     ∷ (codes "minor", codes "done\n")
-    ∷ (codes "object #3", codes "#3 [I 6 cells\n[0] = int 0\n[1] = int 7\n[2] = int 0\n")
+    ∷ (codes "object #3", codes "#3 [I 5 cells\n[0] = int 0\n[1] = int 7\n[2] = int 0\n")
     ∷ (codes "full", codes "done\n")
-    ∷ (codes "object #3", codes "#3 [I 6 cells\n[0] = int 0\n[1] = int 7\n[2] = int 0\n")
+    ∷ (codes "object #3", codes "#3 [I 5 cells\n[0] = int 0\n[1] = int 7\n[2] = int 0\n")
     ∷ (codes "locals 1 0", codes "0 = #1\n1 = #2\n2 = #3\n")
     ∷ (codes "step 1 2", codes "done\n")
     ∷ (codes "object #3", codes "? 81 NoSuch\n")
@@ -57,13 +57,13 @@ an_array_is_cut : Goes the_array (
 unfolding answers_within
 an_array_is_cut = refl
 
--- arrays of a hundred ints, of which the last is held, in as many cells as two of them take
+-- arrays of a hundred ints, of which the last is held, in as many cells as two of them take: 53 each
 abbrev the_loop : List ClassParts
 the_loop = main (bipush (pos 100) ∷ newarray_int ∷ astore short.One ∷ goto 0 ∷ []) ∷ []
 
-a_full_heap : GoesWithin 211 the_loop (
+a_full_heap : GoesWithin 111 the_loop (
     (codes "step 1 23", codes "done\n")
-    ∷ (codes "heap", codes "reachable 3 objects 108 cells limit 211\n#0 java/io/PrintStream\n#1 [Ljava/lang/String;\n#6 [I\n")
+    ∷ (codes "heap", codes "reachable 3 objects 58 cells limit 111\n#0 java/io/PrintStream\n#1 [Ljava/lang/String;\n#6 [I\n")
     ∷ (codes "object #1", codes "#1 [Ljava/lang/String; 3 cells\n")
     ∷ [])
 unfolding answers_within

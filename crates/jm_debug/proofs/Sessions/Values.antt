@@ -20,7 +20,7 @@ each_kind_of_value : Goes values (
     ∷ (codes "locals 1 0", codes "0 = #1\n1 = int -7\n2 = long 1\n")
     ∷ (codes "stack 1 0", codes "0 = #3\n1 = null\n2 = long 0\n")
     ∷ (codes "object #3", codes "#3 java/lang/String 3 cells\njava/lang/String.value [C = #2\n")
-    ∷ (codes "object #2", codes "#2 [C 5 cells\n[0] = int 104\n[1] = int 105\n")
+    ∷ (codes "object #2", codes "#2 [C 4 cells\n[0] = int 104\n[1] = int 105\n")
     ∷ (codes "statics java/lang/System", codes "out Ljava/io/PrintStream; = #0\n")
     ∷ (codes "statics Main", codes "none\n")
     ∷ (codes "monitors", codes "none\n")

@@ -3,7 +3,7 @@
 .method public static main([Ljava/lang/String;)V
     .limit stack 8
     .limit locals 8
-    bipush 6
+    bipush 12
     newarray int
     astore_1
     new Lacks

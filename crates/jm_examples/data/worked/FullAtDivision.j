@@ -3,7 +3,7 @@
 .method public static main([Ljava/lang/String;)V
     .limit stack 8
     .limit locals 8
-    bipush 8
+    bipush 16
     newarray int
     astore_1
     iconst_1

@@ -9,7 +9,7 @@ L0:
 L1:
 H1:
     pop
-    bipush 8
+    bipush 16
     newarray int
     astore_1
     getstatic Fails/a I

@@ -8,18 +8,23 @@ use crate::works::spaces::Spaces;
 use anyhow::{Result, bail};
 use jm_barrier::Remembered;
 use jm_blocks::BlockStore;
+use jm_heap::Storage;
 use jm_values::{Place, Value};
 use std::alloc::{AllocError, Global};
 
-// Whether there is an object with a second value at each of the places.
+// Whether there is an object with a second value, which can name it, at each of the places.
 fn have_second(store: &BlockStore, places: &[Place]) -> bool
     ensures { IsTrue result → HaveSecond store.now places.now }
 {
     for place in places {
-        let Some((_, values)) = store.object(*place) else {
+        let Some((header, values)) = store.object(*place) else {
             return false;
         };
         if values.len() < 2 {
+            return false;
+        }
+        let kind = Storage::of(header.class);
+        if !kind.holds(&Value::Ref(*place)) {
             return false;
         }
     }

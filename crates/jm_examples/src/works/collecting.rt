@@ -5,7 +5,7 @@ ghost use Rattle.std.specs.Prelude.{◌≡◌};
 use crate::works::spaces::{Spaces, make};
 use anyhow::{Error, Result};
 use jm_blocks::{BlockStore, Header};
-use jm_heap::{ClassId, Kind};
+use jm_heap::{ClassId, Elements, Kind};
 use jm_values::{Place, Value};
 use std::alloc::{AllocError, Global};
 use std::mem::replace;
@@ -37,7 +37,8 @@ fn lists(alloc: Global, store: &mut BlockStore, count: u32) -> Result<Vec<Place>
         };
         let list = number as usize % LISTS;
         let before = places.get(list).copied();
-        let place = make(alloc, store, header, &node(number, before))?;
+        let node = node(number, before);
+        let place = make(alloc, store, header, Elements::Fields(&node))?;
         match places.get_mut(list) {
             Some(last) => *last = place,
             None => places.push(place)?,

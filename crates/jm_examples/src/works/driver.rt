@@ -1,9 +1,13 @@
 // Objects by number, as they were made and linked, beside the objects that a collector moves.
 
+ghost use Rattle.std.specs.Prelude.{◌≡◌};
+ghost use Rattle.jm_heap.specs.Elements.{element_kind};
+ghost use Rattle.jm_heap.specs.Packing.{kind_of};
+
 use crate::works::spaces::{Collection, Spaces, make};
 use anyhow::{Context, Result, bail};
 use jm_blocks::Header;
-use jm_heap::{ClassId, Component, Element, Kind};
+use jm_heap::{ClassId, Component, Element, Elements, Kind};
 use jm_program::BaseType;
 use jm_values::{Place, Value};
 use std::alloc::Global;
@@ -81,12 +85,12 @@ pub struct Driver {
     count: usize,
 }
 
-// The value that stands for a wanted one where that names no object.
-fn plain(wanted: Wanted) -> Value {
-    match wanted {
-        Wanted::Int(number) => Value::Int(number),
-        _ => Value::Null,
+// The value of this number of an object, if it has one.
+fn value_of(values: Elements<'_>, number: usize) -> Option<Value> {
+    if number < values.len() {
+        return Some(values.get(number));
     }
+    None
 }
 
 impl Driver {
@@ -113,8 +117,11 @@ impl Driver {
         }
     }
 
-    // Makes the next object, each value of which is this.
-    fn make(&mut self, class: ClassId, wanted: Wanted, count: usize) -> Result<usize> {
+    // Makes the next object, of these values, each of which is the wanted one.
+    fn make(&mut self, class: ClassId, values: Elements<'_>, wanted: Wanted) -> Result<usize>
+        requires { element_kind values ≡ kind_of class }
+    {
+        let count = values.len();
         if count > 65_535 {
             bail!("an object of {count} values");
         }
@@ -124,8 +131,7 @@ impl Driver {
             class,
             age: 0,
         };
-        let values = vec![in self.alloc; plain(wanted); count]?;
-        let place = make(self.alloc, &mut self.spaces.young, header, &values)?;
+        let place = make(self.alloc, &mut self.spaces.young, header, values)?;
         self.objects.push(Model {
             class,
             values: vec![in self.alloc; wanted; count]?,
@@ -167,9 +173,9 @@ impl Driver {
 
     // Makes a list, the last node of which is a root.
     fn list(&mut self) -> Result<()> {
-        let mut last = self.make(ClassId::Instance(7), Wanted::Null, 2)?;
+        let mut last = self.instance(2)?;
         for _ in 1..self.count {
-            let node = self.make(ClassId::Instance(7), Wanted::Null, 2)?;
+            let node = self.instance(2)?;
             self.link(node, 1, last)?;
             last = node;
         }
@@ -225,9 +231,10 @@ impl Driver {
         let Some(model) = self.objects.get(number as usize) else {
             bail!("an object {number} that was never made");
         };
-        for (value, wanted) in values.iter().zip(model.values.as_slice()) {
-            if !self.is_wanted(*value, *wanted) {
-                bail!("object {number} has another value");
+        for (index, wanted) in model.values.iter().enumerate() {
+            match value_of(values, index) {
+                Some(value) if self.is_wanted(value, *wanted) => {}
+                _ => bail!("object {number} has another value"),
             }
         }
         Ok(())
@@ -347,20 +354,24 @@ impl Driver {
     }
 
     // Makes the next object, an array of so many ints, each its number.
-    fn ints(&mut self, length: usize) -> Result<()> {
+    fn ints(&mut self, length: usize) -> Result<usize> {
         let number = i32::try_from(self.objects.len()).context("too many objects")?;
         let class = ClassId::Array(Component {
             dimensions: 0,
             element: Element::Base(BaseType::Int),
         });
-        self.make(class, Wanted::Int(number), length)?;
-        Ok(())
+        let values = vec![in self.alloc; number; length]?;
+        self.make(class, Elements::Ints(&values), Wanted::Int(number))
     }
 
     // Makes the next object, an instance with so many null fields.
-    fn instance(&mut self, fields: usize) -> Result<()> {
-        self.make(ClassId::Instance(7), Wanted::Null, fields)?;
-        Ok(())
+    fn instance(&mut self, fields: usize) -> Result<usize> {
+        let values = vec![in self.alloc; Value::Null; fields]?;
+        self.make(
+            ClassId::Instance(7),
+            Elements::Fields(&values),
+            Wanted::Null,
+        )
     }
 
     // Takes all roots away.
@@ -387,8 +398,14 @@ impl Driver {
     /// Does a step, or says in what the objects differ from what is wanted.
     pub fn make_step(&mut self, step: Step) -> Result<()> {
         match step {
-            Step::Instance(fields) => self.instance(fields),
-            Step::Ints(length) => self.ints(length),
+            Step::Instance(fields) => {
+                self.instance(fields)?;
+                Ok(())
+            }
+            Step::Ints(length) => {
+                self.ints(length)?;
+                Ok(())
+            }
             Step::List => self.list(),
             Step::Link(from, number, to) => self.link(from, number, to),
             Step::LinkNewest(from, number) => self.link_newest(from, number),

@@ -4,7 +4,7 @@ use anyhow::{Result, bail};
 use jm_barrier::Remembered;
 use jm_blocks::{BlockStore, Header};
 use jm_copy::{Collector, SerialCollector};
-use jm_heap::ClassId;
+use jm_heap::{ClassId, Elements};
 use jm_nursery::{Nurseries, empty_nurseries, nursery_of};
 use jm_values::{Place, Value};
 use std::alloc::Global;
@@ -80,6 +80,14 @@ fn note_all(alloc: Global, places: &[Place]) -> Result<()> {
     Ok(())
 }
 
+// Whether values are three fields, each the int 8.
+fn are_eights(values: Elements<'_>) -> bool {
+    match values {
+        Elements::Fields(fields) => fields == [Value::Int(8); 3].as_slice(),
+        _ => false,
+    }
+}
+
 /// Fills the nurseries, hands them to a minor collection, and compares what is left: the objects of all
 /// workers, young, in the one store that the first nursery gets.
 #[tactic(auto, using(crate::proofs::Lanes::nursery_lanes))]
@@ -103,10 +111,7 @@ pub fn workers(alloc: Global) -> Result<()> {
         let Some((header, values)) = survivors.young.object(*place) else {
             bail!("the object of worker {worker} is gone");
         };
-        if header.serial != worker as u64
-            || header.age != 1
-            || values != [Value::Int(8); 3].as_slice()
-        {
+        if header.serial != worker as u64 || header.age != 1 || !are_eights(values) {
             bail!("the object of worker {worker} is another");
         }
     }

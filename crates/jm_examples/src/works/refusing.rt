@@ -5,7 +5,7 @@ use crate::works::driver::{Driver, Step};
 use crate::works::spaces::{Collection, Outcome, Spaces};
 use anyhow::{Result, bail};
 use jm_blocks::{Block, BlockStore};
-use jm_heap::Kind;
+use jm_heap::{Elements, Kind};
 use jm_values::Place;
 use std::alloc::Global;
 
@@ -13,7 +13,7 @@ use std::alloc::Global;
 // large ones, and garbage.
 const STEPS: &[Step] = &[
     Instance(2),
-    Ints(254),
+    Ints(507),
     Root(0),
     Root(1),
     Collect(Kind::Minor),
@@ -24,13 +24,13 @@ const STEPS: &[Step] = &[
     Root(2),
     List,
     Collect(Kind::Minor),
-    Ints(300),
+    Ints(600),
     LinkNewest(2, 0),
     Instance(1),
     LinkNewest(3, 0),
     Ints(9),
     List,
-    Ints(600),
+    Ints(1_200),
 ];
 
 // What a collection of a kind is given, the same each time.
@@ -45,6 +45,20 @@ fn prepared(alloc: Global, kind: Kind, count: usize) -> Result<Collection> {
     driver.condemn(kind)
 }
 
+// Whether two objects have the same values.
+fn are_equal(found: Elements<'_>, wanted: Elements<'_>) -> bool {
+    let count = wanted.len();
+    if found.len() != count {
+        return false;
+    }
+    for number in 0..count {
+        if found.get(number) != wanted.get(number) {
+            return false;
+        }
+    }
+    true
+}
+
 // How an object of a block differs from that of another, if it does.
 fn difference(found: &Block, wanted: &Block, index: usize) -> Option<&'static str> {
     let Some((header, values)) = found.object(index) else {
@@ -56,7 +70,7 @@ fn difference(found: &Block, wanted: &Block, index: usize) -> Option<&'static st
     if header != old_header {
         return Some("has another header");
     }
-    if values != old_values {
+    if !are_equal(values, old_values) {
         return Some("has other values");
     }
     None

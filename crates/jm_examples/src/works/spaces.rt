@@ -2,12 +2,14 @@
 // done on these.
 
 ghost use Rattle.std.specs.Prelude.{◌≡◌, ◌<◌, ◌^◌, length};
+ghost use Rattle.jm_heap.specs.Elements.{elements, element_kind};
+ghost use Rattle.jm_heap.specs.Packing.{kind_of};
 ghost use Rattle.jm_copy.specs.Condemned.{AreLanes};
 
 use anyhow::{Result, bail};
 use jm_blocks::{BlockStore, Header, Position};
 use jm_copy::{Collector, Refused, SerialCollector, Survivors};
-use jm_heap::Kind;
+use jm_heap::{Elements, Kind, Storage};
 use jm_values::{Place, Value};
 use std::alloc::{AllocError, Global};
 
@@ -56,15 +58,16 @@ pub enum Outcome {
     Refused(Collection),
 }
 
-/// Puts an object above all others of a store.
+/// Puts an object above all others of a store, with values of its kind.
 #[tactic(auto, using(jm_blocks::proofs::Sizes::at_least_two))]
 pub fn make(
     alloc: Global,
     store: &mut BlockStore,
     header: Header,
-    values: &[Value],
+    values: Elements<'_>,
 ) -> Result<Place, AllocError>
-    requires { length values.now < 2 ^ 32 }
+    requires short { length (elements values) < 2 ^ 32 }
+    requires same { element_kind values ≡ kind_of header.class }
     ensures { store.new.lane ≡ store.old.lane }
 {
     let place = store.reserve(header.class.size(values.len() as u64))?;
@@ -72,14 +75,18 @@ pub fn make(
     Ok(place)
 }
 
-/// Changes a value of an object of a store, and answers whether it is there.
+/// Changes a value of an object of a store, and answers whether it is there and can be this one.
 fn set(store: &mut BlockStore, place: Place, number: usize, value: Value) -> bool
     ensures { store.new.lane ≡ store.old.lane }
 {
-    let Some((_, values)) = store.object(place) else {
+    let Some((header, values)) = store.object(place) else {
         return false;
     };
     if number >= values.len() {
+        return false;
+    }
+    let kind = Storage::of(header.class);
+    if !kind.holds(&value) {
         return false;
     }
     store.set(place, number, value);
@@ -122,14 +129,14 @@ impl Spaces {
     }
 
     /// The object at a place.
-    pub fn object(&self, place: Place) -> Option<(Header, &[Value])> {
+    pub fn object(&self, place: Place) -> Option<(Header, Elements<'_>)> {
         if Position::of(place).lane == YOUNG {
             return self.young.object(place);
         }
         self.tenured.object(place)
     }
 
-    /// Changes a value of an object, and answers whether it is there.
+    /// Changes a value of an object, and answers whether it is there and can be this one.
     pub fn set(&mut self, place: Place, number: usize, value: Value) -> bool {
         if Position::of(place).lane == YOUNG {
             return set(&mut self.young, place, number, value);

@@ -23,14 +23,14 @@ pub fn generational(
 }
 
 // Without roots an object is made exactly where the young objects and it stay within a quarter of the
-// limit, which is 64: garbage or not.
+// limit, which is 64: garbage or not. 18 ints take 12 cells, and 19 take 13.
 fn fills_a_quarter<H: Heap>(mutator: &mut Mutator<H>) -> Result<(), Failure>
     requires { IsReady (H.content mutator.old.heap) mutator.old.registers }
     ensures { IsReady (H.content mutator.new.heap) mutator.new.registers }
 {
     mutator.make(node())?;
-    expect_here(mutator, 10, false)?;
-    expect_here(mutator, 9, true)?;
+    expect_here(mutator, 19, false)?;
+    expect_here(mutator, 18, true)?;
     expect_here(mutator, 0, false)?;
     expect(Quantity::Used, mutator.used(), 16)
 }

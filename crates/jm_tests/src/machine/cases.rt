@@ -4,6 +4,7 @@
 ghost use Rattle.jm_machine.specs.Start.{IsEmpty};
 
 use crate::machine::collections::{LIST_ROWS, Listed, check_collections};
+use crate::machine::elements::{KINDS, check_printed, printing_of};
 use crate::machine::programs::{
     BY_ZERO, CUTS_A_LIST, SUM, empty_heap, machine_over, main_with, main_with_nodes,
 };
@@ -32,6 +33,8 @@ enum Comparison<'a> {
     Threads(&'a str),
     /// The objects after the events of rows.
     Collections(&'a str),
+    /// What is printed, with a collection behind each step.
+    Printed(&'a str),
     Replies,
     Frames,
     Statics,
@@ -48,6 +51,7 @@ fn compare<H: Heap + Listed>(
         Comparison::Events { nursery, rows } => check_rows(rt, alloc, machine, nursery, rows),
         Comparison::Threads(rows) => check_threads(rt, alloc, machine, rows),
         Comparison::Collections(rows) => check_collections(rt, alloc, machine, rows),
+        Comparison::Printed(printed) => check_printed(rt, machine, printed),
         Comparison::Replies => check_replies(rt, machine),
         Comparison::Frames => check_frames(rt, machine),
         Comparison::Objects => check_objects(rt, machine),
@@ -175,6 +179,16 @@ fn programs_of_several_classes_are_read(rt: HostRuntime) -> Result<(), Fail> {
     check_both(&rt, rt.alloc(), STATICS, Comparison::Statics)?;
     check_both(&rt, rt.alloc(), SYNCHRONIZED, synchronized)?;
     check_both(&rt, rt.alloc(), INITIALIZERS, initializers)
+}
+
+#[test]
+fn elements_are_read_back(rt: HostRuntime) -> Result<(), Fail> {
+    for kind in KINDS.split("\n\n") {
+        let printing = printing_of(rt.alloc(), kind)?;
+        let printed = Comparison::Printed(&printing.printed);
+        check_both(&rt, rt.alloc(), &printing.program, printed)?;
+    }
+    Ok(())
 }
 
 #[test]

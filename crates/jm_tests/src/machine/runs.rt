@@ -12,9 +12,10 @@
 /// In the third the third instruction takes an int and finds a long, which stops the machine: then nothing
 /// happens any more. In the fourth the division makes the exception, which then ends the thread; the stream
 /// takes 2 cells, main's array 3 and the exception 2, so that it does not fit in the fifth. Then one array
-/// of 100 ints is made after the other: the stream, main's array, the array before and the new one take
-/// 211 cells. In the list that is cut the stream and three nodes take 11 cells. The ring of two nodes is
-/// cut before an array is made: the stream and main's array take 5 cells, an array of ten ints 13.
+/// of 100 ints, which takes 53 cells, is made after the other: the stream, main's array, the array before
+/// and the new one take 111. In the list that is cut the stream and three nodes take 11 cells. The ring of
+/// two nodes is cut before an array is made: the stream and main's array take 5 cells, an array of 20 ints
+/// 13, and one of 21 takes 14.
 pub const RUNS: &str = "\
 65536 0, 5 0 | getstatic java/lang/System/out Ljava/io/PrintStream; / iconst_2 / iconst_3 / iadd / \
 invokevirtual java/io/PrintStream/println(I)V
@@ -46,10 +47,10 @@ t 1 | Done 1 0, 1 0 running | java/lang/ArithmeticException |
 t 1 x 5 | Done 1 1, 1 1 running | - |
 t 1 | Stopped 1 1, 1 1 HeapFull | - |
 
-211 0 | L: / bipush 100 / newarray int / astore_1 / goto L
+111 0 | L: / bipush 100 / newarray int / astore_1 / goto L
 t 1 x 103 | Done 1 1, 1 1 running | - |
 
-210 0 | L: / bipush 100 / newarray int / astore_1 / goto L
+110 0 | L: / bipush 100 / newarray int / astore_1 / goto L
 t 1 x 8 | Done 1 1, 1 1 running | - |
 t 1 | Stopped 1 1, 1 1 HeapFull | - |
 
@@ -63,15 +64,15 @@ t 1 x 15 | Done 1 1, 1 1 running | - |
 t 1 | Stopped 1 1, 1 1 HeapFull | - |
 
 18 0 | new N / astore_1 / aload_1 / new N / putfield N/n LN; / aload_1 / getfield N/n LN; / aload_1 / \
-putfield N/n LN; / aconst_null / astore_1 / bipush 10 / newarray int / astore_1 / \
+putfield N/n LN; / aconst_null / astore_1 / bipush 20 / newarray int / astore_1 / \
 getstatic java/lang/System/out Ljava/io/PrintStream; / aload_1 / arraylength / \
 invokevirtual java/io/PrintStream/println(I)V
 t 1 x 24 | Done 1 1, 1 1 running | - |
-t 1 | Done 1 1, 1 1 running | - | 10
-t 1 | Done 1 0, 1 0 running | - | 10
+t 1 | Done 1 1, 1 1 running | - | 20
+t 1 | Done 1 0, 1 0 running | - | 20
 
 18 0 | new N / astore_1 / aload_1 / new N / putfield N/n LN; / aload_1 / getfield N/n LN; / aload_1 / \
-putfield N/n LN; / aconst_null / astore_1 / bipush 11 / newarray int / astore_1
+putfield N/n LN; / aconst_null / astore_1 / bipush 21 / newarray int / astore_1
 t 1 x 19 | Done 1 1, 1 1 running | - |
 t 1 | Stopped 1 1, 1 1 HeapFull | - |
 ";

@@ -54,7 +54,8 @@ areturn_from_main_stops : (computed linked (linked_events ++ steps 1 1)).stop �
 unfolding computed
 areturn_from_main_stops = refl
 
--- a cycle that nothing refers to gives its cells back: 5 reachable and 13 new ones are 18
+-- a cycle that nothing refers to gives its cells back: 5 reachable and 13 new ones are 18, 3 and
+-- those of 20 ints
 abbrev cyclic : ℤ → List ClassParts
 cyclic count = main (
     new (codes "N") ∷ astore short.One ∷ new (codes "N") ∷ astore short.Two
@@ -66,15 +67,15 @@ cyclic count = main (
 abbrev within : List ClassParts → ℕ → ℕ → World
 within program limit events = run_from (loaded_world program limit) (steps events 1)
 
-eighteen_cells_are_enough : (within (cyclic (pos 10)) 18 30).output ≡ codes "10\n"
+eighteen_cells_are_enough : (within (cyclic (pos 20)) 18 30).output ≡ codes "20\n"
 unfolding computed
 eighteen_cells_are_enough = refl
 
-for_nineteen_they_are_not : (within (cyclic (pos 11)) 18 30).stop ≡ Some stop.HeapFull
+for_nineteen_they_are_not : (within (cyclic (pos 21)) 18 30).stop ≡ Some stop.HeapFull
 unfolding computed
 for_nineteen_they_are_not = refl
 
-nothing_is_printed_then : (within (cyclic (pos 11)) 18 30).output ≡ []
+nothing_is_printed_then : (within (cyclic (pos 21)) 18 30).output ≡ []
 unfolding computed
 nothing_is_printed_then = refl
 
@@ -82,13 +83,13 @@ nothing_is_printed_then = refl
 abbrev one_after_another : List ClassParts
 one_after_another = main (bipush (pos 100) ∷ newarray_int ∷ astore short.One ∷ goto 0 ∷ []) ∷ []
 
-two_arrays_fit_211_cells : (within one_after_another 211 23).stop ≡ None
+two_arrays_fit_111_cells : (within one_after_another 111 23).stop ≡ None
 unfolding computed
-two_arrays_fit_211_cells = refl
+two_arrays_fit_111_cells = refl
 
-and_not_210 : (within one_after_another 210 9).stop ≡ Some stop.HeapFull
+and_not_110 : (within one_after_another 110 9).stop ≡ Some stop.HeapFull
 unfolding computed
-and_not_210 = refl
+and_not_110 = refl
 
 -- an array's element is stored and its array cut
 abbrev stored : List ClassParts
@@ -108,19 +109,19 @@ and_is_cut : length (reach (computed stored (steps 15 1))) ≡ 3
 unfolding computed
 and_is_cut = refl
 
--- a literal of eight letters: 2 + 3 + 11 + 3 cells at the load
+-- a literal of eight letters: 2 + 3 + 5 + 3 cells at the load
 abbrev letters : List ClassParts
 letters = main (ldc_text (codes "abcdefgh") ∷ pop ∷ return ∷ []) ∷ []
 
-nineteen_cells_load_it : is_too_small letters 19 ≡ false
+thirteen_cells_load_it : is_too_small letters 13 ≡ false
 unfolding size_of
-nineteen_cells_load_it = refl
+thirteen_cells_load_it = refl
 
-eighteen_do_not : is_too_small letters 18 ≡ true
+twelve_do_not : is_too_small letters 12 ≡ true
 unfolding size_of
-eighteen_do_not = refl
+twelve_do_not = refl
 
 -- a literal is reachable though nothing holds it
-a_literal_stays : reach_cells (computed letters (steps 6 1)) ≡ 16
+a_literal_stays : reach_cells (computed letters (steps 6 1)) ≡ 10
 unfolding computed
 a_literal_stays = refl

@@ -2,10 +2,11 @@ use Rattle.std.proofs.Common.{◌≡◌, arith, subst, length, ◌∙◌}
 use Rattle.jm_copy.specs.Copies.{IsCopying}
 use Rattle.jm_copy.specs.Marks.{at}
 use Rattle.jm_copy.proofs.Making.{extends_refl, extends_more}
+use Rattle.jm_copy.proofs.Plain.{plain_copying}
 use Rattle.jm_copy.proofs.scan.scan_object.Goals as goal
 
 pub loop-number-init : goal.loop-number-init
-loop-number-init c = record { copying = λ done h. h; there = (c.requires.there.0, c.requires.there.1, c.count-count.ensures c.requires.there.0 c.requires.there.1); extends = extends_refl c.args.from.stores.now c.args.to.now }
+loop-number-init c = record { copying = λ done h. h; there = (c.requires.there.0, c.requires.there.1, c.in-Some.ensures c.requires.there.0 c.requires.there.1); extends = extends_refl c.args.from.stores.now c.args.to.now }
 
 pub forward_value-requires-clause-copying : goal.forward_value-requires-clause-copying
 forward_value-requires-clause-copying c = (c.requires.copying.0, c.loop-number.invariant.copying c.requires.copying.0 c.requires.copying.1)
@@ -34,3 +35,13 @@ returns-clause-copying c done h =
 
 pub returns-clause-extends : goal.returns-clause-extends
 returns-clause-extends c = c.loop-number.invariant.extends
+
+-- nothing in it is a reference
+pub returns-in_default-clause-copying : goal.returns-in_default-clause-copying
+returns-in_default-clause-copying c done copying =
+    let there = c.requires.there in
+    let plain = c.in_default.ensures there.0 there.1 in
+    (there.0, there.1, plain_copying c.args.from.stores.now c.args.from.roots.now c.args.to.now done c.args.place there.0 there.1 plain (length there.0.values) (omega arith) copying)
+
+pub returns-in_default-clause-extends : goal.returns-in_default-clause-extends
+returns-in_default-clause-extends c = extends_refl c.args.from.stores.now c.args.to.now

@@ -18,7 +18,7 @@
     astore_1
     aconst_null
     astore_2
-    bipush 10
+    bipush 20
     newarray int
     astore_1
     getstatic java/lang/System/out Ljava/io/PrintStream;

@@ -29,5 +29,5 @@ returns-in-Some g c s x =
     let e = sym c.in_ok-array.ensures.value in
     let o = its_object h 0 e in
     length_comes (stands_on x) e (sym c.in-Array.is ∙ told h.on o c.object-class.ensures.class)
-    (told h.on o c.object-class.ensures.length) c.in-Some.ensures
+    (c.len.ensures ∙ told h.on o c.object-class.ensures.length) c.in-Some.ensures
     (room_here x.on 1 c.in-Some.length (units_of_object _ _ c.in_ok-array.ensures.room c.in_ok-array.ensures.value _ (ap category c.in-Some.ensures)))

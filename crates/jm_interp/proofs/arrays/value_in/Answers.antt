@@ -1,6 +1,6 @@
 use mir.Syntax.{w32}
 use mir.Val.{SFits}
-use Rattle.std.proofs.Common.{rules, sym, ap, ◌∙◌, length}
+use Rattle.std.proofs.Common.{rules, sym, ap, ◌∙◌}
 use Rattle.std.proofs.Math.Facts.{to_z-of_z}
 use Rattle.std.proofs.lemmas.Result.{err_from_is_err_and}
 use Rattle.jm_world.specs.Arrays.{operand_of_kind}
@@ -40,13 +40,13 @@ object-id-requires g c =
     let h = (stands_on c.requires.1).method in
     lies h.on (its_object h 2 (sym c.in_ok-place.ensures.value))
 
-pub returns-then-not-serves : goal.returns-then-not-serves
-returns-then-not-serves g c s x =
+pub returns-then-not-serves_class : goal.returns-then-not-serves_class
+returns-then-not-serves_class g c s x =
     let h = stands_on x in
     let value = operand_there_as (operand_of_kind c.args.kind) c.operand_of_kind.ensures _ c.in_ok-value.ensures in
     let int = sym c.in_ok-index.ensures.value in
     let e = sym c.in_ok-place.ensures.value in
-    no_array h value int e (told h.method.on (its_object h.method 2 e) c.object-id.ensures.class) c.serves.ensures c.if-not-serves.true
+    no_array h value int e (told h.method.on (its_object h.method 2 e) c.object-id.ensures.class) c.serves_class.ensures c.if-not-serves_class.true
 
 pub can_hold-requires : goal.can_hold-requires
 can_hold-requires g c =
@@ -63,10 +63,10 @@ returns-in-Some-true g c s x =
     let e = sym c.in_ok-place.ensures.value in
     let o = its_object h.method 2 e in
     let fits : SFits w32 c.in_ok-index.index = search rules in
-    let index = c.index_in.ensures ∙ ap (λ z. index_in z (length c.object-id.result.1.now)) (to_z-of_z fits) in
+    let index = c.index_in.ensures ∙ ap (λ z. index_in z c.len.result) (to_z-of_z fits) in
     let held = holds_so h.method c.in_ok-value.value (operand_held h.method t value) c.in-Some-true.ensures in
-    stores h value int e (told h.method.on o c.object-id.ensures.class) c.serves.ensures c.if-not-serves.false
-    (told h.method.on o c.object-id.ensures.length) index c.in-Some.is (λ w m. held (place h.method w) m) c.in-Some-true.field-0-test c.narrowed.ensures
+    stores h value int e (told h.method.on o c.object-id.ensures.class) c.serves_class.ensures c.if-not-serves_class.false
+    (c.len.ensures ∙ told h.method.on o c.object-id.ensures.length) index c.in-Some.is (λ w m. held (place h.method w) m) c.in-Some-true.field-0-test c.narrowed.ensures
     (operand_reached h.method t value)
 
 pub returns-in-Some-false : goal.returns-in-Some-false
@@ -78,10 +78,10 @@ returns-in-Some-false g c s x =
     let e = sym c.in_ok-place.ensures.value in
     let o = its_object h.method 2 e in
     let fits : SFits w32 c.in_ok-index.index = search rules in
-    let index = c.index_in.ensures ∙ ap (λ z. index_in z (length c.object-id.result.1.now)) (to_z-of_z fits) in
+    let index = c.index_in.ensures ∙ ap (λ z. index_in z c.len.result) (to_z-of_z fits) in
     let held = holds_so h.method c.in_ok-value.value (operand_held h.method t value) c.in-Some-false.ensures in
-    not_held h value int e (told h.method.on o c.object-id.ensures.class) c.serves.ensures c.if-not-serves.false
-    (told h.method.on o c.object-id.ensures.length) index c.in-Some.is (λ w m. held (place h.method w) m) c.in-Some-false.field-0-test
+    not_held h value int e (told h.method.on o c.object-id.ensures.class) c.serves_class.ensures c.if-not-serves_class.false
+    (c.len.ensures ∙ told h.method.on o c.object-id.ensures.length) index c.in-Some.is (λ w m. held (place h.method w) m) c.in-Some-false.field-0-test
 
 pub returns-in_default : goal.returns-in_default
 returns-in_default g c s x =
@@ -91,6 +91,6 @@ returns-in_default g c s x =
     let e = sym c.in_ok-place.ensures.value in
     let o = its_object h.method 2 e in
     let fits : SFits w32 c.in_ok-index.index = search rules in
-    let index = c.index_in.ensures ∙ ap (λ z. index_in z (length c.object-id.result.1.now)) (to_z-of_z fits) in
-    past_array h value int e (told h.method.on o c.object-id.ensures.class) c.serves.ensures c.if-not-serves.false
-    (told h.method.on o c.object-id.ensures.length) index c.in_default.is
+    let index = c.index_in.ensures ∙ ap (λ z. index_in z c.len.result) (to_z-of_z fits) in
+    past_array h value int e (told h.method.on o c.object-id.ensures.class) c.serves_class.ensures c.if-not-serves_class.false
+    (c.len.ensures ∙ told h.method.on o c.object-id.ensures.length) index c.in_default.is

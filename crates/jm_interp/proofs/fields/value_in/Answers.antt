@@ -50,5 +50,5 @@ returns g c s x =
     let e = sym c.in_ok-object.ensures.value in
     let o = its_object h.method 1 e in
     field_stores h value e (told h.method.on o c.object-class.ensures.class) (c.in_ok-index.ensures h.is.found h.is.numbered)
-    (told h.method.on o c.object-class.ensures.length)
-    c.if-index-values.false (c.narrow.ensures ∙ ap (λ x. narrow x c.in_ok-value.value) same)
+    (c.len.ensures ∙ told h.method.on o c.object-class.ensures.length)
+    c.if-index-len.false (c.narrow.ensures ∙ ap (λ x. narrow x c.in_ok-value.value) same)

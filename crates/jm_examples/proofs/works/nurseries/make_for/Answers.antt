@@ -3,6 +3,6 @@ use Rattle.jm_heap.specs.Cells.{class_size}
 use Rattle.jm_examples.proofs.Lanes.{within_limit}
 use Rattle.jm_examples.proofs.works.nurseries.make_for.Goals as goal
 
-pub make-requires : goal.make-requires
+pub make-requires-clause-room : goal.make-requires-clause-room
 unfolding class_size
-make-requires c = within_limit _ _ (sym c.has_room.ensures ∙ c.if-has_room.true)
+make-requires-clause-room c = within_limit _ _ (sym c.has_room.ensures ∙ c.if-has_room.true)

@@ -25,7 +25,7 @@ pub returns-clause-stays : goal.returns-clause-stays
 returns-clause-stays g c =
     let o = new_object c.args.shape in
     let n = size_by class_size o in
-    let stays = subst (λ m. OldStay c.args.self.now c.make_room.new.self m) c.cells_of.ensures.value c.make_room.ensures.stays in
+    let stays = subst (λ m. OldStay c.args.self.now c.make_room.new.self m) c.cells.ensures.value c.make_room.ensures.stays in
     let made = subst (λ x. IfOk c.make.result (λ p. MadeHere (content_of x) (content_of c.make.new.self) p o)) c.self.view_is c.make.ensures.made in
     let same = subst (λ x. OnErr c.make.result (c.make.new.self ≡ x)) c.self.view_is c.make.ensures.same in
     stays_made c.make.result c.args.self.now c.make_room.new.self c.make.new.self n o stays c.make_room.ensures.were made same
