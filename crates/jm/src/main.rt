@@ -1,6 +1,6 @@
 //! `jm`: runs the program of some class files and assembler texts, by turns of its threads or by the
-//! events of a schedule, assembles texts into class files, and answers the commands of a session of
-//! the debugger.
+//! events of a schedule, assembles texts into class files, shows the text of a class, and answers the
+//! commands of a session of the debugger.
 //!
 //! The command line is read by `jm_options`, and what a job does is `jm_execute`'s. What stands
 //! here reads the files, hands both over with the standard streams or the file to write, and ends
@@ -15,10 +15,12 @@ mod word;
 
 use files::{input_file, input_files};
 use jm_execute::{
-    AssembleJob, DebugJob, Job, RunEvents, RunJob, Status, Watched, execute, write_out_of_memory,
+    AssembleJob, DebugJob, DisassembleJob, Job, RunEvents, RunJob, Status, Watched, execute,
+    write_out_of_memory,
 };
 use jm_options::{
-    AssembleOptions, DebugOptions, MAX_QUANTUM, MAX_STEPS, Options, RunOptions, UsageFault, options,
+    AssembleOptions, DebugOptions, DisassembleOptions, MAX_QUANTUM, MAX_STEPS, Options, RunOptions,
+    UsageFault, options,
 };
 use jm_schedule::{RoundRobin, round_robin};
 use output::Output;
@@ -72,6 +74,13 @@ fn assemble_job(rt: &HostRuntime, asked: AssembleOptions) -> Job {
     })
 }
 
+fn disassemble_job(rt: &HostRuntime, asked: DisassembleOptions) -> Job {
+    Job::Disassemble(DisassembleJob {
+        file: input_file(rt, asked.file),
+        bare: asked.bare,
+    })
+}
+
 fn debug_job(rt: &HostRuntime, asked: DebugOptions) -> Result<Job, AllocError> {
     Ok(Job::Debug(DebugJob {
         heap: asked.heap,
@@ -121,6 +130,7 @@ fn status(rt: &HostRuntime, wait: &impl Wait) -> Status {
             Err(_) => out_of_memory(rt),
         },
         Ok(Options::Assemble(asked)) => done(rt, wait, &assemble_job(rt, asked)),
+        Ok(Options::Disassemble(asked)) => done(rt, wait, &disassemble_job(rt, asked)),
         Ok(Options::Debug(asked)) => match debug_job(rt, asked) {
             Ok(job) => done(rt, wait, &job),
             Err(_) => out_of_memory(rt),

@@ -1,7 +1,7 @@
 -- The text of a class of which each part can be said denotes that class.
 use Rattle.std.proofs.Common.{◌≡◌, ℕ, suc, ◌+◌, ◌<◌, ◌≤◌, ◌^◌, ◌==◌, Bool, true, false, not, ◌&&◌, ◌||◌, List, [], ◌∷◌, ◌++◌, length, Option, Some, None, Ok, refl, codes, position}
-use Rattle.std.proofs.Common.{ap, sym, ◌∙◌, arith, subst, append_assoc, nat_lt, nat_le}
-use Rattle.std.specs.Prelude.{if◌then◌else◌, IfOk, Result, Err}
+use Rattle.std.proofs.Common.{ap, sym, arith, subst, append_assoc, nat_lt, nat_le}
+use Rattle.std.specs.Prelude.{if◌then◌else◌}
 use Rattle.std.specs.List.{list_all, flat_map, position_or_len}
 use Rattle.std.proofs.lemmas.Bool.Decides.{nat_tests}
 use Rattle.jm_program.proofs.DescriptorLaws.{both_true, and_true}
@@ -32,12 +32,13 @@ use Rattle.jm_jasmin.specs.ClassForms.{ClassLines}
 use Rattle.jm_jasmin.specs.ClassForms.ClassLines.{class_lines}
 use Rattle.jm_jasmin.proofs.TextForms.{class_text as lines_denote}
 use Rattle.jm_disassembler.specs.Names.{is_sayable, is_plain_type, is_plain_method_type}
-use Rattle.jm_disassembler.specs.Said.{instr_said}
+use Rattle.jm_disassembler.specs.Said.{instr_said, field_name_said, method_name_said}
 use Rattle.jm_disassembler.specs.Bodies.{handler_said, sizes_said, lines_said, code_said}
-use Rattle.jm_disassembler.specs.Flags.{class_rows, interface_rows, member_rows, flags_said}
+use Rattle.jm_disassembler.specs.Flags.{class_rows, interface_rows, member_rows, flags_said, class_flags_said}
 use Rattle.jm_disassembler.proofs.FlagWords.{flag_words}
-use Rattle.jm_disassembler.specs.Members.{field_name_said, method_name_said, field_text, method_text}
-use Rattle.jm_disassembler.specs.Texts.{source_text, class_flags_said, declaration_text, super_text, implements_text, fields_text, class_text}
+use Rattle.jm_disassembler.specs.Members.{field_text, method_text}
+use Rattle.jm_disassembler.specs.PartTexts.{class_mark, field_mark, method_mark}
+use Rattle.jm_disassembler.specs.Texts.{source_text, declaration_text, super_text, implements_text, marked_declaration, marked_field, fields_text, marked_method, class_text}
 use Rattle.jm_disassembler.specs.Unsaid.{value_said, field_part, numbered_field, fields_part, code_part, handler_or, instruction_or, method_part, numbered_method, methods_part, source_said, super_said, interface_or, header_part, members_part, class_or, first_unsaid}
 use Rattle.jm_disassembler.specs.declared.unsaid.ClassPart.{ClassPart}
 use Rattle.jm_disassembler.specs.declared.unsaid.FieldPart.{FieldPart}
@@ -95,7 +96,7 @@ field_known f fits h =
     let c = chosen (is_plain_type f.descriptor && value_said f.constant) _ _ b.1 in
     let d = both_true (is_plain_type f.descriptor) (value_said f.constant) c.0 in
     let n = both_true (is_sayable f.name) _ b.0 in
-    record { fits = fits; flags = a.0; name = b.0; types = d.0; range = (name_range f.name n.0, type_range f.descriptor d.0, value_range f.constant d.1) }
+    record { fits = fits; flags = a.0; name = b.0; types = d.0; range = (name_range f.name n.0, type_range f.descriptor d.0, value_range f.constant d.1); part = h }
 
 abbrev Known : {A : Type 0} → (A → Type 0) → List A → Type 0
 Known P [] = Unit {0}
@@ -150,6 +151,7 @@ method_known in_interface m fits h =
       code = code_known m.code c.1;
       name_range = name_range m.name n.0;
       types_range = method_type_range m.descriptor c.0;
+      part = h;
     }
 
 method_none : (k : ℕ) (o : Option MethodPart) (others : Option Unsaid) → numbered_method k o others ≡ None → (o ≡ None) × (others ≡ None)
@@ -215,20 +217,27 @@ interfaces_laid (name ∷ names) fits said rest lines t =
 
 module _ (commented : Bool) where
   some_fields : (fs : List Field) → Known SayableField fs → (rest : List ℕ) (lines : List Line) → Texts rest lines
-      → Texts (flat_map (field_text commented) fs ++ rest) (field_lines fs ++ lines)
+      → Texts (flat_map (marked_field commented) fs ++ rest) (field_lines fs ++ lines)
+  unfolding marked_field
   some_fields [] h rest lines t = t
   some_fields (f ∷ fs) h rest lines t =
-      subst (λ (x : List ℕ). Texts x (field_lines (f ∷ fs) ++ lines)) (sym (append_assoc (field_text commented f) (flat_map (field_text commented) fs) rest))
-      (line (field_laid commented f h.0) (some_fields fs h.1 rest lines t))
+      let more = flat_map (marked_field commented) fs in
+      let made = line (field_laid commented f h.0) (some_fields fs h.1 rest lines t) in
+      let joined = subst (λ (x : List ℕ). Texts x (field_lines (f ∷ fs) ++ lines)) (sym (append_assoc (field_text commented f) more rest)) made in
+      subst (λ (o : Option FieldPart). Texts (((field_mark o ++ field_text commented f) ++ more) ++ rest) (field_lines (f ∷ fs) ++ lines)) (sym h.0.part) joined
 
   all_fields : (fs : List Field) → Known SayableField fs → (rest : List ℕ) (lines : List Line) → Texts rest lines
       → Texts (fields_text commented fs ++ rest) (field_lines fs ++ lines)
   all_fields [] h rest lines t = t
   all_fields (f ∷ fs) h rest lines t = skip ends (some_fields (f ∷ fs) h rest lines t)
 
-  all_methods : (in_interface : Bool) (ms : List Method) → Known (SayableMethod in_interface) ms → Texts (flat_map (method_text commented) ms) (all_method_lines ms)
+  all_methods : (in_interface : Bool) (ms : List Method) → Known (SayableMethod in_interface) ms → Texts (flat_map (marked_method commented) ms) (all_method_lines ms)
+  unfolding marked_method
   all_methods in_interface [] h = nothing
-  all_methods in_interface (m ∷ ms) h = method_laid commented in_interface m h.0 (flat_map (method_text commented) ms) (all_method_lines ms) (all_methods in_interface ms h.1)
+  all_methods in_interface (m ∷ ms) h =
+      let more = flat_map (marked_method commented) ms in
+      let made = skip ends (method_laid commented in_interface m h.0 more (all_method_lines ms) (all_methods in_interface ms h.1)) in
+      subst (λ (o : Option MethodPart). Texts ((codes "\n" ++ (method_mark o ++ method_text commented m)) ++ more) (method_lines m ++ all_method_lines ms)) (sym h.0.part) made
 
   source_laid : (o : Option (List ℕ)) → source_said o ≡ true → (rest : List ℕ) (lines : List Line) → Texts rest lines
       → Texts (source_text o ++ rest) (source_lines o ++ lines)
@@ -265,10 +274,13 @@ interface_none : (o : Option ℕ) → interface_or o ≡ None → o ≡ None
 interface_none None h = refl
 interface_none (Some k) h = absurd cc
 
+-- from .class on
+abbrev class_lines_behind : ClassParts → List Line
+class_lines_behind c =
+    declaration_words c.flags c.name ∷ (super_lines c.superclass ++ (implements_lines c.interfaces ++ (field_lines c.fields ++ all_method_lines c.methods)))
+
 abbrev class_lines_of : ClassParts → List Line
-class_lines_of c =
-    version_words c.version ∷ (source_lines c.source_file ++ declaration_words c.flags c.name ∷ (super_lines c.superclass
-    ++ (implements_lines c.interfaces ++ (field_lines c.fields ++ all_method_lines c.methods))))
+class_lines_of c = version_words c.version ∷ (source_lines c.source_file ++ class_lines_behind c)
 
 less : (n : ℕ) → nat_lt n 52 ≡ true → n < 2 ^ 16
 less n h = grind (arith, nat_tests)
@@ -311,6 +323,7 @@ record HeaderKnown (c : ClassParts) (superclass : List ℕ) : Type 0 where
   super : is_sayable superclass ≡ true
   interfaces_fit : list_all is_class_name c.interfaces ≡ true
   interfaces : list_all is_sayable c.interfaces ≡ true
+  part : header_part c ≡ None
 
 module _ (commented : Bool) (c : ClassParts) (superclass : List ℕ) (is_super : c.superclass ≡ Some superclass) (h : HeaderKnown c superclass)
     (fs : Known SayableField c.fields) (ms : Known (SayableMethod (is_interface c.flags)) c.methods) where
@@ -340,18 +353,21 @@ module _ (commented : Bool) (c : ClassParts) (superclass : List ℕ) (is_super :
       subst P (sym is_super) made
 
   laid : Texts (class_text commented c) (class_lines_of c)
-  unfolding class_text declaration_text
+  unfolding class_text marked_declaration declaration_text
   laid =
       let members = all_fields commented c.fields fs _ _ (all_methods commented (is_interface c.flags) c.methods ms) in
       let interfaces = interfaces_laid c.interfaces h.interfaces_fit h.interfaces _ _ members in
       let above = super_laid commented superclass h.super_fits h.super _ _ interfaces in
       let P : Option (List ℕ) → Type 0 = λ o. Texts
-      (super_text o ++ (flat_map implements_text c.interfaces ++ (fields_text commented c.fields ++ flat_map (method_text commented) c.methods)))
+      (super_text o ++ (flat_map implements_text c.interfaces ++ (fields_text commented c.fields ++ flat_map (marked_method commented) c.methods)))
       (super_lines o ++ (implements_lines c.interfaces ++ (field_lines c.fields ++ all_method_lines c.methods))) in
       let from_super = subst P (sym is_super) above in
       let declared = declaration_laid commented c.flags c.name (class_name_word c.name h.name_fits h.name (name_range c.name h.name)) h.flags in
       let from_declared = first_line (declaration_words c.flags c.name) (declaration_some c.flags c.name) declared from_super in
-      let from_source = source_laid commented c.source_file h.source _ _ from_declared in
+      let behind : List ℕ =
+      super_text c.superclass ++ (flat_map implements_text c.interfaces ++ (fields_text commented c.fields ++ flat_map (marked_method commented) c.methods)) in
+      let marked = subst (λ (p : Option ClassPart). Texts ((class_mark p ++ declaration_text commented c) ++ behind) (class_lines_behind c)) (sym h.part) from_declared in
+      let from_source = source_laid commented c.source_file h.source _ _ marked in
       line (version_laid c.version (major_small c.version h.version) h.minor) from_source
 
   denotes : denoted (class_text commented c) ≡ Ok c
@@ -388,18 +404,14 @@ text_denotes commented c fits minor said =
       super = name_said;
       interfaces_fit = fits.interfaces;
       interfaces = interfaces;
+      part = a.0;
     })
     (fields_known 0 c.fields fits.fields b.0) (methods_known (is_interface c.flags) 0 c.methods fits.methods b.1)
 
--- the same of what a call was given and what it wrote
-pub written_denotes : (commented : Bool) (c parts : ClassParts) (minor : ℕ) (text : List ℕ) → parts ≡ c → Fits c → minor ≡ parts.version.minor → minor < 2 ^ 16
-    → text ≡ class_text commented parts → first_unsaid c ≡ None → denoted text ≡ Ok c
-written_denotes commented c parts minor text same fits is small written said =
+-- the same of what a call was given
+pub parts_denote : (commented : Bool) (c parts : ClassParts) (minor : ℕ) → parts ≡ c → Fits c → minor ≡ parts.version.minor → minor < 2 ^ 16
+    → first_unsaid c ≡ None → denoted (class_text commented c) ≡ Ok c
+parts_denote commented c parts minor same fits is small said =
     let version : parts.version.minor ≡ c.version.minor = ap (λ (p : ClassParts). p.version.minor) same in
     let lt : c.version.minor < 2 ^ 16 = omega (arith, is, version, small) in
-    ap denoted (written ∙ ap (class_text commented) same) ∙ text_denotes commented c fits lt said
-
-pub if_written : {X E : Type 0} (view : X → List ℕ) (r : Result X E) (c parts : ClassParts) (minor : ℕ) → parts ≡ c → Fits c → minor ≡ parts.version.minor
-    → minor < 2 ^ 16 → IfOk r (λ x. view x ≡ class_text true parts) → IfOk r (λ x. first_unsaid c ≡ None → denoted (view x) ≡ Ok c)
-if_written view (Ok x) c parts minor same fits is small written = λ said. written_denotes true c parts minor (view x) same fits is small written said
-if_written view (Err e) c parts minor same fits is small written = tt
+    text_denotes commented c fits lt said

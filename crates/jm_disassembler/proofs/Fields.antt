@@ -28,8 +28,10 @@ use Rattle.jm_jasmin.specs.FieldForms.{Value, FieldLine}
 use Rattle.jm_jasmin.specs.FieldForms.Value.{int, long, string as string_value_is}
 use Rattle.jm_jasmin.specs.FieldForms.FieldLine.{plain, valued}
 use Rattle.jm_disassembler.specs.Names.{is_plain, is_sayable, begins_with_quote, is_plain_type}
-use Rattle.jm_disassembler.specs.Flags.{member_rows, flags_said}
-use Rattle.jm_disassembler.specs.Members.{flags_note, field_name_said, value_text, field_text}
+use Rattle.jm_disassembler.specs.Flags.{member_rows, flags_said, member_note}
+use Rattle.jm_disassembler.specs.Said.{field_name_said}
+use Rattle.jm_disassembler.specs.Unsaid.{field_part}
+use Rattle.jm_disassembler.specs.Members.{value_text, field_text}
 use Rattle.jm_disassembler.proofs.Laid.{apart, Laid}
 use Rattle.jm_disassembler.proofs.Laid.Laid.{blank, word, string}
 use Rattle.jm_disassembler.proofs.Spelled.{name_spelled}
@@ -39,7 +41,7 @@ use Rattle.jm_disassembler.proofs.Numbers.{signed_read, signed_word}
 use Rattle.jm_disassembler.proofs.Words.{name_is_word, type_is_word, unqualified_some}
 use Rattle.jm_disassembler.proofs.Instructions.{int_is, long_32, long_64}
 use Rattle.jm_disassembler.proofs.Strings.{string_inside, string_value}
-use Rattle.jm_disassembler.proofs.FlagWords.{flag_words, member_flags, flags_are, flags_laid, flags_note_laid, flags_note_apart}
+use Rattle.jm_disassembler.proofs.FlagWords.{flag_words, member_flags, flags_are, flags_laid, note_laid, note_apart}
 
 -- a name is not a word of ASCII, and so its text is another word
 pub other_word : (name w : List ℕ) → is_plain name ≡ true → UnitsInRange name → list_all is_ascii_word w ≡ true → same_text name w ≡ false
@@ -64,6 +66,7 @@ pub record SayableField (f : Field) : Type 0 where
   pub name : field_name_said f.name f.constant ≡ true
   pub types : is_plain_type f.descriptor ≡ true
   pub range : FieldInRange f
+  pub part : field_part f ≡ None
 
 -- ---- values
 
@@ -185,8 +188,8 @@ unfolding field_text
 field_laid commented f s =
     let k = field_parts f s.fits in
     let p = both_true (is_sayable f.name) (is_some f.constant || not (same_text f.name (codes "="))) s.name in
-    let note : List ℕ = flags_note commented f.flags.bits (flags_said 0 f.flags.bits member_rows) in
-    let v = value_laid f.constant s.range.2 note (flags_note_laid commented f.flags.bits _ s.flags) (flags_note_apart commented f.flags.bits _ s.flags) in
+    let note : List ℕ = member_note commented f.flags.bits in
+    let v = value_laid f.constant s.range.2 note (note_laid commented _ _ s.flags) (note_apart commented _ _ s.flags) in
     let typed = word (type_line f.descriptor) (type_is_word f.descriptor s.types s.range.1) v.1 v.0 in
     let named = word (name_text f.name) (name_is_word f.name (unqualified_some f.name k.0) p.0 s.range.0) refl (blank typed) in
     word (codes ".field") refl refl (blank (flags_laid f.flags.bits member_rows member_flags _ _ named))

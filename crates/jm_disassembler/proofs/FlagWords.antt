@@ -6,8 +6,7 @@ use Rattle.jm_jasmin.specs.Words.{flag_named}
 use Rattle.jm_jasmin.specs.WordForms.{Line, bare}
 use Rattle.jm_jasmin.specs.HeaderForms.{Flags}
 use Rattle.jm_jasmin.specs.HeaderForms.Flags.{none, flag}
-use Rattle.jm_disassembler.specs.Flags.{FlagRow, class_rows, interface_rows, member_rows, has_flag, flags_text, come_to, flags_said}
-use Rattle.jm_disassembler.specs.Members.{flags_note}
+use Rattle.jm_disassembler.specs.Flags.{FlagRow, class_rows, interface_rows, member_rows, has_flag, flags_text, come_to, flags_said, note_of}
 use Rattle.jm_disassembler.proofs.Laid.{is_word, apart, Laid}
 use Rattle.jm_disassembler.proofs.Laid.Laid.{ends, blank, word}
 
@@ -59,10 +58,10 @@ flags_laid bits [] h rest ws l = l
 flags_laid bits (row ∷ rows) h rest ws l =
     flag_by row.1 (flags_text bits rows) rest (flag_words bits rows) ws (has_flag bits row) h.1 (flags_laid bits rows h.2 rest ws l)
 
-pub flags_note_laid : (commented : Bool) (bits : ℕ) (said : Bool) → said ≡ true → Laid (flags_note commented bits said) []
-flags_note_laid true bits said e = rw e ends
-flags_note_laid false bits said e = ends
+pub note_laid : (commented said : Bool) (words : List ℕ) → said ≡ true → Laid (note_of commented said words) []
+note_laid true said words e = rw e ends
+note_laid false said words e = ends
 
-pub flags_note_apart : (commented : Bool) (bits : ℕ) (said : Bool) → said ≡ true → apart (flags_note commented bits said) ≡ true
-flags_note_apart true bits said e = rw e refl
-flags_note_apart false bits said e = refl
+pub note_apart : (commented said : Bool) (words : List ℕ) → said ≡ true → apart (note_of commented said words) ≡ true
+note_apart true said words e = rw e refl
+note_apart false said words e = refl

@@ -32,16 +32,15 @@ use Rattle.jm_jasmin.specs.HeaderForms.ClassLine.{class, interface}
 use Rattle.jm_jasmin.specs.HeaderForms.SuperLine.{super}
 use Rattle.jm_jasmin.specs.HeaderForms.ImplementsLine.{implements}
 use Rattle.jm_disassembler.specs.Names.{is_plain, is_sayable, begins_with_quote}
-use Rattle.jm_disassembler.specs.Flags.{class_rows, interface_rows, flags_text, flags_said}
-use Rattle.jm_disassembler.specs.Members.{flags_note}
-use Rattle.jm_disassembler.specs.Texts.{version_text, class_flags_said, declaration_front}
+use Rattle.jm_disassembler.specs.Flags.{class_rows, interface_rows, flags_text, flags_said, class_flags_said, class_note}
+use Rattle.jm_disassembler.specs.Texts.{version_text, declaration_front}
 use Rattle.jm_disassembler.proofs.Laid.{is_word, begins_word, is_word_byte, Laid}
 use Rattle.jm_disassembler.proofs.Laid.Laid.{ends, blank, word}
 use Rattle.jm_disassembler.proofs.Spelled.{Spelled, then_spelled, name_spelled}
 use Rattle.jm_disassembler.proofs.Types.{byte_spelled}
 use Rattle.jm_disassembler.proofs.Numbers.{is_decimal, decimal_is, decimal_spelled}
 use Rattle.jm_disassembler.proofs.Words.{found_at}
-use Rattle.jm_disassembler.proofs.FlagWords.{flag_words, class_flags, interface_flags, flags_are, flags_laid, flags_note_laid, flags_note_apart}
+use Rattle.jm_disassembler.proofs.FlagWords.{flag_words, class_flags, interface_flags, flags_are, flags_laid, note_laid, note_apart}
 
 -- ---- .bytecode
 
@@ -209,7 +208,7 @@ front_by flags name rest true h = word (codes ".interface") refl refl (blank (fl
 front_by flags name rest false h = word (codes ".class") refl refl (blank (flags_laid flags.bits class_rows class_flags rest (bare (name_text name) ∷ []) h))
 
 pub declaration_laid : (commented : Bool) (flags : AccessFlags) (name : List ℕ) → is_word (name_text name) ≡ true → class_flags_said flags ≡ true
-    → Laid (declaration_front flags ++ (name_text name ++ flags_note commented flags.bits (class_flags_said flags))) (declaration_words flags name)
+    → Laid (declaration_front flags ++ (name_text name ++ class_note commented flags)) (declaration_words flags name)
 declaration_laid commented flags name h said =
     front_by flags name _ (is_interface flags)
-    (word (name_text name) h (flags_note_apart commented flags.bits (class_flags_said flags) said) (flags_note_laid commented flags.bits (class_flags_said flags) said))
+    (word (name_text name) h (note_apart commented (class_flags_said flags) _ said) (note_laid commented (class_flags_said flags) _ said))

@@ -38,14 +38,15 @@ use Rattle.jm_jasmin.specs.MethodForms.BodyLine.{stack, locals, catch, catch_all
 use Rattle.jm_jasmin.specs.MethodForms.BodyLines.{ends as no_more, and_line}
 use Rattle.jm_jasmin.specs.MethodForms.MethodLines.{method as method_lines_are}
 use Rattle.jm_disassembler.specs.Names.{is_plain, is_sayable, begins_with_quote, is_plain_method_type}
-use Rattle.jm_disassembler.specs.Said.{is_short, instr_said, no_parenthesis}
+use Rattle.jm_disassembler.specs.Said.{is_short, instr_said, no_parenthesis, method_name_said}
 use Rattle.jm_disassembler.specs.Labels.{label_name, marks_of}
 use Rattle.jm_disassembler.specs.Bodies.{caught_said, handler_said, lines_said, sizes_said, code_said, caught_text, handler_text, limit_text, body_text, code_text}
-use Rattle.jm_disassembler.specs.Flags.{member_rows, flags_text, flags_said}
-use Rattle.jm_disassembler.specs.Members.{flags_note, method_name_said, body_of, method_text as text_of_method}
+use Rattle.jm_disassembler.specs.Flags.{member_rows, flags_text, flags_said, member_note}
+use Rattle.jm_disassembler.specs.Members.{body_of, method_text as text_of_method}
+use Rattle.jm_disassembler.specs.Unsaid.{method_part}
 use Rattle.jm_disassembler.proofs.Laid.{is_word, begins_word, is_word_byte, Laid, Texts}
 use Rattle.jm_disassembler.proofs.Laid.Laid.{ends, blank, word}
-use Rattle.jm_disassembler.proofs.Laid.Texts.{line, skip}
+use Rattle.jm_disassembler.proofs.Laid.Texts.{line}
 use Rattle.jm_disassembler.proofs.Spelled.{Spelled, then_spelled, name_spelled}
 use Rattle.jm_disassembler.proofs.Types.{ascii_spelled, method_type_spelled}
 use Rattle.jm_disassembler.proofs.LabelWords.{same_is, name_of_label, name_word}
@@ -54,7 +55,7 @@ use Rattle.jm_disassembler.proofs.Instructions.{short_is, decimal_word}
 use Rattle.jm_disassembler.proofs.Marks.{handler_parts}
 use Rattle.jm_disassembler.proofs.Bodies.{EachOf, Sayable, LineInRange, Before, before_other, body_lines, body_items, body_laid, body_goes}
 use Rattle.jm_disassembler.proofs.Codes.{Starts, SayableCode, handler_item, handler_items, code_items, code_comes}
-use Rattle.jm_disassembler.proofs.FlagWords.{flag_words, member_flags, flags_are, flags_laid, flags_note_laid, flags_note_apart}
+use Rattle.jm_disassembler.proofs.FlagWords.{flag_words, member_flags, flags_are, flags_laid, note_laid, note_apart}
 
 -- ---- a code that can be said
 
@@ -296,6 +297,7 @@ pub record SayableMethod (in_interface : Bool) (m : Method) : Type 0 where
   pub code : OfSome (λ c. (code_said c ≡ true) × CodeNumbers c) m.code
   pub name_range : UnitsInRange m.name
   pub types_range : MethodTypeInRange m.descriptor
+  pub part : method_part m ≡ None
 
 -- the rules of a method, one by one
 record MethodRules (in_interface : Bool) (m : Method) : Type 0 where
@@ -471,17 +473,17 @@ method_laid commented in_interface m s rest lines t =
     let r = rules_of in_interface m s.fits in
     let flags : List ℕ = flags_text m.flags.bits member_rows in
     let w : List ℕ = declared_word m in
-    let note : List ℕ = flags_note commented m.flags.bits (flags_said 0 m.flags.bits member_rows) in
+    let note : List ℕ = member_note commented m.flags.bits in
     let body : List ℕ = body_of commented m.code in
     let end : List ℕ = codes ".end method\n" in
     let end_laid : Laid end end_words = word (codes ".end") refl refl (blank (word (codes "method") refl refl ends)) in
     let with_end : Texts (end ++ rest) (end_words ∷ lines) = line end_laid t in
     let with_body = body_laid_out commented in_interface m m.code r.body s.code (end ++ rest) (end_words ∷ lines) with_end in
     let name_laid : Laid (w ++ note) (bare w ∷ []) =
-    word w (declared_is_word in_interface m s) (flags_note_apart commented m.flags.bits _ s.flags) (flags_note_laid commented m.flags.bits _ s.flags) in
+    word w (declared_is_word in_interface m s) (note_apart commented _ _ s.flags) (note_laid commented _ _ s.flags) in
     let head_laid : Laid (codes ".method " ++ (flags ++ (w ++ note))) (head_words m) =
     word (codes ".method") refl refl (blank (flags_laid m.flags.bits member_rows member_flags (w ++ note) (bare w ∷ []) name_laid)) in
-    let whole = skip ends (line head_laid with_body) in
+    let whole = line head_laid with_body in
     let inner : (name_text m.name ++ (method_line m.descriptor ++ (note ++ (body ++ end)))) ++ rest ≡ (w ++ note) ++ (body ++ (end ++ rest)) =
     append_assoc (name_text m.name) (method_line m.descriptor ++ (note ++ (body ++ end))) rest
     ∙ ap (λ (x : List ℕ). name_text m.name ++ x) (append_assoc (method_line m.descriptor) (note ++ (body ++ end)) rest
@@ -490,6 +492,6 @@ method_laid commented in_interface m s rest lines t =
     let texts : (flags ++ (name_text m.name ++ (method_line m.descriptor ++ (note ++ (body ++ end))))) ++ rest ≡ (flags ++ (w ++ note)) ++ (body ++ (end ++ rest)) =
     append_assoc flags (name_text m.name ++ (method_line m.descriptor ++ (note ++ (body ++ end)))) rest ∙ ap (λ (x : List ℕ). flags ++ x) inner
     ∙ sym (append_assoc flags (w ++ note) (body ++ (end ++ rest))) in
-    subst (λ (x : List ℕ). Texts (codes "\n.method " ++ x) (method_lines m ++ lines)) (sym texts)
-    (subst (λ (ls : List Line). Texts (codes "\n.method " ++ ((flags ++ (w ++ note)) ++ (body ++ (end ++ rest)))) (head_words m ∷ ls))
+    subst (λ (x : List ℕ). Texts (codes ".method " ++ x) (method_lines m ++ lines)) (sym texts)
+    (subst (λ (ls : List Line). Texts (codes ".method " ++ ((flags ++ (w ++ note)) ++ (body ++ (end ++ rest)))) (head_words m ∷ ls))
     (sym (append_assoc (lines_of_body m.code) (end_words ∷ []) lines)) whole)

@@ -1,6 +1,7 @@
 -- Which instructions a text can say: those whose names words can spell (Jasmin User Guide, "Instructions").
-use Rattle.std.specs.Prelude.{ℕ, ℤ, pos, negsuc, int_le, nat_lt, Bool, true, not, ◌&&◌, ◌==◌, List}
+use Rattle.std.specs.Prelude.{ℕ, ℤ, pos, negsuc, int_le, nat_lt, Bool, true, not, ◌&&◌, ◌||◌, ◌==◌, List, Option, is_some, codes}
 use Rattle.std.specs.List.{list_all}
+use Rattle.jm_program.specs.Names.{same_text}
 use Rattle.jm_program.specs.declared.descriptor.ElementType.{ElementType}
 use Rattle.jm_program.specs.declared.descriptor.ElementType.TheVariants.{Base, Class}
 use Rattle.jm_program.specs.declared.reference.ClassRef.{ClassRef}
@@ -81,3 +82,12 @@ instr_said (instr.Invoke op m) = method_ref_said m
 instr_said (instr.New name) = is_sayable name
 instr_said (instr.Type op class) = is_sayable_class class
 instr_said _ = true
+
+-- ---- members
+
+-- = stands before a value, and so is no name of a field without one
+abbrev pub field_name_said : List ℕ → Option Constant → Bool
+field_name_said name value = is_sayable name && (is_some value || not (same_text name (codes "=")))
+
+abbrev pub method_name_said : List ℕ → Bool
+method_name_said name = is_sayable name && no_parenthesis name

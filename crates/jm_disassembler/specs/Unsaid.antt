@@ -17,11 +17,9 @@ use Rattle.jm_disassembler.specs.declared.unsaid.MethodPart.TheVariants as metho
 use Rattle.jm_disassembler.specs.declared.unsaid.Unsaid.{Unsaid}
 use Rattle.jm_disassembler.specs.declared.unsaid.Unsaid.TheVariants as unsaid
 use Rattle.jm_disassembler.specs.Names.{is_sayable, is_plain_type, is_plain_method_type}
-use Rattle.jm_disassembler.specs.Said.{constant_said, instr_said}
+use Rattle.jm_disassembler.specs.Said.{constant_said, instr_said, field_name_said, method_name_said}
 use Rattle.jm_disassembler.specs.Bodies.{handler_said, sizes_said, lines_said}
-use Rattle.jm_disassembler.specs.Flags.{member_rows, flags_said}
-use Rattle.jm_disassembler.specs.Members.{field_name_said, method_name_said}
-use Rattle.jm_disassembler.specs.Texts.{class_flags_said}
+use Rattle.jm_disassembler.specs.Flags.{member_rows, flags_said, class_flags_said}
 
 -- ---- of a field
 
@@ -55,13 +53,21 @@ abbrev pub instruction_or : Option ℕ → Option MethodPart → Option MethodPa
 instruction_or (Some k) others = Some (method.Instruction k)
 instruction_or None others = others
 
+-- of the line number table
+abbrev pub rows_part : Code → Option MethodPart
+rows_part c = if lines_said 0 c.lines then None else Some method.Lines
+
+-- of the instructions, and then of the line number table
+abbrev pub instructions_part : Code → Option MethodPart
+instructions_part c = instruction_or (position (λ (i : Instr). not (instr_said i)) c.instructions) (rows_part c)
+
+-- of the exception table, and then of those
+abbrev pub handlers_part : Code → Option MethodPart
+handlers_part c = handler_or (position (λ (h : Handler). not (handler_said h)) c.handlers) (instructions_part c)
+
 abbrev pub code_part : Option Code → Option MethodPart
 code_part None = None
-code_part (Some c) =
-    if sizes_said c then
-    handler_or (position (λ (h : Handler). not (handler_said h)) c.handlers)
-    (instruction_or (position (λ (i : Instr). not (instr_said i)) c.instructions) (if lines_said 0 c.lines then None else Some method.Lines))
-    else Some method.Length
+code_part (Some c) = if sizes_said c then handlers_part c else Some method.Length
 
 abbrev pub method_part : Method → Option MethodPart
 method_part m =

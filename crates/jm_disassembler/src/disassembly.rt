@@ -1,9 +1,9 @@
 // The assembler text of a class (Jasmin User Guide).
 
-ghost use Rattle.std.specs.Prelude.{◌≡◌, ◌<◌, ◌^◌, ◌++◌, OnOk, IfOk, None, Ok};
+ghost use Rattle.std.specs.Prelude.{◌≡◌, ◌++◌, OnOk, IfOk, None, Ok};
 ghost use Rattle.jm_program.specs.declared.class.ClassParts.{ClassParts};
 ghost use Rattle.jm_jasmin.specs.Text.{denoted};
-ghost use Rattle.jm_disassembler.specs.Texts.{class_text};
+ghost use Rattle.jm_disassembler.specs.Texts.{class_text, marked_declaration};
 ghost use Rattle.jm_disassembler.specs.Unsaid.{first_unsaid};
 ghost use Rattle.jm_disassembler.specs.Disassembly.{Disassembles};
 
@@ -12,10 +12,23 @@ use crate::first::first_of;
 use crate::header::{
     write_declaration, write_interfaces, write_source, write_super, write_version,
 };
+use crate::mark::write_class_mark;
 use crate::member::{write_fields, write_methods};
 use crate::unsaid::Unsaid;
 use jm_program::{Class, ClassParts};
 use std::alloc::{AllocError, Global};
+
+#[tactic(auto, unfolding(crate::specs::Texts::marked_declaration))]
+fn write_marked_declaration(
+    out: &mut String,
+    commented: bool,
+    class: &ClassParts,
+) -> Result<(), AllocError>
+    ensures { OnOk result (out.new.bytes.items ≡ out.old.bytes.items ++ marked_declaration commented class.now) }
+{
+    write_class_mark(out, class)?;
+    write_declaration(out, commented, class)
+}
 
 #[tactic(auto, unfolding(crate::specs::Texts::class_text))]
 fn write_class(
@@ -28,7 +41,7 @@ fn write_class(
 {
     write_version(out, class.version)?;
     write_source(alloc, out, &class.source_file)?;
-    write_declaration(out, commented, class)?;
+    write_marked_declaration(out, commented, class)?;
     write_super(out, &class.superclass)?;
     write_interfaces(out, class.interfaces.as_slice())?;
     write_fields(out, commented, class.fields.as_slice())?;
@@ -41,14 +54,6 @@ fn text_of(alloc: Global, commented: bool, class: &ClassParts) -> Result<String,
     let mut text = String::new(alloc);
     write_class(alloc, &mut text, commented, class)?;
     Ok(text)
-}
-
-// A number of 16 bits.
-fn is_minor(minor: u16) -> u16
-    ensures value { result ≡ minor }
-    ensures small { result < 2 ^ 16 }
-{
-    minor
 }
 
 /// The first part of a class that no text can say, in the order of a text, if there is one.
@@ -72,7 +77,8 @@ pub fn disassemble(alloc: Global, class: &Class) -> Result<String, DisassemblyFa
     ensures { Disassembles (λ text. text.bytes.items) result class.now }
 {
     let parts = class.parts();
-    let _minor = is_minor(parts.version.minor);
+    let minor = parts.version.minor;
+    prove!(minor <= 65535);
     match first_of(parts) {
         Some(part) => Err(DisassemblyFault::NoText(part)),
         None => {
@@ -82,17 +88,21 @@ pub fn disassemble(alloc: Global, class: &Class) -> Result<String, DisassemblyFa
     }
 }
 
-/// The text of a class with comments: behind each instruction its number, and behind the flags of
-/// the class or a member those that no word says. Where each part can be said the text denotes
-/// the class, too; elsewhere it serves a reader, and no assembler. It takes time and memory in the
-/// class.
+/// The text of a class, whether or not an assembler can read it, with comments or without them. A
+/// comment is the number of an instruction behind it, or the flags of the class or a member that no
+/// word says. A part that no text can say is printed as it is, and a line `; 90 NoText(..)`, also
+/// where no comments are wanted, marks the first one of each member, and of the lines before the
+/// fields. Where there is no such part the text denotes that very class. It takes time and memory in
+/// the class.
 ///
 /// # Errors
 /// [`AllocError`] where a growth was refused.
-pub fn disassemble_with_comments(alloc: Global, class: &Class) -> Result<String, AllocError>
-    ensures { IfOk result (λ text. first_unsaid class.now ≡ None → denoted text.bytes.items ≡ Ok class.now) }
+pub fn class_text(alloc: Global, commented: bool, class: &Class) -> Result<String, AllocError>
+    ensures text { IfOk result (λ text. text.bytes.items ≡ class_text commented class.now) }
+    ensures denotes { first_unsaid class.now ≡ None → denoted (class_text commented class.now) ≡ Ok class.now }
 {
     let parts = class.parts();
-    let _minor = is_minor(parts.version.minor);
-    text_of(alloc, true, parts)
+    let minor = parts.version.minor;
+    prove!(minor <= 65535);
+    text_of(alloc, commented, parts)
 }

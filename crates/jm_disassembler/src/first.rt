@@ -1,16 +1,13 @@
 // The first part of a class that no text can say, in the order of the text.
 
-ghost use Rattle.std.specs.Prelude.{◌≡◌, not, if◌then◌else◌, Some, None};
-ghost use Rattle.jm_disassembler.specs.declared.unsaid.MethodPart.TheVariants.{Lines};
+ghost use Rattle.std.specs.Prelude.{◌≡◌, not};
 ghost use Rattle.std.specs.List.{position};
 ghost use Rattle.jm_disassembler.specs.Names.{is_sayable};
-ghost use Rattle.jm_disassembler.specs.Said.{instr_said, no_parenthesis};
-ghost use Rattle.jm_disassembler.specs.Bodies.{caught_said, handler_said, row_said, lines_said, sizes_said};
-ghost use Rattle.jm_disassembler.specs.Members.{field_name_said, method_name_said};
-ghost use Rattle.jm_disassembler.specs.Unsaid.{value_said, field_part, fields_part, handler_or, instruction_or, code_part, method_part, methods_part, source_said, super_said, header_part, first_unsaid};
+ghost use Rattle.jm_disassembler.specs.Said.{instr_said, field_name_said};
+ghost use Rattle.jm_disassembler.specs.Bodies.{caught_said, handler_said, lines_said, sizes_said};
+ghost use Rattle.jm_disassembler.specs.Unsaid.{value_said, field_part, fields_part, rows_part, instructions_part, handlers_part, code_part, method_part, methods_part, source_said, super_said, header_part, first_unsaid};
 
-use crate::flags::member_flags_said;
-use crate::header::class_flags_said;
+use crate::flags::{class_flags_said, member_flags_said};
 use crate::names::{is_plain_method_type, is_plain_type, is_sayable};
 use crate::said::{constant_said, instr_said, is_short, no_parenthesis};
 use crate::unsaid::{ClassPart, FieldPart, MethodPart, Unsaid};
@@ -41,7 +38,8 @@ fn value_said(value: &Option<Constant>) -> bool
     }
 }
 
-fn field_part(field: &Field) -> Option<FieldPart>
+/// The first part of a field that no text can say, in the order of the text.
+pub fn field_part(field: &Field) -> Option<FieldPart>
     ensures { result ≡ field_part field.now }
 {
     if !member_flags_said(field.flags.bits) {
@@ -120,7 +118,7 @@ fn sizes_said(code: &Code) -> bool
 }
 
 fn rows_part(code: &Code) -> Option<MethodPart>
-    ensures { result ≡ (if lines_said 0 code.now.lines then None else Some Lines) }
+    ensures { result ≡ rows_part code.now }
 {
     if lines_said(code.lines.as_slice()) {
         None
@@ -130,7 +128,7 @@ fn rows_part(code: &Code) -> Option<MethodPart>
 }
 
 fn instructions_part(code: &Code) -> Option<MethodPart>
-    ensures { result ≡ instruction_or (position (λ i. not (instr_said i)) code.now.instructions) (if lines_said 0 code.now.lines then None else Some Lines) }
+    ensures { result ≡ instructions_part code.now }
 {
     match first_instruction(code.instructions.as_slice()) {
         Some(number) => Some(MethodPart::Instruction(number)),
@@ -139,7 +137,7 @@ fn instructions_part(code: &Code) -> Option<MethodPart>
 }
 
 fn handlers_part(code: &Code) -> Option<MethodPart>
-    ensures { result ≡ handler_or (position (λ h. not (handler_said h)) code.now.handlers) (instruction_or (position (λ i. not (instr_said i)) code.now.instructions) (if lines_said 0 code.now.lines then None else Some Lines)) }
+    ensures { result ≡ handlers_part code.now }
 {
     match first_handler(code.handlers.as_slice()) {
         Some(number) => Some(MethodPart::Handler(number)),
@@ -159,7 +157,8 @@ fn code_part(code: &Option<Code>) -> Option<MethodPart>
     handlers_part(code)
 }
 
-fn method_part(method: &Method) -> Option<MethodPart>
+/// The first part of a method that no text can say, in the order of the text.
+pub fn method_part(method: &Method) -> Option<MethodPart>
     ensures { result ≡ method_part method.now }
 {
     let name = method.name.units();
@@ -212,7 +211,8 @@ fn first_interface(names: &[Name]) -> Option<usize>
     names.iter().position(|name| !is_sayable(name.units()))
 }
 
-fn header_part(class: &ClassParts) -> Option<ClassPart>
+/// The first part of the lines before the fields that no text can say, in the order of the text.
+pub fn header_part(class: &ClassParts) -> Option<ClassPart>
     ensures { result ≡ header_part class.now }
 {
     if !source_said(&class.source_file) {

@@ -1,10 +1,11 @@
 // Access flags and their words (Jasmin User Guide, "Jasmin Assembler Directives"; JVMS 4.1, 4.5,
 // 4.6).
 
-ghost use Rattle.std.specs.Prelude.{◌≡◌, ◌++◌, ◌∷◌, ◌==◌, [], OnOk, ℕ, bit_and, bit_or, if◌then◌else◌};
-ghost use Rattle.jm_disassembler.specs.Flags.{class_rows, interface_rows, member_rows, flags_text, flags_said};
-ghost use Rattle.jm_disassembler.specs.Members.{wordless_rows};
+ghost use Rattle.std.specs.Prelude.{◌≡◌, ◌++◌, ◌∷◌, ◌==◌, [], OnOk, ℕ, bit_and, bit_or, codes, if◌then◌else◌};
+ghost use Rattle.std.specs.List.{flat_map};
+ghost use Rattle.jm_disassembler.specs.Flags.{class_flags_said, class_note, class_note_words, class_rows, interface_rows, lacking_text, member_note, member_rows, member_wordless_rows, flags_text, flags_said, silent_row, wordless_rows, wordless_text};
 
+use jm_program::AccessFlags;
 use std::alloc::AllocError;
 
 // The bits with those of a flag, where it is set among others.
@@ -25,8 +26,8 @@ fn write_flag(out: &mut String, bits: u16, mask: u16, word: &str) -> Result<(), 
     Ok(())
 }
 
-/// Whether the words of a class beside ACC_SUPER say all of the flags.
-pub fn class_flags_said(bits: u16) -> bool
+// Whether the words of a class beside ACC_SUPER say all of the flags.
+fn plain_flags_said(bits: u16) -> bool
     ensures { result ≡ flags_said 0x0020 bits class_rows }
 {
     let all = 0x0020;
@@ -41,9 +42,8 @@ pub fn class_flags_said(bits: u16) -> bool
     all == bits
 }
 
-/// Whether the words of an interface beside ACC_INTERFACE and
-/// ACC_ABSTRACT say all of the flags.
-pub fn interface_flags_said(bits: u16) -> bool
+// Whether the words of an interface beside ACC_INTERFACE and ACC_ABSTRACT say all of the flags.
+fn interface_flags_said(bits: u16) -> bool
     ensures { result ≡ flags_said 0x0600 bits interface_rows }
 {
     let all = 0x0600;
@@ -56,6 +56,17 @@ pub fn interface_flags_said(bits: u16) -> bool
     let all = with_flag(all, bits, 0x0040);
     let all = with_flag(all, bits, 0x0080);
     all == bits
+}
+
+/// Whether the words of a class's flags say them all.
+pub fn class_flags_said(flags: AccessFlags) -> bool
+    ensures { result ≡ class_flags_said flags }
+{
+    if flags.has(AccessFlags::INTERFACE) {
+        interface_flags_said(flags.bits)
+    } else {
+        plain_flags_said(flags.bits)
+    }
 }
 
 /// Whether the words of a field or a method say all of the flags.
@@ -121,16 +132,110 @@ pub fn write_member_flags(out: &mut String, bits: u16) -> Result<(), AllocError>
     Ok(())
 }
 
-/// Writes the words of the flags that have no word in a text. After an error some of them may stand there.
-pub fn write_wordless_flags(out: &mut String, bits: u16) -> Result<(), AllocError>
-    ensures { OnOk result (out.new.bytes.items ≡ out.old.bytes.items ++ flags_text bits wordless_rows) }
+// ---- comments
+
+// Writes a blank and the word of a flag, where the flag is set.
+fn write_wordless_flag(out: &mut String, bits: u16, mask: u16, word: &str) -> Result<(), AllocError>
+    ensures { OnOk result (out.new.bytes.items ≡ out.old.bytes.items ++ (if bit_and bits mask == mask then 32 ∷ word.now else [])) }
 {
-    write_flag(out, bits, 0x0100, "native")?;
-    write_flag(out, bits, 0x0200, "interface")?;
-    write_flag(out, bits, 0x0800, "strict")?;
-    write_flag(out, bits, 0x1000, "synthetic")?;
-    write_flag(out, bits, 0x2000, "annotation")?;
-    write_flag(out, bits, 0x4000, "enum")?;
-    write_flag(out, bits, 0x8000, "mandated")?;
+    if bits & mask == mask {
+        out.push_str(" ")?;
+        out.push_str(word)?;
+    }
     Ok(())
+}
+
+// Writes the words of the flags that have none in a text.
+fn write_wordless_flags(out: &mut String, bits: u16) -> Result<(), AllocError>
+    ensures { OnOk result (out.new.bytes.items ≡ out.old.bytes.items ++ flat_map (wordless_text bits) wordless_rows) }
+{
+    write_wordless_flag(out, bits, 0x0100, "native")?;
+    write_wordless_flag(out, bits, 0x0800, "strict")?;
+    write_wordless_flag(out, bits, 0x1000, "synthetic")?;
+    write_wordless_flag(out, bits, 0x2000, "annotation")?;
+    write_wordless_flag(out, bits, 0x4000, "enum")?;
+    write_wordless_flag(out, bits, 0x8000, "mandated")?;
+    Ok(())
+}
+
+// Writes that a flag is not set, where it is not.
+fn write_lacking_flag(out: &mut String, bits: u16, mask: u16, word: &str) -> Result<(), AllocError>
+    ensures { OnOk result (out.new.bytes.items ≡ out.old.bytes.items ++ (if bit_and bits mask == mask then [] else codes " not " ++ word.now)) }
+{
+    if bits & mask != mask {
+        out.push_str(" not ")?;
+        out.push_str(word)?;
+    }
+    Ok(())
+}
+
+// Writes that the flag which `.class` or `.interface` says is not set, where it is not.
+fn write_silent_flag(out: &mut String, flags: AccessFlags) -> Result<(), AllocError>
+    ensures { OnOk result (out.new.bytes.items ≡ out.old.bytes.items ++ lacking_text flags.bits (silent_row flags)) }
+{
+    if flags.has(AccessFlags::INTERFACE) {
+        write_lacking_flag(out, flags.bits, 0x0400, "abstract")
+    } else {
+        write_lacking_flag(out, flags.bits, 0x0020, "super")
+    }
+}
+
+// Writes what no word says of the flags of a class.
+fn write_class_words(out: &mut String, flags: AccessFlags) -> Result<(), AllocError>
+    ensures { OnOk result (out.new.bytes.items ≡ out.old.bytes.items ++ class_note_words flags) }
+{
+    write_silent_flag(out, flags)?;
+    write_wordless_flags(out, flags.bits)
+}
+
+fn write_class_comment(out: &mut String, flags: AccessFlags) -> Result<(), AllocError>
+    ensures { OnOk result (out.new.bytes.items ≡ out.old.bytes.items ++ (codes "  ;" ++ (class_note_words flags ++ codes "\n"))) }
+{
+    out.push_str("  ;")?;
+    write_class_words(out, flags)?;
+    out.push_str("\n")
+}
+
+/// Writes the end of the line of a class, and before it, where comments are wanted, the flags that
+/// no word says. After an error some of it may stand there.
+pub fn write_class_note(
+    out: &mut String,
+    commented: bool,
+    flags: AccessFlags,
+) -> Result<(), AllocError>
+    ensures { OnOk result (out.new.bytes.items ≡ out.old.bytes.items ++ class_note commented flags) }
+{
+    if commented && !class_flags_said(flags) {
+        write_class_comment(out, flags)
+    } else {
+        out.push_str("\n")
+    }
+}
+
+// Writes what no word says of the flags of a field or a method.
+fn write_member_words(out: &mut String, bits: u16) -> Result<(), AllocError>
+    ensures { OnOk result (out.new.bytes.items ≡ out.old.bytes.items ++ flat_map (wordless_text bits) member_wordless_rows) }
+{
+    write_wordless_flag(out, bits, 0x0200, "interface")?;
+    write_wordless_flags(out, bits)
+}
+
+fn write_member_comment(out: &mut String, bits: u16) -> Result<(), AllocError>
+    ensures { OnOk result (out.new.bytes.items ≡ out.old.bytes.items ++ (codes "  ;" ++ (flat_map (wordless_text bits) member_wordless_rows ++ codes "\n"))) }
+{
+    out.push_str("  ;")?;
+    write_member_words(out, bits)?;
+    out.push_str("\n")
+}
+
+/// Writes the end of the line of a field or a method, and before it, where comments are wanted, the
+/// flags that no word says. After an error some of it may stand there.
+pub fn write_member_note(out: &mut String, commented: bool, bits: u16) -> Result<(), AllocError>
+    ensures { OnOk result (out.new.bytes.items ≡ out.old.bytes.items ++ member_note commented bits) }
+{
+    if commented && !member_flags_said(bits) {
+        write_member_comment(out, bits)
+    } else {
+        out.push_str("\n")
+    }
 }

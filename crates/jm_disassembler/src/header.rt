@@ -3,13 +3,9 @@
 ghost use Rattle.std.specs.Prelude.{◌≡◌, ◌<◌, ◌^◌, ◌++◌, OnOk, IfOk, Option, codes};
 ghost use Rattle.jm_disassembler.specs.Flags.{class_rows, interface_rows, flags_text};
 ghost use Rattle.std.specs.List.{flat_map};
-ghost use Rattle.jm_disassembler.specs.Texts.{version_text, source_text, class_flags_said, declaration_front, declaration_text, super_text, implements_text};
+ghost use Rattle.jm_disassembler.specs.Texts.{version_text, source_text, declaration_front, declaration_text, super_text, implements_text};
 
-use crate::flags::{
-    class_flags_said as plain_flags_said, interface_flags_said, write_class_flags,
-    write_interface_flags,
-};
-use crate::member::write_flags_note;
+use crate::flags::{write_class_flags, write_class_note, write_interface_flags};
 use jm_program::{AccessFlags, ClassParts, Name, Sequence, Version};
 use std::alloc::{AllocError, Global};
 use std::fmt::Write;
@@ -51,17 +47,6 @@ pub fn write_interfaces(out: &mut String, names: &[Name]) -> Result<(), AllocErr
     Ok(())
 }
 
-/// Whether the words of a class's flags say them all.
-pub fn class_flags_said(flags: AccessFlags) -> bool
-    ensures { result ≡ class_flags_said flags }
-{
-    if flags.has(AccessFlags::INTERFACE) {
-        interface_flags_said(flags.bits)
-    } else {
-        plain_flags_said(flags.bits)
-    }
-}
-
 fn write_interface_front(out: &mut String, bits: u16) -> Result<(), AllocError>
     ensures { OnOk result (out.new.bytes.items ≡ out.old.bytes.items ++ (codes ".interface " ++ flags_text bits interface_rows)) }
 {
@@ -98,12 +83,7 @@ pub fn write_declaration(
     let name = &class.name;
     write_front(out, class.flags)?;
     write!(out, "{name}")?;
-    write_flags_note(
-        out,
-        commented,
-        class.flags.bits,
-        class_flags_said(class.flags),
-    )
+    write_class_note(out, commented, class.flags)
 }
 
 // A name of the same code units.

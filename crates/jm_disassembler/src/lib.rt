@@ -10,12 +10,13 @@ mod flags;
 mod header;
 mod instruction;
 mod labels;
+mod mark;
 mod member;
 mod names;
 mod said;
 mod string;
 mod unsaid;
 
-pub use disassembly::{disassemble, disassemble_with_comments, first_unsaid};
+pub use disassembly::{class_text, disassemble, first_unsaid};
 pub use fault::DisassemblyFault;
 pub use unsaid::{ClassPart, FieldPart, MethodPart, Unsaid};

@@ -3,32 +3,16 @@
 ghost use Rattle.std.specs.Prelude.{◌≡◌, ◌++◌, OnOk, Option, codes};
 ghost use Rattle.jm_program.specs.JasminUnits.{string_text};
 ghost use Rattle.std.specs.List.{flat_map};
-ghost use Rattle.jm_disassembler.specs.Members.{flags_note, constant_value, value_text, field_text, body_of, method_text};
-ghost use Rattle.jm_disassembler.specs.Texts.{fields_text};
+ghost use Rattle.jm_disassembler.specs.Members.{constant_value, value_text, field_text, body_of, method_text};
+ghost use Rattle.jm_disassembler.specs.Texts.{marked_field, fields_text, marked_method};
 
 use crate::body::write_code;
-use crate::flags::{member_flags_said, write_member_flags, write_wordless_flags};
+use crate::flags::{write_member_flags, write_member_note};
+use crate::mark::{write_field_mark, write_method_mark};
 use crate::string::write_string;
 use jm_program::{Code, Constant, Field, Method};
 use std::alloc::{AllocError, Global};
 use std::fmt::Write;
-
-/// Writes the end of a line with flags, and behind it those that have no word, where that is
-/// wanted.
-pub fn write_flags_note(
-    out: &mut String,
-    commented: bool,
-    bits: u16,
-    said: bool,
-) -> Result<(), AllocError>
-    ensures { OnOk result (out.new.bytes.items ≡ out.old.bytes.items ++ flags_note commented bits said) }
-{
-    if commented && !said {
-        out.push_str("  ; ")?;
-        write_wordless_flags(out, bits)?;
-    }
-    out.push_str("\n")
-}
 
 // ---- fields
 
@@ -62,19 +46,28 @@ fn write_field(out: &mut String, commented: bool, field: &Field) -> Result<(), A
     write_member_flags(out, bits)?;
     write!(out, "{name} {descriptor}")?;
     write_value(out, &field.constant)?;
-    write_flags_note(out, commented, bits, member_flags_said(bits))
+    write_member_note(out, commented, bits)
+}
+
+#[tactic(auto, unfolding(crate::specs::Texts::marked_field))]
+fn write_marked_field(out: &mut String, commented: bool, field: &Field) -> Result<(), AllocError>
+    ensures { OnOk result (out.new.bytes.items ≡ out.old.bytes.items ++ marked_field commented field.now) }
+{
+    write_field_mark(out, field)?;
+    write_field(out, commented, field)
 }
 
 fn write_more_fields(out: &mut String, commented: bool, fields: &[Field]) -> Result<(), AllocError>
-    ensures { OnOk result (out.new.bytes.items ≡ out.old.bytes.items ++ flat_map (field_text commented) fields.now) }
+    ensures { OnOk result (out.new.bytes.items ≡ out.old.bytes.items ++ flat_map (marked_field commented) fields.now) }
 {
     for field in fields {
-        write_field(out, commented, field)?;
+        write_marked_field(out, commented, field)?;
     }
     Ok(())
 }
 
-/// Writes the lines of fields, an empty one before the first.
+/// Writes the lines of fields, each behind that of its mark, if it has one, and an empty line before
+/// the first. After an error some of them may stand there.
 pub fn write_fields(out: &mut String, commented: bool, fields: &[Field]) -> Result<(), AllocError>
     ensures { OnOk result (out.new.bytes.items ≡ out.old.bytes.items ++ fields_text commented fields.now) }
 {
@@ -82,7 +75,7 @@ pub fn write_fields(out: &mut String, commented: bool, fields: &[Field]) -> Resu
         return Ok(());
     };
     out.push_str("\n")?;
-    write_field(out, commented, first)?;
+    write_marked_field(out, commented, first)?;
     write_more_fields(out, commented, others)
 }
 
@@ -114,25 +107,40 @@ fn write_method(
     let bits = method.flags.bits;
     let name = &method.name;
     let descriptor = &method.descriptor;
-    out.push_str("\n.method ")?;
+    out.push_str(".method ")?;
     write_member_flags(out, bits)?;
     write!(out, "{name}{descriptor}")?;
-    write_flags_note(out, commented, bits, member_flags_said(bits))?;
+    write_member_note(out, commented, bits)?;
     write_body(alloc, out, commented, &method.code)?;
     out.push_str(".end method\n")
 }
 
-/// Writes the lines of methods, an empty one before each.
+#[tactic(auto, unfolding(crate::specs::Texts::marked_method))]
+fn write_marked_method(
+    alloc: Global,
+    out: &mut String,
+    commented: bool,
+    method: &Method,
+) -> Result<(), AllocError>
+    ensures { OnOk result (out.new.bytes.items ≡ out.old.bytes.items ++ marked_method commented method.now) }
+{
+    out.push_str("\n")?;
+    write_method_mark(out, method)?;
+    write_method(alloc, out, commented, method)
+}
+
+/// Writes the lines of methods, each behind that of its mark, if it has one, and an empty line before
+/// each. After an error some of them may stand there.
 pub fn write_methods(
     alloc: Global,
     out: &mut String,
     commented: bool,
     methods: &[Method],
 ) -> Result<(), AllocError>
-    ensures { OnOk result (out.new.bytes.items ≡ out.old.bytes.items ++ flat_map (method_text commented) methods.now) }
+    ensures { OnOk result (out.new.bytes.items ≡ out.old.bytes.items ++ flat_map (marked_method commented) methods.now) }
 {
     for method in methods {
-        write_method(alloc, out, commented, method)?;
+        write_marked_method(alloc, out, commented, method)?;
     }
     Ok(())
 }

@@ -1,5 +1,8 @@
 // The parts of a class that no text can say.
 
+ghost use Rattle.std.specs.Prelude.{Some};
+ghost use Rattle.jm_disassembler.specs.PartTexts.{class_part_text, field_part_text, method_part_text, unsaid_text};
+
 use std::fmt;
 
 /// A part of the lines before the fields.
@@ -47,6 +50,8 @@ pub enum Unsaid {
 }
 
 impl fmt::Display for ClassPart {
+    ghost output = { λ part. Some (class_part_text part) };
+
     fn fmt<W: fmt::Write>(&self, f: &mut fmt::Formatter<W>) -> fmt::Result {
         match self {
             ClassPart::SourceFile => f.write_str("source file"),
@@ -59,16 +64,20 @@ impl fmt::Display for ClassPart {
 }
 
 impl fmt::Display for FieldPart {
+    ghost output = { λ part. Some (field_part_text part) };
+
     fn fmt<W: fmt::Write>(&self, f: &mut fmt::Formatter<W>) -> fmt::Result {
-        f.write_str(match self {
-            FieldPart::Flags => "flags",
-            FieldPart::Name => "name",
-            FieldPart::Type => "type",
-        })
+        match self {
+            FieldPart::Flags => f.write_str("flags"),
+            FieldPart::Name => f.write_str("name"),
+            FieldPart::Type => f.write_str("type"),
+        }
     }
 }
 
 impl fmt::Display for MethodPart {
+    ghost output = { λ part. Some (method_part_text part) };
+
     fn fmt<W: fmt::Write>(&self, f: &mut fmt::Formatter<W>) -> fmt::Result {
         match self {
             MethodPart::Flags => f.write_str("flags"),
@@ -83,6 +92,8 @@ impl fmt::Display for MethodPart {
 }
 
 impl fmt::Display for Unsaid {
+    ghost output = { λ part. Some (unsaid_text part) };
+
     fn fmt<W: fmt::Write>(&self, f: &mut fmt::Formatter<W>) -> fmt::Result {
         match self {
             Unsaid::Class(part) => write!(f, "class: {part}"),

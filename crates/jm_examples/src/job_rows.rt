@@ -11,6 +11,8 @@ pub enum JobKind {
     Debug { heap: u32 },
     /// The class file of the text is made.
     Assemble,
+    /// The text of the class is shown, with comments or without.
+    Disassemble { bare: bool },
     /// The classes are linked.
     Link,
 }
@@ -57,6 +59,8 @@ fn cells_behind(word: &str, text: &str) -> Option<u32> {
 fn kind_of(word: &str) -> Option<JobKind> {
     match word {
         "asm" => return Some(JobKind::Assemble),
+        "dis" => return Some(JobKind::Disassemble { bare: false }),
+        "dis bare" => return Some(JobKind::Disassemble { bare: true }),
         "link" => return Some(JobKind::Link),
         _ => {}
     }

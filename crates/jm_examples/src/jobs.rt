@@ -1,7 +1,9 @@
-// The jobs that are done: a program of files that is run or shown by the debugger, and a text that is
-// assembled.
+// The jobs that are done: a program of files that is run or shown by the debugger, a text that is
+// assembled, and a class whose text is shown.
 
-use jm_execute::{AssembleJob, Contents, DebugJob, InputFile, Job, RunEvents, RunJob};
+use jm_execute::{
+    AssembleJob, Contents, DebugJob, DisassembleJob, InputFile, Job, RunEvents, RunJob,
+};
 use std::alloc::{AllocError, Global};
 
 /// The limit of the heap where none is named, in cells.
@@ -37,4 +39,9 @@ pub fn assembly_job(alloc: Global, text: InputFile) -> Result<Job, AllocError> {
         text,
         output: String::from_str(alloc, "Sum.class")?,
     }))
+}
+
+/// The text of the class in a file, with comments or without.
+pub fn disassembly_job(bare: bool, file: InputFile) -> Job {
+    Job::Disassemble(DisassembleJob { file, bare })
 }

@@ -3,7 +3,7 @@
 use crate::columns::{bytes_of, file_of, files_of};
 use crate::events::events_of;
 use crate::job_rows::{JobKind, JobRow};
-use crate::jobs::{assembly_job, debug_job, run_job};
+use crate::jobs::{assembly_job, debug_job, disassembly_job, run_job};
 use crate::notation::invalid;
 use jm_execute::{InputFile, Job, Watched, class_of, execute};
 use jm_linker::{LinkFault, link};
@@ -50,6 +50,10 @@ fn job_of(rt: &HostRuntime, row: &JobRow<'_>) -> io::Result<Option<Job>> {
         JobKind::Assemble => {
             let text = file_of(rt, row.names, row.contents)?;
             Ok(Some(assembly_job(rt.alloc(), text)?))
+        }
+        JobKind::Disassemble { bare } => {
+            let file = file_of(rt, row.names, row.contents)?;
+            Ok(Some(disassembly_job(bare, file)))
         }
         JobKind::Link => Ok(None),
     }

@@ -10,7 +10,7 @@ use Rattle.jm_execute.specs.Beginnings.{HasOneThread, StandsAtItsBeginning, begi
 use Rattle.jm_execute.specs.Reasons.{heap_too_small}
 use Rattle.jm_execute.specs.Verdicts.{Cause, Verdict, because, debugs, runs, loaded_program}
 use Rattle.jm_debug.specs.Session.{session_of}
-use Rattle.jm_execute.specs.Endings.{Ending, completed, interrupted, assembled, answered, exhausted, turned_away, Debugs, Ends, Allows}
+use Rattle.jm_execute.specs.Endings.{Ending, completed, interrupted, assembled, disassembled, answered, exhausted, turned_away, Debugs, Ends, Allows}
 use Rattle.jm_execute.specs.Talks.{Talk}
 
 -- a loaded world has its program and its limit
@@ -57,6 +57,7 @@ allowed v program limit events shows is (interrupted w) (made, rest, whole, h) =
   world_is = h;
 }
 allowed v program limit events shows is (assembled bytes) h = absurd h
+allowed v program limit events shows is (disassembled name commented class) h = absurd h
 allowed v program limit events shows is (answered t) h = absurd h
 allowed v program limit events shows is exhausted h = tt
 allowed v program limit events shows is (turned_away reason) h = absurd h

@@ -9,6 +9,7 @@ mod Chains
 mod RunVerdicts
 mod FileLists
 mod Assemblies
+mod Disassemblies
 mod Beginnings
 mod Telling
 mod StayingSessions

@@ -4,7 +4,10 @@ use Rattle.std.specs.Prelude.{◌⊎◌, ⊤}
 use Rattle.jm_world.specs.World.{World, live_among}
 use Rattle.jm_world.specs.declared.stop.Stop.{Stop}
 use Rattle.jm_world.specs.declared.stop.Stop.TheVariants.{TagFault, HeapFull, SerialsEnd}
-use Rattle.jm_execute.specs.Endings.{Ending, completed, interrupted, assembled, answered, exhausted, turned_away, Allows, Hears, status_after}
+use Rattle.jm_disassembler.specs.Unsaid.{first_unsaid}
+use Rattle.jm_disassembler.specs.declared.unsaid.Unsaid.{Unsaid}
+use Rattle.jm_execute.specs.ClassTexts.{unsaid_status}
+use Rattle.jm_execute.specs.Endings.{Ending, completed, interrupted, assembled, disassembled, answered, exhausted, turned_away, Allows, Hears, status_after}
 use Rattle.jm_execute.specs.Talks.{Close, ClosesBy, close_status, call_failed, input_ended, memory_refused}
 use Rattle.jm_execute.specs.Written.{Reads, Watch}
 use Rattle.jm_execute.specs.Reasons.{Reason, not_read, no_class, no_class_file, not_linked, heap_too_small, no_event, reason_status}
@@ -45,6 +48,10 @@ of_a_file (not_linked fault) h = absurd h
 of_a_file heap_too_small h = absurd h
 of_a_file (no_event line) h = absurd h
 
+of_no_text : (unsaid : Option Unsaid) → IsFiles (unsaid_status unsaid) → ⊥
+of_no_text None h = h
+of_no_text (Some part) h = h
+
 -- a session has it only where a call failed
 of_a_call : {R : Type 0} (r : Reads R) (close : Close) (bytes : List ℕ) (rest : List (Option (List ℕ))) (reader new_reader : Watch R) → IsFiles (close_status close)
     → ClosesBy r false close bytes rest reader new_reader → new_reader.failed ≡ true
@@ -58,6 +65,7 @@ pub not_read_where_files : {R : Type 0} (r : Reads R) (v : Verdict) (e : Ending)
 not_read_where_files r v (completed shows w) failed reader new_reader whole allows hears h = absurd (of_no_world w (subst IsFiles h tt))
 not_read_where_files r v (interrupted w) failed reader new_reader whole allows hears h = absurd (subst IsFiles h tt)
 not_read_where_files r v (assembled bytes) failed reader new_reader whole allows hears h = absurd (subst IsFiles h tt)
+not_read_where_files r v (disassembled name commented class) failed reader new_reader whole allows hears h = absurd (of_no_text (first_unsaid class) (subst IsFiles h tt))
 not_read_where_files r v (answered t) failed reader new_reader whole allows hears h =
     inr (of_a_call r t.close hears.bytes hears.rest reader new_reader (subst IsFiles h tt) (subst (λ b. ClosesBy r b t.close hears.bytes hears.rest reader new_reader) whole hears.close))
 not_read_where_files r v exhausted failed reader new_reader whole allows hears h = absurd (subst IsFiles h tt)

@@ -4,7 +4,7 @@ use Rattle.std.specs.Prelude.{IfSome, OnOk}
 use Rattle.jm_execute.specs.Written.{Watch, Words, AllWritten, LinesWritten, LineFailed, Reads, WritesLines}
 use Rattle.jm_world.specs.World.{World}
 use Rattle.jm_world.specs.declared.event.Event.{Event}
-use Rattle.jm_execute.specs.Endings.{Ending, completed, interrupted, assembled, answered, exhausted, turned_away, Ends, FailureTold, Hears, IsDone, IsDoneUnread, IsTalk, Leaves, LeavesIf, LinesTold, Tells, output_of}
+use Rattle.jm_execute.specs.Endings.{Ending, completed, interrupted, assembled, disassembled, answered, exhausted, turned_away, Ends, FailureTold, Hears, IsDone, IsDoneUnread, IsTalk, Leaves, LeavesIf, LinesTold, Tells, output_of}
 use Rattle.jm_execute.specs.Talks.{Talk, TalkLeft, TalkLeftIf}
 use Rattle.jm_execute.specs.Verdicts.{Verdict}
 use Rattle.jm_execute.specs.declared.status.Status.{Status}
@@ -57,6 +57,7 @@ pub unheard : {R : Type 0} (r : Reads R) (failed : Bool) (e : Ending) (reader : 
 unheard r failed (completed shows w) reader silent = refl
 unheard r failed (interrupted w) reader silent = refl
 unheard r failed (assembled bytes) reader silent = refl
+unheard r failed (disassembled name commented class) reader silent = refl
 unheard r failed (answered t) reader silent = absurd (silent tt)
 unheard r failed exhausted reader silent = refl
 unheard r failed (turned_away reason) reader silent = refl
@@ -66,6 +67,7 @@ pub no_talk : (shows : Bool) (first : World) (events : List Event) (e : Ending) 
 no_talk shows first events (completed shown w) ends talk = talk
 no_talk shows first events (interrupted w) ends talk = talk
 no_talk shows first events (assembled bytes) ends talk = talk
+no_talk shows first events (disassembled name commented class) ends talk = talk
 no_talk shows first events (answered t) ends talk = ends
 no_talk shows first events exhausted ends talk = talk
 no_talk shows first events (turned_away reason) ends talk = talk

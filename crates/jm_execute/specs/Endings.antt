@@ -10,7 +10,10 @@ use Rattle.jm_execute.specs.Reports.{report, heap_shown, memory_line, failure_li
 use Rattle.jm_execute.specs.Reasons.{Reason, reason_status, reason_line}
 use Rattle.jm_debug.specs.Session.{session_of}
 use Rattle.jm_execute.specs.Talks.{Heard, Talk, close_status, talk_output}
-use Rattle.jm_execute.specs.Verdicts.{Verdict, because, runs, assembles, debugs}
+use Rattle.jm_disassembler.specs.Texts.{class_text}
+use Rattle.jm_disassembler.specs.Unsaid.{first_unsaid}
+use Rattle.jm_execute.specs.ClassTexts.{Denotes, unsaid_status, unsaid_line}
+use Rattle.jm_execute.specs.Verdicts.{Verdict, because, runs, assembles, disassembles, debugs}
 use Rattle.jm_execute.specs.Written.{Watch, Reads, Words, AllWritten, Broken, Unflushed, LinesWritten, LineFailed}
 use Rattle.jm_execute.specs.declared.status.Status.{Status}
 use Rattle.jm_execute.specs.declared.status.Status.TheVariants as ends
@@ -22,11 +25,13 @@ pub data Ending : Type 0 where
   interrupted : World → Ending
   -- these bytes of a class file were made
   assembled : List ℕ → Ending
+  -- the text of the class in a file of this name was made, with comments or without them
+  disassembled : List ℕ → Bool → ClassParts → Ending
   -- lines were answered in a session of the debugger
   answered : Talk → Ending
-  -- memory was refused before the first event, before the class file was whole, or before the first line was read
+  -- memory was refused before the first event, before the class file or the text was whole, or before the first line was read
   exhausted : Ending
-  -- there was neither a run, nor a class file, nor a session, for this reason
+  -- there was neither a run, nor a class file, nor a text, nor a session, for this reason
   turned_away : Reason → Ending
 
 -- the run that a world is the last of
@@ -53,6 +58,11 @@ pub record Assembles (v : Verdict) (bytes : List ℕ) : Type 0 where
   pub assembles_is : v ≡ Ok (assembles class bytes)
   pub spelled : Spells bytes class
 
+-- the class is that of the file, and the text denotes it where each part of it can be said
+pub record Disassembles (v : Verdict) (name : List ℕ) (commented : Bool) (class : ClassParts) : Type 0 where
+  pub disassembles_is : v ≡ Ok (disassembles name commented class)
+  pub denotes : Denotes commented class
+
 -- the session begins with the first world of its program
 pub record Debugs (v : Verdict) (t : Talk) : Type 0 where
   pub program : List ClassParts
@@ -65,6 +75,7 @@ abbrev pub Ends : Bool → World → List Event → Ending → Type 0
 Ends shows first events (completed shown w) = (shown ≡ shows) × (w ≡ run_from first events)
 Ends shows first events (interrupted w) = (made : List Event) × (rest : List Event) × (events ≡ made ++ rest) × (w ≡ run_from first made)
 Ends shows first events (assembled bytes) = ⊥
+Ends shows first events (disassembled name commented class) = ⊥
 Ends shows first events (answered t) = ⊥
 Ends shows first events exhausted = ⊤
 Ends shows first events (turned_away reason) = ⊥
@@ -74,6 +85,7 @@ abbrev pub Allows : Verdict → Ending → Type 0
 Allows v (completed shows w) = Completes v shows w
 Allows v (interrupted w) = StopsShort v w
 Allows v (assembled bytes) = Assembles v bytes
+Allows v (disassembled name commented class) = Disassembles v name commented class
 Allows v (answered t) = Debugs v t
 Allows v exhausted = ⊤
 Allows v (turned_away reason) = v ≡ Err (because reason)
@@ -82,6 +94,7 @@ abbrev pub output_of : Ending → List ℕ
 output_of (completed shows w) = w.output
 output_of (interrupted w) = w.output
 output_of (assembled bytes) = bytes
+output_of (disassembled name commented class) = class_text commented class
 output_of (answered t) = talk_output t
 output_of exhausted = []
 output_of (turned_away reason) = []
@@ -90,6 +103,7 @@ abbrev pub status_after : Ending → Status
 status_after (completed shows w) = status_of w
 status_after (interrupted w) = ends.OutOfMemory
 status_after (assembled bytes) = ends.Done
+status_after (disassembled name commented class) = unsaid_status (first_unsaid class)
 status_after (answered t) = close_status t.close
 status_after exhausted = ends.OutOfMemory
 status_after (turned_away reason) = reason_status reason
@@ -99,6 +113,7 @@ abbrev pub lines_after : Ending → Option (List ℕ)
 lines_after (completed shows w) = Some (report w ++ heap_shown shows w)
 lines_after (interrupted w) = Some memory_line
 lines_after (assembled bytes) = Some []
+lines_after (disassembled name commented class) = unsaid_line name (first_unsaid class)
 lines_after (answered t) = Some []
 lines_after exhausted = Some memory_line
 lines_after (turned_away reason) = reason_line reason
@@ -108,6 +123,7 @@ abbrev pub lines_at_failure : Ending → Option (List ℕ)
 lines_at_failure (completed shows w) = Some failure_line
 lines_at_failure (interrupted w) = Some failure_line
 lines_at_failure (assembled bytes) = None
+lines_at_failure (disassembled name commented class) = Some failure_line
 lines_at_failure (answered t) = Some failure_line
 lines_at_failure exhausted = None
 lines_at_failure (turned_away reason) = None
@@ -117,6 +133,7 @@ abbrev pub IsTalk : Ending → Type 0
 IsTalk (completed shows w) = ⊥
 IsTalk (interrupted w) = ⊥
 IsTalk (assembled bytes) = ⊥
+IsTalk (disassembled name commented class) = ⊥
 IsTalk (answered t) = ⊤
 IsTalk exhausted = ⊥
 IsTalk (turned_away reason) = ⊥
@@ -126,6 +143,7 @@ abbrev pub Hears : {R : Type 0} → Reads R → Bool → Ending → Watch R → 
 Hears r out_failed (completed shows w) reader new_reader = new_reader ≡ reader
 Hears r out_failed (interrupted w) reader new_reader = new_reader ≡ reader
 Hears r out_failed (assembled bytes) reader new_reader = new_reader ≡ reader
+Hears r out_failed (disassembled name commented class) reader new_reader = new_reader ≡ reader
 Hears r out_failed (answered t) reader new_reader = Heard r out_failed t reader new_reader
 Hears r out_failed exhausted reader new_reader = new_reader ≡ reader
 Hears r out_failed (turned_away reason) reader new_reader = new_reader ≡ reader

@@ -13,6 +13,7 @@ pub mod ProgramFiles
 pub mod Reasons
 pub mod Verdicts
 pub mod Talks
+pub mod ClassTexts
 pub mod Endings
 pub mod Refusals
 pub mod ViewsAgain

@@ -1,10 +1,13 @@
 -- What a step answers: what its definition says, or the refusal that says why there is nothing.
 use Rattle.std.specs.declared.alloc.Global.{Global}
-use Rattle.std.specs.Prelude.{◌≡◌, ℕ, Vec, Result, Ok, Err, ⊤}
+use Rattle.std.specs.Prelude.{◌≡◌, ℕ, Vec, Result, Ok, Err, Bool, ⊤}
 use Rattle.jm_execute.specs.ProgramFiles.{in_text, in_class_file}
 use Rattle.jm_execute.specs.Reasons.{Reason, not_read, no_class, no_class_file, not_linked, heap_too_small, no_event}
 use Rattle.jm_execute.specs.Verdicts.{Cause, because, Verdict}
+use Rattle.jm_program.specs.declared.class.ClassParts.{ClassParts}
+use Rattle.jm_execute.specs.ClassTexts.{IsTextOf}
 use Rattle.jm_execute.specs.Endings.{Assembles}
+use Rattle.jm_execute.specs.declared.disassembly.ClassText.{ClassText}
 use Rattle.jm_execute.specs.declared.refusal.Refusal.{Refusal}
 use Rattle.jm_execute.specs.declared.refusal.Refusal.TheVariants as refusal
 use Rattle.jm_execute.specs.declared.refusal.Obstacle.{Obstacle}
@@ -34,3 +37,8 @@ Gives (Err obstacle) said view = Hinders said obstacle
 abbrev pub GivesAssembled : Result (Vec ℕ Global) Obstacle → Verdict → Type 0
 GivesAssembled (Ok bytes) v = Assembles v bytes.items
 GivesAssembled (Err obstacle) v = Hinders v obstacle
+
+-- the text of the class that is said
+abbrev pub GivesText : Bool → Result ClassText Obstacle → Result ClassParts Cause → Type 0
+GivesText commented (Ok text) said = (class : ClassParts) × (said ≡ Ok class) × IsTextOf commented class text
+GivesText commented (Err obstacle) said = Hinders said obstacle

@@ -1,6 +1,6 @@
--- What the files of a job say: a run of a program, a class with the bytes of its file, a session of the debugger, or why there is none.
+-- What the files of a job say: a run of a program, a class with the bytes of its file, a class to be given a text, a session of the debugger, or why there is none.
 -- Each is a chain of steps; the first step that has no answer says why.
-use Rattle.std.specs.Prelude.{ℕ, List, [], ◌∷◌, Option, Some, None, Result, Ok, Err, Bool, option_map, if◌then◌else◌}
+use Rattle.std.specs.Prelude.{ℕ, List, [], ◌∷◌, Option, Some, None, Result, Ok, Err, Bool, not, option_map, if◌then◌else◌}
 use Rattle.std.specs.String.{string_bytes}
 use Rattle.jm_bytes.specs.Reading.{and_then, fault_as}
 use Rattle.jm_program.specs.declared.class.ClassParts.{ClassParts}
@@ -21,7 +21,8 @@ use Rattle.jm_execute.specs.declared.job.RunEvents.TheVariants.{Schedule, RoundR
 use Rattle.jm_execute.specs.declared.job.RunJob.{RunJob}
 use Rattle.jm_execute.specs.declared.job.Job.{Job}
 use Rattle.jm_execute.specs.declared.job.DebugJob.{DebugJob}
-use Rattle.jm_execute.specs.declared.job.Job.TheVariants.{Run, Assemble, Debug}
+use Rattle.jm_execute.specs.declared.job.DisassembleJob.{DisassembleJob}
+use Rattle.jm_execute.specs.declared.job.Job.TheVariants.{Run, Assemble, Disassemble, Debug}
 use Rattle.jm_class_format.specs.ClassFile.{class_file}
 use Rattle.jm_execute.specs.ProgramFiles.{in_text, in_class_file, is_text_name, text_class}
 use Rattle.jm_execute.specs.Reasons as reason
@@ -31,6 +32,8 @@ pub data Work : Type 0 where
   runs : List ClassParts → ℕ → List Event → Bool → Work
   -- a class, and the bytes that are written for it
   assembles : ClassParts → List ℕ → Work
+  -- the text of the class in a file of this name, with comments or without them
+  disassembles : List ℕ → Bool → ClassParts → Work
   -- a session of the debugger over a program and a heap of this limit
   debugs : List ClassParts → ℕ → Work
 
@@ -167,6 +170,13 @@ assembly_verdict file = do
   bytes ← written_class (string_bytes file.name) class
   Ok (assembles class bytes)
 
+-- ---- a text of a class
+
+unfoldable pub disassembly_verdict : DisassembleJob → Verdict
+disassembly_verdict job = do
+  class ← class_of job.file
+  Ok (disassembles (string_bytes job.file.name) (not job.bare) class)
+
 -- ---- a session of the debugger
 
 unfoldable pub debug_verdict : DebugJob → Verdict
@@ -179,4 +189,5 @@ debug_verdict job = do
 unfoldable pub verdict : Job → Verdict
 verdict (Run job) = run_verdict job
 verdict (Assemble job) = assembly_verdict job.text
+verdict (Disassemble job) = disassembly_verdict job
 verdict (Debug job) = debug_verdict job

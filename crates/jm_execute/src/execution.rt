@@ -1,24 +1,29 @@
-// What `jm run`, `jm asm` and `jm debug` do.
+// What `jm run`, `jm asm`, `jm dis` and `jm debug` do.
 
-ghost use Rattle.std.specs.Prelude.{◌≡◌, List, [], ◌++◌, Bool, false, MatchResult};
+ghost use Rattle.std.specs.Prelude.{◌≡◌, List, [], ◌++◌, Bool, false, MatchResult, string_bytes};
 ghost use Rattle.jm_machine.specs.View.{MatchesWorld};
 ghost use Rattle.jm_shared.specs.Legal.{events_of, world_after};
 ghost use Rattle.jm_shared.specs.Seats.{fresh_hands};
 ghost use Rattle.jm_world.specs.World.{World};
 ghost use Rattle.jm_world.specs.declared.event.Event.{Event};
 ghost use Rattle.jm_execute.specs.Beginnings.{HasOneThread, beginning};
-ghost use Rattle.jm_execute.specs.Endings.{Ending, assembled, completed, exhausted, interrupted, output_of, Allows, Ends, FailureTold, IsDone, IsDoneUnread, IsTalk, Leaves, Tells};
+ghost use Rattle.jm_program.specs.declared.class.ClassParts.{ClassParts};
+ghost use Rattle.jm_disassembler.specs.Texts.{class_text};
+ghost use Rattle.jm_disassembler.specs.Unsaid.{first_unsaid};
+ghost use Rattle.jm_execute.specs.ClassTexts.{unsaid_line, unsaid_status};
+ghost use Rattle.jm_execute.specs.Endings.{Ending, assembled, completed, disassembled, exhausted, interrupted, output_of, Allows, Ends, FailureTold, IsDone, IsDoneUnread, IsTalk, Leaves, LinesTold, Tells};
 ghost use Rattle.jm_debug.specs.Session.{session_of};
 ghost use Rattle.jm_execute.specs.Reports.{heap_shown};
 ghost use Rattle.jm_execute.specs.Talks.{IsHeld};
 ghost use Rattle.jm_execute.specs.Refusals.{Hinders};
-ghost use Rattle.jm_execute.specs.Verdicts.{Verdict, assembly_verdict, debug_verdict, run_verdict, verdict};
+ghost use Rattle.jm_execute.specs.Verdicts.{Verdict, assembly_verdict, debug_verdict, disassembly_verdict, run_verdict, verdict};
 ghost use Rattle.jm_execute.specs.Written.{reads, words};
 
 use crate::assembly::assemble_file;
+use crate::disassembly::{ClassText, NoText, disassemble_file};
 use crate::ends::status_of;
 use crate::events::EventSource;
-use crate::job::{AssembleJob, DebugJob, Job, RunJob};
+use crate::job::{AssembleJob, DebugJob, DisassembleJob, Job, RunJob};
 use crate::preparation::{prepare, prepare_session};
 use crate::readable::Readable;
 use crate::refusal::Obstacle;
@@ -28,6 +33,7 @@ use crate::status::Status;
 use crate::watchable::Watchable;
 use crate::watched::Watched;
 use jm_debug::Debugger;
+use jm_disassembler::Unsaid;
 use jm_heap::Heap;
 use jm_machine::{Machine, OutOfMemory};
 use jm_shared::{Journal, Origin, Seat, SeatTable, SharedMachine, Sharing};
@@ -252,6 +258,42 @@ fn tell_assembled<O: Watchable, E: Watchable>(
     }
 }
 
+// Tells which part of the class of the file of this name no text can say, if there is one.
+fn tell_unsaid<E: Watchable>(file: &str, unsaid: Option<Unsaid>, err: &mut Watched<E>) -> Status
+    requires { err.old.failed ≡ false }
+    ensures status { result ≡ unsaid_status unsaid }
+    ensures line { LinesTold (words E.contents E.ends) (unsaid_line file.now unsaid) err.new.failed err.old err.new }
+{
+    match unsaid {
+        None => Status::Done,
+        Some(part) => {
+            let _told = err.write_line(NoText(file, part));
+            Status::Refused
+        }
+    }
+}
+
+// Tells of the text of the class of the file of this name.
+fn tell_text<O: Watchable, E: Watchable>(
+    text: &ClassText,
+    file: &str,
+    out: &mut Watched<O>,
+    err: &mut Watched<E>,
+) -> Status
+    requires out { out.old.failed ≡ false }
+    requires err { err.old.failed ≡ false }
+    ensures { (commented : Bool) (class : ClassParts) → string_bytes text.now.text ≡ class_text commented class → text.now.unsaid ≡ first_unsaid class
+        → Leaves (words O.contents O.ends) (words E.contents E.ends) (disassembled file.now commented class) result out.old out.new err.old err.new }
+{
+    match out.write_all(text.text.as_bytes()) {
+        Ok(()) => tell_unsaid(file, text.unsaid, err),
+        Err(_) => {
+            let _told = err.write_line("jm: write failed");
+            Status::Files
+        }
+    }
+}
+
 // Tells that a growth was refused before the first event. Nothing is written to the output.
 fn tell_exhausted<E: Watchable>(err: &mut Watched<E>) -> Status
     requires { err.old.failed ≡ false }
@@ -314,6 +356,22 @@ fn execute_assemble<O: Watchable, E: Watchable>(
 {
     match assemble_file(alloc, &job.text) {
         Ok(bytes) => tell_assembled(&bytes, &job.output, out, err),
+        Err(obstacle) => tell_obstacle(obstacle, err),
+    }
+}
+
+fn execute_disassemble<O: Watchable, E: Watchable>(
+    alloc: Global,
+    job: &DisassembleJob,
+    out: &mut Watched<O>,
+    err: &mut Watched<E>,
+) -> Status
+    requires out { out.old.failed ≡ false }
+    requires err { err.old.failed ≡ false }
+    ensures { IsDoneUnread (words O.contents O.ends) (words E.contents E.ends) (disassembly_verdict job.now) result out.old out.new err.old err.new }
+{
+    match disassemble_file(alloc, job) {
+        Ok(text) => tell_text(&text, &job.file.name, out, err),
         Err(obstacle) => tell_obstacle(obstacle, err),
     }
 }
@@ -385,6 +443,11 @@ fn execute_debug<W: Wait, R: Readable, O: Watchable, E: Watchable>(
 /// `Assemble`: the bytes of the class file of the class that the text denotes go to `out`, once they
 /// stand whole in memory, and the status is `Done`.
 ///
+/// `Disassemble`: the text of the class that the file holds goes to `out`, once it stands whole in
+/// memory. Where each part of the class can be said, the text denotes the class, and the status is
+/// `Done`; else `err` gets a line that names the first part that no text can say, and the status is
+/// `Refused`.
+///
 /// `Debug`: the lines of `reader` are commands of the debugger, from the first world of the program
 /// on. Each answer goes to `out`, and is handed on, before the next line is read; a refusal as
 /// `? NUMBER NAME`, also of a line that is not UTF-8. What the Java program prints is not written.
@@ -411,6 +474,7 @@ pub fn execute<W: Wait, R: Readable, O: Watchable, E: Watchable>(
     match job {
         Job::Run(run) => execute_run(rt, alloc, run, out, err),
         Job::Assemble(assemble) => execute_assemble(alloc, assemble, out, err),
+        Job::Disassemble(disassemble) => execute_disassemble(alloc, disassemble, out, err),
         Job::Debug(debug) => execute_debug(rt, alloc, debug, reader, out, err),
     }
 }

@@ -40,6 +40,8 @@ pub enum Job {
     Run(RunJob),
     /// `jm asm`
     Assemble(AssembleJob),
+    /// `jm dis`
+    Disassemble(DisassembleJob),
     /// `jm debug`
     Debug(DebugJob),
 }
@@ -48,7 +50,7 @@ pub enum Job {
 impl Drop for Job {
     fn drop(self) {
         match self {
-            Job::Run(_) | Job::Assemble(_) | Job::Debug(_) => {}
+            Job::Run(_) | Job::Assemble(_) | Job::Disassemble(_) | Job::Debug(_) => {}
         }
     }
 }
@@ -106,6 +108,21 @@ pub struct AssembleJob {
 impl Drop for AssembleJob {
     fn drop(self) {
         let AssembleJob { text: _, output: _ } = self;
+    }
+}
+
+/// To write the text of a class.
+pub struct DisassembleJob {
+    /// The file of the class: a class file, or an assembler text where its name ends in `.j`.
+    pub file: InputFile,
+    /// Whether comments are left out.
+    pub bare: bool,
+}
+
+// Written out, so that whoever lets go of one makes a call (docs/DECISIONS.md).
+impl Drop for DisassembleJob {
+    fn drop(self) {
+        let DisassembleJob { file: _, bare: _ } = self;
     }
 }
 

@@ -1,12 +1,14 @@
-// What a class file that was written says of its text, what the status of files says, what a session
+// What a class file that was written says of its text, and a text of its class, what the status of files says, what a session
 // answers to texts, and what is shown when a journal's events are run again.
 
-ghost use Rattle.std.specs.Prelude.{◌≡◌, ◌≢◌, ◌+◌, ◌≤◌, ◌⊎◌, ℕ, List, Err, Ok, Option, Result, Some, Vec, false, length, map, true, vec_capacity, vec_len};
+ghost use Rattle.std.specs.Prelude.{◌≡◌, ◌≢◌, ◌+◌, ◌≤◌, ◌⊎◌, ℕ, Bool, List, Err, Ok, None, Option, Result, Some, Vec, false, length, map, true, vec_capacity, vec_len};
 ghost use Rattle.std.specs.List.{concat};
 ghost use Rattle.std.specs.declared.alloc.Global.{Global};
 ghost use Rattle.jm_class_format.specs.ClassFile.{Spells, class_file};
 ghost use Rattle.jm_class_writer.specs.ClassParts.{written};
 ghost use Rattle.jm_program.specs.declared.class.ClassParts.{ClassParts};
+ghost use Rattle.jm_jasmin.specs.Text.{denoted};
+ghost use Rattle.jm_disassembler.specs.Unsaid.{first_unsaid};
 ghost use Rattle.jm_debug.specs.Answering.{Answers, DebuggerView};
 ghost use Rattle.jm_debug.specs.Session.{Session, answers, session_of};
 ghost use Rattle.jm_debug.specs.declared.fault.DebugFault.{DebugFault};
@@ -15,15 +17,16 @@ ghost use Rattle.jm_shared.specs.Legal.{world_after};
 ghost use Rattle.jm_shared.specs.declared.entry.Entry.{Entry};
 ghost use Rattle.jm_world.specs.World.{World};
 ghost use Rattle.jm_execute.specs.CallEnds.{vec_ends};
-ghost use Rattle.jm_execute.specs.Endings.{Allows, Ending, IsDone, Leaves, assembled, output_of};
+ghost use Rattle.jm_execute.specs.Endings.{Allows, Ending, IsDone, Leaves, assembled, disassembled, output_of};
 ghost use Rattle.jm_execute.specs.ProgramFiles.{text_class};
 ghost use Rattle.jm_execute.specs.Reasons.{not_read};
 ghost use Rattle.jm_execute.specs.Talks.{printed_for};
-ghost use Rattle.jm_execute.specs.Verdicts.{because, verdict};
+ghost use Rattle.jm_execute.specs.Verdicts.{because, class_of, verdict};
 ghost use Rattle.jm_execute.specs.ViewsAgain.{told};
 ghost use Rattle.jm_execute.specs.Written.{Watch, reads, words};
 ghost use Rattle.jm_execute.specs.declared.job.AssembleJob.{AssembleJob};
 ghost use Rattle.jm_execute.specs.declared.job.Contents.TheVariants as contents;
+ghost use Rattle.jm_execute.specs.declared.job.DisassembleJob.{DisassembleJob};
 ghost use Rattle.jm_execute.specs.declared.job.Job.{Job};
 ghost use Rattle.jm_execute.specs.declared.job.Job.TheVariants as job;
 ghost use Rattle.jm_execute.specs.declared.status.Status.{Status};
@@ -38,6 +41,14 @@ pub fn class_of_its_text()
     ensures { (assembly : AssembleJob) (text : Vec ℕ Global) (bytes : List ℕ) → assembly.text.contents ≡ contents.Bytes text
         → Allows (verdict (job.Assemble assembly)) (assembled bytes)
         → (class : ClassParts) × (text_class text.items ≡ Ok class) × (written class ≡ Ok bytes) × Spells bytes class × (class_file.read bytes ≡ Ok class) }
+{}
+
+/// The text that a disassembly leaves in its output is of the class that the file holds, and denotes
+/// that very class where there is no part that no text can say.
+pub fn text_of_its_class()
+    ensures { (asked : DisassembleJob) (name : List ℕ) (commented : Bool) (class : ClassParts)
+        → Allows (verdict (job.Disassemble asked)) (disassembled name commented class)
+        → (class_of asked.file ≡ Ok class) × (first_unsaid class ≡ None → denoted (output_of (disassembled name commented class)) ≡ Ok class) }
 {}
 
 /// A job that ends with the status of files, and whose output did not fail, has a file that could not

@@ -1,28 +1,30 @@
-//! What `jm run`, `jm asm` and `jm debug` do with the files that they were given.
+//! What `jm run`, `jm asm`, `jm dis` and `jm debug` do with the files that they were given.
 //!
 //! [`execute`] does a [`Job`] and answers the [`Status`] of the program. It runs the classes of a
 //! program's files by the events of a schedule, or by turns of its threads where there is none, and
 //! writes what the Java program prints and how the run ended; or it writes the class file of the
-//! class that an assembler text denotes; or it answers the lines of a reader as the debugger does. It
-//! knows no file and no terminal: the files' bytes stand in the job, the reader is any that is
+//! class that an assembler text denotes; or it writes the text of the class that a file holds; or it
+//! answers the lines of a reader as the debugger does. It knows no file and no terminal: the files' bytes stand in the job, the reader is any that is
 //! [`Readable`] and the two writers any that are [`Watchable`], each [`Watched`], so that its contract
 //! can say which bytes are read and written, and that one of them failed only where one of its calls
 //! did. The output and the lines of a run are those of the model's run (`jm_world`) over the events
 //! that the schedule spells, or that the model's round robin chooses; the bytes of a class file spell
-//! the class of its text (`jm_class_format`, `jm_jasmin`); the answers are those of the debugger's
+//! the class of its text (`jm_class_format`, `jm_jasmin`); the text of a class is that of the
+//! definition (`jm_disassembler`), and denotes the class where a text can; the answers are those of the debugger's
 //! definition (`jm_debug`) to the lines that the reader's bytes spell, one after the other.
 //!
 //! `program_file` says which class a file holds, `preparation` goes from files to a machine,
 //! `events` and `round_robin` make the events, the latter over the threads that a `pass` keeps,
-//! `report` and `ends` say how a run ended, `assembly` goes from a text to a class file, `lines` from a
-//! reader to its lines, and `session` from these to their answers; [`Utf8`] is a text of code units, as
+//! `report` and `ends` say how a run ended, `assembly` goes from a text to a class file, `disassembly`
+//! from a class to a text, `lines` from a reader to its lines, and `session` from these to their answers; [`Utf8`] is a text of code units, as
 //! a String's chars and the name of a class are, whose `Display` is the text in UTF-8. The writer and the
 //! reader of class files do not know one another, so [`written_and_read`] stands here: a class that is
-//! written as a class file and read again is that class. The crate stands on `jm_class_reader`, `jm_jasmin`, `jm_class_writer`, `jm_linker`, `jm_machine`,
+//! written as a class file and read again is that class. The crate stands on `jm_class_reader`, `jm_jasmin`, `jm_class_writer`, `jm_disassembler`, `jm_linker`, `jm_machine`,
 //! `jm_gen_heap`, `jm_schedule` and `jm_debug`.
 #![tactic(auto)]
 
 mod assembly;
+mod disassembly;
 mod ends;
 mod events;
 mod execution;
@@ -46,12 +48,13 @@ mod watchable;
 mod watched;
 
 pub use assembly::assemble_file;
+pub use disassembly::{ClassText, NoText, disassemble_file};
 pub use ends::status_of;
 pub use events::{EventSource, RunSource};
 pub use execution::execute;
 pub use files::{bytes_of, check_read};
-pub use job::{AssembleJob, Contents, DebugJob, InputFile, Job, RunEvents, RunJob};
-pub use laws::{class_of_its_text, equal_views};
+pub use job::{AssembleJob, Contents, DebugJob, DisassembleJob, InputFile, Job, RunEvents, RunJob};
+pub use laws::{class_of_its_text, equal_views, text_of_its_class};
 pub use lines::{LineFault, NextLine, Unread};
 pub use preparation::{Ready, RunHeap, machine_of, prepare, prepare_session};
 pub use program_file::{class_in_file, class_in_text, class_of};

@@ -175,6 +175,37 @@ an_option_of_run : assembly_fault (codes "--heap=16" ∷ codes "A.j" ∷ codes "
 unfolding jm clap_on_literals
 an_option_of_run = refl
 
+-- the words after jm dis
+abbrev disassembled : List Text → Option (Text × Bool × Option Text)
+disassembled words = option_map (λ (s : Subcommand). (s.0, is_set (first_of (codes "bare") s.1), first_of (codes "class") s.1)) (subcommand_of jm (codes "jm" ∷ codes "dis" ∷ words))
+
+abbrev disassembly_fault : List Text → Kinds
+disassembly_fault words = fault_of jm (codes "jm" ∷ codes "dis" ∷ words)
+
+a_disassembly : disassembled (codes "A.class" ∷ []) ≡ Some (codes "dis", false, Some (codes "A.class"))
+unfolding jm clap_on_literals
+a_disassembly = refl
+
+no_disassembly_fault : disassembly_fault (codes "A.class" ∷ []) ≡ []
+unfolding jm clap_on_literals
+no_disassembly_fault = refl
+
+a_bare_one : disassembled (codes "A.j" ∷ codes "--bare" ∷ []) ≡ Some (codes "dis", true, Some (codes "A.j"))
+unfolding jm clap_on_literals
+a_bare_one = refl
+
+no_bare_fault : disassembly_fault (codes "--bare" ∷ codes "A.j" ∷ []) ≡ []
+unfolding jm clap_on_literals
+no_bare_fault = refl
+
+no_class_file : disassembly_fault (codes "--bare" ∷ []) ≡ kind.MissingRequiredArgument ∷ []
+unfolding jm clap_on_literals
+no_class_file = refl
+
+two_class_files : disassembly_fault (codes "A.class" ∷ codes "B.class" ∷ []) ≡ kind.UnknownArgument ∷ []
+unfolding jm clap_on_literals
+two_class_files = refl
+
 -- the words after jm debug
 abbrev debugged : List Text → Option (Text × Option Text × Option (List Text))
 debugged words = option_map (λ (s : Subcommand). (s.0, one_of (codes "heap") s.1, all_of (codes "file") s.1)) (subcommand_of jm (codes "jm" ∷ codes "debug" ∷ words))

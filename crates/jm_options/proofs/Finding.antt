@@ -8,12 +8,13 @@ use Rattle.clap.specs.declared.parser.matches.ArgMatches.{ArgMatches}
 use Rattle.clap.specs.declared.parser.matches.ArgMatches.TheViews.{out-ArgMatches, out-SubCommand}
 use Rattle.clap.specs.declared.error.Error.{Error}
 use Rattle.clap.specs.declared.error.kind.ErrorKind.TheVariants as kind
-use Rattle.jm_options.specs.Asked.{SpellsNumber, HoldsRun, HoldsAssemble, HoldsDebug, Holds, Subcommand, Finds, FindsRun, FindsAssemble, FindsDebug, Answers}
+use Rattle.jm_options.specs.Asked.{SpellsNumber, HoldsRun, HoldsAssemble, HoldsDisassemble, HoldsDebug, Holds, Subcommand, Finds, FindsRun, FindsAssemble, FindsDisassemble, FindsDebug, Answers}
 use Rattle.jm_options.specs.CommandLine.{jm}
 use Rattle.jm_options.specs.declared.request.Options.{Options}
-use Rattle.jm_options.specs.declared.request.Options.TheVariants.{Run, Assemble, Debug}
+use Rattle.jm_options.specs.declared.request.Options.TheVariants.{Run, Assemble, Disassemble, Debug}
 use Rattle.jm_options.specs.declared.request.RunOptions.{RunOptions}
 use Rattle.jm_options.specs.declared.request.AssembleOptions.{AssembleOptions}
+use Rattle.jm_options.specs.declared.request.DisassembleOptions.{DisassembleOptions}
 use Rattle.jm_options.specs.declared.request.DebugOptions.{DebugOptions}
 use Rattle.jm_options.specs.declared.fault.UsageFault.{UsageFault}
 use Rattle.jm_options.specs.declared.fault.UsageFault.TheVariants.{Usage, OutOfMemory}
@@ -65,6 +66,15 @@ pub none_assembled : (rows : List Row) (fault : UsageFault) → ((o : AssembleOp
 none_assembled rows (Usage text) none = none
 none_assembled rows OutOfMemory none = tt
 
+-- ---- the options of a disassembly
+
+pub no_class : (rows : List Row) → None ≡ first_of (codes "class") rows → (o : DisassembleOptions) → HoldsDisassemble rows o → ⊥
+no_class rows none o holds = let some = none ∙ holds.file in cc
+
+pub none_disassembled : (rows : List Row) (fault : UsageFault) → ((o : DisassembleOptions) → HoldsDisassemble rows o → ⊥) → FindsDisassemble rows (Err fault)
+none_disassembled rows (Usage text) none = none
+none_disassembled rows OutOfMemory none = tt
+
 -- ---- the options of a debugger's command
 
 pub no_program : (rows : List Row) → None ≡ all_of (codes "file") rows → (o : DebugOptions) → HoldsDebug rows o → ⊥
@@ -96,10 +106,11 @@ pub subcommand_is : (m : ArgMatches) (name : Text) (rows : List Row) → subcomm
 subcommand_is m name rows named is = is_pair (subcommand_rows_of m) name rows (sym (name_of_rows m) ∙ named) is
 
 pub other_subcommand : (m : ArgMatches) → (subcommand_name_of m ≡ Some (codes "run") → ⊥) → (subcommand_name_of m ≡ Some (codes "asm") → ⊥)
-    → (subcommand_name_of m ≡ Some (codes "debug") → ⊥) → (o : Options) → Holds (subcommand_rows_of m) o → ⊥
-other_subcommand m not_run not_asm not_debug (Run o) holds = not_run (name_of_rows m ∙ ap (option_map (λ (p : Subcommand). p.0)) holds.1)
-other_subcommand m not_run not_asm not_debug (Assemble o) holds = not_asm (name_of_rows m ∙ ap (option_map (λ (p : Subcommand). p.0)) holds.1)
-other_subcommand m not_run not_asm not_debug (Debug o) holds = not_debug (name_of_rows m ∙ ap (option_map (λ (p : Subcommand). p.0)) holds.1)
+    → (subcommand_name_of m ≡ Some (codes "dis") → ⊥) → (subcommand_name_of m ≡ Some (codes "debug") → ⊥) → (o : Options) → Holds (subcommand_rows_of m) o → ⊥
+other_subcommand m not_run not_asm not_dis not_debug (Run o) holds = not_run (name_of_rows m ∙ ap (option_map (λ (p : Subcommand). p.0)) holds.1)
+other_subcommand m not_run not_asm not_dis not_debug (Assemble o) holds = not_asm (name_of_rows m ∙ ap (option_map (λ (p : Subcommand). p.0)) holds.1)
+other_subcommand m not_run not_asm not_dis not_debug (Disassemble o) holds = not_dis (name_of_rows m ∙ ap (option_map (λ (p : Subcommand). p.0)) holds.1)
+other_subcommand m not_run not_asm not_dis not_debug (Debug o) holds = not_debug (name_of_rows m ∙ ap (option_map (λ (p : Subcommand). p.0)) holds.1)
 
 pub nothing_found : (s : Option Subcommand) (fault : UsageFault) → ((o : Options) → Holds s o → ⊥) → Finds s (Err fault)
 nothing_found s (Usage text) none = none
@@ -120,22 +131,40 @@ run_is_not_debug same = let first : 114 ≡ 100 = ap (λ (t : List ℕ). slice_i
 asm_is_not_debug : codes "asm" ≡ codes "debug" → ⊥
 asm_is_not_debug same = let first : 97 ≡ 100 = ap (λ (t : List ℕ). slice_index t 0) same in absurd (omega (arith, first))
 
+run_is_not_dis : codes "run" ≡ codes "dis" → ⊥
+run_is_not_dis same = let first : 114 ≡ 100 = ap (λ (t : List ℕ). slice_index t 0) same in absurd (omega (arith, first))
+
+asm_is_not_dis : codes "asm" ≡ codes "dis" → ⊥
+asm_is_not_dis same = let first : 97 ≡ 100 = ap (λ (t : List ℕ). slice_index t 0) same in absurd (omega (arith, first))
+
+dis_is_not_debug : codes "dis" ≡ codes "debug" → ⊥
+dis_is_not_debug same = let second : 105 ≡ 101 = ap (λ (t : List ℕ). slice_index t 1) same in absurd (omega (arith, second))
+
 no_run : (s : Option Subcommand) (rows : List Row) → s ≡ Some (codes "run", rows) → ((o : RunOptions) → HoldsRun rows o → ⊥) → (o : Options) → Holds s o → ⊥
 no_run s rows is none (Run o) holds = none o (subst (λ (x : List Row). HoldsRun x o) (same_rows s _ _ is holds.1) holds.2)
 no_run s rows is none (Assemble o) holds = run_is_not_asm (same_name s _ _ is holds.1)
+no_run s rows is none (Disassemble o) holds = run_is_not_dis (same_name s _ _ is holds.1)
 no_run s rows is none (Debug o) holds = run_is_not_debug (same_name s _ _ is holds.1)
 
 no_assembly : (s : Option Subcommand) (rows : List Row) → s ≡ Some (codes "asm", rows) → ((o : AssembleOptions) → HoldsAssemble rows o → ⊥) → (o : Options) → Holds s o → ⊥
 no_assembly s rows is none (Run o) holds = run_is_not_asm (same_name s _ _ holds.1 is)
 no_assembly s rows is none (Assemble o) holds = none o (subst (λ (x : List Row). HoldsAssemble x o) (same_rows s _ _ is holds.1) holds.2)
+no_assembly s rows is none (Disassemble o) holds = asm_is_not_dis (same_name s _ _ is holds.1)
 no_assembly s rows is none (Debug o) holds = asm_is_not_debug (same_name s _ _ is holds.1)
+
+no_disassembly : (s : Option Subcommand) (rows : List Row) → s ≡ Some (codes "dis", rows) → ((o : DisassembleOptions) → HoldsDisassemble rows o → ⊥) → (o : Options) → Holds s o → ⊥
+no_disassembly s rows is none (Run o) holds = run_is_not_dis (same_name s _ _ holds.1 is)
+no_disassembly s rows is none (Assemble o) holds = asm_is_not_dis (same_name s _ _ holds.1 is)
+no_disassembly s rows is none (Disassemble o) holds = none o (subst (λ (x : List Row). HoldsDisassemble x o) (same_rows s _ _ is holds.1) holds.2)
+no_disassembly s rows is none (Debug o) holds = dis_is_not_debug (same_name s _ _ is holds.1)
 
 no_debugger : (s : Option Subcommand) (rows : List Row) → s ≡ Some (codes "debug", rows) → ((o : DebugOptions) → HoldsDebug rows o → ⊥) → (o : Options) → Holds s o → ⊥
 no_debugger s rows is none (Run o) holds = run_is_not_debug (same_name s _ _ holds.1 is)
 no_debugger s rows is none (Assemble o) holds = asm_is_not_debug (same_name s _ _ holds.1 is)
+no_debugger s rows is none (Disassemble o) holds = dis_is_not_debug (same_name s _ _ holds.1 is)
 no_debugger s rows is none (Debug o) holds = none o (subst (λ (x : List Row). HoldsDebug x o) (same_rows s _ _ is holds.1) holds.2)
 
--- what a run, an assembly or a debugger's command finds is what the subcommand finds
+-- what a run, an assembly, a disassembly or a debugger's command finds is what the subcommand finds
 pub finds_run : (s : Option Subcommand) (rows : List Row) (r : Result RunOptions UsageFault) (found : Result Options UsageFault) → s ≡ Some (codes "run", rows) → FindsRun rows r
     → MatchResult r (λ o. IsOkAnd found (λ given. given ≡ Run o)) (λ fault. found ≡ Err fault) → Finds s found
 finds_run s rows (Ok o) (Ok given) is holds same = rw same (rows, is, holds)
@@ -149,6 +178,13 @@ finds_assembly s rows (Ok o) (Ok given) is holds same = rw same (rows, is, holds
 finds_assembly s rows (Ok o) (Err fault) is holds same = absurd same
 finds_assembly s rows (Err (Usage text)) found is none same = rw same (no_assembly s rows is none)
 finds_assembly s rows (Err OutOfMemory) found is none same = rw same tt
+
+pub finds_disassembly : (s : Option Subcommand) (rows : List Row) (r : Result DisassembleOptions UsageFault) (found : Result Options UsageFault) → s ≡ Some (codes "dis", rows) → FindsDisassemble rows r
+    → MatchResult r (λ o. IsOkAnd found (λ given. given ≡ Disassemble o)) (λ fault. found ≡ Err fault) → Finds s found
+finds_disassembly s rows (Ok o) (Ok given) is holds same = rw same (rows, is, holds)
+finds_disassembly s rows (Ok o) (Err fault) is holds same = absurd same
+finds_disassembly s rows (Err (Usage text)) found is none same = rw same (no_disassembly s rows is none)
+finds_disassembly s rows (Err OutOfMemory) found is none same = rw same tt
 
 pub finds_debugger : (s : Option Subcommand) (rows : List Row) (r : Result DebugOptions UsageFault) (found : Result Options UsageFault) → s ≡ Some (codes "debug", rows) → FindsDebug rows r
     → MatchResult r (λ o. IsOkAnd found (λ given. given ≡ Debug o)) (λ fault. found ≡ Err fault) → Finds s found

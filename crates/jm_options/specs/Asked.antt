@@ -5,9 +5,10 @@ use Rattle.std.specs.Str.Parse.{IsNumeral, digits_value, without_leading_plus}
 use Rattle.clap.specs.Words.{Row, Text, all_of, first_of, one_of, fault_of, subcommand_of}
 use Rattle.jm_options.specs.CommandLine.{jm}
 use Rattle.jm_options.specs.declared.request.Options.{Options}
-use Rattle.jm_options.specs.declared.request.Options.TheVariants.{Run, Assemble, Debug}
+use Rattle.jm_options.specs.declared.request.Options.TheVariants.{Run, Assemble, Disassemble, Debug}
 use Rattle.jm_options.specs.declared.request.RunOptions.{RunOptions}
 use Rattle.jm_options.specs.declared.request.AssembleOptions.{AssembleOptions}
+use Rattle.jm_options.specs.declared.request.DisassembleOptions.{DisassembleOptions}
 use Rattle.jm_options.specs.declared.request.DebugOptions.{DebugOptions}
 use Rattle.jm_options.specs.declared.fault.UsageFault.{UsageFault}
 use Rattle.jm_options.specs.declared.fault.UsageFault.TheVariants.{Usage, OutOfMemory}
@@ -48,6 +49,11 @@ pub record HoldsAssemble (matches : List Row) (o : AssembleOptions) : Type 0 whe
   pub input : first_of (codes "input") matches ≡ Some (string_bytes o.input)
   pub output : first_of (codes "output") matches ≡ Some (string_bytes o.output)
 
+-- the options are what the matches of a disassembly hold
+pub record HoldsDisassemble (matches : List Row) (o : DisassembleOptions) : Type 0 where
+  pub bare : o.bare ≡ is_set (first_of (codes "bare") matches)
+  pub file : first_of (codes "class") matches ≡ Some (string_bytes o.file)
+
 -- the options are what the matches of a debugger's command hold, and within the limits
 pub record HoldsDebug (matches : List Row) (o : DebugOptions) : Type 0 where
   pub heap : HoldsNumber (codes "heap") 16 16777216 matches o.heap
@@ -57,6 +63,7 @@ pub record HoldsDebug (matches : List Row) (o : DebugOptions) : Type 0 where
 abbrev pub Holds : Option Subcommand → Options → Type 0
 Holds s (Run o) = (matches : List Row) × (s ≡ Some (codes "run", matches)) × HoldsRun matches o
 Holds s (Assemble o) = (matches : List Row) × (s ≡ Some (codes "asm", matches)) × HoldsAssemble matches o
+Holds s (Disassemble o) = (matches : List Row) × (s ≡ Some (codes "dis", matches)) × HoldsDisassemble matches o
 Holds s (Debug o) = (matches : List Row) × (s ≡ Some (codes "debug", matches)) × HoldsDebug matches o
 
 -- the words, of which the first is the program's name, are without a fault and ask for these options
@@ -71,7 +78,7 @@ Answers words (Ok o) = Asks words o
 Answers words (Err (Usage text)) = (o : Options) → ¬ (Asks words o)
 Answers words (Err OutOfMemory) = ⊤
 
--- the same of a subcommand, and of the matches of a run, of an assembly and of a debugger's command
+-- the same of a subcommand, and of the matches of a run, of an assembly, of a disassembly and of a debugger's command
 abbrev pub Finds : Option Subcommand → Result Options UsageFault → Type 0
 Finds s (Ok o) = Holds s o
 Finds s (Err (Usage text)) = (o : Options) → ¬ (Holds s o)
@@ -86,6 +93,11 @@ abbrev pub FindsAssemble : List Row → Result AssembleOptions UsageFault → Ty
 FindsAssemble matches (Ok o) = HoldsAssemble matches o
 FindsAssemble matches (Err (Usage text)) = (o : AssembleOptions) → ¬ (HoldsAssemble matches o)
 FindsAssemble matches (Err OutOfMemory) = ⊤
+
+abbrev pub FindsDisassemble : List Row → Result DisassembleOptions UsageFault → Type 0
+FindsDisassemble matches (Ok o) = HoldsDisassemble matches o
+FindsDisassemble matches (Err (Usage text)) = (o : DisassembleOptions) → ¬ (HoldsDisassemble matches o)
+FindsDisassemble matches (Err OutOfMemory) = ⊤
 
 abbrev pub FindsDebug : List Row → Result DebugOptions UsageFault → Type 0
 FindsDebug matches (Ok o) = HoldsDebug matches o

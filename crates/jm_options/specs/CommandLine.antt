@@ -68,6 +68,18 @@ output_argument = record (new_rule (codes "output")) { value_names = 1; required
 abbrev pub assemble_command : App
 assemble_command = with_rule (with_rule (new_app (codes "asm")) input_argument) output_argument
 
+-- --bare
+abbrev pub bare_argument : Rule
+bare_argument = record (new_rule (codes "bare")) { long = Some (codes "bare"); action = Some SetTrue }
+
+-- FILE, which has to be there
+abbrev pub class_argument : Rule
+class_argument = record (new_rule (codes "class")) { value_names = 1; required = true }
+
+-- dis [--bare] FILE
+abbrev pub disassemble_command : App
+disassemble_command = with_rule (with_rule (new_app (codes "dis")) bare_argument) class_argument
+
 -- debug [--heap N] FILE..
 abbrev pub debug_command : App
 debug_command = with_rule (with_rule (new_app (codes "debug")) heap_argument) file_argument
@@ -77,7 +89,9 @@ abbrev pub top_command : App
 top_command = on_top (λ (s : Shape). record s { subcommand_required = true; arg_required_else_help = true }) (new_app (codes "jm"))
 
 unfoldable pub jm : App
-jm = with_subcommand (with_subcommand (with_subcommand top_command run_command.top) assemble_command.top) debug_command.top
+jm =
+    with_subcommand (with_subcommand (with_subcommand (with_subcommand top_command run_command.top) assemble_command.top) disassemble_command.top)
+    debug_command.top
 
 -- a command that clap sees so, with no argument that its subcommands share
 pub record IsSeenAs (c : Command) (a : App) : Type 0 where

@@ -2,7 +2,7 @@
 
 ghost use Rattle.std.specs.Prelude.{◌≡◌, false, IfOk};
 ghost use Rattle.clap.specs.Words.{App, Rule, rule_of, with_rule, with_subcommand};
-ghost use Rattle.jm_options.specs.CommandLine.{heap_argument, schedule_argument, steps_argument, quantum_argument, show_heap_argument, file_argument, run_command, input_argument, output_argument, assemble_command, debug_command, top_command, jm, IsSeenAs};
+ghost use Rattle.jm_options.specs.CommandLine.{heap_argument, schedule_argument, steps_argument, quantum_argument, show_heap_argument, file_argument, run_command, input_argument, output_argument, assemble_command, bare_argument, class_argument, disassemble_command, debug_command, top_command, jm, IsSeenAs};
 
 use clap::{Arg, ArgAction, Command, value_parser};
 use std::alloc::{AllocError, Global};
@@ -144,6 +144,36 @@ fn assemble_command<'a>(alloc: Global) -> Result<Command<'a>, AllocError>
     with_argument(asm, output_argument(alloc))
 }
 
+fn bare_argument<'a>(alloc: Global) -> Arg<'a>
+    ensures rule { rule_of result ≡ bare_argument }
+    ensures local { result.global ≡ false }
+{
+    Arg::new(alloc, "bare")
+        .long("bare")
+        .action(ArgAction::SetTrue)
+        .help("Without comments: neither the numbers of instructions nor flags that have no word")
+}
+
+fn class_argument<'a>(alloc: Global) -> Arg<'a>
+    ensures rule { rule_of result ≡ class_argument }
+    ensures local { result.global ≡ false }
+{
+    Arg::new(alloc, "class")
+        .value_name("FILE")
+        .required(true)
+        .help("Class file, or a text ending in .j")
+}
+
+fn disassemble_command<'a>(alloc: Global) -> Result<Command<'a>, AllocError>
+    ensures { IfOk result (λ c. IsSeenAs c disassemble_command) }
+{
+    let dis = Command::new(alloc, "dis").about(
+        "Show the text of a class in Jasmin's syntax, which `asm` gives back as the class",
+    );
+    let dis = with_argument(Ok(dis), bare_argument(alloc));
+    with_argument(dis, class_argument(alloc))
+}
+
 fn debug_command<'a>(alloc: Global) -> Result<Command<'a>, AllocError>
     ensures { IfOk result (λ c. IsSeenAs c debug_command) }
 {
@@ -169,5 +199,6 @@ pub fn command<'a>(alloc: Global) -> Result<Command<'a>, AllocError>
 {
     let jm = with_command(Ok(top_command(alloc)), run_command(alloc));
     let jm = with_command(jm, assemble_command(alloc));
+    let jm = with_command(jm, disassemble_command(alloc));
     with_command(jm, debug_command(alloc))
 }

@@ -3,8 +3,8 @@
 //! [`options`] reads the words of a command line as [`Options`], or says by a [`UsageFault`] what is
 //! wrong with them. What it knows is
 //! `jm run [--heap N] [--schedule FILE] [--steps N] [--quantum N] [--show-heap] FILE...`,
-//! `jm asm IN OUT` and `jm debug [--heap N] FILE...`; any other option or subcommand is refused by
-//! its name.
+//! `jm asm IN OUT`, `jm dis [--bare] FILE` and `jm debug [--heap N] FILE...`; any other option or
+//! subcommand is refused by its name.
 //!
 //! The crate stands on `clap`.
 #![tactic(auto)]
@@ -16,6 +16,7 @@ mod words;
 
 pub use fault::UsageFault;
 pub use request::{
-    AssembleOptions, DebugOptions, MAX_HEAP, MAX_QUANTUM, MAX_STEPS, MIN_HEAP, Options, RunOptions,
+    AssembleOptions, DebugOptions, DisassembleOptions, MAX_HEAP, MAX_QUANTUM, MAX_STEPS, MIN_HEAP,
+    Options, RunOptions,
 };
 pub use words::options;

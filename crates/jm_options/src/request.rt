@@ -17,6 +17,8 @@ pub enum Options {
     Run(RunOptions),
     /// `jm asm`: to assemble a text into a class file.
     Assemble(AssembleOptions),
+    /// `jm dis`: to show the text of a class.
+    Disassemble(DisassembleOptions),
     /// `jm debug`: to show a program at any event.
     Debug(DebugOptions),
 }
@@ -46,6 +48,15 @@ pub struct AssembleOptions {
     pub input: String,
     /// The class file to write.
     pub output: String,
+}
+
+/// What `jm dis` is given.
+#[derive(Drop)]
+pub struct DisassembleOptions {
+    /// Whether comments are left out.
+    pub bare: bool,
+    /// The file of the class: a class file, or the text of a class if its name ends in `.j`.
+    pub file: String,
 }
 
 /// What `jm debug` is given.

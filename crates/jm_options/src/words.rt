@@ -3,12 +3,13 @@
 ghost use Rattle.std.specs.Prelude.{◌≡◌, ℕ, MatchOption, MatchResult, map, option_map, string_bytes};
 ghost use Rattle.clap.specs.Words.{first_of, found_of, kind_of, rows_of, subcommand_rows_of};
 ghost use Rattle.clap.specs.declared.error.kind.ErrorKind.TheVariants as kind;
-ghost use Rattle.jm_options.specs.Asked.{Answers, Finds, FindsAssemble, FindsDebug, FindsRun, HoldsNumber, is_set};
+ghost use Rattle.jm_options.specs.Asked.{Answers, Finds, FindsAssemble, FindsDebug, FindsDisassemble, FindsRun, HoldsNumber, is_set};
 
 use crate::command::command;
 use crate::fault::UsageFault;
 use crate::request::{
-    AssembleOptions, DebugOptions, MAX_HEAP, MAX_QUANTUM, MAX_STEPS, MIN_HEAP, Options, RunOptions,
+    AssembleOptions, DebugOptions, DisassembleOptions, MAX_HEAP, MAX_QUANTUM, MAX_STEPS, MIN_HEAP,
+    Options, RunOptions,
 };
 use clap::error::ErrorKind;
 use clap::{ArgMatches, Error};
@@ -122,6 +123,21 @@ fn assemble_options(alloc: Global, matches: &ArgMatches<'_>) -> Result<AssembleO
     })
 }
 
+fn disassemble_options(
+    alloc: Global,
+    matches: &ArgMatches<'_>,
+) -> Result<DisassembleOptions, UsageFault>
+    ensures { FindsDisassemble (rows_of (found_of matches.now)) result }
+{
+    let Some(file) = matches.get_str("class") else {
+        return Err(nothing_asked(alloc));
+    };
+    Ok(DisassembleOptions {
+        bare: is_set(matches, "bare"),
+        file: String::from_str(alloc, file)?,
+    })
+}
+
 fn debug_options(alloc: Global, matches: &ArgMatches<'_>) -> Result<DebugOptions, UsageFault>
     ensures { FindsDebug (rows_of (found_of matches.now)) result }
 {
@@ -145,6 +161,9 @@ fn found_options(alloc: Global, matches: &ArgMatches<'_>) -> Result<Options, Usa
     }
     if let Some(assemble) = matches.subcommand_matches("asm") {
         return assemble_options(alloc, assemble).map(Options::Assemble);
+    }
+    if let Some(dis) = matches.subcommand_matches("dis") {
+        return disassemble_options(alloc, dis).map(Options::Disassemble);
     }
     if let Some(debug) = matches.subcommand_matches("debug") {
         return debug_options(alloc, debug).map(Options::Debug);

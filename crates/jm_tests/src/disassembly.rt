@@ -3,7 +3,7 @@
 // that a text from a class has, so that its class gives it back.
 
 use jm_class_reader::read_class;
-use jm_disassembler::{ClassPart, Unsaid, disassemble, disassemble_with_comments, first_unsaid};
+use jm_disassembler::{ClassPart, Unsaid, class_text, disassemble, first_unsaid};
 use jm_jasmin::assemble;
 use jm_program::Class;
 use std::alloc::Global;
@@ -104,6 +104,12 @@ const SYNTHETIC: [u8; 53] = [
     0, 0, 0, 0, 0,
 ];
 
+const SYNTHETIC_WITH_COMMENTS: &str = ".bytecode 52.0
+; 90 NoText(flags)
+.class public A  ; synthetic
+.super java/lang/Object
+";
+
 fn class_of(alloc: Global, text: &str) -> Result<Class, Fail> {
     match assemble(alloc, text) {
         Ok(class) => Ok(class),
@@ -129,7 +135,7 @@ fn a_class_has_the_text_that_it_came_from(rt: HostRuntime) -> Result<(), Fail> {
 #[test]
 fn comments_have_the_numbers_of_instructions(rt: HostRuntime) -> Result<(), Fail> {
     let class = class_of(rt.alloc(), FIVE)?;
-    let text = disassemble_with_comments(rt.alloc(), &class)?;
+    let text = class_text(rt.alloc(), true, &class)?;
     assert_eq!(rt; text.as_str(), FIVE_WITH_COMMENTS);
     Ok(())
 }
@@ -150,8 +156,7 @@ fn a_flag_without_a_word_has_no_text(rt: HostRuntime) -> Result<(), Fail> {
     };
     let refusal = format!(in rt.alloc(); "{fault}")?;
     assert_eq!(rt; refusal.as_str(), "90 NoText(class: flags)");
-    let text = disassemble_with_comments(rt.alloc(), &class)?;
-    let with_comments = ".bytecode 52.0\n.class public A  ; synthetic \n.super java/lang/Object\n";
-    assert_eq!(rt; text.as_str(), with_comments);
+    let text = class_text(rt.alloc(), true, &class)?;
+    assert_eq!(rt; text.as_str(), SYNTHETIC_WITH_COMMENTS);
     Ok(())
 }

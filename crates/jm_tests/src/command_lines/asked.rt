@@ -32,6 +32,11 @@ jm|debug|Main.class => debug of Main.class with 65536
 jm|debug|--heap=16|Main.class|A.j => debug of Main.class, A.j with 16
 jm|debug|Main.class|--heap|16777216|--|--heap => debug of Main.class, --heap with 16777216
 jm|debug|debug => debug of debug with 65536
+jm|dis|Main.class => text of Main.class
+jm|dis|--bare|Main.j => bare text of Main.j
+jm|dis|Main.class|--bare => bare text of Main.class
+jm|dis|--|--bare => text of --bare
+jm|dis|dis => text of dis
 jm|asm|Main.j|Main.class => assembly of Main.j to Main.class
 jm|asm|-|out => assembly of - to out
 jm|asm|--|-Main.j|--help => assembly of -Main.j to --help
@@ -79,6 +84,11 @@ fn text_of(alloc: Global, asked: &Options) -> Result<String, Fail> {
             let (input, output) = (&files.input, &files.output);
             Ok(format!(in alloc; "assembly of {input} to {output}")?)
         }
+        Options::Disassemble(class) => {
+            let bare = if class.bare { "bare " } else { "" };
+            let file = &class.file;
+            Ok(format!(in alloc; "{bare}text of {file}")?)
+        }
         Options::Debug(debug) => {
             let (files, heap) = (list_of(alloc, &debug.files)?, debug.heap);
             Ok(format!(in alloc; "debug of {files} with {heap}")?)
@@ -100,6 +110,6 @@ fn words_ask_for_this(rt: HostRuntime) -> Result<(), Fail> {
         let answer = answer(rt.alloc(), words)?;
         assert!(rt; answer.as_str() == want, "{row}");
     }
-    assert!(rt; ASKED.lines().count() == 28);
+    assert!(rt; ASKED.lines().count() == 33);
     Ok(())
 }

@@ -53,6 +53,13 @@ jm debug --steps 9 A.class => 1 error: unexpected argument '--steps' found
 jm debug --quantum 9 A.class => 1 error: unexpected argument '--quantum' found
 jm debug --schedule s A.class => 1 error: unexpected argument '--schedule' found
 jm debug --show-heap A.class => 1 error: unexpected argument '--show-heap' found
+jm dis => 1 error: the following required arguments were not provided:
+jm dis --bare => 1 error: the following required arguments were not provided:
+jm dis --help => 1 Show the text of a class in Jasmin's syntax, which `asm` gives back as the class
+jm dis A.class B.class => 1 error: unexpected argument 'B.class' found
+jm dis --bare --bare A.class => 1 error: the argument '--bare' cannot be used multiple times
+jm dis --bare=1 A.class => 1 error: unexpected value '1' for '--bare' found; no more were expected
+jm dis --heap=16 A.class => 1 error: unexpected argument '--heap' found
 jm asm --help => 1 Assemble a text in Jasmin's syntax into a class file
 jm asm -h => 1 Assemble a text in Jasmin's syntax into a class file
 jm help asm => 1 Assemble a text in Jasmin's syntax into a class file
@@ -72,6 +79,10 @@ const PARTS: &str = "\
 jm => Usage: jm <COMMAND>
 jm --help =>   run    Run a program: its threads take turns, or a schedule says which events are made
 jm --help =>   asm    Assemble a text in Jasmin's syntax into a class file
+jm --help =>   dis    Show the text of a class in Jasmin's syntax, which `asm` gives back as the class
+jm dis -h => Usage: jm dis [OPTIONS] <FILE>
+jm dis -h => Without comments: neither the numbers of instructions nor flags that have no word
+jm dis -h => Class file, or a text ending in .j
 jm --help =>   debug  Show a program at any event: commands are read from standard input, a line each
 jm run -h => Class files, or texts ending in .j; the first one's `main` is run
 jm asm -h => Usage: jm asm <IN> <OUT>
@@ -115,7 +126,7 @@ fn refusals_name_the_word(rt: HostRuntime) -> Result<(), Fail> {
         let said = first_line(rt.alloc(), words)?;
         assert!(rt; said.as_str() == want, "{row}");
     }
-    assert!(rt; REFUSED.lines().count() == 58);
+    assert!(rt; REFUSED.lines().count() == 65);
     Ok(())
 }
 
@@ -133,7 +144,7 @@ fn refusals_say_what_to_write(rt: HostRuntime) -> Result<(), Fail> {
         let (words, part) = row_of(row)?;
         assert!(rt; says(rt.alloc(), words, part)?, "{row}");
     }
-    assert!(rt; PARTS.lines().count() == 25);
+    assert!(rt; PARTS.lines().count() == 29);
     Ok(())
 }
 

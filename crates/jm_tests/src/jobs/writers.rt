@@ -3,8 +3,8 @@
 ghost use Rattle.std.specs.Prelude.{⊤};
 
 use jm_execute::{
-    AssembleJob, Contents, DebugJob, InputFile, Job, RunEvents, RunJob, Watchable, Watched,
-    WriteFailed, execute, put_by_write, put_line_by_write, put_through_by_flush,
+    AssembleJob, Contents, DebugJob, DisassembleJob, InputFile, Job, RunEvents, RunJob, Watchable,
+    Watched, WriteFailed, execute, put_by_write, put_line_by_write, put_through_by_flush,
 };
 use std::alloc::{AllocError, Global};
 use std::fmt::Display;
@@ -68,7 +68,7 @@ return
 .end method
 ";
 
-// A class whose class file has 53 bytes.
+// A class whose class file has 53 bytes, and whose text with its version, as `jm dis` shows it, 48.
 const EMPTY: &str = ".class A
 .super java/lang/Object
 ";
@@ -87,6 +87,10 @@ asm | 53 | whole | - | 0
 asm | 52 | failed | jm: A.class: not written | 2
 asm | 0 | failed | jm: A.class: not written | 2
 asm | closed | failed | closed | 2
+dis | 48 | whole | - | 0
+dis | 47 | failed | jm: write failed | 2
+dis | 0 | failed | jm: write failed | 2
+dis | closed | failed | closed | 2
 debug | 16 | whole | - | 0
 debug | 15 | failed | jm: write failed | 2
 debug | 0 | failed | jm: write failed | 2
@@ -117,6 +121,13 @@ fn assembly_job(alloc: Global, text: &str) -> Result<Job, AllocError> {
     }))
 }
 
+fn disassembly_job(alloc: Global, text: &str) -> Result<Job, AllocError> {
+    Ok(Job::Disassemble(DisassembleJob {
+        file: file(alloc, text)?,
+        bare: false,
+    }))
+}
+
 // A session of the debugger.
 fn debug_job(alloc: Global) -> Result<Job, AllocError> {
     Ok(Job::Debug(DebugJob {
@@ -131,6 +142,7 @@ fn job_of(alloc: Global, name: &str) -> Result<Job, AllocError> {
         "run 7" => run_job(alloc, "t 1 x 7"),
         "run 6" => run_job(alloc, "t 1 x 6"),
         "asm" => assembly_job(alloc, EMPTY),
+        "dis" => disassembly_job(alloc, EMPTY),
         "debug" => debug_job(alloc),
         _ => assembly_job(alloc, ""),
     }

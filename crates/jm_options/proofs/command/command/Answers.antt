@@ -1,4 +1,4 @@
--- Three subcommands, one after the other.
+-- Four subcommands, one after the other.
 use Rattle.jm_options.specs.CommandLine.{jm}
 use Rattle.jm_options.proofs.command.command.Goals as goal
 
@@ -7,4 +7,5 @@ unfolding jm
 returns c =
     let one = c.with_command-jm.ensures _ _ (record { app = c.top_command.ensures.app; local = c.top_command.ensures.local }) c.run_command.ensures in
     let two = c.with_command-jm-2.ensures _ _ one c.assemble_command.ensures in
-    c.with_command.ensures _ _ two c.debug_command.ensures
+    let three = c.with_command-jm-3.ensures _ _ two c.disassemble_command.ensures in
+    c.with_command.ensures _ _ three c.debug_command.ensures
