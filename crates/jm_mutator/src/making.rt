@@ -116,6 +116,6 @@ pub fn objects_begin_with_defaults<H: Heap>(mutator: &mut Mutator<H>) -> Result<
     let defaults = [Value::Long(0), Value::Null, Value::Int(0)];
     expect_new(mutator, 0, fields, ClassId::Instance(3), &defaults)?;
     expect_new_arrays(mutator)?;
-    expect(Quantity::Used, mutator.used(), 30)?;
+    expect(Quantity::Used, mutator.used(), 28)?;
     expect_serials(mutator)
 }
