@@ -1,14 +1,14 @@
 -- What is read from a block, and what a bump and a write change.
-use Rattle.std.proofs.Common.{◌≡◌, ◌≢◌, ℕ, zero, suc, ◌+◌, ◌-◌, ◌<◌, ◌≤◌, List, [], ◌∷◌, ◌++◌, Bool, true, false, cond, Some, None, refl, sym, ap, ◌∙◌, subst, inl, inr, ◌⊎◌, length, map, arith, take, drop, get_or, length-append}
+use Rattle.std.proofs.Common.{◌≡◌, ◌≢◌, ℕ, zero, suc, ◌+◌, ◌-◌, ◌<◌, ◌≤◌, List, [], ◌∷◌, ◌++◌, Bool, true, false, cond, Some, refl, sym, ap, ◌∙◌, subst, inl, inr, ◌⊎◌, length, arith, take, drop, get_or}
 use Rattle.std.specs.Prelude.{slice_get, slice_set}
-use Rattle.std.proofs.lemmas.List.{take-append-le, drop-append-le, take_all, drop-set-lt, drop-set-add, take-set-le, length-drop, length-take, length-take-le, drop-take, length-map}
-use Rattle.std.proofs.lemmas.Option.{slice_get_within, slice_get_past, slice_get_read}
+use Rattle.std.proofs.lemmas.List.{take-append-le, drop-append-le, take_all, drop-set-lt, drop-set-add, take-set-le, length-drop, length-take, drop-take, length-map}
+use Rattle.std.proofs.lemmas.Option.{slice_get_within, slice_get_read}
 use Rattle.jm_values.specs.declared.value.Value.{Value}
 use Rattle.jm_blocks.specs.Objects.{Object, object_of, with_value}
 use Rattle.jm_heap.specs.Packing.{Lists, list_of, with_list, kind_of, same_kind}
 use Rattle.jm_blocks.specs.Spelled.{spelled, entry_kind, entry_object, share, end_of, IsBlock}
 use Rattle.jm_heap.specs.declared.storage.Storage.{Storage as Kind}
-use Rattle.jm_blocks.specs.declared.block.Entry.{Entry}
+use Rattle.jm_blocks.specs.Entries.{Entry}
 use Rattle.jm_blocks.proofs.KindLists.{same_self, same_is, own_list, other_list}
 
 pub share_own : (e : Entry) → share (entry_kind e) e ≡ e.length

@@ -1,5 +1,6 @@
 pub mod Objects
 pub mod Cells
+pub mod Entries
 pub mod Spelled
 pub mod Places
 pub mod Stores

@@ -11,6 +11,7 @@ ghost use Rattle.jm_heap.specs.Packing.{Fits, kind_of};
 ghost use Rattle.jm_heap.specs.declared.storage.Storage.TheVariants as kind;
 ghost use Rattle.jm_blocks.specs.Cells.{object_cells, sizes_of, block_cells, has_room, HoldsItsCells};
 
+use crate::entry::Entry;
 use crate::header::Header;
 use crate::packed::Packed;
 use jm_heap::{Elements, Storage};
@@ -24,14 +25,6 @@ const CELLS: u64 = 512;
 
 /// The cells of the largest object that shares a block.
 const SHARED: u64 = 256;
-
-/// An object's header, and where its values lie in the list of their kind.
-#[derive(Clone, Copy)]
-struct Entry {
-    header: Header,
-    start: u32,
-    length: u32,
-}
 
 /// Objects one after the other, each a header and its values: several that have at most 256 cells
 /// each and 512 together, or one.
@@ -123,14 +116,11 @@ impl Block {
         ensures value { slice_get self.now index ≡ Some (object_of result.0 (elements result.1)) }
         ensures kind { element_kind result.1 ≡ kind_of result.0.class }
     {
-        let entry = self.entries[index];
+        let entry = &self.entries[index];
         (
-            entry.header,
-            self.values.elements(
-                Storage::of(entry.header.class),
-                entry.start as usize,
-                entry.length as usize,
-            ),
+            entry.header(),
+            self.values
+                .elements(entry.kind(), entry.start(), entry.length()),
         )
     }
 
@@ -154,10 +144,11 @@ impl Block {
         ensures value { (o : Object) → slice_get self.now index ≡ Some o → slice_get o.values number ≡ Some result }
         ensures fits { (o : Object) → slice_get self.now index ≡ Some o → Fits (kind_of o.class) result }
     {
-        let entry = self.entries[index];
-        let kind = Storage::of(entry.header.class);
+        let entry = &self.entries[index];
+        let kind = entry.kind();
+        let start = entry.start();
         let _end = self.values.len(kind);
-        self.values.get(kind, entry.start as usize + number)
+        self.values.get(kind, start + number)
     }
 
     /// Changes one value of an object, which is one of its type.
@@ -166,10 +157,11 @@ impl Block {
         requires { (o : Object) × (slice_get self.old index ≡ Some o) × (number < length o.values) × Fits (kind_of o.class) value }
         ensures { (o : Object) → slice_get self.old index ≡ Some o → self.new ≡ slice_set self.old index (with_value o number value) }
     {
-        let entry = self.entries[index];
-        let kind = Storage::of(entry.header.class);
+        let entry = &self.entries[index];
+        let kind = entry.kind();
+        let start = entry.start();
         let _end = self.values.len(kind);
-        self.values.set(kind, entry.start as usize + number, value);
+        self.values.set(kind, start + number, value);
     }
 
     /// Puts an object at the end with values as they lie in some block, which are of its kind: one copy
@@ -187,11 +179,8 @@ impl Block {
         self.entries.reserve(1)?;
         self.values.push_elements(values)?;
         self.cells += header.class.size(count as u64);
-        self.entries.push_reserved(Entry {
-            header,
-            start: start as u32,
-            length: count as u32,
-        });
+        self.entries
+            .push_reserved(Entry::new(header, start as u32, count as u32));
         Ok(())
     }
 
@@ -213,11 +202,8 @@ impl Block {
         self.entries.reserve(1)?;
         self.values.push(kind, value, count as usize)?;
         self.cells += header.class.size(count as u64);
-        self.entries.push_reserved(Entry {
-            header,
-            start: start as u32,
-            length: count,
-        });
+        self.entries
+            .push_reserved(Entry::new(header, start as u32, count));
         Ok(())
     }
 
@@ -239,11 +225,8 @@ impl Block {
         self.entries.reserve(1)?;
         self.values.push_defaults(fields)?;
         self.cells += header.class.size(fields.len() as u64);
-        self.entries.push_reserved(Entry {
-            header,
-            start: start as u32,
-            length: fields.len() as u32,
-        });
+        self.entries
+            .push_reserved(Entry::new(header, start as u32, fields.len() as u32));
         Ok(())
     }
 
@@ -254,9 +237,8 @@ impl Block {
     {
         let last = self.entries.len() - 1;
         let entry = self.entries[last];
-        self.cells -= entry.header.class.size(entry.length as u64);
+        self.cells -= entry.header().class.size(entry.length() as u64);
         self.entries.truncate(last);
-        self.values
-            .truncate(Storage::of(entry.header.class), entry.start as usize);
+        self.values.truncate(entry.kind(), entry.start());
     }
 }

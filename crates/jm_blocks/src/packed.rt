@@ -6,7 +6,7 @@ ghost use Rattle.jm_values.specs.Objects.{default_of};
 ghost use Rattle.jm_values.specs.declared.value.Value.{Value};
 ghost use Rattle.jm_values.specs.declared.value.Value.TheVariants.{Int, Long, Null};
 ghost use Rattle.jm_heap.specs.Packing.{char_value, Fits, list_of, no_lists, with_list, reference};
-ghost use Rattle.jm_heap.specs.Elements.{elements, element_kind};
+ghost use Rattle.jm_heap.specs.Elements.{elements, element_kind, with_elements};
 ghost use Rattle.jm_heap.specs.declared.storage.Storage.TheVariants as kind;
 
 use jm_heap::{Elements, Lies, Reference, Storage};
@@ -295,7 +295,7 @@ impl Packed {
     /// growth that is refused changes nothing.
     #[inline]
     pub(crate) fn push_elements(&mut self, values: Elements<'_>) -> Result<(), AllocError>
-        ensures ok { OnOk result (self.new ≡ with_list (element_kind values.entry) (list_of (element_kind values.entry) self.old ++ elements values.entry) self.old) }
+        ensures ok { OnOk result (self.new ≡ with_elements values.entry self.old) }
         ensures err { OnErr result (self.new ≡ self.old) }
     {
         match values {

@@ -7,7 +7,8 @@ ghost use Rattle.jm_values.specs.Objects.{ObjectOf, size_by};
 ghost use Rattle.jm_values.specs.Content.{AllResident, HasValue, IsSet, Kept, Made, serial_at, object_at, name_of};
 ghost use Rattle.jm_heap.specs.Cells.{class_size, resident_cells};
 ghost use Rattle.jm_heap.specs.Elements.{elements, element_kind};
-ghost use Rattle.jm_heap.specs.Packing.{Fits as Holds, kind_of};
+ghost use Rattle.jm_heap.specs.Holding.{CanHold};
+ghost use Rattle.jm_heap.specs.Packing.{kind_of};
 ghost use Rattle.jm_heap.specs.NewObject.{new_object};
 ghost use Rattle.jm_heap.specs.Residents.{AreResident};
 ghost use Rattle.jm_heap.specs.Allocation.{IsRefused, IsRefusedHere, MadeHereOrNot};
@@ -226,7 +227,7 @@ impl<C: Collector> GenHeap<C> {
     pub fn set(&mut self, place: Place, index: u32, value: Value) -> Result<(), AllocError>
         requires there { (v : Value) × HasValue (content_of self.old) place index v }
         requires resident { AllResident (content_of self.old) (refs value) }
-        requires fits { (k : ℕ) (o : ObjectOf ClassId) → serial_at (content_of self.old) place ≡ Some k → object_at (content_of self.old) k ≡ Some o → Holds (kind_of o.type) value }
+        requires fits { CanHold (content_of self.old) place value }
         ensures ok { OnOk result (IsSet (content_of self.old) (content_of self.new) place index value) }
         ensures exact { OnOk result (IsWritten self.old self.new place index value) }
         ensures err { OnErr result (self.new ≡ self.old) }

@@ -1,5 +1,5 @@
 -- Values as they lie in a block: each kind in a list of its own, elements of primitive types packed.
-use Rattle.std.specs.Prelude.{◌≡◌, ◌≢◌, ℕ, zero, suc, List, [], map, Bool, nat_eq, ℤ, pos, negsuc, ◌≤ℤ◌}
+use Rattle.std.specs.Prelude.{ℕ, zero, suc, List, [], Bool, nat_eq, ℤ, pos, negsuc, ◌≤ℤ◌}
 use Rattle.jm_program.specs.declared.descriptor.BaseType.{BaseType}
 use Rattle.jm_program.specs.declared.descriptor.BaseType.TheVariants as base
 use Rattle.jm_values.specs.declared.value.Value.{Value}

@@ -7,7 +7,8 @@ ghost use Rattle.jm_values.specs.Objects.{ObjectOf};
 ghost use Rattle.jm_values.specs.Content.{Content, IsSound, AllResident, Kept, Made, HasValue, IsSet, serial_at, object_at, name_of};
 ghost use Rattle.jm_heap.specs.Cells.{class_size, resident_cells};
 ghost use Rattle.jm_heap.specs.Elements.{elements, element_kind, LieAs};
-ghost use Rattle.jm_heap.specs.Packing.{Fits, kind_of};
+ghost use Rattle.jm_heap.specs.Holding.{CanHold};
+ghost use Rattle.jm_heap.specs.Packing.{kind_of};
 ghost use Rattle.jm_heap.specs.NewObject.{new_object};
 ghost use Rattle.jm_heap.specs.Residents.{AreResident};
 ghost use Rattle.jm_heap.specs.Allocation.{IsRefused, IsRefusedHere, MadeHereOrNot};
@@ -119,7 +120,7 @@ pub trait Heap {
         requires sound { IsSound (content self.old) }
         requires there { (v : Value) × HasValue (content self.old) place index v }
         requires resident { AllResident (content self.old) (refs value) }
-        requires fits { (k : ℕ) (o : ObjectOf ClassId) → serial_at (content self.old) place ≡ Some k → object_at (content self.old) k ≡ Some o → Fits (kind_of o.type) value }
+        requires fits { CanHold (content self.old) place value }
         ensures ok { OnOk result (IsSet (content self.old) (content self.new) place index value) }
         ensures err { OnErr result (content self.new ≡ content self.old) };
 

@@ -39,12 +39,12 @@ pub(crate) fn chars_of<H: Heap>(heap: &H, string: Place) -> Option<Place>
     ensures resident { IfSome result (λ chars. AllResident (H.content heap.now) (chars ∷ [])) }
 {
     let (class, elements) = heap.object(string);
-    if !is_string(class) {
-        return None;
-    }
     let Elements::Fields(values) = elements else {
         return None;
     };
+    if !is_string(class) {
+        return None;
+    }
     match values.get(0) {
         Some(first) => match first {
             Value::Ref(chars) => Some(*chars),

@@ -1,10 +1,11 @@
 -- The nurseries of the workers.
 use Rattle.std.specs.Prelude.{◌≡◌, ℕ, ◌+◌, ◌-◌, ◌/◌, ◌≤◌, ◌&&◌, List, Option, Some, None, nat_le, if◌then◌else◌, slice_get, slice_set, length, sum_by}
 use Rattle.jm_values.specs.declared.value.Value.{Value}
+use Rattle.jm_heap.specs.Packing.{Fits, kind_of}
 use Rattle.jm_blocks.specs.Objects.{Object}
 use Rattle.jm_blocks.specs.Cells.{object_cells}
 use Rattle.jm_blocks.specs.Places.{lane_of}
-use Rattle.jm_blocks.specs.Stores.{Blocks, HasValue, IsSet, store_cells, store_with, next_place, Bumped}
+use Rattle.jm_blocks.specs.Stores.{Blocks, objects_in, HasValue, IsSet, store_cells, store_with, next_place, Bumped}
 
 -- the heap's limit in cells, and the blocks of each nursery, by its number
 pub record Young : Type 0 where
@@ -44,6 +45,10 @@ pub record IsMade (old new : Young) (n p : ℕ) (o : Object) : Type 0 where
 -- the place lies in the lane of a nursery, and its object has a value of this number
 abbrev pub HasYoungValue : List Blocks → ℕ → ℕ → Type 0
 HasYoungValue lanes p i = (s : Blocks) × (slice_get lanes (lane_of p - 1) ≡ Some s) × HasValue s p i
+
+-- the object at a place in the lane of a nursery can hold a value, by its type
+abbrev pub CanHoldYoung : List Blocks → ℕ → Value → Type 0
+CanHoldYoung lanes p v = (s : Blocks) (o : Object) → slice_get lanes (lane_of p - 1) ≡ Some s → objects_in s p ≡ Some o → Fits (kind_of o.class) v
 
 -- one value of an object in the lane of a nursery is another
 pub record IsWritten (old new : Young) (p i : ℕ) (v : Value) : Type 0 where

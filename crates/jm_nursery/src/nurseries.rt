@@ -9,7 +9,7 @@ ghost use Rattle.jm_heap.specs.declared.storage.Storage.TheVariants as kind;
 ghost use Rattle.jm_blocks.specs.Places.{lane_of};
 ghost use Rattle.jm_blocks.specs.Stores.{Blocks, objects_in};
 ghost use Rattle.jm_blocks.specs.Cells.{object_cells};
-ghost use Rattle.jm_nursery.specs.Nurseries.{Young, AreNurseries, HasYoungValue, IsMade, IsWritten, quota, young_cells, nursery_at};
+ghost use Rattle.jm_nursery.specs.Nurseries.{Young, AreNurseries, CanHoldYoung, HasYoungValue, IsMade, IsWritten, quota, young_cells, nursery_at};
 
 use jm_blocks::{BlockStore, Header, Position};
 use jm_heap::Elements;
@@ -195,7 +195,7 @@ impl Nurseries {
     #[inline(always)]
     pub fn set(&mut self, place: Place, number: usize, value: Value)
         requires there { HasYoungValue self.old.lanes place number }
-        requires fits { (s : Blocks) (o : Object) → slice_get self.old.lanes (lane_of place - 1) ≡ Some s → objects_in s place ≡ Some o → Fits (kind_of o.class) value }
+        requires fits { CanHoldYoung self.old.lanes place value }
         ensures { IsWritten self.old self.new place number value }
     {
         let position = Position::of(place);

@@ -1,4 +1,4 @@
-use Rattle.std.proofs.Common.{◌≡◌, ℕ, zero, suc, ◌+◌, ◌<◌, List, [], ◌∷◌, Some, refl, sym, ap, ◌∙◌, drop, length, arith, true, false}
+use Rattle.std.proofs.Common.{◌≡◌, ℕ, zero, suc, ◌+◌, List, [], ◌∷◌, Some, sym, ap, ◌∙◌, drop, arith}
 use Rattle.std.specs.Prelude.{slice_get, ◌||◌}
 use Rattle.jm_values.specs.declared.value.Value.{Value}
 use Rattle.jm_heap.specs.Elements.{elements}
@@ -23,4 +23,4 @@ returns-then-names_lane c =
     sym (c.loop-number.invariant ∙ step c.args.lane (elements c.args.values) c.loop-number.number c.get.result c.get.ensures ∙ ap (λ b. b || points_to c.args.lane (drop (c.loop-number.number + 1) (elements c.args.values))) (sym c.names_lane.ensures ∙ c.if-names_lane.true))
 
 pub returns-then-is_plain : goal.returns-then-is_plain
-returns-then-is_plain c = sym (plain_points c.args.lane (elements c.args.values) (c.is_plain.ensures c.if-is_plain.true))
+returns-then-is_plain c = sym (plain_points c.args.lane (elements c.args.values) (c.is_plain.ensures.none c.if-is_plain.true))

@@ -40,13 +40,19 @@ object-id-requires g c =
     let h = (stands_on c.requires.1).method in
     lies h.on (its_object h 2 (sym c.in_ok-place.ensures.value))
 
-pub returns-then-not-serves_class : goal.returns-then-not-serves_class
-returns-then-not-serves_class g c s x =
+pub returns-then-not-serves : goal.returns-then-not-serves
+returns-then-not-serves g c s x =
     let h = stands_on x in
     let value = operand_there_as (operand_of_kind c.args.kind) c.operand_of_kind.ensures _ c.in_ok-value.ensures in
     let int = sym c.in_ok-index.ensures.value in
     let e = sym c.in_ok-place.ensures.value in
-    no_array h value int e (told h.method.on (its_object h.method 2 e) c.object-id.ensures.class) c.serves_class.ensures c.if-not-serves_class.true
+    no_array h value int e (told h.method.on (its_object h.method 2 e) c.object-id.ensures.class) c.serves.ensures c.if-not-serves.true
+
+pub serves-requires : goal.serves-requires
+serves-requires g c = c.object-id.ensures.lie
+
+pub held-requires : goal.held-requires
+held-requires g c program = sym (c.serves.ensures program) ∙ c.if-not-serves.false
 
 pub can_hold-requires : goal.can_hold-requires
 can_hold-requires g c =
@@ -65,8 +71,8 @@ returns-in-Some-true g c s x =
     let fits : SFits w32 c.in_ok-index.index = search rules in
     let index = c.index_in.ensures ∙ ap (λ z. index_in z c.len.result) (to_z-of_z fits) in
     let held = holds_so h.method c.in_ok-value.value (operand_held h.method t value) c.in-Some-true.ensures in
-    stores h value int e (told h.method.on o c.object-id.ensures.class) c.serves_class.ensures c.if-not-serves_class.false
-    (c.len.ensures ∙ told h.method.on o c.object-id.ensures.length) index c.in-Some.is (λ w m. held (place h.method w) m) c.in-Some-true.field-0-test c.narrowed.ensures
+    stores h value int e (told h.method.on o c.object-id.ensures.class) c.serves.ensures c.if-not-serves.false
+    (c.len.ensures ∙ told h.method.on o c.object-id.ensures.length) index c.in-Some.is (λ w m. held (place h.method w) m) c.in-Some-true.field-0-test c.held.ensures
     (operand_reached h.method t value)
 
 pub returns-in-Some-false : goal.returns-in-Some-false
@@ -80,7 +86,7 @@ returns-in-Some-false g c s x =
     let fits : SFits w32 c.in_ok-index.index = search rules in
     let index = c.index_in.ensures ∙ ap (λ z. index_in z c.len.result) (to_z-of_z fits) in
     let held = holds_so h.method c.in_ok-value.value (operand_held h.method t value) c.in-Some-false.ensures in
-    not_held h value int e (told h.method.on o c.object-id.ensures.class) c.serves_class.ensures c.if-not-serves_class.false
+    not_held h value int e (told h.method.on o c.object-id.ensures.class) c.serves.ensures c.if-not-serves.false
     (c.len.ensures ∙ told h.method.on o c.object-id.ensures.length) index c.in-Some.is (λ w m. held (place h.method w) m) c.in-Some-false.field-0-test
 
 pub returns-in_default : goal.returns-in_default
@@ -92,5 +98,5 @@ returns-in_default g c s x =
     let o = its_object h.method 2 e in
     let fits : SFits w32 c.in_ok-index.index = search rules in
     let index = c.index_in.ensures ∙ ap (λ z. index_in z c.len.result) (to_z-of_z fits) in
-    past_array h value int e (told h.method.on o c.object-id.ensures.class) c.serves_class.ensures c.if-not-serves_class.false
+    past_array h value int e (told h.method.on o c.object-id.ensures.class) c.serves.ensures c.if-not-serves.false
     (c.len.ensures ∙ told h.method.on o c.object-id.ensures.length) index c.in_default.is

@@ -2,7 +2,7 @@ use Rattle.std.proofs.Common.{◌≡◌, ◌∙◌, ◌<◌, ap, Some, length, r
 use Rattle.std.specs.Prelude.{slice_get}
 use Rattle.jm_values.proofs.Lists.{get_at}
 use Rattle.jm_heap.specs.Elements.{elements}
-use Rattle.jm_interp.proofs.Fitting.{string_has_fields}
+use Rattle.jm_interp.proofs.Fitting.{no_string}
 use Rattle.jm_interp.proofs.StringText.{other_chars, no_chars, first_chars_are, value_of, named_chars, names_none}
 use Rattle.jm_interp.proofs.strings.chars_of.Goals as goal
 
@@ -12,8 +12,8 @@ returns-then-not-is_string-clause-chars g c k o serial is =
 
 pub returns-in_default-clause-chars : goal.returns-in_default-clause-chars
 returns-in_default-clause-chars g c k o serial is =
-    absurd (string_has_fields c.object-class.result.0 c.object-class.result.1 (sym c.is_string.ensures ∙ c.if-not-is_string.false)
-    c.object-class.ensures.lie c.in_default.not-Fields)
+    other_chars o (c.object-class.ensures.class k o serial is) refl
+    (no_string c.object-class.result.0 c.object-class.result.1 c.object-class.ensures.lie c.in_default.not-Fields)
 
 pub returns-in-Ref-clause-chars : goal.returns-in-Ref-clause-chars
 returns-in-Ref-clause-chars g c k o serial is =

@@ -1,4 +1,4 @@
-use Rattle.std.proofs.Common.{◌≡◌, ◌+◌, ◌<◌, ◌++◌, suc, take, [], ◌∷◌, None, sym, ap, ◌∙◌, subst, arith, length}
+use Rattle.std.proofs.Common.{◌≡◌, ◌+◌, ◌++◌, suc, take, [], ◌∷◌, None, sym, ap, ◌∙◌, subst, arith, length}
 use Rattle.std.proofs.lemmas.List.{append-nil}
 use Rattle.jm_world.specs.Text.{units_of, utf8_text}
 use Rattle.jm_interp.specs.Characters.{WritesUnits}

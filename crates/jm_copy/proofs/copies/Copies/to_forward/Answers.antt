@@ -10,7 +10,7 @@ pub returns-in-Some : goal.returns-in-Some
 returns-in-Some c a e =
     let both : Some a ≡ Some (object_of c.in-Some.field-0-0 (elements c.in-Some.values)) = sym (store_has c.args.self.now c.args.place a e) ∙ ap (λ s. objects_in s c.args.place) (sym c.store.ensures) ∙ c.in-Some.ensures.value in
     let same : a ≡ object_of c.in-Some.field-0-0 (elements c.in-Some.values) = cc in
-    ap (λ x. stack_shape.refs x.values) same ∙ c.is_plain.ensures c.if-is_plain.true
+    ap (λ x. stack_shape.refs x.values) same ∙ c.is_plain.ensures.none c.if-is_plain.true
 
 pub returns-in-Some-2 : goal.returns-in-Some-2
 returns-in-Some-2 c a e =

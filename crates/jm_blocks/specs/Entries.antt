@@ -1,0 +1,8 @@
+-- What a block keeps of an object: its header, and where its values lie in the list of their kind.
+use Rattle.std.specs.Prelude.{ℕ}
+use Rattle.jm_blocks.specs.declared.header.Header.{Header}
+
+pub record Entry : Type 0 where
+  pub header : Header
+  pub start : ℕ
+  pub length : ℕ
