@@ -5,7 +5,8 @@ use crate::events::events_of;
 use crate::job_rows::{JobKind, JobRow};
 use crate::jobs::{assembly_job, debug_job, disassembly_job, run_job};
 use crate::notation::invalid;
-use jm_execute::{InputFile, Job, Watched, class_of, execute};
+use jm_execute::{InputFile, Job, Watched, class_of, execute, explain, tell_version};
+use jm_explain::entry_of;
 use jm_linker::{LinkFault, link};
 use jm_program::Class;
 use std::io::ErrorKind;
@@ -39,7 +40,7 @@ pub fn wanted_of(rt: &HostRuntime, row: &JobRow<'_>) -> io::Result<Outcome> {
     })
 }
 
-// The job of a row, but for those that link.
+// The job of a row, but for those that link, and those that need no file.
 fn job_of(rt: &HostRuntime, row: &JobRow<'_>) -> io::Result<Option<Job>> {
     match row.kind {
         JobKind::Run { heap, show_heap } => Ok(Some(run_of(rt, row, heap, show_heap)?)),
@@ -55,7 +56,7 @@ fn job_of(rt: &HostRuntime, row: &JobRow<'_>) -> io::Result<Option<Job>> {
             let file = file_of(rt, row.names, row.contents)?;
             Ok(Some(disassembly_job(bare, file)))
         }
-        JobKind::Link => Ok(None),
+        JobKind::Link | JobKind::Explain { .. } | JobKind::Version => Ok(None),
     }
 }
 
@@ -76,14 +77,55 @@ fn input_of(rt: &HostRuntime, row: &JobRow<'_>) -> io::Result<Vec<u8>> {
 
 /// What comes of a row's job.
 pub fn outcome_of(rt: &HostRuntime, wait: &impl Wait, row: &JobRow<'_>) -> io::Result<Outcome> {
+    match row.kind {
+        JobKind::Link => return linked(rt, &files_of(rt, row.names, row.contents)?),
+        JobKind::Explain { number } => return explained(rt, number),
+        JobKind::Version => return version(rt),
+        _ => {}
+    }
     match job_of(rt, row)? {
         Some(job) => {
             let outcome = done(rt, wait, &job, row);
             drop(job);
             outcome
         }
-        None => linked(rt, &files_of(rt, row.names, row.contents)?),
+        None => invalid(),
     }
+}
+
+// What is said of a number, or of all. A number of which there is nothing to say is an error.
+fn explained(rt: &HostRuntime, number: Option<u32>) -> io::Result<Outcome> {
+    let asked = match number {
+        Some(number) => match entry_of(number) {
+            Some(entry) => Some(entry),
+            None => return invalid(),
+        },
+        None => None,
+    };
+    let mut output = Vec::new(rt.alloc());
+    let mut lines = Vec::new(rt.alloc());
+    let mut out = Watched::new(&mut output);
+    let mut err = Watched::new(&mut lines);
+    let status = explain(rt.alloc(), asked, &mut out, &mut err).code();
+    Ok(Outcome {
+        output,
+        lines,
+        status,
+    })
+}
+
+// What is said of the version.
+fn version(rt: &HostRuntime) -> io::Result<Outcome> {
+    let mut output = Vec::new(rt.alloc());
+    let mut lines = Vec::new(rt.alloc());
+    let mut out = Watched::new(&mut output);
+    let mut err = Watched::new(&mut lines);
+    let status = tell_version(&mut out, &mut err).code();
+    Ok(Outcome {
+        output,
+        lines,
+        status,
+    })
 }
 
 // What comes of the job of a row that is done over two lists as its writers.
