@@ -6,9 +6,10 @@ use crate::job_rows::{JobKind, JobRow};
 use crate::jobs::{assembly_job, debug_job, disassembly_job, run_job};
 use crate::notation::invalid;
 use jm_execute::{InputFile, Job, Watched, class_of, execute, explain, tell_version};
-use jm_explain::entry_of;
+use jm_explain::{Entry, entry_of};
 use jm_linker::{LinkFault, link};
 use jm_program::Class;
+use std::alloc::Global;
 use std::io::ErrorKind;
 use std::sync::Wait;
 use std::{fmt, io, str};
@@ -95,18 +96,10 @@ pub fn outcome_of(rt: &HostRuntime, wait: &impl Wait, row: &JobRow<'_>) -> io::R
 
 // What is said of a number, or of all. A number of which there is nothing to say is an error.
 fn explained(rt: &HostRuntime, number: Option<u32>) -> io::Result<Outcome> {
-    let asked = match number {
-        Some(number) => match entry_of(number) {
-            Some(entry) => Some(entry),
-            None => return invalid(),
-        },
-        None => None,
-    };
+    let asked = asked_of(number)?;
     let mut output = Vec::new(rt.alloc());
     let mut lines = Vec::new(rt.alloc());
-    let mut out = Watched::new(&mut output);
-    let mut err = Watched::new(&mut lines);
-    let status = explain(rt.alloc(), asked, &mut out, &mut err).code();
+    let status = explained_over(rt.alloc(), asked, &mut output, &mut lines)?;
     Ok(Outcome {
         output,
         lines,
@@ -114,18 +107,54 @@ fn explained(rt: &HostRuntime, number: Option<u32>) -> io::Result<Outcome> {
     })
 }
 
+// The entry of a number, if one is given.
+fn asked_of(number: Option<u32>) -> io::Result<Option<Entry>> {
+    let Some(number) = number else {
+        return Ok(None);
+    };
+    match entry_of(number) {
+        Some(entry) => Ok(Some(entry)),
+        None => invalid(),
+    }
+}
+
+// Says it, and answers the number of the status. A list that fails is an error.
+fn explained_over(
+    alloc: Global,
+    asked: Option<Entry>,
+    output: &mut Vec<u8>,
+    lines: &mut Vec<u8>,
+) -> io::Result<u8> {
+    let mut out = Watched::new(output);
+    let mut err = Watched::new(lines);
+    let status = explain(alloc, asked, &mut out, &mut err);
+    if out.has_failed() || err.has_failed() {
+        return Err(io::Error::from(ErrorKind::OutOfMemory));
+    }
+    Ok(status.code())
+}
+
 // What is said of the version.
 fn version(rt: &HostRuntime) -> io::Result<Outcome> {
     let mut output = Vec::new(rt.alloc());
     let mut lines = Vec::new(rt.alloc());
-    let mut out = Watched::new(&mut output);
-    let mut err = Watched::new(&mut lines);
-    let status = tell_version(&mut out, &mut err).code();
+    let status = version_over(&mut output, &mut lines)?;
     Ok(Outcome {
         output,
         lines,
         status,
     })
+}
+
+// Says it, and answers the number of the status. A list that fails is an error.
+fn version_over(output: &mut Vec<u8>, lines: &mut Vec<u8>) -> io::Result<u8> {
+    let mut out = Watched::new(output);
+    let mut err = Watched::new(lines);
+    let status = tell_version(&mut out, &mut err);
+    if out.has_failed() || err.has_failed() {
+        return Err(io::Error::from(ErrorKind::OutOfMemory));
+    }
+    Ok(status.code())
 }
 
 // What comes of the job of a row that is done over two lists as its writers.
