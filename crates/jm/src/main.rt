@@ -1,6 +1,6 @@
 //! `jm`: runs the program of some class files and assembler texts, by turns of its threads or by the
-//! events of a schedule, assembles texts into class files, shows the text of a class, and answers the
-//! commands of a session of the debugger.
+//! events of a schedule, assembles texts into class files, shows the text of a class, answers the
+//! commands of a session of the debugger, and says what the numbers of refusals and statuses mean.
 //!
 //! The command line is read by `jm_options`, and what a job does is `jm_execute`'s. What stands
 //! here reads the files, hands both over with the standard streams or the file to write, and ends
@@ -16,11 +16,11 @@ mod word;
 use files::{input_file, input_files};
 use jm_execute::{
     AssembleJob, DebugJob, DisassembleJob, Job, RunEvents, RunJob, Status, Watched, execute,
-    write_out_of_memory,
+    explain, tell_version, write_out_of_memory,
 };
 use jm_options::{
-    AssembleOptions, DebugOptions, DisassembleOptions, MAX_QUANTUM, MAX_STEPS, Options, RunOptions,
-    UsageFault, options,
+    AssembleOptions, DebugOptions, DisassembleOptions, ExplainOptions, MAX_QUANTUM, MAX_STEPS,
+    Options, RunOptions, UsageFault, options,
 };
 use jm_schedule::{RoundRobin, round_robin};
 use output::Output;
@@ -97,6 +97,20 @@ fn done(rt: &HostRuntime, wait: &impl Wait, job: &Job) -> Status {
     execute(wait, rt.alloc(), job, &mut input, &mut out, &mut err)
 }
 
+// Says what a number means, or which numbers there are.
+fn explained(rt: &HostRuntime, asked: ExplainOptions) -> Status {
+    let mut out = Watched::new(rt.stdout());
+    let mut err = Watched::new(rt.stderr());
+    explain(rt.alloc(), asked.entry, &mut out, &mut err)
+}
+
+// Says which `jm` this is.
+fn version(rt: &HostRuntime) -> Status {
+    let mut out = Watched::new(rt.stdout());
+    let mut err = Watched::new(rt.stderr());
+    tell_version(&mut out, &mut err)
+}
+
 // Says that a growth was refused.
 fn out_of_memory(rt: &HostRuntime) -> Status {
     let mut err = Watched::new(rt.stderr());
@@ -109,6 +123,24 @@ fn refused(rt: &HostRuntime, text: &str) -> Status {
     let mut err = Watched::new(rt.stderr());
     let _told = err.write_all(text.as_bytes());
     Status::CommandLine
+}
+
+// Does what is asked for.
+fn answered(rt: &HostRuntime, wait: &impl Wait, asked: Options) -> Status {
+    match asked {
+        Options::Run(asked) => match run_job(rt, asked) {
+            Ok(job) => done(rt, wait, &job),
+            Err(_) => out_of_memory(rt),
+        },
+        Options::Assemble(asked) => done(rt, wait, &assemble_job(rt, asked)),
+        Options::Disassemble(asked) => done(rt, wait, &disassemble_job(rt, asked)),
+        Options::Debug(asked) => match debug_job(rt, asked) {
+            Ok(job) => done(rt, wait, &job),
+            Err(_) => out_of_memory(rt),
+        },
+        Options::Explain(asked) => explained(rt, asked),
+        Options::Version => version(rt),
+    }
 }
 
 // The status of the command line.
@@ -125,16 +157,7 @@ fn status(rt: &HostRuntime, wait: &impl Wait) -> Status {
         }
     }
     match options(rt.alloc(), &texts) {
-        Ok(Options::Run(asked)) => match run_job(rt, asked) {
-            Ok(job) => done(rt, wait, &job),
-            Err(_) => out_of_memory(rt),
-        },
-        Ok(Options::Assemble(asked)) => done(rt, wait, &assemble_job(rt, asked)),
-        Ok(Options::Disassemble(asked)) => done(rt, wait, &disassemble_job(rt, asked)),
-        Ok(Options::Debug(asked)) => match debug_job(rt, asked) {
-            Ok(job) => done(rt, wait, &job),
-            Err(_) => out_of_memory(rt),
-        },
+        Ok(asked) => answered(rt, wait, asked),
         Err(UsageFault::Usage(text)) => refused(rt, &text),
         Err(UsageFault::OutOfMemory) => out_of_memory(rt),
     }

@@ -3,7 +3,9 @@
 use crate::class_lines::ClassQuestion;
 use crate::columns::{bytes_of, text_bytes};
 use crate::notation::{expanded, invalid};
-use crate::{assembled, class_files, codes, descriptors, plain_rows, pools, schedules, tokens};
+use crate::{
+    assembled, class_files, codes, descriptors, explanations, plain_rows, pools, schedules, tokens,
+};
 use std::alloc::Global;
 use std::ops::Range;
 use std::{io, str};
@@ -65,6 +67,8 @@ pub enum TextQuestion {
     Descriptor,
     /// The name of the code units.
     Name,
+    /// What is said of a number.
+    Explanation,
 }
 
 /// The answer that a row wants: `~` is the end of a line, and `%FF` a byte.
@@ -168,5 +172,6 @@ fn answer_to_text(alloc: Global, question: TextQuestion, text: &str) -> io::Resu
         TextQuestion::ScheduleLength => schedules::length(alloc, text),
         TextQuestion::Descriptor => descriptors::descriptor(alloc, text),
         TextQuestion::Name => descriptors::name(alloc, text),
+        TextQuestion::Explanation => explanations::name(alloc, text),
     }
 }

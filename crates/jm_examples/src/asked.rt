@@ -50,6 +50,10 @@ pub const ANSWERS: &[(&str, Question)] = &[
         Question::Text(TextQuestion::Descriptor),
     ),
     (
+        "answers/explanations.txt",
+        Question::Text(TextQuestion::Explanation),
+    ),
+    (
         "answers/literals.txt",
         Question::Text(TextQuestion::Literal),
     ),

@@ -15,6 +15,10 @@ pub enum JobKind {
     Disassemble { bare: bool },
     /// The classes are linked.
     Link,
+    /// What a number means is said, or which numbers there are.
+    Explain { number: Option<u32> },
+    /// The version is said.
+    Version,
 }
 
 /// A job and what is to come of it, as the columns of a row say it.
@@ -62,7 +66,14 @@ fn kind_of(word: &str) -> Option<JobKind> {
         "dis" => return Some(JobKind::Disassemble { bare: false }),
         "dis bare" => return Some(JobKind::Disassemble { bare: true }),
         "link" => return Some(JobKind::Link),
+        "explain" => return Some(JobKind::Explain { number: None }),
+        "version" => return Some(JobKind::Version),
         _ => {}
+    }
+    if let Some(number) = word.strip_prefix("explain ") {
+        return Some(JobKind::Explain {
+            number: Some(number.parse().ok()?),
+        });
     }
     if let Some(heap) = cells_behind("debug", word) {
         return Some(JobKind::Debug { heap });

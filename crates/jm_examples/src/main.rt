@@ -24,6 +24,7 @@ mod columns;
 mod conversation;
 mod descriptors;
 mod events;
+mod explanations;
 mod job_rows;
 mod jobs;
 mod journals;

@@ -5,9 +5,11 @@ use crate::events::events_of;
 use crate::job_rows::{JobKind, JobRow};
 use crate::jobs::{assembly_job, debug_job, disassembly_job, run_job};
 use crate::notation::invalid;
-use jm_execute::{InputFile, Job, Watched, class_of, execute};
+use jm_execute::{InputFile, Job, Watched, class_of, execute, explain, tell_version};
+use jm_explain::{Entry, entry_of};
 use jm_linker::{LinkFault, link};
 use jm_program::Class;
+use std::alloc::Global;
 use std::io::ErrorKind;
 use std::sync::Wait;
 use std::{fmt, io, str};
@@ -39,7 +41,7 @@ pub fn wanted_of(rt: &HostRuntime, row: &JobRow<'_>) -> io::Result<Outcome> {
     })
 }
 
-// The job of a row, but for those that link.
+// The job of a row, but for those that link, and those that need no file.
 fn job_of(rt: &HostRuntime, row: &JobRow<'_>) -> io::Result<Option<Job>> {
     match row.kind {
         JobKind::Run { heap, show_heap } => Ok(Some(run_of(rt, row, heap, show_heap)?)),
@@ -55,7 +57,7 @@ fn job_of(rt: &HostRuntime, row: &JobRow<'_>) -> io::Result<Option<Job>> {
             let file = file_of(rt, row.names, row.contents)?;
             Ok(Some(disassembly_job(bare, file)))
         }
-        JobKind::Link => Ok(None),
+        JobKind::Link | JobKind::Explain { .. } | JobKind::Version => Ok(None),
     }
 }
 
@@ -76,14 +78,83 @@ fn input_of(rt: &HostRuntime, row: &JobRow<'_>) -> io::Result<Vec<u8>> {
 
 /// What comes of a row's job.
 pub fn outcome_of(rt: &HostRuntime, wait: &impl Wait, row: &JobRow<'_>) -> io::Result<Outcome> {
+    match row.kind {
+        JobKind::Link => return linked(rt, &files_of(rt, row.names, row.contents)?),
+        JobKind::Explain { number } => return explained(rt, number),
+        JobKind::Version => return version(rt),
+        _ => {}
+    }
     match job_of(rt, row)? {
         Some(job) => {
             let outcome = done(rt, wait, &job, row);
             drop(job);
             outcome
         }
-        None => linked(rt, &files_of(rt, row.names, row.contents)?),
+        None => invalid(),
     }
+}
+
+// What is said of a number, or of all. A number of which there is nothing to say is an error.
+fn explained(rt: &HostRuntime, number: Option<u32>) -> io::Result<Outcome> {
+    let asked = asked_of(number)?;
+    let mut output = Vec::new(rt.alloc());
+    let mut lines = Vec::new(rt.alloc());
+    let status = explained_over(rt.alloc(), asked, &mut output, &mut lines)?;
+    Ok(Outcome {
+        output,
+        lines,
+        status,
+    })
+}
+
+// The entry of a number, if one is given.
+fn asked_of(number: Option<u32>) -> io::Result<Option<Entry>> {
+    let Some(number) = number else {
+        return Ok(None);
+    };
+    match entry_of(number) {
+        Some(entry) => Ok(Some(entry)),
+        None => invalid(),
+    }
+}
+
+// Says it, and answers the number of the status. A list that fails is an error.
+fn explained_over(
+    alloc: Global,
+    asked: Option<Entry>,
+    output: &mut Vec<u8>,
+    lines: &mut Vec<u8>,
+) -> io::Result<u8> {
+    let mut out = Watched::new(output);
+    let mut err = Watched::new(lines);
+    let status = explain(alloc, asked, &mut out, &mut err);
+    if out.has_failed() || err.has_failed() {
+        return Err(io::Error::from(ErrorKind::OutOfMemory));
+    }
+    Ok(status.code())
+}
+
+// What is said of the version.
+fn version(rt: &HostRuntime) -> io::Result<Outcome> {
+    let mut output = Vec::new(rt.alloc());
+    let mut lines = Vec::new(rt.alloc());
+    let status = version_over(&mut output, &mut lines)?;
+    Ok(Outcome {
+        output,
+        lines,
+        status,
+    })
+}
+
+// Says it, and answers the number of the status. A list that fails is an error.
+fn version_over(output: &mut Vec<u8>, lines: &mut Vec<u8>) -> io::Result<u8> {
+    let mut out = Watched::new(output);
+    let mut err = Watched::new(lines);
+    let status = tell_version(&mut out, &mut err);
+    if out.has_failed() || err.has_failed() {
+        return Err(io::Error::from(ErrorKind::OutOfMemory));
+    }
+    Ok(status.code())
 }
 
 // What comes of the job of a row that is done over two lists as its writers.

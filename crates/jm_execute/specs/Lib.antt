@@ -17,3 +17,4 @@ pub mod ClassTexts
 pub mod Endings
 pub mod Refusals
 pub mod ViewsAgain
+pub mod Shown

@@ -1,4 +1,5 @@
-//! What `jm run`, `jm asm`, `jm dis` and `jm debug` do with the files that they were given.
+//! What `jm run`, `jm asm`, `jm dis` and `jm debug` do with the files that they were given, and what
+//! `jm explain` and `jm version` write.
 //!
 //! [`execute`] does a [`Job`] and answers the [`Status`] of the program. It runs the classes of a
 //! program's files by the events of a schedule, or by turns of its threads where there is none, and
@@ -11,16 +12,18 @@
 //! that the schedule spells, or that the model's round robin chooses; the bytes of a class file spell
 //! the class of its text (`jm_class_format`, `jm_jasmin`); the text of a class is that of the
 //! definition (`jm_disassembler`), and denotes the class where a text can; the answers are those of the debugger's
-//! definition (`jm_debug`) to the lines that the reader's bytes spell, one after the other.
+//! definition (`jm_debug`) to the lines that the reader's bytes spell, one after the other. [`explain`]
+//! writes what the table of `jm_explain` says of a number, and [`tell_version`] a line.
 //!
 //! `program_file` says which class a file holds, `preparation` goes from files to a machine,
 //! `events` and `round_robin` make the events, the latter over the threads that a `pass` keeps,
 //! `report` and `ends` say how a run ended, `assembly` goes from a text to a class file, `disassembly`
-//! from a class to a text, `lines` from a reader to its lines, and `session` from these to their answers; [`Utf8`] is a text of code units, as
+//! from a class to a text, `lines` from a reader to its lines, and `session` from these to their answers, `explanation` says what
+//! numbers mean; [`Utf8`] is a text of code units, as
 //! a String's chars and the name of a class are, whose `Display` is the text in UTF-8. The writer and the
 //! reader of class files do not know one another, so [`written_and_read`] stands here: a class that is
 //! written as a class file and read again is that class. The crate stands on `jm_class_reader`, `jm_jasmin`, `jm_class_writer`, `jm_disassembler`, `jm_linker`, `jm_machine`,
-//! `jm_gen_heap`, `jm_schedule` and `jm_debug`.
+//! `jm_gen_heap`, `jm_schedule`, `jm_debug` and `jm_explain`.
 #![tactic(auto)]
 
 mod assembly;
@@ -28,6 +31,7 @@ mod disassembly;
 mod ends;
 mod events;
 mod execution;
+mod explanation;
 mod files;
 mod job;
 mod laws;
@@ -52,6 +56,7 @@ pub use disassembly::{ClassText, NoText, disassemble_file};
 pub use ends::status_of;
 pub use events::{EventSource, RunSource};
 pub use execution::execute;
+pub use explanation::{explain, tell_version};
 pub use files::{bytes_of, check_read};
 pub use job::{AssembleJob, Contents, DebugJob, DisassembleJob, InputFile, Job, RunEvents, RunJob};
 pub use laws::{class_of_its_text, equal_views, text_of_its_class};

@@ -232,3 +232,47 @@ no_program = refl
 steps_of_run : debugger_fault (codes "--steps=9" ∷ codes "A.class" ∷ []) ≡ kind.UnknownArgument ∷ []
 unfolding jm clap_on_literals
 steps_of_run = refl
+
+-- the words after jm explain
+abbrev explained : List Text → Option (Text × Option Text)
+explained words = option_map (λ (s : Subcommand). (s.0, first_of (codes "number") s.1)) (subcommand_of jm (codes "jm" ∷ codes "explain" ∷ words))
+
+abbrev explanation_fault : List Text → Kinds
+explanation_fault words = fault_of jm (codes "jm" ∷ codes "explain" ∷ words)
+
+a_number : explained (codes "51" ∷ []) ≡ Some (codes "explain", Some (codes "51"))
+unfolding jm clap_on_literals
+a_number = refl
+
+no_number_fault : explanation_fault (codes "51" ∷ []) ≡ []
+unfolding jm clap_on_literals
+no_number_fault = refl
+
+the_list : explained [] ≡ Some (codes "explain", None)
+unfolding jm clap_on_literals
+the_list = refl
+
+no_list_fault : explanation_fault [] ≡ []
+unfolding jm clap_on_literals
+no_list_fault = refl
+
+no_such_number : explanation_fault (codes "100" ∷ []) ≡ kind.ValueValidation ∷ []
+unfolding jm clap_on_literals
+no_such_number = refl
+
+two_numbers : explanation_fault (codes "51" ∷ codes "52" ∷ []) ≡ kind.UnknownArgument ∷ []
+unfolding jm clap_on_literals
+two_numbers = refl
+
+-- the words after jm version
+the_version : option_map (λ (s : Subcommand). s.0) (subcommand_of jm (codes "jm" ∷ codes "version" ∷ [])) ≡ Some (codes "version")
+unfolding jm clap_on_literals
+the_version = refl
+
+no_version_fault : fault_of jm (codes "jm" ∷ codes "version" ∷ []) ≡ []
+unfolding jm clap_on_literals
+no_version_fault = refl
+
+a_word_behind_the_version : fault_of jm (codes "jm" ∷ codes "version" ∷ codes "1" ∷ []) ≡ kind.UnknownArgument ∷ []
+unfolding jm clap_on_literals
+a_word_behind_the_version = refl

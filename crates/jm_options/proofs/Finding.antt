@@ -1,6 +1,8 @@
 -- What the matches of a run hold, from what the calls of clap say of them.
-use Rattle.std.proofs.Common.{◌≡◌, true, [], ◌∷◌, inl, inr, ℕ, ◌<◌, ◌^◌, slice_index, List, Option, Some, None, Result, Ok, Err, refl, sym, ap, ◌∙◌, subst, codes, arith, ap₂}
-use Rattle.std.specs.Prelude.{option_map, unwrap_or, MatchResult, IsOkAnd}
+use Rattle.std.proofs.Common.{◌≡◌, true, false, find, [], ◌∷◌, inl, inr, ℕ, ◌<◌, ◌^◌, slice_index, List, Option, Some, None, Result, Ok, Err, refl, sym, ap, ◌∙◌, subst, codes, arith, ap₂}
+use Rattle.std.specs.Prelude.{option_map, unwrap_or, MatchOption, MatchResult, IsOkAnd}
+use Rattle.std.specs.Str.{bytes_eq}
+use Rattle.std.specs.String.{string_bytes}
 use Rattle.std.specs.Str.Parse.{ParsesUnsigned, digits_value, without_leading_plus}
 use Rattle.std.specs.Box.{box_value}
 use Rattle.clap.specs.Words.{ReadsOne, Row, found_of, rows_of, Text, all_of, first_of, fault_of, is_simple, is_simple_and_free, HasKind, Kinds, kind_of, subcommand_of, subcommand_name_of, subcommand_rows_of}
@@ -8,15 +10,19 @@ use Rattle.clap.specs.declared.parser.matches.ArgMatches.{ArgMatches}
 use Rattle.clap.specs.declared.parser.matches.ArgMatches.TheViews.{out-ArgMatches, out-SubCommand}
 use Rattle.clap.specs.declared.error.Error.{Error}
 use Rattle.clap.specs.declared.error.kind.ErrorKind.TheVariants as kind
-use Rattle.jm_options.specs.Asked.{SpellsNumber, HoldsRun, HoldsAssemble, HoldsDisassemble, HoldsDebug, Holds, Subcommand, Finds, FindsRun, FindsAssemble, FindsDisassemble, FindsDebug, Answers}
+use Rattle.jm_options.specs.Asked.{SpellsNumber, HoldsNumber, HoldsRun, HoldsAssemble, HoldsDisassemble, HoldsDebug, HoldsAsked, HoldsEntry, HoldsExplain, Holds, Subcommand, Finds, FindsRun, FindsAssemble, FindsDisassemble, FindsDebug, FindsExplain, Answers}
 use Rattle.jm_options.specs.CommandLine.{jm}
 use Rattle.jm_options.specs.declared.request.Options.{Options}
-use Rattle.jm_options.specs.declared.request.Options.TheVariants.{Run, Assemble, Disassemble, Debug}
+use Rattle.jm_options.specs.declared.request.Options.TheVariants.{Run, Assemble, Disassemble, Debug, Explain, Version}
 use Rattle.jm_options.specs.declared.request.RunOptions.{RunOptions}
 use Rattle.jm_options.specs.declared.request.AssembleOptions.{AssembleOptions}
 use Rattle.jm_options.specs.declared.request.DisassembleOptions.{DisassembleOptions}
 use Rattle.jm_options.specs.declared.request.DebugOptions.{DebugOptions}
+use Rattle.jm_options.specs.declared.request.ExplainOptions.{ExplainOptions}
 use Rattle.jm_options.specs.declared.fault.UsageFault.{UsageFault}
+use Rattle.jm_explain.specs.Items.{Item, is_of, item}
+use Rattle.jm_explain.specs.Table.{items}
+use Rattle.jm_explain.specs.declared.entry.Entry.{Entry}
 use Rattle.jm_options.specs.declared.fault.UsageFault.TheVariants.{Usage, OutOfMemory}
 
 -- ---- a number
@@ -62,6 +68,17 @@ no_input rows none o holds = let some = none ∙ holds.input in cc
 pub no_output : (rows : List Row) → None ≡ first_of (codes "output") rows → (o : AssembleOptions) → HoldsAssemble rows o → ⊥
 no_output rows none o holds = let some = none ∙ holds.output in cc
 
+-- one word for both
+pub one_word : (rows : List Row) (input output : Text) → Some input ≡ first_of (codes "input") rows → Some output ≡ first_of (codes "output") rows
+    → bytes_eq input output ≡ true → (o : AssembleOptions) → HoldsAssemble rows o → ⊥
+one_word rows input output first second same o holds =
+    let a : Some input ≡ Some (string_bytes o.input) = first ∙ holds.input in
+    let b : Some output ≡ Some (string_bytes o.output) = second ∙ holds.output in
+    let c : input ≡ string_bytes o.input = ap (λ (t : Option Text). unwrap_or t []) a in
+    let d : output ≡ string_bytes o.output = ap (λ (t : Option Text). unwrap_or t []) b in
+    let apart : bytes_eq input output ≡ false = ap₂ bytes_eq c d ∙ holds.apart in
+    cc
+
 pub none_assembled : (rows : List Row) (fault : UsageFault) → ((o : AssembleOptions) → HoldsAssemble rows o → ⊥) → FindsAssemble rows (Err fault)
 none_assembled rows (Usage text) none = none
 none_assembled rows OutOfMemory none = tt
@@ -84,6 +101,31 @@ pub none_debugged : (rows : List Row) (fault : UsageFault) → ((o : DebugOption
 none_debugged rows (Usage text) none = none
 none_debugged rows OutOfMemory none = tt
 
+-- ---- the number that is to be explained
+
+-- of one number one thing is said
+pub no_entry : (rows : List Row) (n : ℕ) → HoldsNumber (codes "number") 0 99 rows n → find (is_of n) items ≡ None → (i : Item) → HoldsEntry rows i → ⊥
+no_entry rows n there none i holds =
+    let same = one_number holds.given.text there.text holds.number n (sym holds.given.given ∙ there.given) holds.given.spelled there.spelled in
+    let said = ap (λ (m : ℕ). find (is_of m) items) (sym same) ∙ holds.said in
+    let is : None ≡ Some i = sym none ∙ said in
+    cc
+
+pub entry_or_none : (rows : List Row) (n : ℕ) (found : Option Entry) → HoldsNumber (codes "number") 0 99 rows n → option_map item found ≡ find (is_of n) items
+    → MatchOption found ((i : Item) → HoldsEntry rows i → ⊥) (λ e. HoldsEntry rows (item e))
+entry_or_none rows n None there none = no_entry rows n there (sym none)
+entry_or_none rows n (Some e) there said = record { number = n; given = there; said = sym said }
+
+asked_or_not : (rows : List Row) (t : Text) (asked : Option Entry) → Some t ≡ first_of (codes "number") rows → ((i : Item) → HoldsEntry rows i → ⊥)
+    → HoldsAsked rows (option_map item asked) → ⊥
+asked_or_not rows t None given none holds = let is = given ∙ holds in cc
+asked_or_not rows t (Some e) given none holds = none (item e) holds
+
+pub none_explained : (rows : List Row) (t : Text) (fault : UsageFault) → Some t ≡ first_of (codes "number") rows → ((i : Item) → HoldsEntry rows i → ⊥)
+    → FindsExplain rows (Err fault)
+none_explained rows t (Usage text) given none = λ o holds. asked_or_not rows t o.entry given none holds.asked
+none_explained rows t OutOfMemory given none = tt
+
 -- ---- the subcommand
 
 firsts : {A : Type 0} (f : A → Text) (g : A → List Row) (o : Option A) → option_map f o ≡ option_map (λ (p : Subcommand). p.0) (option_map (λ a. (f a, g a)) o)
@@ -100,17 +142,25 @@ is_pair (Some p) name rows first second =
     let b : p.1 ≡ rows = cc in
     ap₂ (λ (x : Text) (y : List Row). Some (x, y)) a b
 
+pair_there : (s : Option Subcommand) (name : Text) → option_map (λ (p : Subcommand). p.0) s ≡ Some name → (rows : List Row) × (s ≡ Some (name, rows))
+pair_there None name first = absurd (let is = first in cc)
+pair_there (Some p) name first = (p.1, is_pair (Some p) name p.1 first refl)
+
 -- the subcommand of a name, with its matches
 pub subcommand_is : (m : ArgMatches) (name : Text) (rows : List Row) → subcommand_name_of m ≡ Some name → option_map (λ (p : Subcommand). p.1) (subcommand_rows_of m) ≡ Some rows
     → subcommand_rows_of m ≡ Some (name, rows)
 subcommand_is m name rows named is = is_pair (subcommand_rows_of m) name rows (sym (name_of_rows m) ∙ named) is
 
 pub other_subcommand : (m : ArgMatches) → (subcommand_name_of m ≡ Some (codes "run") → ⊥) → (subcommand_name_of m ≡ Some (codes "asm") → ⊥)
-    → (subcommand_name_of m ≡ Some (codes "dis") → ⊥) → (subcommand_name_of m ≡ Some (codes "debug") → ⊥) → (o : Options) → Holds (subcommand_rows_of m) o → ⊥
-other_subcommand m not_run not_asm not_dis not_debug (Run o) holds = not_run (name_of_rows m ∙ ap (option_map (λ (p : Subcommand). p.0)) holds.1)
-other_subcommand m not_run not_asm not_dis not_debug (Assemble o) holds = not_asm (name_of_rows m ∙ ap (option_map (λ (p : Subcommand). p.0)) holds.1)
-other_subcommand m not_run not_asm not_dis not_debug (Disassemble o) holds = not_dis (name_of_rows m ∙ ap (option_map (λ (p : Subcommand). p.0)) holds.1)
-other_subcommand m not_run not_asm not_dis not_debug (Debug o) holds = not_debug (name_of_rows m ∙ ap (option_map (λ (p : Subcommand). p.0)) holds.1)
+    → (subcommand_name_of m ≡ Some (codes "dis") → ⊥) → (subcommand_name_of m ≡ Some (codes "debug") → ⊥)
+    → (subcommand_name_of m ≡ Some (codes "explain") → ⊥) → (subcommand_name_of m ≡ Some (codes "version") → ⊥)
+    → (o : Options) → Holds (subcommand_rows_of m) o → ⊥
+other_subcommand m not_run not_asm not_dis not_debug not_explain not_version (Run o) holds = not_run (name_of_rows m ∙ ap (option_map (λ (p : Subcommand). p.0)) holds.1)
+other_subcommand m not_run not_asm not_dis not_debug not_explain not_version (Assemble o) holds = not_asm (name_of_rows m ∙ ap (option_map (λ (p : Subcommand). p.0)) holds.1)
+other_subcommand m not_run not_asm not_dis not_debug not_explain not_version (Disassemble o) holds = not_dis (name_of_rows m ∙ ap (option_map (λ (p : Subcommand). p.0)) holds.1)
+other_subcommand m not_run not_asm not_dis not_debug not_explain not_version (Debug o) holds = not_debug (name_of_rows m ∙ ap (option_map (λ (p : Subcommand). p.0)) holds.1)
+other_subcommand m not_run not_asm not_dis not_debug not_explain not_version (Explain o) holds = not_explain (name_of_rows m ∙ ap (option_map (λ (p : Subcommand). p.0)) holds.1)
+other_subcommand m not_run not_asm not_dis not_debug not_explain not_version Version holds = not_version (name_of_rows m ∙ ap (option_map (λ (p : Subcommand). p.0)) holds.1)
 
 pub nothing_found : (s : Option Subcommand) (fault : UsageFault) → ((o : Options) → Holds s o → ⊥) → Finds s (Err fault)
 nothing_found s (Usage text) none = none
@@ -140,31 +190,74 @@ asm_is_not_dis same = let first : 97 ≡ 100 = ap (λ (t : List ℕ). slice_inde
 dis_is_not_debug : codes "dis" ≡ codes "debug" → ⊥
 dis_is_not_debug same = let second : 105 ≡ 101 = ap (λ (t : List ℕ). slice_index t 1) same in absurd (omega (arith, second))
 
+run_is_not_explain : codes "run" ≡ codes "explain" → ⊥
+run_is_not_explain same = let first : 114 ≡ 101 = ap (λ (t : List ℕ). slice_index t 0) same in absurd (omega (arith, first))
+
+run_is_not_version : codes "run" ≡ codes "version" → ⊥
+run_is_not_version same = let first : 114 ≡ 118 = ap (λ (t : List ℕ). slice_index t 0) same in absurd (omega (arith, first))
+
+asm_is_not_explain : codes "asm" ≡ codes "explain" → ⊥
+asm_is_not_explain same = let first : 97 ≡ 101 = ap (λ (t : List ℕ). slice_index t 0) same in absurd (omega (arith, first))
+
+asm_is_not_version : codes "asm" ≡ codes "version" → ⊥
+asm_is_not_version same = let first : 97 ≡ 118 = ap (λ (t : List ℕ). slice_index t 0) same in absurd (omega (arith, first))
+
+dis_is_not_explain : codes "dis" ≡ codes "explain" → ⊥
+dis_is_not_explain same = let first : 100 ≡ 101 = ap (λ (t : List ℕ). slice_index t 0) same in absurd (omega (arith, first))
+
+dis_is_not_version : codes "dis" ≡ codes "version" → ⊥
+dis_is_not_version same = let first : 100 ≡ 118 = ap (λ (t : List ℕ). slice_index t 0) same in absurd (omega (arith, first))
+
+debug_is_not_explain : codes "debug" ≡ codes "explain" → ⊥
+debug_is_not_explain same = let first : 100 ≡ 101 = ap (λ (t : List ℕ). slice_index t 0) same in absurd (omega (arith, first))
+
+debug_is_not_version : codes "debug" ≡ codes "version" → ⊥
+debug_is_not_version same = let first : 100 ≡ 118 = ap (λ (t : List ℕ). slice_index t 0) same in absurd (omega (arith, first))
+
+explain_is_not_version : codes "explain" ≡ codes "version" → ⊥
+explain_is_not_version same = let first : 101 ≡ 118 = ap (λ (t : List ℕ). slice_index t 0) same in absurd (omega (arith, first))
+
 no_run : (s : Option Subcommand) (rows : List Row) → s ≡ Some (codes "run", rows) → ((o : RunOptions) → HoldsRun rows o → ⊥) → (o : Options) → Holds s o → ⊥
 no_run s rows is none (Run o) holds = none o (subst (λ (x : List Row). HoldsRun x o) (same_rows s _ _ is holds.1) holds.2)
 no_run s rows is none (Assemble o) holds = run_is_not_asm (same_name s _ _ is holds.1)
 no_run s rows is none (Disassemble o) holds = run_is_not_dis (same_name s _ _ is holds.1)
 no_run s rows is none (Debug o) holds = run_is_not_debug (same_name s _ _ is holds.1)
+no_run s rows is none (Explain o) holds = run_is_not_explain (same_name s _ _ is holds.1)
+no_run s rows is none Version holds = run_is_not_version (same_name s _ _ is holds.1)
 
 no_assembly : (s : Option Subcommand) (rows : List Row) → s ≡ Some (codes "asm", rows) → ((o : AssembleOptions) → HoldsAssemble rows o → ⊥) → (o : Options) → Holds s o → ⊥
 no_assembly s rows is none (Run o) holds = run_is_not_asm (same_name s _ _ holds.1 is)
 no_assembly s rows is none (Assemble o) holds = none o (subst (λ (x : List Row). HoldsAssemble x o) (same_rows s _ _ is holds.1) holds.2)
 no_assembly s rows is none (Disassemble o) holds = asm_is_not_dis (same_name s _ _ is holds.1)
 no_assembly s rows is none (Debug o) holds = asm_is_not_debug (same_name s _ _ is holds.1)
+no_assembly s rows is none (Explain o) holds = asm_is_not_explain (same_name s _ _ is holds.1)
+no_assembly s rows is none Version holds = asm_is_not_version (same_name s _ _ is holds.1)
 
 no_disassembly : (s : Option Subcommand) (rows : List Row) → s ≡ Some (codes "dis", rows) → ((o : DisassembleOptions) → HoldsDisassemble rows o → ⊥) → (o : Options) → Holds s o → ⊥
 no_disassembly s rows is none (Run o) holds = run_is_not_dis (same_name s _ _ holds.1 is)
 no_disassembly s rows is none (Assemble o) holds = asm_is_not_dis (same_name s _ _ holds.1 is)
 no_disassembly s rows is none (Disassemble o) holds = none o (subst (λ (x : List Row). HoldsDisassemble x o) (same_rows s _ _ is holds.1) holds.2)
 no_disassembly s rows is none (Debug o) holds = dis_is_not_debug (same_name s _ _ is holds.1)
+no_disassembly s rows is none (Explain o) holds = dis_is_not_explain (same_name s _ _ is holds.1)
+no_disassembly s rows is none Version holds = dis_is_not_version (same_name s _ _ is holds.1)
 
 no_debugger : (s : Option Subcommand) (rows : List Row) → s ≡ Some (codes "debug", rows) → ((o : DebugOptions) → HoldsDebug rows o → ⊥) → (o : Options) → Holds s o → ⊥
 no_debugger s rows is none (Run o) holds = run_is_not_debug (same_name s _ _ holds.1 is)
 no_debugger s rows is none (Assemble o) holds = asm_is_not_debug (same_name s _ _ holds.1 is)
 no_debugger s rows is none (Disassemble o) holds = dis_is_not_debug (same_name s _ _ holds.1 is)
 no_debugger s rows is none (Debug o) holds = none o (subst (λ (x : List Row). HoldsDebug x o) (same_rows s _ _ is holds.1) holds.2)
+no_debugger s rows is none (Explain o) holds = debug_is_not_explain (same_name s _ _ is holds.1)
+no_debugger s rows is none Version holds = debug_is_not_version (same_name s _ _ is holds.1)
 
--- what a run, an assembly, a disassembly or a debugger's command finds is what the subcommand finds
+no_explanation : (s : Option Subcommand) (rows : List Row) → s ≡ Some (codes "explain", rows) → ((o : ExplainOptions) → HoldsExplain rows o → ⊥) → (o : Options) → Holds s o → ⊥
+no_explanation s rows is none (Run o) holds = run_is_not_explain (same_name s _ _ holds.1 is)
+no_explanation s rows is none (Assemble o) holds = asm_is_not_explain (same_name s _ _ holds.1 is)
+no_explanation s rows is none (Disassemble o) holds = dis_is_not_explain (same_name s _ _ holds.1 is)
+no_explanation s rows is none (Debug o) holds = debug_is_not_explain (same_name s _ _ holds.1 is)
+no_explanation s rows is none (Explain o) holds = none o (subst (λ (x : List Row). HoldsExplain x o) (same_rows s _ _ is holds.1) holds.2)
+no_explanation s rows is none Version holds = explain_is_not_version (same_name s _ _ is holds.1)
+
+-- what a run, an assembly, a disassembly, a debugger's command or an explanation finds is what the subcommand finds
 pub finds_run : (s : Option Subcommand) (rows : List Row) (r : Result RunOptions UsageFault) (found : Result Options UsageFault) → s ≡ Some (codes "run", rows) → FindsRun rows r
     → MatchResult r (λ o. IsOkAnd found (λ given. given ≡ Run o)) (λ fault. found ≡ Err fault) → Finds s found
 finds_run s rows (Ok o) (Ok given) is holds same = rw same (rows, is, holds)
@@ -192,6 +285,17 @@ finds_debugger s rows (Ok o) (Ok given) is holds same = rw same (rows, is, holds
 finds_debugger s rows (Ok o) (Err fault) is holds same = absurd same
 finds_debugger s rows (Err (Usage text)) found is none same = rw same (no_debugger s rows is none)
 finds_debugger s rows (Err OutOfMemory) found is none same = rw same tt
+
+pub finds_explanation : (s : Option Subcommand) (rows : List Row) (r : Result ExplainOptions UsageFault) (found : Result Options UsageFault) → s ≡ Some (codes "explain", rows) → FindsExplain rows r
+    → MatchResult r (λ o. IsOkAnd found (λ given. given ≡ Explain o)) (λ fault. found ≡ Err fault) → Finds s found
+finds_explanation s rows (Ok o) (Ok given) is holds same = rw same (rows, is, holds)
+finds_explanation s rows (Ok o) (Err fault) is holds same = absurd same
+finds_explanation s rows (Err (Usage text)) found is none same = rw same (no_explanation s rows is none)
+finds_explanation s rows (Err OutOfMemory) found is none same = rw same tt
+
+-- the subcommand of a name, where it is looked for alone
+pub subcommand_there : (m : ArgMatches) (name : Text) → subcommand_name_of m ≡ Some name → (rows : List Row) × (subcommand_rows_of m ≡ Some (name, rows))
+subcommand_there m name named = pair_there (subcommand_rows_of m) name (sym (name_of_rows m) ∙ named)
 
 -- ---- the words
 

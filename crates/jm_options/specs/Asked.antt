@@ -1,15 +1,18 @@
 -- What words ask of jm.
-use Rattle.std.specs.Prelude.{◌≡◌, ◌≤◌, ℕ, List, Option, Some, None, [], Result, Ok, Err, ⊤, Bool, false, codes, map, option_map, string_bytes}
+use Rattle.std.specs.Prelude.{◌≡◌, ◌≤◌, ℕ, List, Option, Some, None, [], Result, Ok, Err, ⊤, Bool, false, find, codes, map, option_map, string_bytes}
 use Rattle.std.specs.Str.{bytes_eq}
 use Rattle.std.specs.Str.Parse.{IsNumeral, digits_value, without_leading_plus}
 use Rattle.clap.specs.Words.{Row, Text, all_of, first_of, one_of, fault_of, subcommand_of}
+use Rattle.jm_explain.specs.Items.{Item, is_of, item}
+use Rattle.jm_explain.specs.Table.{items}
 use Rattle.jm_options.specs.CommandLine.{jm}
 use Rattle.jm_options.specs.declared.request.Options.{Options}
-use Rattle.jm_options.specs.declared.request.Options.TheVariants.{Run, Assemble, Disassemble, Debug}
+use Rattle.jm_options.specs.declared.request.Options.TheVariants.{Run, Assemble, Disassemble, Debug, Explain, Version}
 use Rattle.jm_options.specs.declared.request.RunOptions.{RunOptions}
 use Rattle.jm_options.specs.declared.request.AssembleOptions.{AssembleOptions}
 use Rattle.jm_options.specs.declared.request.DisassembleOptions.{DisassembleOptions}
 use Rattle.jm_options.specs.declared.request.DebugOptions.{DebugOptions}
+use Rattle.jm_options.specs.declared.request.ExplainOptions.{ExplainOptions}
 use Rattle.jm_options.specs.declared.fault.UsageFault.{UsageFault}
 use Rattle.jm_options.specs.declared.fault.UsageFault.TheVariants.{Usage, OutOfMemory}
 
@@ -44,10 +47,11 @@ pub record HoldsRun (matches : List Row) (o : RunOptions) : Type 0 where
   pub show_heap : o.show_heap ≡ is_set (first_of (codes "show-heap") matches)
   pub files : all_of (codes "file") matches ≡ Some (map string_bytes o.files.items)
 
--- the options are what the matches of an assembly hold
+-- the options are what the matches of an assembly hold, and OUT is another word than IN
 pub record HoldsAssemble (matches : List Row) (o : AssembleOptions) : Type 0 where
   pub input : first_of (codes "input") matches ≡ Some (string_bytes o.input)
   pub output : first_of (codes "output") matches ≡ Some (string_bytes o.output)
+  pub apart : bytes_eq (string_bytes o.input) (string_bytes o.output) ≡ false
 
 -- the options are what the matches of a disassembly hold
 pub record HoldsDisassemble (matches : List Row) (o : DisassembleOptions) : Type 0 where
@@ -59,12 +63,29 @@ pub record HoldsDebug (matches : List Row) (o : DebugOptions) : Type 0 where
   pub heap : HoldsNumber (codes "heap") 16 16777216 matches o.heap
   pub files : all_of (codes "file") matches ≡ Some (map string_bytes o.files.items)
 
+-- the matches hold a number of which the table says this
+pub record HoldsEntry (matches : List Row) (i : Item) : Type 0 where
+  pub number : ℕ
+  pub given : HoldsNumber (codes "number") 0 99 matches number
+  pub said : find (is_of number) items ≡ Some i
+
+-- they hold no number, and none is asked for; or they hold that of what is asked for
+abbrev pub HoldsAsked : List Row → Option Item → Type 0
+HoldsAsked matches None = first_of (codes "number") matches ≡ None
+HoldsAsked matches (Some i) = HoldsEntry matches i
+
+-- the options are what the matches of an explanation hold
+pub record HoldsExplain (matches : List Row) (o : ExplainOptions) : Type 0 where
+  pub asked : HoldsAsked matches (option_map item o.entry)
+
 -- the options are what the subcommand and its matches hold
 abbrev pub Holds : Option Subcommand → Options → Type 0
 Holds s (Run o) = (matches : List Row) × (s ≡ Some (codes "run", matches)) × HoldsRun matches o
 Holds s (Assemble o) = (matches : List Row) × (s ≡ Some (codes "asm", matches)) × HoldsAssemble matches o
 Holds s (Disassemble o) = (matches : List Row) × (s ≡ Some (codes "dis", matches)) × HoldsDisassemble matches o
 Holds s (Debug o) = (matches : List Row) × (s ≡ Some (codes "debug", matches)) × HoldsDebug matches o
+Holds s (Explain o) = (matches : List Row) × (s ≡ Some (codes "explain", matches)) × HoldsExplain matches o
+Holds s Version = (matches : List Row) × (s ≡ Some (codes "version", matches))
 
 -- the words, of which the first is the program's name, are without a fault and ask for these options
 pub record Asks (words : List Text) (o : Options) : Type 0 where
@@ -78,7 +99,7 @@ Answers words (Ok o) = Asks words o
 Answers words (Err (Usage text)) = (o : Options) → ¬ (Asks words o)
 Answers words (Err OutOfMemory) = ⊤
 
--- the same of a subcommand, and of the matches of a run, of an assembly, of a disassembly and of a debugger's command
+-- the same of a subcommand, and of the matches of a run, of an assembly, of a disassembly, of a debugger's command and of an explanation
 abbrev pub Finds : Option Subcommand → Result Options UsageFault → Type 0
 Finds s (Ok o) = Holds s o
 Finds s (Err (Usage text)) = (o : Options) → ¬ (Holds s o)
@@ -103,6 +124,11 @@ abbrev pub FindsDebug : List Row → Result DebugOptions UsageFault → Type 0
 FindsDebug matches (Ok o) = HoldsDebug matches o
 FindsDebug matches (Err (Usage text)) = (o : DebugOptions) → ¬ (HoldsDebug matches o)
 FindsDebug matches (Err OutOfMemory) = ⊤
+
+abbrev pub FindsExplain : List Row → Result ExplainOptions UsageFault → Type 0
+FindsExplain matches (Ok o) = HoldsExplain matches o
+FindsExplain matches (Err (Usage text)) = (o : ExplainOptions) → ¬ (HoldsExplain matches o)
+FindsExplain matches (Err OutOfMemory) = ⊤
 
 -- the status that the program ends with
 abbrev pub status_of : UsageFault → ℕ

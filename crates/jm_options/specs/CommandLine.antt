@@ -84,14 +84,30 @@ disassemble_command = with_rule (with_rule (new_app (codes "dis")) bare_argument
 abbrev pub debug_command : App
 debug_command = with_rule (with_rule (new_app (codes "debug")) heap_argument) file_argument
 
+-- N, a number that may be left out
+abbrev pub number_argument : Rule
+number_argument = record (new_rule (codes "number")) { value_names = 1; parser = Some (vp.Signed (pos 0) (pos 99)) }
+
+-- explain [N]
+abbrev pub explain_command : App
+explain_command = with_rule (new_app (codes "explain")) number_argument
+
+-- version
+abbrev pub version_command : App
+version_command = new_app (codes "version")
+
 -- jm, which does nothing without a subcommand
 abbrev pub top_command : App
 top_command = on_top (λ (s : Shape). record s { subcommand_required = true; arg_required_else_help = true }) (new_app (codes "jm"))
 
-unfoldable pub jm : App
-jm =
+-- the subcommands that take files
+abbrev pub on_files : App
+on_files =
     with_subcommand (with_subcommand (with_subcommand (with_subcommand top_command run_command.top) assemble_command.top) disassemble_command.top)
     debug_command.top
+
+unfoldable pub jm : App
+jm = with_subcommand (with_subcommand on_files explain_command.top) version_command.top
 
 -- a command that clap sees so, with no argument that its subcommands share
 pub record IsSeenAs (c : Command) (a : App) : Type 0 where

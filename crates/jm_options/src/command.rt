@@ -2,7 +2,7 @@
 
 ghost use Rattle.std.specs.Prelude.{◌≡◌, false, IfOk};
 ghost use Rattle.clap.specs.Words.{App, Rule, rule_of, with_rule, with_subcommand};
-ghost use Rattle.jm_options.specs.CommandLine.{heap_argument, schedule_argument, steps_argument, quantum_argument, show_heap_argument, file_argument, run_command, input_argument, output_argument, assemble_command, bare_argument, class_argument, disassemble_command, debug_command, top_command, jm, IsSeenAs};
+ghost use Rattle.jm_options.specs.CommandLine.{heap_argument, schedule_argument, steps_argument, quantum_argument, show_heap_argument, file_argument, run_command, input_argument, output_argument, assemble_command, bare_argument, class_argument, disassemble_command, debug_command, number_argument, explain_command, version_command, top_command, jm, IsSeenAs};
 
 use clap::{Arg, ArgAction, Command, value_parser};
 use std::alloc::{AllocError, Global};
@@ -103,9 +103,11 @@ fn file_argument<'a>(alloc: Global) -> Arg<'a>
 fn run_command<'a>(alloc: Global) -> Result<Command<'a>, AllocError>
     ensures { IfOk result (λ c. IsSeenAs c run_command) }
 {
-    let run = Command::new(alloc, "run").about(
-        "Run a program: its threads take turns, or a schedule says which events are made",
-    );
+    let run = Command::new(alloc, "run")
+        .about("Run a program: its threads take turns, or a schedule says which events are made")
+        .after_help(
+            "Example: jm run Main.class Other.class\n\nClass files come from `javac --release 8`. What a number means says `jm explain N`.",
+        );
     let run = with_argument(Ok(run), heap_argument(alloc));
     let run = with_argument(run, schedule_argument(alloc));
     let run = with_argument(run, steps_argument(alloc));
@@ -137,9 +139,11 @@ fn output_argument<'a>(alloc: Global) -> Arg<'a>
 fn assemble_command<'a>(alloc: Global) -> Result<Command<'a>, AllocError>
     ensures { IfOk result (λ c. IsSeenAs c assemble_command) }
 {
-    let asm = Command::new(alloc, "asm").about(
-        "Assemble a text in Jasmin's syntax into a class file",
-    );
+    let asm = Command::new(alloc, "asm")
+        .about("Assemble a text in Jasmin's syntax into a class file")
+        .after_help(
+            "Example: jm asm Main.j Main.class\n\nOUT is another file than IN. What a number means says `jm explain N`.",
+        );
     let asm = with_argument(Ok(asm), input_argument(alloc));
     with_argument(asm, output_argument(alloc))
 }
@@ -167,9 +171,11 @@ fn class_argument<'a>(alloc: Global) -> Arg<'a>
 fn disassemble_command<'a>(alloc: Global) -> Result<Command<'a>, AllocError>
     ensures { IfOk result (λ c. IsSeenAs c disassemble_command) }
 {
-    let dis = Command::new(alloc, "dis").about(
-        "Show the text of a class in Jasmin's syntax, which `asm` gives back as the class",
-    );
+    let dis = Command::new(alloc, "dis")
+        .about("Show the text of a class in Jasmin's syntax, which `asm` gives back as the class")
+        .after_help(
+            "Example: jm dis Main.class\n\nClass files come from `javac --release 8`. What a number means says `jm explain N`.",
+        );
     let dis = with_argument(Ok(dis), bare_argument(alloc));
     with_argument(dis, class_argument(alloc))
 }
@@ -177,11 +183,40 @@ fn disassemble_command<'a>(alloc: Global) -> Result<Command<'a>, AllocError>
 fn debug_command<'a>(alloc: Global) -> Result<Command<'a>, AllocError>
     ensures { IfOk result (λ c. IsSeenAs c debug_command) }
 {
-    let debug = Command::new(alloc, "debug").about(
-        "Show a program at any event: commands are read from standard input, a line each",
-    );
+    let debug = Command::new(alloc, "debug")
+        .about("Show a program at any event: commands are read from standard input, a line each")
+        .after_help(
+            "Example: jm debug Main.class Other.class\n\nClass files come from `javac --release 8`. What a number means says `jm explain N`.",
+        );
     let debug = with_argument(Ok(debug), heap_argument(alloc));
     with_argument(debug, file_argument(alloc))
+}
+
+fn number_argument<'a>(alloc: Global) -> Arg<'a>
+    ensures rule { rule_of result ≡ number_argument }
+    ensures local { result.global ≡ false }
+{
+    Arg::new(alloc, "number")
+        .value_name("N")
+        .value_parser(value_parser!(u32).range(0..=99))
+        .help("Number of a refusal, a stop or an exit status; without one all are listed")
+}
+
+fn explain_command<'a>(alloc: Global) -> Result<Command<'a>, AllocError>
+    ensures { IfOk result (λ c. IsSeenAs c explain_command) }
+{
+    let explain = Command::new(alloc, "explain")
+        .about("Say what a number means: that of a refusal, of a stop or of an exit status")
+        .after_help("Example: jm explain 51");
+    with_argument(Ok(explain), number_argument(alloc))
+}
+
+fn version_command<'a>(alloc: Global) -> Command<'a>
+    ensures { IsSeenAs result version_command }
+{
+    Command::new(alloc, "version")
+        .about("Say which jm this is, and which kit it is written for")
+        .after_help("Example: jm version")
 }
 
 fn top_command<'a>(alloc: Global) -> Command<'a>
@@ -189,6 +224,9 @@ fn top_command<'a>(alloc: Global) -> Command<'a>
 {
     Command::new(alloc, "jm")
         .about("A Java virtual machine that makes one event after the other")
+        .after_help(
+            "Example: jm run Main.class\n\nClass files come from `javac --release 8`. What the numbers mean says `jm explain`.",
+        )
         .subcommand_required(true)
         .arg_required_else_help(true)
 }
@@ -200,5 +238,7 @@ pub fn command<'a>(alloc: Global) -> Result<Command<'a>, AllocError>
     let jm = with_command(Ok(top_command(alloc)), run_command(alloc));
     let jm = with_command(jm, assemble_command(alloc));
     let jm = with_command(jm, disassemble_command(alloc));
-    with_command(jm, debug_command(alloc))
+    let jm = with_command(jm, debug_command(alloc));
+    let jm = with_command(jm, explain_command(alloc));
+    with_command(jm, Ok(version_command(alloc)))
 }

@@ -3,10 +3,11 @@
 //! [`options`] reads the words of a command line as [`Options`], or says by a [`UsageFault`] what is
 //! wrong with them. What it knows is
 //! `jm run [--heap N] [--schedule FILE] [--steps N] [--quantum N] [--show-heap] FILE...`,
-//! `jm asm IN OUT`, `jm dis [--bare] FILE` and `jm debug [--heap N] FILE...`; any other option or
-//! subcommand is refused by its name.
+//! `jm asm IN OUT`, where OUT is another word than IN, `jm dis [--bare] FILE`,
+//! `jm debug [--heap N] FILE...`, `jm explain [N]`, where N is a number that `jm_explain` tells of, and
+//! `jm version`; any other option or subcommand is refused by its name.
 //!
-//! The crate stands on `clap`.
+//! The crate stands on `clap` and `jm_explain`.
 #![tactic(auto)]
 
 mod command;
@@ -16,7 +17,7 @@ mod words;
 
 pub use fault::UsageFault;
 pub use request::{
-    AssembleOptions, DebugOptions, DisassembleOptions, MAX_HEAP, MAX_QUANTUM, MAX_STEPS, MIN_HEAP,
-    Options, RunOptions,
+    AssembleOptions, DebugOptions, DisassembleOptions, ExplainOptions, MAX_HEAP, MAX_QUANTUM,
+    MAX_STEPS, MIN_HEAP, Options, RunOptions,
 };
 pub use words::options;

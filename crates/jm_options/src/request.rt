@@ -1,3 +1,5 @@
+use jm_explain::Entry;
+
 /// The least limit of the heap, in cells.
 pub const MIN_HEAP: u32 = 16;
 
@@ -21,6 +23,10 @@ pub enum Options {
     Disassemble(DisassembleOptions),
     /// `jm debug`: to show a program at any event.
     Debug(DebugOptions),
+    /// `jm explain`: to say what the numbers of refusals and statuses mean.
+    Explain(ExplainOptions),
+    /// `jm version`: to say which `jm` this is.
+    Version,
 }
 
 /// What `jm run` is given.
@@ -46,7 +52,7 @@ pub struct RunOptions {
 pub struct AssembleOptions {
     /// The file of the text.
     pub input: String,
-    /// The class file to write.
+    /// The class file to write. It is another word than the text's.
     pub output: String,
 }
 
@@ -67,4 +73,11 @@ pub struct DebugOptions {
     /// The files of the classes, the main class's first: a class file, or the text of a class if its
     /// name ends in `.j`.
     pub files: Vec<String>,
+}
+
+/// What `jm explain` is given.
+#[derive(Drop)]
+pub struct ExplainOptions {
+    /// What is said of the number that was given; `None` where none was, which asks for the list.
+    pub entry: Option<Entry>,
 }

@@ -3,16 +3,18 @@
 ghost use Rattle.std.specs.Prelude.{◌≡◌, ℕ, MatchOption, MatchResult, map, option_map, string_bytes};
 ghost use Rattle.clap.specs.Words.{first_of, found_of, kind_of, rows_of, subcommand_rows_of};
 ghost use Rattle.clap.specs.declared.error.kind.ErrorKind.TheVariants as kind;
-ghost use Rattle.jm_options.specs.Asked.{Answers, Finds, FindsAssemble, FindsDebug, FindsDisassemble, FindsRun, HoldsNumber, is_set};
+ghost use Rattle.jm_explain.specs.Items.{Item, item};
+ghost use Rattle.jm_options.specs.Asked.{Answers, Finds, FindsAssemble, FindsDebug, FindsDisassemble, FindsExplain, FindsRun, HoldsEntry, HoldsNumber, is_set};
 
 use crate::command::command;
 use crate::fault::UsageFault;
 use crate::request::{
-    AssembleOptions, DebugOptions, DisassembleOptions, MAX_HEAP, MAX_QUANTUM, MAX_STEPS, MIN_HEAP,
-    Options, RunOptions,
+    AssembleOptions, DebugOptions, DisassembleOptions, ExplainOptions, MAX_HEAP, MAX_QUANTUM,
+    MAX_STEPS, MIN_HEAP, Options, RunOptions,
 };
 use clap::error::ErrorKind;
 use clap::{ArgMatches, Error};
+use jm_explain::{Entry, entry_of};
 use std::alloc::Global;
 
 // The text for words that `clap` took and that ask for nothing.
@@ -20,6 +22,26 @@ fn nothing_asked(alloc: Global) -> UsageFault {
     match String::from_str(
         alloc,
         "error: a value is missing\n\nFor more information, try '--help'.\n",
+    ) {
+        Ok(text) => UsageFault::Usage(text),
+        Err(_) => UsageFault::OutOfMemory,
+    }
+}
+
+// The text for an assembly whose class file would take the place of its text.
+fn one_file(alloc: Global, file: &str) -> UsageFault {
+    match format!(in alloc;
+        "error: '{file}' is both IN and OUT\n\nFor more information, try '--help'.\n"
+    ) {
+        Ok(text) => UsageFault::Usage(text),
+        Err(_) => UsageFault::OutOfMemory,
+    }
+}
+
+// The text for a number of which there is nothing to say.
+fn unknown_number(alloc: Global, number: &str) -> UsageFault {
+    match format!(in alloc;
+        "error: invalid value '{number}' for '[N]': no refusal and no status has this number\n\nFor the numbers that there are, try 'jm explain'.\n"
     ) {
         Ok(text) => UsageFault::Usage(text),
         Err(_) => UsageFault::OutOfMemory,
@@ -117,6 +139,9 @@ fn assemble_options(alloc: Global, matches: &ArgMatches<'_>) -> Result<AssembleO
     let Some(output) = matches.get_str("output") else {
         return Err(nothing_asked(alloc));
     };
+    if input == output {
+        return Err(one_file(alloc, input));
+    }
     Ok(AssembleOptions {
         input: String::from_str(alloc, input)?,
         output: String::from_str(alloc, output)?,
@@ -153,6 +178,27 @@ fn debug_options(alloc: Global, matches: &ArgMatches<'_>) -> Result<DebugOptions
     })
 }
 
+// What is said of the number that was given, if there is one within the limits.
+fn entry_given(matches: &ArgMatches<'_>) -> Option<Entry>
+    ensures { let rows = rows_of (found_of matches.now) in
+        MatchOption result ((i : Item) → HoldsEntry rows i → ⊥) (λ e. HoldsEntry rows (item e)) }
+{
+    let number = number_within(matches, "number", 0, 99)?;
+    entry_of(number)
+}
+
+fn explain_options(alloc: Global, matches: &ArgMatches<'_>) -> Result<ExplainOptions, UsageFault>
+    ensures { FindsExplain (rows_of (found_of matches.now)) result }
+{
+    let Some(number) = matches.get_str("number") else {
+        return Ok(ExplainOptions { entry: None });
+    };
+    match entry_given(matches) {
+        Some(entry) => Ok(ExplainOptions { entry: Some(entry) }),
+        None => Err(unknown_number(alloc, number)),
+    }
+}
+
 fn found_options(alloc: Global, matches: &ArgMatches<'_>) -> Result<Options, UsageFault>
     ensures { Finds (subcommand_rows_of matches.now) result }
 {
@@ -167,6 +213,12 @@ fn found_options(alloc: Global, matches: &ArgMatches<'_>) -> Result<Options, Usa
     }
     if let Some(debug) = matches.subcommand_matches("debug") {
         return debug_options(alloc, debug).map(Options::Debug);
+    }
+    if let Some(explain) = matches.subcommand_matches("explain") {
+        return explain_options(alloc, explain).map(Options::Explain);
+    }
+    if matches.subcommand_matches("version").is_some() {
+        return Ok(Options::Version);
     }
     Err(nothing_asked(alloc))
 }

@@ -2,7 +2,7 @@
 
 use super::words::words_of;
 use crate::table::row_of;
-use jm_options::{Options, RunOptions, options};
+use jm_options::{ExplainOptions, Options, RunOptions, options};
 use std::alloc::Global;
 use std::test::Fail;
 
@@ -41,7 +41,15 @@ jm|asm|Main.j|Main.class => assembly of Main.j to Main.class
 jm|asm|-|out => assembly of - to out
 jm|asm|--|-Main.j|--help => assembly of -Main.j to --help
 jm|asm|run|asm => assembly of run to asm
-/usr/bin/other|asm||A B.class => assembly of  to A B.class";
+/usr/bin/other|asm||A B.class => assembly of  to A B.class
+jm|asm|A.j|./A.j => assembly of A.j to ./A.j
+jm|explain => explanation of all
+jm|explain|51 => explanation of 51 NoClass(name)
+jm|explain|0051 => explanation of 51 NoClass(name)
+jm|explain|+51 => explanation of 51 NoClass(name)
+jm|explain|0 => explanation of 0 status
+jm|explain|--|90 => explanation of 90 NoText(part)
+jm|version => version";
 
 fn list_of(alloc: Global, files: &[String]) -> Result<String, Fail> {
     let mut list = String::new(alloc);
@@ -77,6 +85,17 @@ fn run_text(alloc: Global, run: &RunOptions) -> Result<String, Fail> {
     Ok(format!(in alloc; "run of {files} by {events} with {heap}{shown}")?)
 }
 
+// Of which number an explanation is.
+fn explained(alloc: Global, explain: &ExplainOptions) -> Result<String, Fail> {
+    match &explain.entry {
+        Some(entry) => {
+            let (number, name) = (entry.number, entry.name);
+            Ok(format!(in alloc; "explanation of {number} {name}")?)
+        }
+        None => Ok(String::from_str(alloc, "explanation of all")?),
+    }
+}
+
 fn text_of(alloc: Global, asked: &Options) -> Result<String, Fail> {
     match asked {
         Options::Run(run) => run_text(alloc, run),
@@ -93,6 +112,8 @@ fn text_of(alloc: Global, asked: &Options) -> Result<String, Fail> {
             let (files, heap) = (list_of(alloc, &debug.files)?, debug.heap);
             Ok(format!(in alloc; "debug of {files} with {heap}")?)
         }
+        Options::Explain(explain) => explained(alloc, explain),
+        Options::Version => Ok(String::from_str(alloc, "version")?),
     }
 }
 
@@ -110,6 +131,6 @@ fn words_ask_for_this(rt: HostRuntime) -> Result<(), Fail> {
         let answer = answer(rt.alloc(), words)?;
         assert!(rt; answer.as_str() == want, "{row}");
     }
-    assert!(rt; ASKED.lines().count() == 33);
+    assert!(rt; ASKED.lines().count() == 41);
     Ok(())
 }

@@ -72,18 +72,29 @@ jm asm --heap=16 A.j A.class => 1 error: unexpected argument '--heap' found
 jm asm -o A.class A.j => 1 error: unexpected argument '-o' found
 jm asm -A.j A.class => 1 error: unexpected argument '-A' found
 jm asm A.j -A.class => 1 error: unexpected argument '-A' found
-jm asn A.j A.class => 1 error: unrecognized subcommand 'asn'";
+jm asn A.j A.class => 1 error: unrecognized subcommand 'asn'
+jm asm A.j A.j => 1 error: 'A.j' is both IN and OUT
+jm asm -- -- -- => 1 error: '--' is both IN and OUT
+jm explain 3x => 1 error: invalid value '3x' for '[N]': invalid digit found in string
+jm explain 44 => 1 error: invalid value '44' for '[N]': no refusal and no status has this number
+jm explain 99 => 1 error: invalid value '99' for '[N]': no refusal and no status has this number
+jm explain 100 => 1 error: invalid value '100' for '[N]': 100 is not in 0..=99
+jm explain 51 52 => 1 error: unexpected argument '52' found
+jm explain --heap=16 51 => 1 error: unexpected argument '--heap' found
+jm explain --help => 1 Say what a number means: that of a refusal, of a stop or of an exit status
+jm version 1 => 1 error: unexpected argument '1' found
+jm version --help => 1 Say which jm this is, and which kit it is written for";
 
 /// Words that are refused, and behind ` => ` a part of the text, whose line ends are written `/`.
 const PARTS: &str = "\
 jm => Usage: jm <COMMAND>
-jm --help =>   run    Run a program: its threads take turns, or a schedule says which events are made
-jm --help =>   asm    Assemble a text in Jasmin's syntax into a class file
-jm --help =>   dis    Show the text of a class in Jasmin's syntax, which `asm` gives back as the class
+jm --help =>   run      Run a program: its threads take turns, or a schedule says which events are made
+jm --help =>   asm      Assemble a text in Jasmin's syntax into a class file
+jm --help =>   dis      Show the text of a class in Jasmin's syntax, which `asm` gives back as the class
 jm dis -h => Usage: jm dis [OPTIONS] <FILE>
 jm dis -h => Without comments: neither the numbers of instructions nor flags that have no word
 jm dis -h => Class file, or a text ending in .j
-jm --help =>   debug  Show a program at any event: commands are read from standard input, a line each
+jm --help =>   debug    Show a program at any event: commands are read from standard input, a line each
 jm run -h => Class files, or texts ending in .j; the first one's `main` is run
 jm asm -h => Usage: jm asm <IN> <OUT>
 jm asm -h =>   <IN>   Text of a class in Jasmin's syntax
@@ -104,7 +115,20 @@ jm run -h => [default: 65536]
 jm run -h => [default: 1000000]
 jm run -h => [default: 1]
 jm run --shedule=s A.class => a similar argument exists: '--schedule'
-jm rum => a similar subcommand exists: 'run'";
+jm rum => a similar subcommand exists: 'run'
+jm --help =>   explain  Say what a number means: that of a refusal, of a stop or of an exit status
+jm --help =>   version  Say which jm this is, and which kit it is written for
+jm --help => Example: jm run Main.class
+jm --help => Class files come from `javac --release 8`. What the numbers mean says `jm explain`.
+jm run -h => Example: jm run Main.class Other.class
+jm run -h => Class files come from `javac --release 8`. What a number means says `jm explain N`.
+jm asm -h => Example: jm asm Main.j Main.class
+jm dis -h => Example: jm dis Main.class
+jm debug -h => Example: jm debug Main.class Other.class
+jm explain -h => Usage: jm explain [N]
+jm explain -h => Example: jm explain 51
+jm version -h => Example: jm version
+jm explain 44 => For the numbers that there are, try 'jm explain'.";
 
 fn refusal(alloc: Global, words: &str) -> Result<UsageFault, Fail> {
     let words = words_of(alloc, words, " ")?;
@@ -126,7 +150,7 @@ fn refusals_name_the_word(rt: HostRuntime) -> Result<(), Fail> {
         let said = first_line(rt.alloc(), words)?;
         assert!(rt; said.as_str() == want, "{row}");
     }
-    assert!(rt; REFUSED.lines().count() == 65);
+    assert!(rt; REFUSED.lines().count() == 76);
     Ok(())
 }
 
@@ -144,7 +168,7 @@ fn refusals_say_what_to_write(rt: HostRuntime) -> Result<(), Fail> {
         let (words, part) = row_of(row)?;
         assert!(rt; says(rt.alloc(), words, part)?, "{row}");
     }
-    assert!(rt; PARTS.lines().count() == 29);
+    assert!(rt; PARTS.lines().count() == 42);
     Ok(())
 }
 

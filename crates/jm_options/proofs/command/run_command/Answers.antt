@@ -7,7 +7,7 @@ use Rattle.jm_options.proofs.command.run_command.Goals as goal
 
 pub returns : goal.returns
 returns c =
-    let start : IsSeenAs c.about-run.result (new_app (codes "run")) = record { app = ap app_of_fields c.about-run.ensures ∙ c.new.ensures.app; local = rw c.about-run.ensures c.new.ensures.local } in
+    let start : IsSeenAs c.after_help-run.result (new_app (codes "run")) = record { app = ap app_of_fields c.after_help-run.ensures ∙ ap app_of_fields c.about.ensures ∙ c.new.ensures.app; local = rw (c.after_help-run.ensures, c.about.ensures) c.new.ensures.local } in
     let one = c.with_argument-run.ensures _ _ start c.heap_argument.ensures.rule c.heap_argument.ensures.local in
     let two = c.with_argument-run-2.ensures _ _ one c.schedule_argument.ensures.rule c.schedule_argument.ensures.local in
     let three = c.with_argument-run-3.ensures _ _ two c.steps_argument.ensures.rule c.steps_argument.ensures.local in

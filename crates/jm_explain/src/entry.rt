@@ -1,0 +1,46 @@
+// What is said of a number.
+
+ghost use Rattle.std.specs.Prelude.{Some};
+ghost use Rattle.jm_explain.specs.Items.{item, item_line, item_text};
+
+use std::fmt;
+use std::fmt::Display;
+
+/// What is said of a number. Its `Display` is all of it, the line of the list first, each part a
+/// line.
+#[derive(Clone, Copy)]
+pub struct Entry {
+    pub number: u32,
+    /// The name of the refusal or the stop; or `status`, where the number is that of an exit status.
+    pub name: &'static str,
+    /// What the number says, in one line.
+    pub meaning: &'static str,
+    /// A case in which it comes.
+    pub example: &'static str,
+    /// What to do then.
+    pub advice: &'static str,
+}
+
+impl Display for Entry {
+    ghost output = { λ entry. Some (item_text (item entry)) };
+
+    fn fmt<W: fmt::Write>(&self, f: &mut fmt::Formatter<W>) -> fmt::Result {
+        write!(
+            f,
+            "{} {}: {}\n\nFor example: {}\n\nWhat to do: {}\n",
+            self.number, self.name, self.meaning, self.example, self.advice
+        )
+    }
+}
+
+/// An entry as the list of all has it: its number, its name and what it means.
+#[derive(Clone, Copy)]
+pub struct EntryLine(pub Entry);
+
+impl Display for EntryLine {
+    ghost output = { λ line. Some (item_line (item line.0)) };
+
+    fn fmt<W: fmt::Write>(&self, f: &mut fmt::Formatter<W>) -> fmt::Result {
+        write!(f, "{} {}: {}\n", self.0.number, self.0.name, self.0.meaning)
+    }
+}
