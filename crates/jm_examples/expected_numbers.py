@@ -32,7 +32,7 @@ for number, name in refusals.items():
 numbers = sorted(names)
 with open("../jm_explain/specs/Table.antt", encoding="utf-8") as file:
     meanings = {int(number): meaning for number, meaning in re.findall(r'number = (\d+); .*?meaning = codes "([^"]*)"', file.read())}
-none = [it for it in (17, 44, 48, 58, 91, 99, 4294967295) if it not in names]
+none = [it for it in (16, 17, 44, 47, 48, 58, 91, 99, 4294967295) if it not in names]
 made = {
     "data/answers/explanations.txt": HEAD + "".join(f"{it} => {names[it]}\n" for it in numbers)
     + "all => " + " ".join(map(str, numbers)) + "\n" + NONE + "".join(f"{it} => none\n" for it in none),

@@ -2,7 +2,9 @@
 """Writes the text of class files as `jm dis` shows them, made from what `javap -v -p` prints of each.
 
 expected_texts.py [--bare] FILE..: one text after the other; expected_texts.py --compare JM FILE..: says for each file
-whether `JM dis` and `JM dis --bare` print that text, and how many do. What javap prints has the numbers of bytes where
+whether `JM dis` and `JM dis --bare` print that text, and how many do; expected_texts.py --table FOLDER: behind each line
+of the table of that folder's class files that a class is written and read again equal, and whether a text can say it or
+which flags it cannot. What javap prints has the numbers of bytes where
 a text has labels by the numbers of instructions, and the constants of the pool with escapes of its own; nothing here
 was taken from what jm prints.
 Not read by any check: what stands in data/jobs/ is committed. Needs javap.
@@ -173,7 +175,8 @@ def operand_text(reader, opcode, operand):
     if found := re.match(r"^#(\d+)(?:, +(\d+))?$", rest):
         kind, value = reader.pool[int(found[1])]
         if kind == "Class":
-            return reader.class_at(int(found[1]))
+            dimensions = f" {found[2]}" if opcode == "multianewarray" else ""
+            return f"{reader.class_at(int(found[1]))}{dimensions}"
         if kind == "Integer":
             return value
         if kind == "Long":
@@ -304,7 +307,30 @@ def compare(jm, paths):
     print(f"{kept} of {len(paths)} have the text that javap says")
 
 
+def part_without_text(reader):
+    """The first part of a class with flags that no word says, or None."""
+    said = 0x600 if reader.flags & 0x200 else 0x20
+    if reader.flags & said != said or any(bit & reader.flags & ~said for bit in WORDLESS):
+        return "class"
+    for kind, members in (("field", reader.fields), ("method", reader.methods)):
+        for number, member in enumerate(members):
+            if any(bit & member.flags for bit in WORDLESS):
+                return f"{kind} {number}"
+    return None
+
+
+def table(folder):
+    """The lines of a folder's table, with what comes of each class that is written again and given a text."""
+    with open(os.path.join(folder, "expected.txt"), encoding="utf-8") as lines:
+        for line in lines:
+            part = part_without_text(Reader(os.path.join(folder, line.split()[0])))
+            print(line.rstrip("\n"), "equal", f"90 NoText({part}: flags)" if part else "equal")
+
+
 def main():
+    if sys.argv[1:2] == ["--table"]:
+        table(sys.argv[2])
+        return
     if sys.argv[1:2] == ["--compare"]:
         compare(sys.argv[2], sys.argv[3:])
         return

@@ -31,14 +31,16 @@ compile --release 8 Marker.java Empty.java Arithmetic.java LongArithmetic.java \
     Anonymous.java Nested.java Varargs.java Interfaces.java ManyLocals.java \
     ManyConstants.java FarJump.java Caught.java Starting.java \
     Given.java GivenAlone.java GivenNames.java Unwound.java FailedAbove.java \
-    FailedStart.java
+    FailedStart.java MultiArray.java
 compile --release 8 -d "$folder" stub/*.java
 compile --release 8 -cp "$folder" Reading.java
 compile --release 8 -g Exceptions.java BuiltInFaults.java Locks.java \
     Threads.java Initializers.java Casts.java OldMembers.java BoundedBuffer.java \
-    SharedCounter.java Deadlock.java
+    SharedCounter.java Deadlock.java NoRows.java Below.java
 compile --release 8 -g:none Fields.java Evaluation.java
-compile --release 7 -cp . Callback.java Calls.java Conditions.java Queens.java
+compile --release 8 Product.java Flood.java Volume.java Ragged.java
+compile --release 7 -cp . Callback.java Calls.java Conditions.java Queens.java \
+    Floyd.java Garbage.java
 compile --release 7 -g Sorting.java Tree.java
 compile --release 7 -g:none Matrix.java Machine.java Hash.java
 python3 ../../expected.py ./*.class > expected.txt

@@ -1,20 +1,21 @@
 #!/bin/sh
 # Writes stdout, what the program has to print, from the tables that other programs gave: javap of
 # the class files, and of what the real Jasmin made of the texts. Each class is equal when it is
-# written and read again, and the worked text has the bytes of the worked class file. Each program
-# prints what a real Java printed (expected_runs.py). Each row of the tables of jobs and of questions is
-# as it should be, and so is what four workers do, in whatever order. The works print what their twins in
-# plain Rust print (bench/descriptors, plain, heap, collecting, read and forward, at the sizes in
-# src/works.rt), each case of the collector is as wanted, and nothing is refused.
+# written and read again, and when it is given a text and assembled again, but where javap says a flag
+# that no word says (expected_texts.py); the worked text has the bytes of the worked class file. Each
+# program prints what a real Java printed (expected_runs.py). Each row of the tables of jobs and of
+# questions is as it should be, and so is what four workers do, in whatever order. The works print what
+# their twins in plain Rust print (bench/descriptors, plain, heap, collecting, read and forward, at the
+# sizes in src/works.rt), each case of the collector is as wanted, and nothing is refused.
 # Needs javap and python3. No check runs this: stdout is committed.
 set -eu
 cd "$(dirname "$0")"
 {
-    echo "file fields methods max_stack max_locals instructions handlers lines again"
-    python3 expected.py data/sum.class | sed 's/$/ equal/'
-    sed 's/$/ equal/' data/java/expected.txt
+    echo "file fields methods max_stack max_locals instructions handlers lines again text"
+    python3 expected.py data/sum.class | sed 's/$/ equal equal/'
+    python3 expected_texts.py --table data/java
     cat data/refused/expected.txt
-    sed 's/$/ equal/' data/texts/expected.txt
+    sed 's/$/ equal equal/' data/texts/expected.txt
     echo "sum.j has the $(wc -c < data/sum.class) bytes of sum.class"
     python3 expected_runs.py
     # (the answers are those of the first row of data/jobs/sessions.txt, and by docs/DEBUGGER.md)

@@ -1,5 +1,5 @@
 -- The objects of a store by their places.
-use Rattle.std.specs.Prelude.{◌≡◌, ◌≢◌, ℕ, ◌-◌, ◌<◌, ◌≤◌, [], ◌∷◌, ◌++◌, if◌then◌else◌}
+use Rattle.std.specs.Prelude.{◌≡◌, ◌≢◌, ℕ, ◌+◌, ◌-◌, ◌<◌, ◌≤◌, [], ◌∷◌, ◌++◌, if◌then◌else◌}
 use Rattle.std.specs.Prelude.{List, Option, Some, None, Bool, false, nat_eq, slice_get, length, map, sum_by}
 use Rattle.jm_values.specs.declared.value.Value.{Value}
 use Rattle.jm_blocks.specs.Objects.{Object, with_value}
@@ -91,6 +91,11 @@ next_place s n =
 -- the cells of all objects
 abbrev pub store_cells : List (List Object) → ℕ
 store_cells bs = sum_by block_cells bs
+
+-- the last object, which lay at a place, is given up
+pub record IsPopped (old new : Blocks) (p : ℕ) (o : Object) : Type 0 where
+  pub bumped : Bumped new old p o
+  pub cells : store_cells old.lists ≡ store_cells new.lists + object_cells o
 
 -- the first size of the next block had no room beside these
 abbrev pub HadNoRoom : List ℕ → List (List ℕ) → Type 0

@@ -8,7 +8,7 @@ ghost use Rattle.jm_heap.specs.Elements.{elements, element_kind};
 ghost use Rattle.jm_heap.specs.Packing.{Fits, kind_of};
 ghost use Rattle.jm_heap.specs.declared.storage.Storage.TheVariants as kind;
 ghost use Rattle.jm_blocks.specs.Places.{place_at, lane_of};
-ghost use Rattle.jm_blocks.specs.Stores.{Blocks, objects_in, HasObject, HasValue, Bumped, IsSet, IsAfter, IsFirst, IsLast, IsEmpty};
+ghost use Rattle.jm_blocks.specs.Stores.{Blocks, objects_in, HasObject, HasValue, Bumped, IsSet, IsPopped, IsAfter, IsFirst, IsLast, IsEmpty};
 ghost use Rattle.jm_blocks.specs.Stores.{last_has_room, store_with, next_place, store_cells};
 
 use crate::block::Block;
@@ -276,12 +276,14 @@ impl BlockStore {
         Ok(())
     }
 
-    /// Gives up the last object, and its block with it where it is the only one there: the store is
-    /// then as it was before that object was put in.
+    /// Gives up the last object, if there is one, and its block with it where it is the only one there.
     pub fn pop(&mut self)
-        requires { 0 < length self.old.lists }
-        ensures { (o : Object) × (self.old ≡ store_with self.new o) }
+        ensures popped { (p : ℕ) → HasObject self.old p → IsLast self.old p → (o : Object) × IsPopped self.old self.new p o }
+        ensures lane { self.new.lane ≡ self.old.lane }
     {
+        if self.blocks.len() == 0 {
+            return;
+        }
         let last = self.blocks.len() - 1;
         let block = &mut self.blocks[last];
         if block.len() > 1 {

@@ -8,14 +8,13 @@ use Rattle.jm_bytes.specs.Laws.{and_then_ok, ok_or_ok, same_Ok}
 use Rattle.jm_program.specs.Descriptors.{argument_slots}
 use Rattle.jm_program.specs.Names.{is_class_name}
 use Rattle.jm_program.specs.References.{class_ref_fits, method_ref_fits}
-use Rattle.jm_program.specs.Instructions.{is_above, keys_rise, has_high, can_be_element, type_op_fits, plain_fits, instr_fits}
+use Rattle.jm_program.specs.Instructions.{is_above, keys_rise, has_high, type_op_fits, plain_fits, instr_fits}
 use Rattle.jm_program.proofs.DescriptorLaws.{and_true, both_true}
 use Rattle.jm_program.specs.declared.reference.ClassRef.{ClassRef}
 use Rattle.jm_program.specs.declared.reference.MethodRef.{MethodRef}
 use Rattle.jm_program.specs.declared.instruction.operation.InvokeOp.{InvokeOp}
 use Rattle.jm_program.specs.declared.instruction.operation.InvokeOp.TheVariants as invoke
 use Rattle.jm_program.specs.declared.instruction.operation.TypeOp.{TypeOp}
-use Rattle.jm_program.specs.declared.instruction.operation.TypeOp.TheVariants as type
 use Rattle.jm_program.specs.declared.instruction.plain.SwitchPair.{SwitchPair}
 use Rattle.jm_program.specs.declared.instruction.plain.TableSwitch.{TableSwitch}
 use Rattle.jm_program.specs.declared.instruction.plain.LookupSwitch.{LookupSwitch}
@@ -33,12 +32,12 @@ use Rattle.jm_class_format.specs.declared.read_fault.ReadFault.{ReadFault}
 use Rattle.jm_class_format.specs.declared.read_fault.ReadFault.TheVariants as read
 use Rattle.jm_class_format.specs.FileFaults.{bad_index}
 use Rattle.jm_class_format.specs.PoolLookups.{entry_at, class_at, field_at, method_at, interface_method_at}
-use Rattle.jm_class_format.specs.Symbols.{class_name_of, class_ref_of, element_ref, field_ref_of, method_ref_of}
+use Rattle.jm_class_format.specs.Symbols.{class_name_of, class_ref_of, operand_ref, field_ref_of, method_ref_of}
 use Rattle.jm_class_format.specs.NamedCode.{loaded, loaded_long, calls_interface, class_method, counted, interface_method, class_ref_at, type_operand, class_name_at, named}
 use Rattle.jm_class_format.specs.Code.{number_of, table_numbered, pair_numbered, lookup_numbered, plain_numbered, instr_numbered, numbered, all_numbered, code}
 use Rattle.jm_class_format.proofs.Kept.{passed, position_within, each_keep, all_pass}
 use Rattle.jm_class_format.proofs.OperandsFit.{plain_kept, instr_kept, run_kept}
-use Rattle.jm_class_format.proofs.SymbolsFit.{class_name_fits, class_ref_kept, element_kept, field_ref_kept, method_ref_kept}
+use Rattle.jm_class_format.proofs.SymbolsFit.{class_name_fits, class_ref_kept, operand_kept, field_ref_kept, method_ref_kept}
 
 -- ---- targets
 
@@ -168,12 +167,9 @@ class_ref_at_kept es index c h =
 
 type_operand_kept : (es : List Entry) (op : TypeOp) (index : ℕ) (c : ClassRef) → type_operand es op index ≡ Ok c → type_op_fits op c ≡ true
 unfolding type_operand
-type_operand_kept es type.NewArray index c h =
-    let a = and_then_ok (class_ref_at es index) element_ref c h in
-    let e = element_kept a.0 c a.2 in
-    and_true (class_ref_fits c) (can_be_element c) (subst (λ (x : ClassRef). class_ref_fits x ≡ true) e.1 (class_ref_at_kept es index a.0 a.1)) e.0
-type_operand_kept es type.CheckCast index c h = class_ref_at_kept es index c h
-type_operand_kept es type.InstanceOf index c h = class_ref_at_kept es index c h
+type_operand_kept es op index c h =
+    let a = and_then_ok (class_ref_at es index) (operand_ref op) c h in
+    operand_kept op a.0 c (class_ref_at_kept es index a.0 a.1) a.2
 
 not_left_out : (b : Bool) (e : ReadFault) (r : Result MethodRef ReadFault) (m : MethodRef) → (if b then Err e else r) ≡ Ok m → r ≡ Ok m
 not_left_out true e r m h = absurd cc

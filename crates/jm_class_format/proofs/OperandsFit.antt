@@ -18,7 +18,7 @@ use Rattle.jm_class_format.specs.declared.opcode.Opcode.TheVariants as opcode
 use Rattle.jm_class_format.specs.declared.instruction.IndexedInstr.{IndexedInstr}
 use Rattle.jm_class_format.specs.declared.instruction.IndexedInstr.TheVariants as indexed
 use Rattle.jm_class_format.specs.declared.instruction.PlacedInstr.{PlacedInstr}
-use Rattle.jm_class_format.specs.Instructions.{far_target, natural, count_from, switch_range, table_switch, last_key, next_pair, lookup_switch, new_array, invoke_interface, increment, wide_increment, wide_operands, wide, operands, instruction}
+use Rattle.jm_class_format.specs.Instructions.{far_target, natural, count_from, switch_range, table_switch, last_key, next_pair, lookup_switch, new_array, new_arrays, invoke_interface, increment, wide_increment, wide_operands, wide, operands, instruction}
 use Rattle.jm_class_format.specs.Code.{placed}
 use Rattle.jm_class_format.proofs.Kept.{guard_held, many_count, repeated_keeps}
 
@@ -132,7 +132,7 @@ wide_kept at (opcode.LeftOut op) bytes i h = absurd (cc h.1)
 wide_kept at other bytes i h = absurd (cc h.1)
 
 operands_kept : (at : ℕ) (kind : Opcode) (bytes : List ℕ) (i : IndexedInstr) → (operands at kind).Spells bytes i → Kept i
-unfolding operands increment new_array invoke_interface wide
+unfolding operands increment new_array new_arrays invoke_interface wide
 operands_kept at (opcode.Simple simple) bytes i h = subst Kept h.1 refl
 operands_kept at (opcode.Array op) bytes i h = subst Kept h.1 refl
 operands_kept at (opcode.Return op) bytes i h = subst Kept h.1 refl
@@ -156,9 +156,9 @@ operands_kept at opcode.InvokeInterface bytes i h = subst Kept h.second.second.s
 operands_kept at opcode.New bytes i h = subst Kept h.second.1 refl
 operands_kept at opcode.NewArray bytes i h = subst Kept h.second.second.1 refl
 operands_kept at (opcode.Type op) bytes i h = subst Kept h.second.1 refl
+operands_kept at opcode.NewArrays bytes i h = subst Kept h.second.second.1 refl
 operands_kept at opcode.Wide bytes i h = wide_kept at h.second.value h.second.back i h.second.second
 operands_kept at (opcode.LeftOut op) bytes i h = absurd (cc h.1)
-operands_kept at (opcode.Later op) bytes i h = absurd (cc h.1)
 
 placed_kept : (at : ℕ) (bytes : List ℕ) (p : PlacedInstr) → (placed at).Spells bytes p → Kept p.instr
 unfolding placed instruction

@@ -9,7 +9,7 @@ use Rattle.jm_program.specs.Names.{is_class_name, is_unqualified, is_method_name
 use Rattle.jm_program.specs.Descriptors.{is_descriptor, is_field_type, is_kept_element, is_kept_field_type, is_kept_return_type, is_kept_method_type, is_method_type, argument_slots, descriptor_text, field_text, element_text}
 use Rattle.jm_program.specs.DescriptorReading.{whole_descriptor}
 use Rattle.jm_program.specs.References.{type_fits, class_ref_fits, field_ref_fits, method_ref_fits, receiver_slots}
-use Rattle.jm_program.specs.Instructions.{can_be_element}
+use Rattle.jm_program.specs.Instructions.{can_be_element, has_dimensions, type_op_fits}
 use Rattle.jm_program.proofs.DescriptorLaws.{and_true, element_front}
 use Rattle.jm_program.proofs.WholeDescriptors.{whole_sound}
 use Rattle.jm_program.specs.declared.descriptor.BaseType.TheVariants as base
@@ -24,10 +24,12 @@ use Rattle.jm_program.specs.declared.reference.ClassRef.TheVariants as class_ref
 use Rattle.jm_program.specs.declared.reference.FieldRef.{FieldRef}
 use Rattle.jm_program.specs.declared.reference.MethodRef.{MethodRef}
 use Rattle.jm_program.specs.declared.instruction.operation.InvokeOp.{InvokeOp}
+use Rattle.jm_program.specs.declared.instruction.operation.TypeOp.{TypeOp}
+use Rattle.jm_program.specs.declared.instruction.operation.TypeOp.TheVariants as type
 use Rattle.jm_class_format.specs.declared.read_fault.LeftOutPart.{LeftOutPart}
 use Rattle.jm_class_format.specs.declared.read_fault.ReadFault.{ReadFault}
 use Rattle.jm_class_format.specs.declared.read_fault.ReadFault.TheVariants as fault
-use Rattle.jm_class_format.specs.Symbols.{name_if, class_name_of, field_name_of, method_name_of, invoked_name_of, descriptor_of, field_only, method_only, left_out_element, left_out_types, left_out_return, left_out_method_type, or_else, unless_left_out, field_type_of, with_slots, method_type_of, begins_with_bracket, class_ref_of, element_ref, field_ref_of, method_ref_of}
+use Rattle.jm_class_format.specs.Symbols.{name_if, class_name_of, field_name_of, method_name_of, invoked_name_of, descriptor_of, field_only, method_only, left_out_element, left_out_types, left_out_return, left_out_method_type, or_else, unless_left_out, field_type_of, with_slots, method_type_of, begins_with_bracket, class_ref_of, element_ref, dimensioned_ref, operand_ref, field_ref_of, method_ref_of}
 
 -- ---- names
 
@@ -182,12 +184,32 @@ element_by true t c is h =
     (subst (λ (x : ClassRef). can_be_element x ≡ true) same is, same)
 element_by false t c is h = absurd cc
 
-pub element_kept : (d c : ClassRef) → element_ref d ≡ Ok c → (can_be_element c ≡ true) × (d ≡ c)
+element_kept : (d c : ClassRef) → element_ref d ≡ Ok c → (can_be_element c ≡ true) × (d ≡ c)
 unfolding element_ref
 element_kept (class_ref.Class name) c h =
     let same = same_Ok {F = ReadFault} (class_ref.Class name) c h in
     (subst (λ (x : ClassRef). can_be_element x ≡ true) same refl, same)
 element_kept (class_ref.Array t) c h = element_by (nat_lt t.dimensions 255) t c refl h
+
+dimensioned_by : (b : Bool) (d c : ClassRef) → ◌≡◌ {A = Result ClassRef ReadFault} (if b then Ok d else Err fault.BadAttribute) (Ok c) → (b ≡ true) × (d ≡ c)
+dimensioned_by true d c h = (refl, same_Ok {F = ReadFault} d c h)
+dimensioned_by false d c h = absurd cc
+
+dimensioned_kept : (n : ℕ) (d c : ClassRef) → dimensioned_ref n d ≡ Ok c → (has_dimensions c n ≡ true) × (d ≡ c)
+unfolding dimensioned_ref
+dimensioned_kept n d c h =
+    let p = dimensioned_by (has_dimensions d n) d c h in
+    (subst (λ (x : ClassRef). has_dimensions x n ≡ true) p.1 p.0, p.1)
+
+pub operand_kept : (op : TypeOp) (d c : ClassRef) → class_ref_fits d ≡ true → operand_ref op d ≡ Ok c → type_op_fits op c ≡ true
+operand_kept type.NewArray d c fits h =
+    let p = element_kept d c h in
+    and_true (class_ref_fits c) (can_be_element c) (subst (λ (x : ClassRef). class_ref_fits x ≡ true) p.1 fits) p.0
+operand_kept (type.NewArrays n) d c fits h =
+    let p = dimensioned_kept n d c h in
+    and_true (class_ref_fits c) (has_dimensions c n) (subst (λ (x : ClassRef). class_ref_fits x ≡ true) p.1 fits) p.0
+operand_kept type.CheckCast d c fits h = subst (λ (x : ClassRef). class_ref_fits x ≡ true) (same_Ok {F = ReadFault} d c h) fits
+operand_kept type.InstanceOf d c fits h = subst (λ (x : ClassRef). class_ref_fits x ≡ true) (same_Ok {F = ReadFault} d c h) fits
 
 pub field_ref_kept : (texts : List ℕ × List ℕ × List ℕ) (f : FieldRef) → field_ref_of texts ≡ Ok f → field_ref_fits f ≡ true
 unfolding field_ref_of

@@ -7,6 +7,7 @@ use Rattle.jm_program.specs.Instructions.{is_above}
 use Rattle.jm_program.specs.declared.instruction.operation.PrimitiveType.{PrimitiveType}
 use Rattle.jm_program.specs.declared.instruction.operation.PrimitiveType.TheVariants as primitive
 use Rattle.jm_program.specs.declared.instruction.operation.ArrayOp.TheVariants as array
+use Rattle.jm_program.specs.declared.instruction.operation.TypeOp.TheVariants as type
 use Rattle.jm_program.specs.declared.instruction.plain.SwitchPair.{SwitchPair}
 use Rattle.jm_program.specs.declared.instruction.plain.Plain.TheVariants as plain
 use Rattle.jm_class_format.specs.declared.opcode.Opcode.{Opcode}
@@ -119,6 +120,14 @@ new_array at = do
   element ← outcome (element_at at code)
   done (indexed.Array (array.New element))
 
+-- ---- multianewarray: whether its type has so many dimensions is told by the class that is named (JVMS 6.5 multianewarray)
+
+unfoldable pub new_arrays : ℕ → Format CodeFault IndexedInstr
+new_arrays at = do
+  index ← u2 (fault.Cut at)
+  dimensions ← u1 (fault.Cut at)
+  done (indexed.Type (type.NewArrays dimensions) index)
+
 -- ---- invokeinterface: whether the count and the byte after it are right is told by the method that is named (JVMS 6.5 invokeinterface)
 
 unfoldable pub invoke_interface : ℕ → Format CodeFault IndexedInstr
@@ -227,9 +236,9 @@ operands at opcode.NewArray = new_array at
 operands at (opcode.Type op) = do
   index ← u2 (fault.Cut at)
   done (indexed.Type op index)
+operands at opcode.NewArrays = new_arrays at
 operands at opcode.Wide = wide at
 operands at (opcode.LeftOut op) = nothing (fault.LeftOut op)
-operands at (opcode.Later op) = nothing (fault.Later op)
 
 unfoldable pub instruction : ℕ → Format CodeFault IndexedInstr
 instruction at = do

@@ -98,6 +98,6 @@ mnemonic opcode.InvokeInterface = invoke_mnemonic invoke.Interface
 mnemonic opcode.New = codes "new"
 mnemonic opcode.NewArray = codes "newarray"
 mnemonic (opcode.Type op) = type_mnemonic op
+mnemonic opcode.NewArrays = codes "multianewarray"
 mnemonic opcode.Wide = codes "wide"
 mnemonic (opcode.LeftOut op) = left_out_mnemonic op
-mnemonic (opcode.Later op) = codes "multianewarray"

@@ -11,7 +11,6 @@ use Rattle.jm_program.specs.declared.reference.MethodRef.{MethodRef}
 use Rattle.jm_program.specs.declared.instruction.operation.InvokeOp.{InvokeOp}
 use Rattle.jm_program.specs.declared.instruction.operation.InvokeOp.TheVariants as invoke
 use Rattle.jm_program.specs.declared.instruction.operation.TypeOp.{TypeOp}
-use Rattle.jm_program.specs.declared.instruction.operation.TypeOp.TheVariants as type
 use Rattle.jm_program.specs.declared.instruction.symbolic.Instr.{Instr}
 use Rattle.jm_program.specs.declared.instruction.symbolic.Instr.TheVariants as instr
 use Rattle.jm_class_format.specs.declared.constant_pool.Entry.{Entry}
@@ -24,7 +23,7 @@ use Rattle.jm_class_format.specs.declared.read_fault.ReadFault.{ReadFault}
 use Rattle.jm_class_format.specs.declared.read_fault.ReadFault.TheVariants as fault
 use Rattle.jm_class_format.specs.FileFaults.{bad_index, of_code}
 use Rattle.jm_class_format.specs.PoolLookups.{entry_at, text_at, long_at, class_at, field_at, method_at, interface_method_at}
-use Rattle.jm_class_format.specs.Symbols.{class_name_of, class_ref_of, element_ref, field_ref_of, method_ref_of}
+use Rattle.jm_class_format.specs.Symbols.{class_name_of, class_ref_of, operand_ref, field_ref_of, method_ref_of}
 use Rattle.jm_class_format.specs.Code.{code}
 
 -- what ldc pushes: an int, or the string of an entry's text; a class is left out (JVMS 6.5 ldc)
@@ -63,8 +62,7 @@ unfoldable pub class_ref_at : List Entry → ℕ → Result ClassRef ReadFault
 class_ref_at pool index = and_then (ok_or (class_at pool index) (bad_index index)) class_ref_of
 
 unfoldable pub type_operand : List Entry → TypeOp → ℕ → Result ClassRef ReadFault
-type_operand pool type.NewArray index = and_then (class_ref_at pool index) element_ref
-type_operand pool other index = class_ref_at pool index
+type_operand pool op index = and_then (class_ref_at pool index) (operand_ref op)
 
 -- the class or the interface that an index names
 unfoldable pub class_name_at : List Entry → ℕ → Result (List ℕ) ReadFault

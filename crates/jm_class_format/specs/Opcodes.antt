@@ -3,7 +3,6 @@ use Rattle.std.specs.Prelude.{ℕ, List, [], ◌∷◌, ◌++◌, map, Option, S
 use Rattle.jm_class_format.specs.declared.opcode.Opcode.{Opcode}
 use Rattle.jm_class_format.specs.declared.opcode.Opcode.TheVariants as opcode
 use Rattle.jm_class_format.specs.declared.opcode.LeftOutOp.TheVariants as left_out
-use Rattle.jm_class_format.specs.declared.opcode.LaterOp.TheVariants as later
 use Rattle.jm_program.specs.declared.instruction.plain.Simple.TheVariants as simple
 use Rattle.jm_program.specs.declared.instruction.operation.OperandType.TheVariants as operand
 use Rattle.jm_program.specs.declared.instruction.operation.Integral.TheVariants as integral
@@ -24,6 +23,7 @@ use Rattle.jm_program.specs.declared.instruction.operation.ReturnOp.TheVariants 
 use Rattle.jm_program.specs.declared.instruction.operation.MonitorOp.TheVariants as monitor
 use Rattle.jm_program.specs.declared.instruction.operation.FieldOp.TheVariants as field
 use Rattle.jm_program.specs.declared.instruction.operation.InvokeOp.TheVariants as invoke
+use Rattle.jm_program.specs.declared.instruction.operation.TypeOp.{TypeOp}
 use Rattle.jm_program.specs.declared.instruction.operation.TypeOp.TheVariants as type
 
 -- 0 to 20
@@ -262,11 +262,16 @@ references =
 unfoldable pub extended : List (ℕ × Opcode)
 extended =
     (196, opcode.Wide) ∷
-    (197, opcode.Later later.MultiANewArray) ∷
+    (197, opcode.NewArrays) ∷
     (198, opcode.Branch (branch.IfNull equality.Equal)) ∷
     (199, opcode.Branch (branch.IfNull equality.NotEqual)) ∷
     (200, opcode.BranchWide branch.GotoW) ∷
     (201, opcode.LeftOut left_out.JsrW) ∷ []
+
+-- what the opcode of such an instruction stands for: multianewarray has an operand more than the others
+abbrev pub type_opcode : TypeOp → Opcode
+type_opcode (type.NewArrays d) = opcode.NewArrays
+type_opcode op = opcode.Type op
 
 -- what the row of a number says
 abbrev pub row_at : {X : Type 0} → List (ℕ × X) → ℕ → Option X

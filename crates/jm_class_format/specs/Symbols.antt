@@ -5,6 +5,7 @@ use Rattle.jm_bytes.specs.Reading.{and_then}
 use Rattle.jm_program.specs.Names.{is_class_name, is_unqualified, is_method_name, is_invoked_name}
 use Rattle.jm_program.specs.Descriptors.{is_descriptor, argument_slots}
 use Rattle.jm_program.specs.DescriptorReading.{whole_descriptor}
+use Rattle.jm_program.specs.Instructions.{has_dimensions}
 use Rattle.jm_program.specs.References.{receiver_slots}
 use Rattle.jm_program.specs.declared.descriptor.BaseType.TheVariants as base
 use Rattle.jm_program.specs.declared.descriptor.ElementType.{ElementType}
@@ -18,6 +19,8 @@ use Rattle.jm_program.specs.declared.reference.ClassRef.TheVariants as class_ref
 use Rattle.jm_program.specs.declared.reference.FieldRef.{FieldRef}
 use Rattle.jm_program.specs.declared.reference.MethodRef.{MethodRef}
 use Rattle.jm_program.specs.declared.instruction.operation.InvokeOp.{InvokeOp}
+use Rattle.jm_program.specs.declared.instruction.operation.TypeOp.{TypeOp}
+use Rattle.jm_program.specs.declared.instruction.operation.TypeOp.TheVariants as type
 use Rattle.jm_class_format.specs.declared.read_fault.LeftOutPart.{LeftOutPart}
 use Rattle.jm_class_format.specs.declared.read_fault.LeftOutPart.TheVariants as part
 use Rattle.jm_class_format.specs.declared.read_fault.ReadFault.{ReadFault}
@@ -114,6 +117,16 @@ class_ref_of units =
 unfoldable pub element_ref : ClassRef → Result ClassRef ReadFault
 element_ref (class_ref.Class name) = Ok (class_ref.Class name)
 element_ref (class_ref.Array t) = if nat_lt t.dimensions 255 then Ok (class_ref.Array t) else Err fault.BadDescriptor
+
+-- an array type of so many dimensions or more, and they are one or more (JVMS 6.5 multianewarray)
+unfoldable pub dimensioned_ref : ℕ → ClassRef → Result ClassRef ReadFault
+dimensioned_ref d class = if has_dimensions class d then Ok class else Err fault.BadAttribute
+
+-- what is done with a class or a type can be done with it
+abbrev pub operand_ref : TypeOp → ClassRef → Result ClassRef ReadFault
+operand_ref type.NewArray class = element_ref class
+operand_ref (type.NewArrays d) class = dimensioned_ref d class
+operand_ref other class = Ok class
 
 -- JVMS 4.4.2: the texts of a class, a name and a descriptor
 unfoldable pub field_ref_of : List ℕ × List ℕ × List ℕ → Result FieldRef ReadFault

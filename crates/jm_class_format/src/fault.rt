@@ -2,7 +2,7 @@
 
 ghost use Rattle.std.specs.Prelude.{◌≡◌};
 
-use crate::opcode::{LaterOp, LeftOutOp};
+use crate::opcode::LeftOutOp;
 use std::alloc::{AllocError, AllocFailed};
 use std::error::Error;
 use std::fmt;
@@ -85,8 +85,6 @@ pub enum CodeFault {
     Cut(u32),
     /// A target at which no instruction begins.
     BadTarget,
-    /// An instruction that is refused for now.
-    Later(LaterOp),
     /// A growth was refused.
     OutOfMemory,
 }
@@ -98,7 +96,6 @@ impl fmt::Display for CodeFault {
             CodeFault::LeftOut(op) => write!(f, "11 LeftOut({op})"),
             CodeFault::Cut(at) => write!(f, "12 Cut({at})"),
             CodeFault::BadTarget => f.write_str("13 BadTarget"),
-            CodeFault::Later(op) => write!(f, "16 Later({op})"),
             CodeFault::OutOfMemory => f.write_str("61 OutOfMemory"),
         }
     }

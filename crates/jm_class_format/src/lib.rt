@@ -30,8 +30,8 @@ pub use laws::{
     fits_is_tested, one_class, one_code, one_pool, one_text, read_classes_fit, spelled_class_fits,
 };
 pub use names::{class_name_of, field_name_of, invoked_name_of, method_name_of};
-pub use opcode::{LaterOp, LeftOutOp, Opcode};
+pub use opcode::{LeftOutOp, Opcode};
 pub use opcode_table::opcodes;
 pub use read_fault::{LeftOutPart, ReadFault};
-pub use references::{begins_with_bracket, class_ref_of, element_ref, field_ref_of, method_ref_of};
+pub use references::{begins_with_bracket, class_ref_of, field_ref_of, method_ref_of, operand_ref};
 pub use types::{field_type_of, method_type_of};

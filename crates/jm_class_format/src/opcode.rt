@@ -45,16 +45,12 @@ pub enum Opcode {
     New,
     /// `newarray`.
     NewArray,
+    /// `multianewarray` apart, which has an operand more.
     Type(TypeOp),
+    /// `multianewarray`.
+    NewArrays,
     Wide,
     LeftOut(LeftOutOp),
-    Later(LaterOp),
-}
-
-/// An instruction that is refused for now.
-#[derive(Clone, Copy, PartialEq, Eq)]
-pub enum LaterOp {
-    MultiANewArray,
 }
 
 /// An instruction that the profile leaves out, by its mnemonic, or an element type of `newarray`.
@@ -125,14 +121,6 @@ pub enum LeftOutOp {
     FloatArray,
     /// `newarray double`.
     DoubleArray,
-}
-
-impl fmt::Display for LaterOp {
-    fn fmt<W: fmt::Write>(&self, f: &mut fmt::Formatter<W>) -> fmt::Result {
-        match self {
-            LaterOp::MultiANewArray => f.write_str("multianewarray"),
-        }
-    }
 }
 
 impl fmt::Display for LeftOutOp {

@@ -4,7 +4,7 @@ ghost use Rattle.std.specs.Prelude.{◌≡◌, map};
 ghost use Rattle.jm_class_format.specs.Opcodes.{opcodes};
 ghost use Rattle.jm_class_format.specs.Mnemonics.{mnemonic};
 
-use crate::opcode::{LaterOp, LeftOutOp, Opcode};
+use crate::opcode::{LeftOutOp, Opcode};
 use jm_program::{
     Arithmetic, ArrayKind, ArrayOp, Bitwise, Branch, Comparison, Conversion, Equality, FieldOp,
     Integral, InvokeOp, MonitorOp, OperandType, ReturnOp, Shift, ShortIndex, Simple, SmallInt,
@@ -429,7 +429,7 @@ static OPCODES: [(&str, Opcode); 202] = [
     ("monitorexit", Opcode::Monitor(MonitorOp::Exit)),
     // 196 to 201: extended
     ("wide", Opcode::Wide),
-    ("multianewarray", Opcode::Later(LaterOp::MultiANewArray)),
+    ("multianewarray", Opcode::NewArrays),
     ("ifnull", Opcode::Branch(Branch::IfNull(Equality::Equal))),
     (
         "ifnonnull",

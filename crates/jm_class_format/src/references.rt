@@ -3,12 +3,12 @@
 ghost use Rattle.std.specs.Prelude.{◌≡◌};
 ghost use Rattle.jm_bytes.specs.Reading.{GivesAll, TakesAll};
 ghost use Rattle.jm_class_format.specs.declared.read_fault.ReadFault.TheVariants.{OutOfMemory};
-ghost use Rattle.jm_class_format.specs.Symbols.{begins_with_bracket, class_ref_of, element_ref, field_ref_of, method_ref_of};
+ghost use Rattle.jm_class_format.specs.Symbols.{begins_with_bracket, class_ref_of, dimensioned_ref, element_ref, field_ref_of, method_ref_of, operand_ref};
 
 use crate::names::{class_name_of, field_name_of, invoked_name_of};
 use crate::read_fault::ReadFault;
 use crate::types::{field_type_of, method_type_of};
-use jm_program::{ClassRef, FieldRef, InvokeOp, MethodRef};
+use jm_program::{ClassRef, FieldRef, InvokeOp, MethodRef, TypeOp};
 use std::alloc::Global;
 
 const BRACKET: u16 = 91;
@@ -42,12 +42,9 @@ pub fn class_ref_of(alloc: Global, units: &[u16]) -> Result<ClassRef, ReadFault>
     }
 }
 
-/// The same class or type, where an array of it has at most 255 dimensions (JVMS 4.9.1).
-///
-/// # Errors
-/// `BadDescriptor` where an array of it would have more.
+// The same class or type, where an array of it has at most 255 dimensions (JVMS 4.9.1).
 #[tactic(auto, unfolding(crate::specs::Symbols::element_ref))]
-pub fn element_ref(class: ClassRef) -> Result<ClassRef, ReadFault>
+fn element_ref(class: ClassRef) -> Result<ClassRef, ReadFault>
     ensures { TakesAll (λ class. class) result (element_ref class) }
 {
     match class {
@@ -59,6 +56,40 @@ pub fn element_ref(class: ClassRef) -> Result<ClassRef, ReadFault>
                 Ok(ClassRef::Array(field_type))
             }
         }
+    }
+}
+
+// The same type, where it is an array type of so many dimensions or more, and they are one or more
+// (JVMS 6.5 multianewarray).
+#[tactic(auto, unfolding(crate::specs::Symbols::dimensioned_ref))]
+fn dimensioned_ref(dimensions: u8, class: ClassRef) -> Result<ClassRef, ReadFault>
+    ensures { TakesAll (λ class. class) result (dimensioned_ref dimensions class) }
+{
+    match class {
+        ClassRef::Class(_) => Err(ReadFault::BadAttribute),
+        ClassRef::Array(field_type) => {
+            if 0 < dimensions && dimensions <= field_type.dimensions {
+                Ok(ClassRef::Array(field_type))
+            } else {
+                Err(ReadFault::BadAttribute)
+            }
+        }
+    }
+}
+
+/// The same class or type, where what is done with it can be done (JVMS 4.9.1, 6.5).
+///
+/// # Errors
+/// `BadDescriptor` for `anewarray` where an array of it would have more than 255 dimensions;
+/// `BadAttribute` for `multianewarray` where it is no array type, or does not have the dimensions, of
+/// which there is one at least.
+pub fn operand_ref(op: TypeOp, class: ClassRef) -> Result<ClassRef, ReadFault>
+    ensures { TakesAll (λ class. class) result (operand_ref op class) }
+{
+    match op {
+        TypeOp::NewArray => element_ref(class),
+        TypeOp::NewArrays(dimensions) => dimensioned_ref(dimensions, class),
+        TypeOp::CheckCast | TypeOp::InstanceOf => Ok(class),
     }
 }
 

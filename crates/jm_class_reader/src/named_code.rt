@@ -15,7 +15,7 @@ ghost use Rattle.jm_class_format.specs.NamedCode.{loaded, loaded_long, calls_int
 use crate::operand::Operand;
 use crate::symbols::{NameKind, Symbols};
 use jm_class_format::{
-    Entry, IndexedInstr, LeftOutPart, PlacedInstr, PoolFault, ReadFault, element_ref,
+    Entry, IndexedInstr, LeftOutPart, PlacedInstr, PoolFault, ReadFault, operand_ref,
 };
 use jm_pool::{Member, Pool, Text};
 use jm_program::{
@@ -176,10 +176,7 @@ fn type_operand(
     ensures same { symbols.new ≡ symbols.old }
 {
     let class = class_ref_at(alloc, symbols, index)?;
-    match op {
-        TypeOp::NewArray => element_ref(class),
-        TypeOp::CheckCast | TypeOp::InstanceOf => Ok(class),
-    }
+    operand_ref(op, class)
 }
 
 /// The class or the interface that an index names (JVMS 4.4.1).

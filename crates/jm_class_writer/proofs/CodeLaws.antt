@@ -7,12 +7,11 @@ use Rattle.jm_bytes.specs.Reading.{and_then}
 use Rattle.jm_program.specs.Names.{is_class_name, is_unqualified, is_invoked_name}
 use Rattle.jm_program.specs.Descriptors.{field_text, method_text, argument_slots, is_method_type, is_kept_method_type}
 use Rattle.jm_program.specs.References.{type_fits, class_ref_fits, field_ref_fits, method_ref_fits, receiver_slots}
-use Rattle.jm_program.specs.Instructions.{instr_fits, plain_fits, has_high, keys_rise, type_op_fits, can_be_element}
+use Rattle.jm_program.specs.Instructions.{instr_fits, plain_fits, has_high, keys_rise, type_op_fits, has_dimensions}
 use Rattle.jm_program.proofs.DescriptorLaws.{both_true}
 use Rattle.jm_program.specs.declared.constant.Constant.{Constant}
 use Rattle.jm_program.specs.declared.constant.Constant.TheVariants as constant
 use Rattle.jm_program.specs.declared.reference.ClassRef.{ClassRef}
-use Rattle.jm_program.specs.declared.reference.ClassRef.TheVariants as class_ref
 use Rattle.jm_program.specs.declared.reference.FieldRef.{FieldRef}
 use Rattle.jm_program.specs.declared.reference.MethodRef.{MethodRef}
 use Rattle.jm_program.specs.declared.instruction.operation.InvokeOp.{InvokeOp}
@@ -31,7 +30,7 @@ use Rattle.jm_class_format.specs.declared.constant_pool.Entry.TheVariants as ent
 use Rattle.jm_class_format.specs.declared.instruction.IndexedInstr.{IndexedInstr}
 use Rattle.jm_class_format.specs.declared.instruction.IndexedInstr.TheVariants as indexed
 use Rattle.jm_class_format.specs.PoolLookups.{entry_at, text_at, long_at, name_and_type_at, member_at, field_at, method_at, interface_method_at}
-use Rattle.jm_class_format.specs.Symbols.{element_ref, field_ref_of, method_ref_of}
+use Rattle.jm_class_format.specs.Symbols.{field_ref_of, method_ref_of}
 use Rattle.jm_class_format.specs.NamedCode.{loaded, loaded_long, class_method, counted, interface_method, class_ref_at, type_operand, named}
 use Rattle.jm_pool.specs.declared.constant.Constant.{Constant as PoolConstant}
 use Rattle.jm_pool.specs.declared.constant.Constant.TheVariants as pool
@@ -46,7 +45,7 @@ use Rattle.jm_class_writer.specs.Ranges.{UnitsInRange, FieldRefInRange, MethodRe
 use Rattle.jm_class_writer.proofs.Growth.{step_ok, begins_on, begins_same, Grows, grows_on, grows_same}
 use Rattle.jm_class_writer.proofs.PoolLaws.{Indexed, entry_indexed, IsClass, class_indexed, class_named, IsConstant, constant_indexed, IsPair, pair_indexed}
 use Rattle.jm_class_writer.proofs.TextRanges.{type_in_range, method_type_in_range, class_text_in_range}
-use Rattle.jm_class_writer.proofs.Symbols.{field_name_read, invoked_name_read, field_type_read, method_type_read, class_ref_read}
+use Rattle.jm_class_writer.proofs.Symbols.{field_name_read, invoked_name_read, field_type_read, method_type_read, class_ref_read, class_of_type, operand_ref_read, few_dimensions}
 use Rattle.jm_class_writer.proofs.ClassLaws.{class_name_named}
 
 -- ---- members
@@ -208,15 +207,8 @@ unfolding named
 new_loaded name fits final n h = rw (class_name_named name fits final n h) refl
 
 type_loaded : (op : TypeOp) (c : ClassRef) → type_op_fits op c ≡ true → (final : List Entry) (n : ℕ) → IsClass (class_text c) final n → named final (indexed.Type op n) ≡ Ok (instr.Type op c)
-unfolding named type_operand class_ref_at element_ref
-type_loaded type.CheckCast c fits final n h = rw (class_named (class_text c) final n h) (rw (class_ref_read c fits) refl)
-type_loaded type.InstanceOf c fits final n h = rw (class_named (class_text c) final n h) (rw (class_ref_read c fits) refl)
-type_loaded type.NewArray (class_ref.Class name) fits final n h =
-    let parts = both_true (class_ref_fits (class_ref.Class name)) (can_be_element (class_ref.Class name)) fits in
-    rw (class_named name final n h) (rw (class_ref_read (class_ref.Class name) parts.0) refl)
-type_loaded type.NewArray (class_ref.Array t) fits final n h =
-    let parts = both_true (class_ref_fits (class_ref.Array t)) (can_be_element (class_ref.Array t)) fits in
-    rw (class_named (class_text (class_ref.Array t)) final n h) (rw (class_ref_read (class_ref.Array t) parts.0) (rw (parts.1) refl))
+unfolding named type_operand class_ref_at
+type_loaded op c fits final n h = rw (class_named (class_text c) final n h) (rw (class_ref_read c (class_of_type op c fits)) (rw (operand_ref_read op c fits) refl))
 
 plain_named : (p : Plain) (final : List Entry) → named final (indexed.Plain p) ≡ Ok (instr.Plain p)
 unfolding named
@@ -255,6 +247,12 @@ invoke_range invoke.Special m fits n lt = lt
 invoke_range invoke.Static m fits n lt = lt
 invoke_range invoke.Interface m fits n lt = let few : argument_slots m.descriptor < 255 = slots_fit m fits in (lt, omega (arith, few), omega arith)
 
+type_range : (op : TypeOp) (c : ClassRef) → type_op_fits op c ≡ true → (n : ℕ) → n < 2 ^ 16 → ranges.InRange (indexed.Type op n)
+type_range type.NewArray c fits n lt = lt
+type_range (type.NewArrays d) c fits n lt = let parts = both_true (class_ref_fits c) (has_dimensions c d) fits in (lt, few_dimensions c d parts.0 parts.1)
+type_range type.CheckCast c fits n lt = lt
+type_range type.InstanceOf c fits n lt = lt
+
 invoke_ruled : (op : InvokeOp) (m : MethodRef) (n : ℕ) → has_bytes (invoke_of op m n) ≡ true
 unfolding has_bytes
 invoke_ruled invoke.Virtual m n = refl
@@ -276,4 +274,4 @@ instr_law count (instr.Invoke op m) a x r fits h =
     one_entry (IsMember (method_made op) (class_text m.class) m.name (method_text m.descriptor)) (instr.Invoke op m) (invoke_of op m) (method_ref_index op m) a x (λ p k. method_indexed op m a p r k) (invoke_loaded op m fits) (invoke_range op m fits) (invoke_ruled op m) h
 instr_law count (instr.New name) a x r fits h = one_entry (IsClass name) (instr.New name) indexed.New (class_index name) a x (λ p k. class_indexed name a p r k) (new_loaded name fits) (λ n lt. lt) (λ n. refl) h
 instr_law count (instr.Type op c) a x r fits h =
-    one_entry (IsClass (class_text c)) (instr.Type op c) (indexed.Type op) (class_index (class_text c)) a x (λ p k. class_indexed (class_text c) a p (class_text_in_range c r) k) (type_loaded op c fits) (λ n lt. lt) (λ n. refl) h
+    one_entry (IsClass (class_text c)) (instr.Type op c) (indexed.Type op) (class_index (class_text c)) a x (λ p k. class_indexed (class_text c) a p (class_text_in_range c r) k) (type_loaded op c fits) (type_range op c fits) (λ n. refl) h

@@ -1,11 +1,12 @@
 -- The texts of names and types are read back as what they are the texts of.
-use Rattle.std.proofs.Common.{◌≡◌, ℕ, zero, suc, ◌+◌, Bool, true, false, not, cond, eqb, leb, ltb, List, [], ◌∷◌, ◌++◌, length, Option, Some, None, Ok, refl, ap, arith, replicate}
-use Rattle.std.proofs.lemmas.Bool.{eqb-true}
+use Rattle.std.proofs.Common.{◌≡◌, ℕ, zero, suc, ◌+◌, Bool, true, false, not, cond, eqb, leb, ltb, List, [], ◌∷◌, ◌++◌, length, Option, Some, None, Ok, ◌<◌, ◌^◌, refl, ap, arith, replicate}
+use Rattle.std.proofs.lemmas.Bool.{eqb-true, leb-true}
 use Rattle.std.proofs.lemmas.Bool.Decides.{nat_tests}
 use Rattle.std.specs.List.{list_all, slice_split, onto_first}
 use Rattle.jm_program.specs.Names.{is_name_unit, is_unqualified, is_class_name, is_method_name, is_invoked_name}
-use Rattle.jm_program.specs.Descriptors.{field_text, method_text, descriptor_text, argument_slots, is_field_type, is_method_type, is_descriptor, is_kept_element, is_kept_field_type, is_kept_return_type, is_kept_method_type}
+use Rattle.jm_program.specs.Descriptors.{field_text, method_text, descriptor_text, argument_slots, is_named_element, is_field_type, is_method_type, is_descriptor, is_kept_element, is_kept_field_type, is_kept_return_type, is_kept_method_type}
 use Rattle.jm_program.specs.References.{type_fits, class_ref_fits}
+use Rattle.jm_program.specs.Instructions.{can_be_element, has_dimensions, type_op_fits}
 use Rattle.jm_program.proofs.DescriptorLaws.{both_true}
 use Rattle.jm_program.proofs.WholeDescriptors.{whole_complete}
 use Rattle.jm_program.proofs.NameShapes.{descriptor_shape}
@@ -18,7 +19,9 @@ use Rattle.jm_program.specs.declared.descriptor.Descriptor.{Descriptor}
 use Rattle.jm_program.specs.declared.descriptor.Descriptor.TheVariants as descriptor
 use Rattle.jm_program.specs.declared.reference.ClassRef.{ClassRef}
 use Rattle.jm_program.specs.declared.reference.ClassRef.TheVariants as class_ref
-use Rattle.jm_class_format.specs.Symbols.{class_name_of, field_name_of, method_name_of, invoked_name_of, descriptor_of, field_only, method_only, left_out_element, left_out_types, left_out_return, left_out_method_type, field_type_of, with_slots, method_type_of, begins_with_bracket, class_ref_of}
+use Rattle.jm_program.specs.declared.instruction.operation.TypeOp.{TypeOp}
+use Rattle.jm_program.specs.declared.instruction.operation.TypeOp.TheVariants as type
+use Rattle.jm_class_format.specs.Symbols.{element_ref, dimensioned_ref, operand_ref, class_name_of, field_name_of, method_name_of, invoked_name_of, descriptor_of, field_only, method_only, left_out_element, left_out_types, left_out_return, left_out_method_type, field_type_of, with_slots, method_type_of, begins_with_bracket, class_ref_of}
 use Rattle.jm_class_writer.specs.PoolUse.{class_text}
 
 -- ---- names
@@ -117,3 +120,27 @@ class_ref_read (class_ref.Class name) h = rw (class_no_bracket name h) (rw (clas
 class_ref_read (class_ref.Array t) h =
     let parts = both_true (ltb 0 t.dimensions) (type_fits t) h in
     rw (array_bracket t.dimensions _ parts.0) (rw (field_type_read t parts.1) refl)
+
+pub class_of_type : (op : TypeOp) (c : ClassRef) → type_op_fits op c ≡ true → class_ref_fits c ≡ true
+class_of_type type.NewArray c h = (both_true (class_ref_fits c) (can_be_element c) h).0
+class_of_type (type.NewArrays d) c h = (both_true (class_ref_fits c) (has_dimensions c d) h).0
+class_of_type type.CheckCast c h = h
+class_of_type type.InstanceOf c h = h
+
+pub operand_ref_read : (op : TypeOp) (c : ClassRef) → type_op_fits op c ≡ true → operand_ref op c ≡ Ok c
+unfolding element_ref dimensioned_ref
+operand_ref_read type.NewArray (class_ref.Class name) h = refl
+operand_ref_read type.NewArray (class_ref.Array t) h = rw ((both_true (class_ref_fits (class_ref.Array t)) (ltb t.dimensions 255) h).1) refl
+operand_ref_read (type.NewArrays d) c h = rw ((both_true (class_ref_fits c) (has_dimensions c d) h).1) refl
+operand_ref_read type.CheckCast c h = refl
+operand_ref_read type.InstanceOf c h = refl
+
+-- no type has more dimensions than go into a byte
+pub few_dimensions : (c : ClassRef) (d : ℕ) → class_ref_fits c ≡ true → has_dimensions c d ≡ true → d < 2 ^ 8
+few_dimensions (class_ref.Class name) d fits h = absurd cc
+few_dimensions (class_ref.Array t) d fits h =
+    let kept = both_true (ltb 0 t.dimensions) (type_fits t) fits in
+    let shaped = both_true (is_field_type t) (is_kept_field_type t) kept.1 in
+    let most = both_true (leb t.dimensions 255) (is_named_element t.element) shaped.0 in
+    let some = both_true (ltb 0 d) (leb d t.dimensions) h in
+    omega (arith, leb-true t.dimensions 255 most.0, leb-true d t.dimensions some.1)

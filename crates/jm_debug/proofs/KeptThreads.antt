@@ -27,10 +27,11 @@ use Rattle.jm_program.specs.declared.instruction.operation.OperandType.TheVarian
 use Rattle.jm_program.specs.declared.instruction.operation.ReturnOp.{ReturnOp}
 use Rattle.jm_program.specs.declared.instruction.operation.ReturnOp.TheVariants as return
 use Rattle.jm_program.specs.declared.instruction.operation.TypeOp.{TypeOp}
-use Rattle.jm_program.specs.declared.instruction.operation.TypeOp.TheVariants.{NewArray, CheckCast, InstanceOf}
+use Rattle.jm_program.specs.declared.instruction.operation.TypeOp.TheVariants.{NewArray, NewArrays, CheckCast, InstanceOf}
 use Rattle.jm_values.specs.Activation.{units}
 use Rattle.jm_values.specs.Outcome.{Outcome}
 use Rattle.jm_values.specs.Outcome as outcome
+use Rattle.jm_values.specs.ArraysOfArrays.{tree}
 use Rattle.jm_values.specs.PlainRows.{row_plain}
 use Rattle.jm_values.specs.Steps.{is_of}
 use Rattle.jm_values.specs.declared.value.Value.{Value}
@@ -39,16 +40,17 @@ use Rattle.jm_values.specs.declared.fault.TagFault.TheVariants.{WrongKind}
 use Rattle.jm_world.specs.Types.{ObjectType, instance_of, array_of, operand_of, narrow, type_of_ref, primitive_type}
 use Rattle.jm_world.specs.Classes.{FoundMethod, MethodName, name_of_method, class_named, method_named, string_class, print_stream_class, thread_class, throwable_class, error_class}
 use Rattle.jm_world.specs.Resolution.{resolve_method, select}
-use Rattle.jm_world.specs.Objects.{Object, size, FieldName, new_instance, new_array}
+use Rattle.jm_world.specs.Objects.{Object, size, cells_of_all, FieldName, new_instance, new_array}
 use Rattle.jm_world.specs.Frames.{Frame, method_frame, initialization_frame, entry_frame}
 use Rattle.jm_world.specs.World.{World, Thread, Monitor, with_thread, thread_at, is_running, live_among, with_state, state_of, reach_cells, literal_in, static_in, set_static_in}
-use Rattle.jm_world.specs.Next.{Next, goes, stops, blocks, faults, make, exception, throw}
+use Rattle.jm_world.specs.Next.{Next, goes, stops, blocks, faults, make, numbers_from, with_objects, make_all, exception, throw}
 use Rattle.jm_world.specs.Here.{Here, with_frames, go_on, go_on_in, throws, push, push_new, with_operand, with_int, with_reference, with_arguments, with_object, with_depth, push_frame, is_ready, all_frames, when_initialized}
 use Rattle.jm_world.specs.Monitors.{monitor_in, with_monitor, recounted, entered, enter, enter_if, left_in, leave, leave_if}
 use Rattle.jm_world.specs.Text.{number_text, char_text, utf8_text, units_of}
 use Rattle.jm_world.specs.Constants.{row_constant}
 use Rattle.jm_world.specs.Fields.{resolved_field, name_of_field, with_field, get_static, put_static, place_in, with_place, pushed, get_field, put_field, with_value_at, row_field}
 use Rattle.jm_world.specs.Arrays.{operand_of_kind, serves, when_serves, with_index, load_element, can_store, store_in, store_element, with_length, new_array_of, length_of, row_array}
+use Rattle.jm_world.specs.ArraysOfArrays.{with_counts, with_lengths, dimensions_of, first_made, push_all_new, new_arrays_of}
 use Rattle.jm_world.specs.TypeChecks.{is_instance, check_cast, instance_test, row_type}
 use Rattle.jm_world.specs.BuiltInMethods.{chars_of_type, with_chars, write, is_char_type, with_printed, char_at, was_started, start_thread, row_built_in}
 use Rattle.jm_world.specs.Invocation.{activation_of, monitor_of, calling, call_code, call_instance, call_found, class_of, is_of_class, with_receiver, invoke_virtual, invoke_interface, found_special, invoke_special, call_static, invoke_found, row_invoke_of, row_invoke}
@@ -114,6 +116,9 @@ option_keeps number w (Some a) x go f g = g a
 make_keeps : (number : ℕ) (w v : World) (o : Object) (go : World → ℕ → Next) → Keeps number w (go (grown v o) (length v.heap)) → Keeps number w (make v o go)
 make_keeps number w v o go g = if_keeps number w (nat_lt v.limit (reach_cells v + size o)) _ _ tt (if_keeps number w (nat_le (2 ^ 63) (length v.heap)) _ _ tt g)
 
+make_all_keeps : (number : ℕ) (w v : World) (os : List Object) (go : World → List ℕ → Next) → Keeps number w (go (with_objects v os) (numbers_from (length v.heap) os)) → Keeps number w (make_all v os go)
+make_all_keeps number w v os go g = if_keeps number w (nat_lt v.limit (reach_cells v + cells_of_all os)) _ _ tt (if_keeps number w (nat_lt (2 ^ 63) (length v.heap + length os)) _ _ tt g)
+
 throw_keeps : (w : World) (number : ℕ) (t : Thread) (class : List ℕ) → Keeps number w (throw w number t class)
 throw_keeps w number t class = make_keeps number w w (exception class) (λ made k. goes (with_thread made number (record t { pending = Some k }))) (alone _ _ _ _)
 
@@ -125,6 +130,9 @@ push_keeps here v s = if_keeps here.number here.world (nat_le (units (v ∷ s)) 
 
 push_new_keeps : (here : Here) (o : Object) (s : List Value) → Keeps here.number here.world (push_new here o s)
 push_new_keeps here o s = if_keeps here.number here.world (nat_le (units (Null ∷ s)) here.frame.max_stack) _ _ (make_keeps here.number here.world here.world o (λ made k. go_on_in here made (Ref k ∷ s)) (alone _ _ _ _)) tt
+
+push_all_new_keeps : (here : Here) (os : List Object) (s : List Value) → Keeps here.number here.world (push_all_new here os s)
+push_all_new_keeps here os s = if_keeps here.number here.world (nat_le (units (Null ∷ s)) here.frame.max_stack) _ _ (make_all_keeps here.number here.world here.world os (λ made numbers. go_on_in here made (first_made numbers ∷ s)) (alone _ _ _ _)) tt
 
 operand_keeps : (number : ℕ) (w : World) (type : OperandType) (s : List Value) (go : Value → List Value → Next) → ((v : Value) (rest : List Value) → Keeps number w (go v rest)) → Keeps number w (with_operand type s go)
 operand_keeps number w type [] go f = tt
@@ -256,6 +264,20 @@ new_array_keeps here t = int_keeps here.number here.world here.frame.stack (λ n
     by (pos n) s = push_new_keeps here (new_array t n) s
     by (negsuc n) s = throws_keeps here (codes "java/lang/NegativeArraySizeException")
 
+counts_keep : (number : ℕ) (w : World) (d : ℕ) (counts : List ℤ) (s : List Value) (go : List ℤ → List Value → Next) → ((ns : List ℤ) (rest : List Value) → Keeps number w (go ns rest)) → Keeps number w (with_counts d counts s go)
+counts_keep number w zero counts s go f = f counts s
+counts_keep number w (suc d) counts s go f = int_keeps number w s (λ n below. with_counts d (n ∷ counts) below go) (λ n below. counts_keep number w d (n ∷ counts) below go f)
+
+lengths_keep : (here : Here) (ns : List ℤ) (go : List ℕ → Next) → ((counts : List ℕ) → Keeps here.number here.world (go counts)) → Keeps here.number here.world (with_lengths here ns go)
+lengths_keep here [] go f = f []
+lengths_keep here (pos n ∷ ns) go f = lengths_keep here ns (λ counts. go (n ∷ counts)) (λ counts. f (n ∷ counts))
+lengths_keep here (negsuc n ∷ ns) go f = throws_keeps here (codes "java/lang/NegativeArraySizeException")
+
+new_arrays_keep : (here : Here) (t : FieldType) (d : ℕ) → Keeps here.number here.world (new_arrays_of here t d)
+new_arrays_keep here t d = counts_keep here.number here.world d [] here.frame.stack (λ ns s. with_lengths here ns (λ counts. push_all_new here (tree (dimensions_of t counts) (length here.world.heap)) s))
+    (λ ns s. lengths_keep here ns (λ counts. push_all_new here (tree (dimensions_of t counts) (length here.world.heap)) s)
+    (λ counts. push_all_new_keeps here (tree (dimensions_of t counts) (length here.world.heap)) s))
+
 length_keeps : (here : Here) (o : Object) (type : ObjectType) (s : List Value) → Keeps here.number here.world (length_of here o type s)
 length_keeps here o (array_of component) s = push_keeps here (Int (pos (length o.values))) s
 length_keeps here o (instance_of class) s = tt
@@ -280,6 +302,7 @@ instance_keeps here t (Some k) s = object_keeps here (Some k) (λ p o. elim (is_
 
 type_keeps : (here : Here) (op : TypeOp) (t : ClassRef) → Keeps here.number here.world (row_type here op t)
 type_keeps here NewArray t = new_array_keeps here (type_of_ref t)
+type_keeps here (NewArrays d) t = new_arrays_keep here (type_of_ref t) d
 type_keeps here CheckCast t = reference_keeps here.number here.world here.frame.stack (λ r s. check_cast here t r s) (λ r s. cast_keeps here t r s)
 type_keeps here InstanceOf t = reference_keeps here.number here.world here.frame.stack (λ r s. instance_test here t r s) (λ r s. instance_keeps here t r s)
 

@@ -13,12 +13,12 @@ use Rattle.std.proofs.Math.Seq.{take-append_seam, drop-append_seam}
 use Rattle.jm_program.proofs.DescriptorLaws.{both_true, and_true}
 use Rattle.jm_program.specs.Names.{is_class_name, is_unqualified, is_invoked_name, is_method_name, is_clinit}
 use Rattle.jm_program.specs.Descriptors.{argument_slots, element_text, field_text, return_text, method_text, is_method_type, is_kept_method_type}
-use Rattle.jm_program.specs.Instructions.{instr_fits, can_be_element, type_op_fits}
+use Rattle.jm_program.specs.Instructions.{instr_fits, has_dimensions, type_op_fits}
 use Rattle.jm_program.specs.References.{type_fits, class_ref_fits, field_ref_fits, receiver_slots, method_ref_fits}
 use Rattle.jm_program.specs.Texts.{utf16_of}
 use Rattle.jm_program.specs.JasminUnits.{name_text, string_text}
 use Rattle.jm_program.specs.JasminTypes.{type_line, method_line, class_line, field_ref_line, method_ref_line}
-use Rattle.jm_program.specs.JasminInstructions.{simple_line}
+use Rattle.jm_program.specs.JasminInstructions.{simple_line, dimensions_line}
 use Rattle.jm_program.specs.Mnemonics.{operand_letter, branch_mnemonic, array_line, primitive_name, return_mnemonic, monitor_mnemonic, field_mnemonic, invoke_mnemonic, type_mnemonic}
 use Rattle.jm_program.specs.declared.constant.Constant.{Constant}
 use Rattle.jm_program.specs.declared.constant.Constant.TheVariants as constant
@@ -46,19 +46,19 @@ use Rattle.jm_program.specs.declared.instruction.plain.Plain.{Plain}
 use Rattle.jm_program.specs.declared.instruction.plain.Plain.TheVariants as plain
 use Rattle.jm_program.specs.declared.instruction.symbolic.Instr.{Instr}
 use Rattle.jm_program.specs.declared.instruction.symbolic.Instr.TheVariants as instr
-use Rattle.jm_class_format.specs.Symbols.{class_name_of, class_ref_of, element_ref, field_type_of, method_ref_of}
+use Rattle.jm_class_format.specs.Symbols.{class_name_of, class_ref_of, field_type_of, method_ref_of}
 use Rattle.jm_class_format.specs.declared.opcode.Opcode.{Opcode}
 use Rattle.jm_class_format.specs.declared.opcode.Opcode.TheVariants as opcode
 use Rattle.jm_class_writer.specs.PoolUse.{class_text}
 use Rattle.jm_class_writer.specs.Ranges.{UnitsInRange, InstrInRange, ConstantInRange, FieldRefInRange, MethodRefInRange, ClassRefInRange}
-use Rattle.jm_class_writer.proofs.Symbols.{class_name_read, field_name_read, invoked_name_read, field_type_read, method_type_read, class_ref_read}
-use Rattle.jm_jasmin_ops.specs.Operands.{member, element_if, field_of, method_at, is_parenthesis}
+use Rattle.jm_class_writer.proofs.Symbols.{class_name_read, field_name_read, invoked_name_read, field_type_read, method_type_read, class_ref_read, class_of_type, operand_ref_read, few_dimensions}
+use Rattle.jm_jasmin_ops.specs.Operands.{member, field_of, method_at, is_parenthesis}
 use Rattle.jm_jasmin_ops.specs.declared.labelled.LabelledInstr.TheVariants as labelled
 use Rattle.jm_jasmin.specs.WordForms.{Line, bare, quoted}
 use Rattle.jm_jasmin.specs.InstructionForms.{IsBetween, IsUpTo, Element, Operands, InstructionLine, label_of}
 use Rattle.jm_jasmin.specs.InstructionForms.Element.{boolean, char, byte, short, int, long}
 use Rattle.jm_jasmin.specs.InstructionForms.Operands.{on_array, load_int, load_string, load_long}
-use Rattle.jm_jasmin.specs.InstructionForms.Operands.{field, invoke_method, invoke_interface, new, new_array, type}
+use Rattle.jm_jasmin.specs.InstructionForms.Operands.{field, invoke_method, invoke_interface, new, new_array, type, new_arrays}
 use Rattle.jm_jasmin.specs.InstructionForms.InstructionLine.{named, branch, branch_wide}
 use Rattle.jm_disassembler.specs.Labels.{label_name}
 use Rattle.jm_disassembler.specs.Instructions.{front, plain_text, array_text, constant_text, count_text, instr_text}
@@ -146,6 +146,10 @@ abbrev pub count_words : InvokeOp → MethodRef → Line
 count_words invoke.Interface m = bare (decimal (argument_slots m.descriptor + 1)) ∷ []
 count_words _ m = []
 
+abbrev pub dimension_words : TypeOp → Line
+dimension_words (type_op.NewArrays d) = bare (decimal d) ∷ []
+dimension_words _ = []
+
 abbrev pub instr_words : Instr → Line
 instr_words (instr.Plain p) = plain_words p
 instr_words (instr.Array op) = array_words op
@@ -156,7 +160,7 @@ instr_words (instr.Constant c) = constant_words c
 instr_words (instr.Field op f) = bare (field_mnemonic op) ∷ bare (field_word f) ∷ bare (type_line f.descriptor) ∷ []
 instr_words (instr.Invoke op m) = bare (invoke_mnemonic op) ∷ bare (method_word m) ∷ count_words op m
 instr_words (instr.New name) = bare (codes "new") ∷ bare (name_text name) ∷ []
-instr_words (instr.Type op class) = bare (type_mnemonic op) ∷ bare (class_line class) ∷ []
+instr_words (instr.Type op class) = bare (type_mnemonic op) ∷ bare (class_line class) ∷ dimension_words op
 
 -- ---- references
 
@@ -341,25 +345,28 @@ invoke_form invoke.Interface m fits h all =
     named _ opcode.InvokeInterface (bare (method_word m) ∷ bare (decimal (argument_slots m.descriptor + 1)) ∷ []) _ (invoke_names invoke.Interface).named
     (invoke_interface (method_word m) (decimal (argument_slots m.descriptor + 1)) m (method_found invoke.Interface m fits h all) count)
 
-element_so : (op : TypeOp) (c : ClassRef) → type_op_fits op c ≡ true → element_if op c ≡ Ok c
-unfolding element_ref
-element_so type_op.NewArray (class_ref.Class name) h = refl
-element_so type_op.NewArray (class_ref.Array t) h =
-    let p = both_true (class_ref_fits (class_ref.Array t)) (nat_lt t.dimensions 255) h in
-    rw p.1 refl
-element_so type_op.CheckCast c h = refl
-element_so type_op.InstanceOf c h = refl
+class_read : (op : TypeOp) (c : ClassRef) → type_op_fits op c ≡ true → is_sayable_class c ≡ true → ClassRefInRange c → class_ref_of (utf16_of (class_line c)) ≡ Ok c
+class_read op c fits h all = ap class_ref_of (class_spelled c h all).units_are ∙ class_ref_read c (class_of_type op c fits)
 
-class_so : (op : TypeOp) (c : ClassRef) → type_op_fits op c ≡ true → class_ref_fits c ≡ true
-class_so type_op.NewArray c h = (both_true (class_ref_fits c) (can_be_element c) h).0
-class_so type_op.CheckCast c h = h
-class_so type_op.InstanceOf c h = h
+-- the dimensions, which are not many
+dimension_count : (c : ClassRef) (d : ℕ) → type_op_fits (type_op.NewArrays d) c ≡ true → (has_dimensions c d ≡ true) × (d < 2 ^ 8)
+dimension_count c d fits =
+    let p = both_true (class_ref_fits c) (has_dimensions c d) fits in
+    (p.1, few_dimensions c d p.0 p.1)
 
 pub type_form : (op : TypeOp) (c : ClassRef) → type_op_fits op c ≡ true → is_sayable_class c ≡ true → ClassRefInRange c
-    → InstructionLine (bare (type_mnemonic op) ∷ bare (class_line c) ∷ []) (labelled.Named (instr.Type op c))
-type_form op c fits h all =
-    let read : class_ref_of (utf16_of (class_line c)) ≡ Ok c = ap class_ref_of (class_spelled c h all).units_are ∙ class_ref_read c (class_so op c fits) in
-    named _ (opcode.Type op) (bare (class_line c) ∷ []) _ (type_names op).named (type op (class_line c) c c read (element_so op c fits))
+    → InstructionLine (bare (type_mnemonic op) ∷ bare (class_line c) ∷ dimension_words op) (labelled.Named (instr.Type op c))
+type_form type_op.NewArray c fits h all =
+    let op = type_op.NewArray in named _ (opcode.Type op) (bare (class_line c) ∷ []) _ (type_names op).named (type op (class_line c) c c (class_read op c fits h all) (operand_ref_read op c fits))
+type_form (type_op.NewArrays d) c fits h all =
+    let p = dimension_count c d fits in
+    let few : d < 2 ^ 8 = p.1 in
+    named _ opcode.NewArrays (bare (class_line c) ∷ bare (decimal d) ∷ []) _ (type_names (type_op.NewArrays d)).named
+    (new_arrays (class_line c) (decimal d) d c (class_read (type_op.NewArrays d) c fits h all) p.0 (natural_read d (omega arith)))
+type_form type_op.CheckCast c fits h all =
+    let op = type_op.CheckCast in named _ (opcode.Type op) (bare (class_line c) ∷ []) _ (type_names op).named (type op (class_line c) c c (class_read op c fits h all) (operand_ref_read op c fits))
+type_form type_op.InstanceOf c fits h all =
+    let op = type_op.InstanceOf in named _ (opcode.Type op) (bare (class_line c) ∷ []) _ (type_names op).named (type op (class_line c) c c (class_read op c fits h all) (operand_ref_read op c fits))
 
 pub new_form : (name : List ℕ) → is_class_name name ≡ true → is_sayable name ≡ true → UnitsInRange name
     → InstructionLine (bare (codes "new") ∷ bare (name_text name) ∷ []) (labelled.Named (instr.New name))
@@ -488,6 +495,23 @@ module _ (tail : List ℕ) (at_end : Laid tail []) (part : apart tail ≡ true) 
       (sym (method_text_is m)) (operands (invoke_mnemonic invoke.Interface) (method_word m) (decimal n) (invoke_names invoke.Interface)
       (method_is_word invoke.Interface m fits h all) (decimal_word n (omega arith))))
 
+  one_type : (op : TypeOp) (c : ClassRef) → type_op_fits op c ≡ true → is_sayable_class c ≡ true → ClassRefInRange c
+      → Laid ((front (type_mnemonic op) ++ (class_line c ++ [])) ++ tail) (bare (type_mnemonic op) ∷ bare (class_line c) ∷ [])
+  one_type op c fits h all =
+      subst (λ (t : List ℕ). Laid ((front (type_mnemonic op) ++ t) ++ tail) (bare (type_mnemonic op) ∷ bare (class_line c) ∷ []))
+      (sym (append-nil (class_line c))) (operand (type_mnemonic op) (class_line c) (type_names op) (class_is_word c (class_of_type op c fits) h all))
+
+  type_laid : (op : TypeOp) (c : ClassRef) → type_op_fits op c ≡ true → is_sayable_class c ≡ true → ClassRefInRange c
+      → Laid ((front (type_mnemonic op) ++ (class_line c ++ dimensions_line op)) ++ tail) (bare (type_mnemonic op) ∷ bare (class_line c) ∷ dimension_words op)
+  unfolding dimensions_line
+  type_laid type_op.NewArray c fits h all = one_type type_op.NewArray c fits h all
+  type_laid (type_op.NewArrays d) c fits h all =
+      let op = type_op.NewArrays d in
+      let few : d < 2 ^ 8 = (dimension_count c d fits).1 in
+      operands (type_mnemonic op) (class_line c) (decimal d) (type_names op) (class_is_word c (class_of_type op c fits) h all) (decimal_word d (omega arith))
+  type_laid type_op.CheckCast c fits h all = one_type type_op.CheckCast c fits h all
+  type_laid type_op.InstanceOf c fits h all = one_type type_op.InstanceOf c fits h all
+
   pub instr_laid : (count : ℕ) (i : Instr) → count < 2 ^ 64 → instr_fits count i ≡ true → instr_said i ≡ true → InstrInRange i
       → Laid (instr_text i ++ tail) (instr_words i)
   unfolding instr_text
@@ -500,4 +524,4 @@ module _ (tail : List ℕ) (at_end : Laid tail []) (part : apart tail ≡ true) 
   instr_laid count (instr.Field op f) few fits h all = field_laid op f fits h all
   instr_laid count (instr.Invoke op m) few fits h all = invoke_laid op m fits h all
   instr_laid count (instr.New name) few fits h all = operand (codes "new") (name_text name) new_names (class_name_word name fits h all)
-  instr_laid count (instr.Type op c) few fits h all = operand (type_mnemonic op) (class_line c) (type_names op) (class_is_word c (class_so op c fits) h all)
+  instr_laid count (instr.Type op c) few fits h all = type_laid op c fits h all

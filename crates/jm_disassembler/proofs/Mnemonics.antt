@@ -38,7 +38,7 @@ use Rattle.jm_program.specs.declared.instruction.operation.ArrayOp.TheVariants a
 use Rattle.jm_program.specs.declared.instruction.plain.Simple.{Simple}
 use Rattle.jm_program.specs.declared.instruction.plain.Simple.TheVariants as simple
 use Rattle.jm_class_format.specs.Mnemonics.{left_out_mnemonic}
-use Rattle.jm_class_format.specs.Opcodes.{constants, loads, stores, stack, math, conversions, comparisons, control, references, extended}
+use Rattle.jm_class_format.specs.Opcodes.{constants, loads, stores, stack, math, conversions, comparisons, control, references, extended, type_opcode}
 use Rattle.jm_class_format.specs.declared.opcode.Opcode.{Opcode}
 use Rattle.jm_class_format.specs.declared.opcode.Opcode.TheVariants as opcode
 use Rattle.jm_jasmin_ops.specs.Mnemonics.{mnemonic, in_rows, opcode_named}
@@ -157,12 +157,13 @@ field_names field.PutStatic = record { named = refl; word = refl; short = refl }
 field_names field.GetField = record { named = refl; word = refl; short = refl }
 field_names field.PutField = record { named = refl; word = refl; short = refl }
 
-pub type_names : (op : TypeOp) → Names (type_mnemonic op) (opcode.Type op)
+pub type_names : (op : TypeOp) → Names (type_mnemonic op) (type_opcode op)
 unfolding opcode_named in_rows mnemonic left_out_mnemonic simple_line operand_letter integral_letter index_digit small_int_digit
     small_long_digit stack_mnemonic arithmetic_name shift_name bitwise_name conversion_mnemonic comparison_name equality_name null_mnemonic
     branch_mnemonic array_letter array_line return_mnemonic monitor_mnemonic field_mnemonic invoke_mnemonic type_mnemonic constants loads
     stores stack math conversions comparisons control references extended
 type_names type.NewArray = record { named = refl; word = refl; short = refl }
+type_names (type.NewArrays d) = record { named = refl; word = refl; short = refl }
 type_names type.CheckCast = record { named = refl; word = refl; short = refl }
 type_names type.InstanceOf = record { named = refl; word = refl; short = refl }
 

@@ -5,7 +5,7 @@ use Rattle.std.specs.Fmt.{decimal, signed_decimal}
 use Rattle.jm_program.specs.Descriptors.{argument_slots}
 use Rattle.jm_program.specs.JasminUnits.{name_text, string_text}
 use Rattle.jm_program.specs.JasminTypes.{class_line, field_ref_line, method_ref_line}
-use Rattle.jm_program.specs.JasminInstructions.{simple_line}
+use Rattle.jm_program.specs.JasminInstructions.{simple_line, dimensions_line}
 use Rattle.jm_program.specs.Mnemonics.{operand_letter, branch_mnemonic, array_line, primitive_name, return_mnemonic, monitor_mnemonic, field_mnemonic, invoke_mnemonic, type_mnemonic}
 use Rattle.jm_program.specs.declared.constant.Constant.{Constant}
 use Rattle.jm_program.specs.declared.constant.Constant.TheVariants as constant
@@ -81,7 +81,7 @@ instr_text (instr.Constant c) = constant_text c
 instr_text (instr.Field op f) = front (field_mnemonic op) ++ field_ref_line f
 instr_text (instr.Invoke op m) = front (invoke_mnemonic op) ++ (method_ref_line m ++ count_text op m)
 instr_text (instr.New name) = front (codes "new") ++ name_text name
-instr_text (instr.Type op class) = front (type_mnemonic op) ++ class_line class
+instr_text (instr.Type op class) = front (type_mnemonic op) ++ (class_line class ++ dimensions_line op)
 
 -- the lines behind it
 unfoldable pub rows_text : Instr → List ℕ

@@ -1,7 +1,8 @@
 // The lines of an instruction, its operands in one column (Jasmin User Guide, "Instructions").
 
 ghost use Rattle.std.specs.Prelude.{◌≡◌, ◌+◌, ◌++◌, OnOk, codes, min};
-ghost use Rattle.jm_program.specs.JasminTypes.{method_ref_line};
+ghost use Rattle.jm_program.specs.JasminTypes.{class_line, method_ref_line};
+ghost use Rattle.jm_program.specs.JasminInstructions.{dimensions_line};
 ghost use Rattle.jm_program.specs.declared.instruction.operation.Branch.TheVariants.{If, IfInts};
 ghost use Rattle.std.specs.List.{flat_map};
 ghost use Rattle.std.specs.Fmt.{signed_decimal};
@@ -12,8 +13,8 @@ ghost use Rattle.jm_disassembler.specs.Instructions.{front, target_row, default_
 
 use crate::string::write_string;
 use jm_program::{
-    ArrayOp, Branch, Comparison, Constant, Equality, FieldOp, Instr, InvokeOp, LookupSwitch,
-    MethodDescriptor, MethodRef, OperandType, Plain, SwitchPair, TableSwitch, TypeOp,
+    ArrayOp, Branch, ClassRef, Comparison, Constant, Equality, FieldOp, Instr, InvokeOp,
+    LookupSwitch, MethodDescriptor, MethodRef, OperandType, Plain, SwitchPair, TableSwitch, TypeOp,
 };
 use std::alloc::AllocError;
 use std::fmt::Write;
@@ -116,6 +117,7 @@ fn type_front(op: TypeOp) -> &'static str
 {
     match op {
         TypeOp::NewArray => "anewarray       ",
+        TypeOp::NewArrays(_) => "multianewarray  ",
         TypeOp::CheckCast => "checkcast       ",
         TypeOp::InstanceOf => "instanceof      ",
     }
@@ -218,6 +220,25 @@ fn write_invoke(out: &mut String, op: InvokeOp, method: &MethodRef) -> Result<()
     write_count(out, op, method)
 }
 
+// In how many dimensions `multianewarray` makes arrays.
+#[tactic(auto, unfolding(jm_program::specs::JasminInstructions::dimensions_line))]
+fn write_dimensions(out: &mut String, op: TypeOp) -> Result<(), AllocError>
+    ensures { OnOk result (out.new.bytes.items ≡ out.old.bytes.items ++ dimensions_line op) }
+{
+    match op {
+        TypeOp::NewArrays(dimensions) => write!(out, " {dimensions}"),
+        _ => Ok(()),
+    }
+}
+
+fn write_type(out: &mut String, op: TypeOp, class: &ClassRef) -> Result<(), AllocError>
+    ensures { OnOk result (out.new.bytes.items ≡ out.old.bytes.items ++ (front (type_mnemonic op) ++ (class_line class.now ++ dimensions_line op))) }
+{
+    let front = type_front(op);
+    write!(out, "{front}{class}")?;
+    write_dimensions(out, op)
+}
+
 // ---- the instruction
 
 /// Writes the first line of an instruction up to its end. After an error some of it may stand
@@ -243,11 +264,7 @@ pub fn write_instruction(out: &mut String, instruction: &Instr) -> Result<(), Al
             let name = name.get();
             write!(out, "new             {name}")
         }
-        Instr::Type(op, class) => {
-            let front = type_front(*op);
-            let class = class.get();
-            write!(out, "{front}{class}")
-        }
+        Instr::Type(op, class) => { write_type(out, *op, class.get()) }
     }
 }
 

@@ -11,6 +11,7 @@ use Rattle.jm_bytes.specs.Laws.{and_then_ok, same_Ok}
 use Rattle.jm_bytes.proofs.Spelled.{guard_text}
 use Rattle.jm_program.specs.declared.instruction.operation.Branch.TheVariants as branch
 use Rattle.jm_program.specs.declared.instruction.operation.ArrayOp.TheVariants as array
+use Rattle.jm_program.specs.declared.instruction.operation.TypeOp.TheVariants as type
 use Rattle.jm_program.specs.declared.instruction.plain.Plain.{Plain}
 use Rattle.jm_program.specs.declared.instruction.plain.Plain.TheVariants as plain
 use Rattle.jm_class_format.specs.declared.fault.CodeFault.TheVariants as code_fault
@@ -22,7 +23,7 @@ use Rattle.jm_class_format.specs.Code.{placed, numbered, all_numbered, code}
 use Rattle.jm_encode.specs.declared.encoded.EncodedCode.{EncodedCode}
 use Rattle.jm_encode.specs.declared.fault.EncodeFault.{EncodeFault}
 use Rattle.jm_encode.specs.declared.fault.EncodeFault.TheVariants as fault
-use Rattle.jm_encode.specs.Encoding.{has_bytes, local_size, plain_size, array_size, size_at, placed_from, starts_from, end_from, texts, text_at, placed_text, all_starts, encoded}
+use Rattle.jm_encode.specs.Encoding.{has_bytes, local_size, plain_size, array_size, type_size, size_at, placed_from, starts_from, end_from, texts, text_at, placed_text, all_starts, encoded}
 use Rattle.jm_encode.specs.Ranges.{InRange}
 use Rattle.jm_encode.proofs.Targets.{offset_in, AreStarts}
 use Rattle.jm_encode.proofs.Switches.{both}
@@ -52,7 +53,7 @@ plain_some at (plain.TableSwitch t) = omega arith
 plain_some at (plain.LookupSwitch l) = omega arith
 
 pub size_some : (at : ℕ) (instr : IndexedInstr) → 0 < size_at at instr
-unfolding size_at array_size
+unfolding size_at array_size type_size
 size_some at (indexed.Plain p) = plain_some at p
 size_some at (indexed.Array (array.Load kind)) = omega arith
 size_some at (indexed.Array (array.Store kind)) = omega arith
@@ -67,7 +68,10 @@ size_some at (indexed.Field op index) = omega arith
 size_some at (indexed.Invoke op index) = omega arith
 size_some at (indexed.InvokeInterface index count last) = omega arith
 size_some at (indexed.New index) = omega arith
-size_some at (indexed.Type op index) = omega arith
+size_some at (indexed.Type type.NewArray index) = omega arith
+size_some at (indexed.Type (type.NewArrays d) index) = omega arith
+size_some at (indexed.Type type.CheckCast index) = omega arith
+size_some at (indexed.Type type.InstanceOf index) = omega arith
 
 -- ---- where instructions begin
 

@@ -16,6 +16,8 @@ use Rattle.jm_program.specs.declared.instruction.operation.ArrayOp.{ArrayOp}
 use Rattle.jm_program.specs.declared.instruction.operation.ArrayOp.TheVariants as array
 use Rattle.jm_program.specs.declared.instruction.operation.InvokeOp.{InvokeOp}
 use Rattle.jm_program.specs.declared.instruction.operation.InvokeOp.TheVariants as invoke
+use Rattle.jm_program.specs.declared.instruction.operation.TypeOp.{TypeOp}
+use Rattle.jm_program.specs.declared.instruction.operation.TypeOp.TheVariants as type
 use Rattle.jm_program.specs.declared.instruction.plain.Plain.{Plain}
 use Rattle.jm_program.specs.declared.instruction.plain.Plain.TheVariants as plain
 use Rattle.jm_class_format.specs.declared.opcode.Opcode.{Opcode}
@@ -24,11 +26,11 @@ use Rattle.jm_class_format.specs.declared.fault.CodeFault.TheVariants as code_fa
 use Rattle.jm_class_format.specs.declared.instruction.IndexedInstr.{IndexedInstr}
 use Rattle.jm_class_format.specs.declared.instruction.IndexedInstr.TheVariants as indexed
 use Rattle.jm_class_format.specs.Opcodes.{opcode_at}
-use Rattle.jm_class_format.specs.Instructions.{near_target, far_target, new_array, invoke_interface, increment, wide_increment, wide_operands, wide, operands, instruction}
+use Rattle.jm_class_format.specs.Instructions.{near_target, far_target, new_array, new_arrays, invoke_interface, increment, wide_increment, wide_operands, wide, operands, instruction}
 use Rattle.jm_class_format.specs.Code.{plain_numbered, instr_numbered}
 use Rattle.jm_encode.specs.declared.fault.EncodeFault.{EncodeFault}
 use Rattle.jm_encode.specs.OpcodeBytes.{simple_byte, load_byte, store_byte, branch_byte, array_load_byte, array_store_byte, element_code, return_byte, monitor_byte, field_byte, invoke_byte, type_byte}
-use Rattle.jm_encode.specs.Encoding.{has_bytes, local_size, is_short_increment, plain_size, array_size, size_at, near_text, far_text, branch_text, local_text, increment_text, constant_text, plain_text, array_text, text_at}
+use Rattle.jm_encode.specs.Encoding.{has_bytes, local_size, is_short_increment, plain_size, array_size, type_size, size_at, near_text, far_text, branch_text, local_text, increment_text, constant_text, plain_text, array_text, type_text, text_at}
 use Rattle.jm_encode.specs.Ranges.{PlainInRange, InRange}
 use Rattle.jm_encode.proofs.Rows.{simple_row, load_row, store_row, branch_row, array_load_row, array_store_row, element_row, return_row, monitor_row, field_row, virtual_row, special_row, static_row, type_row, push_byte_row, push_short_row, load_constant_row, load_constant_wide_row, load_long_row, increment_row, table_switch_row, lookup_switch_row, interface_row, new_row, new_array_row, length_row, throw_row, wide_row}
 use Rattle.jm_encode.proofs.Opcodes.{instruction_text, last_text}
@@ -273,6 +275,30 @@ interface_is starts at index count last range one two =
       numbered = refl;
     }
 
+named_type : (at index : ℕ) (op : TypeOp) → opcode_at (type_byte op) ≡ Some (opcode.Type op) → index < 2 ^ 16 → (instruction at).Spells (type_byte op ∷ to_be_bytes w16 index) (indexed.Type op index)
+unfolding operands
+named_type at index op row range = instruction_text at (type_byte op) (opcode.Type op) (to_be_bytes w16 index) _ row (last_text (u2 (code_fault.Cut at)) (λ i. indexed.Type op i) (to_be_bytes w16 index) index (u2_text index range))
+
+type_is : (starts : List ℕ) (at : ℕ) (op : TypeOp) (index : ℕ) → InRange (indexed.Type op index) → InstrSpelled starts at (indexed.Type op index) (type_text op index)
+unfolding size_at type_size type_text instr_numbered operands new_arrays
+type_is starts at type.NewArray index range = record { size = refl; spelled = named_type at index type.NewArray (type_row type.NewArray) range; numbered = refl }
+type_is starts at (type.NewArrays d) index range =
+    record {
+      size = refl;
+      spelled = instruction_text at (type_byte (type.NewArrays d)) opcode.NewArrays (to_be_bytes w16 index ++ to_be_bytes w8 d) _ (type_row (type.NewArrays d))
+          (record {
+            front = to_be_bytes w16 index;
+            back = to_be_bytes w8 d;
+            value = index;
+            parts = refl;
+            first = u2_text index range.0;
+            second = last_text (u1 (code_fault.Cut at)) (λ n. indexed.Type (type.NewArrays n) index) (to_be_bytes w8 d) d (u1_text d range.1);
+          });
+      numbered = refl;
+    }
+type_is starts at type.CheckCast index range = record { size = refl; spelled = named_type at index type.CheckCast (type_row type.CheckCast) range; numbered = refl }
+type_is starts at type.InstanceOf index range = record { size = refl; spelled = named_type at index type.InstanceOf (type_row type.InstanceOf) range; numbered = refl }
+
 -- ---- all of them
 
 pub instr_is : (starts : List ℕ) (at : ℕ) (instr : IndexedInstr) (text : List ℕ) → AreStarts starts → at + size_at at instr ≤ 65535 → InRange instr → has_bytes instr ≡ true → text_at starts at instr ≡ Ok text → InstrSpelled starts at instr text
@@ -298,5 +324,4 @@ instr_is starts at (indexed.InvokeInterface index count last) text good room ran
     this_text starts at (indexed.InvokeInterface index count last) (185 ∷ (to_be_bytes w16 index ++ (to_be_bytes w8 count ++ to_be_bytes w8 last))) text (interface_is starts at index count last range.0 range.1 range.2) h
 instr_is starts at (indexed.New index) text good room range rule h =
     this_text starts at (indexed.New index) (187 ∷ to_be_bytes w16 index) text (record { size = refl; spelled = instruction_text at 187 opcode.New (to_be_bytes w16 index) _ new_row (last_text (u2 (code_fault.Cut at)) (λ i. indexed.New i) (to_be_bytes w16 index) index (u2_text index range)); numbered = refl }) h
-instr_is starts at (indexed.Type op index) text good room range rule h =
-    this_text starts at (indexed.Type op index) (type_byte op ∷ to_be_bytes w16 index) text (record { size = refl; spelled = instruction_text at (type_byte op) (opcode.Type op) (to_be_bytes w16 index) _ (type_row op) (last_text (u2 (code_fault.Cut at)) (λ i. indexed.Type op i) (to_be_bytes w16 index) index (u2_text index range)); numbered = refl }) h
+instr_is starts at (indexed.Type op index) text good room range rule h = this_text starts at (indexed.Type op index) (type_text op index) text (type_is starts at op index range) h

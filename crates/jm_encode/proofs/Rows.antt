@@ -33,7 +33,7 @@ use Rattle.jm_program.specs.declared.instruction.operation.TypeOp.{TypeOp}
 use Rattle.jm_program.specs.declared.instruction.operation.TypeOp.TheVariants as type
 use Rattle.jm_class_format.specs.declared.opcode.Opcode.{Opcode}
 use Rattle.jm_class_format.specs.declared.opcode.Opcode.TheVariants as opcode
-use Rattle.jm_class_format.specs.Opcodes.{constants, loads, stores, stack, math, conversions, comparisons, control, references, extended, opcode_at}
+use Rattle.jm_class_format.specs.Opcodes.{constants, loads, stores, stack, math, conversions, comparisons, control, references, extended, type_opcode, opcode_at}
 use Rattle.jm_class_format.specs.Instructions.{element_at}
 use Rattle.jm_encode.specs.OpcodeBytes.{int_byte, long_byte, load_byte, store_byte, short_load_byte, short_store_byte, stack_byte, arithmetic_byte, negate_byte, shift_byte, bitwise_byte, conversion_byte, simple_byte, if_byte, if_ints_byte, if_references_byte, if_null_byte, branch_byte, array_load_byte, array_store_byte, element_code, return_byte, monitor_byte, field_byte, invoke_byte, type_byte}
 
@@ -189,9 +189,10 @@ field_row field.PutStatic = refl
 field_row field.GetField = refl
 field_row field.PutField = refl
 
-pub type_row : (op : TypeOp) → opcode_at (type_byte op) ≡ Some (opcode.Type op)
-unfolding opcode_at references type_byte
+pub type_row : (op : TypeOp) → opcode_at (type_byte op) ≡ Some (type_opcode op)
+unfolding opcode_at references extended type_byte
 type_row type.NewArray = refl
+type_row (type.NewArrays d) = refl
 type_row type.CheckCast = refl
 type_row type.InstanceOf = refl
 

@@ -10,6 +10,8 @@ use Rattle.jm_program.specs.declared.instruction.operation.Branch.{Branch}
 use Rattle.jm_program.specs.declared.instruction.operation.Branch.TheVariants as branch
 use Rattle.jm_program.specs.declared.instruction.operation.ArrayOp.{ArrayOp}
 use Rattle.jm_program.specs.declared.instruction.operation.ArrayOp.TheVariants as array
+use Rattle.jm_program.specs.declared.instruction.operation.TypeOp.{TypeOp}
+use Rattle.jm_program.specs.declared.instruction.operation.TypeOp.TheVariants as type
 use Rattle.jm_program.specs.declared.instruction.plain.SwitchPair.{SwitchPair}
 use Rattle.jm_program.specs.declared.instruction.plain.TableSwitch.{TableSwitch}
 use Rattle.jm_program.specs.declared.instruction.plain.LookupSwitch.{LookupSwitch}
@@ -19,8 +21,8 @@ use Rattle.jm_class_format.specs.declared.instruction.IndexedInstr.{IndexedInstr
 use Rattle.jm_class_format.specs.declared.instruction.IndexedInstr.TheVariants as indexed
 use Rattle.jm_encode.specs.declared.encoded.EncodedCode.{EncodedCode}
 use Rattle.jm_encode.specs.declared.fault.EncodeFault.{EncodeFault}
-use Rattle.jm_encode.specs.OpcodeBytes.{simple_byte, load_byte, store_byte, branch_byte, return_byte, monitor_byte, field_byte, invoke_byte, type_byte}
-use Rattle.jm_encode.specs.Encoding.{padding_size, plain_size, array_size, size_at, distance, in_16_bits, near_text, far_text, branch_text, texts, switch_text, range_text, table_text, pair_text, lookup_text, local_text, increment_text, constant_text, plain_text, array_text, text_at, placed_text, placed_from, end_from, encoded}
+use Rattle.jm_encode.specs.OpcodeBytes.{simple_byte, load_byte, store_byte, branch_byte, return_byte, monitor_byte, field_byte, invoke_byte}
+use Rattle.jm_encode.specs.Encoding.{padding_size, plain_size, array_size, type_size, size_at, distance, in_16_bits, near_text, far_text, branch_text, texts, switch_text, range_text, table_text, pair_text, lookup_text, local_text, increment_text, constant_text, plain_text, array_text, type_text, text_at, placed_text, placed_from, end_from, encoded}
 use Rattle.jm_encode.proofs.Instructions.{local_text_size, increment_size}
 use Rattle.jm_encode.proofs.Codes.{encoded_ok}
 
@@ -139,6 +141,13 @@ array_text_size (array.Store kind) = refl
 array_text_size (array.New element) = refl
 array_text_size array.Length = refl
 
+type_text_size : (op : TypeOp) (index : ℕ) → length (type_text op index) ≡ type_size op
+unfolding type_text type_size
+type_text_size type.NewArray index = refl
+type_text_size (type.NewArrays d) index = refl
+type_text_size type.CheckCast index = refl
+type_text_size type.InstanceOf index = refl
+
 constant_size : (index : ℕ) → length (constant_text index) ≡ cond (nat_le index 255) 2 3
 unfolding constant_text
 constant_size index = elim (nat_le index 255) as (λ b. length (cond b (18 ∷ to_be_bytes w8 index) (19 ∷ to_be_bytes w16 index)) ≡ cond b 2 3) [ true ↦ refl | false ↦ refl ]
@@ -156,7 +165,7 @@ text_size starts at (indexed.Field op index) text h = one_size (field_byte op �
 text_size starts at (indexed.Invoke op index) text h = one_size (invoke_byte op ∷ to_be_bytes w16 index) text 3 refl h
 text_size starts at (indexed.InvokeInterface index count last) text h = one_size (185 ∷ (to_be_bytes w16 index ++ (to_be_bytes w8 count ++ to_be_bytes w8 last))) text 5 refl h
 text_size starts at (indexed.New index) text h = one_size (187 ∷ to_be_bytes w16 index) text 3 refl h
-text_size starts at (indexed.Type op index) text h = one_size (type_byte op ∷ to_be_bytes w16 index) text 3 refl h
+text_size starts at (indexed.Type op index) text h = one_size (type_text op index) text _ (type_text_size op index) h
 
 -- one after the other
 run_size : (starts : List ℕ) (at : ℕ) (instrs : List IndexedInstr) (text : List ℕ) → texts (placed_text starts) (placed_from at instrs) ≡ Ok text → at + length text ≡ end_from at instrs

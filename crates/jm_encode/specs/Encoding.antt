@@ -11,6 +11,8 @@ use Rattle.jm_program.specs.declared.instruction.operation.Branch.TheVariants as
 use Rattle.jm_program.specs.declared.instruction.operation.ArrayOp.{ArrayOp}
 use Rattle.jm_program.specs.declared.instruction.operation.ArrayOp.TheVariants as array
 use Rattle.jm_program.specs.declared.instruction.operation.InvokeOp.TheVariants as invoke
+use Rattle.jm_program.specs.declared.instruction.operation.TypeOp.{TypeOp}
+use Rattle.jm_program.specs.declared.instruction.operation.TypeOp.TheVariants as type
 use Rattle.jm_program.specs.declared.instruction.plain.SwitchPair.{SwitchPair}
 use Rattle.jm_program.specs.declared.instruction.plain.TableSwitch.{TableSwitch}
 use Rattle.jm_program.specs.declared.instruction.plain.LookupSwitch.{LookupSwitch}
@@ -64,6 +66,11 @@ unfoldable pub array_size : ArrayOp → ℕ
 array_size (array.New element) = 2
 array_size other = 1
 
+-- multianewarray has its dimensions in a byte more
+unfoldable pub type_size : TypeOp → ℕ
+type_size (type.NewArrays d) = 4
+type_size other = 3
+
 unfoldable pub size_at : ℕ → IndexedInstr → ℕ
 size_at at (indexed.Plain p) = plain_size at p
 size_at at (indexed.Array op) = array_size op
@@ -72,6 +79,7 @@ size_at at indexed.Throw = 1
 size_at at (indexed.Monitor op) = 1
 size_at at (indexed.Constant index) = if nat_le index 255 then 2 else 3
 size_at at (indexed.InvokeInterface index count last) = 5
+size_at at (indexed.Type op index) = type_size op
 size_at at other = 3
 
 -- the instructions one after the other from an offset on, each with its own
@@ -172,6 +180,10 @@ array_text (array.Store kind) = array_store_byte kind ∷ []
 array_text (array.New element) = 188 ∷ element_code element ∷ []
 array_text array.Length = 190 ∷ []
 
+unfoldable pub type_text : TypeOp → ℕ → List ℕ
+type_text (type.NewArrays d) index = type_byte (type.NewArrays d) ∷ (to_be_bytes w16 index ++ to_be_bytes w8 d)
+type_text other index = type_byte other ∷ to_be_bytes w16 index
+
 -- the bytes of an instruction that stands at an offset
 unfoldable pub text_at : List ℕ → ℕ → IndexedInstr → Result (List ℕ) EncodeFault
 text_at starts at (indexed.Plain p) = plain_text starts at p
@@ -185,7 +197,7 @@ text_at starts at (indexed.Field op index) = Ok (field_byte op ∷ to_be_bytes w
 text_at starts at (indexed.Invoke op index) = Ok (invoke_byte op ∷ to_be_bytes w16 index)
 text_at starts at (indexed.InvokeInterface index count last) = Ok (185 ∷ (to_be_bytes w16 index ++ (to_be_bytes w8 count ++ to_be_bytes w8 last)))
 text_at starts at (indexed.New index) = Ok (187 ∷ to_be_bytes w16 index)
-text_at starts at (indexed.Type op index) = Ok (type_byte op ∷ to_be_bytes w16 index)
+text_at starts at (indexed.Type op index) = Ok (type_text op index)
 
 abbrev pub placed_text : List ℕ → PlacedInstr → Result (List ℕ) EncodeFault
 placed_text starts p = text_at starts p.offset p.instr

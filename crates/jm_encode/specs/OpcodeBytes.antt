@@ -264,5 +264,6 @@ invoke_byte invoke.Interface = 185
 
 unfoldable pub type_byte : TypeOp → ℕ
 type_byte type.NewArray = 189
+type_byte (type.NewArrays d) = 197
 type_byte type.CheckCast = 192
 type_byte type.InstanceOf = 193

@@ -2,6 +2,7 @@
 use Rattle.std.specs.Prelude.{◌<◌, ◌^◌, FitsSigned}
 use Rattle.std.specs.List.{All}
 use Rattle.std.specs.Int.{w8, w16, w32}
+use Rattle.jm_program.specs.declared.instruction.operation.TypeOp.TheVariants as type
 use Rattle.jm_program.specs.declared.instruction.plain.SwitchPair.{SwitchPair}
 use Rattle.jm_program.specs.declared.instruction.plain.Plain.{Plain}
 use Rattle.jm_program.specs.declared.instruction.plain.Plain.TheVariants as plain
@@ -29,5 +30,6 @@ InRange (indexed.Field op index) = index < 2 ^ 16
 InRange (indexed.Invoke op index) = index < 2 ^ 16
 InRange (indexed.InvokeInterface index count last) = (index < 2 ^ 16) × (count < 2 ^ 8) × (last < 2 ^ 8)
 InRange (indexed.New index) = index < 2 ^ 16
+InRange (indexed.Type (type.NewArrays d) index) = (index < 2 ^ 16) × (d < 2 ^ 8)
 InRange (indexed.Type op index) = index < 2 ^ 16
 InRange other = Unit {0}

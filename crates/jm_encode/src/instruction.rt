@@ -11,10 +11,9 @@ ghost use Rattle.jm_encode.specs.Ranges.{PlainInRange, InRange};
 use crate::fault::EncodeFault;
 use crate::opcode_byte::{
     field_byte, invoke_byte, load_byte, monitor_byte, return_byte, simple_byte, store_byte,
-    type_byte,
 };
 use crate::operands::{
-    put_array, put_constant, put_increment, put_indexed, put_interface, put_local,
+    put_array, put_constant, put_increment, put_indexed, put_interface, put_local, put_type,
 };
 use crate::switch::{put_lookup, put_table};
 use crate::target::put_branch;
@@ -77,7 +76,7 @@ pub fn put_instruction(
             put_interface(out, *index, *count, *last)?;
         }
         IndexedInstr::New(index) => put_indexed(out, 187, *index)?,
-        IndexedInstr::Type(op, index) => put_indexed(out, type_byte(*op), *index)?,
+        IndexedInstr::Type(op, index) => put_type(out, *op, *index)?,
     }
     Ok(())
 }

@@ -13,7 +13,7 @@ ghost use Rattle.jm_program.specs.declared.instruction.operation.MonitorOp.{Moni
 ghost use Rattle.jm_program.specs.declared.instruction.operation.FieldOp.{FieldOp};
 ghost use Rattle.jm_program.specs.declared.instruction.operation.TypeOp.{TypeOp};
 ghost use Rattle.jm_class_format.specs.declared.opcode.Opcode.TheVariants as opcode;
-ghost use Rattle.jm_class_format.specs.Opcodes.{opcode_at};
+ghost use Rattle.jm_class_format.specs.Opcodes.{opcode_at, type_opcode};
 ghost use Rattle.jm_class_format.specs.Instructions.{element_at};
 ghost use Rattle.jm_class_format.specs.declared.instruction.IndexedInstr.{IndexedInstr};
 ghost use Rattle.jm_class_format.specs.declared.instruction.PlacedInstr.{PlacedInstr};
@@ -35,7 +35,7 @@ pub fn opcode_bytes_stand_for_opcodes()
     ensures returning { (op : ReturnOp) → opcode_at (return_byte op) ≡ Some (opcode.Return op) }
     ensures monitor { (op : MonitorOp) → opcode_at (monitor_byte op) ≡ Some (opcode.Monitor op) }
     ensures field { (op : FieldOp) → opcode_at (field_byte op) ≡ Some (opcode.Field op) }
-    ensures of_type { (op : TypeOp) → opcode_at (type_byte op) ≡ Some (opcode.Type op) }
+    ensures of_type { (op : TypeOp) → opcode_at (type_byte op) ≡ Some (type_opcode op) }
 {}
 
 /// What is encoded is spelled: the bytes spell the instructions at their offsets.

@@ -378,13 +378,14 @@ pub fn invoke_byte(op: InvokeOp) -> u8
     }
 }
 
-/// `anewarray`, `checkcast` and `instanceof`.
+/// `anewarray`, `multianewarray`, `checkcast` and `instanceof`.
 #[tactic(auto, unfolding(crate::specs::OpcodeBytes::type_byte))]
 pub fn type_byte(op: TypeOp) -> u8
     ensures { result ≡ type_byte op }
 {
     match op {
         TypeOp::NewArray => 189,
+        TypeOp::NewArrays(_) => 197,
         TypeOp::CheckCast => 192,
         TypeOp::InstanceOf => 193,
     }

@@ -2,12 +2,14 @@
 
 ghost use Rattle.std.specs.Prelude.{◌≡◌, ◌++◌, ◌∷◌, OnOk};
 ghost use Rattle.std.specs.Int.{w8, w16, to_be_bytes};
-ghost use Rattle.jm_encode.specs.Encoding.{local_text, increment_text, constant_text, array_text};
+ghost use Rattle.jm_class_format.specs.declared.instruction.IndexedInstr.TheVariants as indexed;
+ghost use Rattle.jm_encode.specs.Encoding.{local_text, increment_text, constant_text, array_text, type_text};
+ghost use Rattle.jm_encode.specs.Ranges.{InRange};
 
-use crate::opcode_byte::{array_load_byte, array_store_byte, element_code};
+use crate::opcode_byte::{array_load_byte, array_store_byte, element_code, type_byte};
 use crate::size::is_short_increment;
 use jm_bytes::{put_s1, put_s2, put_u1, put_u2};
-use jm_program::ArrayOp;
+use jm_program::{ArrayOp, TypeOp};
 use std::alloc::AllocError;
 
 /// Appends an opcode and an index of the constant pool.
@@ -77,6 +79,19 @@ pub fn put_array(out: &mut Vec<u8>, op: ArrayOp) -> Result<(), AllocError>
         }
     }
     Ok(())
+}
+
+/// Appends an instruction that names a type, `multianewarray` with its dimensions.
+#[tactic(auto, unfolding(crate::specs::Encoding::type_text))]
+pub fn put_type(out: &mut Vec<u8>, op: TypeOp, index: u16) -> Result<(), AllocError>
+    ensures given { OnOk result (out.new.items ≡ out.old.items ++ type_text op index) }
+    ensures range { OnOk result (InRange (indexed.Type op index)) }
+{
+    put_indexed(out, type_byte(op), index)?;
+    match op {
+        TypeOp::NewArrays(dimensions) => put_u1(out, dimensions),
+        _ => Ok(()),
+    }
 }
 
 /// Appends `invokeinterface`, with the count and the byte after it (JVMS 6.5 invokeinterface).

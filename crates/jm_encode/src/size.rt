@@ -1,10 +1,10 @@
 // How many bytes an instruction takes (JVMS 6.5).
 
 ghost use Rattle.std.specs.Prelude.{◌≡◌, ◌+◌, ◌*◌, ◌<◌, ◌^◌, length};
-ghost use Rattle.jm_encode.specs.Encoding.{padding_size, local_size, is_short_increment, plain_size, array_size, size_at};
+ghost use Rattle.jm_encode.specs.Encoding.{padding_size, local_size, is_short_increment, plain_size, array_size, type_size, size_at};
 
 use jm_class_format::IndexedInstr;
-use jm_program::{ArrayOp, Branch, LookupSwitch, Plain, TableSwitch};
+use jm_program::{ArrayOp, Branch, LookupSwitch, Plain, TableSwitch, TypeOp};
 
 /// How many zeros stand behind the opcode of a switch, so that what follows stands at a multiple
 /// of four (JVMS 6.5 tableswitch).
@@ -68,6 +68,16 @@ fn array_size(op: ArrayOp) -> usize
     }
 }
 
+#[tactic(auto, unfolding(crate::specs::Encoding::type_size))]
+fn type_size(op: TypeOp) -> usize
+    ensures { result ≡ type_size op }
+{
+    match op {
+        TypeOp::NewArrays(_) => 4,
+        _ => 3,
+    }
+}
+
 /// How many bytes an instruction takes at an offset.
 #[tactic(auto, unfolding(crate::specs::Encoding::size_at))]
 pub fn size_at(at: u16, instr: &IndexedInstr) -> usize
@@ -82,7 +92,7 @@ pub fn size_at(at: u16, instr: &IndexedInstr) -> usize
         IndexedInstr::LongConstant(_)
         | IndexedInstr::Field(_, _)
         | IndexedInstr::Invoke(_, _)
-        | IndexedInstr::New(_)
-        | IndexedInstr::Type(_, _) => 3,
+        | IndexedInstr::New(_) => 3,
+        IndexedInstr::Type(op, _) => type_size(*op),
     }
 }

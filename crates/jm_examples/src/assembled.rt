@@ -10,9 +10,7 @@ use std::io;
 // A fault, with its line.
 fn fault_line(alloc: Global, fault: &AsmFault) -> io::Result<String> {
     match fault {
-        AsmFault::LeftOut(_, line) | AsmFault::Later(_, line) => {
-            Ok(format!(in alloc; "{fault} at {line}")?)
-        }
+        AsmFault::LeftOut(_, line) => Ok(format!(in alloc; "{fault} at {line}")?),
         _ => said(alloc, fault),
     }
 }

@@ -3,6 +3,7 @@
 use crate::notation::{invalid, said};
 use jm_class_format::{IndexedInstr, PlacedInstr};
 use jm_opcodes::decode_code;
+use jm_program::TypeOp;
 use std::alloc::Global;
 use std::{fmt, io};
 
@@ -40,6 +41,9 @@ fn write_instruction<W: fmt::Write>(
             write!(f, "invokeinterface #{index} {count} {last}")
         }
         IndexedInstr::New(index) => write!(f, "new #{index}"),
+        IndexedInstr::Type(TypeOp::NewArrays(dimensions), index) => {
+            write!(f, "multianewarray #{index} {dimensions}")
+        }
         IndexedInstr::Type(op, index) => write!(f, "{op} #{index}"),
     }
 }

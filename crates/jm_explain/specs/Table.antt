@@ -24,7 +24,6 @@ instructions =
     record { number = 13; name = codes "BadTarget"; meaning = codes "a branch or a switch leads to a place where no instruction begins"; example = codes "A `goto` to the byte behind its own opcode, which is its own operand."; advice = codes "No compiler writes such code, so the file is damaged: compile its source again by `javac --release 8`." } ∷
     record { number = 14; name = codes "BranchTooFar"; meaning = codes "a branch is longer than its field in a class file can say"; example = codes "An `ifeq` to a label that is more than 32767 bytes of code away."; advice = codes "Branch on the opposite condition around a `goto_w` to the label, or divide the method into several." } ∷
     record { number = 15; name = codes "CodeTooLong"; meaning = codes "a method has more than 65535 bytes of code"; example = codes "A text with 70000 times `nop` in one method."; advice = codes "Divide the method into several." } ∷
-    record { number = 16; name = codes "Later(name)"; meaning = codes "the code has an instruction that this machine is to have later: `multianewarray`"; example = codes "16 Later(multianewarray) for `new int[2][3]`."; advice = codes "Make the outer array first and then each inner one: `int[][] a = new int[2][];` and `a[0] = new int[3];`." } ∷
     []
 
 unfoldable pub pools : List Item
@@ -53,9 +52,8 @@ assembler_texts =
     record { number = 41; name = codes "Syntax(line)"; meaning = codes "a line of an assembler text is none that the assembler knows at that place"; example = codes "`bipush 128`, since the number of `bipush` is from -128 to 127."; advice = codes "Mend the line of this number, which is counted from 1: look at the spelling, at the operands and at the range of the number. A text that is too short is refused at its last line." } ∷
     record { number = 42; name = codes "DuplicateLabel(line)"; meaning = codes "a label stands for the second time in its method"; example = codes "`Loop:` on two lines of one method."; advice = codes "Give the label on the line of this number another name." } ∷
     record { number = 43; name = codes "NoLabel(line)"; meaning = codes "a label is used that its method has not"; example = codes "`goto End` in a method without a line `End:`."; advice = codes "Write the label where it belongs, or mend its name on the line of this number." } ∷
-    record { number = 45; name = codes "BadCount(line)"; meaning = codes "a number or a range in an assembler text does not fit what it counts"; example = codes "A method with two arguments and no `.limit locals`, since it then has one local variable."; advice = codes "Mend the line of this number: give `.limit locals` room for the arguments, a range an instruction, `invokeinterface` the slots of its arguments, and let the keys of a switch rise." } ∷
+    record { number = 45; name = codes "BadCount(line)"; meaning = codes "a number or a range in an assembler text does not fit what it counts"; example = codes "A method with two arguments and no `.limit locals`, since it then has one local variable."; advice = codes "Mend the line of this number: give `.limit locals` room for the arguments, a range an instruction, `invokeinterface` the slots of its arguments, `multianewarray` no more dimensions than its type has, and let the keys of a switch rise." } ∷
     record { number = 46; name = codes "LeftOut(name)"; meaning = codes "an assembler text has a part that this machine leaves out"; example = codes "46 LeftOut(float) for `ldc 1.5`, 46 LeftOut(.stack) for a stack map."; advice = codes "Take the part out of the text. There are no floats, no doubles, no `jsr`, no `invokedynamic`, and a branch leads to a label." } ∷
-    record { number = 47; name = codes "Later(name)"; meaning = codes "an assembler text has an instruction that this machine is to have later: `multianewarray`"; example = codes "47 Later(multianewarray) for `multianewarray [[I 2`."; advice = codes "Make the outer array by `anewarray` first, and then each inner one." } ∷
     []
 
 unfoldable pub links : List Item

@@ -6,7 +6,7 @@ ghost use Rattle.jm_explain.specs.Table.{assembler_texts};
 
 use crate::entry::Entry;
 
-static ASSEMBLER_TEXTS: [Entry; 7] = [
+static ASSEMBLER_TEXTS: [Entry; 6] = [
     Entry {
         number: 40,
         name: "BadToken(line)",
@@ -40,7 +40,7 @@ static ASSEMBLER_TEXTS: [Entry; 7] = [
         name: "BadCount(line)",
         meaning: "a number or a range in an assembler text does not fit what it counts",
         example: "A method with two arguments and no `.limit locals`, since it then has one local variable.",
-        advice: "Mend the line of this number: give `.limit locals` room for the arguments, a range an instruction, `invokeinterface` the slots of its arguments, and let the keys of a switch rise.",
+        advice: "Mend the line of this number: give `.limit locals` room for the arguments, a range an instruction, `invokeinterface` the slots of its arguments, `multianewarray` no more dimensions than its type has, and let the keys of a switch rise.",
     },
     Entry {
         number: 46,
@@ -48,13 +48,6 @@ static ASSEMBLER_TEXTS: [Entry; 7] = [
         meaning: "an assembler text has a part that this machine leaves out",
         example: "46 LeftOut(float) for `ldc 1.5`, 46 LeftOut(.stack) for a stack map.",
         advice: "Take the part out of the text. There are no floats, no doubles, no `jsr`, no `invokedynamic`, and a branch leads to a label.",
-    },
-    Entry {
-        number: 47,
-        name: "Later(name)",
-        meaning: "an assembler text has an instruction that this machine is to have later: `multianewarray`",
-        example: "47 Later(multianewarray) for `multianewarray [[I 2`.",
-        advice: "Make the outer array by `anewarray` first, and then each inner one.",
     },
 ];
 

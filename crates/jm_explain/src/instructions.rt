@@ -6,7 +6,7 @@ ghost use Rattle.jm_explain.specs.Table.{instructions};
 
 use crate::entry::Entry;
 
-static INSTRUCTIONS: [Entry; 7] = [
+static INSTRUCTIONS: [Entry; 6] = [
     Entry {
         number: 10,
         name: "BadOpcode(at)",
@@ -48,13 +48,6 @@ static INSTRUCTIONS: [Entry; 7] = [
         meaning: "a method has more than 65535 bytes of code",
         example: "A text with 70000 times `nop` in one method.",
         advice: "Divide the method into several.",
-    },
-    Entry {
-        number: 16,
-        name: "Later(name)",
-        meaning: "the code has an instruction that this machine is to have later: `multianewarray`",
-        example: "16 Later(multianewarray) for `new int[2][3]`.",
-        advice: "Make the outer array first and then each inner one: `int[][] a = new int[2][];` and `a[0] = new int[3];`.",
     },
 ];
 

@@ -138,7 +138,7 @@ full_tried (Ok x) g h roots moved v r m e f = full_left g h roots moved m
 full_tried (Err x) g h roots moved v r m e f = same_left g h roots moved v r (ap content_of e) f
 
 -- an old object is resident
-object_was : (g : Generations) → AreGenerations g → (k : ℕ) → WasOld g k → (x : ObjectOf ClassId) × (object_at (content_of g) k ≡ Some x)
+pub object_was : (g : Generations) → AreGenerations g → (k : ℕ) → WasOld g k → (x : ObjectOf ClassId) × (object_at (content_of g) k ≡ Some x)
 object_was g v k old =
     let lies = (old_lies g (laned g v) old.place old.object old.lies).1 in
     (_, ap (object_at (content_of g)) (sym old.serial) ∙ (shown g v).objects old.place old.object lies)

@@ -27,3 +27,6 @@ pub mod Reading
 pub mod Starting
 pub mod Keeping
 pub mod Refusing
+pub mod Alike
+pub mod Unmaking
+pub mod Several

@@ -50,7 +50,7 @@ none_among : (q : ℕ) (l : List ℕ) → l ≡ [] → Among q l → ⊥
 none_among q l e a = subst (Among q) e a
 
 -- an object without references is the same under serials
-plain_named : (f : ℕ → ℕ) (o : Object) → stack_shape.refs o.values ≡ [] → named f o ≡ bare o
+pub plain_named : (f : ℕ → ℕ) (o : Object) → stack_shape.refs o.values ≡ [] → named f o ≡ bare o
 plain_named f o e =
     let laws = stack_is_shape o.values in
     ap (λ (vs : List Value). record { type = o.class; values = vs }) (laws.agrees f (λ p. p) (λ p a. absurd (none_among p (stack_shape.refs o.values) e a)) ∙ laws.keeps)

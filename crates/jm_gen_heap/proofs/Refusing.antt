@@ -52,7 +52,7 @@ same_blocks lane b (os ∷ bs) (ys ∷ cs) h =
     ap (λ l. placed_in_block lane b 0 l ++ placed_in_blocks lane (suc b) bs) (same_taken 256 os ys (λ k i. h zero k i))
     ∙ ap (λ l. placed_in_block lane b 0 (take 256 ys) ++ l) (same_blocks lane (suc b) bs cs (λ c k i. h (suc c) k i))
 
-same_placed : (s t : Blocks) → s.lane < 64 → t.lane ≡ s.lane → ((p : ℕ) → objects_in t p ≡ objects_in s p) → placed_in_blocks t.lane 0 t.lists ≡ placed_in_blocks s.lane 0 s.lists
+pub same_placed : (s t : Blocks) → s.lane < 64 → t.lane ≡ s.lane → ((p : ℕ) → objects_in t p ≡ objects_in s p) → placed_in_blocks t.lane 0 t.lists ≡ placed_in_blocks s.lane 0 s.lists
 same_placed s t small lane same = ap (λ n. placed_in_blocks n 0 t.lists) lane ∙ same_blocks s.lane 0 t.lists s.lists here
   where
     here : AreSame t.lists s.lists
@@ -67,7 +67,7 @@ unfolding placed_in
 same_end [] s t e = ap (λ l. l ++ []) e
 same_end (x ∷ stores) s t e = ap (λ l. placed_in_blocks x.lane 0 x.lists ++ l) (same_end stores s t e)
 
-same_residents : (f g : ℕ → ℕ) (xs : List Placed) → ((p : ℕ) → f p ≡ g p) → map (resident_of f) xs ≡ map (resident_of g) xs
+pub same_residents : (f g : ℕ → ℕ) (xs : List Placed) → ((p : ℕ) → f p ≡ g p) → map (resident_of f) xs ≡ map (resident_of g) xs
 same_residents f g [] h = refl
 same_residents f g (x ∷ xs) h =
     ap (λ o. record { place = x.place; serial = x.object.serial; object = o } ∷ map (resident_of f) xs) (named_same f g x.object (λ p a. h p))

@@ -104,10 +104,10 @@ module _ (g : Generations) (l : AreLaned g) (p : ℕ) (o : Object) (next n : ℕ
   nursery_here : lying after p ≡ Some o
   nursery_here = lying_young after nursery_laned p nursery_young ∙ read_new p at ∙ w.here
 
-  nursery_others : (q : ℕ) → q ≢ p → lying after q ≡ lying g q
+  pub nursery_others : (q : ℕ) → q ≢ p → lying after q ≡ lying g q
   nursery_others q away = same_lying g after l nursery_laned q (λ y. young_same q away y) (λ k. refl)
 
-  nursery_lay : lying g p ≡ objects_in s p
+  pub nursery_lay : lying g p ≡ objects_in s p
   nursery_lay = lying_young g l p nursery_young ∙ read_old p at
 
 -- an object more in a nursery, at a place of it that was free

@@ -4,6 +4,7 @@ pub mod Copying
 pub mod Held
 pub mod Minor
 pub mod Allocating
+pub mod Several
 pub mod Serials
 pub mod Generations
 pub mod Residents

@@ -1,28 +1,29 @@
 // The generational heap.
 
-ghost use Rattle.std.specs.Prelude.{◌≡◌, ℕ, ◌%◌, ◌+◌, ◌<◌, ◌≤◌, ◌^◌, [], Some, None, IfOk, IfErr, OnOk, OnErr, IfSome, length, slice_get};
+ghost use Rattle.std.specs.Prelude.{◌≡◌, ℕ, ◌%◌, ◌+◌, ◌<◌, ◌≤◌, ◌^◌, [], Some, None, IfOk, IfErr, OnOk, OnErr, IfSome, length, map, slice_get};
 ghost use Rattle.jm_values.specs.declared.value.Value.{Value};
 ghost use Rattle.jm_values.specs.Rename.{rename, refs};
 ghost use Rattle.jm_values.specs.Objects.{ObjectOf, size_by};
-ghost use Rattle.jm_values.specs.Content.{AllResident, HasValue, IsSet, Kept, Made, serial_at, object_at, name_of};
+ghost use Rattle.jm_values.specs.Content.{AllResident, HasValue, IsSet, Kept, Made, MadeAll, serial_at, object_at, name_of};
 ghost use Rattle.jm_heap.specs.Cells.{class_size, resident_cells};
 ghost use Rattle.jm_heap.specs.Elements.{elements, element_kind};
 ghost use Rattle.jm_heap.specs.Holding.{CanHold};
 ghost use Rattle.jm_heap.specs.Packing.{kind_of};
 ghost use Rattle.jm_heap.specs.NewObject.{new_object};
 ghost use Rattle.jm_heap.specs.Residents.{AreResident};
-ghost use Rattle.jm_heap.specs.Allocation.{IsRefused, IsRefusedHere, MadeHereOrNot};
-ghost use Rattle.jm_heap.specs.Collection.{IsAsBefore, IsAsBeforeMaking, LeavesReached};
+ghost use Rattle.jm_heap.specs.Allocation.{AllPlaces, AreRefused, IsRefused, IsRefusedHere, MadeHereOrNot};
+ghost use Rattle.jm_heap.specs.Collection.{AreAsBeforeMaking, IsAsBefore, IsAsBeforeMaking, LeavesReached};
 ghost use Rattle.jm_heap.specs.declared.class_id.ClassId.{ClassId};
 ghost use Rattle.jm_nursery.specs.Nurseries.{nursery_at};
 ghost use Rattle.jm_gen_heap.specs.Residents.{content_of};
 ghost use Rattle.jm_gen_heap.specs.Invariant.{AreGenerations};
 ghost use Rattle.jm_gen_heap.specs.Allocating.{AllSurvived, Fits, HasAged, HasMadeRoom, HasNoRoom, HasSurvived, IsAllocated, Leaves, OldStay, PutBehind, PutHere};
+ghost use Rattle.jm_gen_heap.specs.Several.{AreAllocated, IsReady, all_sizes};
 ghost use Rattle.jm_gen_heap.specs.Steps.{IsWritten};
 
 use crate::generations::Generations;
 use jm_copy::Collector;
-use jm_heap::{ClassId, Elements, Heap, HeapFault, Kind, Roots, Shape};
+use jm_heap::{ClassId, Elements, Heap, HeapFault, Kind, Roots, Shape, cells_of_all};
 use jm_values::{Place, Value};
 use std::alloc::{AllocError, Global};
 use std::marker::Model;
@@ -176,6 +177,61 @@ impl<C: Collector> GenHeap<C> {
         }
     }
 
+    // Collects where so many cells do not fit beside all objects, or not within the quota beside the young
+    // ones.
+    fn make_ready(&mut self, roots: &mut Roots, cells: u64) -> Result<(), HeapFault>
+        requires resident { AllResident (content_of self.old) roots.old }
+        requires small { cells < 2 ^ 63 }
+        ensures kept { Kept (content_of self.old) roots.old (content_of self.new) roots.new }
+        ensures next { (content_of self.new).next ≡ (content_of self.old).next }
+        ensures as_before { IsAsBefore (content_of self.old) (content_of self.new) }
+        ensures stays { OldStay self.old self.new cells }
+        ensures ready { OnOk result (IsReady self.old self.new roots.old roots.new cells) }
+        ensures ok { OnOk result (Fits self.new cells) }
+        ensures were { AreGenerations self.old }
+        ensures err { IfErr result (HasNoRoom (content_of self.old) roots.old cells) }
+    {
+        if self.generations.fits(cells) && self.generations.is_within_quota(cells) {
+            return Ok(());
+        }
+        self.make_room(roots, cells)
+    }
+
+    /// Makes objects with default values in the nursery of a number modulo 16, all or none, in the order
+    /// of their shapes, and answers their places; they have survived no collection. A collection comes
+    /// first where it would for one object of as many cells (`allocate`), and no shapes answer no places.
+    /// What the roots reach stays as it is, after a refusal too, and every old object where the cells fit
+    /// beside all.
+    ///
+    /// HeapFull comes exactly where the cells of what the roots reach and those of all objects pass the
+    /// limit, SerialsEnd where they do not and there would be more than 2^63 objects, and OutOfMemory
+    /// where a growth is refused: no object is made then.
+    pub fn allocate_all(
+        &mut self,
+        nursery: usize,
+        roots: &mut Roots,
+        shapes: &[Shape<'_>],
+    ) -> Result<Vec<Place>, HeapFault>
+        requires { AllResident (content_of self.old) roots.old }
+        ensures ok { IfOk result (λ places. MadeAll class_size (content_of self.old) roots.old (content_of self.new) roots.new places.items (map new_object shapes.now)) }
+        ensures made { IfOk result (λ places. AreAllocated self.old self.new roots.old roots.new places.items (nursery % 16) (map new_object shapes.now)) }
+        ensures nursery { IfOk result (λ places. AllPlaces (λ place. nursery_at place ≡ Some (nursery % 16)) places.items) }
+        ensures fresh { IfOk result (λ places. AllPlaces (λ place. HasSurvived self.new place 0) places.items) }
+        ensures kept { OnErr result (Kept (content_of self.old) roots.old (content_of self.new) roots.new) }
+        ensures next { OnErr result ((content_of self.new).next ≡ (content_of self.old).next) }
+        ensures as_before { AreAsBeforeMaking (content_of self.old) (content_of self.new) }
+        ensures stays { OldStay self.old self.new (all_sizes (map new_object shapes.now)) }
+        ensures err { IfErr result (AreRefused (content_of self.old) roots.old (map new_object shapes.now)) }
+    {
+        let _used = self.generations.used();
+        let limit = self.generations.limit();
+        let Some(cells) = cells_of_all(shapes, limit as u32) else {
+            return Err(HeapFault::HeapFull);
+        };
+        self.make_ready(roots, cells)?;
+        self.generations.make_all(nursery, shapes)
+    }
+
     /// Gives up objects that the roots do not reach: with `Full` all of them, with `Minor` the young
     /// ones that no remembered old object reaches either. Where a growth is refused, nothing has
     /// changed.
@@ -222,7 +278,8 @@ impl<C: Collector> GenHeap<C> {
         self.generations.get(place, index)
     }
 
-    /// Changes one value of the object at a place. Where a growth is refused, nothing has changed.
+    /// Changes one value of the object at a place. Where a growth is refused, nothing has changed; at a
+    /// place in a nursery none is.
     #[inline(always)]
     pub fn set(&mut self, place: Place, index: u32, value: Value) -> Result<(), AllocError>
         requires there { (v : Value) × HasValue (content_of self.old) place index v }
@@ -231,6 +288,7 @@ impl<C: Collector> GenHeap<C> {
         ensures ok { OnOk result (IsSet (content_of self.old) (content_of self.new) place index value) }
         ensures exact { OnOk result (IsWritten self.old self.new place index value) }
         ensures err { OnErr result (self.new ≡ self.old) }
+        ensures young { OnErr result ((n : ℕ) × (nursery_at place ≡ Some n) → ⊥) }
     {
         let _cells = self.generations.used();
         self.generations.set(place, index, value)
@@ -305,6 +363,9 @@ impl<C: Collector> Heap for GenHeap<C> {
 
     ghost survived = { λ h place count. HasSurvived h place count };
 
+    // a young object is changed in place, and nothing is noted of it
+    ghost free = { λ h place. (n : ℕ) × (nursery_at place ≡ Some n) };
+
     ghost leaves = { λ kind g h roots moved. Leaves kind g h roots moved };
 
     #[inline]
@@ -324,6 +385,15 @@ impl<C: Collector> Heap for GenHeap<C> {
         shape: Shape<'_>,
     ) -> Result<Option<Place>, HeapFault> {
         GenHeap::allocate_here(self, nursery, shape)
+    }
+
+    fn allocate_all(
+        &mut self,
+        nursery: usize,
+        roots: &mut Roots,
+        shapes: &[Shape<'_>],
+    ) -> Result<Vec<Place>, HeapFault> {
+        GenHeap::allocate_all(self, nursery, roots, shapes)
     }
 
     #[inline(always)]

@@ -1,19 +1,20 @@
 // The young and the old objects of a heap.
 
 ghost use Rattle.std.specs.Prelude.{◌≡◌, ℕ, ◌+◌, ◌%◌, ◌/◌, ◌<◌, ◌≤◌, ◌^◌, ◌++◌, [], Some, true, false};
-ghost use Rattle.std.specs.Prelude.{IfOk, IfErr, OnOk, OnErr, length, take, nat_le};
+ghost use Rattle.std.specs.Prelude.{IfOk, IfErr, OnOk, OnErr, IsTrue, IsFalse, length, map, take, nat_le, vec_capacity};
 ghost use Rattle.jm_values.specs.Rename.{refs, rename};
 ghost use Rattle.jm_values.specs.Reach.{AllDistinct};
 ghost use Rattle.jm_values.specs.Content.{AllResident, IsSet, name_of, serial_at};
 ghost use Rattle.jm_values.specs.Content.{HasValue as HasContent};
 ghost use Rattle.jm_values.specs.declared.value.Value.{Value};
 ghost use Rattle.jm_heap.specs.Cells.{class_size, resident_cells};
-ghost use Rattle.jm_heap.specs.Allocation.{MadeHere, IsRefusedHere};
+ghost use Rattle.jm_heap.specs.Allocation.{AreRefusedHere, MadeHere, IsRefusedHere};
 ghost use Rattle.jm_heap.specs.NewObject.{new_object};
 ghost use Rattle.jm_values.specs.Objects.{size_by};
 ghost use Rattle.jm_heap.specs.Elements.{elements, element_kind};
 ghost use Rattle.jm_heap.specs.Packing.{Fits, kind_of};
 ghost use Rattle.jm_blocks.specs.Objects.{Object, object_of};
+ghost use Rattle.jm_blocks.specs.Places.{lane_of};
 ghost use Rattle.jm_blocks.specs.Stores.{HasValue, objects_in};
 ghost use Rattle.jm_nursery.specs.Nurseries.{AreNurseries, IsMade, young_cells};
 ghost use Rattle.jm_gen_heap.specs.Generations.{lying, all_cells, old_lane, stores_of};
@@ -25,6 +26,7 @@ ghost use Rattle.jm_barrier.specs.Remembered.{noted};
 ghost use Rattle.jm_gen_heap.specs.Pointers.{IsSettled, StillPoint, names_young};
 ghost use Rattle.jm_gen_heap.specs.Held.{IsPutNew, IsSetOld};
 ghost use Rattle.jm_gen_heap.specs.Minor.{LeavesMinor};
+ghost use Rattle.jm_gen_heap.specs.Several.{AreAllPut, AreBackBefore, AreFirstPut, EndsInPut, EndsInPuts, IsAbove, IsAlike, IsBackBefore, all_sizes};
 ghost use Rattle.jm_gen_heap.specs.Serials.{all_serials, block_serials, store_serials};
 
 use crate::cells::store_cells;
@@ -257,6 +259,7 @@ impl Generations {
         ensures ok { OnOk result (IsWritten self.old self.new place index value) }
         ensures set { OnOk result (IsSet (content_of self.old) (content_of self.new) place index value) }
         ensures err { OnErr result (self.new ≡ self.old) }
+        ensures old { OnErr result (lane_of place ≡ old_lane) }
     {
         let position = Position::of(place);
         if position.lane == OLD_LANE {
@@ -317,6 +320,7 @@ impl Generations {
         requires { all_cells self.old + size_by class_size (new_object shape) ≤ self.old.limit }
         ensures ok { IfOk result (λ p. IsPutNew self.old self.new p (nursery % 16) (new_object shape.entry)) }
         ensures made { IfOk result (λ p. MadeHere (content_of self.old) (content_of self.new) p (new_object shape.entry)) }
+        ensures above { IfOk result (λ p. IsAbove self.old p (nursery % 16)) }
         ensures keeps { AreGenerations self.new }
         ensures same { OnErr result (self.new ≡ self.old) }
         ensures err { IfErr result (IsRefusedHere (content_of self.old) (new_object shape.entry)) }
@@ -328,6 +332,86 @@ impl Generations {
         let place = put_new(self.alloc, &mut self.young, nursery, header, shape)?;
         self.next += 1;
         Ok(place)
+    }
+
+    // Gives up the object that was made last, in a nursery.
+    fn unmake(&mut self, nursery: usize)
+        requires { EndsInPut self.old (nursery % 16) }
+        ensures { IsBackBefore self.old self.new (nursery % 16) }
+    {
+        self.young.pop(nursery);
+        self.next -= 1;
+    }
+
+    // Gives up so many objects that were made last, in a nursery.
+    fn unmake_all(&mut self, nursery: usize, count: usize)
+        requires { EndsInPuts self.old (nursery % 16) count }
+        ensures { AreBackBefore self.old self.new (nursery % 16) count }
+    {
+        for _ in 0..count {
+            self.unmake(nursery);
+        }
+    }
+
+    // Makes objects in a nursery, one after the other, until all are made or one is refused.
+    fn make_each(
+        &mut self,
+        nursery: usize,
+        shapes: &[Shape<'_>],
+        places: &mut Vec<Place>,
+    ) -> Result<(), HeapFault>
+        requires none { places.old.items ≡ [] }
+        requires reserved { length shapes.now ≤ vec_capacity places.old }
+        requires fits { all_cells self.old + all_sizes (map new_object shapes.now) ≤ self.old.limit }
+        ensures put { AreFirstPut self.old places.new.items (nursery % 16) (map new_object shapes.now) (length places.new.items) self.new }
+        ensures ok { OnOk result (length places.new.items ≡ length shapes.now) }
+        ensures keeps { AreGenerations self.old }
+        ensures err { IfErr result (AreRefusedHere (content_of self.old) (map new_object shapes.now)) }
+    {
+        let _cells = self.used();
+        for number in 0..shapes.len() {
+            match self.make(nursery, shapes[number]) {
+                Ok(place) => places.push_reserved(place),
+                Err(fault) => return Err(fault),
+            }
+        }
+        Ok(())
+    }
+
+    // Whether there are serials for so many objects more.
+    fn has_serials(&self, count: usize) -> bool
+        ensures yes { IsTrue result → self.now.next + count ≤ 2 ^ 63 }
+        ensures no { IsFalse result → 2 ^ 63 < self.now.next + count }
+    {
+        self.next <= MAX_SERIALS && count as u64 <= MAX_SERIALS - self.next
+    }
+
+    /// Makes objects in a nursery, all or none, in the order of their shapes, which fit beside all
+    /// objects. The list of their places is reserved first; where a growth is refused, those that were
+    /// made are given up, the last one first.
+    pub fn make_all(
+        &mut self,
+        nursery: usize,
+        shapes: &[Shape<'_>],
+    ) -> Result<Vec<Place>, HeapFault>
+        requires { all_cells self.old + all_sizes (map new_object shapes.now) ≤ self.old.limit }
+        ensures ok { IfOk result (λ places. AreAllPut self.old self.new places.items (nursery % 16) (map new_object shapes.now)) }
+        ensures none { OnErr result (IsAlike self.old self.new) }
+        ensures keeps { AreGenerations self.old }
+        ensures err { IfErr result (AreRefusedHere (content_of self.old) (map new_object shapes.now)) }
+    {
+        let _cells = self.used();
+        if !self.has_serials(shapes.len()) {
+            return Err(HeapFault::SerialsEnd);
+        }
+        let mut places = Vec::with_capacity(self.alloc, shapes.len())?;
+        match self.make_each(nursery, shapes, &mut places) {
+            Ok(()) => Ok(places),
+            Err(fault) => {
+                self.unmake_all(nursery, places.len());
+                Err(fault)
+            }
+        }
     }
 
     /// Gives up young objects that the roots and the old objects do not reach. Where a growth is

@@ -11,7 +11,12 @@ pub mod CellLemmas
 pub mod NewLemmas
 pub mod MakingLemmas
 pub mod AllocatingLemmas
+pub mod ShapesLemmas
+pub mod MakingAllLemmas
+pub mod MakingOneLaws
 pub mod ResidentLemmas
 pub mod NewPlaces
 pub mod Counting
+pub mod Naming
+pub mod MadeArrays
 pub mod Plain

@@ -2,12 +2,12 @@
 use Rattle.std.proofs.Common.{◌≡◌, ◌≢◌, ℕ, zero, suc, ◌+◌, ◌<◌, ◌^◌, List, [], ◌∷◌, ◌++◌, Option, Some, None, refl, sym, ap, ◌∙◌, subst, length, arith, get_or}
 use Rattle.std.specs.Prelude.{slice_get, slice_set, slice_index_or}
 use Rattle.std.proofs.lemmas.List.Sums.{sum_by-set, sum_by_push}
-use Rattle.std.proofs.lemmas.List.{length-set}
+use Rattle.std.proofs.lemmas.List.{append_assoc, length-set}
 use Rattle.std.proofs.lemmas.Option.{get_or_from_slice_get, slice_get_within, slice_get-get_or}
 use Rattle.jm_values.specs.declared.value.Value.{Value}
 use Rattle.jm_heap.specs.Cells.{class_size}
 use Rattle.jm_heap.specs.Slots.{object_in, object_of, object_cells, slot_cells, slots_cells, set_value, with_value, Object, Slot}
-use Rattle.jm_heap.specs.Stored.{Written, Stored}
+use Rattle.jm_heap.specs.Stored.{AreTaken, Stored, StoredAll, Written}
 
 pub get_set_same : {X : Type 0} (xs : List X) (i : ℕ) (x : X) → i < length xs → slice_get (slice_set xs i x) i ≡ Some x
 get_set_same [] i x h = absurd (omega arith)
@@ -114,3 +114,19 @@ stored_at_end slots p o e few =
     longer : (xs : List Slot) → length (xs ++ Some o ∷ []) ≡ suc (length xs)
     longer [] = refl
     longer (x ∷ xs) = ap suc (longer xs)
+
+-- the first of slots in which objects lie, and the rest
+pub is_taken : (s : Slot) (slots : List Slot) → AreTaken (s ∷ slots) → (a : Object) × (s ≡ Some a)
+is_taken None slots h = absurd h
+is_taken (Some a) slots h = (a, refl)
+
+pub rest_taken : (s : Slot) (slots : List Slot) → AreTaken (s ∷ slots) → AreTaken slots
+rest_taken None slots h = absurd h
+rest_taken (Some a) slots h = h
+
+-- what is still to be stored, after one more
+pub stored_one_more : (first now then last : List Slot) (places places_then : List ℕ) (ps : List ℕ) (p : ℕ) (a : Object) (s : Slot) (rest all : List Slot) → s ≡ Some a → Stored now then p a → places_then ≡ places ++ p ∷ [] → ((after : List Slot) (qs : List ℕ) → StoredAll now after qs (s ∷ rest) → StoredAll first after (places ++ qs) all) → StoredAll then last ps rest → StoredAll first last (places_then ++ ps) all
+stored_one_more first now then last places places_then ps p a s rest all e one more so_far later =
+    let whole : StoredAll now last (p ∷ ps) (s ∷ rest) = subst (λ t. StoredAll now last (p ∷ ps) (t ∷ rest)) (sym e) (then, one, later) in
+    let list : places ++ p ∷ ps ≡ places_then ++ ps = sym (ap (λ l. l ++ ps) more ∙ append_assoc places (p ∷ []) ps) in
+    subst (λ l. StoredAll first last l all) list (so_far last (p ∷ ps) whole)

@@ -1,5 +1,6 @@
 -- The object that is made of a shape (JVMS 2.3, 2.4).
-use Rattle.std.specs.Prelude.{ℕ, zero, suc, map}
+use Rattle.std.specs.Prelude.{ℕ, zero, suc, ◌<◌, ◌^◌, List, length, map}
+use Rattle.std.specs.List.{All}
 use Rattle.jm_program.specs.declared.descriptor.BaseType.TheVariants as base
 use Rattle.jm_program.specs.declared.instruction.operation.OperandType.{OperandType}
 use Rattle.jm_program.specs.declared.instruction.operation.OperandType.TheVariants as operand
@@ -29,3 +30,7 @@ operand_of_component c = operand_under c.dimensions c.element
 unfoldable pub new_object : Shape → ObjectOf ClassId
 new_object (Instance class fields) = record { type = kind.Instance class; values = map default_of fields.now }
 new_object (Array component count) = record { type = kind.Array component; values = copies count (default_of (operand_of_component component)) }
+
+-- each has fewer than 2^32 values
+abbrev pub AreShort : List (ObjectOf ClassId) → Type 0
+AreShort os = All (λ o. length o.values < 2 ^ 32) os

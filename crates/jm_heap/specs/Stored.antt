@@ -1,5 +1,5 @@
 -- What the calls on slots leave.
-use Rattle.std.specs.Prelude.{◌≡◌, ◌≢◌, ℕ, ◌+◌, ◌<◌, ◌≤◌, ◌^◌, List, length, Some, None, Bool, true, false, slice_set}
+use Rattle.std.specs.Prelude.{◌≡◌, ◌≢◌, ℕ, ◌+◌, ◌<◌, ◌≤◌, ◌^◌, List, [], ◌∷◌, length, Some, None, Bool, true, false, slice_set}
 use Rattle.jm_values.specs.declared.value.Value.{Value}
 use Rattle.jm_values.specs.Objects.{ObjectOf}
 use Rattle.jm_heap.specs.Slots.{object_in, object_cells, slots_cells, is_marked, Object, Slot}
@@ -29,6 +29,23 @@ pub record Stored (old new : List Slot) (p : ℕ) (o : Object) : Type 0 where
   pub others : (q : ℕ) → q ≢ p → object_in new q ≡ object_in old q
   pub cells : slots_cells new ≡ slots_cells old + object_cells o
   pub few : length new < 2 ^ 63
+
+-- new objects with the numbers that follow one, as they lie in slots
+abbrev pub numbered_from : ℕ → List (ObjectOf ClassId) → List Slot
+numbered_from serial [] = []
+numbered_from serial (o ∷ os) = Some (numbered serial o) ∷ numbered_from (serial + 1) os
+
+-- an object lies in each slot
+abbrev pub AreTaken : List Slot → Type 0
+AreTaken [] = Unit {0}
+AreTaken (None ∷ slots) = ⊥
+AreTaken (Some o ∷ slots) = AreTaken slots
+
+-- what lies in a list of slots has come to places, one after another
+abbrev pub StoredAll : List Slot → List Slot → List ℕ → List Slot → Type 0
+StoredAll old new [] [] = new ≡ old
+StoredAll old new (p ∷ ps) (Some o ∷ slots) = (mid : List Slot) × Stored old mid p o × StoredAll mid new ps slots
+StoredAll old new ps slots = ⊥
 
 -- what is not marked is gone
 pub record Swept (old new : List Slot) (marks : List Bool) (left : ℕ) : Type 0 where

@@ -1,18 +1,18 @@
 // What a heap promises.
 
-ghost use Rattle.std.specs.Prelude.{◌≡◌, ℕ, ◌<◌, ◌≤◌, ◌^◌, List, IfOk, OnOk, OnErr, IfErr, IfSome, Some, length, slice_get};
+ghost use Rattle.std.specs.Prelude.{◌≡◌, ℕ, ◌<◌, ◌≤◌, ◌^◌, List, IfOk, OnOk, OnErr, IfErr, IfSome, Some, length, map, slice_get};
 ghost use Rattle.jm_values.specs.Rename.{rename, refs};
 ghost use Rattle.jm_values.specs.declared.value.Value.{Value};
 ghost use Rattle.jm_values.specs.Objects.{ObjectOf};
-ghost use Rattle.jm_values.specs.Content.{Content, IsSound, AllResident, Kept, Made, HasValue, IsSet, serial_at, object_at, name_of};
+ghost use Rattle.jm_values.specs.Content.{Content, IsSound, AllResident, Kept, Made, MadeAll, HasValue, IsSet, serial_at, object_at, name_of};
 ghost use Rattle.jm_heap.specs.Cells.{class_size, resident_cells};
 ghost use Rattle.jm_heap.specs.Elements.{elements, element_kind, LieAs};
 ghost use Rattle.jm_heap.specs.Holding.{CanHold};
 ghost use Rattle.jm_heap.specs.Packing.{kind_of};
 ghost use Rattle.jm_heap.specs.NewObject.{new_object};
 ghost use Rattle.jm_heap.specs.Residents.{AreResident};
-ghost use Rattle.jm_heap.specs.Allocation.{IsRefused, IsRefusedHere, MadeHereOrNot};
-ghost use Rattle.jm_heap.specs.Collection.{IsAsBefore, IsAsBeforeMaking, LeavesReached};
+ghost use Rattle.jm_heap.specs.Allocation.{AllPlaces, AreRefused, IsRefused, IsRefusedHere, MadeHereOrNot};
+ghost use Rattle.jm_heap.specs.Collection.{AreAsBeforeMaking, IsAsBefore, IsAsBeforeMaking, LeavesReached};
 ghost use Rattle.jm_heap.specs.declared.class_id.ClassId.{ClassId};
 ghost use Rattle.jm_heap.specs.declared.heap.Kind.{Kind};
 
@@ -51,6 +51,9 @@ pub trait Heap {
 
     // whether the object at a place has survived so many collections
     ghost survived: { Self → ℕ → ℕ → Type 0 };
+
+    // whether a value of the object at a place is changed without a growth
+    ghost free: { Self → ℕ → Type 0 };
 
     // what a collection of a kind makes of a heap, and of the roots that it was given
     ghost leaves: { Kind → Self → Self → List ℕ → List ℕ → Type 0 };
@@ -95,6 +98,31 @@ pub trait Heap {
         ensures same { OnErr result (content self.new ≡ content self.old) }
         ensures err { IfErr result (IsRefusedHere (content self.old) (new_object shape.entry)) };
 
+    /// Makes objects with default values, all or none, in the order of their shapes, in the nursery of a
+    /// number, and answers their places; `allocate` is the case of one shape, and no shapes answer no
+    /// places. It may collect first, as `allocate` does, and what is reached stays as it is. A `set` on
+    /// a place that it answers takes no memory until objects are made again or the heap is collected.
+    ///
+    /// HeapFull comes exactly where the cells of what the roots reach and those of all objects pass the
+    /// limit, SerialsEnd where they do not and there would be more than 2^63 objects, and OutOfMemory
+    /// where a growth is refused: no object is made then.
+    fn allocate_all(
+        &mut self,
+        nursery: usize,
+        roots: &mut Roots,
+        shapes: &[Shape<'_>],
+    ) -> Result<Vec<Place>, HeapFault>
+        requires sound { IsSound (content self.old) }
+        requires resident { AllResident (content self.old) roots.old }
+        ensures ok { IfOk result (λ places. MadeAll class_size (content self.old) roots.old (content self.new) roots.new places.items (map new_object shapes.now)) }
+        ensures nursery { IfOk result (λ places. AllPlaces (λ place. nursery_of place nursery) places.items) }
+        ensures fresh { IfOk result (λ places. AllPlaces (λ place. survived self.new place 0) places.items) }
+        ensures free { IfOk result (λ places. AllPlaces (free self.new) places.items) }
+        ensures kept { OnErr result (Kept (content self.old) roots.old (content self.new) roots.new) }
+        ensures next { OnErr result ((content self.new).next ≡ (content self.old).next) }
+        ensures as_before { AreAsBeforeMaking (content self.old) (content self.new) }
+        ensures err { IfErr result (AreRefused (content self.old) roots.old (map new_object shapes.now)) };
+
     /// The class or array type of the object at a place, and its values, which are fewer than 2^32: the
     /// fields of an instance, in the order of its shape, or the elements of an array. It takes no
     /// memory.
@@ -115,14 +143,17 @@ pub trait Heap {
         ensures resident { AllResident (content self.now) (refs result) };
 
     /// Changes one value of the object at a place, to one that an object of its type holds. Where a
-    /// growth is refused, nothing has changed.
+    /// growth is refused, nothing has changed; at a place that `allocate_all` answered none is, until
+    /// objects are made again or the heap is collected.
     fn set(&mut self, place: Place, index: u32, value: Value) -> Result<(), AllocError>
         requires sound { IsSound (content self.old) }
         requires there { (v : Value) × HasValue (content self.old) place index v }
         requires resident { AllResident (content self.old) (refs value) }
         requires fits { CanHold (content self.old) place value }
         ensures ok { OnOk result (IsSet (content self.old) (content self.new) place index value) }
-        ensures err { OnErr result (content self.new ≡ content self.old) };
+        ensures err { OnErr result (content self.new ≡ content self.old) }
+        ensures free { OnErr result (free self.old place → ⊥) }
+        ensures stays { (p : ℕ) → free self.old p → free self.new p };
 
     /// How many values the object at a place has. It takes no memory.
     fn length(&self, place: Place) -> u32

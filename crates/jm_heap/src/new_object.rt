@@ -1,10 +1,10 @@
 // The object that is made of a shape.
 
-ghost use Rattle.std.specs.Prelude.{◌≡◌, IfOk, Some, map, replicate};
+ghost use Rattle.std.specs.Prelude.{◌≡◌, ◌+◌, ◌<◌, ◌^◌, IfOk, Some, length, map, replicate};
 ghost use Rattle.jm_values.specs.Objects.{default_of};
 ghost use Rattle.jm_heap.specs.NewObject.{new_object, operand_of_component};
 ghost use Rattle.jm_heap.specs.Layout.{all_values};
-ghost use Rattle.jm_heap.specs.Stored.{numbered};
+ghost use Rattle.jm_heap.specs.Stored.{numbered, numbered_from};
 
 use crate::class_id::{Component, Element};
 use crate::shape::Shape;
@@ -88,4 +88,18 @@ pub fn make(alloc: Global, serial: u64, shape: Shape<'_>) -> Result<Slot, AllocE
 {
     let values = values_of(alloc, shape)?;
     Ok(Slot::taken(serial, shape.class(), values))
+}
+
+/// Slots with the objects, with the numbers that follow one.
+pub fn make_all(alloc: Global, first: u64, shapes: &[Shape<'_>]) -> Result<Vec<Slot>, AllocError>
+    requires { first + length shapes.now < 2 ^ 64 }
+    ensures { IfOk result (λ slots. slots.items ≡ numbered_from first (map new_object shapes.now)) }
+{
+    let mut slots = Vec::with_capacity(alloc, shapes.len())?;
+    let mut serial = first;
+    for shape in shapes {
+        slots.push(make(alloc, serial, *shape)?)?;
+        serial += 1;
+    }
+    Ok(slots)
 }

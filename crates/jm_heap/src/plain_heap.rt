@@ -1,15 +1,15 @@
 // The heap that never moves an object.
 
-ghost use Rattle.std.specs.Prelude.{[], OnOk, OnErr, IfOk, IfErr, ◌≡◌, ◌≤◌, ◌<◌, ◌^◌, ℕ, List, Some, None, length, slice_get};
+ghost use Rattle.std.specs.Prelude.{[], OnOk, OnErr, IfOk, IfErr, ◌≡◌, ◌+◌, ◌≤◌, ◌<◌, ◌^◌, ℕ, List, Some, None, length, map, sum_by, slice_get};
 ghost use Rattle.jm_values.specs.declared.value.Value.{Value};
 ghost use Rattle.jm_values.specs.Rename.{rename, refs};
 ghost use Rattle.jm_heap.specs.Cells.{class_size, resident_cells};
-ghost use Rattle.jm_heap.specs.NewObject.{new_object};
-ghost use Rattle.jm_heap.specs.Allocation.{HasRoom, NoneIsNoRoom, IsRefused, IsRefusedHere, MadeHereOrNot};
+ghost use Rattle.jm_heap.specs.NewObject.{new_object, AreShort};
+ghost use Rattle.jm_heap.specs.Allocation.{AllMadeHere, AreRefused, AreRefusedHere, HasRoom, NoneIsNoRoom, IsRefused, IsRefusedHere, MadeHereOrNot, RoomIsRefused};
 ghost use Rattle.jm_heap.specs.Residents.{AreResident};
-ghost use Rattle.jm_heap.specs.Collection.{Collected, IsAsBefore, IsAsBeforeMaking, IsUnmoved, LeavesReached, LeavesUnmoved};
-ghost use Rattle.jm_values.specs.Objects.{ObjectOf};
-ghost use Rattle.jm_values.specs.Content.{Content, HasValue, IsSet, IsSound, Kept, Made, AllResident, used_by, serial_at, object_at, name_of};
+ghost use Rattle.jm_heap.specs.Collection.{AreAsBeforeMaking, Collected, IsAsBefore, IsAsBeforeMaking, IsTidied, IsUnmoved, LeavesReached, LeavesUnmoved};
+ghost use Rattle.jm_values.specs.Objects.{ObjectOf, size_by};
+ghost use Rattle.jm_values.specs.Content.{Content, HasValue, IsSet, IsSound, Kept, Made, MadeAll, AllResident, used_by, serial_at, object_at, name_of};
 ghost use Rattle.jm_heap.specs.declared.class_id.ClassId.{ClassId};
 
 use crate::class_id::ClassId;
@@ -20,9 +20,9 @@ use crate::mark::mark;
 use crate::new_object;
 use crate::resident::serials;
 use crate::roots::Roots;
-use crate::shape::Shape;
+use crate::shape::{Shape, cells_of_all};
 use crate::slot::Slot;
-use crate::slots::{class_at, object_at, serial_at, store, values_at, write};
+use crate::slots::{class_at, object_at, serial_at, store, store_all, values_at, write};
 use crate::sweep::sweep;
 use jm_values::{Place, Value};
 use std::alloc::{AllocError, Global};
@@ -211,6 +211,78 @@ impl PlainHeap {
         }
     }
 
+    /// Makes objects with default values, all or none, in the order of their shapes, and answers their
+    /// places. It collects first where they would not fit otherwise; what the roots reach stays as it
+    /// is, after a refusal too.
+    ///
+    /// HeapFull comes exactly where the cells of what the roots reach and those of the objects pass the
+    /// limit, SerialsEnd where they do not and there would be more than 2^63 objects, and OutOfMemory
+    /// where a growth is refused. Nothing that the roots reach moves.
+    pub fn allocate_all(
+        &mut self,
+        _nursery: usize,
+        roots: &mut Roots,
+        shapes: &[Shape<'_>],
+    ) -> Result<Vec<Place>, HeapFault>
+        requires sound { IsSound self.old }
+        requires resident { AllResident self.old roots.old }
+        ensures ok { IfOk result (λ places. MadeAll class_size self.old roots.old self.new roots.new places.items (map new_object shapes.now)) }
+        ensures kept { OnErr result (Kept self.old roots.old self.new roots.new) }
+        ensures next { OnErr result (self.new.next ≡ self.old.next) }
+        ensures as_before { AreAsBeforeMaking self.old self.new }
+        ensures err { IfErr result (AreRefused self.old roots.old (map new_object shapes.now)) }
+        ensures unmoved { IsUnmoved self.old roots.old self.new }
+        ensures roots { roots.new ≡ roots.old }
+    {
+        let Some(cells) = cells_of_all(shapes, self.limit) else {
+            return Err(HeapFault::HeapFull);
+        };
+        self.make_room(cells, roots.as_slice())?;
+        self.allocate_all_here(cells, shapes)
+    }
+
+    // Collects all where so many cells do not fit beside the residents. HeapFull: nor do they then.
+    fn make_room(&mut self, cells: u64, roots: &[Place]) -> Result<(), HeapFault>
+        requires sound { IsSound self.old }
+        requires resident { AllResident self.old roots.now }
+        ensures room { OnOk result (resident_cells self.new + cells ≤ self.new.limit) }
+        ensures tidied { IsTidied self.old roots.now self.new }
+        ensures err { IfErr result (RoomIsRefused self.old roots.now cells) }
+    {
+        if cells <= self.limit as u64 - self.used {
+            return Ok(());
+        }
+        self.collect_all(roots)?;
+        if cells > self.limit as u64 - self.used {
+            return Err(HeapFault::HeapFull);
+        }
+        Ok(())
+    }
+
+    // Makes objects that take so many cells, for which there is room, or none.
+    fn allocate_all_here(
+        &mut self,
+        cells: u64,
+        shapes: &[Shape<'_>],
+    ) -> Result<Vec<Place>, HeapFault>
+        requires cells { cells ≡ sum_by (size_by class_size) (map new_object shapes.now) }
+        requires short { AreShort (map new_object shapes.now) }
+        requires room { resident_cells self.old + cells ≤ self.old.limit }
+        ensures ok { IfOk result (λ places. AllMadeHere self.old self.new places.items (map new_object shapes.now)) }
+        ensures same { OnErr result (self.new ≡ self.old) }
+        ensures err { IfErr result (AreRefusedHere self.old (map new_object shapes.now)) }
+    {
+        let count = shapes.len() as u64;
+        if self.next > MAX_SERIALS - count {
+            return Err(HeapFault::SerialsEnd);
+        }
+        let objects = new_object::make_all(self.alloc, self.next, shapes)?;
+        let places = store_all(self.alloc, &mut self.slots, &mut self.free, objects)?;
+        self.next += count;
+        self.used += cells;
+        Ok(places)
+    }
+
     /// Gives up the objects that the roots do not reach, with `Full`, and none with `Minor`. Where a
     /// growth is refused, nothing has changed. What the roots reach keeps its place.
     pub fn collect(&mut self, roots: &mut Roots, kind: Kind) -> Result<(), AllocError>
@@ -293,6 +365,9 @@ impl Heap for PlainHeap {
 
     ghost survived = { λ h place count. Unit {0} };
 
+    // a value lies in its slot, and is changed there
+    ghost free = { λ h place. Unit {0} };
+
     ghost leaves = { λ kind old new roots moved. LeavesUnmoved kind old new roots moved };
 
     #[inline]
@@ -318,6 +393,15 @@ impl Heap for PlainHeap {
         ensures err { IfErr result (IsRefusedHere self.old (new_object shape.entry)) }
     {
         PlainHeap::allocate_here(self, nursery, shape)
+    }
+
+    fn allocate_all(
+        &mut self,
+        nursery: usize,
+        roots: &mut Roots,
+        shapes: &[Shape<'_>],
+    ) -> Result<Vec<Place>, HeapFault> {
+        PlainHeap::allocate_all(self, nursery, roots, shapes)
     }
 
     #[inline]

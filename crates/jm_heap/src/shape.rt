@@ -1,9 +1,9 @@
 // What object is to be made.
 
-ghost use Rattle.std.specs.Prelude.{◌≡◌, ◌<◌, ◌^◌, length};
+ghost use Rattle.std.specs.Prelude.{◌≡◌, ◌<◌, ◌≤◌, ◌^◌, length, map, sum_by, MatchOption, IfSome};
 ghost use Rattle.jm_values.specs.Objects.{size_by};
 ghost use Rattle.jm_heap.specs.Cells.{class_size};
-ghost use Rattle.jm_heap.specs.NewObject.{new_object};
+ghost use Rattle.jm_heap.specs.NewObject.{new_object, AreShort};
 ghost use Rattle.jm_heap.specs.declared.class_id.ClassId.TheVariants.{Array};
 
 use crate::class_id::{ClassId, Component};
@@ -57,4 +57,21 @@ impl Shape<'_> {
             Shape::Array { component, length } => array_cells(component, length),
         }
     }
+}
+
+/// The cells that the objects take together, where they do not pass a limit: it stops at the first
+/// object that does. The values of each are then fewer than 2^32.
+pub fn cells_of_all(shapes: &[Shape<'_>], limit: u32) -> Option<u64>
+    ensures cells { let cells = sum_by (size_by class_size) (map new_object shapes.now) in MatchOption result (limit < cells) (λ n. (n ≡ cells) × (n ≤ limit)) }
+    ensures short { IfSome result (λ n. AreShort (map new_object shapes.now)) }
+{
+    let mut cells = 0;
+    for shape in shapes {
+        let more = shape.cells();
+        if more > limit as u64 - cells {
+            return None;
+        }
+        cells += more;
+    }
+    Some(cells)
 }

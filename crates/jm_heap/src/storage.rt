@@ -1,6 +1,6 @@
 // How the values of an object lie in its block.
 
-ghost use Rattle.std.specs.Prelude.{◌≡◌, IsTrue};
+ghost use Rattle.std.specs.Prelude.{◌≡◌, ◌↔◌, IsTrue};
 ghost use Rattle.jm_heap.specs.Packing.{Fits, kind_of, kind_of_base};
 
 use crate::class_id::{ClassId, Element};
@@ -57,7 +57,7 @@ impl Storage {
 
     /// Whether values that lie so can be this one.
     pub fn holds(self, value: &Value) -> bool
-        ensures { IsTrue result → Fits self value.now }
+        ensures { IsTrue result ↔ Fits self value.now }
     {
         match (self, *value) {
             (Storage::Fields, _) => true,

@@ -23,8 +23,10 @@ pub mod DroppedOnTop
 pub mod OnTop
 pub mod MonitorRows
 pub mod MadeOnTop
+pub mod AllOnTop
 pub mod NewPlaces
 pub mod ArrayRows
+pub mod ArraysOfArrays
 pub mod Fitting
 pub mod ArrayStores
 pub mod TypeRows

@@ -17,6 +17,7 @@ pub mod TopObject
 pub mod TypeChecks
 pub mod Storing
 pub mod ArrayRows
+pub mod ArraysOfArrays
 pub mod Readiness
 pub mod FieldRows
 pub mod StaticRows

@@ -28,6 +28,7 @@
 #![tactic(auto)]
 
 mod arrays;
+mod arrays_of_arrays;
 mod at;
 mod athrow;
 mod built_in_methods;

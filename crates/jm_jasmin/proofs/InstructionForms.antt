@@ -1,20 +1,26 @@
 -- The line of an instruction is read as its form says.
-use Rattle.std.proofs.Common.{◌≡◌, ℕ, suc, ◌+◌, List, [], ◌∷◌, length, Option, Some, None, Result, Ok, Err, refl, eq-eqb, position}
-use Rattle.std.specs.Prelude.{ℤ}
+use Rattle.std.proofs.Common.{◌≡◌, ℕ, suc, ◌+◌, List, [], ◌∷◌, length, Option, Some, None, Result, Ok, Err, refl, arith, eq-eqb, position}
+use Rattle.std.specs.Prelude.{ℤ, pos, nat_lt, nat_le, true}
+use Rattle.std.proofs.lemmas.Bool.Decides.{nat_tests}
 use Rattle.jm_bytes.specs.Reading.{and_then, fault_as}
 use Rattle.jm_program.specs.Texts.{utf16_of}
 use Rattle.jm_program.specs.Descriptors.{argument_slots}
+use Rattle.jm_program.specs.Instructions.{has_dimensions}
+use Rattle.jm_program.proofs.DescriptorLaws.{both_true}
+use Rattle.jm_program.specs.declared.reference.ClassRef.{ClassRef}
+use Rattle.jm_program.specs.declared.reference.ClassRef.TheVariants as class_ref_is
 use Rattle.jm_program.specs.declared.reference.MethodRef.{MethodRef}
 use Rattle.jm_program.specs.declared.instruction.operation.InvokeOp.{InvokeOp}
 use Rattle.jm_program.specs.declared.instruction.symbolic.Instr.{Instr}
 use Rattle.jm_class_format.specs.Instructions.{natural}
 use Rattle.jm_class_format.specs.declared.read_fault.ReadFault.{ReadFault}
 use Rattle.jm_class_format.specs.declared.opcode.Opcode.{Opcode}
-use Rattle.jm_class_format.specs.Symbols.{method_ref_of}
+use Rattle.jm_class_format.specs.Symbols.{dimensioned_ref, method_ref_of}
+use Rattle.jm_jasmin_lex.specs.Integers.{integer_of}
 use Rattle.jm_jasmin_lex.specs.Token.{TokenParts}
 use Rattle.jm_jasmin_ops.specs.Faults.{of_read}
 use Rattle.jm_jasmin_ops.specs.Words.{word, label}
-use Rattle.jm_jasmin_ops.specs.Operands.{integer, ranged, natural_within, loaded, loaded_long, element_type, units, class_name, class_ref}
+use Rattle.jm_jasmin_ops.specs.Operands.{integer, ranged, natural_within, loaded, loaded_long, element_type, units, class_name, class_ref, dimensions}
 use Rattle.jm_jasmin_ops.specs.Operands.{field_named, field_typed, method, counted, member, parted_at, method_at, is_parenthesis}
 use Rattle.jm_jasmin_ops.specs.Instruction.{named_instr, operands, instruction_in}
 use Rattle.jm_jasmin_ops.specs.Label.{LabelParts}
@@ -28,7 +34,7 @@ use Rattle.jm_jasmin.specs.InstructionForms.{IsBetween, IsUpTo, Element, Operand
 use Rattle.jm_jasmin.specs.InstructionForms.Element.{boolean, char, byte, short, int, long}
 use Rattle.jm_jasmin.specs.InstructionForms.Operands.{simple, on_array, return, throw, monitor, push_byte, push_short, load_int, load_string}
 use Rattle.jm_jasmin.specs.InstructionForms.Operands.{load_int_wide, load_string_wide, load_long, load, store, increment, field, invoke_method}
-use Rattle.jm_jasmin.specs.InstructionForms.Operands.{invoke_interface, new, new_array, type}
+use Rattle.jm_jasmin.specs.InstructionForms.Operands.{invoke_interface, new, new_array, type, new_arrays}
 use Rattle.jm_jasmin.specs.InstructionForms.InstructionLine.{named, branch, branch_wide}
 use Rattle.jm_jasmin.proofs.WordForms.{token_in, standing}
 
@@ -84,6 +90,21 @@ element_reads text t short number start = refl
 element_reads text t int number start = refl
 element_reads text t long number start = refl
 
+-- what has dimensions has one
+one_dimension : (class : ClassRef) (d : ℕ) → has_dimensions class d ≡ true → dimensioned_ref 1 class ≡ Ok class
+unfolding dimensioned_ref
+one_dimension (class_ref_is.Class name) d h = absurd cc
+one_dimension (class_ref_is.Array t) d h =
+    let p = both_true (nat_lt 0 d) (nat_le d t.dimensions) h in
+    let few = p.0 in
+    let most = p.1 in
+    let one : nat_le 1 t.dimensions ≡ true = grind (arith, nat_tests) in
+    rw one refl
+
+dimensions_is : (class : ClassRef) (d : ℕ) (count : List ℕ) → has_dimensions class d ≡ true → integer_of count ≡ Some (pos d) → (number start : ℕ) → dimensions class (token_in number start (bare count)) ≡ Ok d
+unfolding dimensions integer word natural
+dimensions_is class d count h n number start = rw (n, h) refl
+
 operands_read : (op : Opcode) (ws : Words) (i : Instr) → Operands op ws i → Reads op ws i
 unfolding operands named_instr loaded loaded_long class_name class_ref field_named field_typed counted units word integer
 operands_read op ws i (simple o) number at below = refl
@@ -114,6 +135,7 @@ operands_read op ws i (invoke_interface text count m h k) number at below =
 operands_read op ws i (new text name h) number at below = rw h refl
 operands_read op ws i (new_array text t h) number at below = rw (element_reads text t h number (at 0)) refl
 operands_read op ws i (type o text c class h k) number at below = rw (h, k) refl
+operands_read op ws i (new_arrays text count d class h k n) number at below = rw (h, one_dimension class d k, dimensions_is class d count k n number (at 1)) refl
 
 -- ---- the line
 

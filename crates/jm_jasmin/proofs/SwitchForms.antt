@@ -1,10 +1,9 @@
 -- The lines of a switch are read as their forms say.
-use Rattle.std.proofs.Common.{◌≡◌, ℕ, suc, ◌+◌, ◌-◌, ◌<◌, ◌==◌, Bool, true, false, List, [], ◌∷◌, ◌++◌, length, drop, Option, Some, None, Result, Ok, Err, refl}
-use Rattle.std.proofs.Common.{ap, sym, ◌∙◌, arith, is_some, subst, length-append, append_assoc}
+use Rattle.std.proofs.Common.{◌≡◌, ℕ, suc, ◌+◌, ◌-◌, ◌<◌, ◌==◌, Bool, true, false, List, [], ◌∷◌, ◌++◌, length, drop, Option, Some, None, Result, Ok, refl}
+use Rattle.std.proofs.Common.{ap, ◌∙◌, arith, is_some, subst, length-append, append_assoc}
 use Rattle.std.proofs.lemmas.List.{append-nil}
-use Rattle.std.specs.Prelude.{ℤ, pos, negsuc, ◌+ℤ◌, int_lt, nat_lt, codes, slice_get, if◌then◌else◌}
+use Rattle.std.specs.Prelude.{ℤ, pos, negsuc, ◌+ℤ◌, int_lt, nat_lt, codes, slice_get}
 use Rattle.std.specs.Option.{option_map}
-use Rattle.jm_bytes.specs.Reading.{and_then}
 use Rattle.jm_program.specs.Instructions.{is_above}
 use Rattle.jm_program.specs.Names.{same_text}
 use Rattle.jm_jasmin_lex.specs.Token.{TokenParts}
@@ -24,15 +23,12 @@ use Rattle.jm_jasmin_ops.specs.declared.labelled.LabelledInstr.TheVariants as la
 use Rattle.jm_jasmin_ops.specs.Label.{LabelParts}
 use Rattle.jm_jasmin_ops.specs.Words.{word, label}
 use Rattle.jm_jasmin_ops.specs.Operands.{integer, ranged, signed_int}
-use Rattle.jm_jasmin_ops.specs.Switches.{lines_of, line_number, keyed_row, row_of, with_target, table_step, table_rows, last_key, with_pair, lookup_step, lookup_rows}
+use Rattle.jm_jasmin_ops.specs.Switches.{lines_of, line_number, keyed_row, row_of, table_step, table_rows, last_key, lookup_step, lookup_rows}
 use Rattle.jm_jasmin_ops.specs.declared.labelled.LabelledPair.{LabelledPair}
 use Rattle.jm_jasmin_ops.specs.declared.labelled.LabelledTable.{LabelledTable}
 use Rattle.jm_jasmin_ops.specs.declared.labelled.LabelledLookup.{LabelledLookup}
-use Rattle.jm_jasmin_ops.specs.declared.row.TableStep.{TableStep}
 use Rattle.jm_jasmin_ops.specs.declared.row.TableStep.TheVariants as table_step
-use Rattle.jm_jasmin_ops.specs.declared.row.LookupStep.{LookupStep}
 use Rattle.jm_jasmin_ops.specs.declared.row.LookupStep.TheVariants as lookup_step
-use Rattle.jm_jasmin_ops.specs.declared.row.Row.{Row}
 use Rattle.jm_jasmin_ops.specs.declared.row.Row.TheVariants as row
 use Rattle.jm_jasmin_ops.specs.declared.fault.AsmFault.{AsmFault}
 use Rattle.jm_jasmin_ops.proofs.Lines.{lines_step}

@@ -1,11 +1,11 @@
 -- The lines of an instruction, by its mnemonic and its operands (Jasmin User Guide, "Instructions"; JVMS 6.5): a switch takes several, and
 -- every other one.
 use Rattle.std.specs.Prelude.{◌≡◌, ℕ, ℤ, pos, negsuc, int_le, int_lt, nat_le, nat_lt, suc, ◌+◌, ◌+ℤ◌, ◌&&◌, true, false, List, [], ◌∷◌, ◌++◌, length, Option, Some, None, Ok, codes, position}
-use Rattle.jm_class_format.specs.Symbols.{class_name_of, class_ref_of, field_type_of}
+use Rattle.jm_class_format.specs.Symbols.{class_name_of, class_ref_of, operand_ref, field_type_of}
 use Rattle.jm_class_format.specs.declared.opcode.Opcode.{Opcode}
 use Rattle.jm_class_format.specs.declared.opcode.Opcode.TheVariants as opcode
 use Rattle.jm_program.specs.Descriptors.{argument_slots}
-use Rattle.jm_program.specs.Instructions.{is_above}
+use Rattle.jm_program.specs.Instructions.{has_dimensions, is_above}
 use Rattle.jm_program.specs.Texts.{utf16_of}
 use Rattle.jm_program.specs.declared.constant.Constant.TheVariants as constant
 use Rattle.jm_program.specs.declared.descriptor.FieldType.{FieldType}
@@ -15,13 +15,14 @@ use Rattle.jm_program.specs.declared.instruction.operation.PrimitiveType.{Primit
 use Rattle.jm_program.specs.declared.instruction.operation.PrimitiveType.TheVariants as primitive
 use Rattle.jm_program.specs.declared.instruction.operation.ArrayOp.TheVariants as array
 use Rattle.jm_program.specs.declared.instruction.operation.InvokeOp.TheVariants as invoke
+use Rattle.jm_program.specs.declared.instruction.operation.TypeOp.TheVariants as type_op
 use Rattle.jm_program.specs.declared.instruction.plain.Plain.TheVariants as plain
 use Rattle.jm_program.specs.declared.instruction.symbolic.Instr.{Instr}
 use Rattle.jm_program.specs.declared.instruction.symbolic.Instr.TheVariants as instr
 use Rattle.jm_jasmin_lex.specs.Integers.{integer_of}
 use Rattle.jm_jasmin_lex.specs.Literals.{units_of_literal}
 use Rattle.jm_jasmin_ops.specs.Mnemonics.{opcode_named}
-use Rattle.jm_jasmin_ops.specs.Operands.{element_if, member, field_of, method_at, is_parenthesis}
+use Rattle.jm_jasmin_ops.specs.Operands.{member, field_of, method_at, is_parenthesis}
 use Rattle.jm_jasmin_ops.specs.Profile.{is_real, is_named, is_offset, has_colon}
 use Rattle.jm_jasmin_ops.specs.Label.{LabelParts}
 use Rattle.jm_jasmin_ops.specs.declared.labelled.LabelledPair.{LabelledPair}
@@ -88,8 +89,11 @@ pub data Operands : Opcode → Line → Instr → Type 0 where
       → Operands opcode.InvokeInterface (bare text ∷ bare count ∷ []) (instr.Invoke invoke.Interface m)
   new : (text name : List ℕ) → class_name_of (utf16_of text) ≡ Ok name → Operands opcode.New (bare text ∷ []) (instr.New name)
   new_array : (text : List ℕ) (t : PrimitiveType) → Element text t → Operands opcode.NewArray (bare text ∷ []) (instr.Array (array.New t))
-  type : (op : _) (text : List ℕ) (named class : ClassRef) → class_ref_of (utf16_of text) ≡ Ok named → element_if op named ≡ Ok class
+  type : (op : _) (text : List ℕ) (named class : ClassRef) → class_ref_of (utf16_of text) ≡ Ok named → operand_ref op named ≡ Ok class
       → Operands (opcode.Type op) (bare text ∷ []) (instr.Type op class)
+  -- multianewarray: an array type, and in how many of its dimensions arrays are made
+  new_arrays : (text count : List ℕ) (d : ℕ) (class : ClassRef) → class_ref_of (utf16_of text) ≡ Ok class → has_dimensions class d ≡ true → integer_of count ≡ Some (pos d)
+      → Operands opcode.NewArrays (bare text ∷ bare count ∷ []) (instr.Type (type_op.NewArrays d) class)
 
 -- the target of a branch is a label, by its name
 pub record IsLabelName (text : List ℕ) : Type 0 where

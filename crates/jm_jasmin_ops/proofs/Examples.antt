@@ -19,7 +19,6 @@ use Rattle.jm_program.specs.declared.reference.ClassRef.TheVariants as class_ref
 use Rattle.jm_program.specs.declared.descriptor.BaseType.TheVariants as base
 use Rattle.jm_program.specs.declared.descriptor.ElementType.TheVariants as element
 use Rattle.jm_class_format.specs.declared.opcode.LeftOutOp.TheVariants as left_out
-use Rattle.jm_class_format.specs.declared.opcode.LaterOp.TheVariants as later
 use Rattle.jm_class_format.specs.declared.read_fault.LeftOutPart.TheVariants as part
 use Rattle.jm_jasmin_ops.specs.declared.directive.LeftOutDirective.TheVariants as directive
 use Rattle.jm_jasmin_ops.specs.Label.{LabelParts}
@@ -36,13 +35,13 @@ use Rattle.jm_jasmin_lex.specs.Lines.{line_len, first_line}
 use Rattle.jm_jasmin_lex.specs.Integers.{numeral, integer_of}
 use Rattle.jm_jasmin_lex.specs.Literals.{hexadecimal_value, escaped_unit, part_after, units_at, units_from, units_of_literal}
 use Rattle.jm_class_format.specs.Instructions.{natural}
-use Rattle.jm_class_format.specs.Symbols.{class_name_of, field_name_of, method_name_of, invoked_name_of, descriptor_of, field_only, method_only, left_out_method_type, field_type_of, with_slots, method_type_of, class_ref_of, element_ref, method_ref_of}
+use Rattle.jm_class_format.specs.Symbols.{class_name_of, field_name_of, method_name_of, invoked_name_of, descriptor_of, field_only, method_only, left_out_method_type, field_type_of, with_slots, method_type_of, class_ref_of, element_ref, dimensioned_ref, method_ref_of}
 use Rattle.std.specs.Str.{chars}
 use Rattle.jm_class_format.specs.Mnemonics.{left_out_mnemonic}
 use Rattle.jm_jasmin_ops.specs.Mnemonics.{mnemonic, in_rows, opcode_named}
 use Rattle.jm_jasmin_ops.specs.Profile.{is_signed, unsigned, is_digit, is_digits, is_exponent, is_fraction, is_real_behind, is_unsigned_real, is_real, is_signed_digits, is_offset, has_colon, unknown_word}
 use Rattle.jm_jasmin_ops.specs.Words.{word, label}
-use Rattle.jm_jasmin_ops.specs.Operands.{integer, ranged, natural_within, loaded, loaded_long, element_type, units, class_name, class_ref, member, field_named, field_typed, method, counted}
+use Rattle.jm_jasmin_ops.specs.Operands.{integer, ranged, natural_within, loaded, loaded_long, element_type, units, class_name, class_ref, dimensions, member, field_named, field_typed, method, counted}
 use Rattle.jm_jasmin_ops.specs.Switches.{with_token, lines_of, keyed_row, row_of, table_step, table_rows, lookup_step, lookup_rows}
 use Rattle.jm_jasmin_ops.specs.Instruction.{named_instr, table_instr, lookup_instr, operands, instruction_in, instruction_at}
 use Rattle.jm_program.specs.DescriptorReading.{base_of, class_at, letter_at, element_at, field_at, parameters_at, whole_field, whole_return, whole_method, whole_descriptor}
@@ -205,10 +204,25 @@ left-out : instruction_at (w 6 (codes "fadd") ∷ w 6 (codes "1") ∷ w 6 (codes
 unfolding operand_letter integral_letter index_digit small_int_digit small_long_digit stack_mnemonic arithmetic_name shift_name bitwise_name conversion_mnemonic comparison_name equality_name null_mnemonic branch_mnemonic array_letter array_line return_mnemonic monitor_mnemonic field_mnemonic invoke_mnemonic type_mnemonic simple_line constants loads stores stack math conversions comparisons control references extended line_len first_line numeral integer_of hexadecimal_value escaped_unit part_after units_at units_from units_of_literal natural class_name_of field_name_of method_name_of invoked_name_of descriptor_of field_only method_only left_out_method_type field_type_of with_slots method_type_of class_ref_of element_ref method_ref_of chars left_out_mnemonic mnemonic in_rows opcode_named word label integer ranged natural_within loaded loaded_long element_type units class_name class_ref member field_named field_typed method counted with_token lines_of keyed_row row_of table_step table_rows lookup_step lookup_rows named_instr table_instr lookup_instr operands instruction_in instruction_at base_of class_at letter_at element_at field_at parameters_at whole_field whole_return whole_method whole_descriptor is_signed unsigned is_digit is_digits is_exponent is_fraction is_real_behind is_unsigned_real is_real is_signed_digits is_offset has_colon unknown_word
 left-out = refl
 
--- multianewarray is 47
-later-one : instruction_at (w 6 (codes "multianewarray") ∷ w 6 (codes "[[I") ∷ w 6 (codes "2") ∷ []) ≡ Err (fault.Later later.MultiANewArray 6)
-unfolding operand_letter integral_letter index_digit small_int_digit small_long_digit stack_mnemonic arithmetic_name shift_name bitwise_name conversion_mnemonic comparison_name equality_name null_mnemonic branch_mnemonic array_letter array_line return_mnemonic monitor_mnemonic field_mnemonic invoke_mnemonic type_mnemonic simple_line constants loads stores stack math conversions comparisons control references extended line_len first_line numeral integer_of hexadecimal_value escaped_unit part_after units_at units_from units_of_literal natural class_name_of field_name_of method_name_of invoked_name_of descriptor_of field_only method_only left_out_method_type field_type_of with_slots method_type_of class_ref_of element_ref method_ref_of chars left_out_mnemonic mnemonic in_rows opcode_named word label integer ranged natural_within loaded loaded_long element_type units class_name class_ref member field_named field_typed method counted with_token lines_of keyed_row row_of table_step table_rows lookup_step lookup_rows named_instr table_instr lookup_instr operands instruction_in instruction_at base_of class_at letter_at element_at field_at parameters_at whole_field whole_return whole_method whole_descriptor is_signed unsigned is_digit is_digits is_exponent is_fraction is_real_behind is_unsigned_real is_real is_signed_digits is_offset has_colon unknown_word
-later-one = refl
+-- multianewarray makes arrays in some of the dimensions of its type
+arrays-of-arrays : instruction_at (w 6 (codes "multianewarray") ∷ w 6 (codes "[[[I") ∷ w 6 (codes "2") ∷ []) ≡ found (labelled.Named (instr.Type (type.NewArrays 2) (class_ref_is.Array (record { dimensions = 3; element = element.Base base.Int })))) 3
+unfolding operand_letter integral_letter index_digit small_int_digit small_long_digit stack_mnemonic arithmetic_name shift_name bitwise_name conversion_mnemonic comparison_name equality_name null_mnemonic branch_mnemonic array_letter array_line return_mnemonic monitor_mnemonic field_mnemonic invoke_mnemonic type_mnemonic simple_line constants loads stores stack math conversions comparisons control references extended line_len first_line numeral integer_of hexadecimal_value escaped_unit part_after units_at units_from units_of_literal natural class_name_of field_name_of method_name_of invoked_name_of descriptor_of field_only method_only left_out_method_type field_type_of with_slots method_type_of class_ref_of element_ref dimensioned_ref method_ref_of chars left_out_mnemonic mnemonic in_rows opcode_named word label integer ranged natural_within loaded loaded_long element_type units class_name class_ref dimensions member field_named field_typed method counted with_token lines_of keyed_row row_of table_step table_rows lookup_step lookup_rows named_instr table_instr lookup_instr operands instruction_in instruction_at base_of class_at letter_at element_at field_at parameters_at whole_field whole_return whole_method whole_descriptor is_signed unsigned is_digit is_digits is_exponent is_fraction is_real_behind is_unsigned_real is_real is_signed_digits is_offset has_colon unknown_word
+arrays-of-arrays = refl
+
+-- in more than it has is 45
+arrays-beyond : instruction_at (w 6 (codes "multianewarray") ∷ w 6 (codes "[[I") ∷ w 6 (codes "3") ∷ []) ≡ Err (fault.BadCount 6)
+unfolding operand_letter integral_letter index_digit small_int_digit small_long_digit stack_mnemonic arithmetic_name shift_name bitwise_name conversion_mnemonic comparison_name equality_name null_mnemonic branch_mnemonic array_letter array_line return_mnemonic monitor_mnemonic field_mnemonic invoke_mnemonic type_mnemonic simple_line constants loads stores stack math conversions comparisons control references extended line_len first_line numeral integer_of hexadecimal_value escaped_unit part_after units_at units_from units_of_literal natural class_name_of field_name_of method_name_of invoked_name_of descriptor_of field_only method_only left_out_method_type field_type_of with_slots method_type_of class_ref_of element_ref dimensioned_ref method_ref_of chars left_out_mnemonic mnemonic in_rows opcode_named word label integer ranged natural_within loaded loaded_long element_type units class_name class_ref dimensions member field_named field_typed method counted with_token lines_of keyed_row row_of table_step table_rows lookup_step lookup_rows named_instr table_instr lookup_instr operands instruction_in instruction_at base_of class_at letter_at element_at field_at parameters_at whole_field whole_return whole_method whole_descriptor is_signed unsigned is_digit is_digits is_exponent is_fraction is_real_behind is_unsigned_real is_real is_signed_digits is_offset has_colon unknown_word
+arrays-beyond = refl
+
+-- and so is in none
+arrays-none : instruction_at (w 6 (codes "multianewarray") ∷ w 6 (codes "[[I") ∷ w 6 (codes "0") ∷ []) ≡ Err (fault.BadCount 6)
+unfolding operand_letter integral_letter index_digit small_int_digit small_long_digit stack_mnemonic arithmetic_name shift_name bitwise_name conversion_mnemonic comparison_name equality_name null_mnemonic branch_mnemonic array_letter array_line return_mnemonic monitor_mnemonic field_mnemonic invoke_mnemonic type_mnemonic simple_line constants loads stores stack math conversions comparisons control references extended line_len first_line numeral integer_of hexadecimal_value escaped_unit part_after units_at units_from units_of_literal natural class_name_of field_name_of method_name_of invoked_name_of descriptor_of field_only method_only left_out_method_type field_type_of with_slots method_type_of class_ref_of element_ref dimensioned_ref method_ref_of chars left_out_mnemonic mnemonic in_rows opcode_named word label integer ranged natural_within loaded loaded_long element_type units class_name class_ref dimensions member field_named field_typed method counted with_token lines_of keyed_row row_of table_step table_rows lookup_step lookup_rows named_instr table_instr lookup_instr operands instruction_in instruction_at base_of class_at letter_at element_at field_at parameters_at whole_field whole_return whole_method whole_descriptor is_signed unsigned is_digit is_digits is_exponent is_fraction is_real_behind is_unsigned_real is_real is_signed_digits is_offset has_colon unknown_word
+arrays-none = refl
+
+-- of a class that is no array type is 41
+arrays-of-class : instruction_at (w 6 (codes "multianewarray") ∷ w 6 (codes "A") ∷ w 6 (codes "1") ∷ []) ≡ Err (fault.Syntax 6)
+unfolding operand_letter integral_letter index_digit small_int_digit small_long_digit stack_mnemonic arithmetic_name shift_name bitwise_name conversion_mnemonic comparison_name equality_name null_mnemonic branch_mnemonic array_letter array_line return_mnemonic monitor_mnemonic field_mnemonic invoke_mnemonic type_mnemonic simple_line constants loads stores stack math conversions comparisons control references extended line_len first_line numeral integer_of hexadecimal_value escaped_unit part_after units_at units_from units_of_literal natural class_name_of field_name_of method_name_of invoked_name_of descriptor_of field_only method_only left_out_method_type field_type_of with_slots method_type_of class_ref_of element_ref dimensioned_ref method_ref_of chars left_out_mnemonic mnemonic in_rows opcode_named word label integer ranged natural_within loaded loaded_long element_type units class_name class_ref dimensions member field_named field_typed method counted with_token lines_of keyed_row row_of table_step table_rows lookup_step lookup_rows named_instr table_instr lookup_instr operands instruction_in instruction_at base_of class_at letter_at element_at field_at parameters_at whole_field whole_return whole_method whole_descriptor is_signed unsigned is_digit is_digits is_exponent is_fraction is_real_behind is_unsigned_real is_real is_signed_digits is_offset has_colon unknown_word
+arrays-of-class = refl
 
 -- wide is not written
 wide-word : instruction_at (w 6 (codes "wide") ∷ []) ≡ Err (fault.Syntax 6)

@@ -1,13 +1,15 @@
 -- A spelled instruction keeps the rules of its operands (JVMS 4.9.1, 6.5).
 use Rattle.std.proofs.Common.{◌≡◌, ℕ, ◌+◌, Bool, true, false, ◌&&◌, ◌==◌, List, [], ◌∷◌, Option, Some, None, Result, Ok, Err, refl, subst}
+use Rattle.std.specs.Option.{ok_or}
+use Rattle.jm_class_format.specs.Instructions.{natural}
 use Rattle.std.specs.Prelude.{if◌then◌else◌, take, drop, position}
 use Rattle.jm_bytes.specs.Reading.{and_then, fault_as}
 use Rattle.jm_bytes.specs.Laws.{and_then_ok, same_Ok, fault_as_ok}
 use Rattle.jm_program.specs.Names.{is_class_name, is_unqualified}
 use Rattle.jm_program.specs.Descriptors.{argument_slots}
 use Rattle.jm_program.specs.References.{type_fits, class_ref_fits, field_ref_fits, method_ref_fits}
-use Rattle.jm_program.specs.Instructions.{can_be_element, type_op_fits, instr_fits}
-use Rattle.jm_program.proofs.DescriptorLaws.{and_true}
+use Rattle.jm_program.specs.Instructions.{has_dimensions, type_op_fits, instr_fits}
+use Rattle.jm_program.proofs.DescriptorLaws.{and_true, both_true}
 use Rattle.jm_program.specs.declared.descriptor.FieldType.{FieldType}
 use Rattle.jm_program.specs.declared.reference.ClassRef.{ClassRef}
 use Rattle.jm_program.specs.declared.reference.FieldRef.{FieldRef}
@@ -23,15 +25,15 @@ use Rattle.jm_program.specs.declared.instruction.symbolic.Instr.TheVariants as i
 use Rattle.jm_class_format.specs.declared.opcode.Opcode.{Opcode}
 use Rattle.jm_class_format.specs.declared.opcode.Opcode.TheVariants as opcode
 use Rattle.jm_class_format.specs.declared.read_fault.ReadFault.{ReadFault}
-use Rattle.jm_class_format.specs.Symbols.{class_name_of, field_name_of, field_type_of, class_ref_of, method_ref_of}
+use Rattle.jm_class_format.specs.Symbols.{class_name_of, field_name_of, field_type_of, class_ref_of, operand_ref, method_ref_of}
 use Rattle.jm_jasmin_lex.specs.Token.{TokenParts}
 use Rattle.jm_jasmin_ops.specs.Faults.{of_read}
 use Rattle.jm_jasmin_ops.specs.Words.{first, ended, one, two}
-use Rattle.jm_jasmin_ops.specs.Operands.{signed_byte, signed_short, unsigned_short, loaded, loaded_long, element_type, units, symbol, class_name, element_if, class_ref, member, field_of, field_named, field_typed, method_at, method, is_parenthesis, counted, unsigned_byte}
+use Rattle.jm_jasmin_ops.specs.Operands.{signed_byte, signed_short, unsigned_short, loaded, loaded_long, element_type, units, symbol, class_name, class_ref, dimensions_within, dimensions, integer, member, field_of, field_named, field_typed, method_at, method, is_parenthesis, counted, unsigned_byte}
 use Rattle.jm_jasmin_ops.specs.Instruction.{named_instr}
 use Rattle.jm_jasmin_ops.specs.declared.fault.AsmFault.{AsmFault}
 use Rattle.jm_jasmin_ops.specs.declared.fault.AsmFault.TheVariants as fault
-use Rattle.jm_class_format.proofs.SymbolsFit.{class_name_fits, field_name_fits, field_type_kept, class_ref_kept, element_kept, method_ref_kept}
+use Rattle.jm_class_format.proofs.SymbolsFit.{class_name_fits, field_name_fits, field_type_kept, class_ref_kept, operand_kept, method_ref_kept}
 
 -- ---- words
 
@@ -65,19 +67,24 @@ class_name_kept t name h =
     let a = symbol_is class_name_of t name h in
     class_name_fits a.0 name a.1
 
-element_type_kept : (op : TypeOp) (d c : ClassRef) → class_ref_fits d ≡ true → element_if op d ≡ Ok c → type_op_fits op c ≡ true
-element_type_kept type.NewArray d c fits h =
-    let p = element_kept d c h in
-    and_true (class_ref_fits c) (can_be_element c) (subst (λ (x : ClassRef). class_ref_fits x ≡ true) p.1 fits) p.0
-element_type_kept type.CheckCast d c fits h = subst (λ (x : ClassRef). class_ref_fits x ≡ true) (same_Ok {F = ReadFault} d c h) fits
-element_type_kept type.InstanceOf d c fits h = subst (λ (x : ClassRef). class_ref_fits x ≡ true) (same_Ok {F = ReadFault} d c h) fits
-
 type_kept : (op : TypeOp) (t : TokenParts) (c : ClassRef) → class_ref op t ≡ Ok c → type_op_fits op c ≡ true
 unfolding class_ref
 type_kept op t c h =
-    let a = symbol_is (λ us. and_then (class_ref_of us) (element_if op)) t c h in
-    let b = and_then_ok (class_ref_of a.0) (element_if op) c a.1 in
-    element_type_kept op b.0 c (class_ref_kept a.0 b.0 b.1) b.2
+    let a = symbol_is (λ us. and_then (class_ref_of us) (operand_ref op)) t c h in
+    let b = and_then_ok (class_ref_of a.0) (operand_ref op) c a.1 in
+    operand_kept op b.0 c (class_ref_kept a.0 b.0 b.1) b.2
+
+within_is : (b : Bool) (line n d : ℕ) → ◌≡◌ {A = Result ℕ AsmFault} (if b then Ok n else Err (fault.BadCount line)) (Ok d) → (b ≡ true) × (n ≡ d)
+within_is true line n d h = (refl, same_Ok {F = AsmFault} n d h)
+within_is false line n d h = absurd cc
+
+dimensions_kept : (class : ClassRef) (t : TokenParts) (d : ℕ) → dimensions class t ≡ Ok d → has_dimensions class d ≡ true
+unfolding dimensions
+dimensions_kept class t d h =
+    let a = and_then_ok (integer t) (λ n. and_then (ok_or (natural n) (fault.BadCount t.line)) (dimensions_within t.line class)) d h in
+    let b = and_then_ok (ok_or (natural a.0) (fault.BadCount t.line)) (dimensions_within t.line class) d a.2 in
+    let p = within_is (has_dimensions class b.0) t.line b.0 d b.2 in
+    subst (λ (x : ℕ). has_dimensions class x ≡ true) p.1 p.0
 
 abbrev NamedFits : ClassRef × List ℕ → Type 0
 NamedFits named = (class_ref_fits named.0 ≡ true) × (is_unqualified named.1 ≡ true)
@@ -182,8 +189,13 @@ named_fits count line (opcode.Type op) words i h =
     let p = made (one line (class_ref op) words) (λ class. instr.Type op class) i h in
     let q = one_is line (class_ref op) words p.0 p.1 in
     fits_as count _ i p.2 (type_kept op q.0 p.0 q.1)
+named_fits count line opcode.NewArrays words i h =
+    let arrays : ClassRef → TokenParts → Result Instr AsmFault = λ class t. and_then (dimensions class t) (λ d. Ok (instr.Type (type.NewArrays d) class)) in
+    let q = two_is line (class_ref (type.NewArrays 1)) arrays words i h in
+    let p = made (dimensions q.1 q.2) (λ d. instr.Type (type.NewArrays d) q.1) i q.4 in
+    let class = (both_true (class_ref_fits q.1) (has_dimensions q.1 1) (type_kept (type.NewArrays 1) q.0 q.1 q.3)).0 in
+    fits_as count _ i p.2 (and_true (class_ref_fits q.1) (has_dimensions q.1 p.0) class (dimensions_kept q.1 q.2 p.0 p.1))
 named_fits count line (opcode.LeftOut op) words i h = absurd cc
-named_fits count line (opcode.Later op) words i h = absurd cc
 named_fits count line (opcode.Branch op) words i h = absurd cc
 named_fits count line (opcode.BranchWide op) words i h = absurd cc
 named_fits count line opcode.TableSwitch words i h = absurd cc

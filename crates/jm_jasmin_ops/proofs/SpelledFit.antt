@@ -22,7 +22,6 @@ use Rattle.jm_jasmin_ops.specs.declared.labelled.LabelledLookup.{LabelledLookup}
 use Rattle.jm_jasmin_ops.specs.declared.labelled.LabelledInstr.TheVariants as labelled
 use Rattle.jm_jasmin_ops.specs.declared.labelled.Line.{Line}
 use Rattle.jm_jasmin_ops.specs.declared.fault.AsmFault.{AsmFault}
-use Rattle.jm_jasmin_ops.specs.declared.fault.AsmFault.TheVariants as fault
 use Rattle.jm_jasmin_ops.proofs.InstructionsFit.{one_is, named_fits}
 use Rattle.jm_jasmin_ops.proofs.SwitchesFit.{low_is_int, table_rows_fit, lookup_rows_fit}
 
@@ -86,9 +85,9 @@ operands_keep line opcode.InvokeInterface words below l h = named_keeps line opc
 operands_keep line opcode.New words below l h = named_keeps line opcode.New words (length words + 1) l h
 operands_keep line opcode.NewArray words below l h = named_keeps line opcode.NewArray words (length words + 1) l h
 operands_keep line (opcode.Type op) words below l h = named_keeps line (opcode.Type op) words (length words + 1) l h
+operands_keep line opcode.NewArrays words below l h = named_keeps line opcode.NewArrays words (length words + 1) l h
 operands_keep line opcode.Wide words below l h = named_keeps line opcode.Wide words (length words + 1) l h
 operands_keep line (opcode.LeftOut op) words below l h = named_keeps line (opcode.LeftOut op) words (length words + 1) l h
-operands_keep line (opcode.Later op) words below l h = named_keeps line (opcode.Later op) words (length words + 1) l h
 
 in_line : (line below : List TokenParts) (l : Line) → instruction_in line below ≡ Ok l → LineKeeps l
 unfolding instruction_in

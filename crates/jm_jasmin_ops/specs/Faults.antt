@@ -16,7 +16,6 @@ line_of (fault.DuplicateLabel line) = Some line
 line_of (fault.NoLabel line) = Some line
 line_of (fault.BadCount line) = Some line
 line_of (fault.LeftOut w line) = Some line
-line_of (fault.Later op line) = Some line
 line_of fault.OutOfMemory = None
 
 -- the fault of a name or a type that stands in a line; names and types have the first four alone

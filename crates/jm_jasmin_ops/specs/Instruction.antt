@@ -4,6 +4,7 @@ use Rattle.std.specs.Option.{ok_or}
 use Rattle.jm_bytes.specs.Reading.{and_then}
 use Rattle.jm_program.specs.declared.instruction.operation.ArrayOp.TheVariants as array
 use Rattle.jm_program.specs.declared.instruction.operation.InvokeOp.TheVariants as invoke
+use Rattle.jm_program.specs.declared.instruction.operation.TypeOp.TheVariants as type
 use Rattle.jm_program.specs.declared.instruction.plain.Plain.TheVariants as plain
 use Rattle.jm_program.specs.declared.instruction.symbolic.Instr.{Instr}
 use Rattle.jm_program.specs.declared.instruction.symbolic.Instr.TheVariants as instr
@@ -14,7 +15,7 @@ use Rattle.jm_jasmin_lex.specs.Lines.{first_line}
 use Rattle.jm_jasmin_ops.specs.Mnemonics.{opcode_named}
 use Rattle.jm_jasmin_ops.specs.Profile.{unknown_word}
 use Rattle.jm_jasmin_ops.specs.Words.{word, label, ended, one, two}
-use Rattle.jm_jasmin_ops.specs.Operands.{signed_byte, signed_short, signed_int, unsigned_short, loaded, loaded_long, element_type, class_name, class_ref, field_named, field_typed, method, counted}
+use Rattle.jm_jasmin_ops.specs.Operands.{signed_byte, signed_short, signed_int, unsigned_short, loaded, loaded_long, element_type, class_name, class_ref, dimensions, field_named, field_typed, method, counted}
 use Rattle.jm_jasmin_ops.specs.Switches.{lines_of, table_rows, lookup_rows}
 use Rattle.jm_jasmin_ops.specs.declared.labelled.LabelledInstr.TheVariants as labelled
 use Rattle.jm_jasmin_ops.specs.declared.labelled.Line.{Line}
@@ -25,6 +26,10 @@ use Rattle.jm_jasmin_ops.specs.declared.fault.AsmFault.TheVariants as fault
 -- iinc: a local variable, then the number that is added to it
 abbrev pub increment : ℕ → List TokenParts → Result Instr AsmFault
 increment line = two line unsigned_short (λ n t. and_then (signed_short t) (λ by. Ok (instr.Plain (plain.Increment n by))))
+
+-- multianewarray: an array type, then in how many of its dimensions arrays are made
+abbrev pub new_arrays : ℕ → List TokenParts → Result Instr AsmFault
+new_arrays line = two line (class_ref (type.NewArrays 1)) (λ class t. and_then (dimensions class t) (λ d. Ok (instr.Type (type.NewArrays d) class)))
 
 -- an instruction without a target, by its opcode, the line's number and the words after the mnemonic
 unfoldable pub named_instr : ℕ → Opcode → List TokenParts → Result Instr AsmFault
@@ -47,8 +52,8 @@ named_instr line opcode.InvokeInterface words = and_then (two line (method invok
 named_instr line opcode.New words = and_then (one line class_name words) (λ name. Ok (instr.New name))
 named_instr line opcode.NewArray words = and_then (one line element_type words) (λ t. Ok (instr.Array (array.New t)))
 named_instr line (opcode.Type op) words = and_then (one line (class_ref op) words) (λ class. Ok (instr.Type op class))
+named_instr line opcode.NewArrays words = new_arrays line words
 named_instr line (opcode.LeftOut op) words = Err (fault.LeftOut (what.Instruction op) line)
-named_instr line (opcode.Later op) words = Err (fault.Later op line)
 named_instr line other words = Err (fault.Syntax line)
 
 -- the lines of a table below LOW

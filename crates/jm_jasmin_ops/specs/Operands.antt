@@ -5,6 +5,7 @@ use Rattle.jm_bytes.specs.Reading.{and_then, fault_as}
 use Rattle.jm_program.specs.Texts.{utf16_of}
 use Rattle.jm_program.specs.Names.{same_text}
 use Rattle.jm_program.specs.Descriptors.{argument_slots}
+use Rattle.jm_program.specs.Instructions.{has_dimensions}
 use Rattle.jm_program.specs.declared.constant.Constant.{Constant}
 use Rattle.jm_program.specs.declared.constant.Constant.TheVariants as constant
 use Rattle.jm_program.specs.declared.reference.ClassRef.{ClassRef}
@@ -14,11 +15,10 @@ use Rattle.jm_program.specs.declared.instruction.operation.InvokeOp.{InvokeOp}
 use Rattle.jm_program.specs.declared.instruction.operation.PrimitiveType.{PrimitiveType}
 use Rattle.jm_program.specs.declared.instruction.operation.PrimitiveType.TheVariants as primitive
 use Rattle.jm_program.specs.declared.instruction.operation.TypeOp.{TypeOp}
-use Rattle.jm_program.specs.declared.instruction.operation.TypeOp.TheVariants as type
 use Rattle.jm_class_format.specs.declared.opcode.LeftOutOp.TheVariants as left_out
 use Rattle.jm_class_format.specs.declared.read_fault.LeftOutPart.TheVariants as part
 use Rattle.jm_class_format.specs.declared.read_fault.ReadFault.{ReadFault}
-use Rattle.jm_class_format.specs.Symbols.{class_name_of, field_name_of, field_type_of, class_ref_of, element_ref, method_ref_of}
+use Rattle.jm_class_format.specs.Symbols.{class_name_of, field_name_of, field_type_of, class_ref_of, operand_ref, method_ref_of}
 use Rattle.jm_jasmin_lex.specs.Token.{TokenParts}
 use Rattle.jm_jasmin_lex.specs.Integers.{integer_of}
 use Rattle.jm_jasmin_lex.specs.Literals.{units_of_literal}
@@ -126,13 +126,16 @@ symbol read t = and_then (units t) (λ us. fault_as (of_read t.line) (read us))
 unfoldable pub class_name : TokenParts → Result (List ℕ) AsmFault
 class_name t = symbol class_name_of t
 
-abbrev pub element_if : TypeOp → ClassRef → Result ClassRef ReadFault
-element_if type.NewArray class = element_ref class
-element_if other class = Ok class
-
--- of anewarray, checkcast and instanceof: the name of a class, or an array type
+-- of anewarray, multianewarray, checkcast and instanceof: the name of a class, or an array type
 unfoldable pub class_ref : TypeOp → TokenParts → Result ClassRef AsmFault
-class_ref op t = symbol (λ us. and_then (class_ref_of us) (element_if op)) t
+class_ref op t = symbol (λ us. and_then (class_ref_of us) (operand_ref op)) t
+
+abbrev pub dimensions_within : ℕ → ClassRef → ℕ → Result ℕ AsmFault
+dimensions_within line class d = if has_dimensions class d then Ok d else Err (fault.BadCount line)
+
+-- of multianewarray, then: in how many of the type's dimensions arrays are made; 45 for a number of which it is not (JVMS 6.5 multianewarray)
+unfoldable pub dimensions : ClassRef → TokenParts → Result ℕ AsmFault
+dimensions class t = and_then (integer t) (λ n. and_then (ok_or (natural n) (fault.BadCount t.line)) (dimensions_within t.line class))
 
 -- ---- fields
 

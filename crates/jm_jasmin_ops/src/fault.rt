@@ -5,7 +5,7 @@ ghost use Rattle.jm_bytes.specs.Reading.{fault_as};
 ghost use Rattle.jm_jasmin_ops.specs.Faults.{line_of, of_read};
 
 use crate::directive::LeftOutDirective;
-use jm_class_format::{LaterOp, LeftOutOp, LeftOutPart, ReadFault};
+use jm_class_format::{LeftOutOp, LeftOutPart, ReadFault};
 use std::alloc::{AllocError, AllocFailed};
 use std::fmt;
 use thiserror::Error;
@@ -55,16 +55,14 @@ pub enum AsmFault {
     /// A label that its method does not have, or that stands behind the last instruction.
     #[error("43 NoLabel({0})")]
     NoLabel(usize),
-    /// A number or a count that does not fit its place: an invokeinterface count, locals, a table
-    /// without targets or past the last int, keys that do not rise, an empty range.
+    /// A number or a count that does not fit its place: an invokeinterface count, the dimensions of
+    /// multianewarray, locals, a table without targets or past the last int, keys that do not
+    /// rise, an empty range.
     #[error("45 BadCount({0})")]
     BadCount(usize),
     /// What the profile leaves out.
     #[error("46 LeftOut({0})")]
     LeftOut(AsmLeftOut, usize),
-    /// What is refused for now.
-    #[error("47 Later({0})")]
-    Later(LaterOp, usize),
     /// A growth was refused.
     #[error("61 OutOfMemory")]
     OutOfMemory,
@@ -90,8 +88,7 @@ impl AsmFault {
             | AsmFault::DuplicateLabel(line)
             | AsmFault::NoLabel(line)
             | AsmFault::BadCount(line)
-            | AsmFault::LeftOut(_, line)
-            | AsmFault::Later(_, line) => Some(*line),
+            | AsmFault::LeftOut(_, line) => Some(*line),
             AsmFault::OutOfMemory => None,
         }
     }

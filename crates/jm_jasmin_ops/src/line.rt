@@ -6,16 +6,16 @@ ghost use Rattle.jm_program.specs.declared.instruction.operation.InvokeOp.TheVar
 ghost use Rattle.jm_class_format.specs.declared.opcode.Opcode.TheVariants as opcodes;
 ghost use Rattle.jm_jasmin_ops.specs.declared.fault.AsmFault.TheVariants.{OutOfMemory};
 ghost use Rattle.jm_jasmin_ops.specs.Words.{label, one, two};
-ghost use Rattle.jm_jasmin_ops.specs.Operands.{signed_byte, signed_short, signed_int, unsigned_short, loaded, loaded_long, element_type, class_name, class_ref, field_named, field_typed, method, counted};
-ghost use Rattle.jm_jasmin_ops.specs.Instruction.{increment, named_instr, table_instr, lookup_instr, operands, instruction_in, instruction_at};
+ghost use Rattle.jm_jasmin_ops.specs.Operands.{signed_byte, signed_short, signed_int, unsigned_short, loaded, loaded_long, element_type, class_name, class_ref, dimensions, field_named, field_typed, method, counted};
+ghost use Rattle.jm_jasmin_ops.specs.Instruction.{increment, new_arrays, named_instr, table_instr, lookup_instr, operands, instruction_in, instruction_at};
 
 use crate::fault::AsmFault;
 use crate::labelled::{Label, LabelledInstr, Line};
 use crate::mnemonic::opcode_named;
 use crate::numbers::{natural_within, signed_byte, signed_int, signed_short};
 use crate::operands::{
-    class_name, class_ref, counted, element_type, field_named, field_typed, left_out, loaded,
-    loaded_long, method,
+    class_name, class_ref, counted, dimensions, element_type, field_named, field_typed, left_out,
+    loaded, loaded_long, method,
 };
 use crate::profile::unknown_word;
 use crate::switch::{lookup_rows, table_rows};
@@ -218,6 +218,18 @@ fn type_instr(
     Ok(Instr::Type(op, Shared::new(alloc, class)?))
 }
 
+// `multianewarray`: an array type, then in how many of its dimensions arrays are made.
+fn new_arrays(alloc: Global, line: usize, words: &[Token<'_>]) -> Result<Instr, AsmFault>
+    ensures { GivesAll (λ x. x) OutOfMemory result (new_arrays line words.now) }
+{
+    let (token, rest) = first(line, words)?;
+    let class = class_ref(alloc, TypeOp::NewArrays(1), token)?;
+    let (token, rest) = first(line, rest)?;
+    let dimensions = dimensions(&class, token)?;
+    let class = Shared::new(alloc, class)?;
+    ended(rest, Instr::Type(TypeOp::NewArrays(dimensions), class))
+}
+
 // ---- instructions
 
 // An instruction without a target, by its opcode and the words after the mnemonic.
@@ -274,8 +286,8 @@ fn named_instr(
             Ok(Instr::Array(ArrayOp::New(element)))
         }
         Opcode::Type(op) => type_instr(alloc, line, op, words),
+        Opcode::NewArrays => new_arrays(alloc, line, words),
         Opcode::LeftOut(op) => Err(left_out(op, line)),
-        Opcode::Later(op) => Err(AsmFault::Later(op, line)),
         _ => Err(AsmFault::Syntax(line)),
     }
 }
@@ -388,10 +400,10 @@ fn instruction_in<'a>(
 /// mnemonic, for an operand that is missing, out of its range or of another kind, for a word too
 /// many, and for a line that a switch does not have; `BadName` and `BadDescriptor` for a name and
 /// a type that are none; `BadCount` for an `invokeinterface` count that is not the argument slots
-/// with the receiver's, a table without targets or past the last int, and keys that do not rise;
-/// `LeftOut` for an instruction, a directive, a number with a fraction or an exponent, a class of
-/// `ldc`, a type or a branch offset as a number that the profile leaves out; `Later` for what is
-/// refused for now; `OutOfMemory`.
+/// with the receiver's, a number of dimensions that the type of `multianewarray` does not have, a
+/// table without targets or past the last int, and keys that do not rise; `LeftOut` for an
+/// instruction, a directive, a number with a fraction or an exponent, a class of `ldc`, a type or a
+/// branch offset as a number that the profile leaves out; `OutOfMemory`.
 #[tactic(auto, unfolding(crate::specs::Instruction::instruction_at))]
 pub fn instruction<'a>(alloc: Global, tokens: &[Token<'a>]) -> Result<Line<'a>, AsmFault>
     ensures { GivesAll (λ x. x) OutOfMemory result (instruction_at tokens.now) }

@@ -65,8 +65,9 @@ pub fn signed_int(token: &Token<'_>) -> Result<i32, AsmFault>
     Ok(number as i32)
 }
 
+/// The same number, where it is not negative.
 #[tactic(auto, unfolding(jm_class_format::specs::Instructions::natural))]
-fn natural(number: i64) -> Option<u64>
+pub fn natural(number: i64) -> Option<u64>
     ensures { result ≡ natural number }
 {
     if number < 0 {

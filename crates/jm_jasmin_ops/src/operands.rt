@@ -1,14 +1,15 @@
 // The operands of an instruction, each in one word or string (Jasmin User Guide, "Instructions";
 // JVMS 6.5).
 
-ghost use Rattle.std.specs.Prelude.{◌≡◌, ◌<◌, IfSome, length, position, reverse};
+ghost use Rattle.std.specs.Prelude.{◌≡◌, ◌<◌, IfSome, IsTrue, length, position, reverse};
 ghost use Rattle.jm_bytes.specs.Reading.{GivesAll, TakesAll};
+ghost use Rattle.jm_program.specs.Instructions.{has_dimensions};
 ghost use Rattle.jm_jasmin_ops.specs.declared.fault.AsmFault.TheVariants.{OutOfMemory, LeftOut};
 ghost use Rattle.jm_jasmin_ops.specs.declared.fault.AsmLeftOut.TheVariants.{Instruction};
-ghost use Rattle.jm_jasmin_ops.specs.Operands.{no_float_or_class, loaded, no_double, loaded_long, element_named, element_type, class_name, class_ref, is_slash, parted_at, member, field_named, field_typed, is_parenthesis, method_at, method, counted};
+ghost use Rattle.jm_jasmin_ops.specs.Operands.{no_float_or_class, loaded, no_double, loaded_long, element_named, element_type, class_name, class_ref, dimensions, is_slash, parted_at, member, field_named, field_typed, is_parenthesis, method_at, method, counted};
 
 use crate::fault::{AsmFault, AsmLeftOut};
-use crate::numbers::{integer, natural_within, signed_int};
+use crate::numbers::{integer, natural, natural_within, signed_int};
 use crate::profile::{is_named, is_real};
 use crate::symbols::{class_name_at, class_ref_at, field_at, field_type_at, method_ref_at, units};
 use crate::words::word;
@@ -126,13 +127,39 @@ pub fn class_name(alloc: Global, token: &Token<'_>) -> Result<Name, AsmFault>
     class_name_at(alloc, token.line(), &units)
 }
 
-/// The class, the interface or the array type of `anewarray`, `checkcast` and `instanceof`.
+/// The class, the interface or the array type of `anewarray`, `multianewarray`, `checkcast` and
+/// `instanceof`.
 #[tactic(auto, unfolding(crate::specs::Operands::class_ref))]
 pub fn class_ref(alloc: Global, op: TypeOp, token: &Token<'_>) -> Result<ClassRef, AsmFault>
     ensures { GivesAll (λ class. class) OutOfMemory result (class_ref op token.now) }
 {
     let units = units(alloc, token)?;
     class_ref_at(alloc, token.line(), op, &units)
+}
+
+// Whether it is an array type of so many dimensions or more, and they are one or more.
+fn has_dimensions(class: &ClassRef, dimensions: u64) -> bool
+    ensures is { result ≡ has_dimensions class.now dimensions }
+    ensures few { IsTrue result → dimensions < 256 }
+{
+    match class {
+        ClassRef::Class(_) => false,
+        ClassRef::Array(array) => 0 < dimensions && dimensions <= u64::from(array.dimensions),
+    }
+}
+
+/// In how many of the dimensions of a type `multianewarray` makes arrays.
+#[tactic(auto, unfolding(crate::specs::Operands::dimensions))]
+pub fn dimensions(class: &ClassRef, token: &Token<'_>) -> Result<u8, AsmFault>
+    ensures { TakesAll (λ d. d) result (dimensions class.now token.now) }
+{
+    let number = integer(token)?;
+    let dimensions = natural(number).ok_or(AsmFault::BadCount(token.line()))?;
+    if has_dimensions(class, dimensions) {
+        Ok(dimensions as u8)
+    } else {
+        Err(AsmFault::BadCount(token.line()))
+    }
 }
 
 // How many units stand behind the last `/`.

@@ -3,15 +3,15 @@
 ghost use Rattle.std.specs.Prelude.{◌≡◌};
 ghost use Rattle.jm_bytes.specs.Reading.{and_then, fault_as, GivesAll, TakesAll};
 ghost use Rattle.jm_program.specs.Texts.{utf16_of};
-ghost use Rattle.jm_class_format.specs.Symbols.{class_name_of, field_name_of, field_type_of, class_ref_of, method_ref_of};
+ghost use Rattle.jm_class_format.specs.Symbols.{class_name_of, field_name_of, field_type_of, class_ref_of, method_ref_of, operand_ref};
 ghost use Rattle.jm_class_format.specs.declared.read_fault.ReadFault.TheVariants as read;
 ghost use Rattle.jm_jasmin_ops.specs.declared.fault.AsmFault.TheVariants.{OutOfMemory};
 ghost use Rattle.jm_jasmin_ops.specs.Faults.{of_read};
-ghost use Rattle.jm_jasmin_ops.specs.Operands.{units, element_if, field_of};
+ghost use Rattle.jm_jasmin_ops.specs.Operands.{units, field_of};
 
 use crate::fault::{AsmFault, at_line};
 use crate::words::word;
-use jm_class_format::ReadFault;
+use jm_class_format::{ReadFault, operand_ref};
 use jm_jasmin_lex::Token;
 use jm_program::{ClassRef, FieldType, InvokeOp, MethodRef, Name, TypeOp, code_units};
 use std::alloc::Global;
@@ -33,31 +33,23 @@ pub fn class_name_at(alloc: Global, line: usize, units: &[u16]) -> Result<Name, 
     at_line(line, jm_class_format::class_name_of(alloc, units))
 }
 
-fn element_if(op: TypeOp, class: ClassRef) -> Result<ClassRef, ReadFault>
-    ensures { TakesAll (λ class. class) result (element_if op class) }
-{
-    match op {
-        TypeOp::NewArray => jm_class_format::element_ref(class),
-        TypeOp::CheckCast | TypeOp::InstanceOf => Ok(class),
-    }
-}
-
 fn typed_ref(alloc: Global, op: TypeOp, units: &[u16]) -> Result<ClassRef, ReadFault>
-    ensures { GivesAll (λ class. class) read.OutOfMemory result (and_then (class_ref_of units.now) (element_if op)) }
+    ensures { GivesAll (λ class. class) read.OutOfMemory result (and_then (class_ref_of units.now) (operand_ref op)) }
 {
     let class = jm_class_format::class_ref_of(alloc, units)?;
-    let class = element_if(op, class)?;
+    let class = operand_ref(op, class)?;
     Ok(class)
 }
 
-/// The class, the interface or the array type of `anewarray`, `checkcast` and `instanceof`.
+/// The class, the interface or the array type of `anewarray`, `multianewarray`, `checkcast` and
+/// `instanceof`.
 pub fn class_ref_at(
     alloc: Global,
     line: usize,
     op: TypeOp,
     units: &[u16],
 ) -> Result<ClassRef, AsmFault>
-    ensures { GivesAll (λ class. class) OutOfMemory result (fault_as (of_read line) (and_then (class_ref_of units.now) (element_if op))) }
+    ensures { GivesAll (λ class. class) OutOfMemory result (fault_as (of_read line) (and_then (class_ref_of units.now) (operand_ref op))) }
 {
     at_line(line, typed_ref(alloc, op, units))
 }

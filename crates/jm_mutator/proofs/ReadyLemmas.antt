@@ -1,11 +1,12 @@
 -- A heap and the places of a mutator, from call to call.
-use Rattle.std.proofs.Common.{◌≡◌, ◌⊎◌, ℕ, zero, suc, ◌<◌, List, [], ◌∷◌, ◌++◌, Some, refl, sym, ◌∙◌, subst, inl, inr, length, arith}
+use Rattle.std.proofs.Common.{◌≡◌, ◌⊎◌, ℕ, zero, suc, ◌+◌, ◌<◌, List, [], ◌∷◌, ◌++◌, Some, refl, sym, ◌∙◌, subst, inl, inr, length, arith, get_or}
 use Rattle.std.specs.Prelude.{slice_get, slice_set}
 use Rattle.jm_values.specs.declared.value.Value.{Value}
 use Rattle.jm_values.specs.Shape.{Among}
 use Rattle.jm_values.specs.Objects.{ObjectOf}
-use Rattle.jm_values.specs.Content.{Content, IsSound, AllResident, Kept, Made, IsSet, HasValue, serial_at, object_at}
+use Rattle.jm_values.specs.Content.{Content, IsSound, AllResident, Kept, Made, MadeAll, IsSet, HasValue, serial_at, object_at}
 use Rattle.jm_values.proofs.SoundContents.{object_of_place}
+use Rattle.jm_heap.proofs.MarkLemmas.{among_at}
 use Rattle.jm_heap.specs.Allocation.{MadeHere}
 use Rattle.jm_heap.specs.declared.class_id.ClassId.{ClassId}
 use Rattle.jm_mutator.specs.Ready.{IsReady}
@@ -95,6 +96,19 @@ made_ready sizes old roots new moved pushed p o m e = rw e (held_with new moved 
 
 pub made_place : {T : Type 0} (sizes : T → ℕ → ℕ) (old : Content T) (roots : List ℕ) (new : Content T) (moved : List ℕ) (p : ℕ) (o : ObjectOf T) → Made sizes old roots new moved p o → IsReady new moved × AllResident new (p ∷ [])
 made_place sizes old roots new moved p o m = (kept_ready old new roots moved m.kept, placed_resident new p old.next m.placed)
+
+among_list : (ps : List ℕ) (q : ℕ) → Among q ps → (i : ℕ) × (slice_get ps i ≡ Some q)
+among_list [] q a = absurd a
+among_list (p ∷ ps) q (inl e) = (zero, subst (λ n. Some p ≡ Some n) (sym e) refl)
+among_list (p ∷ ps) q (inr a) = let t = among_list ps q a in (suc t.0, t.1)
+
+pub made_all_ready : {T : Type 0} (sizes : T → ℕ → ℕ) (old : Content T) (roots : List ℕ) (new : Content T) (moved places : List ℕ) (os : List (ObjectOf T)) → MadeAll sizes old roots new moved places os → IsReady new moved × AllResident new places
+made_all_ready sizes old roots new moved places os m =
+    (kept_ready old new roots moved m.kept, λ q a. let t = among_list places q a in (old.next + t.0, m.placed t.0 q t.1))
+
+-- one more of the objects of a list, by how the code reads it
+pub held_next : {T : Type 0} (c : Content T) (ps places : List ℕ) (i p : ℕ) → IsReady c ps → AllResident c places → i < length places → p ≡ get_or places i p → IsReady c (ps ++ p ∷ [])
+held_next c ps places i p r there within is = held_with c ps p r (there p (among_at places i p within is))
 
 pub made_here_ready : (old new : Content ClassId) (ps : List ℕ) (p : ℕ) (o : ObjectOf ClassId) → IsReady old ps → MadeHere old new p o → IsReady new ps × AllResident new (p ∷ [])
 made_here_ready old new ps p o r m =

@@ -10,6 +10,7 @@ use crate::reaching::{
     a_chain_stays_whole, an_array_names_itself, cycles_go_when_nothing_reaches_them,
 };
 use crate::refusals::a_refusal_leaves_all_as_it_was;
+use crate::together::objects_are_made_at_once;
 use jm_heap::Heap;
 
 /// What is shown of a heap by running it.
@@ -25,6 +26,8 @@ pub enum Case {
     DropsTheArray(u32),
     /// A chain of so many objects stays whole, however long it is.
     KeepsTheChain(u32),
+    /// Several objects are made at once, all or none.
+    MakesAtOnce,
     /// A refused growth changes nothing, with a chain of so many objects.
     KeepsAllAtARefusal(u32),
 }
@@ -70,6 +73,11 @@ pub const CASES: &[HeapCase] = &[
         case: Case::KeepsTheChain(100_000),
     },
     HeapCase {
+        name: "objects are made at once, all or none",
+        limit: 32,
+        case: Case::MakesAtOnce,
+    },
+    HeapCase {
         name: "a refused growth changes nothing",
         limit: 52,
         case: Case::KeepsAllAtARefusal(8),
@@ -87,6 +95,7 @@ pub fn run_case<H: Heap>(mutator: &mut Mutator<H>, case: Case) -> Result<(), Fai
         Case::DropsCycles => cycles_go_when_nothing_reaches_them(mutator),
         Case::DropsTheArray(length) => an_array_names_itself(mutator, length),
         Case::KeepsTheChain(count) => a_chain_stays_whole(mutator, count),
+        Case::MakesAtOnce => objects_are_made_at_once(mutator),
         Case::KeepsAllAtARefusal(count) => a_refusal_leaves_all_as_it_was(mutator, count),
     }
 }

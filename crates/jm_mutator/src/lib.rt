@@ -16,6 +16,7 @@ mod mutator;
 mod reaching;
 mod refusals;
 mod shapes;
+mod together;
 
 pub use cases::{CASES, Case, HeapCase, run_case};
 pub use failure::{Failure, Quantity, expect};

@@ -7,8 +7,8 @@ use crate::mutator::Mutator;
 use crate::shapes::{ints, node};
 use jm_heap::{Heap, HeapFault};
 
-// The heap was full.
-fn expect_full(made: Result<(), Failure>) -> Result<(), Failure> {
+/// The heap was full.
+pub fn expect_full(made: Result<(), Failure>) -> Result<(), Failure> {
     match made {
         Err(Failure::Refused(HeapFault::HeapFull)) => Ok(()),
         Err(other) => Err(other),

@@ -1,5 +1,5 @@
 -- What an object more is to the nurseries.
-use Rattle.std.proofs.Common.{◌≡◌, ◌⊎◌, ◌≢◌, ℕ, zero, suc, ◌+◌, ◌-◌, ◌<◌, ◌≤◌, ◌&&◌, List, [], ◌∷◌, ◌++◌, Some, None, Bool, true, false, cond, refl, sym, ap, ◌∙◌, subst, inl, inr, length, sum, get_or, arith, length-append}
+use Rattle.std.proofs.Common.{◌≡◌, ◌⊎◌, ◌≢◌, ℕ, zero, suc, ◌+◌, ◌-◌, ◌<◌, ◌≤◌, ◌&&◌, List, [], ◌∷◌, ◌++◌, Some, None, true, false, cond, refl, sym, ap, ◌∙◌, subst, inl, inr, length, get_or, arith, length-append}
 use Rattle.std.specs.Prelude.{slice_get, slice_set, nat_eq, nat_le}
 use Rattle.std.proofs.lemmas.Bool.{le-leb}
 use Rattle.std.proofs.lemmas.Bool.Decides.{eqb_tells}
@@ -8,35 +8,12 @@ use Rattle.std.proofs.lemmas.List.Sums.{sum_by-cons, sum_by_push}
 use Rattle.std.proofs.lemmas.Option.{slice_get_within, slice_get_read}
 use Rattle.jm_values.specs.declared.value.Value.{Value}
 use Rattle.jm_blocks.specs.Objects.{Object}
-use Rattle.jm_blocks.specs.Cells.{object_cells, sizes_of, block_cells, has_room}
+use Rattle.jm_blocks.specs.Cells.{object_cells}
 use Rattle.jm_blocks.specs.Places.{lane_of, block_of, index_of}
-use Rattle.jm_blocks.specs.Stores.{Blocks, HasValue, IsSet, object_of_list, objects_in, store_cells, with_object, next_place, Bumped}
+use Rattle.jm_blocks.specs.Stores.{Blocks, HasObject, IsLast, HasValue, IsSet, IsPopped, object_of_list, objects_in, store_cells, with_object, next_place, Bumped}
 use Rattle.jm_blocks.proofs.Placing.{get_set_same, get_set_other, get_end, get_before_end}
-use Rattle.jm_nursery.specs.Nurseries.{Young, AreNurseries, IsYoung, IsMade, IsWritten, HasYoungValue, nursery_at, lane_cells, young_cells}
-
-sizes_push : (os : List Object) (o : Object) → block_cells (os ++ o ∷ []) ≡ block_cells os + object_cells o
-sizes_push os o = ap sum (mapped os) ∙ sum_by_push (λ n. n) (sizes_of os) (object_cells o)
-  where
-    mapped : (xs : List Object) → sizes_of (xs ++ o ∷ []) ≡ sizes_of xs ++ object_cells o ∷ []
-    mapped [] = refl
-    mapped (x ∷ xs) = ap (λ ns. object_cells x ∷ ns) (mapped xs)
-
-one_block : (os : List Object) → store_cells (os ∷ []) ≡ block_cells os
-one_block os = let e = sum_by-cons block_cells os [] in omega (arith, e)
-
--- the cells of a store with an object more
-pub cells_more : (bs : List (List Object)) (o : Object) → store_cells (with_object bs o) ≡ store_cells bs + object_cells o
-cells_more [] o = let e = one_block (o ∷ []) in let p = sizes_push [] o in omega (arith, e, p)
-cells_more (b ∷ []) o = by (has_room (sizes_of b) (object_cells o))
-  where
-    by : (t : Bool) → store_cells (cond t ((b ++ o ∷ []) ∷ []) (b ∷ (o ∷ []) ∷ [])) ≡ store_cells (b ∷ []) + object_cells o
-    by true = let e = one_block (b ++ o ∷ []) in let f = one_block b in let p = sizes_push b o in omega (arith, e, f, p)
-    by false = let e = sum_by-cons block_cells b ((o ∷ []) ∷ []) in let f = one_block b in let g = one_block (o ∷ []) in let p = sizes_push [] o in omega (arith, e, f, g, p)
-cells_more (b ∷ c ∷ bs) o =
-    let more = cells_more (c ∷ bs) o in
-    let e = sum_by-cons block_cells b (with_object (c ∷ bs) o) in
-    let f = sum_by-cons block_cells b (c ∷ bs) in
-    omega (arith, more, e, f)
+use Rattle.jm_blocks.proofs.Undoing.{cells_more}
+use Rattle.jm_nursery.specs.Nurseries.{Young, AreNurseries, IsYoung, IsMade, IsUnmade, IsWritten, HasYoungValue, nursery_at, lane_cells, young_cells}
 
 -- the cells of nurseries of which one is another
 young_set : (lanes : List Blocks) (n : ℕ) (s t : Blocks) (d : ℕ) → slice_get lanes n ≡ Some s → lane_cells t ≡ lane_cells s + d → young_cells (slice_set lanes n t) ≡ young_cells lanes + d
@@ -177,3 +154,71 @@ written old cells p i v store after y there set lane same = record {
   lanes = refl;
   cells = (young_written old.limit cells old.lanes (lane_of p - 1) store after y there lane same).1;
 }
+
+-- the cells of nurseries of which one has fewer
+young_less : (lanes : List Blocks) (n : ℕ) (s t : Blocks) (d : ℕ) → slice_get lanes n ≡ Some s → lane_cells s ≡ lane_cells t + d → young_cells lanes ≡ young_cells (slice_set lanes n t) + d
+young_less [] n s t d e h = cc
+young_less (x ∷ lanes) zero s t d e h =
+    let same : x ≡ s = cc in
+    let cells : lane_cells x ≡ lane_cells s = ap lane_cells same in
+    let a = sum_by-cons lane_cells t lanes in
+    let b = sum_by-cons lane_cells x lanes in
+    omega (arith, a, b, cells, h)
+young_less (x ∷ lanes) (suc n) s t d e h =
+    let less = young_less lanes n s t d e h in
+    let a = sum_by-cons lane_cells x (slice_set lanes n t) in
+    let b = sum_by-cons lane_cells x lanes in
+    omega (arith, less, a, b)
+
+-- the last object of a nursery is given up
+pub unmade : (old : Young) (n p : ℕ) (cur new : Blocks) (o : Object) → AreNurseries old.lanes → n < 16 → cur ≡ get_or old.lanes n cur → IsPopped cur new p o → new.lane ≡ cur.lane → IsUnmade old (record { limit = old.limit; lanes = slice_set old.lanes n new }) n p o
+unmade old n p cur new o r h read popped lane = record {
+  store = cur;
+  after = new;
+  store_is = there;
+  popped = popped;
+  lane = lane;
+  lanes = refl;
+  cells = young_less old.lanes n cur new (object_cells o) there popped.cells;
+}
+  where
+    there : slice_get old.lanes n ≡ Some cur
+    there = let many = r.many in slice_get_read old.lanes (length old.lanes) n cur refl (omega (arith, many, h)) read
+
+-- and the nurseries stay in order
+pub young_fewer : (limit cells size : ℕ) (lanes : List Blocks) (n p : ℕ) (cur new : Blocks) (o : Object) → IsYoung limit cells lanes → n < 16 → cur ≡ get_or lanes n cur → IsPopped cur new p o → new.lane ≡ cur.lane → size ≡ object_cells o → (size ≤ cells) × IsYoung limit (cells - size) (slice_set lanes n new)
+young_fewer limit cells size lanes n p cur new o y h read popped lane same =
+    let many = y.nurseries.many in
+    let there = slice_get_read lanes (length lanes) n cur refl (omega (arith, many, h)) read in
+    let all = young_less lanes n cur new (object_cells o) there popped.cells in
+    let counted = y.counted in
+    let within = y.within in (
+      omega (arith, all, counted, same),
+      record {
+        nurseries = nurseries_set lanes n cur new y.nurseries there lane;
+        counted = omega (arith, all, counted, same);
+        within = omega (arith, within);
+      },
+    )
+
+-- a store that is read twice is one
+pub one_read : (lanes : List Blocks) (n : ℕ) (s t : Blocks) → n < length lanes → s ≡ get_or lanes n s → t ≡ get_or lanes n t → s ≡ t
+one_read lanes n s t h e f =
+    let both : Some s ≡ Some t = sym (slice_get_read lanes (length lanes) n s refl h e) ∙ slice_get_read lanes (length lanes) n t refl h f in
+    cc
+
+-- its last place is one
+pub last_popped : (lanes : List Blocks) (n : ℕ) (s t : Blocks) (p q : ℕ) → n < length lanes → slice_get lanes n ≡ Some s → t ≡ get_or lanes n t → HasObject s p → IsLast s p → HasObject t q × IsLast t q → q ≡ p
+last_popped lanes n s t p q h e f has last other =
+    let both : Some s ≡ Some t = sym e ∙ slice_get_read lanes (length lanes) n t refl h f in
+    let same : s ≡ t = cc in
+    let low = other.1 p (subst (λ x. HasObject x p) same has) in
+    let high = last q (subst (λ x. HasObject x q) (sym same) other.0) in
+    omega (arith, low, high)
+
+-- the last object of a store that is read three times is given up, and its cells are these
+pub given_up : (lanes : List Blocks) (n p size : ℕ) (first second cur new : Blocks) → n < length lanes → first ≡ get_or lanes n first → second ≡ get_or lanes n second → cur ≡ get_or lanes n cur → HasObject first p × IsLast first p → ((o : Object) → objects_in second p ≡ Some o → size ≡ object_cells o) → ((q : ℕ) → HasObject cur q → IsLast cur q → (o : Object) × IsPopped cur new q o) → (o : Object) × (size ≡ object_cells o) × IsPopped cur new p o
+given_up lanes n p size first second cur new h a b c last cells pop =
+    let there = subst (λ s. HasObject s p × IsLast s p) (one_read lanes n first cur h a c) last in
+    let popped = pop p there.0 there.1 in
+    (popped.0, cells popped.0 (ap (λ s. objects_in s p) (one_read lanes n second cur h b c) ∙ popped.1.bumped.changed.here), popped.1)

@@ -5,7 +5,7 @@ use Rattle.jm_heap.specs.Packing.{Fits, kind_of}
 use Rattle.jm_blocks.specs.Objects.{Object}
 use Rattle.jm_blocks.specs.Cells.{object_cells}
 use Rattle.jm_blocks.specs.Places.{lane_of}
-use Rattle.jm_blocks.specs.Stores.{Blocks, objects_in, HasValue, IsSet, store_cells, store_with, next_place, Bumped}
+use Rattle.jm_blocks.specs.Stores.{Blocks, objects_in, HasValue, IsSet, IsPopped, store_cells, store_with, next_place, Bumped}
 
 -- the heap's limit in cells, and the blocks of each nursery, by its number
 pub record Young : Type 0 where
@@ -41,6 +41,16 @@ pub record IsMade (old new : Young) (n p : ℕ) (o : Object) : Type 0 where
   pub bumped : Bumped store (store_with store o) p o
   pub lanes : new ≡ record { limit = old.limit; lanes = slice_set old.lanes n (store_with store o) }
   pub cells : young_cells new.lanes ≡ young_cells old.lanes + object_cells o
+
+-- the last object of a nursery, which lay at a place, is given up
+pub record IsUnmade (old new : Young) (n p : ℕ) (o : Object) : Type 0 where
+  pub store : Blocks
+  pub after : Blocks
+  pub store_is : slice_get old.lanes n ≡ Some store
+  pub popped : IsPopped store after p o
+  pub lane : after.lane ≡ store.lane
+  pub lanes : new ≡ record { limit = old.limit; lanes = slice_set old.lanes n after }
+  pub cells : young_cells old.lanes ≡ young_cells new.lanes + object_cells o
 
 -- the place lies in the lane of a nursery, and its object has a value of this number
 abbrev pub HasYoungValue : List Blocks → ℕ → ℕ → Type 0

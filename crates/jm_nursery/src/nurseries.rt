@@ -7,9 +7,9 @@ ghost use Rattle.jm_heap.specs.Elements.{elements, element_kind};
 ghost use Rattle.jm_heap.specs.Packing.{Fits, kind_of};
 ghost use Rattle.jm_heap.specs.declared.storage.Storage.TheVariants as kind;
 ghost use Rattle.jm_blocks.specs.Places.{lane_of};
-ghost use Rattle.jm_blocks.specs.Stores.{Blocks, objects_in};
+ghost use Rattle.jm_blocks.specs.Stores.{Blocks, objects_in, HasObject, IsLast};
 ghost use Rattle.jm_blocks.specs.Cells.{object_cells};
-ghost use Rattle.jm_nursery.specs.Nurseries.{Young, AreNurseries, CanHoldYoung, HasYoungValue, IsMade, IsWritten, quota, young_cells, nursery_at};
+ghost use Rattle.jm_nursery.specs.Nurseries.{Young, AreNurseries, CanHoldYoung, HasYoungValue, IsMade, IsUnmade, IsWritten, quota, young_cells, nursery_at};
 
 use jm_blocks::{BlockStore, Header, Position};
 use jm_heap::Elements;
@@ -44,6 +44,15 @@ pub fn empty_nurseries(alloc: Global) -> Result<Vec<BlockStore>, AllocError>
         stores.push(BlockStore::new(alloc, number as u64 + 1))?;
     }
     Ok(stores)
+}
+
+// The cells of the object at a place.
+fn cells_at(store: &BlockStore, place: Place) -> u64
+    requires { HasObject store.now place }
+    ensures { (o : Object) → objects_in store.now place ≡ Some o → result ≡ object_cells o }
+{
+    let (header, values) = store.object_at(place);
+    header.class.size(values.len() as u64)
 }
 
 /// The blocks of sixteen workers' nurseries, and the cells of all their objects.
@@ -189,6 +198,21 @@ impl Nurseries {
         store.fill_defaults(alloc, header, fields)?;
         self.cells += size;
         Ok(place)
+    }
+
+    /// Gives up the last object in the nursery of a worker, its number modulo 16, if there is one.
+    pub fn pop(&mut self, worker: usize)
+        ensures { (s : Blocks) (p : ℕ) → slice_get self.old.lanes (worker % 16) ≡ Some s → HasObject s p → IsLast s p
+            → (o : Object) × IsUnmade self.old self.new (worker % 16) p o }
+    {
+        let number = worker % NURSERIES;
+        let Some(place) = self.stores[number].last() else {
+            return;
+        };
+        let size = cells_at(&self.stores[number], place);
+        let store = &mut self.stores[number];
+        store.pop();
+        self.cells -= size;
     }
 
     /// Changes one value of the object at a place in the lane of a nursery.

@@ -71,11 +71,10 @@ fn code_in(alloc: Global, bytes: &[u8]) -> Result<Vec<PlacedInstr>, CodeFault>
 /// the numbers of its targets (JVMS 4.7.3, 4.9.1, 6.5).
 ///
 /// # Errors
-/// The first of these in the order of the bytes: [`CodeFault::BadOpcode`], [`CodeFault::LeftOut`]
-/// and [`CodeFault::Later`] where an instruction is none that is read or begins behind the 65,535
+/// The first of these in the order of the bytes: [`CodeFault::BadOpcode`] and
+/// [`CodeFault::LeftOut`] where an instruction is none that is read or begins behind the 65,535
 /// bytes that a code can have, and [`CodeFault::Cut`] where the bytes end inside one or there is
-/// none. Else [`CodeFault::BadTarget`] where a branch
-/// leads to no instruction. [`CodeFault::OutOfMemory`] where a growth was refused.
+/// none. Else [`CodeFault::BadTarget`] where a branch leads to no instruction. [`CodeFault::OutOfMemory`] where a growth was refused.
 pub fn decode_code(alloc: Global, bytes: &[u8]) -> Result<Vec<PlacedInstr>, CodeFault>
     ensures few { IfOk result (λ v. length v.items ≤ 65535) }
     ensures spelled { IfOk result (λ v. code.Spells bytes.now v.items) }

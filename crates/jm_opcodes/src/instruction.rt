@@ -8,8 +8,8 @@ ghost use Rattle.jm_class_format.specs.Instructions.{operands, instruction};
 
 use crate::operands::{
     far_branch, field, increment, invoke, invoke_interface, load, load_constant,
-    load_constant_wide, load_long, near_branch, new_array, new_object, push_byte, push_short,
-    store, type_index, wide,
+    load_constant_wide, load_long, near_branch, new_array, new_arrays, new_object, push_byte,
+    push_short, store, type_index, wide,
 };
 use crate::switch::{lookup_switch, table_switch};
 use crate::table::opcode_of;
@@ -53,9 +53,9 @@ fn operands(
         Opcode::New => new_object(at, reader),
         Opcode::NewArray => new_array(at, reader),
         Opcode::Type(op) => type_index(at, op, reader),
+        Opcode::NewArrays => new_arrays(at, reader),
         Opcode::Wide => wide(at, reader),
         Opcode::LeftOut(op) => Err(CodeFault::LeftOut(op)),
-        Opcode::Later(op) => Err(CodeFault::Later(op)),
     }
 }
 

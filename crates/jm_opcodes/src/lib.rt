@@ -16,5 +16,5 @@ mod table;
 mod targets;
 
 pub use decode::{decode_code, decode_placed};
-pub use jm_class_format::{CodeFault, IndexedInstr, LaterOp, LeftOutOp, PlacedInstr};
+pub use jm_class_format::{CodeFault, IndexedInstr, LeftOutOp, PlacedInstr};
 pub use starts::Starts;

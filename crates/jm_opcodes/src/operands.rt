@@ -4,7 +4,7 @@
 ghost use Rattle.std.specs.Prelude.{◌≡◌, ◌<◌, ◌+◌, ◌+ℤ◌, ℤ, pos, Ok, Err, IfOk};
 ghost use Rattle.jm_bytes.specs.Reading.{Takes, TakesAll};
 ghost use Rattle.jm_bytes.specs.Format.{Format};
-ghost use Rattle.jm_class_format.specs.Instructions.{offset_of, target_from, near_target, far_target, element_at, new_array, invoke_interface, increment, wide_increment, can_be_wide, no_wide, wide_operands, wide, operands};
+ghost use Rattle.jm_class_format.specs.Instructions.{offset_of, target_from, near_target, far_target, element_at, new_array, new_arrays, invoke_interface, increment, wide_increment, can_be_wide, no_wide, wide_operands, wide, operands};
 ghost use Rattle.jm_class_format.specs.declared.opcode.Opcode.TheVariants as opcode;
 
 use crate::table::opcode_of;
@@ -224,6 +224,20 @@ pub fn new_array(at: u32, reader: &mut Reader<'_>) -> Result<IndexedInstr, CodeF
     };
     let element = element_of(at, code)?;
     Ok(IndexedInstr::Array(ArrayOp::New(element)))
+}
+
+/// The operands of `multianewarray`.
+#[tactic(auto, unfolding(jm_class_format::specs::Instructions::new_arrays))]
+pub fn new_arrays(at: u32, reader: &mut Reader<'_>) -> Result<IndexedInstr, CodeFault>
+    ensures { Takes result reader.new ((new_arrays at).read reader.old) }
+{
+    let Ok(index) = reader.u2() else {
+        return Err(CodeFault::Cut(at));
+    };
+    let Ok(dimensions) = reader.u1() else {
+        return Err(CodeFault::Cut(at));
+    };
+    Ok(IndexedInstr::Type(TypeOp::NewArrays(dimensions), index))
 }
 
 /// The operands of `invokeinterface`.

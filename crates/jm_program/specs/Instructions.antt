@@ -4,7 +4,7 @@ use Rattle.std.specs.List.{list_all}
 use Rattle.jm_program.specs.Names.{is_class_name}
 use Rattle.jm_program.specs.References.{class_ref_fits, field_ref_fits, method_ref_fits}
 use Rattle.jm_program.specs.declared.instruction.operation.TypeOp.{TypeOp}
-use Rattle.jm_program.specs.declared.instruction.operation.TypeOp.TheVariants.{NewArray, CheckCast, InstanceOf}
+use Rattle.jm_program.specs.declared.instruction.operation.TypeOp.TheVariants.{NewArray, NewArrays, CheckCast, InstanceOf}
 use Rattle.jm_program.specs.declared.instruction.plain.Plain.{Plain}
 use Rattle.jm_program.specs.declared.instruction.plain.Plain.TheVariants as plain
 use Rattle.jm_program.specs.declared.instruction.plain.TableSwitch.{TableSwitch}
@@ -46,8 +46,14 @@ abbrev pub can_be_element : ClassRef → Bool
 can_be_element (Class name) = true
 can_be_element (Array t) = nat_lt t.dimensions 255
 
+-- an array type of so many dimensions or more, and they are one or more (JVMS 6.5 multianewarray)
+abbrev pub has_dimensions : ClassRef → ℕ → Bool
+has_dimensions (Class name) d = false
+has_dimensions (Array t) d = nat_lt 0 d && nat_le d t.dimensions
+
 abbrev pub type_op_fits : TypeOp → ClassRef → Bool
 type_op_fits NewArray class = class_ref_fits class && can_be_element class
+type_op_fits (NewArrays d) class = class_ref_fits class && has_dimensions class d
 type_op_fits _ class = class_ref_fits class
 
 abbrev pub instr_fits : ℕ → Instr → Bool

@@ -10,6 +10,8 @@ use Rattle.jm_program.specs.declared.constant.Constant.{Constant}
 use Rattle.jm_program.specs.declared.constant.Constant.TheVariants as constant
 use Rattle.jm_program.specs.declared.instruction.operation.InvokeOp.{InvokeOp}
 use Rattle.jm_program.specs.declared.instruction.operation.InvokeOp.TheVariants as invoke
+use Rattle.jm_program.specs.declared.instruction.operation.TypeOp.{TypeOp}
+use Rattle.jm_program.specs.declared.instruction.operation.TypeOp.TheVariants as type_op
 use Rattle.jm_program.specs.declared.instruction.plain.Simple.{Simple}
 use Rattle.jm_program.specs.declared.instruction.plain.Simple.TheVariants as simple
 use Rattle.jm_program.specs.declared.instruction.plain.SwitchPair.{SwitchPair}
@@ -19,6 +21,7 @@ use Rattle.jm_program.specs.declared.instruction.plain.Plain.{Plain}
 use Rattle.jm_program.specs.declared.instruction.plain.Plain.TheVariants as plain
 use Rattle.jm_program.specs.declared.instruction.symbolic.Instr.{Instr}
 use Rattle.jm_program.specs.declared.instruction.symbolic.Instr.TheVariants as instr
+use Rattle.jm_program.specs.declared.reference.ClassRef.{ClassRef}
 use Rattle.jm_program.specs.declared.reference.MethodRef.{MethodRef}
 
 unfoldable pub simple_line : Simple → List ℕ
@@ -81,6 +84,14 @@ count_line _ m = []
 unfoldable pub invoke_line : InvokeOp → MethodRef → List ℕ
 invoke_line op m = invoke_mnemonic op ++ codes " " ++ method_ref_line m ++ count_line op m
 
+-- in how many dimensions multianewarray makes arrays
+unfoldable pub dimensions_line : TypeOp → List ℕ
+dimensions_line (type_op.NewArrays d) = codes " " ++ decimal d
+dimensions_line _ = []
+
+unfoldable pub type_op_line : TypeOp → ClassRef → List ℕ
+type_op_line op class = type_mnemonic op ++ codes " " ++ class_line class ++ dimensions_line op
+
 unfoldable pub instr_line : Instr → List ℕ
 instr_line (instr.Plain p) = plain_line p
 instr_line (instr.Array op) = array_line op
@@ -91,4 +102,4 @@ instr_line (instr.Constant c) = constant_line c
 instr_line (instr.Field op f) = field_mnemonic op ++ codes " " ++ field_ref_line f
 instr_line (instr.Invoke op m) = invoke_line op m
 instr_line (instr.New name) = codes "new " ++ name_text name
-instr_line (instr.Type op class) = type_mnemonic op ++ codes " " ++ class_line class
+instr_line (instr.Type op class) = type_op_line op class

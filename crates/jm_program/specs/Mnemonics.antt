@@ -176,5 +176,6 @@ invoke_mnemonic invoke.Interface = codes "invokeinterface"
 
 unfoldable pub type_mnemonic : TypeOp → List ℕ
 type_mnemonic type_op.NewArray = codes "anewarray"
+type_mnemonic (type_op.NewArrays d) = codes "multianewarray"
 type_mnemonic type_op.CheckCast = codes "checkcast"
 type_mnemonic type_op.InstanceOf = codes "instanceof"

@@ -1,33 +1,34 @@
 -- What a heap did, beside the world of the state.
 use Rattle.std.proofs.Common.{◌≡◌, ℕ, ◌+◌, List, Option, Some, None, Ok, Err, length, refl, sym, ap, ◌∙◌, subst, arith}
-use Rattle.std.specs.Prelude.{map}
+use Rattle.std.specs.Prelude.{◌∷◌, ◌<◌, map, option_map, slice_get, sum_by}
+use Rattle.std.proofs.lemmas.List.{length-map}
+use Rattle.jm_values.proofs.Lists.{get_map, get_there, got_within}
 use Rattle.std.proofs.Math.Path.{fun_ext}
 use Rattle.std.specs.List.Sorted.{IsStrictlyIncreasing}
-use Rattle.jm_program.specs.declared.class.ClassParts.{ClassParts}
 use Rattle.jm_values.specs.Shape.{Among}
 use Rattle.jm_values.specs.Objects.{ObjectOf, size_by}
-use Rattle.jm_values.specs.Content.{Content, IsSound, Kept, Made, AllResident, Reached, used_by, name_of}
+use Rattle.jm_values.specs.Content.{Content, IsSound, Kept, Made, MadeAll, AllResident, Reached, used_by, name_of, object_at, serial_at}
 use Rattle.jm_values.specs.Marking.{AreReached, FindsReached}
-use Rattle.jm_world.specs.Objects.{size_of, size}
+use Rattle.jm_world.specs.Objects.{Object, cells_of_all, size_of, size}
 use Rattle.jm_world.specs.World.{World, reach, reach_cells}
 use Rattle.jm_world.specs.Matches.{Parts, Matches, places, as_named}
-use Rattle.jm_world.proofs.Making.{make_goes, make_full, make_ends}
+use Rattle.jm_world.proofs.Making.{cells_of_named, make_all_ends, make_all_full, make_all_goes, make_goes, make_full, make_ends}
 use Rattle.jm_world.proofs.Matching.{reaches_alike}
-use Rattle.jm_world.proofs.Moved.{HasMoved, kept_matches, made_matches, made_lies, put_renamed, put_refs, same_renamed}
+use Rattle.jm_world.proofs.Moved.{HasMoved, all_lie, all_placed, kept_matches, made_all_matches, made_matches, made_lies, put_renamed, put_refs, same_renamed}
 use Rattle.jm_world.proofs.PlacesOfParts.{held_of, parts_shape, places_held}
 use Rattle.jm_world.proofs.Reaching.{reach_is_least}
-use Rattle.jm_heap.specs.Allocation.{IsRefused, IsRefusedHere, MadeHere}
+use Rattle.jm_heap.specs.Allocation.{AreRefused, IsRefused, IsRefusedHere, MadeHere}
 use Rattle.jm_heap.specs.Cells.{class_size}
 use Rattle.jm_heap.specs.Collection.{LeavesReached}
+use Rattle.jm_heap.specs.Trees.{MadeFrom}
 use Rattle.jm_heap.specs.declared.heap.Kind.{Kind}
 use Rattle.jm_heap.specs.declared.heap.Kind.TheVariants.{Minor, Full}
 use Rattle.jm_heap.specs.declared.class_id.ClassId.{ClassId}
-use Rattle.jm_heap.specs.declared.class_id.ClassId.TheVariants.{Instance, Array}
 use Rattle.jm_heap.specs.declared.fault.HeapFault.{HeapFault}
 use Rattle.jm_heap.specs.declared.fault.HeapFault.TheVariants as fault
 use Rattle.jm_linked.specs.Links.{LinkedView}
 use Rattle.jm_linked.specs.Named.{named_states}
-use Rattle.jm_state.specs.Ends.{MadeOrNot, halt_from}
+use Rattle.jm_state.specs.Ends.{MadeAllOrNot, MadeOrNot, halt_from}
 use Rattle.jm_state.specs.Parts.{named_type, parts}
 use Rattle.jm_state.specs.Places.{IsPutBack, places_of}
 use Rattle.jm_state.specs.Reached.{AreReachable, FindsReachable, LeavesReachable}
@@ -64,6 +65,45 @@ module _ {m new : Parts ClassId} {w : World} (h : Matches m w) (a : HasMoved m n
       let cells = cells_alike in let limit = h.limit in let last = h.next in
       let f = why.0 in let n = why.1 in
       (λ go. make_ends w (as_named m.named o) go (omega arith) (omega arith), same)
+
+-- and what it did with a list
+module _ {m new : Parts ClassId} {w : World} (h : Matches m w) (a : HasMoved m new) (sizes : (t : ClassId) (n : ℕ) → size_of (m.named t) n ≡ class_size t n)
+    (os : List (ObjectOf ClassId)) where
+  all_cells_alike : used_by class_size m.content (places m) + sum_by (size_by class_size) os ≡ reach_cells w + cells_of_all (map (as_named m.named) os)
+  all_cells_alike =
+      let same : (λ (t : ClassId). size_of (m.named t)) ≡ class_size = fun_ext (λ t. fun_ext (sizes t)) in
+      ap (λ n. n + sum_by (size_by class_size) os) (ap (λ (s : ClassId → ℕ → ℕ). used_by s m.content (places m)) (sym same) ∙ (reaches_alike m w h).cells)
+      ∙ ap (λ (s : ClassId → ℕ → ℕ). reach_cells w + sum_by (size_by s) os) (sym same)
+      ∙ ap (λ n. reach_cells w + n) (sym (cells_of_named m.named os))
+
+  all_made_ends : (place : ℕ) (ps : List ℕ) → MadeAll class_size m.content (places m) new.content (places new) (place ∷ ps) os
+      → MadeAllOrNot (Ok place) new w (map (as_named m.named) os)
+  all_made_ends place ps made =
+      let cells = all_cells_alike in let limit = h.limit in let next = h.next in
+      let f = made.fits in let n = made.lasts in let many = length-map os (as_named m.named) in (
+        λ go. make_all_goes w (map (as_named m.named) os) go (omega (arith, cells, limit, f)) (omega (arith, next, n, many)),
+        made_all_matches h a made,
+        subst (λ k. serial_at new.content place ≡ Some k) (omega arith) (all_placed h a made 0 place refl),
+        lie made,
+      )
+    where
+      lie : MadeAll class_size m.content (places m) new.content (places new) (place ∷ ps) os → (i : ℕ) (o : Object) → slice_get (map (as_named m.named) os) i ≡ Some o
+          → option_map (as_named new.named) (object_at new.content (length w.heap + i)) ≡ Some o
+      lie made i o e =
+          let within : i < length os = omega (arith, got_within (map (as_named m.named) os) i o e, length-map os (as_named m.named)) in
+          let one = get_there os i within in
+          let same : Some (as_named m.named one.0) ≡ Some o = sym (get_map (as_named m.named) os i one.0 one.1) ∙ e in
+          all_lie h a made i one.0 one.1 ∙ same
+
+  all_refused_ends : (why : HeapFault) → Matches new w → AreRefused m.content (places m) os why → MadeAllOrNot (Err (halt_from why)) new w (map (as_named m.named) os)
+  all_refused_ends fault.OutOfMemory same why = same
+  all_refused_ends fault.HeapFull same why =
+      let cells = all_cells_alike in let limit = h.limit in
+      (λ go. make_all_full w (map (as_named m.named) os) go (omega (arith, cells, limit, why)), same)
+  all_refused_ends fault.SerialsEnd same why =
+      let cells = all_cells_alike in let limit = h.limit in let last = h.next in let many = length-map os (as_named m.named) in
+      let f = why.0 in let n = why.1 in
+      (λ go. make_all_ends w (map (as_named m.named) os) go (omega (arith, cells, limit, f)) (omega (arith, last, many, n)), same)
 
 -- a state beside a world has a sound heap, and the gathered places have objects
 module _ (l : LinkedView) (c : Content ClassId) (s : StateView) (b : IsRunnable l s × (w : World) × Matches (parts l c s) w) where
@@ -132,6 +172,25 @@ module _ {l : LinkedView} {c : Content ClassId} {s : StateView} {roots : List �
     unfolding parts
     refused_back {d} why o h kept next refused =
         refused_ends h (has_moved d kept.names) (sizes_alike l.program) o why (kept_back h kept next) (subst (λ r. IsRefused c r o why) from refused)
+
+    pub all_made_back : {d : Content ClassId} {w : World} {place : ℕ} (made : ℕ → List (ObjectOf ClassId)) → Matches (parts l c s) w
+        → MadeFrom c roots d moved place (made c.next) → MadeAllOrNot (Ok place) (parts l d t) w (map (as_named (named_type l.program)) (made (length w.heap)))
+    unfolding parts
+    all_made_back {d} {w} {place} made h from_next =
+        let kept = from_next.1.kept in
+        let os = made c.next in
+        subst (λ k. MadeAllOrNot (Ok place) (parts l d t) w (map (as_named (named_type l.program)) (made k))) h.next
+        (all_made_ends h (has_moved d kept.names) (sizes_alike l.program) os place from_next.0
+        (subst (λ r. MadeAll class_size c r d (places (parts l d t)) (place ∷ from_next.0) os) from
+        (subst (λ r. MadeAll class_size c roots d r (place ∷ from_next.0) os) (to d kept.names) from_next.1)))
+
+    pub all_refused_back : {d : Content ClassId} {w : World} (why : HeapFault) (made : ℕ → List (ObjectOf ClassId)) → Matches (parts l c s) w → Kept c roots d moved
+        → d.next ≡ c.next → AreRefused c roots (made c.next) why
+        → MadeAllOrNot (Err (halt_from why)) (parts l d t) w (map (as_named (named_type l.program)) (made (length w.heap)))
+    unfolding parts
+    all_refused_back {d} {w} why made h kept next refused =
+        subst (λ k. MadeAllOrNot (Err (halt_from why)) (parts l d t) w (map (as_named (named_type l.program)) (made k))) h.next
+        (all_refused_ends h (has_moved d kept.names) (sizes_alike l.program) (made c.next) why (kept_back h kept next) (subst (λ r. AreRefused c r (made c.next) why) from refused))
 
   -- what is reached from them is what the world reaches
   module _ {w : World} (h : Matches (parts l c s) w) where

@@ -1,8 +1,8 @@
 -- What comes of a step, beside the model's next world.
-use Rattle.std.specs.Prelude.{◌≡◌, ℕ, Result, Ok, Err, [], ◌∷◌, ◌++◌, Some, option_map, length}
+use Rattle.std.specs.Prelude.{◌≡◌, ◌+◌, ℕ, Result, Ok, Err, List, [], ◌∷◌, ◌++◌, Some, option_map, length, slice_get}
 use Rattle.jm_world.specs.Objects.{Object}
 use Rattle.jm_world.specs.World.{World}
-use Rattle.jm_world.specs.Next.{Next, goes, stops, blocks, make}
+use Rattle.jm_world.specs.Next.{Next, goes, stops, blocks, make, make_all, numbers_from, with_objects}
 use Rattle.jm_values.specs.Content.{serial_at, object_at}
 use Rattle.jm_world.specs.Matches.{Parts, Matches, as_named}
 use Rattle.jm_world.specs.declared.stop.Stop.TheVariants as stop
@@ -42,3 +42,14 @@ MadeOrNot (Ok place) new w o =
     × (option_map (as_named new.named) (object_at new.content (length w.heap)) ≡ Some o)
 MadeOrNot (Err (Stopped s)) new w o = ((go : World → ℕ → Next) → make w o go ≡ stops s) × Matches new w
 MadeOrNot (Err OutOfMemory) new w o = Matches new w
+
+-- the objects of a list were made, the first of them at the place, as the model makes them all, and lie
+-- there, or the model stops
+abbrev pub MadeAllOrNot : Result ℕ Halt → Parts ClassId → World → List Object → Type 0
+MadeAllOrNot (Ok place) new w os =
+    ((go : World → List ℕ → Next) → make_all w os go ≡ go (with_objects w os) (numbers_from (length w.heap) os))
+    × Matches new (with_objects w os)
+    × (serial_at new.content place ≡ Some (length w.heap))
+    × ((i : ℕ) (o : Object) → slice_get os i ≡ Some o → option_map (as_named new.named) (object_at new.content (length w.heap + i)) ≡ Some o)
+MadeAllOrNot (Err (Stopped s)) new w os = ((go : World → List ℕ → Next) → make_all w os go ≡ stops s) × Matches new w
+MadeAllOrNot (Err OutOfMemory) new w os = Matches new w

@@ -29,7 +29,7 @@ mod thread;
 pub use arguments::{Callee, arguments_on, called_frame, called_frame_in, test_arguments};
 pub use halt::{Halt, StepEnd};
 pub use laws::arguments_are_popped;
-pub use make::{collect, make_object};
+pub use make::{collect, make_arrays, make_object};
 pub use parameters::test_parameters;
 pub use places::{gather, put_back};
 pub use reach::{find_reachable, reachable};

@@ -1,5 +1,5 @@
 -- Other references leave what there is without them.
-use Rattle.std.proofs.Common.{◌≡◌, ℕ, ◌∷◌, List, [], Option, Some, None, length, drop, refl, ap, ◌∙◌}
+use Rattle.std.proofs.Common.{◌≡◌, ℕ, ◌∷◌, List, [], Some, None, length, drop, refl, ap, ◌∙◌}
 use Rattle.std.specs.Prelude.{map}
 use Rattle.jm_values.specs.Shape.{Shape, list_shape, option_shape, pair_shape, list_refill}
 use Rattle.jm_values.specs.Rename.{value_shape, locals_shape, stack_shape}

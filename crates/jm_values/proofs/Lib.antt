@@ -7,6 +7,7 @@ pub mod Renaming
 pub mod Reaching
 pub mod Agreeing
 pub mod SoundContents
+pub mod ArraysOfArrays
 pub mod Marking
 pub mod NaturalSteps
 pub mod NaturalRows

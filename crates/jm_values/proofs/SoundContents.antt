@@ -61,6 +61,20 @@ pub serial_below : {T : Type 0} (c : Content T) → IsSound c → (p k : ℕ) �
 unfolding serial_at
 serial_below c s p k e = s.below k (serial_listed c.residents p k e)
 
+object_listed : {T : Type 0} (rs : List (Resident T)) (k : ℕ) (o : ObjectOf T) → object_in rs k ≡ Some o → Among k (serials_of rs)
+object_listed [] k o e = cc
+object_listed {T = T} (r ∷ rs) k o e = by (nat_eq k r.serial) refl (object_listed rs k o) e
+  where
+    by : (b : Bool) → nat_eq k r.serial ≡ b → (object_in rs k ≡ Some o → Among k (serials_of rs))
+        → (elim b as (λ _. Option (ObjectOf T)) [ true ↦ Some r.object | false ↦ object_in rs k ]) ≡ Some o → (k ≡ r.serial) ⊎ Among k (serials_of rs)
+    by true same later h = inl (equal_numbers k r.serial same)
+    by false same later h = inr (later h)
+
+-- the serial of an object is below the next one
+pub object_below : {T : Type 0} (c : Content T) → IsSound c → (k : ℕ) (o : ObjectOf T) → object_at c k ≡ Some o → k < c.next
+unfolding object_at
+object_below c s k o e = s.below k (object_listed c.residents k o e)
+
 -- each place with a serial has an object
 pub object_of_place : {T : Type 0} (c : Content T) (p k : ℕ) → serial_at c p ≡ Some k → (o : ObjectOf T) × (object_at c k ≡ Some o)
 unfolding serial_at object_at

@@ -1,6 +1,6 @@
 -- What a heap contains, and what its calls leave: each object has a serial, its number in the world,
 -- and a place, which is the heap's own business and may change.
-use Rattle.std.specs.Prelude.{◌≡◌, ◌≢◌, ℕ, ◌+◌, ◌<◌, ◌≤◌, ◌^◌, List, [], ◌∷◌, map, Option, Some, None, nat_eq, unwrap_or, slice_get, slice_set, true, false}
+use Rattle.std.specs.Prelude.{◌≡◌, ◌≢◌, ℕ, ◌+◌, ◌<◌, ◌≤◌, ◌^◌, List, [], ◌∷◌, map, Option, Some, None, nat_eq, unwrap_or, slice_get, slice_set, length, sum_by, true, false}
 use Rattle.jm_values.specs.Shape.{Among}
 use Rattle.jm_values.specs.Rename.{rename}
 use Rattle.jm_values.specs.declared.value.Value.{Value}
@@ -89,6 +89,25 @@ IsFull sizes c roots o = c.limit < used_by sizes c roots + size_by sizes o
 
 abbrev pub IsAtEnd : {T : Type 0} → (T → ℕ → ℕ) → Content T → List ℕ → ObjectOf T → Type 0
 IsAtEnd sizes c roots o = (used_by sizes c roots + size_by sizes o ≤ c.limit) × (2 ^ 63 ≤ c.next)
+
+-- the objects of a list have been made at places, with the serials that follow, all of them; none of an
+-- empty list
+pub record MadeAll {T : Type 0} (sizes : T → ℕ → ℕ) (old : Content T) (roots : List ℕ) (new : Content T) (moved : List ℕ) (places : List ℕ) (os : List (ObjectOf T)) : Type 0 where
+  pub kept : Kept old roots new moved
+  pub next : new.next ≡ old.next + length os
+  pub many : length places ≡ length os
+  pub placed : (i p : ℕ) → slice_get places i ≡ Some p → serial_at new p ≡ Some (old.next + i)
+  pub filled : (i : ℕ) (o : ObjectOf T) → slice_get os i ≡ Some o → object_at new (old.next + i) ≡ Some o
+  pub fits : used_by sizes old roots + sum_by (size_by sizes) os ≤ old.limit
+  pub lasts : old.next + length os ≤ 2 ^ 63
+
+-- why none of a list was made: their cells and those reached pass the limit, or serials are at their
+-- end
+abbrev pub AreFull : {T : Type 0} → (T → ℕ → ℕ) → Content T → List ℕ → List (ObjectOf T) → Type 0
+AreFull sizes c roots os = c.limit < used_by sizes c roots + sum_by (size_by sizes) os
+
+abbrev pub AreAtEnd : {T : Type 0} → (T → ℕ → ℕ) → Content T → List ℕ → List (ObjectOf T) → Type 0
+AreAtEnd sizes c roots os = (used_by sizes c roots + sum_by (size_by sizes) os ≤ c.limit) × (2 ^ 63 < c.next + length os)
 
 -- the place has an object, with a value of this number
 abbrev pub HasValue : {T : Type 0} → Content T → ℕ → ℕ → Value → Type 0

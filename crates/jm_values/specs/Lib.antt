@@ -14,6 +14,7 @@ pub mod PlainRows
 pub mod Shape
 pub mod Rename
 pub mod Objects
+pub mod ArraysOfArrays
 pub mod Reach
 pub mod Content
 pub mod Marking

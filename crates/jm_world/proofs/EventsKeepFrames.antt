@@ -1,7 +1,6 @@
 -- Unwinding, initialization, entries and events keep the frames of a world, and so do runs.
-use Rattle.std.proofs.Common.{◌≡◌, ℕ, zero, suc, ◌<◌, ◌≤◌, List, [], ◌∷◌, ◌++◌, Option, Some, None, Bool, true, false, refl, sym, ap, ◌∙◌, subst, inl, inr, ◌⊎◌, length, arith}
+use Rattle.std.proofs.Common.{◌≡◌, ℕ, ◌<◌, ◌≤◌, List, [], ◌∷◌, Option, Some, None, Bool, true, false, refl, sym, ◌∙◌, subst, inl, inr, length, arith}
 use Rattle.std.specs.Prelude.{map, slice_get, nat_le, nat_eq, codes}
-use Rattle.std.specs.List.{AllByRecursion}
 use Rattle.std.proofs.lemmas.Bool.{leb-true}
 use Rattle.std.specs.Cmp.Lexicographic.{bytes_decides}
 use Rattle.jm_program.specs.Names.{same_text}
@@ -15,15 +14,15 @@ use Rattle.jm_world.specs.Types.{ObjectType, instance_of}
 use Rattle.jm_world.specs.Classes.{FoundMethod, MethodName, class_named, method_named, name_of_method, error_class}
 use Rattle.jm_world.specs.Resolution.{select}
 use Rattle.jm_world.specs.Frames.{Frame, method_frame, initialization_frame, entry_frame}
-use Rattle.jm_world.specs.World.{World, Thread, Progress, thread_at, is_running, ended_by, state_of, state_in, set_state_in, with_state, with_thread}
+use Rattle.jm_world.specs.World.{World, Thread, Progress, thread_at, is_running, state_of, state_in, set_state_in, with_state, with_thread}
 use Rattle.jm_world.specs.Next.{Next, goes, stops, blocks, exception}
 use Rattle.jm_world.specs.Here.{with_frames}
-use Rattle.jm_world.specs.Throwing.{is_kind_of, handler_in, handlers_of, class_name, unwound, unwound_anew, drop_method, handle, drop_initialization, unwind_frames, unwind}
+use Rattle.jm_world.specs.Throwing.{is_kind_of, handler_in, handlers_of, unwound, unwound_anew, drop_method, handle, drop_initialization, unwind_frames, unwind}
 use Rattle.jm_world.specs.Invocation.{activation_of, monitor_of, class_of}
 use Rattle.jm_world.specs.Returns.{ended}
 use Rattle.jm_world.specs.Initialization.{constants_of, begin, superclass_name, is_done, superclass_first, initializer_of, finish, call_initializer, run_initializer, initialize}
 use Rattle.jm_world.specs.Stepping.{instruction_in, run_type, enter_code, enter_found, enter_thread, step_frame, step_thread}
-use Rattle.jm_world.specs.Loading.{main_in, first_frames, first_thread, loaded_world}
+use Rattle.jm_world.specs.Loading.{main_in, first_thread, loaded_world}
 use Rattle.jm_world.specs.Run.{after, After, answered, after_step, after_thread, after_event, run_from}
 use Rattle.jm_world.specs.FramesOfRuns.{FramesStand, ThreadStands, HasBegun, Initialize, Initializes, ThreadsStand, EventsKeepFrames, RunsKeepFrames}
 use Rattle.jm_world.specs.declared.reply.ReplyKind.TheVariants as kind

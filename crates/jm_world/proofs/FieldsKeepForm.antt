@@ -1,5 +1,5 @@
 -- Constants, fields, arrays and type checks keep a world well formed.
-use Rattle.std.proofs.Common.{◌≡◌, ℕ, zero, suc, ◌<◌, List, [], ◌∷◌, Option, Some, None, Bool, true, false, refl, sym, subst, length, arith, ℤ, pos, negsuc}
+use Rattle.std.proofs.Common.{◌≡◌, ℕ, zero, suc, ◌+◌, ◌<◌, List, [], ◌∷◌, Option, Some, None, Bool, true, false, refl, sym, subst, length, arith, ℤ, pos, negsuc}
 use Rattle.std.specs.Prelude.{map, slice_get, slice_set, nat_lt, codes}
 use Rattle.std.specs.List.{AllByRecursion}
 use Rattle.jm_program.specs.Names.{same_text}
@@ -16,10 +16,12 @@ use Rattle.jm_program.specs.declared.instruction.operation.ArrayOp.TheVariants.{
 use Rattle.jm_program.specs.declared.instruction.operation.OperandType.{OperandType}
 use Rattle.jm_program.specs.declared.instruction.operation.OperandType.TheVariants as operand
 use Rattle.jm_program.specs.declared.instruction.operation.TypeOp.{TypeOp}
-use Rattle.jm_program.specs.declared.instruction.operation.TypeOp.TheVariants.{NewArray, CheckCast, InstanceOf}
+use Rattle.jm_program.specs.declared.instruction.operation.TypeOp.TheVariants.{NewArray, NewArrays, CheckCast, InstanceOf}
 use Rattle.jm_values.specs.declared.value.Value.{Value}
 use Rattle.jm_values.specs.declared.value.Value.TheVariants.{Int, Long, Null, Ref}
 use Rattle.jm_values.specs.Objects.{default_of, copies}
+use Rattle.jm_values.specs.ArraysOfArrays.{Dimension, tree}
+use Rattle.jm_values.proofs.ArraysOfArrays.{tree_many, tree_values}
 use Rattle.jm_world.specs.Types.{ObjectType, instance_of, array_of, operand_of, default_value, narrow, type_of_ref, primitive_type}
 use Rattle.jm_world.specs.Objects.{Object, FieldName, instance_fields, new_instance, new_array, same_field}
 use Rattle.jm_world.specs.World.{World, Literal, Static, literal_in, static_in, set_static_in}
@@ -28,10 +30,11 @@ use Rattle.jm_world.specs.Here.{Here, go_on, go_on_in, push, push_new, throws, w
 use Rattle.jm_world.specs.Constants.{row_constant}
 use Rattle.jm_world.specs.Fields.{resolved_field, name_of_field, with_field, get_static, put_static, place_in, with_place, pushed, get_field, put_field, with_value_at, row_field}
 use Rattle.jm_world.specs.Arrays.{operand_of_kind, serves, when_serves, with_index, load_element, can_store, store_in, store_element, with_length, new_array_of, length_of, row_array}
+use Rattle.jm_world.specs.ArraysOfArrays.{with_lengths, element_type, dimensions_of, push_all_new, new_arrays_of}
 use Rattle.jm_world.specs.TypeChecks.{row_new, is_instance, check_cast, instance_test, row_type}
 use Rattle.jm_world.specs.WellFormed.{ValueBelow, ValuesBelow, NumberBelow, ThreadFits, MonitorFits, IsWellFormed}
 use Rattle.jm_world.proofs.Fitting.{each_set, each_got, length_set}
-use Rattle.jm_world.proofs.KeepingForm.{Fine, if_fine, option_fine, StandsHere, go_on_in_fine, go_on_fine, throws_fine, push_fine, push_new_fine, with_operand_fine, with_int_fine, with_reference_fine, with_object_fine, when_initialized_fine}
+use Rattle.jm_world.proofs.KeepingForm.{Fine, if_fine, option_fine, StandsHere, go_on_in_fine, go_on_fine, throws_fine, push_fine, push_new_fine, push_all_new_fine, with_counts_fine, with_lengths_fine, with_operand_fine, with_int_fine, with_reference_fine, with_object_fine, when_initialized_fine}
 
 -- literals
 pub literal_got : (P : ℕ → Type 0) (ls : List Literal) (units : List ℕ) (k : ℕ) → AllByRecursion (λ l. P l.string) ls → literal_in ls units ≡ Some k → P k
@@ -187,6 +190,25 @@ new_array_fine here h t = with_int_fine (length here.world.heap) here.frame.stac
     by (pos n) s b = push_new_fine here h (new_array t n) s (array_below (length here.world.heap) n t) b
     by (negsuc n) s b = throws_fine here h _
 
+-- multianewarray: each array names what is there, or arrays that are made with it
+elements_below : (n : ℕ) (t : FieldType) (counts : List ℕ) → AllByRecursion (λ d. ValueBelow n d.element) (dimensions_of t counts)
+elements_below n t [] = tt
+elements_below n t (count ∷ counts) = (default_below n (operand_of (element_type t)), elements_below n (element_type t) counts)
+
+pub tree_below : (t : FieldType) (counts : List ℕ) (k : ℕ) → AllByRecursion (λ o. ValuesBelow (k + length (tree (dimensions_of t counts) k)) o.values) (tree (dimensions_of t counts) k)
+tree_below t counts k = tree_values (ValueBelow n) ds k (elements_below n t counts) (λ j l b. omega (arith, b, tree_many ds k))
+  where
+    ds : List (Dimension ObjectType)
+    ds = dimensions_of t counts
+
+    n : ℕ
+    n = k + length (tree ds k)
+
+new_arrays_fine : (here : Here) (h : StandsHere here) (t : FieldType) (d : ℕ) → Fine (new_arrays_of here t d)
+new_arrays_fine here h t d = with_counts_fine (length here.world.heap) d [] here.frame.stack (λ ns s. with_lengths here ns (λ counts. push_all_new here (tree (dimensions_of t counts) (length here.world.heap)) s)) h.stack
+    (λ ns s b. with_lengths_fine here h ns (λ counts. push_all_new here (tree (dimensions_of t counts) (length here.world.heap)) s)
+    (λ counts. push_all_new_fine here h (tree (dimensions_of t counts) (length here.world.heap)) s (tree_below t counts (length here.world.heap)) b))
+
 length_fine : (here : Here) (h : StandsHere here) (o : Object) (type : ObjectType) (s : List Value) → ValuesBelow (length here.world.heap) s → Fine (length_of here o type s)
 length_fine here h o (array_of component) s b = push_fine here h (Int (pos (length o.values))) s tt b
 length_fine here h o (instance_of class) s b = tt
@@ -198,7 +220,7 @@ array_fine here h (New t) = new_array_fine here h (primitive_type t)
 array_fine here h Length = with_reference_fine (length here.world.heap) here.frame.stack (λ r s. with_object here r (λ p o. length_of here o o.type s)) h.stack
     (λ r s b c. with_object_fine here h r (λ p o. length_of here o o.type s) b (λ p o e l d. length_fine here h o o.type s c))
 
--- new, anewarray, checkcast, instanceof
+-- new, anewarray, multianewarray, checkcast, instanceof
 pub new_fine : (here : Here) (h : StandsHere here) (class : List ℕ) → Fine (row_new here class)
 new_fine here h class = when_initialized_fine here h class _ (push_new_fine here h (new_instance here.world.program class) here.frame.stack (defaults_below (length here.world.heap) (instance_fields here.world.program class)) h.stack)
 
@@ -214,5 +236,6 @@ instance_fine here h t (Some k) s b c = with_object_fine here h (Some k) (λ p o
 
 pub type_fine : (here : Here) (h : StandsHere here) (op : TypeOp) (t : ClassRef) → Fine (row_type here op t)
 type_fine here h NewArray t = new_array_fine here h (type_of_ref t)
+type_fine here h (NewArrays d) t = new_arrays_fine here h (type_of_ref t) d
 type_fine here h CheckCast t = with_reference_fine (length here.world.heap) here.frame.stack (λ r s. check_cast here t r s) h.stack (λ r s b c. cast_fine here h t r s b c)
 type_fine here h InstanceOf t = with_reference_fine (length here.world.heap) here.frame.stack (λ r s. instance_test here t r s) h.stack (λ r s b c. instance_fine here h t r s b c)

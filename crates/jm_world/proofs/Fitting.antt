@@ -11,6 +11,7 @@ use Rattle.jm_values.proofs.Among.{among_left, among_right}
 use Rattle.jm_world.specs.Objects.{Object}
 use Rattle.jm_world.specs.Frames.{Frame, method_frame, initialization_frame, entry_frame}
 use Rattle.jm_world.specs.World.{World, Thread, Monitor, with_thread}
+use Rattle.jm_world.specs.Next.{with_objects}
 use Rattle.jm_world.specs.WellFormed.{ValueBelow, ValuesBelow, LocalBelow, LocalsBelow, NumberBelow, FrameBelow, FramesBelow, ThreadFits, MonitorFits, IsWellFormed}
 
 -- lists
@@ -156,26 +157,33 @@ with_thread_fits w number t f g = record {
   threads = each_set (ThreadFits (length w.heap)) w.threads (number - 1) t f.threads g;
 }
 
--- a world with one more object
-abbrev pub grown : World → Object → World
-grown w o = record w { heap = w.heap ++ o ∷ [] }
+-- a world with more objects: each of these names what is there with them
+longer : (w : World) (os : List Object) → length w.heap ≤ length (w.heap ++ os)
+longer w os = omega (arith, length-append w.heap os)
 
-longer : (w : World) (o : Object) → length w.heap ≤ length (w.heap ++ o ∷ [])
-longer w o = omega (arith, length-append w.heap (o ∷ []))
+pub with_objects_longer : (w : World) (os : List Object) → length (with_objects w os).heap ≡ length w.heap + length os
+with_objects_longer w os = length-append w.heap os
 
-pub grown_longer : (w : World) (o : Object) → length (grown w o).heap ≡ length w.heap + 1
-grown_longer w o = omega (arith, length-append w.heap (o ∷ []))
-
-pub grown_fits : (w : World) (o : Object) → IsWellFormed w → ValuesBelow (length w.heap) o.values → IsWellFormed (grown w o)
-grown_fits w o f g =
+pub with_objects_fits : (w : World) (os : List Object) → IsWellFormed w → AllByRecursion (λ x. ValuesBelow (length (with_objects w os).heap) x.values) os → IsWellFormed (with_objects w os)
+with_objects_fits w os f g =
     let n : ℕ = length w.heap in
-    let m : ℕ = length (w.heap ++ o ∷ []) in
-    let l : length w.heap ≤ length (w.heap ++ o ∷ []) = longer w o in
+    let m : ℕ = length (w.heap ++ os) in
+    let l : length w.heap ≤ length (w.heap ++ os) = longer w os in
     record {
-      objects = each_append (λ x. ValuesBelow m x.values) w.heap (o ∷ []) (each_more (λ x b. values_more n m l x.values b) w.heap f.objects) (values_more n m l o.values g, tt);
+      objects = each_append (λ x. ValuesBelow m x.values) w.heap os (each_more (λ x b. values_more n m l x.values b) w.heap f.objects) g;
       literals = each_more (λ x b. omega (arith, l, b)) w.literals f.literals;
       statics = each_more (λ x b. value_more n m l x.value b) w.statics f.statics;
       monitors = each_more (monitor_more n m (length w.threads) (length w.threads) l (omega arith)) w.monitors f.monitors;
       once = f.once;
       threads = each_more (thread_more n m l) w.threads f.threads;
     }
+
+-- a world with one more object
+abbrev pub grown : World → Object → World
+grown w o = with_objects w (o ∷ [])
+
+pub grown_longer : (w : World) (o : Object) → length (grown w o).heap ≡ length w.heap + 1
+grown_longer w o = with_objects_longer w (o ∷ [])
+
+pub grown_fits : (w : World) (o : Object) → IsWellFormed w → ValuesBelow (length w.heap) o.values → IsWellFormed (grown w o)
+grown_fits w o f g = with_objects_fits w (o ∷ []) f (values_more (length w.heap) (length (w.heap ++ o ∷ [])) (longer w (o ∷ [])) o.values g, tt)

@@ -29,10 +29,11 @@ use Rattle.jm_program.specs.declared.instruction.operation.OperandType.TheVarian
 use Rattle.jm_program.specs.declared.instruction.operation.ReturnOp.{ReturnOp}
 use Rattle.jm_program.specs.declared.instruction.operation.ReturnOp.TheVariants as return
 use Rattle.jm_program.specs.declared.instruction.operation.TypeOp.{TypeOp}
-use Rattle.jm_program.specs.declared.instruction.operation.TypeOp.TheVariants.{NewArray, CheckCast, InstanceOf}
+use Rattle.jm_program.specs.declared.instruction.operation.TypeOp.TheVariants.{NewArray, NewArrays, CheckCast, InstanceOf}
 use Rattle.jm_values.specs.Activation.{Activation, units}
 use Rattle.jm_values.specs.Outcome.{Outcome}
 use Rattle.jm_values.specs.Outcome as outcome
+use Rattle.jm_values.specs.ArraysOfArrays.{tree}
 use Rattle.jm_values.specs.PlainRows.{row_plain}
 use Rattle.jm_values.specs.Steps.{is_of}
 use Rattle.jm_values.specs.declared.value.Value.{Value}
@@ -41,16 +42,17 @@ use Rattle.jm_values.specs.declared.fault.TagFault.TheVariants.{WrongKind}
 use Rattle.jm_world.specs.Types.{ObjectType, instance_of, array_of, operand_of, narrow, type_of_ref, primitive_type}
 use Rattle.jm_world.specs.Classes.{FoundMethod, MethodName, name_of_method, class_named, method_named, string_class, print_stream_class, thread_class, throwable_class, error_class}
 use Rattle.jm_world.specs.Resolution.{resolve_method, select}
-use Rattle.jm_world.specs.Objects.{Object, size, FieldName, new_instance, new_array}
+use Rattle.jm_world.specs.Objects.{Object, size, cells_of_all, FieldName, new_instance, new_array}
 use Rattle.jm_world.specs.Frames.{Frame, method_frame, initialization_frame, entry_frame}
 use Rattle.jm_world.specs.World.{World, Thread, Monitor, with_thread, thread_at, is_running, with_state, state_of, reach_cells, literal_in, static_in, set_static_in}
-use Rattle.jm_world.specs.Next.{Next, goes, stops, blocks, faults, make, exception, throw}
+use Rattle.jm_world.specs.Next.{Next, goes, stops, blocks, faults, make, numbers_from, with_objects, make_all, exception, throw}
 use Rattle.jm_world.specs.Here.{Here, topped, moved_on, with_frames, go_on, go_on_in, throws, push, push_new, with_operand, with_int, with_reference, with_arguments, with_object, with_depth, push_frame, is_ready, all_frames, when_initialized}
 use Rattle.jm_world.specs.Monitors.{monitor_in, recounted, with_monitor, entered, enter, enter_if, left_in, leave, leave_if}
 use Rattle.jm_world.specs.Text.{number_text, char_text, utf8_text, units_of}
 use Rattle.jm_world.specs.Constants.{row_constant}
 use Rattle.jm_world.specs.Fields.{resolved_field, name_of_field, with_field, get_static, put_static, place_in, with_place, pushed, get_field, put_field, with_value_at, row_field}
 use Rattle.jm_world.specs.Arrays.{operand_of_kind, serves, when_serves, with_index, load_element, can_store, store_in, store_element, with_length, new_array_of, length_of, row_array}
+use Rattle.jm_world.specs.ArraysOfArrays.{with_counts, with_lengths, dimensions_of, first_made, push_all_new, new_arrays_of}
 use Rattle.jm_world.specs.TypeChecks.{is_instance, check_cast, instance_test, row_type}
 use Rattle.jm_world.specs.BuiltInMethods.{new_thread, chars_of_type, with_chars, write, is_char_type, with_printed, char_at, was_started, start_thread, row_built_in}
 use Rattle.jm_world.specs.Invocation.{activation_of, monitor_of, calling, call_code, call_instance, call_found, class_of, is_of_class, with_receiver, invoke_virtual, invoke_interface, found_special, invoke_special, call_static, invoke_found, row_invoke_of, row_invoke}
@@ -108,6 +110,9 @@ its_code w (suc n) t f e = each_got (λ t. FramesHaveCode w.program t.frames) w.
 make_runs : (v : World) (o : Object) (go : World → ℕ → Next) → Runs (go (grown v o) (length v.heap)) → Runs (make v o go)
 make_runs v o go g = if_runs (nat_lt v.limit (reach_cells v + size o)) _ _ tt (if_runs (nat_le (2 ^ 63) (length v.heap)) _ _ tt g)
 
+make_all_runs : (v : World) (os : List Object) (go : World → List ℕ → Next) → Runs (go (with_objects v os) (numbers_from (length v.heap) os)) → Runs (make_all v os go)
+make_all_runs v os go g = if_runs (nat_lt v.limit (reach_cells v + cells_of_all os)) _ _ tt (if_runs (nat_lt (2 ^ 63) (length v.heap + length os)) _ _ tt g)
+
 throw_runs : (w : World) (number : ℕ) (t : Thread) (class : List ℕ) → ThreadsHaveCode w → FramesHaveCode w.program t.frames → Runs (throw w number t class)
 throw_runs w number t class h f = make_runs w (exception class) (λ made k. goes (with_thread made number (record t { pending = Some k })))
     (put (grown w (exception class)) number (record t { pending = Some (length w.heap) }) h f)
@@ -120,6 +125,9 @@ push_runs here h v s = if_runs (nat_le (units (v ∷ s)) here.frame.max_stack) _
 
 push_new_runs : (here : Here) (h : RunsHere here) (o : Object) (s : List Value) → Runs (push_new here o s)
 push_new_runs here h o s = if_runs (nat_le (units (Null ∷ s)) here.frame.max_stack) _ _ (make_runs here.world o (λ made k. go_on_in here made (Ref k ∷ s)) (top here h _)) tt
+
+push_all_new_runs : (here : Here) (h : RunsHere here) (os : List Object) (s : List Value) → Runs (push_all_new here os s)
+push_all_new_runs here h os s = if_runs (nat_le (units (Null ∷ s)) here.frame.max_stack) _ _ (make_all_runs here.world os (λ made numbers. go_on_in here made (first_made numbers ∷ s)) (top here h _)) tt
 
 operand_runs : (type : OperandType) (s : List Value) (go : Value → List Value → Next) → ((v : Value) (rest : List Value) → Runs (go v rest)) → Runs (with_operand type s go)
 operand_runs type [] go f = tt
@@ -255,6 +263,20 @@ new_array_runs here h t = int_runs here.frame.stack (λ n s. with_length here n 
     by (pos n) s = push_new_runs here h (new_array t n) s
     by (negsuc n) s = throws_runs here h (codes "java/lang/NegativeArraySizeException")
 
+counts_run : (d : ℕ) (counts : List ℤ) (s : List Value) (go : List ℤ → List Value → Next) → ((ns : List ℤ) (rest : List Value) → Runs (go ns rest)) → Runs (with_counts d counts s go)
+counts_run zero counts s go f = f counts s
+counts_run (suc d) counts s go f = int_runs s (λ n below. with_counts d (n ∷ counts) below go) (λ n below. counts_run d (n ∷ counts) below go f)
+
+lengths_run : (here : Here) (h : RunsHere here) (ns : List ℤ) (go : List ℕ → Next) → ((counts : List ℕ) → Runs (go counts)) → Runs (with_lengths here ns go)
+lengths_run here h [] go f = f []
+lengths_run here h (pos n ∷ ns) go f = lengths_run here h ns (λ counts. go (n ∷ counts)) (λ counts. f (n ∷ counts))
+lengths_run here h (negsuc n ∷ ns) go f = throws_runs here h (codes "java/lang/NegativeArraySizeException")
+
+new_arrays_run : (here : Here) (h : RunsHere here) (t : FieldType) (d : ℕ) → Runs (new_arrays_of here t d)
+new_arrays_run here h t d = counts_run d [] here.frame.stack (λ ns s. with_lengths here ns (λ counts. push_all_new here (tree (dimensions_of t counts) (length here.world.heap)) s))
+    (λ ns s. lengths_run here h ns (λ counts. push_all_new here (tree (dimensions_of t counts) (length here.world.heap)) s)
+    (λ counts. push_all_new_runs here h (tree (dimensions_of t counts) (length here.world.heap)) s))
+
 length_runs : (here : Here) (h : RunsHere here) (o : Object) (type : ObjectType) (s : List Value) → Runs (length_of here o type s)
 length_runs here h o (array_of component) s = push_runs here h (Int (pos (length o.values))) s
 length_runs here h o (instance_of class) s = tt
@@ -279,6 +301,7 @@ instance_runs here h t (Some k) s = object_runs here h (Some k) (λ p o. elim (i
 
 type_runs : (here : Here) (h : RunsHere here) (op : TypeOp) (t : ClassRef) → Runs (row_type here op t)
 type_runs here h NewArray t = new_array_runs here h (type_of_ref t)
+type_runs here h (NewArrays d) t = new_arrays_run here h (type_of_ref t) d
 type_runs here h CheckCast t = reference_runs here.frame.stack (λ r s. check_cast here t r s) (λ r s. cast_runs here h t r s)
 type_runs here h InstanceOf t = reference_runs here.frame.stack (λ r s. instance_test here t r s) (λ r s. instance_runs here h t r s)
 

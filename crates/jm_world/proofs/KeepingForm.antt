@@ -1,5 +1,5 @@
 -- The words of the rows keep a world well formed.
-use Rattle.std.proofs.Common.{◌≡◌, ◌≢◌, ℕ, ◌+◌, ◌-◌, ◌^◌, ◌<◌, ◌≤◌, List, [], ◌∷◌, Option, Some, None, Bool, true, false, refl, sym, ap, ◌∙◌, subst, inl, inr, ◌⊎◌, length, arith, ℤ}
+use Rattle.std.proofs.Common.{◌≡◌, ◌≢◌, ℕ, zero, suc, ◌+◌, ◌-◌, ◌^◌, ◌<◌, ◌≤◌, List, [], ◌∷◌, Option, Some, None, Bool, true, false, refl, sym, ap, ◌∙◌, subst, inl, inr, ◌⊎◌, length, arith, ℤ, pos, negsuc}
 use Rattle.std.specs.Prelude.{map, slice_get, nat_eq, nat_lt, nat_le, codes}
 use Rattle.std.specs.List.{AllByRecursion}
 use Rattle.std.proofs.lemmas.Bool.{ltb-true}
@@ -12,16 +12,17 @@ use Rattle.jm_values.specs.Steps.{is_of}
 use Rattle.jm_values.specs.declared.value.Value.{Value}
 use Rattle.jm_values.specs.declared.value.Value.TheVariants.{Int, Long, Null, Ref}
 use Rattle.jm_world.specs.Types.{operand_of}
-use Rattle.jm_world.specs.Objects.{Object, size}
+use Rattle.jm_world.specs.Objects.{Object, size, cells_of_all}
 use Rattle.jm_world.specs.Frames.{Frame, method_frame, initialization_frame}
 use Rattle.jm_world.specs.World.{World, Thread, Monitor, with_thread, is_running, reach_cells, state_of}
-use Rattle.jm_world.specs.Next.{Next, goes, stops, blocks, make, exception, throw}
+use Rattle.jm_world.specs.Next.{Next, goes, stops, blocks, make, numbers_from, with_objects, make_all, exception, throw}
 use Rattle.jm_world.specs.Here.{Here, with_frames, moved_on, go_on_in, go_on, throws, with_room, push, push_new, with_operand, with_int, with_reference, with_arguments, with_object, with_depth, push_frame, is_ready, all_frames, when_initialized}
+use Rattle.jm_world.specs.ArraysOfArrays.{with_counts, with_lengths, first_made, push_all_new}
 use Rattle.jm_world.specs.Monitors.{monitor_in, without_monitor, recounted, with_monitor, entered, enter, enter_if, left_in, leave, leave_if}
 use Rattle.jm_values.specs.Reach.{AllDistinct}
 use Rattle.jm_world.specs.WellFormed.{ValueBelow, ValuesBelow, LocalsBelow, NumberBelow, FrameBelow, FramesBelow, ThreadFits, MonitorFits, IsWellFormed}
 use Rattle.jm_world.specs.declared.stage.Stage.TheVariants.{Begin}
-use Rattle.jm_world.proofs.Fitting.{each_got, values_more, locals_more, number_more, frames_more, thread_more, with_thread_fits, grown, grown_longer, grown_fits}
+use Rattle.jm_world.proofs.Fitting.{each_got, values_more, locals_more, number_more, frames_more, thread_more, with_thread_fits, with_objects_longer, with_objects_fits, grown, grown_longer, grown_fits}
 
 -- what comes of a step is well formed
 abbrev pub Fine : Next → Type 0
@@ -50,6 +51,11 @@ never_ended t e P f = absurd (let g : true ≡ false = sym e ∙ f in cc)
 
 pub make_fine : (w : World) (o : Object) (go : World → ℕ → Next) → IsWellFormed w → ValuesBelow (length w.heap) o.values → (IsWellFormed (grown w o) → Fine (go (grown w o) (length w.heap))) → Fine (make w o go)
 make_fine w o go f b g = if_fine (nat_lt w.limit (reach_cells w + size o)) _ _ (λ e. tt) (λ e. if_fine (nat_le (2 ^ 63) (length w.heap)) _ _ (λ d. tt) (λ d. g (grown_fits w o f b)))
+
+pub make_all_fine : (w : World) (os : List Object) (go : World → List ℕ → Next) → IsWellFormed w → AllByRecursion (λ x. ValuesBelow (length w.heap + length os) x.values) os
+    → (IsWellFormed (with_objects w os) → Fine (go (with_objects w os) (numbers_from (length w.heap) os))) → Fine (make_all w os go)
+make_all_fine w os go f b g = if_fine (nat_lt w.limit (reach_cells w + cells_of_all os)) _ _ (λ e. tt) (λ e. if_fine (nat_lt (2 ^ 63) (length w.heap + length os)) _ _ (λ d. tt)
+    (λ d. g (with_objects_fits w os f (subst (λ n. AllByRecursion (λ x. ValuesBelow n x.values) os) (sym (with_objects_longer w os)) b))))
 
 pub throw_fine : (w : World) (number : ℕ) (t : Thread) (class : List ℕ) → Stands w number t → Fine (throw w number t class)
 throw_fine w number t class h = make_fine w (exception class) (λ made k. goes (with_thread made number (record t { pending = Some k }))) h.world tt (λ f. with_thread_fits (grown w (exception class)) number (record t { pending = Some (length w.heap) }) f (record {
@@ -97,6 +103,21 @@ push_new_fine here h o s b c = with_room_fine here (Null ∷ s) _ (make_fine her
     longer : length here.world.heap ≤ length (grown here.world o).heap
     longer = omega (arith, grown_longer here.world o)
 
+-- the first of new objects is one of them
+first_below : (n : ℕ) (os : List Object) → ValueBelow (n + length os) (first_made (numbers_from n os))
+first_below n [] = tt
+first_below n (o ∷ os) = omega arith
+
+pub push_all_new_fine : (here : Here) (h : StandsHere here) (os : List Object) (s : List Value) → AllByRecursion (λ x. ValuesBelow (length here.world.heap + length os) x.values) os → ValuesBelow (length here.world.heap) s → Fine (push_all_new here os s)
+push_all_new_fine here h os s b c = with_room_fine here (Null ∷ s) _ (make_all_fine here.world os (λ made numbers. go_on_in here made (first_made numbers ∷ s)) h.stands.world b (λ f.
+    go_on_in_fine here h (with_objects here.world os) (first_made (numbers_from (length here.world.heap) os) ∷ s) f longer (
+      subst (λ n. ValueBelow n (first_made (numbers_from (length here.world.heap) os))) (sym (with_objects_longer here.world os)) (first_below (length here.world.heap) os),
+      values_more (length here.world.heap) (length (with_objects here.world os).heap) longer s c,
+    )))
+  where
+    longer : length here.world.heap ≤ length (with_objects here.world os).heap
+    longer = omega (arith, with_objects_longer here.world os)
+
 -- operands
 pub with_operand_fine : (n : ℕ) (type : OperandType) (s : List Value) (go : Value → List Value → Next) → ValuesBelow n s → ((v : Value) (rest : List Value) → ValueBelow n v → ValuesBelow n rest → Fine (go v rest)) → Fine (with_operand type s go)
 with_operand_fine n type [] go b f = tt
@@ -108,6 +129,15 @@ with_int_fine n (Int i ∷ s) go b f = f i s b.1
 with_int_fine n (Long i ∷ s) go b f = tt
 with_int_fine n (Null ∷ s) go b f = tt
 with_int_fine n (Ref k ∷ s) go b f = tt
+
+pub with_counts_fine : (n d : ℕ) (counts : List ℤ) (s : List Value) (go : List ℤ → List Value → Next) → ValuesBelow n s → ((ns : List ℤ) (rest : List Value) → ValuesBelow n rest → Fine (go ns rest)) → Fine (with_counts d counts s go)
+with_counts_fine n zero counts s go b f = f counts s b
+with_counts_fine n (suc d) counts s go b f = with_int_fine n s (λ i below. with_counts d (i ∷ counts) below go) b (λ i below c. with_counts_fine n d (i ∷ counts) below go c f)
+
+pub with_lengths_fine : (here : Here) (h : StandsHere here) (ns : List ℤ) (go : List ℕ → Next) → ((counts : List ℕ) → Fine (go counts)) → Fine (with_lengths here ns go)
+with_lengths_fine here h [] go f = f []
+with_lengths_fine here h (pos n ∷ ns) go f = with_lengths_fine here h ns (λ counts. go (n ∷ counts)) (λ counts. f (n ∷ counts))
+with_lengths_fine here h (negsuc n ∷ ns) go f = throws_fine here h (codes "java/lang/NegativeArraySizeException")
 
 pub with_reference_fine : (n : ℕ) (s : List Value) (go : Option ℕ → List Value → Next) → ValuesBelow n s → ((r : Option ℕ) (rest : List Value) → NumberBelow n r → ValuesBelow n rest → Fine (go r rest)) → Fine (with_reference s go)
 with_reference_fine n [] go b f = tt

@@ -1,5 +1,5 @@
 -- The words of the rows keep the frames of a world, and who initializes its classes.
-use Rattle.std.proofs.Common.{◌≡◌, ◌≢◌, ℕ, zero, suc, ◌+◌, ◌-◌, ◌^◌, ◌<◌, ◌≤◌, List, [], ◌∷◌, Option, Some, None, Bool, true, false, refl, sym, ap, ◌∙◌, subst, inl, inr, ◌⊎◌, length, arith, ℤ}
+use Rattle.std.proofs.Common.{◌≡◌, ◌≢◌, ℕ, zero, suc, ◌+◌, ◌-◌, ◌^◌, ◌<◌, ◌≤◌, List, [], ◌∷◌, Option, Some, None, Bool, true, false, refl, sym, ap, ◌∙◌, subst, inl, inr, ◌⊎◌, length, arith, ℤ, pos, negsuc}
 use Rattle.std.specs.Prelude.{slice_get, slice_set, nat_eq, nat_lt, nat_le, codes}
 use Rattle.std.specs.List.{AllByRecursion}
 use Rattle.std.proofs.lemmas.Bool.{ltb-true, leb-true}
@@ -12,11 +12,12 @@ use Rattle.jm_values.specs.WellFormed.{IsWellFormed}
 use Rattle.jm_values.specs.declared.value.Value.{Value}
 use Rattle.jm_values.specs.declared.value.Value.TheVariants.{Int, Long, Null, Ref}
 use Rattle.jm_world.specs.Types.{operand_of}
-use Rattle.jm_world.specs.Objects.{Object, size}
+use Rattle.jm_world.specs.Objects.{Object, size, cells_of_all}
 use Rattle.jm_world.specs.Frames.{Frame, method_frame, initialization_frame}
 use Rattle.jm_world.specs.World.{World, Thread, Monitor, with_thread, thread_at, reach_cells, state_of, state_in}
-use Rattle.jm_world.specs.Next.{Next, goes, stops, blocks, make, exception, throw}
+use Rattle.jm_world.specs.Next.{Next, goes, stops, blocks, make, numbers_from, with_objects, make_all, exception, throw}
 use Rattle.jm_world.specs.Here.{Here, with_frames, topped, moved_on, go_on_in, go_on, throws, with_room, push, push_new, with_operand, with_int, with_reference, with_arguments, with_object, with_depth, push_frame, is_ready, all_frames, when_initialized}
+use Rattle.jm_world.specs.ArraysOfArrays.{with_counts, with_lengths, first_made, push_all_new}
 use Rattle.jm_world.specs.Monitors.{monitor_in, recounted, with_monitor, entered, enter, enter_if, left_in, leave, leave_if}
 use Rattle.jm_world.specs.FramesOfRuns.{FramesStand, ThreadStands, Initialize, Initializes, ThreadsStand}
 use Rattle.jm_world.specs.declared.class_state.ClassState.TheVariants.{InProgress}
@@ -103,6 +104,9 @@ kept w v number t u h e c s f = changed w v number t u h e s (λ class owner p.
 pub make_framed : (w : World) (o : Object) (go : World → ℕ → Next) → Framed (go (grown w o) (length w.heap)) → Framed (make w o go)
 make_framed w o go g = if_framed (nat_lt w.limit (reach_cells w + size o)) _ _ (λ e. tt) (λ e. if_framed (nat_le (2 ^ 63) (length w.heap)) _ _ (λ d. tt) (λ d. g))
 
+pub make_all_framed : (w : World) (os : List Object) (go : World → List ℕ → Next) → Framed (go (with_objects w os) (numbers_from (length w.heap) os)) → Framed (make_all w os go)
+make_all_framed w os go g = if_framed (nat_lt w.limit (reach_cells w + cells_of_all os)) _ _ (λ e. tt) (λ e. if_framed (nat_lt (2 ^ 63) (length w.heap + length os)) _ _ (λ d. tt) (λ d. g))
+
 -- a throw leaves the frames that the thread is given
 pub throw_as : (w : World) (number : ℕ) (t u : Thread) (class : List ℕ) → StepsIn w number t → ThreadStands u → ((c : List ℕ) → Initialize t.frames c → Initialize u.frames c) → Framed (throw w number u class)
 throw_as w number t u class h s f = make_framed w (exception class) (λ made k. goes (with_thread made number (record u { pending = Some k })))
@@ -140,6 +144,17 @@ push_framed here h v s = with_room_framed here (v ∷ s) _ (go_on_framed here h 
 pub push_new_framed : (here : Here) (h : StepsHere here) (o : Object) (s : List Value) → Framed (push_new here o s)
 push_new_framed here h o s = with_room_framed here (Null ∷ s) _ (λ l. make_framed here.world o (λ made k. go_on_in here made (Ref k ∷ s)) (go_on_in_framed here h (grown here.world o) (Ref (length here.world.heap) ∷ s) refl refl l))
 
+first_takes_one : (numbers : List ℕ) (s : List Value) → units (first_made numbers ∷ s) ≡ units (Null ∷ s)
+first_takes_one [] s = refl
+first_takes_one (k ∷ ks) s = refl
+
+pub push_all_new_framed : (here : Here) (h : StepsHere here) (os : List Object) (s : List Value) → Framed (push_all_new here os s)
+push_all_new_framed here h os s = with_room_framed here (Null ∷ s) _ (λ l. make_all_framed here.world os (λ made numbers. go_on_in here made (first_made numbers ∷ s))
+    (go_on_in_framed here h (with_objects here.world os) (first_made numbers ∷ s) refl refl (omega (arith, l, first_takes_one numbers s))))
+  where
+    numbers : List ℕ
+    numbers = numbers_from (length here.world.heap) os
+
 -- operands: each takes a unit at least
 taken : (m : ℕ) (v : Value) (s : List Value) → units (v ∷ s) ≤ m → units s + 1 ≤ m
 taken m (Int n) s l = omega (arith, l)
@@ -157,6 +172,15 @@ with_int_framed m (Int i ∷ s) go l f = f i s (taken m (Int i) s l)
 with_int_framed m (Long i ∷ s) go l f = tt
 with_int_framed m (Null ∷ s) go l f = tt
 with_int_framed m (Ref k ∷ s) go l f = tt
+
+pub with_counts_framed : (m d : ℕ) (counts : List ℤ) (s : List Value) (go : List ℤ → List Value → Next) → units s ≤ m → ((ns : List ℤ) (rest : List Value) → Framed (go ns rest)) → Framed (with_counts d counts s go)
+with_counts_framed m zero counts s go l f = f counts s
+with_counts_framed m (suc d) counts s go l f = with_int_framed m s (λ i below. with_counts d (i ∷ counts) below go) l (λ i below k. with_counts_framed m d (i ∷ counts) below go (omega (arith, k)) f)
+
+pub with_lengths_framed : (here : Here) (h : StepsHere here) (ns : List ℤ) (go : List ℕ → Next) → ((counts : List ℕ) → Framed (go counts)) → Framed (with_lengths here ns go)
+with_lengths_framed here h [] go f = f []
+with_lengths_framed here h (pos n ∷ ns) go f = with_lengths_framed here h ns (λ counts. go (n ∷ counts)) (λ counts. f (n ∷ counts))
+with_lengths_framed here h (negsuc n ∷ ns) go f = throws_framed here h (codes "java/lang/NegativeArraySizeException")
 
 pub with_reference_framed : (m : ℕ) (s : List Value) (go : Option ℕ → List Value → Next) → units s ≤ m → ((r : Option ℕ) (rest : List Value) → units rest + 1 ≤ m → Framed (go r rest)) → Framed (with_reference s go)
 with_reference_framed m [] go l f = tt

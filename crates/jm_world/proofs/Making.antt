@@ -1,11 +1,18 @@
 -- Making many objects at once, beside making one, and their numbers.
-use Rattle.std.proofs.Common.{◌≡◌, ℕ, zero, suc, ◌+◌, ◌<◌, ◌≤◌, ◌^◌, List, [], ◌∷◌, ◌++◌, Some, Bool, true, false, refl, ap, ◌∙◌, subst, length, arith}
-use Rattle.std.specs.Prelude.{map, slice_get, nat_lt, nat_le}
+use Rattle.std.proofs.Common.{◌≡◌, ℕ, zero, suc, ◌+◌, ◌<◌, ◌≤◌, ◌^◌, List, [], ◌∷◌, ◌++◌, Some, Bool, true, false, refl, sym, ap, ◌∙◌, subst, length, arith}
+use Rattle.std.specs.Prelude.{map, slice_get, sum_by, nat_lt, nat_le}
 use Rattle.std.proofs.lemmas.Bool.Decides.{nat_tests}
 use Rattle.std.proofs.lemmas.Bool.{le-ltb}
-use Rattle.jm_world.specs.Objects.{Object, size}
+use Rattle.std.proofs.lemmas.List.Sums.{sum_by-cons}
+use Rattle.jm_values.specs.ArraysOfArrays.{Dimension, tree}
+use Rattle.jm_values.specs.Objects.{ObjectOf, size_by}
+use Rattle.jm_values.specs.declared.value.Value.TheVariants.{Ref}
+use Rattle.jm_world.specs.Types.{ObjectType}
+use Rattle.jm_world.specs.Objects.{Object, size, size_of, cells_of_all}
 use Rattle.jm_world.specs.World.{World, reach_cells}
-use Rattle.jm_world.specs.Next.{Next, stops, make, numbers_from, with_objects}
+use Rattle.jm_world.specs.Next.{Next, stops, make, numbers_from, with_objects, make_all}
+use Rattle.jm_world.specs.ArraysOfArrays.{first_made}
+use Rattle.jm_world.specs.Matches.{as_named}
 use Rattle.jm_world.specs.Making.{OneIsAList, ObjectsAreNumbered}
 use Rattle.jm_world.specs.declared.stop.Stop.TheVariants.{HeapFull, SerialsEnd}
 
@@ -87,3 +94,38 @@ module _ (w : World) (o : Object) (go : World → ℕ → Next) where
   make_ends fits last =
       let ended : nat_le (2 ^ 63) (length w.heap) ≡ true = grind (arith, nat_tests) in
       ap (λ b. made b (nat_le (2 ^ 63) (length w.heap))) (le-ltb w.limit (reach_cells w + size o) fits) ∙ ap (made false) ended
+
+-- what making all objects of a list comes to
+module _ (w : World) (os : List Object) (go : World → List ℕ → Next) where
+  abbrev made_all : Bool → Bool → Next
+  made_all full ended = elim full as (λ _. Next) [
+    | true ↦ stops HeapFull
+    | false ↦ elim ended as (λ _. Next) [ true ↦ stops SerialsEnd | false ↦ go (with_objects w os) (numbers_from (length w.heap) os) ]
+  ]
+
+  pub make_all_goes : reach_cells w + cells_of_all os ≤ w.limit → length w.heap + length os ≤ 2 ^ 63 → make_all w os go ≡ go (with_objects w os) (numbers_from (length w.heap) os)
+  make_all_goes fits lasts =
+      ap (λ b. made_all b (nat_lt (2 ^ 63) (length w.heap + length os))) (le-ltb w.limit (reach_cells w + cells_of_all os) fits)
+      ∙ ap (made_all false) (le-ltb (2 ^ 63) (length w.heap + length os) lasts)
+
+  pub make_all_full : w.limit < reach_cells w + cells_of_all os → make_all w os go ≡ stops HeapFull
+  make_all_full passed =
+      let full : nat_lt w.limit (reach_cells w + cells_of_all os) ≡ true = grind (arith, nat_tests) in
+      ap (λ b. made_all b (nat_lt (2 ^ 63) (length w.heap + length os))) full
+
+  pub make_all_ends : reach_cells w + cells_of_all os ≤ w.limit → 2 ^ 63 < length w.heap + length os → make_all w os go ≡ stops SerialsEnd
+  make_all_ends fits last =
+      let ended : nat_lt (2 ^ 63) (length w.heap + length os) ≡ true = grind (arith, nat_tests) in
+      ap (λ b. made_all b (nat_lt (2 ^ 63) (length w.heap + length os))) (le-ltb w.limit (reach_cells w + cells_of_all os) fits) ∙ ap (made_all false) ended
+
+-- the cells of objects whose types are told otherwise
+pub cells_of_named : {T : Type 0} (named : T → ObjectType) (os : List (ObjectOf T)) → cells_of_all (map (as_named named) os) ≡ sum_by (size_by (λ t. size_of (named t))) os
+cells_of_named named [] = refl
+cells_of_named named (o ∷ os) =
+    ap (λ n. size (as_named named o) + n) (cells_of_named named os)
+    ∙ sym (sum_by-cons (size_by (λ t. size_of (named t))) o os)
+
+-- the first of arrays of arrays is the outermost
+pub outermost_is_first : (d : Dimension ObjectType) (ds : List (Dimension ObjectType)) (j k : ℕ) → first_made (numbers_from k (tree (d ∷ ds) j)) ≡ Ref k
+outermost_is_first d [] j k = refl
+outermost_is_first d (e ∷ ds) j k = refl

@@ -1,7 +1,6 @@
 -- Each row of the instruction table keeps the frames of a world.
-use Rattle.std.proofs.Common.{◌≡◌, ℕ, zero, suc, ◌+◌, ◌-◌, ◌<◌, ◌≤◌, List, [], ◌∷◌, ◌++◌, Option, Some, None, Bool, true, false, refl, sym, ap, ◌∙◌, subst, inl, inr, ◌⊎◌, length, arith, ℤ, pos, negsuc}
-use Rattle.std.specs.Prelude.{slice_get, slice_set, reverse, nat_lt, nat_le, nat_eq, codes}
-use Rattle.std.specs.List.{AllByRecursion}
+use Rattle.std.proofs.Common.{◌≡◌, ℕ, zero, suc, ◌+◌, ◌-◌, ◌<◌, ◌≤◌, List, [], ◌∷◌, ◌++◌, Option, Some, None, true, false, refl, length, arith, ℤ, pos, negsuc}
+use Rattle.std.specs.Prelude.{slice_get, reverse, nat_lt, nat_le, codes}
 use Rattle.jm_program.specs.Names.{same_text}
 use Rattle.jm_program.specs.Flags.{is_abstract}
 use Rattle.jm_program.specs.declared.code.Code.{Code}
@@ -29,8 +28,9 @@ use Rattle.jm_program.specs.declared.instruction.operation.OperandType.TheVarian
 use Rattle.jm_program.specs.declared.instruction.operation.ReturnOp.{ReturnOp}
 use Rattle.jm_program.specs.declared.instruction.operation.ReturnOp.TheVariants as return
 use Rattle.jm_program.specs.declared.instruction.operation.TypeOp.{TypeOp}
-use Rattle.jm_program.specs.declared.instruction.operation.TypeOp.TheVariants.{NewArray, CheckCast, InstanceOf}
-use Rattle.jm_values.specs.Activation.{Activation, units}
+use Rattle.jm_program.specs.declared.instruction.operation.TypeOp.TheVariants.{NewArray, NewArrays, CheckCast, InstanceOf}
+use Rattle.jm_values.specs.ArraysOfArrays.{tree}
+use Rattle.jm_values.specs.Activation.{units}
 use Rattle.jm_values.specs.Outcome.{Outcome}
 use Rattle.jm_values.specs.Outcome as outcome
 use Rattle.jm_values.specs.PlainRows.{row_plain}
@@ -40,7 +40,7 @@ use Rattle.jm_values.specs.declared.value.Value.TheVariants.{Int, Long, Null, Re
 use Rattle.jm_values.specs.declared.fault.TagFault.TheVariants.{WrongKind}
 use Rattle.jm_values.proofs.KeepsForm.{plain_keeps}
 use Rattle.jm_world.specs.Types.{ObjectType, instance_of, array_of, operand_of, narrow, type_of_ref, primitive_type}
-use Rattle.jm_world.specs.Classes.{FoundMethod, MethodName, method_named, name_of_method, string_class, print_stream_class, thread_class, throwable_class}
+use Rattle.jm_world.specs.Classes.{FoundMethod, MethodName, name_of_method, string_class, print_stream_class, thread_class, throwable_class}
 use Rattle.jm_world.specs.Resolution.{resolve_method, select}
 use Rattle.jm_world.specs.Objects.{Object, FieldName, new_instance, new_array}
 use Rattle.jm_world.specs.Frames.{Frame, method_frame, initialization_frame, entry_frame}
@@ -52,16 +52,17 @@ use Rattle.jm_world.specs.Text.{number_text, char_text, utf8_text, units_of}
 use Rattle.jm_world.specs.Constants.{row_constant}
 use Rattle.jm_world.specs.Fields.{resolved_field, name_of_field, with_field, get_static, put_static, place_in, with_place, pushed, get_field, put_field, with_value_at, row_field}
 use Rattle.jm_world.specs.Arrays.{operand_of_kind, serves, when_serves, with_index, load_element, can_store, store_in, store_element, with_length, new_array_of, length_of, row_array}
+use Rattle.jm_world.specs.ArraysOfArrays.{with_lengths, dimensions_of, push_all_new, new_arrays_of}
 use Rattle.jm_world.specs.TypeChecks.{row_new, is_instance, check_cast, instance_test, row_type}
 use Rattle.jm_world.specs.BuiltInMethods.{chars_of_type, with_chars, write, is_char_type, with_printed, char_at, was_started, new_thread, with_new_thread, start_thread, row_built_in}
-use Rattle.jm_world.specs.Invocation.{argument_locals, locals_of, unset, padded, activation_of, monitor_of, calling, call_code, call_instance, call_found, class_of, is_of_class, with_receiver, invoke_virtual, invoke_interface, found_special, invoke_special, call_static, invoke_found, row_invoke_of, row_invoke}
-use Rattle.jm_world.specs.Returns.{ended, with_result, returned_to, return_from, same_operand, return_value, return_nothing, pop_and_return, row_return}
+use Rattle.jm_world.specs.Invocation.{locals_of, unset, activation_of, monitor_of, calling, call_code, call_instance, call_found, class_of, is_of_class, with_receiver, invoke_virtual, invoke_interface, found_special, invoke_special, call_static, invoke_found, row_invoke_of, row_invoke}
+use Rattle.jm_world.specs.Returns.{with_result, returned_to, return_from, same_operand, return_value, return_nothing, pop_and_return, row_return}
 use Rattle.jm_world.specs.Throwing.{is_kind_of, row_throw}
 use Rattle.jm_world.specs.Stepping.{from_outcome, row_monitor, row, instruction_at}
 use Rattle.jm_world.specs.FramesOfRuns.{FramesStand, ThreadStands, Initialize, Initializes, ThreadsStand}
 use Rattle.jm_world.proofs.Fitting.{each_append}
 use Rattle.jm_world.proofs.KeepingForm.{with_monitors}
-use Rattle.jm_world.proofs.KeepingFrames.{Framed, if_framed, option_framed, StepsIn, its_frames, kept, StepsHere, topped_stands, go_on_in_framed, go_on_framed, throws_framed, push_framed, push_new_framed, with_operand_framed, with_int_framed, with_reference_framed, with_arguments_framed, with_object_framed, with_depth_framed, with_frames_stand, when_initialized_framed, enter_framed, enter_if_framed, leave_framed, leave_if_framed}
+use Rattle.jm_world.proofs.KeepingFrames.{Framed, if_framed, option_framed, StepsIn, its_frames, kept, StepsHere, topped_stands, go_on_in_framed, go_on_framed, throws_framed, push_framed, push_new_framed, push_all_new_framed, with_counts_framed, with_lengths_framed, with_operand_framed, with_int_framed, with_reference_framed, with_arguments_framed, with_object_framed, with_depth_framed, with_frames_stand, when_initialized_framed, enter_framed, enter_if_framed, leave_framed, leave_if_framed}
 use Rattle.std.proofs.lemmas.Bool.{leb-true}
 
 -- the instruction's operands fit
@@ -144,6 +145,11 @@ new_array_framed here h t = with_int_framed here.frame.max_stack here.frame.stac
     by (pos n) s = push_new_framed here h (new_array t n) s
     by (negsuc n) s = throws_framed here h _
 
+new_arrays_framed : (here : Here) (h : StepsHere here) (t : FieldType) (d : ℕ) → Framed (new_arrays_of here t d)
+new_arrays_framed here h t d = with_counts_framed here.frame.max_stack d [] here.frame.stack (λ ns s. with_lengths here ns (λ counts. push_all_new here (tree (dimensions_of t counts) (length here.world.heap)) s)) (room here h)
+    (λ ns s. with_lengths_framed here h ns (λ counts. push_all_new here (tree (dimensions_of t counts) (length here.world.heap)) s)
+    (λ counts. push_all_new_framed here h (tree (dimensions_of t counts) (length here.world.heap)) s))
+
 length_framed : (here : Here) (h : StepsHere here) (o : Object) (type : ObjectType) (s : List Value) → Framed (length_of here o type s)
 length_framed here h o (array_of component) s = push_framed here h (Int (pos (length o.values))) s
 length_framed here h o (instance_of class) s = tt
@@ -171,6 +177,7 @@ instance_framed here h t (Some k) s = with_object_framed here h (Some k) (λ p o
 
 type_framed : (here : Here) (h : StepsHere here) (op : TypeOp) (t : ClassRef) → Framed (row_type here op t)
 type_framed here h NewArray t = new_array_framed here h (type_of_ref t)
+type_framed here h (NewArrays d) t = new_arrays_framed here h (type_of_ref t) d
 type_framed here h CheckCast t = with_reference_framed here.frame.max_stack here.frame.stack (λ r s. check_cast here t r s) (room here h) (λ r s l. cast_framed here h t r s l)
 type_framed here h InstanceOf t = with_reference_framed here.frame.max_stack here.frame.stack (λ r s. instance_test here t r s) (room here h) (λ r s l. instance_framed here h t r s)
 

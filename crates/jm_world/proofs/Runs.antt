@@ -14,6 +14,7 @@ pub mod Schedules
 pub mod Loads
 pub mod InterfacesAndConstructors
 pub mod Arrays
+pub mod ArraysOfArrays
 pub mod Calls
 pub mod Narrowing
 pub mod BeginningClasses

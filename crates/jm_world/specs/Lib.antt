@@ -13,6 +13,7 @@ pub mod Text
 pub mod Constants
 pub mod Fields
 pub mod Arrays
+pub mod ArraysOfArrays
 pub mod TypeChecks
 pub mod BuiltInMethods
 pub mod Invocation

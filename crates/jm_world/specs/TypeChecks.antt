@@ -1,8 +1,8 @@
--- new, anewarray, checkcast and instanceof (JVMS 6.5).
+-- new, anewarray, multianewarray, checkcast and instanceof (JVMS 6.5).
 use Rattle.std.specs.Prelude.{ℕ, List, ◌∷◌, Option, Some, None, Bool, true, false, pos, codes}
 use Rattle.jm_program.specs.declared.reference.ClassRef.{ClassRef}
 use Rattle.jm_program.specs.declared.instruction.operation.TypeOp.{TypeOp}
-use Rattle.jm_program.specs.declared.instruction.operation.TypeOp.TheVariants.{NewArray, CheckCast, InstanceOf}
+use Rattle.jm_program.specs.declared.instruction.operation.TypeOp.TheVariants.{NewArray, NewArrays, CheckCast, InstanceOf}
 use Rattle.jm_values.specs.declared.value.Value.{Value}
 use Rattle.jm_values.specs.declared.value.Value.TheVariants.{Int, Null, Ref}
 use Rattle.jm_world.specs.Types.{type_of_object, type_of_ref}
@@ -11,6 +11,7 @@ use Rattle.jm_world.specs.Objects.{Object, new_instance}
 use Rattle.jm_world.specs.Next.{Next}
 use Rattle.jm_world.specs.Here.{Here, go_on, push, push_new, throws, with_reference, with_object, when_initialized}
 use Rattle.jm_world.specs.Arrays.{new_array_of}
+use Rattle.jm_world.specs.ArraysOfArrays.{new_arrays_of}
 
 -- a new object of the class, which is initialized first
 abbrev pub row_new : Here → List ℕ → Next
@@ -37,5 +38,6 @@ instance_test here t (Some k) s = with_object here (Some k) (λ p o. elim (is_in
 
 abbrev pub row_type : Here → TypeOp → ClassRef → Next
 row_type here NewArray t = new_array_of here (type_of_ref t)
+row_type here (NewArrays d) t = new_arrays_of here (type_of_ref t) d
 row_type here CheckCast t = with_reference here.frame.stack (λ r s. check_cast here t r s)
 row_type here InstanceOf t = with_reference here.frame.stack (λ r s. instance_test here t r s)

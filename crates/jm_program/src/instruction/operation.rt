@@ -195,6 +195,8 @@ pub enum InvokeOp {
 pub enum TypeOp {
     /// `anewarray`: an array whose elements are of the type.
     NewArray,
+    /// `multianewarray`: an array of the type, with those below it, in so many dimensions.
+    NewArrays(u8),
     CheckCast,
     InstanceOf,
 }

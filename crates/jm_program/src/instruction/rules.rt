@@ -2,7 +2,7 @@
 
 ghost use Rattle.std.specs.Prelude.{◌≡◌, Option, ℤ, nat_lt};
 ghost use Rattle.std.specs.List.{list_all};
-ghost use Rattle.jm_program.specs.Instructions.{has_high, table_fits, is_above, keys_rise, lookup_fits, plain_fits, can_be_element, type_op_fits, instr_fits};
+ghost use Rattle.jm_program.specs.Instructions.{has_high, table_fits, is_above, keys_rise, lookup_fits, plain_fits, can_be_element, has_dimensions, type_op_fits, instr_fits};
 ghost use Rattle.jm_program.specs.declared.instruction.plain.SwitchPair.{SwitchPair};
 
 use crate::instruction::operation::TypeOp;
@@ -112,7 +112,18 @@ fn type_op_fits(op: TypeOp, class: &ClassRef) -> bool
 {
     match op {
         TypeOp::NewArray => class.fits() && can_be_element(class),
+        TypeOp::NewArrays(dimensions) => class.fits() && has_dimensions(class, dimensions),
         _ => class.fits(),
+    }
+}
+
+// Whether it is an array type of so many dimensions or more, and they are one or more.
+fn has_dimensions(class: &ClassRef, dimensions: u8) -> bool
+    ensures { result ≡ has_dimensions class.now dimensions }
+{
+    match class {
+        ClassRef::Class(_) => false,
+        ClassRef::Array(array) => 0 < dimensions && dimensions <= array.dimensions,
     }
 }
 

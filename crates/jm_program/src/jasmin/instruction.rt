@@ -6,13 +6,15 @@ ghost use Rattle.std.specs.List.{flat_map};
 ghost use Rattle.std.specs.Fmt.{WritesOnOk};
 ghost use Rattle.jm_program.specs.Descriptors.{argument_slots};
 ghost use Rattle.jm_program.specs.JasminUnits.{string_text};
-ghost use Rattle.jm_program.specs.JasminInstructions.{simple_line, target_line, low_line, default_line, table_line, pair_line, lookup_line, plain_line, constant_line, count_line, invoke_line, instr_line};
+ghost use Rattle.jm_program.specs.JasminInstructions.{simple_line, target_line, low_line, default_line, table_line, pair_line, lookup_line, plain_line, constant_line, count_line, invoke_line, dimensions_line, type_op_line, instr_line};
 
 use crate::constant::Constant;
 use crate::descriptor::MethodDescriptor;
-use crate::instruction::{Instr, InvokeOp, LookupSwitch, Plain, Simple, SwitchPair, TableSwitch};
+use crate::instruction::{
+    Instr, InvokeOp, LookupSwitch, Plain, Simple, SwitchPair, TableSwitch, TypeOp,
+};
 use crate::jasmin::units::{Context, write_units};
-use crate::reference::MethodRef;
+use crate::reference::{ClassRef, MethodRef};
 use std::fmt;
 use std::fmt::Display;
 
@@ -187,6 +189,28 @@ fn write_invoke<W: fmt::Write>(
     write_count(f, op, method)
 }
 
+#[tactic(auto, unfolding(crate::specs::JasminInstructions::dimensions_line))]
+fn write_dimensions<W: fmt::Write>(f: &mut fmt::Formatter<W>, op: TypeOp) -> fmt::Result
+    ensures { WritesOnOk W.write_str_gives f.old result (dimensions_line op) f.new }
+{
+    match op {
+        TypeOp::NewArrays(dimensions) => write!(f, " {dimensions}"),
+        _ => f.write_str(""),
+    }
+}
+
+#[tactic(auto, unfolding(crate::specs::JasminInstructions::type_op_line))]
+fn write_type_op<W: fmt::Write>(
+    f: &mut fmt::Formatter<W>,
+    op: TypeOp,
+    class: &ClassRef,
+) -> fmt::Result
+    ensures { WritesOnOk W.write_str_gives f.old result (type_op_line op class.now) f.new }
+{
+    write!(f, "{op} {class}")?;
+    write_dimensions(f, op)
+}
+
 #[tactic(auto, unfolding(crate::specs::JasminInstructions::instr_line))]
 impl Display for Instr {
     ghost output = { λ i. Some (instr_line i) };
@@ -202,7 +226,7 @@ impl Display for Instr {
             Instr::Field(op, field) => write!(f, "{op} {}", field.get()),
             Instr::Invoke(op, method) => write_invoke(f, *op, method.get()),
             Instr::New(name) => write!(f, "new {}", name.get()),
-            Instr::Type(op, class) => write!(f, "{op} {}", class.get()),
+            Instr::Type(op, class) => write_type_op(f, *op, class.get()),
         }
     }
 }

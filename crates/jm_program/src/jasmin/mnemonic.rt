@@ -305,6 +305,7 @@ impl Display for TypeOp {
     fn fmt<W: fmt::Write>(&self, f: &mut fmt::Formatter<W>) -> fmt::Result {
         f.write_str(match self {
             TypeOp::NewArray => "anewarray",
+            TypeOp::NewArrays(_) => "multianewarray",
             TypeOp::CheckCast => "checkcast",
             TypeOp::InstanceOf => "instanceof",
         })

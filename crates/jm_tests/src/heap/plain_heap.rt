@@ -75,3 +75,26 @@ fn slots_are_used_again(rt: HostRuntime) -> Result<(), Failure> {
     assert!(rt; are_used?);
     Ok(())
 }
+
+// Objects that are made at once take the slots that are free before new ones: the second of three slots
+// is free when two are made.
+fn uses_slots_at_once<H: Heap>(mutator: &mut Mutator<H>) -> Result<bool, Failure>
+    requires { IsReady (H.content mutator.old.heap) mutator.old.registers }
+    ensures { IsReady (H.content mutator.new.heap) mutator.new.registers }
+{
+    mutator.make(node())?;
+    mutator.make(node())?;
+    mutator.copy(0, 1)?;
+    mutator.collect(Kind::Full)?;
+    mutator.make_all(&[node(), node()])?;
+    Ok(mutator.place(2)?.number() == 2 && mutator.place(3)?.number() == 3)
+}
+
+#[test]
+fn free_slots_are_used_at_once(rt: HostRuntime) -> Result<(), Failure> {
+    let mut mutator = plain(rt.alloc(), 16);
+    let are_used = uses_slots_at_once(&mut mutator);
+    drop(mutator);
+    assert!(rt; are_used?);
+    Ok(())
+}

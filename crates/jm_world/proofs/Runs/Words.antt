@@ -113,6 +113,9 @@ if_acmp equality target = instr.Plain (plain.Branch (branch.IfReferences equalit
 abbrev pub anewarray_of : FieldType → Instr
 anewarray_of t = instr.Type type_op.NewArray (named.Array t)
 
+abbrev pub multianewarray : FieldType → ℕ → Instr
+multianewarray t dimensions = instr.Type (type_op.NewArrays dimensions) (named.Array t)
+
 abbrev pub checkcast_to : FieldType → Instr
 checkcast_to t = instr.Type type_op.CheckCast (named.Array t)
 

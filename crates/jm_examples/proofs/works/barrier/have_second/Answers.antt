@@ -12,7 +12,7 @@ loop-place-preserved c =
     let places = c.args.places.now in
     let i = c.loop-place.place-index in
     let here = slice_get_read places (length places) i c.place-item.result refl c.loop-place-test.true c.place-item.is in
-    let fits = subst (λ k. Fits k (Ref c.place-item.result)) c.of-kind.ensures (c.holds.ensures c.if-not-holds.false) in
+    let fits = subst (λ k. Fits k (Ref c.place-item.result)) c.of-kind.ensures (c.holds.ensures.0 c.if-not-holds.false) in
     seconds_more c.args.store.now places i c.place-item.result here (object_of c.in-Some.header (elements c.in-Some.values), c.in-Some.ensures.value, omega (arith, c.len.ensures, c.if-len-lt2.false), fits) c.loop-place.invariant
 
 pub returns : goal.returns

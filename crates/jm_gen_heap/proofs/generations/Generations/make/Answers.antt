@@ -6,7 +6,11 @@ use Rattle.jm_heap.specs.NewObject.{new_object}
 use Rattle.jm_heap.specs.Allocation.{MadeHere}
 use Rattle.jm_gen_heap.specs.Generations.{Generations, all_cells}
 use Rattle.jm_gen_heap.specs.Residents.{content_of}
-use Rattle.jm_gen_heap.proofs.Making.{put_made}
+use Rattle.jm_gen_heap.specs.Several.{IsAbove}
+use Rattle.jm_gen_heap.proofs.Making.{laned, put_made}
+use Rattle.jm_gen_heap.proofs.Unmaking.{made_above}
+use Rattle.jm_blocks.specs.Objects.{object_of}
+use Rattle.jm_nursery.specs.Nurseries.{IsMade}
 use Rattle.jm_gen_heap.specs.Held.{IsPutNew, held}
 use Rattle.jm_gen_heap.proofs.Allocating.{at_end}
 use Rattle.jm_gen_heap.proofs.Shapes.{put_held}
@@ -48,3 +52,12 @@ returns-then-self-ge-MAX_SERIALS-clause-err c =
     let room = subst (λ (x : Generations). all_cells x + size_by class_size (new_object c.args.shape) ≤ x.limit) (sym c.self.view_is) c.requires in
     let end = at_end g c.self.invariant.keeps (size_by class_size (new_object c.args.shape)) room (omega (arith, c.if-self-ge-MAX_SERIALS.true)) in
     subst (λ x. (roots : List ℕ) → AllResident (content_of x) roots → (used_by class_size (content_of x) roots + size_by class_size (new_object c.args.shape) ≤ (content_of x).limit) × (2 ^ 63 ≤ (content_of x).next)) c.self.view_is end
+
+pub returns-clause-above : goal.returns-clause-above
+returns-clause-above c =
+    let i = c.self.inside in
+    let g : Generations = held i.limit i.next i.young i.tenured i.pointers in
+    let n = c.args.nursery % 16 in
+    let o = object_of c.header_of-header.result (new_object c.args.shape).values in
+    let made = subst (λ l. IsMade (record { limit = l; lanes = i.young.lanes }) c.put_new.new.young n c.in_ok-place.place o) c.self.invariant.same c.in_ok-place.ensures.ok in
+    subst (λ x. IsAbove x c.in_ok-place.place n) c.self.view_is (made_above g (laned g c.self.invariant.keeps) c.put_new.new.young n c.in_ok-place.place o made)
