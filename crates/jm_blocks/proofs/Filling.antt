@@ -5,10 +5,31 @@ use Rattle.std.proofs.lemmas.Option.{slice_get_within, get_or_from_slice_get}
 use Rattle.jm_blocks.specs.Objects.{Object}
 use Rattle.jm_blocks.specs.Cells.{object_cells, sizes_of, has_room}
 use Rattle.jm_blocks.specs.Places.{place_at}
-use Rattle.jm_blocks.specs.Stores.{Blocks, Bumped, with_object, objects_of, last_of, list_has_room, last_has_room, next_place, IsDense, all_sizes}
+use Rattle.jm_blocks.specs.Stores.{Blocks, Bumped, with_object, objects_of, last_of, list_has_room, last_has_room, next_place}
 use Rattle.jm_blocks.proofs.Sizes.{at_least_two, few_where_room}
 use Rattle.jm_blocks.proofs.Placing.{bumped_last, bumped_new}
-use Rattle.jm_blocks.proofs.Density.{with_object_last, with_object_new, dense_more}
+
+-- the last of two or more is the last of the rest
+last_step : (b c : List Object) (bs : List (List Object)) → last_of (b ∷ c ∷ bs) ≡ last_of (c ∷ bs)
+last_step b c bs = let at : length (b ∷ c ∷ bs) - 1 ≡ suc (length (c ∷ bs) - 1) = omega arith in ap (λ i. slice_get (b ∷ c ∷ bs) i) at
+
+-- an object that has room goes into the last block
+pub with_object_last : (bs : List (List Object)) (o : Object) → last_has_room bs (object_cells o) ≡ true → with_object bs o ≡ slice_set bs (length bs - 1) (objects_of (last_of bs) ++ o ∷ [])
+with_object_last [] o e = cc
+with_object_last (b ∷ []) o e = ap (λ t. cond t ((b ++ o ∷ []) ∷ []) (b ∷ (o ∷ []) ∷ [])) e
+with_object_last (b ∷ c ∷ bs) o e =
+    let step = last_step b c bs in
+    let at : suc (length (c ∷ bs) - 1) ≡ length (b ∷ c ∷ bs) - 1 = omega arith in
+    let room : last_has_room (c ∷ bs) (object_cells o) ≡ true = ap (λ x. list_has_room x (object_cells o)) (sym step) ∙ e in
+    ap (λ xs. b ∷ xs) (with_object_last (c ∷ bs) o room)
+    ∙ ap (λ x. b ∷ slice_set (c ∷ bs) (length (c ∷ bs) - 1) (objects_of x ++ o ∷ [])) (sym step)
+    ∙ ap (λ i. slice_set (b ∷ c ∷ bs) i (objects_of (last_of (b ∷ c ∷ bs)) ++ o ∷ [])) at
+
+-- one that has none gets a block of its own
+pub with_object_new : (bs : List (List Object)) (o : Object) → last_has_room bs (object_cells o) ≡ false → with_object bs o ≡ bs ++ (o ∷ []) ∷ []
+with_object_new [] o e = refl
+with_object_new (b ∷ []) o e = ap (λ t. cond t ((b ++ o ∷ []) ∷ []) (b ∷ (o ∷ []) ∷ [])) e
+with_object_new (b ∷ c ∷ bs) o e = ap (λ xs. b ∷ xs) (with_object_new (c ∷ bs) o (ap (λ x. list_has_room x (object_cells o)) (sym (last_step b c bs)) ∙ e))
 
 list_is : (found : Option (List Object)) (n : ℕ) → list_has_room found n ≡ true → (os : List Object) × (found ≡ Some os) × (has_room (sizes_of os) n ≡ true)
 list_is None n e = cc
@@ -72,10 +93,6 @@ fill_new s t ls o e lane room w = subst (λ x. last_has_room x.lists (object_cel
           bumped = subst (λ xs. Bumped s (record { lane = s.lane; lists = xs }) (next_place s (object_cells o)) o) (sym w) bumped;
           blocks = ap (λ xs. record { lane = s.lane; lists = xs }) (w ∙ sym (with_object_new s.lists o h));
         }
-
--- blocks that are few and dense stay so with an object more
-pub stays_dense : (bs ls : List (List Object)) (o : Object) → ls ≡ with_object bs o → IsDense (all_sizes bs) → IsDense (all_sizes ls)
-stays_dense bs ls o e d = subst (λ xs. IsDense (all_sizes xs)) (sym e) (dense_more bs o d)
 
 -- a block that is written back as it was changes nothing
 pub set_same : (bs : List (List Object)) (i : ℕ) (x : List Object) → x ≡ get_or bs i x → slice_set bs i x ≡ bs

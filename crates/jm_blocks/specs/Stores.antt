@@ -1,6 +1,6 @@
 -- The objects of a store by their places.
 use Rattle.std.specs.Prelude.{◌≡◌, ◌≢◌, ℕ, ◌+◌, ◌-◌, ◌<◌, ◌≤◌, [], ◌∷◌, ◌++◌, if◌then◌else◌}
-use Rattle.std.specs.Prelude.{List, Option, Some, None, Bool, false, nat_eq, slice_get, length, map, sum_by}
+use Rattle.std.specs.Prelude.{List, Option, Some, None, Bool, false, nat_eq, slice_get, length, sum_by}
 use Rattle.jm_values.specs.declared.value.Value.{Value}
 use Rattle.jm_blocks.specs.Objects.{Object, with_value}
 use Rattle.jm_blocks.specs.Cells.{object_cells, sizes_of, block_cells, has_room}
@@ -97,16 +97,21 @@ pub record IsPopped (old new : Blocks) (p : ℕ) (o : Object) : Type 0 where
   pub bumped : Bumped new old p o
   pub cells : store_cells old.lists ≡ store_cells new.lists + object_cells o
 
--- the first size of the next block had no room beside these
-abbrev pub HadNoRoom : List ℕ → List (List ℕ) → Type 0
-HadNoRoom ss [] = Unit {0}
-HadNoRoom ss ([] ∷ rest) = ⊥
-HadNoRoom ss ((n ∷ ns) ∷ rest) = has_room ss n ≡ false
+-- the blocks from a number on have no object
+abbrev pub NoneFrom : List (List Object) → ℕ → Type 0
+NoneFrom bs from = (i : ℕ) (os : List Object) → from ≤ i → slice_get bs i ≡ Some os → length os ≡ 0
 
--- each block has an object, and its first one had no room in the block before
-abbrev pub IsDense : List (List ℕ) → Type 0
-IsDense [] = Unit {0}
-IsDense (ss ∷ rest) = (0 < length ss) × HadNoRoom ss rest × IsDense rest
+-- the first block from a number on that has an object
+pub record IsFirstBlock (bs : List (List Object)) (from b : ℕ) : Type 0 where
+  pub from_on : from ≤ b
+  pub block : List Object
+  pub block_is : slice_get bs b ≡ Some block
+  pub some : 0 < length block
+  pub before : (i : ℕ) (os : List Object) → from ≤ i → i < b → slice_get bs i ≡ Some os → length os ≡ 0
 
-abbrev pub all_sizes : List (List Object) → List (List ℕ)
-all_sizes bs = map sizes_of bs
+-- the last block that has an object
+pub record IsLastBlock (bs : List (List Object)) (b : ℕ) : Type 0 where
+  pub block : List Object
+  pub block_is : slice_get bs b ≡ Some block
+  pub some : 0 < length block
+  pub after : NoneFrom bs (b + 1)

@@ -1,46 +1,39 @@
 // A block of cells.
 
 ghost use Rattle.std.specs.Prelude.{◌≡◌, ◌+◌, ◌<◌, ◌≤◌, ◌^◌, ◌++◌, ◌∷◌, [], Some, None, MatchOption, OnOk, OnErr, IfSome, IsTrue, true};
-ghost use Rattle.std.specs.Prelude.{take, drop, length, map, slice_get, slice_set, replicate};
+ghost use Rattle.std.specs.Prelude.{length, map, slice_get, slice_set, replicate};
 ghost use Rattle.jm_values.specs.Objects.{default_of};
-ghost use Rattle.jm_heap.specs.Cells.{class_size};
-ghost use Rattle.jm_blocks.specs.Objects.{Object, object_of, with_value};
 ghost use Rattle.jm_values.specs.declared.value.Value.{Value};
+ghost use Rattle.jm_heap.specs.Cells.{class_size};
 ghost use Rattle.jm_heap.specs.Elements.{elements, element_kind};
 ghost use Rattle.jm_heap.specs.Packing.{Fits, kind_of};
 ghost use Rattle.jm_heap.specs.declared.storage.Storage.TheVariants as kind;
+ghost use Rattle.jm_blocks.specs.Objects.{Object, object_of, with_value};
 ghost use Rattle.jm_blocks.specs.Cells.{object_cells, sizes_of, block_cells, has_room, HoldsItsCells};
 
-use crate::entry::Entry;
+use crate::contents::Contents;
 use crate::header::Header;
-use crate::packed::Packed;
-use jm_heap::{Elements, Storage};
+use jm_heap::Elements;
 use jm_program::OperandType;
 use jm_values::Value;
 use std::alloc::{AllocError, Global};
 use std::marker::Model;
 
-/// The cells of a block that several objects share.
-const CELLS: u64 = 512;
-
-/// The cells of the largest object that shares a block.
-const SHARED: u64 = 256;
-
 /// Objects one after the other, each a header and its values: several that have at most 256 cells
 /// each and 512 together, or one.
 pub struct Block {
-    entries: Vec<Entry>,
-    values: Packed,
-    cells: u64,
+    alloc: Global,
+    // One item, or none before the first object: a store may have many empty blocks. A list and not an
+    // optional box, since a look at an object that is there then asks nothing.
+    contents: Vec<Contents>,
 }
 
 // Written out, so that whoever lets go of one makes a call (docs/DECISIONS.md).
 impl Drop for Block {
     fn drop(self) {
         let Block {
-            entries: _,
-            values: _,
-            cells: _,
+            alloc: _,
+            contents: _,
         } = self;
     }
 }
@@ -51,22 +44,20 @@ impl Model for Block {
 
     ghost Value = { List Object };
 
-    ghost use Rattle.jm_blocks.specs.Spelled.{spelled, IsBlock};
+    ghost use Rattle.jm_blocks.specs.Held.{objects_held};
 
-    ghost view = { λ b. spelled b.entries.items b.values };
-
-    ghost invariant = { λ b. IsBlock b.entries.items b.values b.cells };
+    ghost view = { λ b. objects_held b.contents.items };
 }
 
 impl Block {
     /// A block without objects.
+    #[inline]
     pub fn new(alloc: Global) -> Block
         ensures { result ≡ [] }
     {
         Block {
-            entries: Vec::new(alloc),
-            values: Packed::new(alloc),
-            cells: 0,
+            alloc,
+            contents: Vec::new(alloc),
         }
     }
 
@@ -76,7 +67,10 @@ impl Block {
         ensures value { result ≡ length self.now }
         ensures few { result ≤ 256 }
     {
-        self.entries.len()
+        match self.contents.first() {
+            Some(contents) => contents.len(),
+            None => 0,
+        }
     }
 
     /// The cells of the objects. Where there are several, they are at most 512, and at most 256
@@ -86,7 +80,10 @@ impl Block {
         ensures value { result ≡ block_cells self.now }
         ensures held { HoldsItsCells (sizes_of self.now) }
     {
-        self.cells
+        match self.contents.first() {
+            Some(contents) => contents.cells(),
+            None => 0,
+        }
     }
 
     /// Whether an object of so many cells fits into the block.
@@ -95,17 +92,10 @@ impl Block {
         ensures value { result ≡ has_room (sizes_of self.now) cells }
         ensures open { IsTrue result → 2 ≤ cells → length self.now < 256 }
     {
-        let objects = self.entries.len();
-        if objects == 0 {
-            return true;
+        match self.contents.first() {
+            Some(contents) => contents.has_room(cells),
+            None => true,
         }
-        if cells > SHARED {
-            return false;
-        }
-        if objects == 1 && self.cells > SHARED {
-            return false;
-        }
-        self.cells + cells <= CELLS
     }
 
     /// The object of this number, which is there: its header and its values, as they lie.
@@ -116,12 +106,7 @@ impl Block {
         ensures value { slice_get self.now index ≡ Some (object_of result.0 (elements result.1)) }
         ensures kind { element_kind result.1 ≡ kind_of result.0.class }
     {
-        let entry = &self.entries[index];
-        (
-            entry.header(),
-            self.values
-                .elements(entry.kind(), entry.start(), entry.length()),
-        )
+        self.contents[0].object_at(index)
     }
 
     /// The object of this number: its header and its values, as they lie.
@@ -131,10 +116,10 @@ impl Block {
         ensures value { MatchOption result (slice_get self.now index ≡ None) (λ o. slice_get self.now index ≡ Some (object_of o.0 (elements o.1))) }
         ensures kind { IfSome result (λ o. element_kind o.1 ≡ kind_of o.0.class) }
     {
-        if index >= self.entries.len() {
-            return None;
+        match self.contents.first() {
+            Some(contents) => contents.object(index),
+            None => None,
         }
-        Some(self.object_at(index))
     }
 
     /// One value of the object of this number.
@@ -144,11 +129,7 @@ impl Block {
         ensures value { (o : Object) → slice_get self.now index ≡ Some o → slice_get o.values number ≡ Some result }
         ensures fits { (o : Object) → slice_get self.now index ≡ Some o → Fits (kind_of o.class) result }
     {
-        let entry = &self.entries[index];
-        let kind = entry.kind();
-        let start = entry.start();
-        let _end = self.values.len(kind);
-        self.values.get(kind, start + number)
+        self.contents[0].get(index, number)
     }
 
     /// Changes one value of an object, which is one of its type.
@@ -157,11 +138,8 @@ impl Block {
         requires { (o : Object) × (slice_get self.old index ≡ Some o) × (number < length o.values) × Fits (kind_of o.class) value }
         ensures { (o : Object) → slice_get self.old index ≡ Some o → self.new ≡ slice_set self.old index (with_value o number value) }
     {
-        let entry = &self.entries[index];
-        let kind = entry.kind();
-        let start = entry.start();
-        let _end = self.values.len(kind);
-        self.values.set(kind, start + number, value);
+        let contents = &mut self.contents[0];
+        contents.set(index, number, value);
     }
 
     /// Puts an object at the end with values as they lie in some block, which are of its kind: one copy
@@ -174,13 +152,14 @@ impl Block {
         ensures ok { OnOk result (self.new ≡ self.old ++ object_of header (elements values.entry) ∷ []) }
         ensures err { OnErr result (self.new ≡ self.old) }
     {
-        let start = self.values.len(Storage::of(header.class));
-        let count = values.len();
-        self.entries.reserve(1)?;
-        self.values.push_elements(values)?;
-        self.cells += header.class.size(count as u64);
-        self.entries
-            .push_reserved(Entry::new(header, start as u32, count as u32));
+        if self.contents.len() > 0 {
+            let contents = &mut self.contents[0];
+            return contents.bump(header, values);
+        }
+        let mut contents = Contents::new(self.alloc);
+        contents.bump(header, values)?;
+        self.contents.reserve_exact(1)?;
+        self.contents.push_reserved(contents);
         Ok(())
     }
 
@@ -197,13 +176,14 @@ impl Block {
         ensures ok { OnOk result (self.new ≡ self.old ++ object_of header (replicate count value) ∷ []) }
         ensures err { OnErr result (self.new ≡ self.old) }
     {
-        let kind = Storage::of(header.class);
-        let start = self.values.len(kind);
-        self.entries.reserve(1)?;
-        self.values.push(kind, value, count as usize)?;
-        self.cells += header.class.size(count as u64);
-        self.entries
-            .push_reserved(Entry::new(header, start as u32, count));
+        if self.contents.len() > 0 {
+            let contents = &mut self.contents[0];
+            return contents.bump_copies(header, value, count);
+        }
+        let mut contents = Contents::new(self.alloc);
+        contents.bump_copies(header, value, count)?;
+        self.contents.reserve_exact(1)?;
+        self.contents.push_reserved(contents);
         Ok(())
     }
 
@@ -221,12 +201,14 @@ impl Block {
         ensures ok { OnOk result (self.new ≡ self.old ++ object_of header (map default_of fields.now) ∷ []) }
         ensures err { OnErr result (self.new ≡ self.old) }
     {
-        let start = self.values.len(Storage::Fields);
-        self.entries.reserve(1)?;
-        self.values.push_defaults(fields)?;
-        self.cells += header.class.size(fields.len() as u64);
-        self.entries
-            .push_reserved(Entry::new(header, start as u32, fields.len() as u32));
+        if self.contents.len() > 0 {
+            let contents = &mut self.contents[0];
+            return contents.bump_defaults(header, fields);
+        }
+        let mut contents = Contents::new(self.alloc);
+        contents.bump_defaults(header, fields)?;
+        self.contents.reserve_exact(1)?;
+        self.contents.push_reserved(contents);
         Ok(())
     }
 
@@ -235,10 +217,7 @@ impl Block {
         requires { 0 < length self.old }
         ensures { (o : Object) × (self.old ≡ self.new ++ o ∷ []) × (has_room (sizes_of self.new) (object_cells o) ≡ true) }
     {
-        let last = self.entries.len() - 1;
-        let entry = self.entries[last];
-        self.cells -= entry.header().class.size(entry.length() as u64);
-        self.entries.truncate(last);
-        self.values.truncate(entry.kind(), entry.start());
+        let contents = &mut self.contents[0];
+        contents.pop();
     }
 }

@@ -1,6 +1,6 @@
 // Blocks under numbers.
 
-ghost use Rattle.std.specs.Prelude.{◌≡◌, ℕ, ◌+◌, ◌*◌, ◌<◌, ◌≤◌, ◌^◌, Some, None, MatchOption, IfSome, IfOk, OnOk, OnErr, length, map, slice_get, replicate, [], ◌∷◌};
+ghost use Rattle.std.specs.Prelude.{◌≡◌, ℕ, ◌+◌, ◌<◌, ◌≤◌, ◌^◌, ◌++◌, Some, None, MatchOption, IfSome, IfOk, OnOk, OnErr, length, map, slice_get, slice_set, replicate, [], ◌∷◌};
 ghost use Rattle.jm_values.specs.Objects.{default_of};
 ghost use Rattle.jm_blocks.specs.Objects.{Object, object_of};
 ghost use Rattle.jm_blocks.specs.Cells.{object_cells};
@@ -8,7 +8,7 @@ ghost use Rattle.jm_heap.specs.Elements.{elements, element_kind};
 ghost use Rattle.jm_heap.specs.Packing.{Fits, kind_of};
 ghost use Rattle.jm_heap.specs.declared.storage.Storage.TheVariants as kind;
 ghost use Rattle.jm_blocks.specs.Places.{place_at, lane_of};
-ghost use Rattle.jm_blocks.specs.Stores.{Blocks, objects_in, HasObject, HasValue, Bumped, IsSet, IsPopped, IsAfter, IsFirst, IsLast, IsEmpty};
+ghost use Rattle.jm_blocks.specs.Stores.{Blocks, objects_in, HasObject, HasValue, Bumped, IsSet, IsPopped, IsAfter, IsFirst, IsFirstBlock, IsLast, IsLastBlock, IsEmpty, NoneFrom};
 ghost use Rattle.jm_blocks.specs.Stores.{last_has_room, store_with, next_place, store_cells};
 
 use crate::block::Block;
@@ -19,12 +19,14 @@ use jm_program::OperandType;
 use jm_values::{Place, Value};
 use std::alloc::{AllocError, Global};
 use std::marker::Model;
+use std::mem;
 
 /// So many blocks of a lane have a number.
 const MAX_BLOCKS: usize = 1 << 49;
 
 /// The blocks of a lane, under the numbers from 0 on. An object is put into the last block, or into
-/// a new one where it has no room there.
+/// a new one where it has no room there. A block may be empty: it holds a number whose block another
+/// store fills, or was moved there for a while.
 pub struct BlockStore {
     lane: u64,
     blocks: Vec<Block>,
@@ -39,13 +41,25 @@ impl Drop for BlockStore {
 
 impl Model for BlockStore {
     ghost use Rattle.std.specs.Prelude.{◌<◌, ◌≤◌, ◌^◌, length};
-    ghost use Rattle.jm_blocks.specs.Stores.{Blocks, IsDense, all_sizes};
+    ghost use Rattle.jm_blocks.specs.Stores.{Blocks};
 
     ghost Value = { Blocks };
 
     ghost view = { λ s. record { lane = s.lane; lists = s.blocks.items } };
 
-    ghost invariant = { λ s. (0 < s.lane) × (s.lane < 64) × (length s.blocks.items ≤ 2 ^ 49) × IsDense (all_sizes s.blocks.items) };
+    ghost invariant = { λ s. (0 < s.lane) × (s.lane < 64) × (length s.blocks.items ≤ 2 ^ 49) };
+}
+
+// Puts so many empty blocks at the end. A growth that is refused changes nothing.
+fn push_empty(alloc: Global, blocks: &mut Vec<Block>, count: usize) -> Result<(), AllocError>
+    ensures ok { OnOk result (blocks.new.items ≡ blocks.old.items ++ replicate count []) }
+    ensures err { OnErr result (blocks.new.items ≡ blocks.old.items) }
+{
+    blocks.reserve(count)?;
+    for number in 0..count {
+        blocks.push_reserved(Block::new(alloc));
+    }
+    Ok(())
 }
 
 impl BlockStore {
@@ -69,12 +83,11 @@ impl BlockStore {
         self.lane
     }
 
-    /// How many blocks there are. They are few: two neighbours hold more than 256 cells together.
+    /// How many blocks there are, the empty ones among them.
     #[inline]
     pub fn len(&self) -> usize
         ensures value { result ≡ length self.now.lists }
         ensures numbered { result ≤ 2 ^ 49 }
-        ensures few { 257 * result ≤ 2 * store_cells self.now.lists + 257 }
     {
         self.blocks.len()
     }
@@ -139,6 +152,7 @@ impl BlockStore {
         ensures set { IsSet self.old self.new place number value }
         ensures lane { self.new.lane ≡ self.old.lane }
         ensures cells { store_cells self.new.lists ≡ store_cells self.old.lists }
+        ensures many { length self.new.lists ≡ length self.old.lists }
     {
         let position = Position::of(place);
         let block = &mut self.blocks[position.block];
@@ -161,7 +175,8 @@ impl BlockStore {
     fn place_in(&self, block: usize, index: usize) -> Place
         requires block { block < 2 ^ 49 }
         requires index { index < 256 }
-        ensures { result ≡ place_at self.now.lane block index }
+        ensures value { result ≡ place_at self.now.lane block index }
+        ensures lane { self.now.lane < 64 }
     {
         Position {
             lane: self.lane,
@@ -276,21 +291,48 @@ impl BlockStore {
         Ok(())
     }
 
-    /// Gives up the last object, if there is one, and its block with it where it is the only one there.
+    // The number of the last block that has an object.
+    fn last_block(&self) -> Option<usize>
+        ensures { MatchOption result (NoneFrom self.now.lists 0) (λ b. IsLastBlock self.now.lists b) }
+    {
+        let mut count = self.blocks.len();
+        while count > 0 {
+            if self.blocks[count - 1].len() > 0 {
+                return Some(count - 1);
+            }
+            count -= 1;
+        }
+        None
+    }
+
+    // The number of the first block from a number on that has an object.
+    #[inline]
+    fn first_block(&self, from: usize) -> Option<usize>
+        ensures found { MatchOption result (NoneFrom self.now.lists from) (λ b. IsFirstBlock self.now.lists from b) }
+        ensures numbered { IfSome result (λ b. b < 2 ^ 49) }
+    {
+        for number in from..self.blocks.len() {
+            if self.blocks[number].len() > 0 {
+                return Some(number);
+            }
+        }
+        None
+    }
+
+    /// Gives up the last object, if there is one, and the empty blocks above it, its own with them where
+    /// it was the only one there.
     pub fn pop(&mut self)
         ensures popped { (p : ℕ) → HasObject self.old p → IsLast self.old p → (o : Object) × IsPopped self.old self.new p o }
         ensures lane { self.new.lane ≡ self.old.lane }
     {
-        if self.blocks.len() == 0 {
+        let Some(last) = self.last_block() else {
             return;
-        }
-        let last = self.blocks.len() - 1;
+        };
+        self.blocks.truncate(last + 1);
         let block = &mut self.blocks[last];
-        if block.len() > 1 {
-            block.pop();
-        } else {
-            self.blocks.truncate(last);
-        }
+        block.pop();
+        let left = if block.len() == 0 { last } else { last + 1 };
+        self.blocks.truncate(left);
     }
 
     /// The place of the first object.
@@ -298,23 +340,21 @@ impl BlockStore {
     pub fn first(&self) -> Option<Place>
         ensures { MatchOption result (IsEmpty self.now) (λ p. IsFirst self.now p) }
     {
-        if self.blocks.len() == 0 {
+        let Some(block) = self.first_block(0) else {
             return None;
-        }
-        Some(self.place_in(0, 0))
+        };
+        Some(self.place_in(block, 0))
     }
 
     /// The place of the last object.
     pub fn last(&self) -> Option<Place>
         ensures { MatchOption result (IsEmpty self.now) (λ p. HasObject self.now p × IsLast self.now p) }
     {
-        let count = self.blocks.len();
-        if count == 0 {
+        let Some(block) = self.last_block() else {
             return None;
-        }
-        let block = &self.blocks[count - 1];
-        let objects = block.len();
-        Some(self.place_in(count - 1, objects - 1))
+        };
+        let objects = self.blocks[block].len();
+        Some(self.place_in(block, objects - 1))
     }
 
     /// The place of the first object above the one at a place.
@@ -328,9 +368,48 @@ impl BlockStore {
         if position.index + 1 < block.len() {
             return Some(self.place_in(position.block, position.index + 1));
         }
-        if position.block + 1 < self.blocks.len() {
-            return Some(self.place_in(position.block + 1, 0));
+        let Some(later) = self.first_block(position.block + 1) else {
+            return None;
+        };
+        Some(self.place_in(later, 0))
+    }
+
+    /// Whether the last block has room for so many cells; an empty one has for any object.
+    #[inline]
+    pub fn has_room(&self, cells: u64) -> bool
+        ensures { result ≡ last_has_room self.now.lists cells }
+    {
+        self.last_has_room(cells)
+    }
+
+    /// Puts so many empty blocks at the end, the last of which is the one that is filled next. It is
+    /// refused where the lane would have more than 2^49 blocks, or where a growth is; nothing has changed
+    /// then.
+    pub fn open(&mut self, alloc: Global, count: usize) -> Result<(), AllocError>
+        ensures ok { OnOk result (self.new ≡ record { lane = self.old.lane; lists = self.old.lists ++ replicate count [] }) }
+        ensures err { OnErr result (self.new ≡ self.old) }
+    {
+        if count > MAX_BLOCKS - self.blocks.len() {
+            return Err(AllocError);
         }
-        None
+        push_empty(alloc, &mut self.blocks, count)
+    }
+
+    /// The block of a number, which is taken out; an empty one holds its number.
+    pub fn take(&mut self, alloc: Global, number: usize) -> Block
+        requires { number < length self.old.lists }
+        ensures block { slice_get self.old.lists number ≡ Some result }
+        ensures lane { self.old.lane < 64 }
+        ensures left { self.new ≡ record { lane = self.old.lane; lists = slice_set self.old.lists number [] } }
+    {
+        mem::replace(&mut self.blocks[number], Block::new(alloc))
+    }
+
+    /// Puts a block under its number, which an empty one has held.
+    pub fn put(&mut self, number: usize, block: Block)
+        requires { slice_get self.old.lists number ≡ Some [] }
+        ensures { self.new ≡ record { lane = self.old.lane; lists = slice_set self.old.lists number block } }
+    {
+        self.blocks[number] = block;
     }
 }

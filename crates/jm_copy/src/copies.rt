@@ -117,6 +117,7 @@ impl Copies {
         ensures set { (a : Object) → made self.old place ≡ Some a → IsReplaced (made self.old) (made self.new) place (with_value a number value) }
         ensures stays { Stays self.old self.new }
         ensures words { self.new.words ≡ self.old.words }
+        ensures many { (length self.new.young.lists ≡ length self.old.young.lists) × (length self.new.tenured.lists ≡ length self.old.tenured.lists) }
     {
         if self.is_young(place) {
             self.young.set(place, number, value);

@@ -21,6 +21,9 @@
 //! and the law [`a_finished_scan_is_an_image`] states the end: with all values forwarded and all roots, the
 //! new objects are the image.
 //!
+//! The stores that a copier fills, the marks of its scan and the numbers of the condemned objects are public
+//! ([`Copies`], [`Marks`], [`Starts`]), for collectors of several copiers.
+//!
 //! The crate stands on `jm_blocks` and `jm_nursery`.
 #![tactic(auto)]
 
@@ -36,5 +39,10 @@ mod starts;
 mod words;
 
 pub use collector::{Collector, Refused, Survivors};
+pub use copies::Copies;
 pub use laws::a_finished_scan_is_an_image;
+pub use scan::{Marks, next, next_of, pass};
 pub use serial::SerialCollector;
+pub use source::{Source, condemned, number};
+pub use starts::{Starts, number_all};
+pub use words::Words;

@@ -31,8 +31,8 @@ pub fn next_of(store: &BlockStore, mark: &Option<Place>) -> Option<Place>
     }
 }
 
-// A new object that is not scanned, and before which all of its store are.
-fn next(to: &Copies, marks: &Marks) -> Option<Place>
+/// A new object that is not scanned, and before which all of its store are.
+pub fn next(to: &Copies, marks: &Marks) -> Option<Place>
     requires marks { AreMarks to.now marks.now }
     requires apart { to.now.tenured.lane ≢ to.now.young.lane }
     ensures { MatchOption result (AllPassed to.now marks.now) (λ p. IsNext to.now marks.now p) }
@@ -43,8 +43,8 @@ fn next(to: &Copies, marks: &Marks) -> Option<Place>
     next_of(&to.tenured, &marks.tenured)
 }
 
-// The marks after an object was scanned.
-fn pass(to: &Copies, marks: &Marks, place: Place) -> Marks
+/// The marks after an object was scanned.
+pub fn pass(to: &Copies, marks: &Marks, place: Place) -> Marks
     ensures value { result ≡ passed to.now.young.lane marks.now place }
     ensures below { place < 2 ^ 63 }
 {

@@ -12,7 +12,7 @@ use Rattle.jm_blocks.specs.Cells.{object_cells}
 use Rattle.jm_blocks.specs.Places.{lane_of, block_of, index_of}
 use Rattle.jm_blocks.specs.Stores.{Blocks, HasObject, IsLast, HasValue, IsSet, IsPopped, object_of_list, objects_in, store_cells, with_object, next_place, Bumped}
 use Rattle.jm_blocks.proofs.Placing.{get_set_same, get_set_other, get_end, get_before_end}
-use Rattle.jm_blocks.proofs.Undoing.{cells_more}
+use Rattle.jm_blocks.proofs.Counting.{cells_more}
 use Rattle.jm_nursery.specs.Nurseries.{Young, AreNurseries, IsYoung, IsMade, IsUnmade, IsWritten, HasYoungValue, nursery_at, lane_cells, young_cells}
 
 -- the cells of nurseries of which one is another

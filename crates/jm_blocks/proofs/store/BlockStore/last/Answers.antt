@@ -1,23 +1,47 @@
-use Rattle.std.proofs.Common.{◌≡◌, ◌-◌, ◌+◌, ◌<◌, ◌∙◌, ap, arith, sym, subst, length}
-use Rattle.jm_blocks.specs.Places.{place_at}
-use Rattle.jm_blocks.specs.Stores.{Blocks, IsEmpty, HasObject, IsLast}
-use Rattle.jm_blocks.proofs.Walking.{read_some, nothing_there, last_there}
+use Rattle.std.proofs.Common.{◌<◌, ◌-◌, ◌∙◌, ap, arith, sym, subst, length}
+use Rattle.std.specs.Prelude.{slice_get}
+use Rattle.std.proofs.lemmas.Option.{slice_get_within, get_or_from_slice_get}
+use Rattle.jm_blocks.specs.Stores.{HasObject, IsLast}
+use Rattle.jm_blocks.proofs.Walking.{nothing_there, last_there}
 use Rattle.jm_blocks.proofs.store.BlockStore.last.Goals as goal
 
-pub returns-then-count-eq0 : goal.returns-then-count-eq0
-returns-then-count-eq0 c = subst (λ t. IsEmpty t) c.self.view_is (nothing_there (record { lane = c.self.inside.lane; lists = c.self.inside.blocks.items }) (omega (arith, c.if-count-eq0.true, c.len-count.ensures, c.self.inside.blocks.ok.0)))
+pub returns-in_default : goal.returns-in_default
+returns-in_default c = nothing_there c.args.self.now c.in_default.ensures
+
+inside : (c : goal.After-self) → c.in-Some.block < length c.self.inside.blocks.items
+inside c =
+    let at = c.in-Some.ensures in
+    let within = slice_get_within c.args.self.now.lists _ at.block at.block_is in
+    let same = ap (λ s. length s.lists) c.self.view_is in
+    omega (arith, within, same)
+
+pub index-requires : goal.index-requires
+index-requires c = let at = c.in-Some.ensures in
+    let within = slice_get_within c.args.self.now.lists _ at.block at.block_is in
+    let same = ap (λ s. length s.lists) c.self.view_is in
+    omega (arith, within, same, c.self.inside.blocks.ok.0)
 
 pub overflow_sub-objects : goal.overflow_sub-objects
 overflow_sub-objects c =
-    let all : c.len-count.result - 1 < length c.self.inside.blocks.items = omega (arith, c.len-count.ensures, c.self.inside.blocks.ok.0, c.if-count-eq0.false) in
-    let some = read_some c.self.inside.blocks.items (c.len-count.result - 1) c.index-block.result.now c.self.invariant.3 all c.index-block.ensures in
-    omega (arith, some, c.len-objects.ensures.value)
+    let at = c.in-Some.ensures in
+    let there = ap (λ s. slice_get s.lists c.in-Some.block) c.self.view_is ∙ at.block_is in
+    let read = c.index.ensures ∙ get_or_from_slice_get c.self.inside.blocks.items c.in-Some.block at.block c.index.result.now there in
+    let many = ap length read in
+    omega (arith, many, at.some, c.len-objects.ensures.value)
+
+pub place_in-requires-clause-block : goal.place_in-requires-clause-block
+place_in-requires-clause-block c =
+    let at = c.in-Some.ensures in
+    let within = slice_get_within c.args.self.now.lists _ at.block at.block_is in
+    let same = ap (λ s. length s.lists) c.self.view_is in
+    omega (arith, within, same, c.self.invariant.2)
 
 pub returns : goal.returns
 returns c =
-    let s : Blocks = record { lane = c.self.inside.lane; lists = c.self.inside.blocks.items } in
-    let all : length c.self.inside.blocks.items ≡ c.len-count.result - 1 + 1 = omega (arith, c.len-count.ensures, c.self.inside.blocks.ok.0, c.if-count-eq0.false) in
-    let some = read_some c.self.inside.blocks.items (c.len-count.result - 1) c.index-block.result.now c.self.invariant.3 (omega (arith, all)) c.index-block.ensures in
-    let last = last_there s (c.len-count.result - 1) (c.len-objects.result - 1) c.index-block.result.now c.self.invariant.1 all c.index-block.ensures (omega (arith, c.len-objects.ensures.value, some)) (omega (arith, c.len-objects.ensures.value, c.len-objects.ensures.few)) in
-    let place : place_at c.self.inside.lane (c.len-count.result - 1) (c.len-objects.result - 1) ≡ c.place_in.result = ap (λ x. place_at x.lane (c.len-count.result - 1) (c.len-objects.result - 1)) c.self.view_is ∙ sym c.place_in.ensures in
-    subst (λ p. HasObject c.args.self.now p × IsLast c.args.self.now p) place (subst (λ t. HasObject t (place_at c.self.inside.lane (c.len-count.result - 1) (c.len-objects.result - 1)) × IsLast t (place_at c.self.inside.lane (c.len-count.result - 1) (c.len-objects.result - 1))) c.self.view_is last)
+    let at = c.in-Some.ensures in
+    let lane = ap (λ s. s.lane) c.self.view_is in
+    let there = ap (λ s. slice_get s.lists c.in-Some.block) c.self.view_is ∙ at.block_is in
+    let read = c.index.ensures ∙ get_or_from_slice_get c.self.inside.blocks.items c.in-Some.block at.block c.index.result.now there in
+    let many = ap length read in
+    let last = last_there c.args.self.now c.in-Some.block (c.len-objects.result - 1) at.block (omega (arith, lane, c.self.invariant.1)) at.block_is (omega (arith, many, at.some, c.len-objects.ensures.value)) (omega (arith, many, c.len-objects.ensures.value, c.len-objects.ensures.few)) at.after in
+    subst (λ p. HasObject c.args.self.now p × IsLast c.args.self.now p) (sym c.place_in.ensures.value) last

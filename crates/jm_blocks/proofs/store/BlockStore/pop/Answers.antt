@@ -1,52 +1,76 @@
-use Rattle.std.proofs.Common.{◌≡◌, ◌+◌, ◌-◌, ◌<◌, ◌∙◌, ap, sym, subst, take, length, length-append, arith}
-use Rattle.std.specs.Prelude.{slice_set}
+use Rattle.std.proofs.Common.{◌≡◌, ◌≤◌, ◌+◌, ◌∙◌, ◌++◌, ◌∷◌, [], List, ℕ, ap, arith, refl, sym, subst, suc, length, take}
+use Rattle.std.specs.Prelude.{Some, slice_get, slice_set, get_or}
+use Rattle.std.proofs.Math.Seq.{take-length}
 use Rattle.std.proofs.lemmas.List.{length-set, length-take-le}
-use Rattle.std.proofs.lemmas.Option.{get_or_from_slice_get}
-use Rattle.jm_blocks.specs.Stores.{Blocks, with_object, IsDense, all_sizes}
-use Rattle.jm_blocks.proofs.Filling.{set_same}
-use Rattle.jm_blocks.proofs.Walking.{block_at, nothing_there}
-use Rattle.jm_blocks.proofs.Unfilling.{unfill, dense_less, untake, dense_take, single}
-use Rattle.jm_blocks.proofs.Undoing.{popped}
+use Rattle.std.proofs.lemmas.Option.{slice_get_within}
+use Rattle.jm_blocks.specs.Objects.{Object}
+use Rattle.jm_blocks.specs.Stores.{Blocks, HasObject, IsLast, IsLastBlock, IsPopped, Bumped, store_cells}
+use Rattle.jm_blocks.proofs.Placing.{get_set_same}
+use Rattle.jm_blocks.proofs.Walking.{nothing_there}
+use Rattle.jm_blocks.proofs.Cutting.{cut_read, cut_cells, cut_bumped, popped_whole}
+use Rattle.jm_blocks.proofs.Sizes.{at_least_two, few_where_room}
+use Rattle.jm_blocks.specs.Cells.{object_cells}
 use Rattle.jm_blocks.proofs.store.BlockStore.pop.Goals as goal
+use Rattle.jm_blocks.proofs.store.BlockStore.pop.Goals.{then-len-eq0, else-len-eq0}
 
-pub returns-then-len-eq0-clause-popped : goal.returns-then-len-eq0-clause-popped
-returns-then-len-eq0-clause-popped c p there =
-    let seen = ap (λ (s : Blocks). length s.lists) c.self.view_is in
-    let none = nothing_there c.args.self.now (omega (arith, seen, c.if-len-eq0.true, c.len.ensures, c.self.inside.blocks.ok.0)) p in
-    let some = there.1 in
-    absurd cc
+pub returns-in_default-clause-popped : goal.returns-in_default-clause-popped
+returns-in_default-clause-popped c p there top = let none = nothing_there c.args.self.now c.in_default.ensures p in let some = there.1 in absurd cc
 
-pub invariant_of-self : goal.invariant_of-self
-invariant_of-self c =
-    let all : length c.self.inside.blocks.items ≡ c.len-last.result - 1 + 1 = omega (arith, c.len-last.ensures, c.len.ensures, c.if-len-eq0.false, c.self.inside.blocks.ok.0) in
-    let more = ap length c.pop.ensures.1 ∙ length-append c.pop.new.self _ in
-    let some : 0 < length c.pop.new.self = omega (arith, more, c.len-2.ensures.value, c.if-len-gt1.true) in
-    let many = length-set c.self.inside.blocks.items (c.len-last.result - 1) c.pop.new.self in
-    (c.self.invariant.0, c.self.invariant.1, omega (arith, many, c.self.invariant.2), dense_less c.self.inside.blocks.items (c.len-last.result - 1) c.index_mut-block.result.now c.pop.new.self c.pop.ensures.0 all c.index_mut-block.ensures.value c.pop.ensures.1 some c.self.invariant.3)
+truncated : (c : goal.After-truncate-2) → c.truncate.new.self.items ≡ take (suc c.in-Some.last) c.self.inside.blocks.items
+truncated c = let one : c.in-Some.last + 1 ≡ suc c.in-Some.last = omega arith in c.truncate.ensures.items ∙ ap (λ n. take n c.self.inside.blocks.items) one
 
-pub returns-then-len-gt1-clause-popped : goal.returns-then-len-gt1-clause-popped
-returns-then-len-gt1-clause-popped c p there last =
-    let all : length c.self.inside.blocks.items ≡ c.len-last.result - 1 + 1 = omega (arith, c.len-last.ensures, c.len.ensures, c.if-len-eq0.false, c.self.inside.blocks.ok.0) in
-    let lists = unfill c.self.inside.blocks.items (c.len-last.result - 1) c.index_mut-block.result.now c.pop.new.self c.pop.ensures.0 all c.index_mut-block.ensures.value c.pop.ensures.1 c.pop.ensures.2 in
-    let same : ◌≡◌ {A = Blocks} (record { lane = c.self.inside.lane; lists = c.self.inside.blocks.items }) (record { lane = c.self.inside.lane; lists = with_object (slice_set c.self.inside.blocks.items (c.len-last.result - 1) c.pop.new.self) c.pop.ensures.0 }) = ap (λ ls. record { lane = c.self.inside.lane; lists = ls }) lists in
-    (c.pop.ensures.0, popped c.args.self.now _ c.pop.ensures.0 p (sym c.self.view_is ∙ same) there last)
+cur_is : (c : goal.After-truncate-2) → c.index_mut-block.result.now ≡ c.in-Some.ensures.block
+cur_is c =
+    let at = c.in-Some.ensures in
+    let there = ap (λ (s : Blocks). slice_get s.lists c.in-Some.last) c.self.view_is ∙ at.block_is in
+    cut_read c.self.inside.blocks.items c.in-Some.last at.block c.index_mut-block.result.now there (c.index_mut-block.ensures.value ∙ ap (λ (xs : List (List Object)). get_or xs c.in-Some.last c.index_mut-block.result.now) (truncated c))
 
-left : (c : goal.After-truncate) → c.truncate.new.self.items ≡ take (c.len-last.result - 1) c.self.inside.blocks.items
-left c = c.truncate.ensures.items ∙ ap (take (c.len-last.result - 1)) (set_same c.self.inside.blocks.items (c.len-last.result - 1) c.index_mut-block.result.now c.index_mut-block.ensures.value)
+popped : (c : goal.After-truncate-2) (p : ℕ) → HasObject c.args.self.now p → IsLast c.args.self.now p → (o : Object) × IsPopped c.args.self.now (record { lane = c.self.inside.lane; lists = slice_set c.truncate.new.self.items c.in-Some.last c.pop.new.self }) p o
+popped c p there top =
+    let s : Blocks = record { lane = c.self.inside.lane; lists = c.self.inside.blocks.items } in
+    let at = subst (λ (t : Blocks). IsLastBlock t.lists c.in-Some.last) (sym c.self.view_is) c.in-Some.ensures in
+    let o = c.pop.ensures.0 in
+    let whole : c.in-Some.ensures.block ≡ c.pop.new.self ++ o ∷ [] = sym (cur_is c) ∙ c.pop.ensures.1 in
+    let is : slice_get s.lists c.in-Some.last ≡ Some (c.pop.new.self ++ o ∷ []) = ap (λ (t : Blocks). slice_get t.lists c.in-Some.last) c.self.view_is ∙ c.in-Some.ensures.block_is ∙ ap (λ x. Some x) whole in
+    let room = few_where_room c.pop.new.self (object_cells o) c.pop.ensures.2 (at_least_two o.class (length o.values)) in
+    let few : length c.pop.new.self + 1 ≤ 256 = omega (arith, room) in
+    let bumped = cut_bumped s c.in-Some.last c.pop.new.self o p c.self.invariant.1 few at is (subst (λ t. HasObject t p) (sym c.self.view_is) there) (subst (λ t. IsLast t p) (sym c.self.view_is) top) in
+    let cells = cut_cells s.lists c.in-Some.last c.pop.new.self o is at.after in
+    let same = ap (λ (t : Blocks). store_cells t.lists) c.self.view_is in
+    let lists = ap (λ xs. store_cells (slice_set xs c.in-Some.last c.pop.new.self)) (truncated c) in (
+      o,
+      record {
+        bumped = subst (λ t. Bumped (record { lane = s.lane; lists = slice_set c.truncate.new.self.items c.in-Some.last c.pop.new.self }) t p o) c.self.view_is (subst (λ xs. Bumped (record { lane = s.lane; lists = slice_set xs c.in-Some.last c.pop.new.self }) s p o) (sym (truncated c)) bumped);
+        cells = omega (arith, cells, same, lists);
+      },
+    )
 
-pub invariant_of-self-else-len-gt1 : goal.invariant_of-self-else-len-gt1
-invariant_of-self-else-len-gt1 c =
-    let all : length c.self.inside.blocks.items ≡ c.len-last.result - 1 + 1 = omega (arith, c.len-last.ensures, c.len.ensures, c.if-len-eq0.false, c.self.inside.blocks.ok.0) in
-    let many = ap length (left c) ∙ length-take-le (c.len-last.result - 1) c.self.inside.blocks.items (omega (arith, all)) in
-    (c.self.invariant.0, c.self.invariant.1, omega (arith, many, all, c.self.invariant.2), subst (λ ls. IsDense (all_sizes ls)) (sym (left c)) (dense_take c.self.inside.blocks.items (c.len-last.result - 1) c.self.invariant.3))
+-- what is written back ends with the last block
+ends : (c : goal.After-truncate-2) → length (slice_set c.truncate.new.self.items c.in-Some.last c.pop.new.self) ≡ suc c.in-Some.last
+ends c =
+    let within = slice_get_within c.args.self.now.lists c.in-Some.last c.in-Some.ensures.block c.in-Some.ensures.block_is in
+    let same = ap (λ (t : Blocks). length t.lists) c.self.view_is in
+    let some : suc c.in-Some.last ≤ length c.self.inside.blocks.items = omega (arith, within, same) in
+    length-set c.truncate.new.self.items c.in-Some.last c.pop.new.self ∙ ap length (truncated c) ∙ length-take-le (suc c.in-Some.last) c.self.inside.blocks.items some
 
-pub returns-else-len-gt1-clause-popped : goal.returns-else-len-gt1-clause-popped
-returns-else-len-gt1-clause-popped c p there top =
-    let all : length c.self.inside.blocks.items ≡ c.len-last.result - 1 + 1 = omega (arith, c.len-last.ensures, c.len.ensures, c.if-len-eq0.false, c.self.inside.blocks.ok.0) in
-    let last = block_at c.self.inside.blocks.items (c.len-last.result - 1) c.self.invariant.3 (omega (arith, all)) in
-    let same = c.index_mut-block.ensures.value ∙ get_or_from_slice_get c.self.inside.blocks.items (c.len-last.result - 1) last.0 c.index_mut-block.result.now last.1 in
-    let many = ap length same in
-    let one = single c.index_mut-block.result.now (omega (arith, many, last.2)) (omega (arith, c.len-2.ensures.value, c.if-len-gt1.false)) in
-    let lists = untake c.self.inside.blocks.items (c.len-last.result - 1) c.index_mut-block.result.now one.0 all c.index_mut-block.ensures.value one.1 c.self.invariant.3 ∙ ap (λ ls. with_object ls one.0) (sym (left c)) in
-    let whole : ◌≡◌ {A = Blocks} (record { lane = c.self.inside.lane; lists = c.self.inside.blocks.items }) (record { lane = c.self.inside.lane; lists = with_object c.truncate.new.self.items one.0 }) = ap (λ ls. record { lane = c.self.inside.lane; lists = ls }) lists in
-    (one.0, popped c.args.self.now _ one.0 p (sym c.self.view_is ∙ whole) there top)
+empty_is : (c : goal.After-truncate-2) → c.len.result ≡ 0 → slice_get (slice_set c.truncate.new.self.items c.in-Some.last c.pop.new.self) c.in-Some.last ≡ Some []
+empty_is c e =
+    let many = ends c in
+    let set = length-set c.truncate.new.self.items c.in-Some.last c.pop.new.self in
+    get_set_same c.truncate.new.self.items c.in-Some.last c.pop.new.self (omega (arith, many, set)) ∙ ap (λ x. Some x) (nothing c.pop.new.self (omega (arith, c.len.ensures.value, e)))
+  where
+    nothing : (os : List Object) → length os ≡ 0 → os ≡ []
+    nothing [] h = refl
+    nothing (x ∷ xs) h = absurd (omega (arith, h))
+
+pub returns-clause-popped : goal.returns-clause-popped
+returns-clause-popped c p there top =
+    let whole = popped c p there top in
+    let xs = slice_set c.truncate.new.self.items c.in-Some.last c.pop.new.self in
+    let many = ends c in
+    let all : take (c.in-Some.last + 1) xs ≡ xs = let one : c.in-Some.last + 1 ≡ length xs = omega (arith, many) in ap (λ n. take n xs) one ∙ take-length xs in
+    let taken : IsPopped c.args.self.now (record { lane = c.self.inside.lane; lists = take c.if-len-eq0.left xs }) p whole.0 = elim c.if-len-eq0.branch [
+      | then-len-eq0 w ↦ subst (λ n. IsPopped c.args.self.now (record { lane = c.self.inside.lane; lists = take n xs }) p whole.0) (sym w.left-is) (popped_whole c.args.self.now c.self.inside.lane xs c.in-Some.last p whole.0 whole.1 (empty_is c w.if-len-eq0.true) (omega (arith, many)))
+      | else-len-eq0 w ↦ subst (λ n. IsPopped c.args.self.now (record { lane = c.self.inside.lane; lists = take n xs }) p whole.0) (sym w.left-is) (subst (λ ls. IsPopped c.args.self.now (record { lane = c.self.inside.lane; lists = ls }) p whole.0) (sym all) whole.1)
+    ] in
+    (whole.0, subst (λ ls. IsPopped c.args.self.now (record { lane = c.self.inside.lane; lists = ls }) p whole.0) (sym c.truncate-2.ensures.items) taken)
