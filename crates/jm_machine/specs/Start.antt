@@ -36,3 +36,9 @@ abbrev pub Loaded : {H : Type 0} → Result (MachineView H) LoadFault → List C
 Loaded (Ok m) program limit = (is_too_small program limit ≡ false) × MatchesWorld m (loaded_world program limit)
 Loaded (Err HeapTooSmall) program limit = is_too_small program limit ≡ true
 Loaded (Err OutOfMemory) program limit = is_too_small program limit ≡ false
+
+-- what comes of a machine whose program begins again over an empty heap: it is as after a load, or what it was
+abbrev pub BeginsAgain : {H : Type 0} → Result Unit LoadFault → MachineView H → MachineView H → ℕ → Type 0
+BeginsAgain (Ok u) old new limit = (is_too_small old.linked.program limit ≡ false) × MatchesWorld new (loaded_world old.linked.program limit)
+BeginsAgain (Err HeapTooSmall) old new limit = (is_too_small old.linked.program limit ≡ true) × (new ≡ old)
+BeginsAgain (Err OutOfMemory) old new limit = (is_too_small old.linked.program limit ≡ false) × (new ≡ old)

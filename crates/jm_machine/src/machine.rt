@@ -41,6 +41,7 @@ use jm_state::{Ending, State, find_reachable, reachable};
 use jm_world::{Event, Reply, ReplyKind, Stop};
 use std::alloc::Global;
 use std::marker::Model;
+use std::mem;
 
 /// A linked program that runs over a heap.
 pub struct Machine<H: Heap> {
@@ -73,7 +74,7 @@ impl<H: Heap> Model for Machine<H> {
 
 impl<H: Heap + Drop> Machine<H> {
     ghost use Rattle.std.specs.Prelude.{◌≡◌, None};
-    ghost use Rattle.jm_machine.specs.Start.{IsEmpty, Loaded};
+    ghost use Rattle.jm_machine.specs.Start.{IsEmpty, Loaded, BeginsAgain};
 
     /// The machine from which a run of a linked program begins, over an empty heap whose next serial is
     /// 0: `System.out` and the empty array that main is given are made, and then of each string literal, in order, the
@@ -101,6 +102,29 @@ impl<H: Heap + Drop> Machine<H> {
             linked,
             state,
         })
+    }
+
+    /// The program begins again over an empty heap whose next serial is 0, as [`Machine::load`] begins
+    /// it: whatever was made by events before is let go, and with it the heap. The program stays
+    /// linked. `HeapTooSmall`: exactly where the first objects pass the heap's limit. `OutOfMemory`: a
+    /// growth was refused, or a literal has 2^32 code units or more. After a refusal the machine is
+    /// what it was, and the heap that was given is dropped.
+    pub fn reset(&mut self, heap: H) -> Result<(), LoadFault>
+        requires empty { IsEmpty (H.content heap) }
+        ensures begins { BeginsAgain result self.old self.new (H.content heap).limit }
+        ensures linked { self.new.linked ≡ self.old.linked }
+    {
+        let limit = heap.limit();
+        if is_too_small(&self.linked, limit) {
+            drop(heap);
+            return Err(LoadFault::HeapTooSmall);
+        }
+        let Ok(state) = make_first_state(self.alloc, &self.linked, heap) else {
+            return Err(LoadFault::OutOfMemory);
+        };
+        let old = mem::replace(&mut self.state, state);
+        drop(old);
+        Ok(())
     }
 }
 
