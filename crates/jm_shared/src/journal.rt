@@ -1,6 +1,6 @@
 // The journal.
 
-ghost use Rattle.std.specs.Prelude.{◌≡◌, ◌+◌, ◌<◌, ◌≤◌, ◌^◌, ◌++◌, ◌∷◌, [], length, map, slice_get, take, vec_capacity, vec_len, IsTrue, IfErr, IfOk};
+ghost use Rattle.std.specs.Prelude.{◌≡◌, ◌+◌, ◌<◌, ◌≤◌, ◌^◌, ◌++◌, ◌∷◌, [], length, map, slice_get, take, IsTrue, IfErr, IfOk};
 ghost use Rattle.std.specs.Prelude.{OnErr, OnOk, MatchResult};
 ghost use Rattle.jm_world.specs.World.{World};
 ghost use Rattle.jm_world.specs.Run.{after, reply, run_from};
@@ -15,6 +15,8 @@ ghost use Rattle.jm_shared.specs.Legal.{IsLegal, world_after, entry_of, events_o
 
 use crate::entry::{Entry, Receipt, Receipts};
 use crate::origin::Origin;
+use crate::pages::Pages;
+use crate::record::add_lines;
 use crate::stretch::{Stretch, add, add_turns, entry_at, events_in};
 use jm_heap::Heap;
 use jm_machine::{Interrupted, Machine, OutOfMemory, Steps, StepsEnd};
@@ -26,11 +28,12 @@ use std::marker::{Model, PhantomData};
 /// matches the world to which it leads.
 ///
 /// Equal entries in a row are kept once: a schedule that makes one thread's steps takes next to no
-/// memory, and no journal takes more than 40 bytes an entry.
+/// memory, and no journal takes more than 40 bytes an entry. What is kept lies in pages of 1,024, and
+/// does not move any more; a page is taken before the event that needs it.
 pub struct Journal<H: Heap, R: Origin> {
     machine: Machine<H>,
     // those before the last
-    stretches: Vec<Stretch>,
+    stretches: Pages,
     last: Stretch,
     origin: PhantomData<R>,
 }
@@ -59,12 +62,12 @@ impl<H: Heap, R: Origin> Model for Journal<H, R> {
 }
 
 // Makes room for two stretches more, where so many turns more have numbers.
-fn make_room(stretches: &mut Vec<Stretch>, number: usize, most: usize) -> bool
+fn make_room(stretches: &mut Pages, number: usize, most: usize) -> bool
     ensures items { stretches.new.items ≡ stretches.old.items }
-    ensures room { IsTrue result → vec_len stretches.new + 2 ≤ vec_capacity stretches.new }
+    ensures room { IsTrue result → 2 ≤ stretches.new.room }
     ensures numbers { IsTrue result → number + most < 2 ^ 64 }
 {
-    number.checked_add(most).is_some() && stretches.reserve(2).is_ok()
+    number.checked_add(most).is_some() && stretches.make_room().is_ok()
 }
 
 // No steps of a thread, since a growth was refused.
@@ -92,14 +95,14 @@ impl<H: Heap, R: Origin> Journal<H, R> {
     {
         Journal {
             machine,
-            stretches: Vec::new(alloc),
+            stretches: Pages::new(alloc),
             last: Stretch::empty(),
             origin: PhantomData,
         }
     }
 
     /// Makes one event for a seat, in the nursery of the seat's number, and adds one entry. The
-    /// time of a turn does not grow with the journal, but where its room doubles.
+    /// time of a turn does not grow with the journal, but where the list of its pages grows.
     /// A collection on request makes of the heap what the heap says of its kind, and what is new lies
     /// in that nursery.
     /// `OutOfMemory`: there is no new entry, and the machine is that of the world before. It comes
@@ -115,7 +118,7 @@ impl<H: Heap, R: Origin> Journal<H, R> {
         let Some(end) = number.checked_add(1) else {
             return Err(OutOfMemory);
         };
-        self.stretches.reserve(1)?;
+        self.stretches.make_room()?;
         let reply = self.machine.step_at(usize::from(seat), event)?;
         let entry = Entry {
             event,
@@ -193,6 +196,14 @@ impl<H: Heap, R: Origin> Journal<H, R> {
         ensures { IfOk result (λ events. events.items ≡ events_of self.now.entries) }
     {
         events_in(alloc, &self.stretches, &self.last)
+    }
+
+    /// The journal as the lines of a record, one for each entry. `AllocError`: a growth was refused.
+    pub fn record(&self, alloc: Global) -> Result<Vec<u8>, AllocError> {
+        let mut text = Vec::new(alloc);
+        let start = self.stretches.add_lines(&mut text)?;
+        add_lines(&mut text, &self.last, start)?;
+        Ok(text)
     }
 
     /// Runs the journal's events again, on this thread, by a machine of any heap in the world in

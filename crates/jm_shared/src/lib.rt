@@ -8,7 +8,10 @@
 //! A [`SharedMachine`] has a lock round a journal, so that many threads make turns, each with a
 //! [`Seat`] of its own. A turn answers a [`Receipt`]. Once all seats have come back, the receipts of
 //! each are exactly its entries in the journal, in order ([`SharedMachine::finish`]).
-//! `docs/WORKERS.md` tells how this hangs together.
+//!
+//! [`drive`] gives each seat a thread, in which its worker goes round the Java threads by the replies
+//! to its own turns, and takes the journal. [`Journal::record`] writes a journal down as the lines of a
+//! record. `docs/WORKERS.md` tells how this hangs together.
 //!
 //! The crate stands on `jm_machine`, and passes on what leads to one: linking, loading and the
 //! reading of schedules; on `atomic_table`, for the tokens behind the seats; and on `jm_forward`,
@@ -19,11 +22,16 @@ mod entry;
 mod journal;
 mod keeper;
 mod origin;
+mod pages;
+mod record;
 mod rule;
 mod seat;
 mod shared_machine;
 mod sharing;
 mod stretch;
+mod turn_gate;
+mod worker;
+mod workers;
 
 pub use entry::{Entry, Receipt, Receipts};
 pub use jm_linker::{LinkFault, link};
@@ -38,3 +46,5 @@ pub use rule::Hand;
 pub use seat::Seat;
 pub use shared_machine::{SeatsMissing, SharedMachine};
 pub use sharing::Sharing;
+pub use turn_gate::{OpenTurnGate, TurnGate};
+pub use workers::{Driven, drive};

@@ -186,6 +186,7 @@ impl<H: Heap, S: Sharing> SharedMachine<H, S> {
         ensures known { IfOk result (λ journal. All (λ entry. entry.seat < S.seats) journal.entries) }
         ensures legal { IfOk result (IsRunFrom S.first) }
         ensures missing { IfErr result (λ fault. LacksOne S.seats seats.items × (fault.machine ≡ self) × (fault.seats.items ≡ seats.items)) }
+        ensures few { OnErr result (length seats.items < S.seats) }
     {
         if seats.len() < usize::from(self.seats) {
             return Err(SeatsMissing {

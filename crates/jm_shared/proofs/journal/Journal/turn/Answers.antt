@@ -15,7 +15,7 @@ invariant_of-self-2 g c =
     let entries = entries_of c.self.inside.stretches.items last in
     let entry = entry_of c.args.seat c.args.event c.in_ok-reply.reply in
     let made = c.in_ok-reply.ensures.next (world_after g.R.Origin.first entries) matches in
-    let kept = ap (λ ss. entries_of ss last) c.in_ok-reserve.ensures.items in
+    let kept = ap (λ ss. entries_of ss last) c.in_ok-make_room.ensures.items in
     let whole = turned g.R.Origin.first entries _ _ entry c.step_at.new.self legal made.0 made.1 (rw c.of.ensures.0 at c.add.ensures.entries) kept in
     (c.add.ensures.rises, whole)
 
@@ -27,5 +27,5 @@ returns-clause-receipt g c =
 pub returns-in_default-clause-nursery : goal.returns-in_default-clause-nursery
 returns-in_default-clause-nursery g c = none_new_same _ _ _ refl
 
-pub returns-in_err-reserve-clause-nursery : goal.returns-in_err-reserve-clause-nursery
-returns-in_err-reserve-clause-nursery g c = none_new_same _ _ _ (ap (λ (b : Book _). b.machine.content) c.self.view_is)
+pub returns-in_err-make_room-clause-nursery : goal.returns-in_err-make_room-clause-nursery
+returns-in_err-make_room-clause-nursery g c = none_new_same _ _ _ (ap (λ (b : Book _). b.machine.content) c.self.view_is)
