@@ -3,7 +3,7 @@ use Rattle.std.proofs.Common.{◌≡◌, ℕ, List, Bool, false, refl, sym, ap, 
 use Rattle.std.specs.Prelude.{if◌then◌else◌}
 use Rattle.jm_program.specs.declared.class.ClassParts.{ClassParts}
 use Rattle.jm_world.specs.Loading.{first_thread, is_too_small, loaded_world, main_in}
-use Rattle.jm_world.specs.declared.event.Event.{Event}
+use Rattle.jm_choice.specs.Choices.{Choice}
 use Rattle.jm_state.specs.Parts.{parts}
 use Rattle.jm_machine.specs.View.{MachineView, MatchesWorld}
 use Rattle.jm_execute.specs.Beginnings.{HasOneThread, StandsAtItsBeginning, beginning}
@@ -43,24 +43,16 @@ loads m program limit fits h =
     ap answer fits ∙ ap Ok (sym (same_program m program limit h))
 
 -- the endings of the run are those that the files allow
-pub allowed : (v : Verdict) (program : List ClassParts) (limit : ℕ) (events : List Event) (shows : Bool) → v ≡ Ok (runs program limit events shows)
-    → (e : Ending) → Ends shows (loaded_world program limit) events e → Allows v e
-allowed v program limit events shows is (completed shown w) (same, h) =
-    record { program = program; limit = limit; events = events; runs_is = is ∙ ap (λ b. Ok (runs program limit events b)) (sym same); world_is = h }
-allowed v program limit events shows is (interrupted w) (made, rest, whole, h) = record {
-  program = program;
-  limit = limit;
-  made = made;
-  rest = rest;
-  shows = shows;
-  runs_is = is ∙ ap (λ es. Ok (runs program limit es shows)) whole;
-  world_is = h;
-}
-allowed v program limit events shows is (assembled bytes) h = absurd h
-allowed v program limit events shows is (disassembled name commented class) h = absurd h
-allowed v program limit events shows is (answered t) h = absurd h
-allowed v program limit events shows is exhausted h = tt
-allowed v program limit events shows is (turned_away reason) h = absurd h
+pub allowed : (v : Verdict) (program : List ClassParts) (limit : ℕ) (choice : Choice) (shows : Bool) → v ≡ Ok (runs program limit choice shows)
+    → (e : Ending) → Ends shows (loaded_world program limit) choice e → Allows v e
+allowed v program limit choice shows is (completed shown w) (same, ends) =
+    record { program = program; limit = limit; choice = choice; runs_is = is ∙ ap (λ b. Ok (runs program limit choice b)) (sym same); ends = ends }
+allowed v program limit choice shows is (interrupted w) ends = (shows, record { program = program; limit = limit; choice = choice; runs_is = is; ends = ends })
+allowed v program limit choice shows is (assembled bytes) h = absurd h
+allowed v program limit choice shows is (disassembled name commented class) h = absurd h
+allowed v program limit choice shows is (answered t) h = absurd h
+allowed v program limit choice shows is exhausted h = tt
+allowed v program limit choice shows is (turned_away reason) h = absurd h
 
 -- a loaded world has its main thread
 pub begins_with_main : (program : List ClassParts) (limit : ℕ) → HasOneThread (loaded_world program limit)

@@ -4,9 +4,9 @@ use Rattle.std.specs.Prelude.{IfOk}
 use Rattle.jm_program.specs.declared.class.ClassParts.{ClassParts}
 use Rattle.jm_world.specs.Loading.{loaded_world}
 use Rattle.jm_world.specs.World.{World}
-use Rattle.jm_world.specs.declared.event.Event.{Event}
+use Rattle.jm_choice.specs.Choices.{Choice}
 use Rattle.jm_execute.specs.Refusals.{Gives, Hinders}
-use Rattle.jm_execute.specs.Verdicts.{Verdict, debug_verdict, debugs, events_read, events_of, program_of, run_verdict, runs, ◌>>=◌}
+use Rattle.jm_execute.specs.Verdicts.{Verdict, debug_verdict, debugs, events_read, choice_of, program_of, run_verdict, runs, ◌>>=◌}
 use Rattle.jm_execute.specs.declared.job.InputFile.{InputFile}
 use Rattle.jm_execute.specs.declared.job.DebugJob.{DebugJob}
 use Rattle.jm_execute.specs.declared.job.RunJob.{RunJob}
@@ -15,7 +15,7 @@ use Rattle.jm_execute.proofs.Chains.{hindered}
 
 -- the steps behind the program, and behind what says the events
 abbrev behind_program : RunJob → List ClassParts → Verdict
-behind_program job program = events_of job.events (loaded_world program job.heap) >>= (λ events. Ok (runs program job.heap events job.show_heap))
+behind_program job program = choice_of job.events (loaded_world program job.heap) >>= (λ choice. Ok (runs program job.heap choice job.show_heap))
 
 abbrev behind_reading : RunJob → Unit {0} → Verdict
 behind_reading job read = program_of job.heap job.program.items >>= behind_program job
@@ -44,24 +44,24 @@ module _ (job : RunJob) where
       goes_further : run_verdict job ≡ behind_program job program
       goes_further = goes_on ∙ ap (λ step. step >>= behind_program job) (sym same_program ∙ program_is)
 
-      pub no_events : (o : Obstacle) → Hinders (events_of job.events (loaded_world program job.heap)) o → Hinders (run_verdict job) o
-      no_events o h =
-          let events = events_of job.events (loaded_world program job.heap) in
-          subst (λ v. Hinders v o) (sym goes_further) (hindered events (λ es. Ok (runs program job.heap es job.show_heap)) o h)
+      pub no_choice : (o : Obstacle) → Hinders (choice_of job.events (loaded_world program job.heap)) o → Hinders (run_verdict job) o
+      no_choice o h =
+          let choice = choice_of job.events (loaded_world program job.heap) in
+          subst (λ v. Hinders v o) (sym goes_further) (hindered choice (λ c. Ok (runs program job.heap c job.show_heap)) o h)
 
-      pub prepared : (events : List Event) → events_of job.events (loaded_world program job.heap) ≡ Ok events → run_verdict job ≡ Ok (runs program job.heap events job.show_heap)
-      prepared events is = goes_further ∙ ap (λ step. step >>= (λ es. Ok (runs program job.heap es job.show_heap))) is
+      pub prepared : (choice : Choice) → choice_of job.events (loaded_world program job.heap) ≡ Ok choice → run_verdict job ≡ Ok (runs program job.heap choice job.show_heap)
+      prepared choice is = goes_further ∙ ap (λ step. step >>= (λ c. Ok (runs program job.heap c job.show_heap))) is
 
     -- a machine with where its events come from
-    pub sourced : {T M S : Type 0} (first : T → M) (second : T → S) (view : M → List ClassParts) (made : S → World → List Event) (m : M)
+    pub sourced : {T M S : Type 0} (first : T → M) (second : T → S) (view : M → List ClassParts) (made : S → World → Choice) (m : M)
         → program_of limit files ≡ Ok (view m) → (r : Result T Obstacle)
-        → Gives r (events_of job.events (loaded_world (view m) job.heap)) (λ ready. made (second ready) (loaded_world (view m) job.heap))
+        → Gives r (choice_of job.events (loaded_world (view m) job.heap)) (λ ready. made (second ready) (loaded_world (view m) job.heap))
         → IfOk r (λ ready. first ready ≡ m)
         → Gives r (run_verdict job) (λ ready. runs (view (first ready)) job.heap (made (second ready) (loaded_world (view (first ready)) job.heap)) job.show_heap)
     sourced first second view made m is (Ok ready) h same =
         let now = prepared (view m) is (made (second ready) (loaded_world (view m) job.heap)) h in
         subst (λ n. run_verdict job ≡ Ok (runs (view n) job.heap (made (second ready) (loaded_world (view n) job.heap)) job.show_heap)) (sym same) now
-    sourced first second view made m is (Err o) h same = no_events (view m) is o h
+    sourced first second view made m is (Err o) h same = no_choice (view m) is o h
 
 -- what holds of a machine holds of it with where its events come from
 pub kept_with : {T M : Type 0} (first : T → M) (P : M → Type 0) (m : M) (r : Result T Obstacle) → IfOk r (λ ready. first ready ≡ m) → P m → IfOk r (λ ready. P (first ready))

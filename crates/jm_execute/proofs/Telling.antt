@@ -3,8 +3,11 @@ use Rattle.std.proofs.Common.{◌≡◌, ℕ, List, [], inl, inr, refl, sym, sub
 use Rattle.std.specs.Prelude.{IfSome, OnOk}
 use Rattle.jm_execute.specs.Written.{Watch, Words, AllWritten, LinesWritten, LineFailed, Reads, WritesLines}
 use Rattle.jm_world.specs.World.{World}
+use Rattle.jm_world.specs.Run.{run_from}
 use Rattle.jm_world.specs.declared.event.Event.{Event}
-use Rattle.jm_execute.specs.Endings.{Ending, completed, interrupted, assembled, disassembled, answered, exhausted, turned_away, Ends, FailureTold, Hears, IsDone, IsDoneUnread, IsTalk, Leaves, LeavesIf, LinesTold, Tells, output_of}
+use Rattle.jm_choice.specs.Choices.{Choice, Makes}
+use Rattle.jm_choice.proofs.Ends.{makes_some}
+use Rattle.jm_execute.specs.Endings.{Ending, completed, interrupted, assembled, disassembled, answered, exhausted, turned_away, Ends, EndsIn, FailureTold, Hears, IsDone, IsDoneUnread, IsTalk, Leaves, LeavesIf, LinesTold, Tells, output_of}
 use Rattle.jm_execute.specs.Talks.{Talk, TalkLeft, TalkLeftIf}
 use Rattle.jm_execute.specs.Verdicts.{Verdict}
 use Rattle.jm_execute.specs.declared.status.Status.{Status}
@@ -62,15 +65,25 @@ unheard r failed (answered t) reader silent = absurd (silent tt)
 unheard r failed exhausted reader silent = refl
 unheard r failed (turned_away reason) reader silent = refl
 
+-- the endings of a run whose events were all made
+pub ends_in : (shows : Bool) (first : World) (choice : Choice) (made : List Event) → Makes first choice made → (e : Ending) → EndsIn shows (run_from first made) e → Ends shows first choice e
+ends_in shows first choice made makes (completed shown w) (same, is) = (same, (made, makes, is))
+ends_in shows first choice made makes (interrupted w) is = (made, makes_some first choice made makes, is)
+ends_in shows first choice made makes (assembled bytes) h = absurd h
+ends_in shows first choice made makes (disassembled name commented class) h = absurd h
+ends_in shows first choice made makes (answered t) h = absurd h
+ends_in shows first choice made makes exhausted h = absurd h
+ends_in shows first choice made makes (turned_away reason) h = absurd h
+
 -- a run is no session
-pub no_talk : (shows : Bool) (first : World) (events : List Event) (e : Ending) → Ends shows first events e → IsTalk e → ⊥
-no_talk shows first events (completed shown w) ends talk = talk
-no_talk shows first events (interrupted w) ends talk = talk
-no_talk shows first events (assembled bytes) ends talk = talk
-no_talk shows first events (disassembled name commented class) ends talk = talk
-no_talk shows first events (answered t) ends talk = ends
-no_talk shows first events exhausted ends talk = talk
-no_talk shows first events (turned_away reason) ends talk = talk
+pub no_talk : (shows : Bool) (first : World) (choice : Choice) (e : Ending) → Ends shows first choice e → IsTalk e → ⊥
+no_talk shows first choice (completed shown w) ends talk = talk
+no_talk shows first choice (interrupted w) ends talk = talk
+no_talk shows first choice (assembled bytes) ends talk = talk
+no_talk shows first choice (disassembled name commented class) ends talk = talk
+no_talk shows first choice (answered t) ends talk = ends
+no_talk shows first choice exhausted ends talk = talk
+no_talk shows first choice (turned_away reason) ends talk = talk
 
 pub done_unread : {R O E : Type 0} (r : Reads R) (o : Words O) (w : Words E) (v : Verdict) (status : Status) (reader : Watch R) (out new_out : Watch O) (err new_err : Watch E)
     → IsDoneUnread o w v status out new_out err new_err → IsDone r o w v status reader reader out new_out err new_err

@@ -4,8 +4,7 @@ use Rattle.jm_program.specs.declared.class.ClassParts.{ClassParts}
 use Rattle.jm_class_format.specs.ClassFile.{Spells}
 use Rattle.jm_world.specs.World.{World}
 use Rattle.jm_world.specs.Loading.{loaded_world}
-use Rattle.jm_world.specs.Run.{run_from}
-use Rattle.jm_world.specs.declared.event.Event.{Event}
+use Rattle.jm_choice.specs.Choices.{Choice, RunEnd, RunEnds, all_made, cut_short}
 use Rattle.jm_execute.specs.Reports.{report, heap_shown, memory_line, failure_line, status_of}
 use Rattle.jm_execute.specs.Reasons.{Reason, reason_status, reason_line}
 use Rattle.jm_debug.specs.Session.{session_of}
@@ -34,23 +33,13 @@ pub data Ending : Type 0 where
   -- there was neither a run, nor a class file, nor a text, nor a session, for this reason
   turned_away : Reason → Ending
 
--- the run that a world is the last of
-pub record Completes (v : Verdict) (shows : Bool) (w : World) : Type 0 where
+-- the run that the files say, its heap shown at the end or not, ends so
+pub record EndsRun (v : Verdict) (shows : Bool) (end : RunEnd) : Type 0 where
   pub program : List ClassParts
   pub limit : ℕ
-  pub events : List Event
-  pub runs_is : v ≡ Ok (runs program limit events shows)
-  pub world_is : w ≡ run_from (loaded_world program limit) events
-
--- the run that a world is within
-pub record StopsShort (v : Verdict) (w : World) : Type 0 where
-  pub program : List ClassParts
-  pub limit : ℕ
-  pub made : List Event
-  pub rest : List Event
-  pub shows : Bool
-  pub runs_is : v ≡ Ok (runs program limit (made ++ rest) shows)
-  pub world_is : w ≡ run_from (loaded_world program limit) made
+  pub choice : Choice
+  pub runs_is : v ≡ Ok (runs program limit choice shows)
+  pub ends : RunEnds (loaded_world program limit) choice end
 
 -- the bytes are a class file's, and spell the class that the text denotes (JVMS 4)
 pub record Assembles (v : Verdict) (bytes : List ℕ) : Type 0 where
@@ -70,20 +59,30 @@ pub record Debugs (v : Verdict) (t : Talk) : Type 0 where
   pub debugs_is : v ≡ Ok (debugs program limit)
   pub first_is : t.first ≡ session_of (loaded_world program limit)
 
--- the endings of a run of events from a world on, whose heap is shown or not: memory may be refused at any time
-abbrev pub Ends : Bool → World → List Event → Ending → Type 0
-Ends shows first events (completed shown w) = (shown ≡ shows) × (w ≡ run_from first events)
-Ends shows first events (interrupted w) = (made : List Event) × (rest : List Event) × (events ≡ made ++ rest) × (w ≡ run_from first made)
-Ends shows first events (assembled bytes) = ⊥
-Ends shows first events (disassembled name commented class) = ⊥
-Ends shows first events (answered t) = ⊥
-Ends shows first events exhausted = ⊤
-Ends shows first events (turned_away reason) = ⊥
+-- the endings of a run from a world on, whose events are chosen so, and whose heap is shown or not: memory may be refused at any time
+abbrev pub Ends : Bool → World → Choice → Ending → Type 0
+Ends shows first choice (completed shown w) = (shown ≡ shows) × RunEnds first choice (all_made w)
+Ends shows first choice (interrupted w) = RunEnds first choice (cut_short w)
+Ends shows first choice (assembled bytes) = ⊥
+Ends shows first choice (disassembled name commented class) = ⊥
+Ends shows first choice (answered t) = ⊥
+Ends shows first choice exhausted = ⊤
+Ends shows first choice (turned_away reason) = ⊥
+
+-- the endings of a run whose events were all made, in the world to which they led: memory may be refused to the view of the heap
+abbrev pub EndsIn : Bool → World → Ending → Type 0
+EndsIn shows last (completed shown w) = (shown ≡ shows) × (w ≡ last)
+EndsIn shows last (interrupted w) = w ≡ last
+EndsIn shows last (assembled bytes) = ⊥
+EndsIn shows last (disassembled name commented class) = ⊥
+EndsIn shows last (answered t) = ⊥
+EndsIn shows last exhausted = ⊥
+EndsIn shows last (turned_away reason) = ⊥
 
 -- the endings that the files allow: memory may be refused at any time
 abbrev pub Allows : Verdict → Ending → Type 0
-Allows v (completed shows w) = Completes v shows w
-Allows v (interrupted w) = StopsShort v w
+Allows v (completed shows w) = EndsRun v shows (all_made w)
+Allows v (interrupted w) = (shows : Bool) × EndsRun v shows (cut_short w)
 Allows v (assembled bytes) = Assembles v bytes
 Allows v (disassembled name commented class) = Disassembles v name commented class
 Allows v (answered t) = Debugs v t

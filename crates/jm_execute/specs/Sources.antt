@@ -3,9 +3,14 @@ use Rattle.std.specs.Prelude.{List}
 use Rattle.jm_world.specs.RoundRobin.{robin}
 use Rattle.jm_world.specs.World.{World}
 use Rattle.jm_world.specs.declared.event.Event.{Event}
+use Rattle.jm_choice.specs.Choices.{Choice, listed}
 use Rattle.jm_execute.specs.declared.events.RunSource.{RunSource}
 use Rattle.jm_execute.specs.declared.events.RunSource.TheVariants.{Schedule, RoundRobin}
 
 abbrev pub events_made : RunSource → World → List Event
 events_made (Schedule events) w = events
 events_made (RoundRobin turns) w = robin w turns.steps turns.quantum
+
+-- they are chosen so
+abbrev pub choice_made : RunSource → World → Choice
+choice_made source w = listed (events_made source w)

@@ -10,6 +10,7 @@ use Rattle.jm_world.specs.Loads.{Refusal, refusal, duplicate_class, no_class, cy
 use Rattle.jm_world.specs.RoundRobin.{robin}
 use Rattle.jm_world.specs.Schedules.{schedule}
 use Rattle.jm_world.specs.World.{World}
+use Rattle.jm_choice.specs.Choices.{Choice, listed}
 use Rattle.jm_world.specs.declared.event.Event.{Event}
 use Rattle.jm_linker.specs.declared.fault.LinkFault.{LinkFault}
 use Rattle.jm_linker.specs.declared.fault.LinkFault.TheVariants as link
@@ -28,8 +29,8 @@ use Rattle.jm_execute.specs.ProgramFiles.{in_text, in_class_file, is_text_name, 
 use Rattle.jm_execute.specs.Reasons as reason
 
 pub data Work : Type 0 where
-  -- the run of a program, over a heap of this limit, by these events, and whether its heap is shown at the end
-  runs : List ClassParts → ℕ → List Event → Bool → Work
+  -- the run of a program, over a heap of this limit, by events that are chosen so, and whether its heap is shown at the end
+  runs : List ClassParts → ℕ → Choice → Bool → Work
   -- a class, and the bytes that are written for it
   assembles : ClassParts → List ℕ → Work
   -- the text of the class in a file of this name, with comments or without them
@@ -135,6 +136,12 @@ program_of limit files = do
 abbrev pub events_in : List ℕ → Result (List Event) Cause
 events_in text = fault_as (λ line. because (reason.no_event line)) (schedule text)
 
+-- the events that the lines of a schedule's file spell
+abbrev pub scheduled_events : InputFile → Result (List Event) Cause
+scheduled_events file = do
+  text ← bytes_of file
+  events_in text
+
 -- where the events are those of a schedule, it was read
 abbrev pub events_read : RunEvents → Result (Unit {0}) Cause
 events_read (Schedule file) = do
@@ -142,20 +149,20 @@ events_read (Schedule file) = do
   Ok tt
 events_read (RoundRobin turns) = Ok tt
 
--- the events that are made from a world on
-abbrev pub events_of : RunEvents → World → Result (List Event) Cause
-events_of (Schedule file) w = do
-  text ← bytes_of file
-  events_in text
-events_of (RoundRobin turns) w = Ok (robin w turns.steps turns.quantum)
+-- how the events are chosen that are made from a world on
+abbrev pub choice_of : RunEvents → World → Result Choice Cause
+choice_of (Schedule file) w = do
+  events ← scheduled_events file
+  Ok (listed events)
+choice_of (RoundRobin turns) w = Ok (listed (robin w turns.steps turns.quantum))
 
 -- a schedule is read first and looked at last
 unfoldable pub run_verdict : RunJob → Verdict
 run_verdict job = do
   read ← events_read job.events
   program ← program_of job.heap job.program.items
-  events ← events_of job.events (loaded_world program job.heap)
-  Ok (runs program job.heap events job.show_heap)
+  choice ← choice_of job.events (loaded_world program job.heap)
+  Ok (runs program job.heap choice job.show_heap)
 
 -- ---- a class file from a text
 

@@ -1,17 +1,17 @@
 // What `jm run`, `jm asm`, `jm dis` and `jm debug` do.
 
-ghost use Rattle.std.specs.Prelude.{◌≡◌, List, [], ◌++◌, Bool, false, MatchResult, string_bytes};
+ghost use Rattle.std.specs.Prelude.{◌≡◌, [], Bool, false, MatchResult, string_bytes};
 ghost use Rattle.jm_machine.specs.View.{MatchesWorld};
 ghost use Rattle.jm_shared.specs.Legal.{events_of, world_after};
 ghost use Rattle.jm_shared.specs.Seats.{fresh_hands};
 ghost use Rattle.jm_world.specs.World.{World};
-ghost use Rattle.jm_world.specs.declared.event.Event.{Event};
+ghost use Rattle.jm_choice.specs.Choices.{Choice, Makes, MakesSome, listed};
 ghost use Rattle.jm_execute.specs.Beginnings.{HasOneThread, beginning};
 ghost use Rattle.jm_program.specs.declared.class.ClassParts.{ClassParts};
 ghost use Rattle.jm_disassembler.specs.Texts.{class_text};
 ghost use Rattle.jm_disassembler.specs.Unsaid.{first_unsaid};
 ghost use Rattle.jm_execute.specs.ClassTexts.{unsaid_line, unsaid_status};
-ghost use Rattle.jm_execute.specs.Endings.{Ending, assembled, completed, disassembled, exhausted, interrupted, output_of, Allows, Ends, FailureTold, IsDone, IsDoneUnread, IsTalk, Leaves, LinesTold, Tells};
+ghost use Rattle.jm_execute.specs.Endings.{Ending, assembled, completed, disassembled, exhausted, interrupted, output_of, Allows, Ends, EndsIn, FailureTold, IsDone, IsDoneUnread, IsTalk, Leaves, LinesTold, Tells};
 ghost use Rattle.jm_debug.specs.Session.{session_of};
 ghost use Rattle.jm_execute.specs.Reports.{heap_shown};
 ghost use Rattle.jm_execute.specs.Talks.{IsHeld};
@@ -32,6 +32,7 @@ use crate::session::answer_lines;
 use crate::status::Status;
 use crate::watchable::Watchable;
 use crate::watched::Watched;
+use jm_copy::{Collector, SerialCollector};
 use jm_debug::Debugger;
 use jm_disassembler::Unsaid;
 use jm_heap::Heap;
@@ -100,7 +101,7 @@ fn tell_run<H: Heap, R: Origin, O: Watchable, E: Watchable>(
 ) -> Status
     requires out { out.old.failed ≡ false }
     requires err { err.old.failed ≡ false }
-    ensures { (e : Ending) × Ends show_heap R.first (events_of journal.now.entries) e
+    ensures { (e : Ending) × EndsIn show_heap (world_after R.first journal.now.entries) e
         × Leaves (words O.contents O.ends) (words E.contents E.ends) e result out.old out.new err.old err.new }
 {
     let machine = journal.machine();
@@ -121,9 +122,9 @@ fn tell_made<H: Heap, R: Origin, O: Watchable, E: Watchable>(
 ) -> Status
     requires out { out.old.failed ≡ false }
     requires err { err.old.failed ≡ false }
-    ensures { (wanted : List Event)
-        → MatchResult made (λ _. events_of journal.now.entries ≡ wanted) (λ _. (rest : List Event) × (wanted ≡ events_of journal.now.entries ++ rest))
-        → (e : Ending) × Ends show_heap R.first wanted e
+    ensures { (choice : Choice)
+        → MatchResult made (λ _. Makes R.first choice (events_of journal.now.entries)) (λ _. MakesSome R.first choice (events_of journal.now.entries))
+        → (e : Ending) × Ends show_heap R.first choice e
         × Leaves (words O.contents O.ends) (words E.contents E.ends) e result out.old out.new err.old err.new }
 {
     match made {
@@ -146,8 +147,8 @@ fn make_journal<S: EventSource, H: Heap, N: Sharing, W: Wait>(
     requires one { N.seats ≡ 1 }
     requires seats { seats.items ≡ fresh_hands 0 1 }
     requires begins { HasOneThread N.first }
-    ensures { let wanted = S.events source.now N.first in
-        MatchResult result.1 (λ _. events_of result.0.entries ≡ wanted) (λ _. (rest : List Event) × (wanted ≡ events_of result.0.entries ++ rest)) }
+    ensures { let choice = listed (S.events source.now N.first) in
+        MatchResult result.1 (λ _. Makes N.first choice (events_of result.0.entries)) (λ _. MakesSome N.first choice (events_of result.0.entries)) }
 {
     let made = source.make_events(rt, alloc, &machine, &mut seats[0]);
     match machine.finish(seats) {
@@ -172,7 +173,7 @@ fn run_shared<S: EventSource, H: Heap + Drop, N: Sharing, W: Wait, O: Watchable,
     requires begins { HasOneThread N.first }
     requires out { out.old.failed ≡ false }
     requires err { err.old.failed ≡ false }
-    ensures { (e : Ending) × Ends show_heap N.first (S.events source.now N.first) e
+    ensures { (e : Ending) × Ends show_heap N.first (listed (S.events source.now N.first)) e
         × Leaves (words O.contents O.ends) (words E.contents E.ends) e result out.old out.new err.old err.new }
 {
     let (journal, made) = make_journal(rt, alloc, machine, seats, source);
@@ -198,7 +199,7 @@ fn run_events<S: EventSource, H: Heap + Drop, N: Sharing, W: Wait, O: Watchable,
     requires begins { HasOneThread N.first }
     requires out { out.old.failed ≡ false }
     requires err { err.old.failed ≡ false }
-    ensures { (e : Ending) × Ends show_heap N.first (S.events source.now N.first) e
+    ensures { (e : Ending) × Ends show_heap N.first (listed (S.events source.now N.first)) e
         × Leaves (words O.contents O.ends) (words E.contents E.ends) e result out.old out.new err.old err.new }
 {
     match SharedMachine::<H, N>::new(alloc, machine, table) {
@@ -222,7 +223,7 @@ fn run_by_one_seat<S: EventSource, H: Heap + Drop, W: Wait, O: Watchable, E: Wat
     requires first { MatchesWorld machine (beginning machine) }
     requires out { out.old.failed ≡ false }
     requires err { err.old.failed ≡ false }
-    ensures { (e : Ending) × Ends show_heap (beginning machine) (S.events source.now (beginning machine)) e
+    ensures { (e : Ending) × Ends show_heap (beginning machine) (listed (S.events source.now (beginning machine))) e
         × Leaves (words O.contents O.ends) (words E.contents E.ends) e result out.old out.new err.old err.new }
 {
     match SeatTable::new(alloc, 1) {
@@ -319,10 +320,12 @@ fn tell_obstacle<E: Watchable>(obstacle: Obstacle<'_>, err: &mut Watched<E>) -> 
     }
 }
 
-fn execute_run<W: Wait, O: Watchable, E: Watchable>(
+// Runs the classes of a program over a heap with a collector.
+fn execute_run<C: Collector + Drop, W: Wait, O: Watchable, E: Watchable>(
     rt: &W,
     alloc: Global,
     job: &RunJob,
+    collector: C,
     out: &mut Watched<O>,
     err: &mut Watched<E>,
 ) -> Status
@@ -330,7 +333,7 @@ fn execute_run<W: Wait, O: Watchable, E: Watchable>(
     requires err { err.old.failed ≡ false }
     ensures { IsDoneUnread (words O.contents O.ends) (words E.contents E.ends) (run_verdict job.now) result out.old out.new err.old err.new }
 {
-    match prepare(alloc, job) {
+    match prepare(alloc, job, collector) {
         Ok((machine, source)) => run_by_one_seat(
             rt,
             alloc,
@@ -404,10 +407,12 @@ fn tell_failure<O: Watchable, E: Watchable>(out: &Watched<O>, err: &mut Watched<
     }
 }
 
-fn execute_debug<W: Wait, R: Readable, O: Watchable, E: Watchable>(
+// Answers the commands of a session over a heap with a collector.
+fn execute_debug<C: Collector + Drop, W: Wait, R: Readable, O: Watchable, E: Watchable>(
     rt: &W,
     alloc: Global,
     job: &DebugJob,
+    collector: C,
     reader: &mut Watched<R>,
     out: &mut Watched<O>,
     err: &mut Watched<E>,
@@ -417,7 +422,7 @@ fn execute_debug<W: Wait, R: Readable, O: Watchable, E: Watchable>(
     ensures { IsDone (reads R.remaining R.fails) (words O.contents O.ends) (words E.contents E.ends) (debug_verdict job.now)
         result reader.old reader.new out.old out.new err.old err.new }
 {
-    match prepare_session(alloc, job) {
+    match prepare_session(alloc, job, collector) {
         Ok(machine) => {
             let status = answer_session(rt, alloc, machine, reader, out);
             tell_failure(out, err);
@@ -472,9 +477,9 @@ pub fn execute<W: Wait, R: Readable, O: Watchable, E: Watchable>(
         result reader.old reader.new out.old out.new err.old err.new }
 {
     match job {
-        Job::Run(run) => execute_run(rt, alloc, run, out, err),
+        Job::Run(run) => execute_run(rt, alloc, run, SerialCollector, out, err),
         Job::Assemble(assemble) => execute_assemble(alloc, assemble, out, err),
         Job::Disassemble(disassemble) => execute_disassemble(alloc, disassemble, out, err),
-        Job::Debug(debug) => execute_debug(rt, alloc, debug, reader, out, err),
+        Job::Debug(debug) => execute_debug(rt, alloc, debug, SerialCollector, reader, out, err),
     }
 }

@@ -7,15 +7,15 @@ ghost use Rattle.jm_gen_heap.specs.Residents.{content_of};
 ghost use Rattle.jm_machine.specs.Start.{IsEmpty};
 ghost use Rattle.jm_execute.specs.Beginnings.{StandsAtItsBeginning};
 ghost use Rattle.jm_execute.specs.Refusals.{Gives};
-ghost use Rattle.jm_execute.specs.Sources.{events_made};
-ghost use Rattle.jm_execute.specs.Verdicts.{classes_of, debug_verdict, debugs, events_in, events_of, events_read, linked_program, loaded_program, program_of, run_verdict, runs};
+ghost use Rattle.jm_execute.specs.Sources.{choice_made};
+ghost use Rattle.jm_execute.specs.Verdicts.{classes_of, debug_verdict, debugs, events_in, choice_of, events_read, linked_program, loaded_program, program_of, run_verdict, runs, scheduled_events};
 
 use crate::events::RunSource;
 use crate::files::{bytes_of, check_read};
 use crate::job::{DebugJob, InputFile, RunEvents, RunJob};
 use crate::program_file::class_of;
 use crate::refusal::{Obstacle, Refusal};
-use jm_copy::SerialCollector;
+use jm_copy::Collector;
 use jm_gen_heap::GenHeap;
 use jm_heap::Heap;
 use jm_linked::Linked;
@@ -76,6 +76,14 @@ fn schedule_of<'a>(alloc: Global, text: &[u8]) -> Result<Schedule, Obstacle<'a>>
     }
 }
 
+// The schedule in a file.
+fn schedule_in(alloc: Global, file: &InputFile) -> Result<Schedule, Obstacle<'_>>
+    ensures { Gives result (scheduled_events file.now) (λ events. events) }
+{
+    let text = bytes_of(file)?;
+    schedule_of(alloc, text)
+}
+
 /// The machine that the program of some files begins with, over an empty heap. A file that could not
 /// be read is the first obstacle; then what is wrong with a file, by their order, with the classes,
 /// and with the heap's limit.
@@ -110,45 +118,49 @@ fn check_events(events: &RunEvents) -> Result<(), Obstacle<'_>>
 
 // The events that a job says.
 fn source_of(alloc: Global, events: &RunEvents) -> Result<RunSource, Obstacle<'_>>
-    ensures { (w : World) → Gives result (events_of events.now w) (λ source. events_made source w) }
+    ensures { (w : World) → Gives result (choice_of events.now w) (λ source. choice_made source w) }
 {
     match events {
         RunEvents::Schedule(file) => {
-            let text = bytes_of(file)?;
-            let schedule = schedule_of(alloc, text)?;
+            let schedule = schedule_in(alloc, file)?;
             Ok(RunSource::Schedule(schedule))
         }
         RunEvents::RoundRobin(robin) => Ok(RunSource::RoundRobin(*robin)),
     }
 }
 
-/// The heap of a run: of two generations, of which one thread copies what is reached.
-pub type RunHeap = GenHeap<SerialCollector>;
+/// The heap of a run: of two generations, with a collector.
+pub type RunHeap<C> = GenHeap<C>;
 
 // An empty heap of so many cells.
-fn empty_heap<'a>(alloc: Global, limit: u32) -> Result<RunHeap, Obstacle<'a>>
+fn empty_heap<'a, C: Collector + Drop>(
+    alloc: Global,
+    limit: u32,
+    collector: C,
+) -> Result<RunHeap<C>, Obstacle<'a>>
     ensures empty { IfOk result (λ heap. content_of heap ≡ record { limit = limit; next = 0; residents = [] }) }
     ensures memory { IfErr result (λ obstacle. obstacle ≡ Obstacle.OutOfMemory) }
 {
-    match GenHeap::new(alloc, limit, SerialCollector) {
+    match GenHeap::new(alloc, limit, collector) {
         Ok(heap) => Ok(heap),
         Err(_) => Err(Obstacle::OutOfMemory),
     }
 }
 
 /// A machine before its first event, and where its events come from.
-pub type Ready = (Machine<RunHeap>, RunSource);
+pub type Ready<C> = (Machine<RunHeap<C>>, RunSource);
 
 // The machine that the program of some files begins with, over an empty heap of so many cells.
-fn machine_within(
+fn machine_within<C: Collector + Drop>(
     alloc: Global,
     limit: u32,
+    collector: C,
     files: &[InputFile],
-) -> Result<Machine<RunHeap>, Obstacle<'_>>
+) -> Result<Machine<RunHeap<C>>, Obstacle<'_>>
     ensures program { Gives result (program_of limit files.now) (λ machine. machine.linked.program) }
     ensures ready { IfOk result (StandsAtItsBeginning limit) }
 {
-    match empty_heap(alloc, limit) {
+    match empty_heap(alloc, limit, collector) {
         Ok(heap) => machine_of(alloc, files, heap),
         Err(obstacle) => Err(obstacle),
     }
@@ -160,7 +172,7 @@ fn with_source<'a, H: Heap + Drop>(
     events: &'a RunEvents,
     machine: Machine<H>,
 ) -> Result<(Machine<H>, RunSource), Obstacle<'a>>
-    ensures source { (w : World) → Gives result (events_of events.now w) (λ ready. events_made ready.1 w) }
+    ensures source { (w : World) → Gives result (choice_of events.now w) (λ ready. choice_made ready.1 w) }
     ensures same { IfOk result (λ ready. ready.0 ≡ machine) }
 {
     match source_of(alloc, events) {
@@ -172,28 +184,36 @@ fn with_source<'a, H: Heap + Drop>(
     }
 }
 
-/// The machine that a job's program begins with, and where its events come from. A schedule that could
-/// not be read is the first obstacle; then those of the program, and last what is wrong with the
-/// schedule. The round robin is no obstacle.
+/// The machine that a job's program begins with, over a heap with this collector, and where its events
+/// come from. A schedule that could not be read is the first obstacle; then those of the program, and
+/// last what is wrong with the schedule. The round robin is no obstacle.
 #[tactic(auto, unfolding(crate::specs::Verdicts::run_verdict))]
-pub fn prepare(alloc: Global, job: &RunJob) -> Result<Ready, Obstacle<'_>>
+pub fn prepare<C: Collector + Drop>(
+    alloc: Global,
+    job: &RunJob,
+    collector: C,
+) -> Result<Ready<C>, Obstacle<'_>>
     ensures run { Gives result (run_verdict job.now) (λ ready.
-        runs ready.0.linked.program job.now.heap (events_made ready.1 (loaded_world ready.0.linked.program job.now.heap)) job.now.show_heap) }
+        runs ready.0.linked.program job.now.heap (choice_made ready.1 (loaded_world ready.0.linked.program job.now.heap)) job.now.show_heap) }
     ensures ready { IfOk result (λ ready. StandsAtItsBeginning job.now.heap ready.0) }
 {
     check_events(&job.events)?;
-    match machine_within(alloc, job.heap, &job.program) {
+    match machine_within(alloc, job.heap, collector, &job.program) {
         Ok(machine) => with_source(alloc, &job.events, machine),
         Err(obstacle) => Err(obstacle),
     }
 }
 
-/// The machine with which a session begins. A file that could not be read is the first obstacle; then
-/// those of the program.
+/// The machine with which a session begins, over a heap with this collector. A file that could not be
+/// read is the first obstacle; then those of the program.
 #[tactic(auto, unfolding(crate::specs::Verdicts::debug_verdict))]
-pub fn prepare_session(alloc: Global, job: &DebugJob) -> Result<Machine<RunHeap>, Obstacle<'_>>
+pub fn prepare_session<C: Collector + Drop>(
+    alloc: Global,
+    job: &DebugJob,
+    collector: C,
+) -> Result<Machine<RunHeap<C>>, Obstacle<'_>>
     ensures session { Gives result (debug_verdict job.now) (λ machine. debugs machine.linked.program job.now.heap) }
     ensures ready { IfOk result (StandsAtItsBeginning job.now.heap) }
 {
-    machine_within(alloc, job.heap, &job.program)
+    machine_within(alloc, job.heap, collector, &job.program)
 }
