@@ -1,0 +1,197 @@
+-- The blocks of one store are put into another of the same lane.
+use Rattle.std.proofs.Common.{◌≡◌, ◌≢◌, ◌⊎◌, ℕ, zero, suc, ◌+◌, ◌<◌, List, [], ◌∷◌, Option, Some, None, Bool, true, false, not, cond, refl, sym, ap, ◌∙◌, subst, inl, inr, length, arith}
+use Rattle.std.specs.Prelude.{slice_get, nat_eq}
+use Rattle.std.proofs.lemmas.Bool.Decides.{eqb_tells}
+use Rattle.std.proofs.lemmas.List.{length-set}
+use Rattle.std.proofs.lemmas.Option.{slice_get_within}
+use Rattle.jm_blocks.specs.Objects.{Object}
+use Rattle.jm_blocks.specs.Places.{lane_of, block_of, index_of, place_at}
+use Rattle.jm_blocks.specs.Stores.{Blocks, HasObject, objects_in, object_of_list}
+use Rattle.jm_blocks.proofs.Placing.{at_place, elsewhere, lane_put, block_put, index_put, get_set_same, get_set_other}
+use Rattle.jm_par_copy.specs.Merging.{AreBeside, IsLeft, IsMoved}
+use Rattle.jm_par_copy.specs.Moves.{piece_of, with_block}
+use Rattle.jm_par_copy.specs.Pieces.{is_in, objects_of}
+use Rattle.jm_par_copy.specs.Working.{both, or_else}
+use Rattle.jm_par_copy.specs.declared.piece.Piece.{Piece}
+use Rattle.jm_par_copy.proofs.Moves.{block_is_back, block_is_out}
+use Rattle.jm_par_copy.proofs.Pieces.{in_here, objects_elsewhere}
+use Rattle.jm_par_copy.proofs.Sharing.{both_left, both_right}
+
+pub moved_none : (from to : Blocks) → AreBeside from to → IsMoved from to from to
+moved_none from to b = record { from_lane = refl; to_lane = refl; many = refl; all = λ n. refl; beside = b; kept = λ n o e. e }
+
+pub moved_then : (a b c d e f : Blocks) → IsMoved a b c d → IsMoved c d e f → IsMoved a b e f
+moved_then a b c d e f g h = record {
+  from_lane = h.from_lane ∙ g.from_lane;
+  to_lane = h.to_lane ∙ g.to_lane;
+  many = h.many ∙ g.many;
+  all = λ n. h.all n ∙ g.all n;
+  beside = h.beside;
+  kept = λ n o k. h.kept n o (g.kept n o k);
+}
+
+-- blocks were opened in the second
+pub moved_opened : (from to mid : Blocks) → AreBeside from to → mid.lane ≡ to.lane → ((n : ℕ) → objects_in mid n ≡ objects_in to n) → IsMoved from to from mid
+moved_opened from to mid b lane same = record {
+  from_lane = refl;
+  to_lane = lane;
+  many = refl;
+  all = λ n. let whole : objects_in mid ≡ objects_in to = λ t m. same m t in ap (λ f. both f (objects_in from) n) whole;
+  beside = λ n h k. b n h (k.0, sym (same n) ∙ k.1);
+  kept = λ n o e. same n ∙ e;
+}
+
+-- where the first has a block with objects the second has none
+pub beside_block : (from to : Blocks) (b : ℕ) (os zs : List Object) → from.lane ≡ to.lane → from.lane < 64 → AreBeside from to → slice_get from.lists b ≡ Some os → 0 < length os → slice_get to.lists b ≡ Some zs → zs ≡ []
+beside_block from to b os [] lane few beside e some f = refl
+beside_block from to b [] (z ∷ zs) lane few beside e some f = absurd (omega (arith, some))
+beside_block from to b (o ∷ os) (z ∷ zs) lane few beside e some f =
+    let p = place_at from.lane b 0 in
+    let l = lane_put from.lane b 0 few (omega arith) in
+    let k = block_put from.lane b 0 few (omega arith) in
+    let i = index_put from.lane b 0 (omega arith) in
+    let first : objects_in from p ≡ Some o = at_place from b 0 p l k i ∙ ap (λ x. object_of_list x 0) e in
+    let second : objects_in to p ≡ Some z = at_place to b 0 p (l ∙ lane) k i ∙ ap (λ x. object_of_list x 0) f in
+    absurd (beside p (o, first) (z, second))
+
+-- what is at one place before and after
+abbrev IsAt : Option Object → Option Object → Option Object → Option Object → Type 0
+IsAt from to from_now to_now = ((from_now ≡ None) × (to_now ≡ or_else from to)) ⊎ ((from_now ≡ from) × (to_now ≡ to))
+
+or_same : (from to from_now to_now : Option Object) → ((o z : Object) → from ≡ Some o → to ≡ Some z → ⊥) → IsAt from to from_now to_now → or_else to_now from_now ≡ or_else to from
+or_same from to from_now to_now never (inr h) = ap (λ x. or_else to_now x) h.0 ∙ ap (λ x. or_else x from) h.1
+or_same from to from_now to_now never (inl h) = ap (λ x. or_else to_now x) h.0 ∙ ap (λ x. or_else x None) h.1 ∙ swap from to never
+  where
+    swap : (a b : Option Object) → ((o z : Object) → a ≡ Some o → b ≡ Some z → ⊥) → or_else (or_else a b) None ≡ or_else b a
+    swap None None n = refl
+    swap None (Some z) n = refl
+    swap (Some o) None n = refl
+    swap (Some o) (Some z) n = absurd (n o z refl refl)
+
+both_is : (f g h k : ℕ → Option Object) (n : ℕ) → or_else (f n) (g n) ≡ or_else (h n) (k n) → both f g n ≡ both h k n
+unfolding both
+both_is f g h k n e = e
+
+pub moved_one : (from to : Blocks) (b : ℕ) (os : List Object) → from.lane ≡ to.lane → AreBeside from to → slice_get from.lists b ≡ Some os → slice_get to.lists b ≡ Some [] → IsMoved from to (with_block from b []) (with_block to b os)
+moved_one from to b os lane beside e f = record {
+  from_lane = refl;
+  to_lane = refl;
+  many = length-set from.lists b [];
+  all = λ n. pointwise n;
+  beside = λ n h k. after n h k (at n);
+  kept = λ n o h. keeps n o h (at n);
+}
+  where
+    x : Piece
+    x = piece_of from b os 0
+
+    same : piece_of to b os 0 ≡ x
+    same = ap (λ l. let p : Piece = (record { lane = l; number = b; block = os; mark = 0 }) in p) (sym lane)
+
+    back : (n : ℕ) → objects_in (with_block to b os) n ≡ both (objects_of x) (objects_in to) n
+    back n = block_is_back to b 0 os f n ∙ ap (λ p. both (objects_of p) (objects_in to) n) same
+
+    at : (n : ℕ) → IsAt (objects_in from n) (objects_in to n) (objects_in (with_block from b []) n) (objects_in (with_block to b os) n)
+    at n = by (is_in x n) refl
+      where
+        value : (o : Option Object) → objects_of x n ≡ o → both (objects_of x) (objects_in to) n ≡ or_else o (objects_in to n)
+        value None g = both_right (objects_of x) (objects_in to) n g
+        value (Some o) g = both_left (objects_of x) (objects_in to) n o g
+
+        by : (t : Bool) → is_in x n ≡ t → IsAt (objects_in from n) (objects_in to n) (objects_in (with_block from b []) n) (objects_in (with_block to b os) n)
+        by true t =
+            let out = block_is_out from b 0 os e n in
+            let has : objects_of x n ≡ objects_in from n = out.0 ∙ ap (λ u. cond u (objects_in from n) None) t in
+            inl (out.1 ∙ ap (λ u. cond (not u) (objects_in from n) None) t, back n ∙ value (objects_in from n) has)
+        by false t =
+            let out = block_is_out from b 0 os e n in
+            inr (out.1 ∙ ap (λ u. cond (not u) (objects_in from n) None) t, back n ∙ both_right (objects_of x) (objects_in to) n (objects_elsewhere x n t))
+
+    pointwise : (n : ℕ) → both (objects_in (with_block to b os)) (objects_in (with_block from b [])) n ≡ both (objects_in to) (objects_in from) n
+    pointwise n = both_is (objects_in (with_block to b os)) (objects_in (with_block from b [])) (objects_in to) (objects_in from) n (or_same (objects_in from n) (objects_in to n) (objects_in (with_block from b []) n) (objects_in (with_block to b os) n) (λ o z g h. beside n (o, g) (z, h)) (at n))
+
+    after : (n : ℕ) → HasObject (with_block from b []) n → HasObject (with_block to b os) n → IsAt (objects_in from n) (objects_in to n) (objects_in (with_block from b []) n) (objects_in (with_block to b os) n) → ⊥
+    after n h k (inl g) = let two : None ≡ Some h.0 = sym g.0 ∙ h.1 in cc
+    after n h k (inr g) = beside n (h.0, sym g.0 ∙ h.1) (k.0, sym g.1 ∙ k.1)
+
+    keeps : (n : ℕ) (o : Object) → objects_in to n ≡ Some o → IsAt (objects_in from n) (objects_in to n) (objects_in (with_block from b []) n) (objects_in (with_block to b os) n) → objects_in (with_block to b os) n ≡ Some o
+    keeps n o h (inr g) = g.1 ∙ h
+    keeps n o h (inl g) = g.1 ∙ first (objects_in from n) refl
+      where
+        first : (z : Option Object) → objects_in from n ≡ z → or_else (objects_in from n) (objects_in to n) ≡ Some o
+        first None t = ap (λ y. or_else y (objects_in to n)) t ∙ h
+        first (Some y) t = absurd (beside n (y, t) (o, h))
+
+pub left_one : (from : Blocks) (b : ℕ) (os : List Object) → slice_get from.lists b ≡ Some os → IsLeft from (with_block from b []) b
+left_one from b os e = record { here = get_set_same from.lists b [] (slice_get_within from.lists b os e); others = λ k h. get_set_other from.lists b k [] h }
+
+pub left_empty : (from : Blocks) (b : ℕ) (os : List Object) → slice_get from.lists b ≡ Some os → length os ≡ 0 → IsLeft from from b
+left_empty from b [] e z = record { here = e; others = λ k h. refl }
+left_empty from b (o ∷ os) e z = absurd (omega (arith, z))
+
+-- one block more is empty
+pub empty_more : (from from_now : Blocks) (number : ℕ) → IsLeft from from_now number → ((k : ℕ) → k < number → slice_get from.lists k ≡ Some []) → (k : ℕ) → k < number + 1 → slice_get from_now.lists k ≡ Some []
+empty_more from from_now number l f k h = by (eqb_tells k number)
+  where
+    by : ((nat_eq k number ≡ true) × (k ≡ number)) ⊎ ((nat_eq k number ≡ false) × (k ≢ number)) → slice_get from_now.lists k ≡ Some []
+    by (inl t) = ap (slice_get from_now.lists) t.1 ∙ l.here
+    by (inr t) = let other = t.1 in l.others k t.1 ∙ f k (omega (arith, h, other))
+
+-- with all blocks empty there is nothing
+none_in : (s : Blocks) (n : ℕ) → ((k : ℕ) → k < length s.lists → slice_get s.lists k ≡ Some []) → objects_in s n ≡ None
+none_in s n f = by (eqb_tells (lane_of n) s.lane)
+  where
+    list : (x : Option (List Object)) → slice_get s.lists (block_of n) ≡ x → object_of_list (slice_get s.lists (block_of n)) (index_of n) ≡ None
+    list None e = ap (λ x. object_of_list x (index_of n)) e
+    list (Some os) e = ap (λ x. object_of_list x (index_of n)) (f (block_of n) (slice_get_within s.lists (block_of n) os e))
+
+    by : ((nat_eq (lane_of n) s.lane ≡ true) × (lane_of n ≡ s.lane)) ⊎ ((nat_eq (lane_of n) s.lane ≡ false) × (lane_of n ≢ s.lane)) → objects_in s n ≡ None
+    by (inl t) = at_place s (block_of n) (index_of n) n t.1 refl refl ∙ list (slice_get s.lists (block_of n)) refl
+    by (inr t) = elsewhere s n t.1
+
+pub moved_all : (from to from_now to_now : Blocks) → IsMoved from to from_now to_now → ((k : ℕ) → k < length from_now.lists → slice_get from_now.lists k ≡ Some []) → (n : ℕ) → objects_in to_now n ≡ both (objects_in to) (objects_in from) n
+moved_all from to from_now to_now m f n = sym (alone (objects_in to_now n) refl) ∙ m.all n
+  where
+    alone : (x : Option Object) → objects_in to_now n ≡ x → both (objects_in to_now) (objects_in from_now) n ≡ objects_in to_now n
+    alone None e = both_right (objects_in to_now) (objects_in from_now) n e ∙ none_in from_now n f ∙ sym e
+    alone (Some o) e = both_left (objects_in to_now) (objects_in from_now) n o e ∙ sym e
+
+pub got_there : {X : Type 0} (xs : List X) (i : ℕ) → i < length xs → (x : X) × (slice_get xs i ≡ Some x)
+got_there [] i h = absurd (omega (arith, h))
+got_there (x ∷ xs) zero h = (x, refl)
+got_there (x ∷ xs) (suc i) h = got_there xs i (omega (arith, h))
+
+-- the number's block of the second is empty
+pub is_free : (from to mid : Blocks) (b : ℕ) (os : List Object) → from.lane ≡ to.lane → from.lane < 64 → AreBeside from to → mid.lane ≡ to.lane → ((n : ℕ) → objects_in mid n ≡ objects_in to n) → slice_get from.lists b ≡ Some os → length os ≢ 0 → b < length mid.lists → slice_get mid.lists b ≡ Some []
+is_free from to mid b os lane few beside same_lane same e some there =
+    let got = got_there mid.lists b there in
+    let next = (moved_opened from to mid beside same_lane same).beside in
+    got.1 ∙ ap (λ zs. Some zs) (beside_block from mid b os got.0 (lane ∙ sym same_lane) few next e (omega (arith, some)) got.1)
+
+pub moved_block : (from to mid from_now to_now : Blocks) (b : ℕ) (os : List Object) → from.lane ≡ to.lane → AreBeside from to → mid.lane ≡ to.lane → ((n : ℕ) → objects_in mid n ≡ objects_in to n) → slice_get from.lists b ≡ Some os → slice_get mid.lists b ≡ Some [] → from_now ≡ with_block from b [] → to_now ≡ with_block mid b os → IsMoved from to from_now to_now
+moved_block from to mid from_now to_now b os lane beside same_lane same e f is is' =
+    let opened = moved_opened from to mid beside same_lane same in
+    let moved = moved_one from mid b os (lane ∙ sym same_lane) opened.beside e f in
+    let here = subst (λ s. IsMoved from mid s (with_block mid b os)) (sym is) moved in
+    moved_then from to from mid from_now to_now opened (subst (λ s. IsMoved from mid from_now s) (sym is') here)
+
+-- a moved block's number is free in its store
+pub piece_is_free : (x : Piece) (to mid : Blocks) → x.lane ≡ to.lane → x.lane < 64 → ((n : ℕ) → is_in x n ≡ true → objects_in to n ≡ None) → mid.lane ≡ to.lane → ((n : ℕ) → objects_in mid n ≡ objects_in to n) → x.number < length mid.lists → slice_get mid.lists x.number ≡ Some []
+piece_is_free x to mid lane few free same_lane same there =
+    let got = got_there mid.lists x.number there in
+    got.1 ∙ ap (λ zs. Some zs) (empty got.0 got.1)
+  where
+    empty : (zs : List Object) → slice_get mid.lists x.number ≡ Some zs → zs ≡ []
+    empty [] e = refl
+    empty (z ∷ zs) e =
+        let p = place_at x.lane x.number 0 in
+        let here : objects_in mid p ≡ Some z = at_place mid x.number 0 p (lane_put x.lane x.number 0 few (omega arith) ∙ lane ∙ sym same_lane) (block_put x.lane x.number 0 few (omega arith)) (index_put x.lane x.number 0 (omega arith)) ∙ ap (λ y. object_of_list y 0) e in
+        let two : None ≡ Some z = sym (free p (in_here x 0 few (omega arith))) ∙ sym (same p) ∙ here in
+        cc
+
+pub piece_is_put : (x : Piece) (to mid new : Blocks) → x.lane ≡ to.lane → mid.lane ≡ to.lane → ((n : ℕ) → objects_in mid n ≡ objects_in to n) → slice_get mid.lists x.number ≡ Some [] → new ≡ with_block mid x.number x.block → (n : ℕ) → objects_in new n ≡ both (objects_of x) (objects_in to) n
+piece_is_put x to mid new lane same_lane same free is n =
+    ap (λ s. objects_in s n) is
+    ∙ block_is_back mid x.number x.mark x.block free n
+    ∙ ap (λ l. let p : Piece = (record { lane = l; number = x.number; block = x.block; mark = x.mark }) in both (objects_of p) (objects_in mid) n) (same_lane ∙ sym lane)
+    ∙ (let whole : objects_in mid ≡ objects_in to = λ t m. same m t in ap (λ f. both (objects_of x) f n) whole)

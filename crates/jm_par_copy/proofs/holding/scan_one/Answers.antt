@@ -1,0 +1,49 @@
+use Rattle.std.proofs.Common.{◌≡◌, ◌∙◌, arith, refl, sym, subst, length, Some}
+use Rattle.std.proofs.lemmas.Option.{slice_get_read}
+use Rattle.jm_blocks.proofs.Placing.{get_set_same, get_set_other}
+use Rattle.jm_par_copy.specs.declared.piece.Piece.{Piece}
+use Rattle.jm_par_copy.specs.Holding.{held_objects, held_progress}
+use Rattle.jm_par_copy.specs.Working.{scan_progress}
+use Rattle.jm_par_copy.proofs.Pieces.{piece_stays}
+use Rattle.jm_par_copy.proofs.Beside.{without, held_first, held_scanned, given_stay, same_set}
+use Rattle.jm_par_copy.proofs.holding.scan_one.Goals as goal
+
+pub scan_piece-requires-clause-piece : goal.scan_piece-requires-clause-piece
+scan_piece-requires-clause-piece g c = c.requires.given.pieces c.args.number c.index_mut.result.now (slice_get_read c.args.given.now.items (length c.args.given.now.items) c.args.number c.index_mut.result.now refl c.requires.there c.index_mut.ensures.value)
+
+pub scan_piece-requires-clause-working : goal.scan_piece-requires-clause-working
+scan_piece-requires-clause-working g c =
+    let w = c.requires.holding in
+    let xs = c.args.given.now.items in
+    let i = c.args.number in
+    (w.0, w.1, w.2, held_objects (without xs i), scan_progress c.args.to.now.young.lane c.args.marks.now (held_objects (without xs i)) (held_progress (without xs i)), held_first c.args.from.stores.now c.args.from.roots.now w.0 w.1 w.2 c.args.seat.now.hand c.args.to.now c.args.marks.now xs i c.index_mut.result.now c.requires.given (slice_get_read c.args.given.now.items (length c.args.given.now.items) c.args.number c.index_mut.result.now refl c.requires.there c.index_mut.ensures.value) w.3)
+
+pub returns-clause-given : goal.returns-clause-given
+returns-clause-given g c =
+    let e = c.in_ok-scan_piece.ensures in
+    let at = slice_get_read c.args.given.now.items (length c.args.given.now.items) c.args.number c.index_mut.result.now refl c.requires.there c.index_mut.ensures.value in
+    let piece = piece_stays c.index_mut.result.now c.scan_piece.new.piece (c.requires.given.pieces c.args.number c.index_mut.result.now at) e.same (omega (arith, e.end)) in
+    given_stay c.args.seat.now.hand c.scan_piece.new.seat.hand c.args.to.now c.scan_piece.new.to c.args.given.now.items c.args.number c.index_mut.result.now c.scan_piece.new.piece c.scan_piece.ensures.copier c.scan_piece.ensures.copiers at piece e.same c.scan_piece.ensures.stays c.scan_piece.ensures.goes c.requires.given
+
+pub returns-clause-same : goal.returns-clause-same
+returns-clause-same g c = same_set c.args.given.now.items c.args.number c.index_mut.result.now c.scan_piece.new.piece (slice_get_read c.args.given.now.items (length c.args.given.now.items) c.args.number c.index_mut.result.now refl c.requires.there c.index_mut.ensures.value) c.in_ok-scan_piece.ensures.same
+
+pub returns-clause-holding : goal.returns-clause-holding
+returns-clause-holding g c base held k f =
+    let e = c.in_ok-scan_piece.ensures in
+    let at = slice_get_read c.args.given.now.items (length c.args.given.now.items) c.args.number c.index_mut.result.now refl c.requires.there c.index_mut.ensures.value in
+    let piece = piece_stays c.index_mut.result.now c.scan_piece.new.piece (c.requires.given.pieces c.args.number c.index_mut.result.now at) e.same (omega (arith, e.end)) in
+    let given = given_stay c.args.seat.now.hand c.scan_piece.new.seat.hand c.args.to.now c.scan_piece.new.to c.args.given.now.items c.args.number c.index_mut.result.now c.scan_piece.new.piece c.scan_piece.ensures.copier c.scan_piece.ensures.copiers at piece e.same c.scan_piece.ensures.stays c.scan_piece.ensures.goes c.requires.given in
+    held_scanned c.args.from.stores.now c.args.from.roots.now base held k c.args.seat.now.hand c.scan_piece.new.seat.hand c.args.to.now c.scan_piece.new.to c.args.marks.now c.args.given.now.items c.args.number c.index_mut.result.now c.scan_piece.new.piece c.scan_piece.ensures.stays.young_lane c.requires.given at given e.working f
+
+pub returns-clause-end : goal.returns-clause-end
+returns-clause-end g c x e =
+    let here : Some c.scan_piece.new.piece ≡ Some x = sym (get_set_same c.args.given.now.items c.args.number c.scan_piece.new.piece c.requires.there) ∙ e in
+    let same : c.scan_piece.new.piece ≡ x = cc in
+    subst (λ (y : Piece). y.mark ≡ length y.block) same c.in_ok-scan_piece.ensures.end
+
+pub returns-clause-others : goal.returns-clause-others
+returns-clause-others g c i h = get_set_other c.args.given.now.items c.args.number i c.scan_piece.new.piece h
+
+pub returns-in_err-scan_piece-clause-others : goal.returns-in_err-scan_piece-clause-others
+returns-in_err-scan_piece-clause-others g c i h = get_set_other c.args.given.now.items c.args.number i c.scan_piece.new.piece h

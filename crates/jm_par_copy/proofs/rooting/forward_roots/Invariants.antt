@@ -1,0 +1,23 @@
+use Rattle.std.proofs.Common.{◌≡◌, ◌+◌, ◌*◌, ◌-◌, length}
+use Rattle.jm_copy.specs.Copies.{Stays}
+use Rattle.jm_par_copy.specs.Strides.{Goes}
+use Rattle.jm_par_copy.specs.Working.{KeepsWorking, KnowsMore, WinsMore}
+use Rattle.jm_par_copy.proofs.ByPosition.{AreFirst}
+use Rattle.jm_par_copy.proofs.rooting.forward_roots.Given as goal
+
+abbrev pub invariant-loop-position : goal.invariant-loop-position
+invariant-loop-position g l = record {
+  roots : AreFirst l.from.stores.now l.from.roots.now l.seat.hand.known l.number l.copiers l.places.items;
+  position : l.position ≡ l.number + l.copiers * length l.places.items;
+  working : KeepsWorking l.from.stores.now l.from.roots.now l.fn.seat.hand l.seat.hand l.fn.to l.to;
+  knows : KnowsMore l.fn.seat.hand l.seat.hand;
+  wins : WinsMore l.fn.seat.hand l.seat.hand;
+  stays : Stays l.fn.to l.to;
+  table : l.seat.table ≡ l.fn.seat.table;
+  copier : l.seat.hand.copier ≡ l.fn.seat.hand.copier;
+  copiers : l.seat.hand.copiers ≡ l.fn.seat.hand.copiers;
+  goes : Goes l.fn.seat.hand.copier l.fn.seat.hand.copiers l.fn.to l.to;
+}
+
+abbrev pub decreases-loop-position : goal.decreases-loop-position
+decreases-loop-position g l = length l.from.roots.now - l.position

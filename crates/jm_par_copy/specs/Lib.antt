@@ -1,0 +1,17 @@
+pub mod Strides
+pub mod Working
+pub mod Together
+pub mod Pieces
+pub mod Round
+pub mod Moves
+pub mod Merging
+pub mod Begins
+pub mod Roots
+pub mod Fresh
+pub mod Turns
+pub mod Aside
+pub mod Holding
+pub mod Giving
+pub mod Copiers
+pub mod Dealing
+pub mod Seats

@@ -1,0 +1,56 @@
+-- All copiers take their seats.
+use Rattle.std.specs.Prelude.{◌≡◌, ℕ, ◌+◌, ◌≤◌, List, [], ◌∷◌, None, false, map}
+use Rattle.jm_blocks.specs.Stores.{Blocks}
+use Rattle.jm_forward.specs.Hands.{SeatView, TableView, hands_from, seat_of}
+use Rattle.jm_copy.specs.Numbers.{object_count}
+use Rattle.jm_copy.specs.declared.copies.Copies.{Copies}
+use Rattle.jm_par_copy.specs.Copiers.{AreDifferent, AreFreshCopiers}
+use Rattle.jm_par_copy.specs.Fresh.{IsFreshOwn}
+use Rattle.jm_par_copy.specs.Strides.{OwnsEnds}
+use Rattle.jm_par_copy.specs.declared.copier.Copier.{Copier}
+
+-- the two stores of the copier of a number, of so many: there is no object, and each ends in a block of its own
+pub record IsOwnStores (number copiers old_lane : ℕ) (to : Copies) : Type 0 where
+  pub fresh : IsFreshOwn to
+  pub ends : OwnsEnds number copiers to
+  pub young_lane : to.young.lane ≡ 1
+  pub tenured_lane : to.tenured.lane ≡ old_lane
+  pub none : to.kept ≡ None
+
+-- those of all copiers from a number on
+abbrev pub AreOwnStores : ℕ → ℕ → ℕ → List Copies → Type 0
+AreOwnStores number copiers old_lane [] = Unit {0}
+AreOwnStores number copiers old_lane (t ∷ ts) = IsOwnStores number copiers old_lane t × AreOwnStores (number + 1) copiers old_lane ts
+
+-- the copier of a number, with this seat and these stores, has done nothing yet
+pub record IsSeatOf (number : ℕ) (seat : SeatView) (to : Copies) (c : Copier) : Type 0 where
+  pub number_is : c.number ≡ number
+  pub seat_is : c.seat ≡ seat
+  pub to_is : c.to ≡ to
+  pub young : c.marks.young ≡ None
+  pub tenured : c.marks.tenured ≡ None
+  pub given : c.given.items ≡ []
+  pub roots : c.roots.items ≡ []
+  pub rooted : c.rooted ≡ false
+
+abbrev pub AreSeatsOf : ℕ → List SeatView → List Copies → List Copier → Type 0
+AreSeatsOf number [] [] [] = Unit {0}
+AreSeatsOf number [] [] (c ∷ cs) = ⊥
+AreSeatsOf number [] (t ∷ ts) cs = ⊥
+AreSeatsOf number (s ∷ ss) [] cs = ⊥
+AreSeatsOf number (s ∷ ss) (t ∷ ts) [] = ⊥
+AreSeatsOf number (s ∷ ss) (t ∷ ts) (c ∷ cs) = IsSeatOf number s t c × AreSeatsOf (number + 1) ss ts cs
+
+-- the copiers stand in the order of their numbers
+abbrev pub AreNumbered : TableView → ℕ → List Copier → Type 0
+AreNumbered words number [] = Unit {0}
+AreNumbered words number (c ∷ cs) =
+    (c.number ≡ number) × (c.seat.table ≡ words.table) × (c.seat.hand.copier ≡ number) × (c.seat.hand.copiers ≡ words.copiers) × AreNumbered words (number + 1) cs
+
+-- with all seats of a fresh table, and stores of their own, all copiers are before their first claim
+abbrev pub SeatedAreFresh : Type 0
+SeatedAreFresh = (stores : List Blocks) (roots : List ℕ) (words : TableView) (old_lane : ℕ) (ts : List Copies) (cs : List Copier)
+    → words.objects ≡ object_count stores → words.copiers ≤ 16
+    → AreOwnStores 0 words.copiers old_lane ts
+    → AreSeatsOf 0 (map (seat_of words.table) (hands_from words.copiers 0 words.copiers)) ts cs
+    → AreFreshCopiers stores roots words cs × AreDifferent cs × AreNumbered words 0 cs
