@@ -1,0 +1,2 @@
+-- Closed runs: all schedules of small programs, by computation.
+pub mod Switches

@@ -1,0 +1,52 @@
+-- What was found so far is true.
+use Rattle.std.proofs.Common.{refl, ◌≤◌, ◌≡◌}
+use Rattle.jm_world.specs.Loading.{loaded_world}
+use Rattle.jm_explore.specs.Outcomes.{HasFewest, IsTrueOf, outcome_of}
+use Rattle.jm_explore.specs.Searches.{founds}
+use Rattle.jm_explore.proofs.Lists.{all_of, any_of}
+use Rattle.jm_explore.proofs.exploration.explore.Goals as goal
+
+pub returns-in-Ok-clause-sound : goal.returns-in-Ok-clause-sound
+returns-in-Ok-clause-sound g c =
+    let w = loaded_world c.args.machine.now.linked.program (g.E.EmptyHeaps.limit c.args.heaps.now) in
+    all_of (IsTrueOf w c.args.bounds.slice c.args.bounds.steps) (founds c.search_all.new.progress.told.items) (c.search_all.ensures.known w refl c.new.ensures.items).sound
+
+pub returns-in-Ok-clause-within : goal.returns-in-Ok-clause-within
+returns-in-Ok-clause-within g c =
+    let w = loaded_world c.args.machine.now.linked.program (g.E.EmptyHeaps.limit c.args.heaps.now) in
+    all_of (λ f. f.switches ≤ c.args.bounds.switches) (founds c.search_all.new.progress.told.items) (c.search_all.ensures.known w refl c.new.ensures.items).low
+
+pub returns-in-Ok-clause-fewest : goal.returns-in-Ok-clause-fewest
+returns-in-Ok-clause-fewest g c =
+    let w = loaded_world c.args.machine.now.linked.program (g.E.EmptyHeaps.limit c.args.heaps.now) in
+    all_of (HasFewest w c.args.bounds.slice c.args.bounds.steps) (founds c.search_all.new.progress.told.items) (c.search_all.ensures.known w refl c.new.ensures.items).fewest
+
+pub returns-in-Ok-clause-other : goal.returns-in-Ok-clause-other
+returns-in-Ok-clause-other g c =
+    let w = loaded_world c.args.machine.now.linked.program (g.E.EmptyHeaps.limit c.args.heaps.now) in
+    (c.search_all.ensures.known w refl c.new.ensures.items).other
+
+pub returns-in-Ok-clause-complete : goal.returns-in-Ok-clause-complete
+returns-in-Ok-clause-complete g c = λ whole ts s.
+    let w = loaded_world c.args.machine.now.linked.program (g.E.EmptyHeaps.limit c.args.heaps.now) in
+    any_of (λ f. f.outcome ≡ outcome_of w c.args.bounds.steps ts) (founds c.search_all.new.progress.told.items) (c.in-Ok.ensures.complete w refl c.new.ensures.items ts s)
+
+pub returns-in-Err-clause-sound : goal.returns-in-Err-clause-sound
+returns-in-Err-clause-sound g c =
+    let w = loaded_world c.args.machine.now.linked.program (g.E.EmptyHeaps.limit c.args.heaps.now) in
+    all_of (IsTrueOf w c.args.bounds.slice c.args.bounds.steps) (founds c.search_all.new.progress.told.items) (c.search_all.ensures.known w refl c.new.ensures.items).sound
+
+pub returns-in-Err-clause-within : goal.returns-in-Err-clause-within
+returns-in-Err-clause-within g c =
+    let w = loaded_world c.args.machine.now.linked.program (g.E.EmptyHeaps.limit c.args.heaps.now) in
+    all_of (λ f. f.switches ≤ c.args.bounds.switches) (founds c.search_all.new.progress.told.items) (c.search_all.ensures.known w refl c.new.ensures.items).low
+
+pub returns-in-Err-clause-fewest : goal.returns-in-Err-clause-fewest
+returns-in-Err-clause-fewest g c =
+    let w = loaded_world c.args.machine.now.linked.program (g.E.EmptyHeaps.limit c.args.heaps.now) in
+    all_of (HasFewest w c.args.bounds.slice c.args.bounds.steps) (founds c.search_all.new.progress.told.items) (c.search_all.ensures.known w refl c.new.ensures.items).fewest
+
+pub returns-in-Err-clause-other : goal.returns-in-Err-clause-other
+returns-in-Err-clause-other g c =
+    let w = loaded_world c.args.machine.now.linked.program (g.E.EmptyHeaps.limit c.args.heaps.now) in
+    (c.search_all.ensures.known w refl c.new.ensures.items).other

@@ -1,0 +1,9 @@
+-- The lemmas.
+use Rattle.jm_explore.proofs.Switching.{lists_all, lists_no_other}
+use Rattle.jm_explore.proofs.laws.all_schedules_are_listed.Goals as goal
+
+pub returns-clause-each : goal.returns-clause-each
+returns-clause-each c = lists_all
+
+pub returns-clause-other : goal.returns-clause-other
+returns-clause-other c = lists_no_other

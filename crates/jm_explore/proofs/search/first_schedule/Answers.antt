@@ -1,0 +1,10 @@
+-- The first schedule goes on from the beginning.
+use Rattle.std.proofs.Common.{subst, sym}
+use Rattle.jm_machine.specs.View.{MatchesWorld}
+use Rattle.jm_explore.proofs.Steps.{first_making, first_matches, first_turn}
+use Rattle.jm_explore.proofs.search.first_schedule.Goals as goal
+
+pub returns-clause-made : goal.returns-clause-made
+returns-clause-made g c = λ w is found path todo.
+    c.in_ok-extend.ensures.made w c.args.switches found (first_making w c.args.bounds.slice c.args.switches c.args.bounds.steps found c.args.path.now.items c.args.todo.now.items path todo)
+    (first_turn c.args.bounds.slice c.args.path.now.items path) (first_matches w c.args.path.now.items c.begin_again.new.machine path (subst (MatchesWorld c.begin_again.new.machine) (sym is) c.in_ok-begin_again.ensures.first))

@@ -1,0 +1,6 @@
+pub mod Switches
+pub mod Schedulings
+pub mod Lists
+pub mod Outcomes
+pub mod Branches
+pub mod Searches

@@ -1,0 +1,78 @@
+// Every schedule with a bounded number of switches.
+
+ghost use Rattle.std.specs.Prelude.{◌≡◌, ◌≤◌, None};
+ghost use Rattle.std.specs.List.{All, AllPairs};
+ghost use Rattle.jm_world.specs.Loading.{loaded_world};
+ghost use Rattle.jm_explore.specs.Outcomes.{AllTold, AreOther, HasFewest, IsTrueOf};
+ghost use Rattle.jm_explore.specs.Searches.{founds};
+
+use crate::bounds::Bounds;
+use crate::heaps::EmptyHeaps;
+use crate::search::{Progress, search_all};
+use crate::told::Told;
+use crate::unfinished::Unfinished;
+use jm_heap::Heap;
+use jm_machine::Machine;
+use std::alloc::Global;
+
+/// What was found.
+#[derive(Drop)]
+pub struct Explored {
+    /// The outcomes, in the order in which they were found: those of fewer switches first.
+    pub told: Vec<Told>,
+    /// How many schedules were made.
+    pub schedules: u64,
+    /// Why not all were tried, if they were not.
+    pub unfinished: Option<Unfinished>,
+}
+
+/// Tries the schedules of a machine's program of at most so many switches, each from its beginning
+/// over an empty heap, and tells what they come to. Each outcome is told once, with a schedule that comes
+/// to it and has the fewest switches. Where the answer is finished, the outcome of every schedule
+/// within the bounds is told; else what was found until then. The machine is left where some run has
+/// come to.
+pub fn explore<H: Heap + Drop, E: EmptyHeaps<H>>(
+    alloc: Global,
+    machine: &mut Machine<H>,
+    heaps: &E,
+    bounds: Bounds,
+) -> Explored
+    ensures sound { All (IsTrueOf (loaded_world machine.old.linked.program (E.limit heaps.now)) bounds.slice bounds.steps) (founds result.told.items) }
+    ensures within { All (λ f. f.switches ≤ bounds.switches) (founds result.told.items) }
+    ensures fewest { All (HasFewest (loaded_world machine.old.linked.program (E.limit heaps.now)) bounds.slice bounds.steps) (founds result.told.items) }
+    ensures other { AllPairs AreOther (founds result.told.items) }
+    ensures complete { result.unfinished ≡ None → AllTold (loaded_world machine.old.linked.program (E.limit heaps.now)) bounds.slice bounds.switches bounds.steps (founds result.told.items) }
+    ensures linked { machine.new.linked ≡ machine.old.linked }
+{
+    let mut progress = Progress {
+        told: Vec::new(alloc),
+        schedules: 0,
+        runs: bounds.runs,
+    };
+    match search_all(alloc, machine, heaps, &mut progress, bounds) {
+        Ok(()) => {
+            let Progress {
+                told,
+                schedules,
+                runs: _,
+            } = progress;
+            Explored {
+                told,
+                schedules,
+                unfinished: None,
+            }
+        }
+        Err(unfinished) => {
+            let Progress {
+                told,
+                schedules,
+                runs: _,
+            } = progress;
+            Explored {
+                told,
+                schedules,
+                unfinished: Some(unfinished),
+            }
+        }
+    }
+}

@@ -1,0 +1,24 @@
+// Why a search was not finished.
+
+ghost use Rattle.std.specs.Prelude.{◌≡◌};
+
+use jm_machine::OutOfMemory;
+
+/// Why not all schedules were tried.
+#[derive(Clone, Copy, PartialEq, Eq, Drop)]
+pub enum Unfinished {
+    /// As many runs were made as may be.
+    RunsEnd,
+    /// A growth was refused.
+    OutOfMemory,
+    /// The first objects pass the limit of the heaps.
+    HeapTooSmall,
+}
+
+impl From<OutOfMemory> for Unfinished {
+    ghost from_gives = { λ _ _. Unit {0} };
+
+    fn from(_fault: OutOfMemory) -> Unfinished {
+        Unfinished::OutOfMemory
+    }
+}
