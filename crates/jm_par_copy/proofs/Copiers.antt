@@ -576,7 +576,7 @@ back_keeps stores roots words cs ds aside c r =
     done_keeps stores roots words cs ds aside c (back_all stores roots words (all_pieces cs aside) known wins cs ds c.seated (all_begin stores roots known wins words (all_pieces cs aside) cs aside c.seated (begin_of stores roots words cs aside c)) r)
 
 -- before the first claim nobody holds anything
-no_pieces : (stores : List Blocks) (roots : List ℕ) (words : TableView) (cs : List Copier) → AreFreshCopiers stores roots words cs → (n : ℕ) → IsInOne (all_pieces cs []) n → ⊥
+pub no_pieces : (stores : List Blocks) (roots : List ℕ) (words : TableView) (cs : List Copier) → AreFreshCopiers stores roots words cs → (n : ℕ) → IsInOne (all_pieces cs []) n → ⊥
 no_pieces stores roots words [] f n h = h
 no_pieces stores roots words (c ∷ cs) f n h = no_pieces stores roots words cs f.1 n (subst (λ xs. IsInOne (xs ++ all_pieces cs []) n) f.0.given h)
 

@@ -21,4 +21,9 @@ pub mod Redealing
 pub mod GivingBack
 pub mod ByPosition
 pub mod Seats
+pub mod Placed
 pub mod Merged
+pub mod Collecting
+pub mod Loads
+pub mod Meeting
+pub mod Crew

@@ -14,7 +14,7 @@ use Rattle.jm_par_copy.specs.Pieces.{is_in, objects_of}
 use Rattle.jm_par_copy.specs.Working.{both, or_else}
 use Rattle.jm_par_copy.specs.declared.piece.Piece.{Piece}
 use Rattle.jm_par_copy.proofs.Moves.{block_is_back, block_is_out}
-use Rattle.jm_par_copy.proofs.Pieces.{in_here, objects_elsewhere}
+use Rattle.jm_par_copy.proofs.Pieces.{object_here, objects_elsewhere, objects_in_it}
 use Rattle.jm_par_copy.proofs.Sharing.{both_left, both_right}
 
 pub moved_none : (from to : Blocks) → AreBeside from to → IsMoved from to from to
@@ -175,18 +175,32 @@ moved_block from to mid from_now to_now b os lane beside same_lane same e f is i
     let here = subst (λ s. IsMoved from mid s (with_block mid b os)) (sym is) moved in
     moved_then from to from mid from_now to_now opened (subst (λ s. IsMoved from mid from_now s) (sym is') here)
 
--- a moved block's number is free in its store
-pub piece_is_free : (x : Piece) (to mid : Blocks) → x.lane ≡ to.lane → x.lane < 64 → ((n : ℕ) → is_in x n ≡ true → objects_in to n ≡ None) → mid.lane ≡ to.lane → ((n : ℕ) → objects_in mid n ≡ objects_in to n) → x.number < length mid.lists → slice_get mid.lists x.number ≡ Some []
-piece_is_free x to mid lane few free same_lane same there =
-    let got = got_there mid.lists x.number there in
-    got.1 ∙ ap (λ zs. Some zs) (empty got.0 got.1)
+none_of : (os : List Object) (k : ℕ) → length os ≡ 0 → slice_get os k ≡ None
+none_of [] k e = refl
+none_of (o ∷ os) k e = absurd (omega (arith, e))
+
+-- a block without objects
+pub empty_piece : (x : Piece) (n : ℕ) → length x.block ≡ 0 → objects_of x n ≡ None
+empty_piece x n e = by (is_in x n) refl
   where
-    empty : (zs : List Object) → slice_get mid.lists x.number ≡ Some zs → zs ≡ []
-    empty [] e = refl
-    empty (z ∷ zs) e =
+    by : (t : Bool) → is_in x n ≡ t → objects_of x n ≡ None
+    by true t = objects_in_it x n t ∙ none_of x.block (index_of n) e
+    by false t = objects_elsewhere x n t
+
+-- a moved block's number is free in its store
+pub piece_is_free : (x : Piece) (to mid : Blocks) → x.lane ≡ to.lane → x.lane < 64 → ((n : ℕ) (a : Object) → objects_of x n ≡ Some a → objects_in to n ≡ None) → mid.lane ≡ to.lane → ((n : ℕ) → objects_in mid n ≡ objects_in to n) → length x.block ≢ 0 → x.number < length mid.lists → slice_get mid.lists x.number ≡ Some []
+piece_is_free x to mid lane few free same_lane same some there =
+    let got = got_there mid.lists x.number there in
+    got.1 ∙ ap (λ zs. Some zs) (empty got.0 x.block got.1 refl)
+  where
+    empty : (zs os : List Object) → slice_get mid.lists x.number ≡ Some zs → x.block ≡ os → zs ≡ []
+    empty [] os e f = refl
+    empty (z ∷ zs) [] e f = absurd (some (ap length f))
+    empty (z ∷ zs) (o ∷ os) e f =
         let p = place_at x.lane x.number 0 in
         let here : objects_in mid p ≡ Some z = at_place mid x.number 0 p (lane_put x.lane x.number 0 few (omega arith) ∙ lane ∙ sym same_lane) (block_put x.lane x.number 0 few (omega arith)) (index_put x.lane x.number 0 (omega arith)) ∙ ap (λ y. object_of_list y 0) e in
-        let two : None ≡ Some z = sym (free p (in_here x 0 few (omega arith))) ∙ sym (same p) ∙ here in
+        let first : objects_of x p ≡ Some o = object_here x 0 few (omega arith) ∙ ap (λ ys. slice_get ys 0) f in
+        let two : None ≡ Some z = sym (free p o first) ∙ sym (same p) ∙ here in
         cc
 
 pub piece_is_put : (x : Piece) (to mid new : Blocks) → x.lane ≡ to.lane → mid.lane ≡ to.lane → ((n : ℕ) → objects_in mid n ≡ objects_in to n) → slice_get mid.lists x.number ≡ Some [] → new ≡ with_block mid x.number x.block → (n : ℕ) → objects_in new n ≡ both (objects_of x) (objects_in to) n

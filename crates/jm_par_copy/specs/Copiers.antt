@@ -1,7 +1,7 @@
 -- What holds of all copiers together, between rounds.
 use Rattle.std.specs.Prelude.{◌≡◌, ◌≢◌, ◌⊎◌, ℕ, ◌<◌, ◌≤◌, List, [], ◌∷◌, ◌++◌, length, Option, Some, None, Bool, true, false, nat_eq, slice_get, if◌then◌else◌}
 use Rattle.jm_blocks.specs.Objects.{Object}
-use Rattle.jm_blocks.specs.Places.{lane_of}
+use Rattle.jm_blocks.specs.Places.{block_of, lane_of}
 use Rattle.jm_blocks.specs.Stores.{Blocks}
 use Rattle.jm_forward.specs.declared.rule.Hand.{Hand}
 use Rattle.jm_forward.specs.Hands.{Agree, AreAll, TableView, all_known, all_wins, fresh}
@@ -152,12 +152,48 @@ abbrev pub BackKeeps : Type 0
 BackKeeps = (stores : List Blocks) (roots : List ℕ) (words : TableView) (cs ds : List Copier) (aside : List Piece)
     → AreCopying stores roots words cs aside → AreBack cs ds → AreCopying stores roots words ds aside
 
+-- a place in the lane of the young, or in that of the old in a block from a number on
+abbrev pub IsPlaced : ℕ → ℕ → ℕ → ℕ → Type 0
+IsPlaced young old first n = (lane_of n ≡ young) ⊎ ((lane_of n ≡ old) × (first ≤ block_of n))
+
+-- a copier fills two lanes, of the old one blocks from a number on, and keeps no object that was there before
+pub record IsFilling (young old first : ℕ) (c : Copier) : Type 0 where
+  pub young_lane : c.to.young.lane ≡ young
+  pub old_lane : c.to.tenured.lane ≡ old
+  pub none : c.to.kept ≡ None
+  pub next : first < length c.to.tenured.lists
+  pub made : (n : ℕ) → HasMade c.to n → IsPlaced young old first n
+
+abbrev pub AllFill : ℕ → ℕ → ℕ → List Copier → Type 0
+AllFill young old first [] = Unit {0}
+AllFill young old first (c ∷ cs) = IsFilling young old first c × AllFill young old first cs
+
+-- and so does each, also with the blocks that were moved
+pub record ArePlaced (young old first : ℕ) (cs : List Copier) (aside : List Piece) : Type 0 where
+  pub own : AllFill young old first cs
+  pub pieces : (n : ℕ) → IsInOne (all_pieces cs aside) n → IsPlaced young old first n
+
+-- a step that keeps this
+abbrev pub KeepPlaced : List Copier → List Copier → List Piece → List Piece → Type 0
+KeepPlaced cs ds aside rest = (young old first : ℕ) → ArePlaced young old first cs aside → ArePlaced young old first ds rest
+
+-- a round does, giving back does, and dealing does
+abbrev pub RoundKeepsPlaced : Type 0
+RoundKeepsPlaced = (stores : List Blocks) (roots : List ℕ) (words : TableView) (cs ds : List Copier) (aside : List Piece)
+    → AreCopying stores roots words cs aside → AreRound stores roots cs ds → NoneRefused ds → KeepPlaced cs ds aside aside
+
+abbrev pub BackKeepsPlaced : Type 0
+BackKeepsPlaced = (stores : List Blocks) (roots : List ℕ) (words : TableView) (cs ds : List Copier) (aside : List Piece)
+    → AreCopying stores roots words cs aside → AreBack cs ds → KeepPlaced cs ds aside aside
+
 -- what holds between rounds goes over, whatever is set aside
 abbrev pub KeepCopying : List Copier → List Copier → Type 0
-KeepCopying cs ds = (stores : List Blocks) (roots : List ℕ) (words : TableView) (aside : List Piece) → AreCopying stores roots words cs aside → AreCopying stores roots words ds aside
+KeepCopying cs ds = (stores : List Blocks) (roots : List ℕ) (words : TableView) (aside : List Piece) → AreCopying stores roots words cs aside
+    → AreCopying stores roots words ds aside × KeepPlaced cs ds aside aside
 
 abbrev pub KeepsCopying : List Copier → List Copier → List Piece → List Piece → Type 0
-KeepsCopying cs ds aside rest = (stores : List Blocks) (roots : List ℕ) (words : TableView) → AreCopying stores roots words cs aside → AreCopying stores roots words ds rest
+KeepsCopying cs ds aside rest = (stores : List Blocks) (roots : List ℕ) (words : TableView) → AreCopying stores roots words cs aside
+    → AreCopying stores roots words ds rest × KeepPlaced cs ds aside rest
 
 -- whether there is an object, as a share of places
 abbrev pub is_object : Option Object → Bool

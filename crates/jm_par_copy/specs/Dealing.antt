@@ -3,7 +3,7 @@ use Rattle.std.specs.Prelude.{◌≡◌, ℕ, ◌+◌, List, [], ◌∷◌, ◌+
 use Rattle.std.specs.List.{Contains}
 use Rattle.jm_blocks.specs.Stores.{Blocks}
 use Rattle.jm_forward.specs.Hands.{TableView}
-use Rattle.jm_par_copy.specs.Copiers.{AreCopying, all_pieces}
+use Rattle.jm_par_copy.specs.Copiers.{AreCopying, KeepPlaced, all_pieces}
 use Rattle.jm_par_copy.specs.Pieces.{is_in}
 use Rattle.jm_par_copy.specs.declared.piece.Piece.{Piece}
 use Rattle.jm_par_copy.specs.declared.copier.Copier.{Copier}
@@ -46,6 +46,9 @@ pub record AreDealt (cs : List Copier) (aside : List Piece) (ds : List Copier) (
 abbrev pub DealKeepsAll : Type 0
 DealKeepsAll = (stores : List Blocks) (roots : List ℕ) (words : TableView) (cs ds : List Copier) (aside rest : List Piece)
     → AreCopying stores roots words cs aside → AreDealt cs aside ds rest → AreCopying stores roots words ds rest
+
+abbrev pub DealKeepsPlaced : Type 0
+DealKeepsPlaced = (cs ds : List Copier) (aside rest : List Piece) → AreDealt cs aside ds rest → KeepPlaced cs ds aside rest
 
 -- the given blocks of a copier are put at the end of a list
 pub record IsTaken (c d : Copier) (old new : List Piece) : Type 0 where

@@ -15,3 +15,4 @@ pub mod Giving
 pub mod Copiers
 pub mod Dealing
 pub mod Seats
+pub mod Ending

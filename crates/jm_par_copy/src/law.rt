@@ -1,8 +1,9 @@
 // Laws of copiers, as the contracts of functions that do nothing.
 
 ghost use Rattle.jm_par_copy.specs.Aside.{GivenIsScanned};
-ghost use Rattle.jm_par_copy.specs.Copiers.{AgesAreByLane, AllAreReady, BackKeeps, EndIsImage, FreshAreCopying, RoundKeeps};
-ghost use Rattle.jm_par_copy.specs.Dealing.{DealKeepsAll};
+ghost use Rattle.jm_par_copy.specs.Copiers.{AgesAreByLane, AllAreReady, BackKeeps, BackKeepsPlaced, EndIsImage, FreshAreCopying, RoundKeeps, RoundKeepsPlaced};
+ghost use Rattle.jm_par_copy.specs.Dealing.{DealKeepsAll, DealKeepsPlaced};
+ghost use Rattle.jm_par_copy.specs.Ending.{EndIsCollected, HeldIsLoads};
 ghost use Rattle.jm_par_copy.specs.Fresh.{FreshIsWorking};
 ghost use Rattle.jm_par_copy.specs.Giving.{GivesBack};
 ghost use Rattle.jm_par_copy.specs.Moves.{BlockIsBack, BlockIsOut};
@@ -79,4 +80,24 @@ pub fn seated_copiers_are_fresh()
 /// in the other.
 pub fn ages_are_by_lane()
     ensures { AgesAreByLane }
+{}
+
+/// Where copiers fill two lanes, of the old one blocks from a number on, no step changes that: a round, giving back
+/// and dealing keep it, of their own objects and of the blocks that were moved.
+pub fn what_is_held_is_placed()
+    ensures round { RoundKeepsPlaced }
+    ensures back { BackKeepsPlaced }
+    ensures dealt { DealKeepsPlaced }
+{}
+
+/// Between rounds what all hold in these lanes can be put into one store of each: no place is held twice, and each
+/// block that was moved has one of the two lanes.
+pub fn what_is_held_can_be_put_together()
+    ensures { HeldIsLoads }
+{}
+
+/// Where all have ended and have met, and what they hold was put together, with the promoted objects above the blocks
+/// of the old store, the collection is what a collector promises, and the map of its image is the union of the wins.
+pub fn the_end_is_collected()
+    ensures { EndIsCollected }
 {}

@@ -1,8 +1,9 @@
 // Stores of one lane are put together.
 
-ghost use Rattle.std.specs.Prelude.{◌≡◌, ◌<◌, ℕ, None, OnErr, OnOk, length, true};
+ghost use Rattle.std.specs.Prelude.{◌≡◌, ◌<◌, ◌≤◌, ℕ, None, OnErr, OnOk, Some, length};
+ghost use Rattle.jm_blocks.specs.Objects.{Object};
 ghost use Rattle.jm_blocks.specs.Stores.{objects_in};
-ghost use Rattle.jm_par_copy.specs.Pieces.{is_in, objects_of};
+ghost use Rattle.jm_par_copy.specs.Pieces.{objects_of};
 ghost use Rattle.jm_par_copy.specs.Merging.{AreBeside, IsLeft, IsMoved};
 ghost use Rattle.jm_par_copy.specs.Working.{both};
 
@@ -30,56 +31,84 @@ fn open_to(alloc: Global, to: &mut BlockStore, number: usize) -> Result<(), Allo
     Ok(())
 }
 
-/// Puts a block that was moved into a store of its lane, which has no object there. A growth that is refused changes
-/// no object of the store.
+// Sees to it that a store has so many blocks.
+fn open_all(alloc: Global, to: &mut BlockStore, count: usize) -> Result<(), AllocError>
+    ensures same { (n : ℕ) → objects_in to.new n ≡ objects_in to.old n }
+    ensures lane { to.new.lane ≡ to.old.lane }
+    ensures there { OnOk result (count ≤ length to.new.lists) }
+{
+    if count == 0 {
+        return Ok(());
+    }
+    open_to(alloc, to, count - 1)?;
+    Ok(())
+}
+
+/// Puts a block that was moved into a store of its lane, which has no object where the block has one. A growth that
+/// is refused changes no object of the store.
 pub fn put_piece(alloc: Global, piece: Piece, to: &mut BlockStore) -> Result<(), AllocError>
     requires lane { piece.lane ≡ to.old.lane }
     requires few { piece.lane < 64 }
-    requires free { (n : ℕ) → is_in piece n ≡ true → objects_in to.old n ≡ None }
+    requires free { (n : ℕ) (a : Object) → objects_of piece n ≡ Some a → objects_in to.old n ≡ None }
     ensures ok { OnOk result ((n : ℕ) → objects_in to.new n ≡ both (objects_of piece) (objects_in to.old) n) }
     ensures err { OnErr result ((n : ℕ) → objects_in to.new n ≡ objects_in to.old n) }
     ensures lane { to.new.lane ≡ to.old.lane }
 {
     let Piece { number, block, .. } = piece;
-    open_to(alloc, to, number)?;
-    to.put(number, block);
-    Ok(())
-}
-
-// Moves the block of a number into a store that has none with objects there.
-fn move_block(
-    alloc: Global,
-    from: &mut BlockStore,
-    number: usize,
-    to: &mut BlockStore,
-) -> Result<(), AllocError>
-    requires lane { from.old.lane ≡ to.old.lane }
-    requires beside { AreBeside from.old to.old }
-    requires there { number < length from.old.lists }
-    ensures moved { IsMoved from.old to.old from.new to.new }
-    ensures left { OnOk result (IsLeft from.old from.new number) }
-{
-    let count = from.block(number).len();
+    let count = block.len();
     if count == 0 {
         return Ok(());
     }
     open_to(alloc, to, number)?;
-    let block = from.take(alloc, number);
     to.put(number, block);
     Ok(())
 }
 
-/// Moves all blocks of a store into another of the same lane, which has no object where the first has one. Where a
-/// growth is refused some may have been moved: together they have what they had.
-pub fn move_all(alloc: Global, from: &mut BlockStore, to: &mut BlockStore) -> Result<(), AllocError>
+// Moves the block of a number into a store that has a block of this number, and no object there.
+fn move_block(alloc: Global, from: &mut BlockStore, number: usize, to: &mut BlockStore)
     requires lane { from.old.lane ≡ to.old.lane }
     requires beside { AreBeside from.old to.old }
+    requires there { number < length from.old.lists }
+    requires opened { number < length to.old.lists }
     ensures moved { IsMoved from.old to.old from.new to.new }
-    ensures all { OnOk result ((n : ℕ) → objects_in to.new n ≡ both (objects_in to.old) (objects_in from.old) n) }
+    ensures left { IsLeft from.old from.new number }
+    ensures many { length to.new.lists ≡ length to.old.lists }
+{
+    let count = from.block(number).len();
+    if count == 0 {
+        return;
+    }
+    let block = from.take(alloc, number);
+    to.put(number, block);
+}
+
+// Moves all blocks of a store into another of the same lane, which has as many and no object where the first has one.
+fn move_opened(alloc: Global, from: &mut BlockStore, to: &mut BlockStore)
+    requires lane { from.old.lane ≡ to.old.lane }
+    requires beside { AreBeside from.old to.old }
+    requires opened { length from.old.lists ≤ length to.old.lists }
+    ensures lane { to.new.lane ≡ to.old.lane }
+    ensures all { (n : ℕ) → objects_in to.new n ≡ both (objects_in to.old) (objects_in from.old) n }
 {
     let count = from.len();
     for number in 0..count {
-        move_block(alloc, from, number, to)?;
+        move_block(alloc, from, number, to);
     }
+}
+
+/// Moves all blocks of a store into another of the same lane, which has no object where the first has one. Only the
+/// opening of so many blocks can be refused, before any is moved: the second has the objects that it had then, and
+/// the first is as it was.
+pub fn move_all(alloc: Global, from: &mut BlockStore, to: &mut BlockStore) -> Result<(), AllocError>
+    requires lane { from.old.lane ≡ to.old.lane }
+    requires beside { AreBeside from.old to.old }
+    ensures ok { OnOk result ((n : ℕ) → objects_in to.new n ≡ both (objects_in to.old) (objects_in from.old) n) }
+    ensures err { OnErr result ((n : ℕ) → objects_in to.new n ≡ objects_in to.old n) }
+    ensures from { OnErr result (from.new ≡ from.old) }
+    ensures lane { to.new.lane ≡ to.old.lane }
+{
+    let count = from.len();
+    open_all(alloc, to, count)?;
+    move_opened(alloc, from, to);
     Ok(())
 }

@@ -2,7 +2,7 @@
 
 ghost use Rattle.std.specs.Prelude.{◌≡◌, ◌<◌, length, OnOk, true};
 ghost use Rattle.jm_copy.specs.Copies.{IsSource};
-ghost use Rattle.jm_par_copy.specs.Copiers.{AllRooted, AreBack, AreCopying, AreEnded, AreScannedPieces, HaveEnded, IsBack, KeepCopying, KeepSeats, KeepsCopying, KeepsSeat, NoneRefused};
+ghost use Rattle.jm_par_copy.specs.Copiers.{AllRooted, AreBack, AreCopying, AreEnded, AreScannedPieces, HaveEnded, IsBack, KeepCopying, KeepPlaced, KeepSeats, KeepsCopying, KeepsSeat, NoneRefused};
 ghost use Rattle.jm_par_copy.specs.Round.{AreReady, AreRound};
 
 use crate::copier::{Copier, lesser, make_rounds, make_rounds_here};
@@ -140,7 +140,8 @@ fn make_round_of_all<R: Threads, G: Gate + Sync>(
 
 /// Rounds of all copiers, each twice as long as the one before up to a bound, until all have ended, or a growth
 /// was refused. Between two rounds blocks that are closed and not yet scanned move to other copiers; those that
-/// are scanned are set aside.
+/// are scanned are set aside. `AllocError`: a growth was refused, to a copier (each says whether to it) or between two
+/// rounds. (It would also come after 2^64 - 1 rounds.)
 pub fn run_rounds<R: Threads, G: Gate + Sync>(
     rt: &R,
     alloc: Global,
@@ -149,28 +150,27 @@ pub fn run_rounds<R: Threads, G: Gate + Sync>(
     gate: &G,
     copiers: &mut Vec<Copier>,
     aside: &mut Vec<Piece>,
-) -> bool
+) -> Result<(), AllocError>
     requires source { IsSource from.stores.now from.numbers.now }
     requires some { 0 < length copiers.old.items }
     requires copying { AreCopying from.stores.now from.roots.now words.now copiers.old.items aside.old.items }
     requires scanned { AreScannedPieces aside.old.items }
-    ensures ended { result ≡ true → AreCopying from.entry.stores.now from.entry.roots.now words.now copiers.new.items aside.new.items × AreEnded copiers.new.items aside.new.items }
-    ensures rooted { result ≡ true → AllRooted from.entry.stores.now from.entry.roots.now copiers.new.items }
+    ensures ended { OnOk result (AreCopying from.entry.stores.now from.entry.roots.now words.now copiers.new.items aside.new.items × AreEnded copiers.new.items aside.new.items) }
+    ensures rooted { OnOk result (AllRooted from.entry.stores.now from.entry.roots.now copiers.new.items) }
+    ensures placed { OnOk result (KeepPlaced copiers.old.items copiers.new.items aside.old.items aside.new.items) }
     ensures seats { KeepSeats copiers.old.items copiers.new.items }
 {
     let mut limit = FIRST_ROUND;
     for _ in 0..u64::MAX {
         make_round_of_all(rt, alloc, from, words, gate, limit, copiers);
         if !none_refused(copiers.as_slice()) {
-            return false;
+            return Err(AllocError);
         }
         if have_ended(copiers.as_slice()) {
-            return true;
+            return Ok(());
         }
-        let Ok(()) = share_out(alloc, copiers, aside) else {
-            return false;
-        };
+        share_out(alloc, copiers, aside)?;
         limit = lesser(limit.saturating_add(limit), LONGEST_ROUND);
     }
-    false
+    Err(AllocError)
 }

@@ -21,7 +21,7 @@ fn own_store(
 ) -> Result<BlockStore, AllocError>
     requires lane { (0 < lane) × (lane < 64) }
     requires number { number < copiers }
-    requires few { (copiers ≤ 16) × (turns ≤ 2 ^ 49) }
+    requires few { (copiers ≤ 16) × (turns ≤ 2 ^ 50) }
     ensures lane { IfOk result (λ s. s.lane ≡ lane) }
     ensures empty { IfOk result (λ s. IsEmpty s) }
     ensures ends { IfOk result (λ s. EndsOwn number copiers s) }
@@ -42,8 +42,8 @@ fn own_stores(
 ) -> Result<Copies, AllocError>
     requires lane { (1 < old_lane) × (old_lane < 64) }
     requires number { number < copiers }
-    requires few { (copiers ≤ 16) × (turns ≤ 2 ^ 49) }
-    ensures { IfOk result (λ to. IsOwnStores number copiers old_lane to) }
+    requires few { (copiers ≤ 16) × (turns ≤ 2 ^ 50) }
+    ensures { IfOk result (λ to. IsOwnStores number copiers old_lane (copiers * turns) to) }
 {
     let words = Words::new(alloc, 0)?;
     let young = own_store(alloc, 1, number, copiers, 0)?;
@@ -65,8 +65,8 @@ pub fn all_stores(
     turns: usize,
 ) -> Result<Vec<Copies>, AllocError>
     requires lane { (1 < old_lane) × (old_lane < 64) }
-    requires few { (copiers ≤ 16) × (turns ≤ 2 ^ 49) }
-    ensures own { IfOk result (λ ts. AreOwnStores 0 copiers old_lane ts.items) }
+    requires few { (copiers ≤ 16) × (turns ≤ 2 ^ 50) }
+    ensures own { IfOk result (λ ts. AreOwnStores 0 copiers old_lane (copiers * turns) ts.items) }
     ensures many { IfOk result (λ ts. length ts.items ≡ copiers) }
 {
     let mut stores = Vec::with_capacity(alloc, copiers)?;

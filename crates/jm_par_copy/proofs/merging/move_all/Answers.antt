@@ -1,12 +1,13 @@
-use Rattle.std.proofs.Common.{arith}
-use Rattle.jm_par_copy.proofs.Merged.{moved_all}
+use Rattle.std.proofs.Common.{◌≡◌, ◌∙◌, ap}
+use Rattle.jm_blocks.specs.Stores.{objects_in}
+use Rattle.jm_par_copy.specs.Working.{both}
+use Rattle.jm_par_copy.proofs.Merged.{moved_opened}
 use Rattle.jm_par_copy.proofs.merging.move_all.Goals as goal
 
-pub returns-clause-all : goal.returns-clause-all
-returns-clause-all c =
-    let i = c.loop-number.invariant in
-    let many = i.moved.many in
-    let count = c.len-count.ensures.value in
-    let end = c.loop-number.auto.number-end in
-    let over = c.loop-number-test.false in
-    moved_all c.args.from.now c.args.to.now c.loop-number.from c.loop-number.to i.moved (λ k h. i.empty k (omega (arith, h, many, count, end, over)))
+pub move_opened-requires-clause-beside : goal.move_opened-requires-clause-beside
+move_opened-requires-clause-beside c = (moved_opened c.args.from.now c.args.to.now c.open_all.new.to c.requires.beside c.open_all.ensures.lane c.open_all.ensures.same).beside
+
+pub returns-clause-ok : goal.returns-clause-ok
+returns-clause-ok c n =
+    let whole : objects_in c.open_all.new.to ≡ objects_in c.args.to.now = λ t m. c.open_all.ensures.same m t in
+    c.move_opened.ensures.all n ∙ ap (λ f. both f (objects_in c.args.from.now) n) whole

@@ -17,4 +17,5 @@ returns c =
       young_lane = young.lane;
       tenured_lane = old.lane;
       none = refl;
+      above = let above = old.above in omega (arith, above);
     }

@@ -1,0 +1,146 @@
+// The collector of several copiers.
+
+ghost use Rattle.std.specs.Prelude.{◌≡◌, ◌≢◌, ◌<◌, ◌≤◌, ℕ, IfErr, IfOk, OnErr};
+ghost use Rattle.jm_blocks.specs.Stores.{objects_in};
+ghost use Rattle.jm_copy.specs.Collected.{IsCollected};
+ghost use Rattle.jm_copy.specs.Condemned.{AreLanes};
+
+use crate::copying::copy_with;
+use crate::ending::Copied;
+use crate::gate::{Gate, OpenGate};
+use jm_blocks::BlockStore;
+use jm_copy::{Collector, Refused, Source, Survivors, number_all};
+use jm_forward::Forwarding;
+use jm_values::Place;
+use std::alloc::{AllocError, Global};
+use std::thread::Threads;
+
+// There is a forwarding word for each of fewer objects than this.
+const MAX_OBJECTS: usize = 1 << 32;
+
+// Lanes are from 1 to 63.
+const LANES: u64 = 64;
+
+/// Copies what is reached by several copiers, from 1 to 16, each in a thread of its own, which pass a gate before each
+/// claim.
+#[derive(Drop)]
+pub struct ParallelCollector<R, G> {
+    runtime: R,
+    gate: G,
+    copiers: usize,
+    ghost some: { 0 < copiers },
+    ghost few: { copiers ≤ 16 },
+}
+
+impl<R: Threads, G: Gate + Sync> ParallelCollector<R, G> {
+    /// A collector of so many copiers.
+    pub fn new(runtime: R, gate: G, copiers: usize) -> ParallelCollector<R, G>
+        requires some { 0 < copiers }
+        requires few { copiers ≤ 16 }
+    {
+        ParallelCollector {
+            runtime,
+            gate,
+            copiers,
+        }
+    }
+
+    // Copies what is reached, and puts what is promoted into the old store. Where a growth is refused, or there are
+    // 2^32 condemned objects, the old store has the objects that it had. (No store has the lane 0 or one from 64 on.)
+    fn copy(
+        &self,
+        alloc: Global,
+        condemned: &[BlockStore],
+        tenured: &mut BlockStore,
+        roots: &[Place],
+    ) -> Result<Copied, AllocError>
+        requires lanes { AreLanes condemned.now }
+        requires apart { tenured.old.lane ≢ 1 }
+        ensures ok { IfOk result (λ r. IsCollected condemned.now tenured.old roots.now r.young tenured.new r.remembered.items r.roots.items) }
+        ensures err { OnErr result ((n : ℕ) → objects_in tenured.new n ≡ objects_in tenured.old n) }
+    {
+        let lane = tenured.lane();
+        if lane < 2 || lane >= LANES {
+            return Err(AllocError);
+        }
+        let (numbers, count) = number_all(alloc, condemned)?;
+        if count >= MAX_OBJECTS {
+            return Err(AllocError);
+        }
+        let (words, mut seats) = Forwarding::new(alloc, count, self.copiers)?;
+        let from = Source {
+            stores: condemned,
+            numbers: numbers.as_slice(),
+            roots,
+        };
+        copy_with(
+            &self.runtime,
+            alloc,
+            from,
+            &words,
+            &self.gate,
+            &mut seats,
+            tenured,
+        )
+    }
+
+    // The survivors and the new roots, or the old store with what it had.
+    fn survivors(
+        &self,
+        alloc: Global,
+        condemned: &[BlockStore],
+        mut tenured: BlockStore,
+        roots: &[Place],
+    ) -> Result<(Survivors, Vec<Place>), BlockStore>
+        requires lanes { AreLanes condemned.now }
+        requires apart { tenured.lane ≢ 1 }
+        ensures ok { IfOk result (λ r. IsCollected condemned.now tenured roots.now r.0.young r.0.tenured r.0.remembered.items r.1.items) }
+        ensures err { IfErr result (λ s. (n : ℕ) → objects_in s n ≡ objects_in tenured n) }
+    {
+        let Ok(copied) = self.copy(alloc, condemned, &mut tenured, roots) else {
+            return Err(tenured);
+        };
+        let survivors = Survivors {
+            young: copied.young,
+            tenured,
+            remembered: copied.remembered,
+        };
+        Ok((survivors, copied.roots))
+    }
+
+    /// Collects as the trait's call does, whatever the gate.
+    pub fn collect(
+        &self,
+        alloc: Global,
+        condemned: Vec<BlockStore>,
+        tenured: BlockStore,
+        roots: &mut Vec<Place>,
+    ) -> Result<Survivors, Refused>
+        requires lanes { AreLanes condemned.items }
+        requires apart { tenured.lane ≢ 1 }
+        ensures ok { IfOk result (λ s. IsCollected condemned.items tenured roots.old.items s.young s.tenured s.remembered.items roots.new.items) }
+        ensures condemned { IfErr result (λ r. r.condemned.items ≡ condemned.items) }
+        ensures tenured { IfErr result (λ r. (p : ℕ) → objects_in r.tenured p ≡ objects_in tenured p) }
+        ensures roots { OnErr result (roots.new.items ≡ roots.old.items) }
+    {
+        match self.survivors(alloc, condemned.as_slice(), tenured, roots.as_slice()) {
+            Ok((survivors, moved)) => {
+                *roots = moved;
+                Ok(survivors)
+            }
+            Err(tenured) => Err(Refused { condemned, tenured }),
+        }
+    }
+}
+
+impl<R: Threads> Collector for ParallelCollector<R, OpenGate> {
+    fn collect(
+        &self,
+        alloc: Global,
+        condemned: Vec<BlockStore>,
+        tenured: BlockStore,
+        roots: &mut Vec<Place>,
+    ) -> Result<Survivors, Refused> {
+        self.collect(alloc, condemned, tenured, roots)
+    }
+}
