@@ -45,8 +45,9 @@ fn write_operand(
     }
 }
 
-// Writes the variables of a method's frame that are set.
-fn write_locals<H: Heap>(out: &mut String, frame: &MethodFrame<'_, H>) -> Result<(), AllocError>
+/// Writes the lines of the local variables of a method's frame that are set. `AllocError`: a growth was
+/// refused; some of them may stand there then.
+pub fn write_locals<H: Heap>(out: &mut String, frame: &MethodFrame<'_, H>) -> Result<(), AllocError>
     ensures { OnOk result (out.new.bytes.items ≡ out.old.bytes.items ++ flat_map ended (lines_from local_lines 0 frame.now.activation.locals)) }
 {
     for number in 0..frame.max_locals() {
@@ -55,8 +56,9 @@ fn write_locals<H: Heap>(out: &mut String, frame: &MethodFrame<'_, H>) -> Result
     Ok(())
 }
 
-// Writes the operands of a method's frame, from the bottom.
-fn write_stack<H: Heap>(out: &mut String, frame: &MethodFrame<'_, H>) -> Result<(), AllocError>
+/// Writes the lines of the operands of a method's frame, from the bottom. `AllocError`: a growth was
+/// refused; some of them may stand there then.
+pub fn write_stack<H: Heap>(out: &mut String, frame: &MethodFrame<'_, H>) -> Result<(), AllocError>
     ensures { OnOk result (out.new.bytes.items ≡ out.old.bytes.items ++ flat_map ended (lines_from value_lines 0 (reverse frame.now.activation.stack))) }
 {
     let operands = frame.operands();

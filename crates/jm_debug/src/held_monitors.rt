@@ -26,8 +26,8 @@ fn write_monitor(out: &mut String, monitor: WorldMonitor) -> Result<(), AllocErr
     write!(out, "#{object} t{owner} x{count}\n")
 }
 
-// Writes the lines of monitors.
-fn write_monitors(out: &mut String, monitors: &[WorldMonitor]) -> Result<(), AllocError>
+/// Writes a line of each monitor. `AllocError`: a growth was refused; some of them may stand there then.
+pub fn write_monitors(out: &mut String, monitors: &[WorldMonitor]) -> Result<(), AllocError>
     ensures { OnOk result (out.new.bytes.items ≡ out.old.bytes.items ++ flat_map ended (map monitor_text (map model_monitor monitors.now))) }
 {
     for monitor in monitors {

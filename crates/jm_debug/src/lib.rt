@@ -7,7 +7,8 @@
 //! A [`Debugger`] has a machine, and is at a session of each world that the machine matches: what
 //! [`Debugger::command`] answers to a line, and where it is then, is what that definition says, session
 //! after session. [`Command::parse`] reads the line; [`frames`], [`locals`], [`stack`], [`statics`],
-//! [`object`], [`heap`] and [`monitors`] show parts of the world, in the bytes of the answer.
+//! [`object`], [`heap`] and [`monitors`] show parts of the world, in the bytes of the answer; the
+//! `write_` functions write parts of these for views that are put together otherwise.
 //!
 //! The crate stands on `jm_machine`, its contracts on the names of methods by number in `jm_linked`, and
 //! its proofs on lemmas of `jm_schedule` too.
@@ -36,10 +37,10 @@ mod word;
 pub use command::Command;
 pub use debugger::Debugger;
 pub use fault::DebugFault;
-pub use frame::{locals, stack};
-pub use held_monitors::monitors;
+pub use frame::{locals, stack, write_locals, write_stack};
+pub use held_monitors::{monitors, write_monitors};
 pub use place::Place;
-pub use reached_object::object;
-pub use reached_objects::heap;
-pub use static_fields::statics;
-pub use thread::frames;
+pub use reached_object::{object, write_parts, write_type};
+pub use reached_objects::{heap, write_heap};
+pub use static_fields::{statics, write_statics};
+pub use thread::{frames, write_end};

@@ -38,7 +38,8 @@ fn write_array_type(out: &mut String, component: &FieldType) -> Result<(), Alloc
     write!(out, "[{component}")
 }
 
-/// Writes the class of an object, or the descriptor of an array.
+/// Writes the class of an object, or the descriptor of an array, with no line feed. `AllocError`: a
+/// growth was refused; a part of it may stand there then.
 #[tactic(auto, unfolding(crate::specs::Texts::object_type_text))]
 pub fn write_type(alloc: Global, out: &mut String, kind: ObjectKind<'_>) -> Result<(), AllocError>
     ensures { OnOk result (out.new.bytes.items ≡ out.old.bytes.items ++ object_type_text (model_type kind.entry)) }
@@ -116,9 +117,10 @@ fn write_elements<H: Heap>(out: &mut String, object: &WorldObject<'_, H>) -> Res
     Ok(())
 }
 
-// Writes the fields of an object, or the elements of an array.
+/// Writes the lines of an object's fields, those of the topmost superclass first, or of an array's
+/// elements. `AllocError`: a growth was refused; some of them may stand there then.
 #[tactic(auto, using(crate::proofs::ObjectsShown::parts_of_instance, crate::proofs::ObjectsShown::parts_of_array))]
-fn write_parts<H: Heap>(out: &mut String, object: &WorldObject<'_, H>) -> Result<(), AllocError>
+pub fn write_parts<H: Heap>(out: &mut String, object: &WorldObject<'_, H>) -> Result<(), AllocError>
     ensures { OnOk result (out.new.bytes.items
         ≡ out.old.bytes.items ++ flat_map ended (part_lines object.now.program object.now.object.type object.now.object.values)) }
 {

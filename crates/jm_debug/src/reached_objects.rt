@@ -14,9 +14,15 @@ use jm_machine::{Machine, WorldObject, WorldObjects};
 use std::alloc::{AllocError, Global};
 use std::fmt::Write;
 
-// Writes how much is reachable, and the limit.
+/// Writes the line of how many objects are reachable, how many cells they take, and how many cells there
+/// may be. `AllocError`: a growth was refused; a part of the line may stand there then.
 #[tactic(auto, unfolding(crate::specs::Views::heap_text))]
-fn write_heap(out: &mut String, objects: usize, cells: u64, limit: u64) -> Result<(), AllocError>
+pub fn write_heap(
+    out: &mut String,
+    objects: usize,
+    cells: u64,
+    limit: u64,
+) -> Result<(), AllocError>
     ensures { OnOk result (out.new.bytes.items ≡ out.old.bytes.items ++ ended (heap_text objects cells limit)) }
 {
     write!(

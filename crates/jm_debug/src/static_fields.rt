@@ -71,8 +71,9 @@ fn write_static(
     write!(out, "{name} {descriptor} = {value}\n")
 }
 
-// Writes the static fields that a class declares.
-fn write_statics<H: Heap>(
+/// Writes the lines of the static fields that a class declares, in its order. `AllocError`: a growth was
+/// refused; some of them may stand there then.
+pub fn write_statics<H: Heap>(
     out: &mut String,
     class: &Name,
     statics: &WorldStatics<'_, H>,

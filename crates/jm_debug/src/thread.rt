@@ -130,9 +130,11 @@ fn write_running<H: Heap>(
     write_frames(out, machine, thread)
 }
 
-// Writes how a thread has ended: by an exception of a class, or by its last return.
+/// Writes the line that tells how a thread has ended: by an exception of a class, whose name is in
+/// UTF-16 code units, or by its last return. `AllocError`: a growth was refused; a part of the line may
+/// stand there then.
 #[tactic(auto, using(crate::proofs::Written::one_line))]
-fn write_end(alloc: Global, out: &mut String, class: Option<&[u16]>) -> Result<(), AllocError>
+pub fn write_end(alloc: Global, out: &mut String, class: Option<&[u16]>) -> Result<(), AllocError>
     ensures { OnOk result (out.new.bytes.items ≡ out.old.bytes.items ++ flat_map ended (end_lines (option_copied class.entry))) }
 {
     match class {
