@@ -16,7 +16,7 @@ __attribute__((constructor)) static void begin(void)
 
 static int is_refused(void)
 {
-    return refused != 0 && ++counted == refused;
+    return refused != 0 && __atomic_add_fetch(&counted, 1, __ATOMIC_RELAXED) == refused;
 }
 
 void *malloc(size_t size)

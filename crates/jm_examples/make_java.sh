@@ -1,5 +1,5 @@
 #!/bin/sh
-# Compiles the Java programs under data/java and data/refused again, and prints
+# Compiles the Java programs under data/java, data/explore and data/refused again, and prints
 # their tables, and what a real Java prints when it runs those that have a main
 # (data/java/printed.txt) and the worked class file (data/printed.txt). Where an
 # exception ends the first thread, what Java says of it stands there in the words of
@@ -58,6 +58,10 @@ cp ../sum.class "$folder/Main.class"
     echo "== sum"
     java -cp "$folder" Main
 } > ../printed.txt
+
+cd ../explore
+rm -f ./*.class
+compile --release 8 *.java
 
 cd ../refused
 rm -f ./*.class

@@ -4,7 +4,8 @@
 # written and read again, and when it is given a text and assembled again, but where javap says a flag
 # that no word says (expected_texts.py); the worked text has the bytes of the worked class file. Each
 # program prints what a real Java printed (expected_runs.py). Each row of the tables of jobs and of
-# questions is as it should be, and so is what four workers do, in whatever order. The works print what
+# questions is as it should be, and so is what workers do, in whatever order: their records, replayed, come
+# to the same. The works print what
 # their twins in plain Rust print (bench/descriptors, plain, heap, collecting, read and forward, at the
 # sizes in src/works.rt), each case of the collector is as wanted, and nothing is refused.
 # Needs javap and python3. No check runs this: stdout is committed.

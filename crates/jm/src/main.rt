@@ -1,5 +1,5 @@
 //! `jm`: runs the program of some class files and assembler texts, by turns of its threads or by the
-//! events of a schedule, assembles texts into class files, shows the text of a class, answers the
+//! events of a schedule, tries its schedules, assembles texts into class files, shows the text of a class, answers the
 //! commands of a session of the debugger, and says what the numbers of refusals and statuses mean.
 //!
 //! The command line is read by `jm_options`, and what a job does is `jm_execute`'s. What stands
@@ -15,18 +15,21 @@ mod word;
 
 use files::{input_file, input_files};
 use jm_execute::{
-    AssembleJob, DebugJob, DisassembleJob, Job, RunEvents, RunJob, Status, Watched, execute,
-    explain, tell_version, write_out_of_memory,
+    AssembleJob, DebugJob, DisassembleJob, ExploreJob, Finished, Job, ReplayJob, RunEvents, RunJob,
+    Status, Watched, Workers, execute, explain, several_workers, tell_version, write_out_of_memory,
 };
+use jm_explore::Bounds;
 use jm_options::{
-    AssembleOptions, DebugOptions, DisassembleOptions, ExplainOptions, MAX_QUANTUM, MAX_STEPS,
-    Options, RunOptions, UsageFault, options,
+    AssembleOptions, DebugOptions, DisassembleOptions, ExplainOptions, ExploreOptions, MAX_QUANTUM,
+    MAX_STEPS, MAX_WORKERS, Options, ReplayOptions, RunOptions, UsageFault, options,
 };
 use jm_schedule::{RoundRobin, round_robin};
 use output::Output;
 use std::alloc::AllocError;
+use std::fs;
 use std::process::ExitCode;
 use std::sync::Wait;
+use std::thread::Threads;
 use word::{WordsFault, words};
 
 // A number of the command line, which is from 1 to another.
@@ -49,21 +52,66 @@ fn turns(steps: u32, quantum: u32) -> RoundRobin {
     round_robin(within(steps, MAX_STEPS), within(quantum, MAX_QUANTUM))
 }
 
-// The events of a run: those of a schedule, or the threads take turns.
-fn events_of(rt: &HostRuntime, schedule: Option<String>, turns: RoundRobin) -> RunEvents {
-    match schedule {
-        Some(name) => RunEvents::Schedule(input_file(rt, name)),
+// The workers of a run, where they are several.
+fn workers(count: u32, steps: u32) -> Option<Workers> {
+    if count >= 2 && count <= MAX_WORKERS {
+        Some(several_workers(count as u8, within(steps, MAX_STEPS)))
+    } else {
+        None
+    }
+}
+
+// The events of a run without a schedule: workers choose them, or the threads take turns.
+fn chosen_events(workers: Option<Workers>, turns: RoundRobin) -> RunEvents {
+    match workers {
+        Some(workers) => RunEvents::Workers(workers),
         None => RunEvents::RoundRobin(turns),
     }
 }
 
-fn run_job(rt: &HostRuntime, asked: RunOptions) -> Result<Job, AllocError> {
+// The events of a run: those of a schedule, or those that are chosen.
+fn events_of(rt: &HostRuntime, schedule: Option<String>, chosen: RunEvents) -> RunEvents {
+    match schedule {
+        Some(name) => RunEvents::Schedule(input_file(rt, name)),
+        None => chosen,
+    }
+}
+
+// A run, and the file that its record is to be written to, if there is to be one.
+fn run_job(rt: &HostRuntime, asked: RunOptions) -> Result<(Job, Option<String>), AllocError> {
     let turns = turns(asked.steps, asked.quantum);
-    Ok(Job::Run(RunJob {
+    let workers = workers(asked.workers, asked.steps);
+    let chosen = chosen_events(workers, turns);
+    let job = Job::Run(RunJob {
         heap: asked.heap,
-        events: events_of(rt, asked.schedule, turns),
+        events: events_of(rt, asked.schedule, chosen),
         program: input_files(rt, asked.files)?,
         show_heap: asked.show_heap,
+        is_recorded: asked.record_file.is_some(),
+    });
+    Ok((job, asked.record_file))
+}
+
+fn replay_job(rt: &HostRuntime, asked: ReplayOptions) -> Result<Job, AllocError> {
+    Ok(Job::Replay(ReplayJob {
+        heap: asked.heap,
+        record_file: input_file(rt, asked.record_file),
+        program: input_files(rt, asked.files)?,
+        show_heap: asked.show_heap,
+    }))
+}
+
+fn explore_job(rt: &HostRuntime, asked: ExploreOptions) -> Result<Job, AllocError> {
+    Ok(Job::Explore(ExploreJob {
+        heap: asked.heap,
+        bounds: Bounds {
+            switches: asked.switches as usize,
+            slice: asked.slice as usize,
+            steps: asked.steps as usize,
+            runs: u64::from(asked.runs),
+        },
+        outcome: asked.outcome,
+        program: input_files(rt, asked.files)?,
     }))
 }
 
@@ -88,13 +136,44 @@ fn debug_job(rt: &HostRuntime, asked: DebugOptions) -> Result<Job, AllocError> {
     }))
 }
 
-// Does a job, with its output where it belongs. A run may wait for its machine's lock, and a session
-// for a line.
-fn done(rt: &HostRuntime, wait: &impl Wait, job: &Job) -> Status {
+// Does a job, with its output where it belongs. A run may start threads, and wait for its machine's
+// lock, and a session for a line.
+fn finished(rt: &HostRuntime, wait: &(impl Threads + Wait + Sync), job: &Job) -> Finished {
     let mut input = Watched::new(rt.stdin());
     let mut out = Watched::new(Output::of(rt, job));
     let mut err = Watched::new(rt.stderr());
     execute(wait, rt.alloc(), job, &mut input, &mut out, &mut err)
+}
+
+// Does a job without a record.
+fn done(rt: &HostRuntime, wait: &(impl Threads + Wait + Sync), job: &Job) -> Status {
+    finished(rt, wait, job).status
+}
+
+// Writes the record of a run to its file.
+fn record_written(rt: &HostRuntime, text: &[u8], name: &str, status: Status) -> Status {
+    match fs::write(rt, name, text) {
+        Ok(()) => status,
+        Err(_) => {
+            let mut err = Watched::new(rt.stderr());
+            let _told = err.write_line(format_args!("jm: {name}: not written"));
+            Status::Files
+        }
+    }
+}
+
+// Does a run, and writes its record to the file of this name, where one is given and there is a record.
+fn run(
+    rt: &HostRuntime,
+    wait: &(impl Threads + Wait + Sync),
+    job: &Job,
+    record_file: Option<String>,
+) -> Status {
+    let finished = finished(rt, wait, job);
+    match (&finished.record_text, &record_file) {
+        (Some(text), Some(name)) => record_written(rt, text, name, finished.status),
+        _ => finished.status,
+    }
 }
 
 // Says what a number means, or which numbers there are.
@@ -126,9 +205,17 @@ fn refused(rt: &HostRuntime, text: &str) -> Status {
 }
 
 // Does what is asked for.
-fn answered(rt: &HostRuntime, wait: &impl Wait, asked: Options) -> Status {
+fn answered(rt: &HostRuntime, wait: &(impl Threads + Wait + Sync), asked: Options) -> Status {
     match asked {
         Options::Run(asked) => match run_job(rt, asked) {
+            Ok((job, record_file)) => run(rt, wait, &job, record_file),
+            Err(_) => out_of_memory(rt),
+        },
+        Options::Replay(asked) => match replay_job(rt, asked) {
+            Ok(job) => done(rt, wait, &job),
+            Err(_) => out_of_memory(rt),
+        },
+        Options::Explore(asked) => match explore_job(rt, asked) {
             Ok(job) => done(rt, wait, &job),
             Err(_) => out_of_memory(rt),
         },
@@ -144,7 +231,7 @@ fn answered(rt: &HostRuntime, wait: &impl Wait, asked: Options) -> Status {
 }
 
 // The status of the command line.
-fn status(rt: &HostRuntime, wait: &impl Wait) -> Status {
+fn status(rt: &HostRuntime, wait: &(impl Threads + Wait + Sync)) -> Status {
     let words = match words(rt) {
         Ok(words) => words,
         Err(WordsFault::OutOfMemory) => return out_of_memory(rt),

@@ -48,7 +48,8 @@ impl<'a> Output<'a> {
     /// The output of a job. Nothing is opened yet.
     pub fn of(rt: &'a HostRuntime, job: &'a Job) -> Output<'a> {
         match job {
-            Job::Run(_) | Job::Disassemble(_) | Job::Debug(_) => Output::Standard(rt.stdout()),
+            Job::Run(_) | Job::Replay(_) | Job::Explore(_) | Job::Disassemble(_) | Job::Debug(_) =>
+                Output::Standard(rt.stdout()),
             Job::Assemble(AssembleJob { output, .. }) => Output::ClassFile(OutputFile {
                 rt,
                 name: output,

@@ -11,6 +11,7 @@ use std::cell::Cell;
 use std::fmt::Display;
 use std::io::{ErrorKind, Read, Write};
 use std::sync::Wait;
+use std::thread::Threads;
 use std::{fs, io, str};
 
 /// The commands: each has one answer.
@@ -139,7 +140,7 @@ fn session_of(rt: &HostRuntime, file: &str) -> io::Result<Job> {
 // Holds a session over what is asked and answered.
 fn status_of(
     rt: &HostRuntime,
-    wait: &impl Wait,
+    wait: &(impl Threads + Wait + Sync),
     job: &Job,
     written: &Written,
     answering: &mut Answering<'_>,
@@ -148,7 +149,7 @@ fn status_of(
     let mut input = Watched::new(Asking { written, asked: 0 });
     let mut out = Watched::new(answering);
     let mut err = Watched::new(&mut lines);
-    execute(wait, rt.alloc(), job, &mut input, &mut out, &mut err)
+    execute(wait, rt.alloc(), job, &mut input, &mut out, &mut err).status
 }
 
 fn print_answers(rt: &impl Print, status: Status, answers: usize, taken: &[u8]) -> io::Result<()> {
@@ -159,7 +160,11 @@ fn print_answers(rt: &impl Print, status: Status, answers: usize, taken: &[u8]) 
 
 /// Holds a session over the class of a file, and prints its status, how many answers were flushed
 /// before the next command was given, and the answers.
-pub fn print_conversation(rt: &HostRuntime, wait: &impl Wait, file: &str) -> io::Result<()> {
+pub fn print_conversation(
+    rt: &HostRuntime,
+    wait: &(impl Threads + Wait + Sync),
+    file: &str,
+) -> io::Result<()> {
     let job = session_of(rt, file)?;
     let written = Written {
         answers: Cell::new(0),

@@ -1,12 +1,15 @@
-// The events of a run: those of a schedule, or the threads take turns.
+// The events of a run: those of a schedule, or the threads take turns, or workers choose them.
 
 ghost use Rattle.std.specs.Prelude.{MatchOption, ◌≤◌};
 
 use crate::columns::file_of;
 use crate::notation::invalid;
-use jm_execute::RunEvents;
+use jm_execute::{RunEvents, Workers, several_workers};
 use jm_schedule::{MAX_QUANTUM, MAX_STEPS, RoundRobin, round_robin};
 use std::io;
+
+// The most workers of a run.
+const MAX_WORKERS: u32 = 16;
 
 // A number from 1 on, if it is one and at most this large.
 fn number_of(word: &str, most: u32) -> Option<u32>
@@ -28,13 +31,30 @@ fn turns_of(numbers: &str) -> Option<RoundRobin> {
     Some(round_robin(steps, quantum))
 }
 
-/// The events that a column says: `@turns` and two numbers, or a schedule.
+// The workers of two numbers: how many they are, and how many events each makes at most.
+fn workers_of(numbers: &str) -> Option<Workers> {
+    let (count, steps) = numbers.split_once(' ')?;
+    let count = number_of(count, MAX_WORKERS)?;
+    let steps = number_of(steps, MAX_STEPS)?;
+    if count < 2 {
+        return None;
+    }
+    Some(several_workers(count as u8, steps))
+}
+
+/// The events that a column says: `@turns` or `@workers` and two numbers, or a schedule.
 pub fn events_of(rt: &HostRuntime, column: &str) -> io::Result<RunEvents> {
-    match column.strip_prefix("@turns ") {
-        Some(numbers) => match turns_of(numbers) {
+    if let Some(numbers) = column.strip_prefix("@turns ") {
+        return match turns_of(numbers) {
             Some(turns) => Ok(RunEvents::RoundRobin(turns)),
             None => invalid(),
-        },
-        None => Ok(RunEvents::Schedule(file_of(rt, "events", column)?)),
+        };
     }
+    if let Some(numbers) = column.strip_prefix("@workers ") {
+        return match workers_of(numbers) {
+            Some(workers) => Ok(RunEvents::Workers(workers)),
+            None => invalid(),
+        };
+    }
+    Ok(RunEvents::Schedule(file_of(rt, "events", column)?))
 }

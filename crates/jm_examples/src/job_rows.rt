@@ -1,14 +1,20 @@
 // The rows of a table of jobs.
 
 use crate::jobs::HEAP;
+use jm_explore::Bounds;
 
 /// What is done with the files of a row.
 #[derive(Clone, Copy)]
 pub enum JobKind {
     /// Their program is run, with a heap of so many cells, which is shown at the end or not.
     Run { heap: u32, show_heap: bool },
+    /// Their program is run by the events of a record, with a heap of so many cells, which is shown at
+    /// the end or not.
+    Replay { heap: u32, show_heap: bool },
     /// The commands of a session of the debugger are answered, with a heap of so many cells.
     Debug { heap: u32 },
+    /// The schedules of their program within bounds are tried.
+    Explore { bounds: Bounds },
     /// The class file of the text is made.
     Assemble,
     /// The text of the class is shown, with comments or without.
@@ -28,7 +34,7 @@ pub struct JobRow<'a> {
     pub names: &'a str,
     /// What stands in the files.
     pub contents: &'a str,
-    /// Which events are made, or the commands.
+    /// Which events are made, the record, or the commands, or the number of the outcome that is asked for.
     pub events: &'a str,
     pub output: &'a str,
     /// The lines on standard error.
@@ -59,7 +65,21 @@ fn cells_behind(word: &str, text: &str) -> Option<u32> {
     }
 }
 
-// What a word says to do; behind `run`, `show` and `debug` the heap's cells may stand.
+// Four numbers with spaces between them: the most switches, steps and runs, and the slice.
+fn bounds_of(text: &str) -> Option<Bounds> {
+    let (switches, rest) = text.split_once(" ")?;
+    let (steps, rest) = rest.split_once(" ")?;
+    let (runs, slice) = rest.split_once(" ")?;
+    Some(Bounds {
+        switches: switches.parse().ok()?,
+        slice: slice.parse().ok()?,
+        steps: steps.parse().ok()?,
+        runs: runs.parse().ok()?,
+    })
+}
+
+// What a word says to do; behind `run`, `show`, `replay`, `again` (a replay whose heap is shown) and `debug`
+// the heap's cells may stand.
 fn kind_of(word: &str) -> Option<JobKind> {
     match word {
         "asm" => return Some(JobKind::Assemble),
@@ -75,8 +95,25 @@ fn kind_of(word: &str) -> Option<JobKind> {
             number: Some(number.parse().ok()?),
         });
     }
+    if let Some(bounds) = word.strip_prefix("explore ") {
+        return Some(JobKind::Explore {
+            bounds: bounds_of(bounds)?,
+        });
+    }
     if let Some(heap) = cells_behind("debug", word) {
         return Some(JobKind::Debug { heap });
+    }
+    if let Some(heap) = cells_behind("replay", word) {
+        return Some(JobKind::Replay {
+            heap,
+            show_heap: false,
+        });
+    }
+    if let Some(heap) = cells_behind("again", word) {
+        return Some(JobKind::Replay {
+            heap,
+            show_heap: true,
+        });
     }
     if let Some(heap) = cells_behind("show", word) {
         return Some(JobKind::Run {

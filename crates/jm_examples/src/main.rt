@@ -7,7 +7,7 @@
 //! data, and prints what each prints and how it ends. It does the jobs of the tables that tables.txt
 //! lists and answers the rows of those in answers/, and prints how many rows of each are as they should
 //! be, and those that are not. Four workers share the machine of two printing threads, whose journal is
-//! run again. Last it does each kind of work that the scripts in bench/ time, at a small size.
+//! run again. Workers run the programs with threads, and their records are replayed. Last it does each kind of work that the scripts in bench/ time, at a small size.
 //!
 //! With words it makes turns through the lock instead (`turns SEATS TURNS FILES`, for `bench/shared`), or
 //! does works of these sizes (`WHICH SIZE ..`).
@@ -33,6 +33,7 @@ mod outcomes;
 mod plain_rows;
 mod pools;
 mod programs;
+mod recorded;
 mod row;
 mod schedules;
 mod shared_run;
@@ -52,6 +53,7 @@ use jm_class_writer::write_class;
 use jm_jasmin::assemble;
 use jm_program::Class;
 use programs::{print_programs, print_runs};
+use recorded::print_recorded;
 use row::row_of;
 use shared_run::print_workers;
 use std::rt::Files;
@@ -88,7 +90,8 @@ fn print_all<R: Threads + Wait + Sync>(rt: &HostRuntime, threads: &R) -> io::Res
     print_conversation(rt, threads, "sum.class")?;
     print_tables(rt, threads, "tables.txt")?;
     print_answers(rt, threads, ANSWERS)?;
-    print_workers(rt, threads, "workers/Main.j workers/W.j")
+    print_workers(rt, threads, "workers/Main.j workers/W.j")?;
+    print_recorded(rt, threads, "recorded.txt")
 }
 
 // Prints the line of each class file and of each text that a file lists.

@@ -3,15 +3,17 @@
 use crate::columns::{bytes_of, file_of, files_of};
 use crate::events::events_of;
 use crate::job_rows::{JobKind, JobRow};
-use crate::jobs::{assembly_job, debug_job, disassembly_job, run_job};
+use crate::jobs::{assembly_job, debug_job, disassembly_job, explore_job, replay_job, run_job};
 use crate::notation::invalid;
-use jm_execute::{InputFile, Job, Watched, class_of, execute, explain, tell_version};
+use jm_execute::{Finished, InputFile, Job, Watched, class_of, execute, explain, tell_version};
 use jm_explain::{Entry, entry_of};
+use jm_explore::Bounds;
 use jm_linker::{LinkFault, link};
 use jm_program::Class;
 use std::alloc::Global;
 use std::io::ErrorKind;
 use std::sync::Wait;
+use std::thread::Threads;
 use std::{fmt, io, str};
 
 /// What a job writes, and how it ends.
@@ -45,10 +47,12 @@ pub fn wanted_of(rt: &HostRuntime, row: &JobRow<'_>) -> io::Result<Outcome> {
 fn job_of(rt: &HostRuntime, row: &JobRow<'_>) -> io::Result<Option<Job>> {
     match row.kind {
         JobKind::Run { heap, show_heap } => Ok(Some(run_of(rt, row, heap, show_heap)?)),
+        JobKind::Replay { heap, show_heap } => Ok(Some(replay_of(rt, row, heap, show_heap)?)),
         JobKind::Debug { heap } => {
             let program = files_of(rt, row.names, row.contents)?;
             Ok(Some(debug_job(heap, program)))
         }
+        JobKind::Explore { bounds } => Ok(Some(search_of(rt, row, bounds)?)),
         JobKind::Assemble => {
             let text = file_of(rt, row.names, row.contents)?;
             Ok(Some(assembly_job(rt.alloc(), text)?))
@@ -68,6 +72,30 @@ fn run_of(rt: &HostRuntime, row: &JobRow<'_>, heap: u32, show_heap: bool) -> io:
     Ok(run_job(heap, events, program, show_heap))
 }
 
+// The run of a row's program by its record.
+fn replay_of(rt: &HostRuntime, row: &JobRow<'_>, heap: u32, show_heap: bool) -> io::Result<Job> {
+    let program = files_of(rt, row.names, row.contents)?;
+    let record_file = file_of(rt, "record", row.events)?;
+    Ok(replay_job(heap, record_file, program, show_heap))
+}
+
+// The number of an outcome, or `-` for none.
+fn number_of(column: &str) -> io::Result<Option<u32>> {
+    if column == "-" {
+        return Ok(None);
+    }
+    match column.parse() {
+        Ok(number) => Ok(Some(number)),
+        Err(_) => invalid(),
+    }
+}
+
+// The search of the schedules of a row's program.
+fn search_of(rt: &HostRuntime, row: &JobRow<'_>, bounds: Bounds) -> io::Result<Job> {
+    let program = files_of(rt, row.names, row.contents)?;
+    Ok(explore_job(bounds, number_of(row.events)?, program))
+}
+
 // What is read by the job of a row: the commands of a session, and else nothing that is asked for.
 fn input_of(rt: &HostRuntime, row: &JobRow<'_>) -> io::Result<Vec<u8>> {
     match row.kind {
@@ -77,7 +105,11 @@ fn input_of(rt: &HostRuntime, row: &JobRow<'_>) -> io::Result<Vec<u8>> {
 }
 
 /// What comes of a row's job.
-pub fn outcome_of(rt: &HostRuntime, wait: &impl Wait, row: &JobRow<'_>) -> io::Result<Outcome> {
+pub fn outcome_of(
+    rt: &HostRuntime,
+    wait: &(impl Threads + Wait + Sync),
+    row: &JobRow<'_>,
+) -> io::Result<Outcome> {
     match row.kind {
         JobKind::Link => return linked(rt, &files_of(rt, row.names, row.contents)?),
         JobKind::Explain { number } => return explained(rt, number),
@@ -157,36 +189,54 @@ fn version_over(output: &mut Vec<u8>, lines: &mut Vec<u8>) -> io::Result<u8> {
     Ok(status.code())
 }
 
-// What comes of the job of a row that is done over two lists as its writers.
-fn done(rt: &HostRuntime, wait: &impl Wait, job: &Job, row: &JobRow<'_>) -> io::Result<Outcome> {
+// What comes of the job of a row.
+fn done(
+    rt: &HostRuntime,
+    wait: &(impl Threads + Wait + Sync),
+    job: &Job,
+    row: &JobRow<'_>,
+) -> io::Result<Outcome> {
     let input = input_of(rt, row)?;
+    let (outcome, _finished) = finished_outcome(rt, wait, job, &input)?;
+    Ok(outcome)
+}
+
+/// What comes of a job that is done over two lists as its writers, and its record with it.
+pub fn finished_outcome(
+    rt: &HostRuntime,
+    wait: &(impl Threads + Wait + Sync),
+    job: &Job,
+    input: &[u8],
+) -> io::Result<(Outcome, Finished)> {
     let mut output = Vec::new(rt.alloc());
     let mut lines = Vec::new(rt.alloc());
-    let status = status_over(rt, wait, job, &input, &mut output, &mut lines)?;
-    Ok(Outcome {
+    let finished = finished_over(rt, wait, job, input, &mut output, &mut lines)?;
+    let status = finished.status.code();
+    let outcome = Outcome {
         output,
         lines,
         status,
-    })
+    };
+    Ok((outcome, finished))
 }
 
-// Does a job, and answers the number of its status. A list that fails is an error.
-fn status_over(
+// Does a job. A list that fails is an error.
+fn finished_over(
     rt: &HostRuntime,
-    wait: &impl Wait,
+    wait: &(impl Threads + Wait + Sync),
     job: &Job,
     input: &[u8],
     output: &mut Vec<u8>,
     lines: &mut Vec<u8>,
-) -> io::Result<u8> {
+) -> io::Result<Finished> {
     let mut input = Watched::new(input);
     let mut out = Watched::new(output);
     let mut err = Watched::new(lines);
-    let status = execute(wait, rt.alloc(), job, &mut input, &mut out, &mut err);
+    let finished = execute(wait, rt.alloc(), job, &mut input, &mut out, &mut err);
     if out.has_failed() || err.has_failed() {
         return Err(io::Error::from(ErrorKind::OutOfMemory));
     }
-    Ok(status.code())
+    Ok(finished)
 }
 
 // The classes of files.

@@ -5,6 +5,7 @@ use crate::jobs::{HEAP, input_file, run_job};
 use crate::name_of;
 use jm_execute::{Contents, InputFile, Job, RunEvents, Status, Watched, execute};
 use std::sync::Wait;
+use std::thread::Threads;
 use std::{fs, io};
 
 // A run that a line of a file lists.
@@ -23,7 +24,11 @@ const TURNS: &str = "@turns 1000000 1";
 
 /// Runs each program of a file whose lines name the files of a program, the main class's first. The
 /// threads take turns.
-pub fn print_programs(rt: &HostRuntime, wait: &impl Wait, file: &str) -> io::Result<()> {
+pub fn print_programs(
+    rt: &HostRuntime,
+    wait: &(impl Threads + Wait + Sync),
+    file: &str,
+) -> io::Result<()> {
     let programs = fs::read_to_string(rt, file)?;
     for files in programs.lines() {
         print_program(rt, wait, files)?;
@@ -31,7 +36,11 @@ pub fn print_programs(rt: &HostRuntime, wait: &impl Wait, file: &str) -> io::Res
     Ok(())
 }
 
-fn print_program(rt: &HostRuntime, wait: &impl Wait, files: &str) -> io::Result<()> {
+fn print_program(
+    rt: &HostRuntime,
+    wait: &(impl Threads + Wait + Sync),
+    files: &str,
+) -> io::Result<()> {
     println!(rt; "== {}", name_of(main_file(files)))?;
     let events = events_of(rt, TURNS)?;
     print_run(rt, wait, job_of(rt, HEAP, events, files)?)
@@ -39,7 +48,11 @@ fn print_program(rt: &HostRuntime, wait: &impl Wait, files: &str) -> io::Result<
 
 /// Runs each program of a file whose lines have the limit of the heap, in cells, how many events of the
 /// first thread are made, or `turns` where the threads take turns, and the files of the program.
-pub fn print_runs(rt: &HostRuntime, wait: &impl Wait, file: &str) -> io::Result<()> {
+pub fn print_runs(
+    rt: &HostRuntime,
+    wait: &(impl Threads + Wait + Sync),
+    file: &str,
+) -> io::Result<()> {
     let programs = fs::read_to_string(rt, file)?;
     for line in programs.lines() {
         match listed_run(line) {
@@ -62,7 +75,11 @@ fn listed_run(line: &str) -> Option<ListedRun<'_>> {
     })
 }
 
-fn print_listed_run(rt: &HostRuntime, wait: &impl Wait, run: &ListedRun<'_>) -> io::Result<()> {
+fn print_listed_run(
+    rt: &HostRuntime,
+    wait: &(impl Threads + Wait + Sync),
+    run: &ListedRun<'_>,
+) -> io::Result<()> {
     let name = name_of(main_file(run.files));
     println!(rt; "== {name}, heap {}, events {}", run.heap, run.events)?;
     let events = listed_events(rt, run.events)?;
@@ -78,8 +95,8 @@ fn listed_events(rt: &HostRuntime, events: &str) -> io::Result<RunEvents> {
     events_of(rt, &schedule)
 }
 
-// The file of a program's main class.
-fn main_file(program: &str) -> &str {
+/// The file of a program's main class.
+pub fn main_file(program: &str) -> &str {
     match program.split_once(" ") {
         Some((main, _)) => main,
         None => program,
@@ -106,16 +123,16 @@ fn job_of(rt: &HostRuntime, heap: u32, events: RunEvents, names: &str) -> io::Re
 }
 
 // Prints the output of a program, the lines on its standard error, and its status.
-fn print_run(rt: &HostRuntime, wait: &impl Wait, job: Job) -> io::Result<()> {
+fn print_run(rt: &HostRuntime, wait: &(impl Threads + Wait + Sync), job: Job) -> io::Result<()> {
     let status = status_of(rt, wait, &job);
     drop(job);
     println!(rt; "status {}", status.code())
 }
 
 // Does a job whose lines for standard error come behind its output.
-fn status_of(rt: &HostRuntime, wait: &impl Wait, job: &Job) -> Status {
+fn status_of(rt: &HostRuntime, wait: &(impl Threads + Wait + Sync), job: &Job) -> Status {
     let mut input = Watched::new(rt.stdin());
     let mut out = Watched::new(rt.stdout());
     let mut err = Watched::new(rt.stdout());
-    execute(wait, rt.alloc(), job, &mut input, &mut out, &mut err)
+    execute(wait, rt.alloc(), job, &mut input, &mut out, &mut err).status
 }

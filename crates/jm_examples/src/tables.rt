@@ -4,11 +4,16 @@ use crate::answers::{Question, answer, wanted_answer};
 use crate::job_rows::job_row;
 use crate::outcomes::{Outcome, outcome_of, wanted_of};
 use std::sync::Wait;
+use std::thread::Threads;
 use std::{fmt, fs, io};
 
 /// Does the job of each row of the tables that a file lists, and prints for each table how many rows are
 /// as they should be, and before that, for each that is not, its line, what was wanted and what came.
-pub fn print_tables(rt: &HostRuntime, wait: &impl Wait, list: &str) -> io::Result<()> {
+pub fn print_tables(
+    rt: &HostRuntime,
+    wait: &(impl Threads + Wait + Sync),
+    list: &str,
+) -> io::Result<()> {
     let tables = fs::read_to_string(rt, list)?;
     for table in tables.lines() {
         print_table(rt, wait, table, None)?;
@@ -19,7 +24,7 @@ pub fn print_tables(rt: &HostRuntime, wait: &impl Wait, list: &str) -> io::Resul
 /// Answers the question of each row of the tables, and prints what [`print_tables`] does.
 pub fn print_answers(
     rt: &HostRuntime,
-    wait: &impl Wait,
+    wait: &(impl Threads + Wait + Sync),
     tables: &[(&str, Question)],
 ) -> io::Result<()> {
     for (table, question) in tables {
@@ -31,7 +36,7 @@ pub fn print_answers(
 // A table of questions, or of jobs where there is none.
 fn print_table(
     rt: &HostRuntime,
-    wait: &impl Wait,
+    wait: &(impl Threads + Wait + Sync),
     file: &str,
     question: Option<Question>,
 ) -> io::Result<()> {
@@ -70,7 +75,7 @@ impl fmt::Display for At<'_> {
 // Whether what comes of a row is what is to come of it; prints what is not so.
 fn is_as_wanted(
     rt: &HostRuntime,
-    wait: &impl Wait,
+    wait: &(impl Threads + Wait + Sync),
     question: Option<Question>,
     at: At<'_>,
     line: &str,
@@ -101,7 +106,12 @@ impl<T: fmt::Display> fmt::Display for Difference<'_, T> {
 }
 
 // Whether what comes of the job of a row is what is to come of it.
-fn is_kept(rt: &HostRuntime, wait: &impl Wait, at: At<'_>, line: &str) -> io::Result<bool> {
+fn is_kept(
+    rt: &HostRuntime,
+    wait: &(impl Threads + Wait + Sync),
+    at: At<'_>,
+    line: &str,
+) -> io::Result<bool> {
     let Some(row) = job_row(line) else {
         return missed(rt, at, &"no row");
     };

@@ -10,7 +10,7 @@ use Rattle.jm_execute.specs.Beginnings.{HasOneThread, StandsAtItsBeginning, begi
 use Rattle.jm_execute.specs.Reasons.{heap_too_small}
 use Rattle.jm_execute.specs.Verdicts.{Cause, Verdict, because, debugs, runs, loaded_program}
 use Rattle.jm_debug.specs.Session.{session_of}
-use Rattle.jm_execute.specs.Endings.{Ending, completed, interrupted, assembled, disassembled, answered, exhausted, turned_away, Debugs, Ends, Allows}
+use Rattle.jm_execute.specs.Endings.{Ending, completed, interrupted, differed, explored, assembled, disassembled, answered, exhausted, turned_away, Debugs, Ends, Allows}
 use Rattle.jm_execute.specs.Talks.{Talk}
 
 -- a loaded world has its program and its limit
@@ -48,6 +48,8 @@ pub allowed : (v : Verdict) (program : List ClassParts) (limit : ℕ) (choice : 
 allowed v program limit choice shows is (completed shown w) (same, ends) =
     record { program = program; limit = limit; choice = choice; runs_is = is ∙ ap (λ b. Ok (runs program limit choice b)) (sym same); ends = ends }
 allowed v program limit choice shows is (interrupted w) ends = (shows, record { program = program; limit = limit; choice = choice; runs_is = is; ends = ends })
+allowed v program limit choice shows is (differed line w) ends = (shows, record { program = program; limit = limit; choice = choice; runs_is = is; ends = ends })
+allowed v program limit choice shows is (explored b found wanted) h = absurd h
 allowed v program limit choice shows is (assembled bytes) h = absurd h
 allowed v program limit choice shows is (disassembled name commented class) h = absurd h
 allowed v program limit choice shows is (answered t) h = absurd h

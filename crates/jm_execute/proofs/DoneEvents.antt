@@ -46,7 +46,7 @@ holds_in w s turn p is = record { has = is.has; ended = is.ended; stopped = is.s
 
 -- ---- the world after one of them
 
-pub reply_is : (r : Reply) (w : World) → r.kind ≡ Done → r.made ≡ length w.threads → r.live ≡ live_among w.threads → r ≡ reply Done w
+reply_is : (r : Reply) (w : World) → r.kind ≡ Done → r.made ≡ length w.threads → r.live ≡ live_among w.threads → r ≡ reply Done w
 reply_is r w kind made live = λ i. record { kind = kind i; made = made i; live = live i }
 
 one_done : (w : World) (n : ℕ) (p : Pass) → Holds w n p → (after w (Step n)).reply ≡ reply Done w → Holds (after w (Step n)).world n p

@@ -7,6 +7,7 @@ mod Threads
 mod Texts
 mod Chains
 mod RunVerdicts
+mod ReplayVerdicts
 mod FileLists
 mod Assemblies
 mod Disassemblies
@@ -15,6 +16,8 @@ mod Telling
 mod StayingSessions
 mod TalkLemmas
 mod Statuses
+mod Outcomes
+mod Searching
 mod Rooms
 mod RobinLemmas
 mod PassLemmas
@@ -22,5 +25,5 @@ mod Lefts
 mod DoneEvents
 mod RobinSteps
 mod ManyReceipts
-mod OnlySeat
+mod SoleTurns
 pub mod Calls

@@ -21,7 +21,7 @@ use Rattle.jm_shared.specs.declared.entry.Receipts.{Receipts}
 use Rattle.jm_shared.specs.declared.rule.Hand.{Hand}
 use Rattle.jm_execute.specs.Standings.{Answer}
 use Rattle.jm_execute.specs.Turns.{AreReplies, Records, RecordsPart, events_in, replies_in, world_by}
-use Rattle.jm_execute.proofs.Turns.{many_replies, recorded_then, turn_recorded}
+use Rattle.jm_execute.proofs.Turns.{many_replies, recorded_then}
 
 -- behind the old receipts there are those of so many steps that answered alike, and of the one that ended them
 abbrev pub Told : List Receipt → List Receipt → ℕ → ℕ → Reply → StepsEnd → Type 0
@@ -129,32 +129,7 @@ steps_part a b thread made all within p =
       records = p;
     }
 
--- ---- steps that are made one after the other
-
--- none more
-pub none_more : (old middle : List Receipt) (thread alike : ℕ) (done : Reply) → Records old middle (steps_of thread alike)
-    → replies_in middle ≡ replies_in old ++ replicate alike done → (end : List Reply) → end ≡ []
-    → Records old middle (steps_of thread (alike + length end)) × (replies_in middle ≡ replies_in old ++ (replicate alike done ++ end))
-none_more old middle thread alike done records replies end none =
-    let all : alike ≡ alike + length end = omega (arith, ap length none) in (
-      records ∙ ap (λ n. events_in old ++ steps_of thread n) all,
-      replies
-          ∙ ap (λ (rs : List Reply). replies_in old ++ rs)
-          (sym (append-nil (replicate alike done)) ∙ ap (λ (rs : List Reply). replicate alike done ++ rs) (sym none)),
-    )
-
--- one more, of another reply
-pub other_more : (old : List Receipt) (middle new : Hand) (thread alike : ℕ) (done : Reply) (r : Receipt)
-    → Records old middle.receipts (steps_of thread alike)
-    → replies_in middle.receipts ≡ replies_in old ++ replicate alike done → new ≡ hand middle.number (middle.receipts ++ r ∷ []) → r.event ≡ Step thread
-    → Records old new.receipts (steps_of thread (alike + 1)) × (replies_in new.receipts ≡ replies_in old ++ (replicate alike done ++ r.reply ∷ []))
-other_more old middle new thread alike done r records replies more is = (
-  turn_recorded old middle.receipts new.receipts (steps_of thread alike) (Step thread) r records (ap (λ (h : Hand). h.receipts) more) is
-      ∙ ap (λ (es : List Event). events_in old ++ es) (replicate-append-replicate alike 1 (Step thread)),
-  ap (λ (h : Hand). replies_in h.receipts) more ∙ map-append (λ (x : Receipt). x.reply) middle.receipts (r ∷ [])
-      ∙ ap (λ (rs : List Reply). rs ++ r.reply ∷ []) replies
-      ∙ append_assoc (replies_in old) (replicate alike done) (r.reply ∷ []),
-)
+-- ---- the replies before them
 
 pub were_replies : (first : World) (old new : List Receipt) (events : List Event) (replies : List Reply)
     → Records old new events × (replies_in new ≡ replies_in old ++ replies) → AreReplies first new → AreReplies first old

@@ -7,10 +7,9 @@ use Rattle.jm_world.specs.Run.{replies_from}
 use Rattle.jm_world.specs.World.{World}
 use Rattle.jm_world.specs.declared.event.Event.{Event}
 use Rattle.jm_shared.specs.Legal.{IsLegal, events_of, receipt_of, reply_of}
-use Rattle.jm_shared.specs.Seats.{LacksOne, hand, of_seat, times}
+use Rattle.jm_shared.specs.Seats.{of_seat}
 use Rattle.jm_shared.specs.declared.entry.Entry.{Entry}
 use Rattle.jm_shared.specs.declared.entry.Receipt.{Receipt}
-use Rattle.jm_shared.specs.declared.rule.Hand.{Hand}
 use Rattle.jm_execute.specs.Turns.{AreReplies, Records, RecordsPart, events_in, replies_in}
 
 taken : (n : ℕ) (e : Entry) (es : List Entry) → e.seat < 1 → of_seat 0 n (e ∷ es) ≡ receipt_of n e ∷ of_seat 0 (n + 1) es
@@ -33,20 +32,6 @@ its_events es rs known is = ap events_in is ∙ events_same 0 es known
 -- and its replies are the model's
 pub its_replies : (first : World) (es : List Entry) (rs : List Receipt) → All (λ (e : Entry). e.seat < 1) es → rs ≡ of_seat 0 0 es → IsLegal first es → AreReplies first rs
 its_replies first es rs known is legal = subst (AreReplies first) (sym is) (replies_same 0 es known ∙ legal ∙ ap (λ (events : List Event). replies_from first events) (sym (events_same 0 es known)))
-
--- the receipts of a seat that is the only one
-pub only_lists : (h : Hand) (items : List Hand) (es : List Entry) → items ≡ h ∷ [] → h.number ≡ 0 → All (λ (s : Hand). s.receipts ≡ of_seat s.number 0 es) items → h.receipts ≡ of_seat 0 0 es
-only_lists h items es is zero_is lists =
-    All-head (λ (s : Hand). s.receipts ≡ of_seat s.number 0 es) h [] (subst (All (λ (s : Hand). s.receipts ≡ of_seat s.number 0 es)) is lists) ∙ ap (λ k. of_seat k 0 es) zero_is
-
--- the only seat is there
-pub none_missing : (h : Hand) (items : List Hand) (count : ℕ) → items ≡ h ∷ [] → h.number ≡ 0 → count ≡ 1 → LacksOne count items → ⊥
-none_missing h items count is zero_is one_is lacks =
-    let first : lacks.0 ≡ 0 = let below = lacks.1 in omega arith in
-    let hands : items ≡ hand 0 h.receipts ∷ [] = is ∙ ap (λ n. hand n h.receipts ∷ []) zero_is in
-    let none : times 0 (hand 0 h.receipts ∷ []) ≡ 0 = subst (λ n. times n (hand 0 h.receipts ∷ []) ≡ 0) first (subst (λ hs. times lacks.0 hs ≡ 0) hands lacks.2) in
-    let one : times 0 (hand 0 h.receipts ∷ []) ≡ 1 = refl in
-    absurd (let both = sym one ∙ none in cc)
 
 -- what its receipts tell of some events, its journal tells
 pub journal_made : {T E : Type 0} (r : Result T E) (es : List Entry) (rs : List Receipt) (wanted : List Event) → events_in rs ≡ events_of es → MatchResult r (λ _. Records [] rs wanted) (λ _. RecordsPart [] rs wanted)

@@ -6,9 +6,10 @@ use Rattle.jm_world.specs.Loading.{loaded_world}
 use Rattle.jm_world.specs.World.{World}
 use Rattle.jm_choice.specs.Choices.{Choice}
 use Rattle.jm_execute.specs.Refusals.{Gives, Hinders}
-use Rattle.jm_execute.specs.Verdicts.{Verdict, debug_verdict, debugs, events_read, choice_of, program_of, run_verdict, runs, ◌>>=◌}
+use Rattle.jm_execute.specs.Verdicts.{Verdict, debug_verdict, debugs, explore_verdict, explores, events_read, choice_of, program_of, run_verdict, runs, ◌>>=◌}
 use Rattle.jm_execute.specs.declared.job.InputFile.{InputFile}
 use Rattle.jm_execute.specs.declared.job.DebugJob.{DebugJob}
+use Rattle.jm_execute.specs.declared.job.ExploreJob.{ExploreJob}
 use Rattle.jm_execute.specs.declared.job.RunJob.{RunJob}
 use Rattle.jm_execute.specs.declared.refusal.Obstacle.{Obstacle}
 use Rattle.jm_execute.proofs.Chains.{hindered}
@@ -82,3 +83,20 @@ module _ (job : DebugJob) (limit : ℕ) (files : List InputFile) (limit_is : lim
   debugged program (Ok m) is = debug_steps job ∙ ap (λ step. step >>= (λ program. Ok (debugs program job.heap))) (sym same_files ∙ is)
   debugged program (Err o) h =
       subst (λ v. Hinders v o) (sym (debug_steps job)) (hindered (program_of job.heap job.program.items) (λ program. Ok (debugs program job.heap)) o (subst (λ v. Hinders v o) same_files h))
+
+-- ---- a search
+
+explore_steps : (job : ExploreJob) → explore_verdict job ≡ (program_of job.heap job.program.items >>= (λ program. Ok (explores program job.heap job.bounds job.outcome)))
+unfolding explore_verdict
+explore_steps job = refl
+
+module _ (job : ExploreJob) (limit : ℕ) (files : List InputFile) (limit_is : limit ≡ job.heap) (files_are : files ≡ job.program.items) where
+  files_of_search : program_of limit files ≡ program_of job.heap job.program.items
+  files_of_search = ap (λ n. program_of n files) limit_is ∙ ap (program_of job.heap) files_are
+
+  pub searched : {M : Type 0} (program : M → List ClassParts) (r : Result M Obstacle) → Gives r (program_of limit files) program
+      → Gives r (explore_verdict job) (λ m. explores (program m) job.heap job.bounds job.outcome)
+  searched program (Ok m) is = explore_steps job ∙ ap (λ step. step >>= (λ program. Ok (explores program job.heap job.bounds job.outcome))) (sym files_of_search ∙ is)
+  searched program (Err o) h =
+      let next = λ (program : List ClassParts). Ok (explores program job.heap job.bounds job.outcome) in
+      subst (λ v. Hinders v o) (sym (explore_steps job)) (hindered (program_of job.heap job.program.items) next o (subst (λ v. Hinders v o) files_of_search h))

@@ -1,5 +1,5 @@
 -- Where a job ends with the status of files.
-use Rattle.std.proofs.Common.{◌≡◌, ℕ, zero, suc, List, inl, inr, refl, ap, subst, ◌∙◌, Option, Some, None, Err, Bool, true, false}
+use Rattle.std.proofs.Common.{◌≡◌, ℕ, zero, suc, List, [], ◌∷◌, inl, inr, refl, ap, subst, ◌∙◌, Option, Some, None, Err, Bool, true, false}
 use Rattle.std.specs.Prelude.{◌⊎◌, ⊤}
 use Rattle.jm_world.specs.World.{World, live_among}
 use Rattle.jm_world.specs.declared.stop.Stop.{Stop}
@@ -7,11 +7,20 @@ use Rattle.jm_world.specs.declared.stop.Stop.TheVariants.{TagFault, HeapFull, Se
 use Rattle.jm_disassembler.specs.Unsaid.{first_unsaid}
 use Rattle.jm_disassembler.specs.declared.unsaid.Unsaid.{Unsaid}
 use Rattle.jm_execute.specs.ClassTexts.{unsaid_status}
-use Rattle.jm_execute.specs.Endings.{Ending, completed, interrupted, assembled, disassembled, answered, exhausted, turned_away, Allows, Hears, status_after}
+use Rattle.jm_execute.specs.Endings.{Ending, completed, interrupted, differed, explored, assembled, disassembled, answered, exhausted, turned_away, Allows, Hears, status_after}
 use Rattle.jm_execute.specs.Talks.{Close, ClosesBy, close_status, call_failed, input_ended, memory_refused}
 use Rattle.jm_execute.specs.Written.{Reads, Watch}
 use Rattle.jm_execute.specs.Reasons.{Reason, not_read, no_class, no_class_file, not_linked, heap_too_small, no_event, reason_status}
-use Rattle.jm_execute.specs.Reports.{any_ended_by, end_status, status_of}
+use Rattle.jm_execute.specs.Reports.{any_ended_by, end_status, status_of, stop_status}
+use Rattle.jm_explore.specs.Outcomes.{Thrown, told_end}
+use Rattle.jm_explore.specs.declared.exploration.Explored.{Explored}
+use Rattle.jm_explore.specs.declared.outcome.HowEnded.{HowEnded}
+use Rattle.jm_explore.specs.declared.outcome.HowEnded.TheVariants as how
+use Rattle.jm_explore.specs.declared.told.Told.{Told}
+use Rattle.jm_explore.specs.declared.unfinished.Unfinished.{Unfinished}
+use Rattle.jm_execute.specs.Explorations.{found_status, how_status, lack_of, lack_status, one_status, told_status}
+use Rattle.jm_execute.specs.declared.exploring.Lack.{Lack}
+use Rattle.jm_execute.specs.declared.exploring.Lack.TheVariants as lacks
 use Rattle.jm_execute.specs.Verdicts.{Verdict, because}
 use Rattle.jm_execute.specs.declared.status.Status.{Status}
 use Rattle.jm_execute.specs.declared.status.Status.TheVariants as ends
@@ -27,6 +36,8 @@ IsFiles ends.HeapFull = ⊥
 IsFiles ends.OutOfMemory = ⊥
 IsFiles ends.NotEnded = ⊥
 IsFiles ends.BadSchedule = ⊥
+IsFiles ends.SeveralOutcomes = ⊥
+IsFiles ends.NotAllTried = ⊥
 
 of_no_run : (stop : Option Stop) (live : ℕ) (ended : Bool) → IsFiles (end_status stop live ended) → ⊥
 of_no_run (Some (TagFault fault)) live ended h = h
@@ -52,6 +63,36 @@ of_no_text : (unsaid : Option Unsaid) → IsFiles (unsaid_status unsaid) → ⊥
 of_no_text None h = h
 of_no_text (Some part) h = h
 
+of_no_stop : (stop : Stop) → IsFiles (stop_status stop) → ⊥
+of_no_stop (TagFault fault) h = h
+of_no_stop HeapFull h = h
+of_no_stop SerialsEnd h = h
+
+of_no_outcome : (h : HowEnded) (thrown : List Thrown) → IsFiles (how_status h thrown) → ⊥
+of_no_outcome how.Ended [] h = h
+of_no_outcome how.Ended (t ∷ ts) h = h
+of_no_outcome (how.Stopped stop) thrown h = of_no_stop stop h
+of_no_outcome (how.Deadlock live) thrown h = h
+of_no_outcome how.Cut thrown h = h
+
+of_no_one : (why : Option Unfinished) (t : Told) → IsFiles (one_status why t) → ⊥
+of_no_one None t h = of_no_outcome t.outcome.how (told_end t.outcome).thrown h
+of_no_one (Some why) t h = h
+
+of_none_told : (why : Option Unfinished) (told : List Told) → IsFiles (told_status why told) → ⊥
+of_none_told why [] h = h
+of_none_told why (t ∷ []) h = of_no_one why t h
+of_none_told why (t ∷ u ∷ ts) h = h
+
+of_no_lack : (lack : Option Lack) (told : Status) → (IsFiles told → ⊥) → IsFiles (lack_status lack told) → ⊥
+of_no_lack None told none h = none h
+of_no_lack (Some lacks.Memory) told none h = h
+of_no_lack (Some lacks.Outcome) told none h = h
+
+-- a search has it never
+of_no_search : (found : Explored) (wanted : Option ℕ) → IsFiles (found_status found wanted) → ⊥
+of_no_search found wanted h = of_no_lack (lack_of found wanted) (told_status found.unfinished found.told.items) (of_none_told found.unfinished found.told.items) h
+
 -- a session has it only where a call failed
 of_a_call : {R : Type 0} (r : Reads R) (close : Close) (bytes : List ℕ) (rest : List (Option (List ℕ))) (reader new_reader : Watch R) → IsFiles (close_status close)
     → ClosesBy r false close bytes rest reader new_reader → new_reader.failed ≡ true
@@ -64,6 +105,8 @@ pub not_read_where_files : {R : Type 0} (r : Reads R) (v : Verdict) (e : Ending)
     → ends.Files ≡ status_after e → ((name : List ℕ) × (v ≡ Err (because (not_read name)))) ⊎ (new_reader.failed ≡ true)
 not_read_where_files r v (completed shows w) failed reader new_reader whole allows hears h = absurd (of_no_world w (subst IsFiles h tt))
 not_read_where_files r v (interrupted w) failed reader new_reader whole allows hears h = absurd (subst IsFiles h tt)
+not_read_where_files r v (differed line w) failed reader new_reader whole allows hears h = absurd (subst IsFiles h tt)
+not_read_where_files r v (explored b found wanted) failed reader new_reader whole allows hears h = absurd (of_no_search found wanted (subst IsFiles h tt))
 not_read_where_files r v (assembled bytes) failed reader new_reader whole allows hears h = absurd (subst IsFiles h tt)
 not_read_where_files r v (disassembled name commented class) failed reader new_reader whole allows hears h = absurd (of_no_text (first_unsaid class) (subst IsFiles h tt))
 not_read_where_files r v (answered t) failed reader new_reader whole allows hears h =

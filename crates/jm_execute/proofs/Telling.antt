@@ -1,16 +1,15 @@
 -- What is told of an ending.
 use Rattle.std.proofs.Common.{◌≡◌, ℕ, List, [], inl, inr, refl, sym, subst, ◌∙◌, true, Bool, Option, Some, None, Result, Ok, Err, false, MatchResult}
 use Rattle.std.specs.Prelude.{IfSome, OnOk}
-use Rattle.jm_execute.specs.Written.{Watch, Words, AllWritten, LinesWritten, LineFailed, Reads, WritesLines}
+use Rattle.jm_execute.specs.Written.{Watch, Words, AllWritten, Broken, LinesWritten, LineFailed, Reads, WritesLines}
 use Rattle.jm_world.specs.World.{World}
-use Rattle.jm_world.specs.Run.{run_from}
-use Rattle.jm_world.specs.declared.event.Event.{Event}
-use Rattle.jm_choice.specs.Choices.{Choice, Makes}
+use Rattle.jm_choice.specs.Choices.{Choice, RunEnds, all_made}
 use Rattle.jm_choice.proofs.Ends.{makes_some}
-use Rattle.jm_execute.specs.Endings.{Ending, completed, interrupted, assembled, disassembled, answered, exhausted, turned_away, Ends, EndsIn, FailureTold, Hears, IsDone, IsDoneUnread, IsTalk, Leaves, LeavesIf, LinesTold, Tells, output_of}
+use Rattle.jm_execute.specs.Endings.{Ending, completed, interrupted, differed, explored, assembled, disassembled, answered, exhausted, turned_away, Ends, EndsIn, FailureTold, Hears, IsDone, IsDoneUnread, IsTalk, Leaves, LeavesIf, LinesTold, Tells, lines_at_failure, output_of}
 use Rattle.jm_execute.specs.Talks.{Talk, TalkLeft, TalkLeftIf}
 use Rattle.jm_execute.specs.Verdicts.{Verdict}
 use Rattle.jm_execute.specs.declared.status.Status.{Status}
+use Rattle.jm_execute.specs.declared.status.Status.TheVariants as ends
 use Rattle.jm_execute.proofs.Writing.{nothing_written, no_lines}
 
 module _ {W : Type 0} (says : Words W) where
@@ -38,6 +37,11 @@ module _ {O E : Type 0} (o : Words O) (w : Words E) where
       → Leaves o w e status out out err new_err
   untouched_told e status out err new_err fresh none told = whole_told e status out out err new_err fresh (subst (AllWritten o out out) (sym none) (nothing_written o out)) told
 
+  -- where a call for the output failed, of an ending that is no session's
+  pub broken_told : (e : Ending) (out new_out : Watch O) (err new_err : Watch E) → Broken o out new_out (output_of e) → LinesTold w (lines_at_failure e) new_err.failed err new_err
+      → Leaves o w e ends.Files out new_out err new_err
+  broken_told e out new_out err new_err broken told = subst (λ b. LeavesIf b o w e ends.Files out new_out err new_err) (sym broken.failed) (inl broken, refl, told)
+
   -- where the output has not failed, the status is the ending's, and the lines are told
   pub told_whole : (e : Ending) (status : Status) (out new_out : Watch O) (err new_err : Watch E) → new_out.failed ≡ false → Leaves o w e status out new_out err new_err → Tells w e status err new_err
   told_whole e status out new_out err new_err whole leaves = (subst (λ b. LeavesIf b o w e status out new_out err new_err) whole leaves).1
@@ -59,6 +63,8 @@ module _ {O E : Type 0} (o : Words O) (w : Words E) where
 pub unheard : {R : Type 0} (r : Reads R) (failed : Bool) (e : Ending) (reader : Watch R) → (IsTalk e → ⊥) → Hears r failed e reader reader
 unheard r failed (completed shows w) reader silent = refl
 unheard r failed (interrupted w) reader silent = refl
+unheard r failed (differed line w) reader silent = refl
+unheard r failed (explored b found wanted) reader silent = refl
 unheard r failed (assembled bytes) reader silent = refl
 unheard r failed (disassembled name commented class) reader silent = refl
 unheard r failed (answered t) reader silent = absurd (silent tt)
@@ -66,19 +72,23 @@ unheard r failed exhausted reader silent = refl
 unheard r failed (turned_away reason) reader silent = refl
 
 -- the endings of a run whose events were all made
-pub ends_in : (shows : Bool) (first : World) (choice : Choice) (made : List Event) → Makes first choice made → (e : Ending) → EndsIn shows (run_from first made) e → Ends shows first choice e
-ends_in shows first choice made makes (completed shown w) (same, is) = (same, (made, makes, is))
-ends_in shows first choice made makes (interrupted w) is = (made, makes_some first choice made makes, is)
-ends_in shows first choice made makes (assembled bytes) h = absurd h
-ends_in shows first choice made makes (disassembled name commented class) h = absurd h
-ends_in shows first choice made makes (answered t) h = absurd h
+pub ends_in : (shows : Bool) (first : World) (choice : Choice) (last : World) → RunEnds first choice (all_made last) → (e : Ending) → EndsIn shows last e → Ends shows first choice e
+ends_in shows first choice last ends (completed shown w) (same, is) = (same, (ends.0, ends.1, is ∙ ends.2))
+ends_in shows first choice last ends (interrupted w) is = (ends.0, makes_some first choice ends.0 ends.1, is ∙ ends.2)
+ends_in shows first choice last ends (differed line w) h = absurd h
+ends_in shows first choice last ends (explored b found wanted) h = absurd h
+ends_in shows first choice last ends (assembled bytes) h = absurd h
+ends_in shows first choice last ends (disassembled name commented class) h = absurd h
+ends_in shows first choice last ends (answered t) h = absurd h
 ends_in shows first choice made makes exhausted h = absurd h
-ends_in shows first choice made makes (turned_away reason) h = absurd h
+ends_in shows first choice last ends (turned_away reason) h = absurd h
 
 -- a run is no session
 pub no_talk : (shows : Bool) (first : World) (choice : Choice) (e : Ending) → Ends shows first choice e → IsTalk e → ⊥
 no_talk shows first choice (completed shown w) ends talk = talk
 no_talk shows first choice (interrupted w) ends talk = talk
+no_talk shows first choice (differed line w) ends talk = talk
+no_talk shows first choice (explored b found wanted) ends talk = talk
 no_talk shows first choice (assembled bytes) ends talk = talk
 no_talk shows first choice (disassembled name commented class) ends talk = talk
 no_talk shows first choice (answered t) ends talk = ends

@@ -14,3 +14,5 @@ code_of ends.HeapFull = 6
 code_of ends.OutOfMemory = 7
 code_of ends.NotEnded = 8
 code_of ends.BadSchedule = 9
+code_of ends.SeveralOutcomes = 10
+code_of ends.NotAllTried = 11

@@ -12,6 +12,7 @@ pub mod Beginnings
 pub mod ProgramFiles
 pub mod Reasons
 pub mod Verdicts
+pub mod Explorations
 pub mod Talks
 pub mod ClassTexts
 pub mod Endings

@@ -51,6 +51,10 @@ heap_shown false w = []
 abbrev pub memory_line : List ℕ
 memory_line = codes "jm: 61 OutOfMemory\n"
 
+-- the reply to a record's event is of another kind than the line of this number says
+abbrev pub differs_line : ℕ → List ℕ
+differs_line line = codes "jm: 71 ReplayDiffers(" ++ decimal line ++ codes ")" ++ codes "\n"
+
 abbrev pub failure_line : List ℕ
 failure_line = codes "jm: write failed\n"
 

@@ -1,4 +1,4 @@
--- What the files of a job say: a run of a program, a class with the bytes of its file, a class to be given a text, a session of the debugger, or why there is none.
+-- What the files of a job say: a run of a program, a search of its schedules, a class with the bytes of its file, a class to be given a text, a session of the debugger, or why there is none.
 -- Each is a chain of steps; the first step that has no answer says why.
 use Rattle.std.specs.Prelude.{ℕ, List, [], ◌∷◌, Option, Some, None, Result, Ok, Err, Bool, not, option_map, if◌then◌else◌}
 use Rattle.std.specs.String.{string_bytes}
@@ -8,9 +8,9 @@ use Rattle.jm_class_writer.specs.ClassParts.{written}
 use Rattle.jm_world.specs.Loading.{is_too_small, loaded_world}
 use Rattle.jm_world.specs.Loads.{Refusal, refusal, duplicate_class, no_class, cycle, no_field, no_method, wrong_kind, no_main, duplicate_member}
 use Rattle.jm_world.specs.RoundRobin.{robin}
-use Rattle.jm_world.specs.Schedules.{schedule}
+use Rattle.jm_world.specs.Schedules.{Entry, record_entries, schedule}
 use Rattle.jm_world.specs.World.{World}
-use Rattle.jm_choice.specs.Choices.{Choice, listed}
+use Rattle.jm_choice.specs.Choices.{Choice, by_workers, listed, recorded}
 use Rattle.jm_world.specs.declared.event.Event.{Event}
 use Rattle.jm_linker.specs.declared.fault.LinkFault.{LinkFault}
 use Rattle.jm_linker.specs.declared.fault.LinkFault.TheVariants as link
@@ -18,12 +18,15 @@ use Rattle.jm_execute.specs.declared.job.Contents.{Contents}
 use Rattle.jm_execute.specs.declared.job.Contents.TheVariants.{Bytes, NotRead, OutOfMemory}
 use Rattle.jm_execute.specs.declared.job.InputFile.{InputFile}
 use Rattle.jm_execute.specs.declared.job.RunEvents.{RunEvents}
-use Rattle.jm_execute.specs.declared.job.RunEvents.TheVariants.{Schedule, RoundRobin}
+use Rattle.jm_execute.specs.declared.job.RunEvents.TheVariants.{Schedule, RoundRobin, Workers}
 use Rattle.jm_execute.specs.declared.job.RunJob.{RunJob}
+use Rattle.jm_execute.specs.declared.job.ReplayJob.{ReplayJob}
+use Rattle.jm_execute.specs.declared.job.ExploreJob.{ExploreJob}
+use Rattle.jm_explore.specs.declared.bounds.Bounds.{Bounds}
 use Rattle.jm_execute.specs.declared.job.Job.{Job}
 use Rattle.jm_execute.specs.declared.job.DebugJob.{DebugJob}
 use Rattle.jm_execute.specs.declared.job.DisassembleJob.{DisassembleJob}
-use Rattle.jm_execute.specs.declared.job.Job.TheVariants.{Run, Assemble, Disassemble, Debug}
+use Rattle.jm_execute.specs.declared.job.Job.TheVariants.{Run, Replay, Explore, Assemble, Disassemble, Debug}
 use Rattle.jm_class_format.specs.ClassFile.{class_file}
 use Rattle.jm_execute.specs.ProgramFiles.{in_text, in_class_file, is_text_name, text_class}
 use Rattle.jm_execute.specs.Reasons as reason
@@ -31,6 +34,8 @@ use Rattle.jm_execute.specs.Reasons as reason
 pub data Work : Type 0 where
   -- the run of a program, over a heap of this limit, by events that are chosen so, and whether its heap is shown at the end
   runs : List ClassParts → ℕ → Choice → Bool → Work
+  -- a search of the schedules of a program within bounds, over heaps of this limit, and the outcome whose schedule alone is asked for
+  explores : List ClassParts → ℕ → Bounds → Option ℕ → Work
   -- a class, and the bytes that are written for it
   assembles : ClassParts → List ℕ → Work
   -- the text of the class in a file of this name, with comments or without them
@@ -148,6 +153,7 @@ events_read (Schedule file) = do
   text ← bytes_of file
   Ok tt
 events_read (RoundRobin turns) = Ok tt
+events_read (Workers workers) = Ok tt
 
 -- how the events are chosen that are made from a world on
 abbrev pub choice_of : RunEvents → World → Result Choice Cause
@@ -155,6 +161,7 @@ choice_of (Schedule file) w = do
   events ← scheduled_events file
   Ok (listed events)
 choice_of (RoundRobin turns) w = Ok (listed (robin w turns.steps turns.quantum))
+choice_of (Workers workers) w = Ok (by_workers workers.count workers.steps)
 
 -- a schedule is read first and looked at last
 unfoldable pub run_verdict : RunJob → Verdict
@@ -163,6 +170,27 @@ run_verdict job = do
   program ← program_of job.heap job.program.items
   choice ← choice_of job.events (loaded_world program job.heap)
   Ok (runs program job.heap choice job.show_heap)
+
+-- ---- a replay
+
+-- the entries that the lines of a record spell
+abbrev pub entries_in : List ℕ → Result (List Entry) Cause
+entries_in text = fault_as (λ line. because (reason.no_event line)) (record_entries text)
+
+-- a record is read first and looked at last
+unfoldable pub replay_verdict : ReplayJob → Verdict
+replay_verdict job = do
+  text ← bytes_of job.record_file
+  program ← program_of job.heap job.program.items
+  entries ← entries_in text
+  Ok (runs program job.heap (recorded entries) job.show_heap)
+
+-- ---- a search of schedules
+
+unfoldable pub explore_verdict : ExploreJob → Verdict
+explore_verdict job = do
+  program ← program_of job.heap job.program.items
+  Ok (explores program job.heap job.bounds job.outcome)
 
 -- ---- a class file from a text
 
@@ -195,6 +223,8 @@ debug_verdict job = do
 
 unfoldable pub verdict : Job → Verdict
 verdict (Run job) = run_verdict job
+verdict (Replay job) = replay_verdict job
+verdict (Explore job) = explore_verdict job
 verdict (Assemble job) = assembly_verdict job.text
 verdict (Disassemble job) = disassembly_verdict job
 verdict (Debug job) = debug_verdict job

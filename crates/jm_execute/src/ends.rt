@@ -30,7 +30,7 @@ fn any_ended_by<H: Heap>(machine: &Machine<H>) -> bool
     false
 }
 
-fn stop_status(stop: Stop) -> Status
+pub(crate) fn stop_status(stop: Stop) -> Status
     ensures { result ≡ stop_status stop }
 {
     match stop {

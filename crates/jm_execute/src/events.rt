@@ -1,4 +1,4 @@
-// Where the events of a run come from, as turns of a seat.
+// Where the events of a run by one worker come from.
 
 ghost use Rattle.std.specs.Prelude.{◌≡◌, MatchResult, List, []};
 ghost use Rattle.jm_machine.specs.ManySteps.{steps_of};
@@ -9,30 +9,26 @@ ghost use Rattle.jm_execute.specs.Beginnings.{HasOneThread};
 ghost use Rattle.jm_execute.specs.Sources.{events_made};
 ghost use Rattle.jm_execute.specs.Turns.{AreReplies, Records, RecordsPart};
 
+use crate::job::Workers;
+use crate::sole_worker::SoleWorker;
 use jm_heap::Heap;
 use jm_machine::OutOfMemory;
 use jm_schedule::{RoundRobin, Run, Schedule};
-use jm_shared::{Seat, SharedMachine, Sharing, StepsEnd};
+use jm_shared::{Origin, StepsEnd};
 use jm_world::Event;
 use std::alloc::Global;
-use std::sync::Wait;
 
-// From how many repeats on steps of a thread are made several in one hold of the lock.
+// From how many repeats on steps of a thread are made several in one call.
 const MANY: u32 = 4;
 
-// Makes an event as often as a run says, each in a hold of the lock of its own.
-fn make_each<H: Heap, S: Sharing, W: Wait>(
-    rt: &W,
-    machine: &SharedMachine<H, S>,
-    seat: &mut Seat<S>,
-    run: Run,
-) -> Result<(), OutOfMemory>
-    ensures made { MatchResult result (λ _. Records seat.old.receipts seat.new.receipts (repeats_of run))
-        (λ _. RecordsPart seat.old.receipts seat.new.receipts (repeats_of run)) }
-    ensures number { seat.new.number ≡ seat.old.number }
+// Makes an event as often as a run says, one by one.
+fn make_each<H: Heap, R: Origin>(worker: &mut SoleWorker<H, R>, run: Run) -> Result<(), OutOfMemory>
+    ensures made { MatchResult result (λ _. Records worker.old.receipts worker.new.receipts (repeats_of run))
+        (λ _. RecordsPart worker.old.receipts worker.new.receipts (repeats_of run)) }
+    ensures number { worker.new.number ≡ worker.old.number }
 {
     for _ in 0..run.count {
-        match machine.turn(rt, seat, run.event) {
+        match worker.turn(run.event) {
             Ok(_) => {}
             Err(fault) => return Err(fault),
         }
@@ -40,21 +36,19 @@ fn make_each<H: Heap, S: Sharing, W: Wait>(
     Ok(())
 }
 
-// Makes so many steps of a thread, in as few holds of the lock as may be.
-fn make_steps<H: Heap, S: Sharing, W: Wait>(
-    rt: &W,
-    machine: &SharedMachine<H, S>,
-    seat: &mut Seat<S>,
+// Makes so many steps of a thread, in as few calls as may be.
+fn make_steps<H: Heap, R: Origin>(
+    worker: &mut SoleWorker<H, R>,
     thread: u64,
     count: usize,
 ) -> Result<(), OutOfMemory>
-    ensures made { MatchResult result (λ _. Records seat.old.receipts seat.new.receipts (steps_of thread count))
-        (λ _. RecordsPart seat.old.receipts seat.new.receipts (steps_of thread count)) }
-    ensures number { seat.new.number ≡ seat.old.number }
+    ensures made { MatchResult result (λ _. Records worker.old.receipts worker.new.receipts (steps_of thread count))
+        (λ _. RecordsPart worker.old.receipts worker.new.receipts (steps_of thread count)) }
+    ensures number { worker.new.number ≡ worker.old.number }
 {
     let mut left = count;
     while left != 0 {
-        let steps = machine.turns(rt, seat, thread, left).steps;
+        let steps = worker.turns(thread, left).steps;
         match steps.end {
             StepsEnd::AllMade => return Ok(()),
             StepsEnd::Other(_) => left -= steps.alike + 1,
@@ -65,21 +59,19 @@ fn make_steps<H: Heap, S: Sharing, W: Wait>(
 }
 
 // Makes an event as often as a run says.
-fn make_repeats<H: Heap, S: Sharing, W: Wait>(
-    rt: &W,
-    machine: &SharedMachine<H, S>,
-    seat: &mut Seat<S>,
+fn make_repeats<H: Heap, R: Origin>(
+    worker: &mut SoleWorker<H, R>,
     run: Run,
 ) -> Result<(), OutOfMemory>
-    ensures made { MatchResult result (λ _. Records seat.old.receipts seat.new.receipts (repeats_of run))
-        (λ _. RecordsPart seat.old.receipts seat.new.receipts (repeats_of run)) }
-    ensures number { seat.new.number ≡ seat.old.number }
+    ensures made { MatchResult result (λ _. Records worker.old.receipts worker.new.receipts (repeats_of run))
+        (λ _. RecordsPart worker.old.receipts worker.new.receipts (repeats_of run)) }
+    ensures number { worker.new.number ≡ worker.old.number }
 {
     match run.event {
         Event::Step(thread) if run.count >= MANY => {
-            make_steps(rt, machine, seat, thread, run.count as usize)
+            make_steps(worker, thread, run.count as usize)
         }
-        _ => make_each(rt, machine, seat, run),
+        _ => make_each(worker, run),
     }
 }
 
@@ -87,22 +79,20 @@ fn make_repeats<H: Heap, S: Sharing, W: Wait>(
 pub trait EventSource {
     ghost events: { Self → World → List Event };
 
-    /// Makes its events, in order, each in a turn of a seat that has made none yet. What it makes
-    /// next depends on the replies of the seat's receipts alone, so its events are those of the
-    /// world wherever these replies are the model's: where no other seat makes turns. It may wait.
-    /// `OutOfMemory`: a growth was refused; the seat has the receipts of the events that were made.
-    fn make_events<H: Heap, S: Sharing, W: Wait>(
+    /// Makes its events, in order, each in a turn of a worker that has made none yet. What it makes
+    /// next depends on the replies of the worker's receipts alone, so its events are those of the
+    /// world wherever these replies are the model's.
+    /// `OutOfMemory`: a growth was refused; the worker has the receipts of the events that were made.
+    fn make_events<H: Heap, R: Origin>(
         &self,
-        rt: &W,
         alloc: Global,
-        machine: &SharedMachine<H, S>,
-        seat: &mut Seat<S>,
+        worker: &mut SoleWorker<H, R>,
     ) -> Result<(), OutOfMemory>
-        requires begins { HasOneThread S.first }
-        requires fresh { seat.old.receipts ≡ [] }
-        ensures made { AreReplies S.first seat.new.receipts →
-            MatchResult result (λ _. Records [] seat.new.receipts (events self.now S.first)) (λ _. RecordsPart [] seat.new.receipts (events self.now S.first)) }
-        ensures number { seat.new.number ≡ seat.old.number };
+        requires begins { HasOneThread R.first }
+        requires fresh { worker.old.receipts ≡ [] }
+        ensures made { AreReplies R.first worker.new.receipts →
+            MatchResult result (λ _. Records [] worker.new.receipts (events self.now R.first)) (λ _. RecordsPart [] worker.new.receipts (events self.now R.first)) }
+        ensures number { worker.new.number ≡ worker.old.number };
 }
 
 /// The events of a schedule, whatever the world is.
@@ -110,16 +100,14 @@ pub trait EventSource {
 impl EventSource for Schedule {
     ghost events = { λ schedule _. schedule };
 
-    fn make_events<H: Heap, S: Sharing, W: Wait>(
+    fn make_events<H: Heap, R: Origin>(
         &self,
-        rt: &W,
         _alloc: Global,
-        machine: &SharedMachine<H, S>,
-        seat: &mut Seat<S>,
+        worker: &mut SoleWorker<H, R>,
     ) -> Result<(), OutOfMemory> {
         let runs = self.runs();
         for run in runs {
-            match make_repeats(rt, machine, seat, *run) {
+            match make_repeats(worker, *run) {
                 Ok(()) => {}
                 Err(fault) => return Err(fault),
             }
@@ -148,16 +136,31 @@ impl Drop for RunSource {
 impl EventSource for RunSource {
     ghost events = { λ source w. events_made source w };
 
-    fn make_events<H: Heap, S: Sharing, W: Wait>(
+    fn make_events<H: Heap, R: Origin>(
         &self,
-        rt: &W,
         alloc: Global,
-        machine: &SharedMachine<H, S>,
-        seat: &mut Seat<S>,
+        worker: &mut SoleWorker<H, R>,
     ) -> Result<(), OutOfMemory> {
         match self {
-            RunSource::Schedule(schedule) => schedule.make_events(rt, alloc, machine, seat),
-            RunSource::RoundRobin(robin) => robin.make_events(rt, alloc, machine, seat),
+            RunSource::Schedule(schedule) => schedule.make_events(alloc, worker),
+            RunSource::RoundRobin(robin) => robin.make_events(alloc, worker),
+        }
+    }
+}
+
+/// How the events of a run are chosen.
+pub enum RunPlan {
+    /// One worker makes those of a source.
+    Source(RunSource),
+    /// Workers choose them.
+    Workers(Workers),
+}
+
+// Written out, so that whoever lets go of one makes a call (docs/DECISIONS.md).
+impl Drop for RunPlan {
+    fn drop(self) {
+        match self {
+            RunPlan::Source(_) | RunPlan::Workers(_) => {}
         }
     }
 }

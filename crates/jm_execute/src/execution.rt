@@ -1,9 +1,8 @@
-// What `jm run`, `jm asm`, `jm dis` and `jm debug` do.
+// What `jm run`, `jm replay`, `jm explore`, `jm asm`, `jm dis` and `jm debug` do.
 
 ghost use Rattle.std.specs.Prelude.{◌≡◌, [], Bool, false, MatchResult, string_bytes};
 ghost use Rattle.jm_machine.specs.View.{MatchesWorld};
-ghost use Rattle.jm_shared.specs.Legal.{events_of, world_after};
-ghost use Rattle.jm_shared.specs.Seats.{fresh_hands};
+ghost use Rattle.jm_shared.specs.Legal.{events_of};
 ghost use Rattle.jm_world.specs.World.{World};
 ghost use Rattle.jm_choice.specs.Choices.{Choice, Makes, MakesSome, listed};
 ghost use Rattle.jm_execute.specs.Beginnings.{HasOneThread, beginning};
@@ -14,33 +13,57 @@ ghost use Rattle.jm_execute.specs.ClassTexts.{unsaid_line, unsaid_status};
 ghost use Rattle.jm_execute.specs.Endings.{Ending, assembled, completed, disassembled, exhausted, interrupted, output_of, Allows, Ends, EndsIn, FailureTold, IsDone, IsDoneUnread, IsTalk, Leaves, LinesTold, Tells};
 ghost use Rattle.jm_debug.specs.Session.{session_of};
 ghost use Rattle.jm_execute.specs.Reports.{heap_shown};
+ghost use Rattle.jm_execute.specs.Sources.{choice_made};
 ghost use Rattle.jm_execute.specs.Talks.{IsHeld};
 ghost use Rattle.jm_execute.specs.Refusals.{Hinders};
-ghost use Rattle.jm_execute.specs.Verdicts.{Verdict, assembly_verdict, debug_verdict, disassembly_verdict, run_verdict, verdict};
+ghost use Rattle.jm_execute.specs.Verdicts.{Verdict, assembly_verdict, debug_verdict, disassembly_verdict, explore_verdict, replay_verdict, run_verdict, verdict};
 ghost use Rattle.jm_execute.specs.Written.{reads, words};
 
 use crate::assembly::assemble_file;
 use crate::disassembly::{ClassText, NoText, disassemble_file};
 use crate::ends::status_of;
-use crate::events::EventSource;
-use crate::job::{AssembleJob, DebugJob, DisassembleJob, Job, RunJob};
-use crate::preparation::{prepare, prepare_session};
+use crate::events::{EventSource, RunPlan};
+use crate::exploring::run_exploration;
+use crate::job::{AssembleJob, DebugJob, DisassembleJob, ExploreJob, Job, ReplayJob, RunJob};
+use crate::preparation::{prepare, prepare_exploration, prepare_replay, prepare_session};
 use crate::readable::Readable;
 use crate::refusal::Obstacle;
+use crate::replaying::run_replay;
 use crate::report::{heap_view, write_end, write_out_of_memory};
 use crate::session::answer_lines;
-use crate::status::Status;
+use crate::sole_worker::SoleWorker;
+use crate::status::{Finished, Status};
 use crate::watchable::Watchable;
 use crate::watched::Watched;
+use crate::workers::run_by_workers;
 use jm_copy::{Collector, SerialCollector};
 use jm_debug::Debugger;
 use jm_disassembler::Unsaid;
 use jm_heap::Heap;
 use jm_machine::{Machine, OutOfMemory};
-use jm_shared::{Journal, Origin, Seat, SeatTable, SharedMachine, Sharing};
-use std::alloc::Global;
+use jm_shared::{Journal, Origin};
+use std::alloc::{AllocError, Global};
 use std::marker::Brand;
 use std::sync::Wait;
+use std::thread::Threads;
+
+/// What is wanted of a run beside its output.
+#[derive(Clone, Copy)]
+pub(crate) struct Wanted {
+    /// The view of its heap.
+    pub show_heap: bool,
+    /// Its record.
+    pub is_recorded: bool,
+}
+
+fn wanted_of(job: &RunJob) -> Wanted
+    ensures { result.show_heap ≡ job.now.show_heap }
+{
+    Wanted {
+        show_heap: job.show_heap,
+        is_recorded: job.is_recorded,
+    }
+}
 
 // Tells of a run whose events were all made, with the view of its heap.
 fn tell_completed<H: Heap, O: Watchable, E: Watchable>(
@@ -67,17 +90,16 @@ fn tell_completed<H: Heap, O: Watchable, E: Watchable>(
 }
 
 // Tells of a run at one of whose events a growth was refused.
-fn tell_interrupted<H: Heap, R: Origin, O: Watchable, E: Watchable>(
-    journal: &Journal<H, R>,
+pub(crate) fn tell_interrupted<H: Heap, O: Watchable, E: Watchable>(
+    machine: &Machine<H>,
     out: &mut Watched<O>,
     err: &mut Watched<E>,
 ) -> Status
     requires out { out.old.failed ≡ false }
     requires err { err.old.failed ≡ false }
-    ensures { Leaves (words O.contents O.ends) (words E.contents E.ends)
-        (interrupted (world_after R.first journal.now.entries)) result out.old out.new err.old err.new }
+    ensures { (w : World) → MatchesWorld machine.now w
+        → Leaves (words O.contents O.ends) (words E.contents E.ends) (interrupted w) result out.old out.new err.old err.new }
 {
-    let machine = journal.machine();
     match out.write_all(machine.output()) {
         Ok(()) => {
             let _told = write_out_of_memory(err);
@@ -92,22 +114,62 @@ fn tell_interrupted<H: Heap, R: Origin, O: Watchable, E: Watchable>(
 
 // Tells of a run whose events were all made. The view of its heap, where it is shown, is made before
 // anything is written; where a growth is refused then, the run is told of as at an event.
-fn tell_run<H: Heap, R: Origin, O: Watchable, E: Watchable>(
+pub(crate) fn tell_run<H: Heap, O: Watchable, E: Watchable>(
     alloc: Global,
-    journal: &Journal<H, R>,
+    machine: &Machine<H>,
     show_heap: bool,
     out: &mut Watched<O>,
     err: &mut Watched<E>,
 ) -> Status
     requires out { out.old.failed ≡ false }
     requires err { err.old.failed ≡ false }
-    ensures { (e : Ending) × EndsIn show_heap (world_after R.first journal.now.entries) e
+    ensures { (w : World) → MatchesWorld machine.now w → (e : Ending) × EndsIn show_heap w e
         × Leaves (words O.contents O.ends) (words E.contents E.ends) e result out.old out.new err.old err.new }
 {
-    let machine = journal.machine();
     match heap_view(alloc, machine, show_heap) {
         Ok(view) => tell_completed(machine, &view, out, err),
-        Err(_) => tell_interrupted(journal, out, err),
+        Err(_) => tell_interrupted(machine, out, err),
+    }
+}
+
+// The record of a journal, where one is wanted.
+fn record_text<H: Heap, R: Origin>(
+    alloc: Global,
+    journal: &Journal<H, R>,
+    is_recorded: bool,
+) -> Result<Option<Vec<u8>>, AllocError> {
+    if is_recorded {
+        Ok(Some(journal.record(alloc)?))
+    } else {
+        Ok(None)
+    }
+}
+
+// Tells of a run whose events were all made. The view of its heap and its record, where they are
+// wanted, are made before anything is written; where a growth is refused then, the run is told of as
+// at an event, and there is no record.
+pub(crate) fn tell_all_made<H: Heap, R: Origin, O: Watchable, E: Watchable>(
+    alloc: Global,
+    journal: &Journal<H, R>,
+    wanted: Wanted,
+    out: &mut Watched<O>,
+    err: &mut Watched<E>,
+) -> Finished
+    requires out { out.old.failed ≡ false }
+    requires err { err.old.failed ≡ false }
+    ensures { (w : World) → MatchesWorld journal.now.machine w → (e : Ending) × EndsIn wanted.show_heap w e
+        × Leaves (words O.contents O.ends) (words E.contents E.ends) e result.status out.old out.new err.old err.new }
+{
+    let machine = journal.machine();
+    let Ok(view) = heap_view(alloc, machine, wanted.show_heap) else {
+        return Finished::without_record(tell_interrupted(machine, out, err));
+    };
+    match record_text(alloc, journal, wanted.is_recorded) {
+        Ok(text) => Finished {
+            status: tell_completed(machine, &view, out, err),
+            record_text: text,
+        },
+        Err(_) => Finished::without_record(tell_interrupted(machine, out, err)),
     }
 }
 
@@ -116,127 +178,83 @@ fn tell_made<H: Heap, R: Origin, O: Watchable, E: Watchable>(
     alloc: Global,
     journal: &Journal<H, R>,
     made: Result<(), OutOfMemory>,
-    show_heap: bool,
+    wanted: Wanted,
     out: &mut Watched<O>,
     err: &mut Watched<E>,
-) -> Status
+) -> Finished
     requires out { out.old.failed ≡ false }
     requires err { err.old.failed ≡ false }
     ensures { (choice : Choice)
         → MatchResult made (λ _. Makes R.first choice (events_of journal.now.entries)) (λ _. MakesSome R.first choice (events_of journal.now.entries))
-        → (e : Ending) × Ends show_heap R.first choice e
-        × Leaves (words O.contents O.ends) (words E.contents E.ends) e result out.old out.new err.old err.new }
+        → (e : Ending) × Ends wanted.show_heap R.first choice e
+        × Leaves (words O.contents O.ends) (words E.contents E.ends) e result.status out.old out.new err.old err.new }
 {
+    let machine = journal.machine();
     match made {
-        Ok(()) => tell_run(alloc, journal, show_heap, out, err),
-        Err(_) => tell_interrupted(journal, out, err),
+        Ok(()) => tell_all_made(alloc, journal, wanted, out, err),
+        Err(_) => Finished::without_record(tell_interrupted(machine, out, err)),
     }
 }
 
 /// A journal, and whether a growth was refused before its events were all made.
-type Made<H, N> = (Journal<H, N>, Result<(), OutOfMemory>);
+pub type Made<H, N> = (Journal<H, N>, Result<(), OutOfMemory>);
 
-// Makes the events of a source by the only seat of a shared machine, and takes the journal.
-fn make_journal<S: EventSource, H: Heap, N: Sharing, W: Wait>(
-    rt: &W,
+/// Makes the events of a source from a machine's beginning on, one after the other on this thread, as
+/// turns of seat 0, and gives the journal. It waits for nobody and starts no thread, so it returns.
+/// `OutOfMemory`: a growth was refused, and the journal has the events that were made.
+pub fn make_journal<S: EventSource, H: Heap + Drop, R: Origin>(
     alloc: Global,
-    machine: SharedMachine<H, N>,
-    mut seats: Vec<Seat<N>>,
+    machine: Machine<H>,
     source: &S,
-) -> Made<H, N>
-    requires one { N.seats ≡ 1 }
-    requires seats { seats.items ≡ fresh_hands 0 1 }
-    requires begins { HasOneThread N.first }
-    ensures { let choice = listed (S.events source.now N.first) in
-        MatchResult result.1 (λ _. Makes N.first choice (events_of result.0.entries)) (λ _. MakesSome N.first choice (events_of result.0.entries)) }
+) -> Made<H, R>
+    requires first { MatchesWorld machine R.first }
+    requires begins { HasOneThread R.first }
+    ensures { let choice = listed (S.events source.now R.first) in
+        MatchResult result.1 (λ _. Makes R.first choice (events_of result.0.entries)) (λ _. MakesSome R.first choice (events_of result.0.entries)) }
 {
-    let made = source.make_events(rt, alloc, &machine, &mut seats[0]);
-    match machine.finish(seats) {
-        Ok(journal) => (journal, made),
-        Err(_) => unreachable!(),
-    }
+    let mut worker = SoleWorker::new(alloc, machine);
+    let made = source.make_events(alloc, &mut worker);
+    (worker.into_journal(), made)
 }
 
-// Makes the events of a source by the only seat of a shared machine, and tells of the run.
-fn run_shared<S: EventSource, H: Heap + Drop, N: Sharing, W: Wait, O: Watchable, E: Watchable>(
-    rt: &W,
+// Makes the events of a source from the first world on, and tells of the run.
+fn run_events<S: EventSource, H: Heap + Drop, R: Origin, O: Watchable, E: Watchable>(
     alloc: Global,
-    machine: SharedMachine<H, N>,
-    seats: Vec<Seat<N>>,
+    machine: Machine<H>,
     source: &S,
-    show_heap: bool,
+    wanted: Wanted,
     out: &mut Watched<O>,
     err: &mut Watched<E>,
-) -> Status
-    requires one { N.seats ≡ 1 }
-    requires seats { seats.items ≡ fresh_hands 0 1 }
-    requires begins { HasOneThread N.first }
+) -> Finished
+    requires first { MatchesWorld machine R.first }
+    requires begins { HasOneThread R.first }
     requires out { out.old.failed ≡ false }
     requires err { err.old.failed ≡ false }
-    ensures { (e : Ending) × Ends show_heap N.first (listed (S.events source.now N.first)) e
-        × Leaves (words O.contents O.ends) (words E.contents E.ends) e result out.old out.new err.old err.new }
+    ensures { (e : Ending) × Ends wanted.show_heap R.first (listed (S.events source.now R.first)) e
+        × Leaves (words O.contents O.ends) (words E.contents E.ends) e result.status out.old out.new err.old err.new }
 {
-    let (journal, made) = make_journal(rt, alloc, machine, seats, source);
-    let status = tell_made(alloc, &journal, made, show_heap, out, err);
+    let (journal, made) = make_journal::<S, H, R>(alloc, machine, source);
+    let finished = tell_made(alloc, &journal, made, wanted, out, err);
     drop(journal);
-    status
+    finished
 }
 
-// Makes the events of a source from the first world on, in turns of one seat, and tells of the run.
-fn run_events<S: EventSource, H: Heap + Drop, N: Sharing, W: Wait, O: Watchable, E: Watchable>(
-    rt: &W,
-    alloc: Global,
-    machine: Machine<H>,
-    table: SeatTable,
-    source: &S,
-    show_heap: bool,
-    out: &mut Watched<O>,
-    err: &mut Watched<E>,
-) -> Status
-    requires table { (table.table ≡ N.table) × (table.seats ≡ N.seats) }
-    requires one { N.seats ≡ 1 }
-    requires first { MatchesWorld machine N.first }
-    requires begins { HasOneThread N.first }
-    requires out { out.old.failed ≡ false }
-    requires err { err.old.failed ≡ false }
-    ensures { (e : Ending) × Ends show_heap N.first (listed (S.events source.now N.first)) e
-        × Leaves (words O.contents O.ends) (words E.contents E.ends) e result out.old out.new err.old err.new }
-{
-    match SharedMachine::<H, N>::new(alloc, machine, table) {
-        Ok((machine, seats)) => {
-            run_shared(rt, alloc, machine, seats, source, show_heap, out, err)
-        }
-        Err(_) => tell_exhausted(err),
-    }
-}
-
-// Makes the events of a source from a machine's beginning on, with a table of one seat, and tells of the run.
-fn run_by_one_seat<S: EventSource, H: Heap + Drop, W: Wait, O: Watchable, E: Watchable>(
-    rt: &W,
+// Makes the events of a source from a machine's beginning on, by one worker, and tells of the run.
+fn run_by_one_worker<S: EventSource, H: Heap + Drop, O: Watchable, E: Watchable>(
     alloc: Global,
     machine: Machine<H>,
     source: &S,
-    show_heap: bool,
+    wanted: Wanted,
     out: &mut Watched<O>,
     err: &mut Watched<E>,
-) -> Status
+) -> Finished
     requires first { MatchesWorld machine (beginning machine) }
     requires out { out.old.failed ≡ false }
     requires err { err.old.failed ≡ false }
-    ensures { (e : Ending) × Ends show_heap (beginning machine) (listed (S.events source.now (beginning machine))) e
-        × Leaves (words O.contents O.ends) (words E.contents E.ends) e result out.old out.new err.old err.new }
+    ensures { (e : Ending) × Ends wanted.show_heap (beginning machine) (listed (S.events source.now (beginning machine))) e
+        × Leaves (words O.contents O.ends) (words E.contents E.ends) e result.status out.old out.new err.old err.new }
 {
-    match SeatTable::new(alloc, 1) {
-        Ok(table) => {
-            run_events::<S, H, Brand, W, O, E>(
-                rt, alloc, machine, table, source, show_heap, out, err,
-            )
-        }
-        Err(_) => {
-            drop(machine);
-            tell_exhausted(err)
-        }
-    }
+    run_events::<S, H, Brand, O, E>(alloc, machine, source, wanted, out, err)
 }
 
 // Tells of class-file bytes that were made for a file of this name.
@@ -296,7 +314,7 @@ fn tell_text<O: Watchable, E: Watchable>(
 }
 
 // Tells that a growth was refused before the first event. Nothing is written to the output.
-fn tell_exhausted<E: Watchable>(err: &mut Watched<E>) -> Status
+pub(crate) fn tell_exhausted<E: Watchable>(err: &mut Watched<E>) -> Status
     requires { err.old.failed ≡ false }
     ensures { Tells (words E.contents E.ends) exhausted result err.old err.new }
 {
@@ -320,30 +338,49 @@ fn tell_obstacle<E: Watchable>(obstacle: Obstacle<'_>, err: &mut Watched<E>) -> 
     }
 }
 
+// Makes the events of a run as they are chosen, from a machine's beginning on, and tells of the run.
+fn run_as_chosen<H: Heap + Drop + Send, W: Threads + Wait + Sync, O: Watchable, E: Watchable>(
+    rt: &W,
+    alloc: Global,
+    machine: Machine<H>,
+    plan: &RunPlan,
+    wanted: Wanted,
+    out: &mut Watched<O>,
+    err: &mut Watched<E>,
+) -> Finished
+    requires first { MatchesWorld machine (beginning machine) }
+    requires out { out.old.failed ≡ false }
+    requires err { err.old.failed ≡ false }
+    ensures { (e : Ending) × Ends wanted.show_heap (beginning machine) (choice_made plan.now (beginning machine)) e
+        × Leaves (words O.contents O.ends) (words E.contents E.ends) e result.status out.old out.new err.old err.new }
+{
+    match plan {
+        RunPlan::Source(source) => { run_by_one_worker(alloc, machine, source, wanted, out, err) }
+        RunPlan::Workers(workers) => {
+            run_by_workers(rt, alloc, machine, *workers, wanted, out, err)
+        }
+    }
+}
+
 // Runs the classes of a program over a heap with a collector.
-fn execute_run<C: Collector + Drop, W: Wait, O: Watchable, E: Watchable>(
+fn execute_run<C: Collector + Drop + Send, W: Threads + Wait + Sync, O: Watchable, E: Watchable>(
     rt: &W,
     alloc: Global,
     job: &RunJob,
     collector: C,
     out: &mut Watched<O>,
     err: &mut Watched<E>,
-) -> Status
+) -> Finished
     requires out { out.old.failed ≡ false }
     requires err { err.old.failed ≡ false }
-    ensures { IsDoneUnread (words O.contents O.ends) (words E.contents E.ends) (run_verdict job.now) result out.old out.new err.old err.new }
+    ensures { IsDoneUnread (words O.contents O.ends) (words E.contents E.ends) (run_verdict job.now) result.status out.old out.new err.old err.new }
 {
     match prepare(alloc, job, collector) {
-        Ok((machine, source)) => run_by_one_seat(
-            rt,
-            alloc,
-            machine,
-            &source,
-            job.show_heap,
-            out,
-            err,
-        ),
-        Err(obstacle) => tell_obstacle(obstacle, err),
+        Ok((machine, plan)) => {
+            let wanted = wanted_of(job);
+            run_as_chosen(rt, alloc, machine, &plan, wanted, out, err)
+        }
+        Err(obstacle) => Finished::without_record(tell_obstacle(obstacle, err)),
     }
 }
 
@@ -375,6 +412,41 @@ fn execute_disassemble<O: Watchable, E: Watchable>(
 {
     match disassemble_file(alloc, job) {
         Ok(text) => tell_text(&text, &job.file.name, out, err),
+        Err(obstacle) => tell_obstacle(obstacle, err),
+    }
+}
+
+// Runs the classes of a program over a heap with a collector by the events of a record.
+fn execute_replay<C: Collector + Drop, O: Watchable, E: Watchable>(
+    alloc: Global,
+    job: &ReplayJob,
+    collector: C,
+    out: &mut Watched<O>,
+    err: &mut Watched<E>,
+) -> Status
+    requires out { out.old.failed ≡ false }
+    requires err { err.old.failed ≡ false }
+    ensures { IsDoneUnread (words O.contents O.ends) (words E.contents E.ends) (replay_verdict job.now) result out.old out.new err.old err.new }
+{
+    match prepare_replay(alloc, job, collector) {
+        Ok((machine, read)) => run_replay(alloc, machine, &read, job.show_heap, out, err),
+        Err(obstacle) => tell_obstacle(obstacle, err),
+    }
+}
+
+// Tries the schedules of the program of some files.
+fn execute_explore<O: Watchable, E: Watchable>(
+    alloc: Global,
+    job: &ExploreJob,
+    out: &mut Watched<O>,
+    err: &mut Watched<E>,
+) -> Status
+    requires out { out.old.failed ≡ false }
+    requires err { err.old.failed ≡ false }
+    ensures { IsDoneUnread (words O.contents O.ends) (words E.contents E.ends) (explore_verdict job.now) result out.old out.new err.old err.new }
+{
+    match prepare_exploration(alloc, job, SerialCollector) {
+        Ok(machine) => run_exploration(alloc, machine, job, out, err),
         Err(obstacle) => tell_obstacle(obstacle, err),
     }
 }
@@ -438,12 +510,26 @@ fn execute_debug<C: Collector + Drop, W: Wait, R: Readable, O: Watchable, E: Wat
 ///
 /// `Run`: the classes of the program are run by the events of the schedule, or where there is none by
 /// those of the round robin, one after the other, each a turn of the only seat of a shared machine,
-/// which may wait for its lock. What the Java program prints goes to `out`, once the last event is
+/// which may wait for its lock; or by those that several workers choose, each in a thread of its own
+/// where one can be started. What the Java program prints goes to `out`, once the last event is
 /// made. Then `err` gets a line for each thread that an exception has ended, one for the stop or for
 /// the threads that have not ended, if any, and the view of the heap, where the job says so; the
 /// status says how the run ended. The view is made before anything is written; where a growth is
 /// refused then, all of the output is written, and the line and the status are those of want of
 /// memory.
+///
+/// `Replay`: the same, but that the events are those of a record, made again on this thread. At the
+/// first of them whose reply is of another kind than its line says, what was printed up to and with it
+/// is written, `err` gets the line that names the record's line alone, and the status is `BadSchedule`.
+///
+/// `Explore`: the schedules of the program within the job's bounds are tried, on this thread, and what
+/// was found goes to `out`: each outcome once, with a schedule of the fewest switches that comes to it,
+/// and whether all were tried; or the schedule of the outcome that the job asks for, alone. The status is
+/// `SeveralOutcomes` where there is more than one, `NotAllTried` where not all were tried, and else that of
+/// a run with the one outcome. Where there is no outcome of the number, `err` gets the line for 81, and
+/// the status is `Refused`. Where a growth was refused before the end, what was found is told all the
+/// same, and the line and the status are those of want of memory; nothing is written where it was
+/// refused to the text.
 ///
 /// `Assemble`: the bytes of the class file of the class that the text denotes go to `out`, once they
 /// stand whole in memory, and the status is `Done`.
@@ -463,23 +549,45 @@ fn execute_debug<C: Collector + Drop, W: Wait, R: Readable, O: Watchable, E: Wat
 /// `err` gets a line that says so; no other job ends with this status but one with a file that could
 /// not be read, or a session whose reader failed. A failing `err` changes no status.
 #[tactic(auto, unfolding(crate::specs::Verdicts::verdict))]
-pub fn execute<W: Wait, R: Readable, O: Watchable, E: Watchable>(
+pub fn execute<W: Threads + Wait + Sync, R: Readable, O: Watchable, E: Watchable>(
     rt: &W,
     alloc: Global,
     job: &Job,
     reader: &mut Watched<R>,
     out: &mut Watched<O>,
     err: &mut Watched<E>,
-) -> Status
+) -> Finished
     requires out { out.old.failed ≡ false }
     requires err { err.old.failed ≡ false }
     ensures { IsDone (reads R.remaining R.fails) (words O.contents O.ends) (words E.contents E.ends) (verdict job.now)
-        result reader.old reader.new out.old out.new err.old err.new }
+        result.status reader.old reader.new out.old out.new err.old err.new }
 {
     match job {
         Job::Run(run) => execute_run(rt, alloc, run, SerialCollector, out, err),
-        Job::Assemble(assemble) => execute_assemble(alloc, assemble, out, err),
-        Job::Disassemble(disassemble) => execute_disassemble(alloc, disassemble, out, err),
-        Job::Debug(debug) => execute_debug(rt, alloc, debug, SerialCollector, reader, out, err),
+        Job::Replay(replay) => Finished::without_record(execute_replay(
+            alloc,
+            replay,
+            SerialCollector,
+            out,
+            err,
+        )),
+        Job::Explore(explore) => {
+            Finished::without_record(execute_explore(alloc, explore, out, err))
+        }
+        Job::Assemble(assemble) => {
+            Finished::without_record(execute_assemble(alloc, assemble, out, err))
+        }
+        Job::Disassemble(disassemble) => {
+            Finished::without_record(execute_disassemble(alloc, disassemble, out, err))
+        }
+        Job::Debug(debug) => Finished::without_record(execute_debug(
+            rt,
+            alloc,
+            debug,
+            SerialCollector,
+            reader,
+            out,
+            err,
+        )),
     }
 }

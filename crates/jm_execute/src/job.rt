@@ -1,3 +1,6 @@
+ghost use Rattle.std.specs.Prelude.{◌≡◌, ◌≤◌};
+
+use jm_explore::Bounds;
 use jm_schedule::RoundRobin;
 
 /// What reading a file came to.
@@ -38,6 +41,10 @@ impl Drop for InputFile {
 pub enum Job {
     /// `jm run`
     Run(RunJob),
+    /// `jm replay`
+    Replay(ReplayJob),
+    /// `jm explore`
+    Explore(ExploreJob),
     /// `jm asm`
     Assemble(AssembleJob),
     /// `jm dis`
@@ -50,9 +57,37 @@ pub enum Job {
 impl Drop for Job {
     fn drop(self) {
         match self {
-            Job::Run(_) | Job::Assemble(_) | Job::Disassemble(_) | Job::Debug(_) => {}
+            Job::Run(_)
+            | Job::Replay(_)
+            | Job::Explore(_)
+            | Job::Assemble(_)
+            | Job::Disassemble(_)
+            | Job::Debug(_) => {}
         }
     }
+}
+
+/// Several workers, each of which chooses its events by the replies to its own.
+#[derive(Clone, Copy)]
+pub struct Workers {
+    /// How many, from 2 to 16.
+    pub count: u8,
+    /// The most events of each, 1 or more.
+    pub steps: u32,
+    ghost several: { 2 ≤ count },
+    ghost few: { count ≤ 16 },
+    ghost some_steps: { 1 ≤ steps },
+}
+
+/// So many workers, each of which makes so many events at most.
+pub fn several_workers(count: u8, steps: u32) -> Workers
+    requires several { 2 ≤ count }
+    requires few { count ≤ 16 }
+    requires some_steps { 1 ≤ steps }
+    ensures count { result.count ≡ count }
+    ensures steps { result.steps ≡ steps }
+{
+    Workers { count, steps }
 }
 
 /// Where the events of a run come from.
@@ -61,13 +96,15 @@ pub enum RunEvents {
     Schedule(InputFile),
     /// The threads take turns.
     RoundRobin(RoundRobin),
+    /// Workers choose them, side by side.
+    Workers(Workers),
 }
 
 // Written out, so that whoever lets go of one makes a call (docs/DECISIONS.md).
 impl Drop for RunEvents {
     fn drop(self) {
         match self {
-            RunEvents::Schedule(_) | RunEvents::RoundRobin(_) => {}
+            RunEvents::Schedule(_) | RunEvents::RoundRobin(_) | RunEvents::Workers(_) => {}
         }
     }
 }
@@ -82,6 +119,8 @@ pub struct RunJob {
     pub program: Vec<InputFile>,
     /// Whether the objects that are reachable at the end are shown.
     pub show_heap: bool,
+    /// Whether a record of the run is wanted.
+    pub is_recorded: bool,
 }
 
 // Written out, so that whoever lets go of one makes a call (docs/DECISIONS.md).
@@ -92,6 +131,58 @@ impl Drop for RunJob {
             events: _,
             program: _,
             show_heap: _,
+            is_recorded: _,
+        } = self;
+    }
+}
+
+/// To run the classes of some files by the events of a record, and to compare the kinds of the replies.
+pub struct ReplayJob {
+    /// The limit of the heap, in cells.
+    pub heap: u32,
+    /// The file of the record: lines as those of a schedule, each with its seat and the kind of the reply.
+    pub record_file: InputFile,
+    /// The files of the classes, the main class's first: each a class file, or an assembler text
+    /// where its name ends in `.j`.
+    pub program: Vec<InputFile>,
+    /// Whether the objects that are reachable at the end are shown.
+    pub show_heap: bool,
+}
+
+// Written out, so that whoever lets go of one makes a call (docs/DECISIONS.md).
+impl Drop for ReplayJob {
+    fn drop(self) {
+        let ReplayJob {
+            heap: _,
+            record_file: _,
+            program: _,
+            show_heap: _,
+        } = self;
+    }
+}
+
+/// To try the schedules of the program of some files.
+pub struct ExploreJob {
+    /// The limit of the heap of each run, in cells.
+    pub heap: u32,
+    /// How many schedules are tried.
+    pub bounds: Bounds,
+    /// The number of the outcome whose schedule alone is to be written, from 1 on; `None` where all
+    /// that is found is told.
+    pub outcome: Option<u32>,
+    /// The files of the classes, the main class's first: each a class file, or an assembler text
+    /// where its name ends in `.j`.
+    pub program: Vec<InputFile>,
+}
+
+// Written out, so that whoever lets go of one makes a call (docs/DECISIONS.md).
+impl Drop for ExploreJob {
+    fn drop(self) {
+        let ExploreJob {
+            heap: _,
+            bounds: _,
+            outcome: _,
+            program: _,
         } = self;
     }
 }

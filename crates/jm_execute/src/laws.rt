@@ -15,8 +15,14 @@ ghost use Rattle.jm_debug.specs.declared.fault.DebugFault.{DebugFault};
 ghost use Rattle.jm_debug.specs.declared.fault.DebugFault.TheVariants.{OutOfMemory};
 ghost use Rattle.jm_shared.specs.Legal.{world_after};
 ghost use Rattle.jm_shared.specs.declared.entry.Entry.{Entry};
-ghost use Rattle.jm_world.specs.World.{World};
+ghost use Rattle.jm_world.specs.World.{World, live_among};
+ghost use Rattle.jm_explore.specs.Outcomes.{End, end_of, how_ended};
+ghost use Rattle.jm_explore.specs.declared.outcome.HowEnded.TheVariants as how;
+ghost use Rattle.jm_explore_text.specs.OutcomeLines.{outcome_code, outcome_lines};
 ghost use Rattle.jm_execute.specs.CallEnds.{vec_ends};
+ghost use Rattle.jm_execute.specs.Codes.{code_of};
+ghost use Rattle.jm_execute.specs.Explorations.{outcome_status};
+ghost use Rattle.jm_execute.specs.Reports.{report, status_of};
 ghost use Rattle.jm_execute.specs.Endings.{Allows, Ending, IsDone, Leaves, assembled, disassembled, output_of};
 ghost use Rattle.jm_execute.specs.ProgramFiles.{text_class};
 ghost use Rattle.jm_execute.specs.Reasons.{not_read};
@@ -49,6 +55,15 @@ pub fn text_of_its_class()
     ensures { (asked : DisassembleJob) (name : List ℕ) (commented : Bool) (class : ClassParts)
         → Allows (verdict (job.Disassemble asked)) (disassembled name commented class)
         → (class_of asked.file ≡ Ok class) × (first_unsaid class ≡ None → denoted (output_of (disassembled name commented class)) ≡ Ok class) }
+{}
+
+/// What a search tells of an outcome that was not cut is what a run says that comes to its world: the
+/// output and the lines; and of any outcome the status, whose number stands in the text.
+pub fn an_outcome_is_that_of_its_run()
+    ensures output { (w : World) (cut : Bool) → how_ended w.stop (live_among w.threads) cut ≢ how.Cut → (end_of w cut).output ≡ w.output }
+    ensures lines { (w : World) (cut : Bool) → how_ended w.stop (live_among w.threads) cut ≢ how.Cut → outcome_lines (end_of w cut) ≡ report w }
+    ensures status { (w : World) (cut : Bool) → outcome_status (end_of w cut) ≡ status_of w }
+    ensures code { (e : End) → code_of (outcome_status e) ≡ outcome_code e }
 {}
 
 /// A job that ends with the status of files, and whose output did not fail, has a file that could not

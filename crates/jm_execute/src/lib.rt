@@ -1,9 +1,10 @@
-//! What `jm run`, `jm asm`, `jm dis` and `jm debug` do with the files that they were given, and what
+//! What `jm run`, `jm replay`, `jm explore`, `jm asm`, `jm dis` and `jm debug` do with the files that they were given, and what
 //! `jm explain` and `jm version` write.
 //!
 //! [`execute`] does a [`Job`] and answers the [`Status`] of the program. It runs the classes of a
-//! program's files by the events of a schedule, or by turns of its threads where there is none, and
-//! writes what the Java program prints and how the run ended; or it writes the class file of the
+//! program's files by the events of a schedule, or by turns of its threads where there is none, or by those that several workers choose, and
+//! writes what the Java program prints and how the run ended; or it tries the schedules of the program and writes
+//! what they come to (`jm_explore`); or it writes the class file of the
 //! class that an assembler text denotes; or it writes the text of the class that a file holds; or it
 //! answers the lines of a reader as the debugger does. It knows no file and no terminal: the files' bytes stand in the job, the reader is any that is
 //! [`Readable`] and the two writers any that are [`Watchable`], each [`Watched`], so that its contract
@@ -17,13 +18,13 @@
 //!
 //! `program_file` says which class a file holds, `preparation` goes from files to a machine,
 //! `events` and `round_robin` make the events, the latter over the threads that a `pass` keeps,
-//! `report` and `ends` say how a run ended, `assembly` goes from a text to a class file, `disassembly`
+//! `exploring` searches schedules, `report` and `ends` say how a run ended, `assembly` goes from a text to a class file, `disassembly`
 //! from a class to a text, `lines` from a reader to its lines, and `session` from these to their answers, `explanation` says what
 //! numbers mean; [`Utf8`] is a text of code units, as
 //! a String's chars and the name of a class are, whose `Display` is the text in UTF-8. The writer and the
 //! reader of class files do not know one another, so [`written_and_read`] stands here: a class that is
 //! written as a class file and read again is that class. The crate stands on `jm_class_reader`, `jm_jasmin`, `jm_class_writer`, `jm_disassembler`, `jm_linker`, `jm_machine`,
-//! `jm_gen_heap`, `jm_schedule`, `jm_debug` and `jm_explain`.
+//! `jm_gen_heap`, `jm_schedule`, `jm_explore`, `jm_debug` and `jm_explain`.
 #![tactic(auto)]
 
 mod assembly;
@@ -32,6 +33,7 @@ mod ends;
 mod events;
 mod execution;
 mod explanation;
+mod exploring;
 mod files;
 mod job;
 mod laws;
@@ -42,34 +44,44 @@ mod preparation;
 mod program_file;
 mod readable;
 mod refusal;
+mod replaying;
 mod report;
 mod round_robin;
 mod round_trip;
 mod session;
+mod sole_worker;
 mod status;
-mod utf8;
 mod watchable;
 mod watched;
+mod workers;
 
 pub use assembly::assemble_file;
 pub use disassembly::{ClassText, NoText, disassemble_file};
 pub use ends::status_of;
-pub use events::{EventSource, RunSource};
-pub use execution::execute;
+pub use events::{EventSource, RunPlan, RunSource};
+pub use execution::{Made, execute, make_journal};
 pub use explanation::{explain, tell_version};
+pub use exploring::Lack;
 pub use files::{bytes_of, check_read};
-pub use job::{AssembleJob, Contents, DebugJob, DisassembleJob, InputFile, Job, RunEvents, RunJob};
-pub use laws::{class_of_its_text, equal_views, text_of_its_class};
+pub use jm_explore_text::Utf8;
+pub use job::{
+    AssembleJob, Contents, DebugJob, DisassembleJob, ExploreJob, InputFile, Job, ReplayJob,
+    RunEvents, RunJob, Workers, several_workers,
+};
+pub use laws::{an_outcome_is_that_of_its_run, class_of_its_text, equal_views, text_of_its_class};
 pub use lines::{LineFault, NextLine, Unread};
-pub use preparation::{Ready, RunHeap, machine_of, prepare, prepare_session};
+pub use preparation::{
+    Ready, ReadyToReplay, RunHeap, machine_of, prepare, prepare_exploration, prepare_replay,
+    prepare_session,
+};
 pub use program_file::{class_in_file, class_in_text, class_of};
 pub use readable::{ReadFailed, Readable, get_by_read};
 pub use refusal::{Obstacle, Refusal};
-pub use report::{heap_view, write_end, write_out_of_memory, write_report};
+pub use report::{heap_view, write_difference, write_end, write_out_of_memory, write_report};
 pub use round_trip::written_and_read;
 pub use session::answer_lines;
-pub use status::Status;
-pub use utf8::Utf8;
+pub use sole_worker::SoleWorker;
+pub use status::{Finished, Status};
 pub use watchable::{
     Watchable, WriteFailed, put_by_write, put_line_by_write, put_through_by_flush,
 };

@@ -102,17 +102,6 @@ impl Pass {
         self.ahead.len() == 1 && self.behind.is_empty()
     }
 
-    /// The reply to an event that is done, and makes and ends no thread.
-    pub fn done(&self) -> Reply
-        ensures { (w : World) → self.now.known ≡ length w.threads → self.now.ended ≡ ended_in w → result ≡ reply Done w }
-    {
-        Reply {
-            kind: ReplyKind::Done,
-            made: self.known,
-            live: self.known.saturating_sub(self.ended),
-        }
-    }
-
     // Lists the threads up to a number behind those ahead.
     fn list_up_to(&mut self, made: u64) -> Result<(), OutOfMemory>
         ensures ahead { (w : World) (low : ℕ) → Lists w low (self.old.known + 1) self.old.ahead.items → AllLive w (self.old.known + 1) (made + 1) →

@@ -8,11 +8,12 @@ ghost use Rattle.jm_machine.specs.Start.{IsEmpty};
 ghost use Rattle.jm_execute.specs.Beginnings.{StandsAtItsBeginning};
 ghost use Rattle.jm_execute.specs.Refusals.{Gives};
 ghost use Rattle.jm_execute.specs.Sources.{choice_made};
-ghost use Rattle.jm_execute.specs.Verdicts.{classes_of, debug_verdict, debugs, events_in, choice_of, events_read, linked_program, loaded_program, program_of, run_verdict, runs, scheduled_events};
+ghost use Rattle.jm_choice.specs.Choices.{recorded};
+ghost use Rattle.jm_execute.specs.Verdicts.{classes_of, debug_verdict, debugs, entries_in, explore_verdict, explores, events_in, choice_of, events_read, linked_program, loaded_program, program_of, replay_verdict, run_verdict, runs, scheduled_events};
 
-use crate::events::RunSource;
+use crate::events::{RunPlan, RunSource};
 use crate::files::{bytes_of, check_read};
-use crate::job::{DebugJob, InputFile, RunEvents, RunJob};
+use crate::job::{DebugJob, ExploreJob, InputFile, ReplayJob, RunEvents, RunJob};
 use crate::program_file::class_of;
 use crate::refusal::{Obstacle, Refusal};
 use jm_copy::Collector;
@@ -22,7 +23,7 @@ use jm_linked::Linked;
 use jm_linker::{LinkFault, link};
 use jm_machine::{LoadFault, Machine};
 use jm_program::Class;
-use jm_schedule::{Schedule, ScheduleFault, read_schedule};
+use jm_schedule::{Record, Schedule, ScheduleFault, read_record, read_schedule};
 use std::alloc::Global;
 
 fn classes_of(alloc: Global, files: &[InputFile]) -> Result<Vec<Class>, Obstacle<'_>>
@@ -112,20 +113,21 @@ fn check_events(events: &RunEvents) -> Result<(), Obstacle<'_>>
             bytes_of(file)?;
             Ok(())
         }
-        RunEvents::RoundRobin(_) => Ok(()),
+        RunEvents::RoundRobin(_) | RunEvents::Workers(_) => Ok(()),
     }
 }
 
-// The events that a job says.
-fn source_of(alloc: Global, events: &RunEvents) -> Result<RunSource, Obstacle<'_>>
-    ensures { (w : World) → Gives result (choice_of events.now w) (λ source. choice_made source w) }
+// How a job says that its events are chosen.
+fn plan_of(alloc: Global, events: &RunEvents) -> Result<RunPlan, Obstacle<'_>>
+    ensures { (w : World) → Gives result (choice_of events.now w) (λ plan. choice_made plan w) }
 {
     match events {
         RunEvents::Schedule(file) => {
             let schedule = schedule_in(alloc, file)?;
-            Ok(RunSource::Schedule(schedule))
+            Ok(RunPlan::Source(RunSource::Schedule(schedule)))
         }
-        RunEvents::RoundRobin(robin) => Ok(RunSource::RoundRobin(*robin)),
+        RunEvents::RoundRobin(robin) => Ok(RunPlan::Source(RunSource::RoundRobin(*robin))),
+        RunEvents::Workers(workers) => Ok(RunPlan::Workers(*workers)),
     }
 }
 
@@ -147,8 +149,8 @@ fn empty_heap<'a, C: Collector + Drop>(
     }
 }
 
-/// A machine before its first event, and where its events come from.
-pub type Ready<C> = (Machine<RunHeap<C>>, RunSource);
+/// A machine before its first event, and how its events are chosen.
+pub type Ready<C> = (Machine<RunHeap<C>>, RunPlan);
 
 // The machine that the program of some files begins with, over an empty heap of so many cells.
 fn machine_within<C: Collector + Drop>(
@@ -166,17 +168,17 @@ fn machine_within<C: Collector + Drop>(
     }
 }
 
-// A machine with where its events come from.
-fn with_source<'a, H: Heap + Drop>(
+// A machine with how its events are chosen.
+fn with_plan<'a, H: Heap + Drop>(
     alloc: Global,
     events: &'a RunEvents,
     machine: Machine<H>,
-) -> Result<(Machine<H>, RunSource), Obstacle<'a>>
-    ensures source { (w : World) → Gives result (choice_of events.now w) (λ ready. choice_made ready.1 w) }
+) -> Result<(Machine<H>, RunPlan), Obstacle<'a>>
+    ensures plan { (w : World) → Gives result (choice_of events.now w) (λ ready. choice_made ready.1 w) }
     ensures same { IfOk result (λ ready. ready.0 ≡ machine) }
 {
-    match source_of(alloc, events) {
-        Ok(source) => Ok((machine, source)),
+    match plan_of(alloc, events) {
+        Ok(plan) => Ok((machine, plan)),
         Err(obstacle) => {
             drop(machine);
             Err(obstacle)
@@ -184,9 +186,9 @@ fn with_source<'a, H: Heap + Drop>(
     }
 }
 
-/// The machine that a job's program begins with, over a heap with this collector, and where its events
-/// come from. A schedule that could not be read is the first obstacle; then those of the program, and
-/// last what is wrong with the schedule. The round robin is no obstacle.
+/// The machine that a job's program begins with, over a heap with this collector, and how its events
+/// are chosen. A schedule that could not be read is the first obstacle; then those of the program, and
+/// last what is wrong with the schedule. The round robin and workers are no obstacle.
 #[tactic(auto, unfolding(crate::specs::Verdicts::run_verdict))]
 pub fn prepare<C: Collector + Drop>(
     alloc: Global,
@@ -199,9 +201,75 @@ pub fn prepare<C: Collector + Drop>(
 {
     check_events(&job.events)?;
     match machine_within(alloc, job.heap, collector, &job.program) {
-        Ok(machine) => with_source(alloc, &job.events, machine),
+        Ok(machine) => with_plan(alloc, &job.events, machine),
         Err(obstacle) => Err(obstacle),
     }
+}
+
+fn record_of<'a>(alloc: Global, text: &[u8]) -> Result<Record, Obstacle<'a>>
+    ensures { Gives result (entries_in text.now) (λ read. read) }
+{
+    match read_record(alloc, text) {
+        Ok(read) => Ok(read),
+        Err(ScheduleFault::OutOfMemory) => Err(Obstacle::OutOfMemory),
+        Err(ScheduleFault::BadSchedule(line)) => {
+            Err(Obstacle::Refused(Refusal::BadSchedule(line)))
+        }
+    }
+}
+
+/// A machine before its first event, and the record whose events it is to make.
+pub type ReadyToReplay<C> = (Machine<RunHeap<C>>, Record);
+
+// A machine with the record that a text spells.
+fn with_record<'a, H: Heap + Drop>(
+    alloc: Global,
+    text: &[u8],
+    machine: Machine<H>,
+) -> Result<(Machine<H>, Record), Obstacle<'a>>
+    ensures record_is { Gives result (entries_in text.now) (λ ready. ready.1) }
+    ensures same { IfOk result (λ ready. ready.0 ≡ machine) }
+{
+    match record_of(alloc, text) {
+        Ok(read) => Ok((machine, read)),
+        Err(obstacle) => {
+            drop(machine);
+            Err(obstacle)
+        }
+    }
+}
+
+/// The machine that a job's program begins with, over a heap with this collector, and the record. A
+/// record that could not be read is the first obstacle; then those of the program, and last what is
+/// wrong with the record.
+#[tactic(auto, unfolding(crate::specs::Verdicts::replay_verdict))]
+pub fn prepare_replay<C: Collector + Drop>(
+    alloc: Global,
+    job: &ReplayJob,
+    collector: C,
+) -> Result<ReadyToReplay<C>, Obstacle<'_>>
+    ensures run { Gives result (replay_verdict job.now) (λ ready.
+        runs ready.0.linked.program job.now.heap (recorded ready.1) job.now.show_heap) }
+    ensures ready { IfOk result (λ ready. StandsAtItsBeginning job.now.heap ready.0) }
+{
+    let text = bytes_of(&job.record_file)?;
+    match machine_within(alloc, job.heap, collector, &job.program) {
+        Ok(machine) => with_record(alloc, text, machine),
+        Err(obstacle) => Err(obstacle),
+    }
+}
+
+/// The machine whose program a search runs, over a heap with this collector. A file that could not be
+/// read is the first obstacle; then those of the program.
+#[tactic(auto, unfolding(crate::specs::Verdicts::explore_verdict))]
+pub fn prepare_exploration<C: Collector + Drop>(
+    alloc: Global,
+    job: &ExploreJob,
+    collector: C,
+) -> Result<Machine<RunHeap<C>>, Obstacle<'_>>
+    ensures { Gives result (explore_verdict job.now) (λ machine. explores machine.linked.program job.now.heap job.now.bounds job.now.outcome) }
+{
+    machine_within(alloc, job.heap, collector, &job.program)
 }
 
 /// The machine with which a session begins, over a heap with this collector. A file that could not be

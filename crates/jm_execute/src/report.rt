@@ -5,13 +5,13 @@ ghost use Rattle.jm_world.specs.World.{World, live_among, thread_at};
 ghost use Rattle.jm_machine.specs.Threads.{class_ended_by};
 ghost use Rattle.jm_machine.specs.View.{MatchesWorld};
 ghost use Rattle.jm_execute.specs.Written.{WritesLines, words};
-ghost use Rattle.jm_execute.specs.Reports.{ended_line, thread_line, thread_lines, stop_text, live_line, last_line, report, heap_shown, memory_line};
+ghost use Rattle.jm_execute.specs.Reports.{ended_line, thread_line, thread_lines, stop_text, live_line, last_line, report, heap_shown, memory_line, differs_line};
 
-use crate::Utf8;
 use crate::number::Number;
 use crate::watchable::{Watchable, WriteFailed};
 use crate::watched::Watched;
 use jm_debug::heap;
+use jm_explore_text::Utf8;
 use jm_heap::Heap;
 use jm_machine::{Machine, OutOfMemory};
 use jm_world::Stop;
@@ -148,6 +148,15 @@ pub fn write_end<H: Heap, W: Watchable>(
 {
     write_report(machine, err)?;
     err.write_lines(view.as_bytes())
+}
+
+/// Writes that the reply to a record's event is of another kind than its line says, which has this
+/// number.
+pub fn write_difference<W: Watchable>(err: &mut Watched<W>, line: u64) -> Result<(), WriteFailed>
+    ensures { WritesLines (words W.contents W.ends) result err.old err.new (differs_line line) }
+{
+    let line = Number(line);
+    err.write_line(format_args!("jm: 71 ReplayDiffers({line})"))
 }
 
 /// Writes that a growth was refused.

@@ -3,10 +3,9 @@
 ghost use Rattle.std.specs.Prelude.{◌≡◌, ◌≤◌, ◌<◌, ◌⊎◌, ℕ, [], Some, IfOk, IfSome, MatchResult};
 ghost use Rattle.jm_machine.specs.ManySteps.{EndsBy, made_of_steps, steps_of};
 ghost use Rattle.jm_world.specs.RoundRobin.{robin};
-ghost use Rattle.jm_world.specs.Run.{after, reply};
+ghost use Rattle.jm_world.specs.Run.{after};
 ghost use Rattle.jm_world.specs.World.{World};
 ghost use Rattle.jm_world.specs.declared.event.Event.TheVariants.{Step};
-ghost use Rattle.jm_world.specs.declared.reply.ReplyKind.TheVariants.{Done};
 ghost use Rattle.jm_execute.specs.Beginnings.{HasOneThread};
 ghost use Rattle.jm_execute.specs.Passes.{IsAlone, Knows};
 ghost use Rattle.jm_execute.specs.Standings.{Answer, Goes, IsTurn, LeadsTo, Makes, from_of, left_behind, left_in, robin_at, standing_after, standing_behind, turn_behind};
@@ -14,13 +13,13 @@ ghost use Rattle.jm_execute.specs.Turns.{AreReplies, Records, RecordsPart, world
 
 use crate::events::EventSource;
 use crate::pass::{Pass, Turn};
+use crate::sole_worker::SoleWorker;
 use jm_heap::Heap;
 use jm_machine::OutOfMemory;
 use jm_schedule::RoundRobin;
-use jm_shared::{Seat, SharedMachine, Sharing, Steps, StepsEnd};
-use jm_world::{Event, Reply, ReplyKind};
+use jm_shared::{Origin, Steps, StepsEnd};
+use jm_world::{Reply, ReplyKind};
 use std::alloc::Global;
-use std::sync::Wait;
 
 /// Where a round robin stands.
 #[derive(Clone, Copy)]
@@ -182,78 +181,23 @@ fn see_steps(
     }
 }
 
-// Makes steps of one thread, at most so many, each in a hold of the lock of its own. They end before
-// that only by one that answers otherwise than is said, which is made, or where a growth was refused.
-fn make_one_by_one<H: Heap, S: Sharing, W: Wait>(
-    rt: &W,
-    machine: &SharedMachine<H, S>,
-    seat: &mut Seat<S>,
-    thread: u64,
-    most: usize,
-    done: Reply,
-) -> Steps
+// Makes steps of one thread, at most so many. They end before that only by one that answers otherwise
+// than done, or makes or ends a thread, which is made, or where a growth was refused.
+fn make_steps<H: Heap, R: Origin>(worker: &mut SoleWorker<H, R>, thread: u64, most: usize) -> Steps
     requires { 0 < most }
     ensures ends { EndsBy most result }
-    ensures records { Records seat.old.receipts seat.new.receipts (steps_of thread (made_of_steps result)) }
-    ensures answer { let w = world_by S.first seat.old.receipts in AreReplies S.first seat.new.receipts → done ≡ reply Done w → Answer w thread result }
-    ensures before { AreReplies S.first seat.new.receipts → AreReplies S.first seat.old.receipts }
-    ensures number { seat.new.number ≡ seat.old.number }
+    ensures records { Records worker.old.receipts worker.new.receipts (steps_of thread (made_of_steps result)) }
+    ensures answer { let w = world_by R.first worker.old.receipts in AreReplies R.first worker.new.receipts → Answer w thread result }
+    ensures before { AreReplies R.first worker.new.receipts → AreReplies R.first worker.old.receipts }
+    ensures number { worker.new.number ≡ worker.old.number }
 {
-    for alike in 0..most {
-        let Ok(receipt) = machine.turn(rt, seat, Event::Step(thread)) else {
-            return Steps {
-                alike,
-                reply: done,
-                end: StepsEnd::OutOfMemory,
-            };
-        };
-        if receipt.reply != done {
-            return Steps {
-                alike,
-                reply: done,
-                end: StepsEnd::Other(receipt.reply),
-            };
-        }
-    }
-    Steps {
-        alike: most,
-        reply: done,
-        end: StepsEnd::AllMade,
-    }
-}
-
-// Makes steps of one thread, at most so many. They end before that only by one that answers
-// otherwise than is said, which is made, or where a growth was refused. Where there is no other seat
-// they are made in one hold of the lock; the turns of others may make and end threads between two
-// steps, so beside them each reply is looked at by itself.
-fn make_steps<H: Heap, S: Sharing, W: Wait>(
-    rt: &W,
-    machine: &SharedMachine<H, S>,
-    seat: &mut Seat<S>,
-    thread: u64,
-    most: usize,
-    done: Reply,
-) -> Steps
-    requires { 0 < most }
-    ensures ends { EndsBy most result }
-    ensures records { Records seat.old.receipts seat.new.receipts (steps_of thread (made_of_steps result)) }
-    ensures answer { let w = world_by S.first seat.old.receipts in AreReplies S.first seat.new.receipts → done ≡ reply Done w → Answer w thread result }
-    ensures before { AreReplies S.first seat.new.receipts → AreReplies S.first seat.old.receipts }
-    ensures number { seat.new.number ≡ seat.old.number }
-{
-    if machine.seats() == 1 {
-        machine.turns(rt, seat, thread, most).steps
-    } else {
-        make_one_by_one(rt, machine, seat, thread, most, done)
-    }
+    worker.turns(thread, most).steps
 }
 
 // Makes events of a turn, of so many steps that are left, and says where the round robin stands
 // then. `OutOfMemory`: a growth was refused, before one of the events or after it.
-fn make_turn<H: Heap, S: Sharing, W: Wait>(
-    rt: &W,
-    machine: &SharedMachine<H, S>,
-    seat: &mut Seat<S>,
+fn make_turn<H: Heap, R: Origin>(
+    worker: &mut SoleWorker<H, R>,
     pass: &mut Pass,
     standing: Standing,
     turn: Turn,
@@ -262,25 +206,23 @@ fn make_turn<H: Heap, S: Sharing, W: Wait>(
 ) -> Result<Made, OutOfMemory>
     requires some { 0 < steps }
     requires quantum { 0 < quantum }
-    ensures made { let w = world_by S.first seat.old.receipts in AreReplies S.first seat.new.receipts → IsTurn w standing turn pass.old →
-        MatchResult result (λ m. Makes S.first steps quantum standing m seat.old.receipts seat.new.receipts pass.new)
-        (λ _. RecordsPart seat.old.receipts seat.new.receipts (robin_at steps quantum w standing)) }
+    ensures made { let w = world_by R.first worker.old.receipts in AreReplies R.first worker.new.receipts → IsTurn w standing turn pass.old →
+        MatchResult result (λ m. Makes R.first steps quantum standing m worker.old.receipts worker.new.receipts pass.new)
+        (λ _. RecordsPart worker.old.receipts worker.new.receipts (robin_at steps quantum w standing)) }
     ensures count { IfOk result (λ m. (0 < m.count) × (m.count ≤ steps)) }
-    ensures before { AreReplies S.first seat.new.receipts → AreReplies S.first seat.old.receipts }
-    ensures number { seat.new.number ≡ seat.old.number }
+    ensures before { AreReplies R.first worker.new.receipts → AreReplies R.first worker.old.receipts }
+    ensures number { worker.new.number ≡ worker.old.number }
 {
     let most = most_at_once(pass, left_in(standing, turn, quantum), steps);
-    let made = make_steps(rt, machine, seat, turn.thread, most, pass.done());
+    let made = make_steps(worker, turn.thread, most);
     see_steps(pass, standing, turn, made, most, quantum)
 }
 
 // Makes the next events, of so many steps that are left, and says where the round robin stands then;
 // None where there is none to make. `OutOfMemory`: a growth was refused, before one of the events or
 // after it.
-fn make_next<H: Heap, S: Sharing, W: Wait>(
-    rt: &W,
-    machine: &SharedMachine<H, S>,
-    seat: &mut Seat<S>,
+fn make_next<H: Heap, R: Origin>(
+    worker: &mut SoleWorker<H, R>,
     pass: &mut Pass,
     standing: Standing,
     steps: usize,
@@ -288,15 +230,15 @@ fn make_next<H: Heap, S: Sharing, W: Wait>(
 ) -> Result<Option<Made>, OutOfMemory>
     requires some { 0 < steps }
     requires quantum { 0 < quantum }
-    ensures made { AreReplies S.first seat.new.receipts → Knows (world_by S.first seat.old.receipts) (from_of standing) pass.old →
-        Goes S.first steps quantum standing seat.old.receipts seat.new.receipts pass.new result }
+    ensures made { AreReplies R.first worker.new.receipts → Knows (world_by R.first worker.old.receipts) (from_of standing) pass.old →
+        Goes R.first steps quantum standing worker.old.receipts worker.new.receipts pass.new result }
     ensures count { IfOk result (λ next. IfSome next (λ m. (0 < m.count) × (m.count ≤ steps))) }
-    ensures before { AreReplies S.first seat.new.receipts → AreReplies S.first seat.old.receipts }
-    ensures number { seat.new.number ≡ seat.old.number }
+    ensures before { AreReplies R.first worker.new.receipts → AreReplies R.first worker.old.receipts }
+    ensures number { worker.new.number ≡ worker.old.number }
 {
     match pass.next_turn(standing.moved) {
         Some(turn) => {
-            match make_turn(rt, machine, seat, pass, standing, turn, steps, quantum) {
+            match make_turn(worker, pass, standing, turn, steps, quantum) {
                 Ok(made) => Ok(Some(made)),
                 Err(fault) => Err(fault),
             }
@@ -309,12 +251,10 @@ fn make_next<H: Heap, S: Sharing, W: Wait>(
 impl EventSource for RoundRobin {
     ghost events = { λ turns w. robin w turns.steps turns.quantum };
 
-    fn make_events<H: Heap, S: Sharing, W: Wait>(
+    fn make_events<H: Heap, R: Origin>(
         &self,
-        rt: &W,
         alloc: Global,
-        machine: &SharedMachine<H, S>,
-        seat: &mut Seat<S>,
+        worker: &mut SoleWorker<H, R>,
     ) -> Result<(), OutOfMemory> {
         let mut pass = match Pass::of_one_thread(alloc) {
             Ok(pass) => pass,
@@ -328,7 +268,7 @@ impl EventSource for RoundRobin {
         let quantum = self.quantum as usize;
         let mut left = self.steps as usize;
         while left != 0 {
-            match make_next(rt, machine, seat, &mut pass, standing, left, quantum) {
+            match make_next(worker, &mut pass, standing, left, quantum) {
                 Ok(Some(made)) => {
                     standing = made.standing;
                     left -= made.count;

@@ -26,10 +26,14 @@ pub enum Status {
     NotEnded,
     /// The schedule was refused.
     BadSchedule,
+    /// The schedules that were tried come to more than one outcome.
+    SeveralOutcomes,
+    /// They come to one outcome, or none, and not all were tried.
+    NotAllTried,
 }
 
 impl Status {
-    /// The number that the process ends with, from 0 to 9.
+    /// The number that the process ends with, from 0 to 11.
     pub fn code(self) -> u8
         ensures { result ≡ code_of self }
     {
@@ -44,6 +48,38 @@ impl Status {
             Status::OutOfMemory => 7,
             Status::NotEnded => 8,
             Status::BadSchedule => 9,
+            Status::SeveralOutcomes => 10,
+            Status::NotAllTried => 11,
+        }
+    }
+}
+
+/// What comes of a job.
+pub struct Finished {
+    pub status: Status,
+    /// The record of a run: a line for each of its events, in order. There is one where one was wanted
+    /// and the events were all made.
+    pub record_text: Option<Vec<u8>>,
+}
+
+// Written out, so that whoever lets go of one makes a call (docs/DECISIONS.md).
+impl Drop for Finished {
+    fn drop(self) {
+        let Finished {
+            status: _,
+            record_text: _,
+        } = self;
+    }
+}
+
+impl Finished {
+    /// With this status, and without a record.
+    pub fn without_record(status: Status) -> Finished
+        ensures { result.status ≡ status }
+    {
+        Finished {
+            status,
+            record_text: None,
         }
     }
 }

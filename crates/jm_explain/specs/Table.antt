@@ -18,8 +18,8 @@ statuses =
 
 unfoldable pub instructions : List Item
 instructions =
-    record { number = 10; name = codes "BadOpcode(at)"; meaning = codes "at this byte of a method's code stands no instruction"; example = codes "The byte 203, which is the opcode of no instruction."; advice = codes "No compiler writes such code, so the file is damaged: compile its source again by `javac --release 8`." } ∷
-    record { number = 11; name = codes "LeftOut(name)"; meaning = codes "the code has an instruction that this machine leaves out"; example = codes "11 LeftOut(fconst_1) for `float f = 1;`, since there are no floats and no doubles here."; advice = codes "Use int and long in place of float and double. Then compile by `javac --release 8`." } ∷
+    record { number = 10; name = codes "BadOpcode(at); status 10"; meaning = codes "at this byte of a method's code stands no instruction; as a status, the schedules that `explore` tried come to more than one outcome"; example = codes "The byte 203, which is the opcode of no instruction. As a status: two threads that raise a counter without a lock, of which one count is lost in some schedules."; advice = codes "No compiler writes such code, so the file is damaged: compile its source again by `javac --release 8`. For the status look at an outcome that is not wanted: `jm explore --outcome N` writes its schedule for `jm run --schedule`." } ∷
+    record { number = 11; name = codes "LeftOut(name); status 11"; meaning = codes "the code has an instruction that this machine leaves out; as a status, `explore` found one outcome, and has not tried all schedules"; example = codes "11 LeftOut(fconst_1) for `float f = 1;`, since there are no floats and no doubles here. As a status: `not complete: stopped after 1000000 runs`."; advice = codes "Use int and long in place of float and double. Then compile by `javac --release 8`. For the status give more `--runs`, or fewer `--switches`." } ∷
     record { number = 12; name = codes "Cut(at)"; meaning = codes "the code of a method ends inside the instruction at this byte"; example = codes "A method whose last byte is the opcode of `bipush`, with no number behind it."; advice = codes "No compiler writes such code, so the file is damaged: compile its source again by `javac --release 8`." } ∷
     record { number = 13; name = codes "BadTarget"; meaning = codes "a branch or a switch leads to a place where no instruction begins"; example = codes "A `goto` to the byte behind its own opcode, which is its own operand."; advice = codes "No compiler writes such code, so the file is damaged: compile its source again by `javac --release 8`." } ∷
     record { number = 14; name = codes "BranchTooFar"; meaning = codes "a branch is longer than its field in a class file can say"; example = codes "An `ifeq` to a label that is more than 32767 bytes of code away."; advice = codes "Branch on the opposite condition around a `goto_w` to the label, or divide the method into several." } ∷
@@ -81,9 +81,9 @@ runs =
 unfoldable pub sessions : List Item
 sessions =
     record { number = 70; name = codes "BadSchedule(line)"; meaning = codes "a line of the schedule spells no event, or is the one at which they pass 10000000"; example = codes "`t 1x3`, since the line is to be `t 1 x 3`."; advice = codes "Mend the line of this number, which is counted from 1. A line is `t N`, `t N x K`, `minor`, `full`, a comment behind `#`, or empty." } ∷
-    record { number = 71; name = codes "ReplayDiffers(line)"; meaning = codes "a reply is of another kind than the record of the run has"; example = codes "None yet, since no command of this version replays a record."; advice = codes "There is nothing to do. No command of this version says this." } ∷
+    record { number = 71; name = codes "ReplayDiffers(line)"; meaning = codes "a reply is of another kind than the record of the run has"; example = codes "`jm: 71 ReplayDiffers(3)`, where the third line of the record was changed."; advice = codes "Give `jm replay` the record as it was written, with the classes and the `--heap` of that run." } ∷
     record { number = 80; name = codes "BadCommand"; meaning = codes "a line is no command of the debugger, or is not UTF-8"; example = codes "`brake Main.main()V:0`, which is answered by `? 80 BadCommand`."; advice = codes "Write a command as it is: break, clear, step, minor, full, continue, where, locals, stack, statics, object, heap or monitors, with one blank between words." } ∷
-    record { number = 81; name = codes "NoSuch"; meaning = codes "a thread, frame, class, method, instruction or object is named that there is not, or that is not reachable"; example = codes "`where 9` in a program with one thread, which is answered by `? 81 NoSuch`."; advice = codes "Look first what there is: `where 1` has the frames of thread 1, and `heap` the objects that are reachable." } ∷
+    record { number = 81; name = codes "NoSuch"; meaning = codes "a thread, frame, class, method, instruction, object or outcome is named that there is not, or that is not reachable"; example = codes "`where 9` in a program with one thread, which is answered by `? 81 NoSuch`."; advice = codes "Look first what there is: `where 1` has the frames of thread 1, `heap` the objects that are reachable, and `jm explore` without `--outcome` the outcomes." } ∷
     record { number = 90; name = codes "NoText(part)"; meaning = codes "a class has a part that no assembler text can say; `dis` writes its text all the same"; example = codes "90 NoText(class: flags) for a class without the flag that `.class` always sets."; advice = codes "Read the text as it is: a mark stands before what has that part. It cannot be assembled into the same class again." } ∷
     []
 

@@ -9,17 +9,17 @@ use crate::entry::Entry;
 static INSTRUCTIONS: [Entry; 6] = [
     Entry {
         number: 10,
-        name: "BadOpcode(at)",
-        meaning: "at this byte of a method's code stands no instruction",
-        example: "The byte 203, which is the opcode of no instruction.",
-        advice: "No compiler writes such code, so the file is damaged: compile its source again by `javac --release 8`.",
+        name: "BadOpcode(at); status 10",
+        meaning: "at this byte of a method's code stands no instruction; as a status, the schedules that `explore` tried come to more than one outcome",
+        example: "The byte 203, which is the opcode of no instruction. As a status: two threads that raise a counter without a lock, of which one count is lost in some schedules.",
+        advice: "No compiler writes such code, so the file is damaged: compile its source again by `javac --release 8`. For the status look at an outcome that is not wanted: `jm explore --outcome N` writes its schedule for `jm run --schedule`.",
     },
     Entry {
         number: 11,
-        name: "LeftOut(name)",
-        meaning: "the code has an instruction that this machine leaves out",
-        example: "11 LeftOut(fconst_1) for `float f = 1;`, since there are no floats and no doubles here.",
-        advice: "Use int and long in place of float and double. Then compile by `javac --release 8`.",
+        name: "LeftOut(name); status 11",
+        meaning: "the code has an instruction that this machine leaves out; as a status, `explore` found one outcome, and has not tried all schedules",
+        example: "11 LeftOut(fconst_1) for `float f = 1;`, since there are no floats and no doubles here. As a status: `not complete: stopped after 1000000 runs`.",
+        advice: "Use int and long in place of float and double. Then compile by `javac --release 8`. For the status give more `--runs`, or fewer `--switches`.",
     },
     Entry {
         number: 12,

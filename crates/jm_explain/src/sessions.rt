@@ -18,8 +18,8 @@ static SESSIONS: [Entry; 5] = [
         number: 71,
         name: "ReplayDiffers(line)",
         meaning: "a reply is of another kind than the record of the run has",
-        example: "None yet, since no command of this version replays a record.",
-        advice: "There is nothing to do. No command of this version says this.",
+        example: "`jm: 71 ReplayDiffers(3)`, where the third line of the record was changed.",
+        advice: "Give `jm replay` the record as it was written, with the classes and the `--heap` of that run.",
     },
     Entry {
         number: 80,
@@ -31,9 +31,9 @@ static SESSIONS: [Entry; 5] = [
     Entry {
         number: 81,
         name: "NoSuch",
-        meaning: "a thread, frame, class, method, instruction or object is named that there is not, or that is not reachable",
+        meaning: "a thread, frame, class, method, instruction, object or outcome is named that there is not, or that is not reachable",
         example: "`where 9` in a program with one thread, which is answered by `? 81 NoSuch`.",
-        advice: "Look first what there is: `where 1` has the frames of thread 1, and `heap` the objects that are reachable.",
+        advice: "Look first what there is: `where 1` has the frames of thread 1, `heap` the objects that are reachable, and `jm explore` without `--outcome` the outcomes.",
     },
     Entry {
         number: 90,

@@ -91,6 +91,34 @@ too_large_a_quantum : fault (codes "--quantum=1000001" ∷ codes "A.class" ∷ [
 unfolding jm clap_on_literals
 too_large_a_quantum = refl
 
+-- the workers, and the file of the record
+abbrev worked : List Text → Option (Option Text × Option Text)
+worked words = option_map (λ (s : Subcommand). (one_of (codes "workers") s.1, first_of (codes "record") s.1)) (subcommand_of jm (codes "jm" ∷ codes "run" ∷ words))
+
+one_worker : worked (codes "A.class" ∷ []) ≡ Some (Some (codes "1"), None)
+unfolding jm clap_on_literals
+one_worker = refl
+
+sixteen_workers : worked (codes "--workers=16" ∷ codes "A.class" ∷ codes "--record" ∷ codes "r" ∷ []) ≡ Some (Some (codes "16"), Some (codes "r"))
+unfolding jm clap_on_literals
+sixteen_workers = refl
+
+no_fault_of_workers : fault (codes "--workers=16" ∷ codes "A.class" ∷ codes "--record" ∷ codes "r" ∷ []) ≡ []
+unfolding jm clap_on_literals
+no_fault_of_workers = refl
+
+no_workers : fault (codes "--workers=0" ∷ codes "A.class" ∷ []) ≡ kind.ValueValidation ∷ []
+unfolding jm clap_on_literals
+no_workers = refl
+
+one_worker_too_many : fault (codes "--workers=17" ∷ codes "A.class" ∷ []) ≡ kind.ValueValidation ∷ []
+unfolding jm clap_on_literals
+one_worker_too_many = refl
+
+recorded_twice : fault (codes "--record=r" ∷ codes "--record=s" ∷ codes "A.class" ∷ []) ≡ kind.ArgumentConflict ∷ []
+unfolding jm clap_on_literals
+recorded_twice = refl
+
 -- whether the heap is shown
 abbrev shows : List Text → Option Bool
 shows words = option_map (λ (s : Subcommand). is_set (first_of (codes "show-heap") s.1)) (subcommand_of jm (codes "jm" ∷ codes "run" ∷ words))
@@ -132,13 +160,103 @@ no_file : fault (codes "--schedule=s" ∷ []) ≡ kind.MissingRequiredArgument �
 unfolding jm clap_on_literals
 no_file = refl
 
-an_unknown_option : fault (codes "--workers=9" ∷ codes "--schedule=s" ∷ codes "A.class" ∷ []) ≡ kind.UnknownArgument ∷ []
+an_unknown_option : fault (codes "--threads=9" ∷ codes "--schedule=s" ∷ codes "A.class" ∷ []) ≡ kind.UnknownArgument ∷ []
 unfolding jm clap_on_literals
 an_unknown_option = refl
 
 nothing : fault_of jm (codes "jm" ∷ []) ≡ kind.DisplayHelpOnMissingArgumentOrSubcommand ∷ []
 unfolding jm clap_on_literals
 nothing = refl
+
+-- the words after jm replay
+abbrev replayed : List Text → Option (Text × Option Text × Option Text × Option (List Text))
+replayed words = option_map (λ (s : Subcommand). (s.0, one_of (codes "heap") s.1, first_of (codes "recorded") s.1, all_of (codes "file") s.1)) (subcommand_of jm (codes "jm" ∷ codes "replay" ∷ words))
+
+abbrev replay_fault : List Text → Kinds
+replay_fault words = fault_of jm (codes "jm" ∷ codes "replay" ∷ words)
+
+a_replay : replayed (codes "r" ∷ codes "A.class" ∷ codes "B.j" ∷ []) ≡ Some (codes "replay", Some (codes "65536"), Some (codes "r"), Some (codes "A.class" ∷ codes "B.j" ∷ []))
+unfolding jm clap_on_literals
+a_replay = refl
+
+no_replay_fault : replay_fault (codes "r" ∷ codes "A.class" ∷ codes "B.j" ∷ []) ≡ []
+unfolding jm clap_on_literals
+no_replay_fault = refl
+
+a_replay_with_a_limit : replayed (codes "r" ∷ codes "--heap=16" ∷ codes "A.class" ∷ []) ≡ Some (codes "replay", Some (codes "16"), Some (codes "r"), Some (codes "A.class" ∷ []))
+unfolding jm clap_on_literals
+a_replay_with_a_limit = refl
+
+no_file_to_replay : replay_fault (codes "r" ∷ []) ≡ kind.MissingRequiredArgument ∷ []
+unfolding jm clap_on_literals
+no_file_to_replay = refl
+
+workers_of_run : replay_fault (codes "--workers=2" ∷ codes "r" ∷ codes "A.class" ∷ []) ≡ kind.UnknownArgument ∷ []
+unfolding jm clap_on_literals
+workers_of_run = refl
+
+-- the words after jm explore: the bounds, the outcome and the files
+abbrev explored : List Text → Option (Option Text × Option Text × Option Text × Option Text × Option Text × Option (List Text))
+explored words = option_map
+    (λ (s : Subcommand). (one_of (codes "switches") s.1, one_of (codes "steps") s.1, one_of (codes "runs") s.1, one_of (codes "slice") s.1, first_of (codes "outcome") s.1, all_of (codes "file") s.1))
+    (subcommand_of jm (codes "jm" ∷ codes "explore" ∷ words))
+
+abbrev exploration_fault : List Text → Kinds
+exploration_fault words = fault_of jm (codes "jm" ∷ codes "explore" ∷ words)
+
+an_exploration : explored (codes "A.class" ∷ codes "B.j" ∷ [])
+    ≡ Some (Some (codes "2"), Some (codes "10000"), Some (codes "1000000"), Some (codes "1000"), None, Some (codes "A.class" ∷ codes "B.j" ∷ []))
+unfolding jm clap_on_literals
+an_exploration = refl
+
+no_exploration_fault : exploration_fault (codes "A.class" ∷ codes "B.j" ∷ []) ≡ []
+unfolding jm clap_on_literals
+no_exploration_fault = refl
+
+all_its_options : explored (codes "--switches=0" ∷ codes "--steps" ∷ codes "9" ∷ codes "A.class" ∷ codes "--runs=8" ∷ codes "--slice=7" ∷ codes "--outcome" ∷ codes "3" ∷ [])
+    ≡ Some (Some (codes "0"), Some (codes "9"), Some (codes "8"), Some (codes "7"), Some (codes "3"), Some (codes "A.class" ∷ []))
+unfolding jm clap_on_literals
+all_its_options = refl
+
+the_most_switches : exploration_fault (codes "--switches=16" ∷ codes "--heap=16" ∷ codes "A.class" ∷ []) ≡ []
+unfolding jm clap_on_literals
+the_most_switches = refl
+
+one_switch_too_many : exploration_fault (codes "--switches=17" ∷ codes "A.class" ∷ []) ≡ kind.ValueValidation ∷ []
+unfolding jm clap_on_literals
+one_switch_too_many = refl
+
+no_steps_of_a_schedule : exploration_fault (codes "--steps=0" ∷ codes "A.class" ∷ []) ≡ kind.ValueValidation ∷ []
+unfolding jm clap_on_literals
+no_steps_of_a_schedule = refl
+
+too_long_a_schedule : exploration_fault (codes "--steps=1000001" ∷ codes "A.class" ∷ []) ≡ kind.ValueValidation ∷ []
+unfolding jm clap_on_literals
+too_long_a_schedule = refl
+
+no_runs : exploration_fault (codes "--runs=0" ∷ codes "A.class" ∷ []) ≡ kind.ValueValidation ∷ []
+unfolding jm clap_on_literals
+no_runs = refl
+
+the_most_runs : exploration_fault (codes "--runs=100000000" ∷ codes "A.class" ∷ []) ≡ []
+unfolding jm clap_on_literals
+the_most_runs = refl
+
+no_slice : exploration_fault (codes "--slice=0" ∷ codes "A.class" ∷ []) ≡ kind.ValueValidation ∷ []
+unfolding jm clap_on_literals
+no_slice = refl
+
+no_outcome : exploration_fault (codes "--outcome=0" ∷ codes "A.class" ∷ []) ≡ kind.ValueValidation ∷ []
+unfolding jm clap_on_literals
+no_outcome = refl
+
+nothing_to_explore : exploration_fault (codes "--switches=1" ∷ []) ≡ kind.MissingRequiredArgument ∷ []
+unfolding jm clap_on_literals
+nothing_to_explore = refl
+
+a_schedule_of_run : exploration_fault (codes "--schedule=s" ∷ codes "A.class" ∷ []) ≡ kind.UnknownArgument ∷ []
+unfolding jm clap_on_literals
+a_schedule_of_run = refl
 
 -- the words after jm asm
 abbrev assembled : List Text → Option (Text × Option Text × Option Text)

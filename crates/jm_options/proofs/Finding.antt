@@ -10,11 +10,13 @@ use Rattle.clap.specs.declared.parser.matches.ArgMatches.{ArgMatches}
 use Rattle.clap.specs.declared.parser.matches.ArgMatches.TheViews.{out-ArgMatches, out-SubCommand}
 use Rattle.clap.specs.declared.error.Error.{Error}
 use Rattle.clap.specs.declared.error.kind.ErrorKind.TheVariants as kind
-use Rattle.jm_options.specs.Asked.{SpellsNumber, HoldsNumber, HoldsRun, HoldsAssemble, HoldsDisassemble, HoldsDebug, HoldsAsked, HoldsEntry, HoldsExplain, Holds, Subcommand, Finds, FindsRun, FindsAssemble, FindsDisassemble, FindsDebug, FindsExplain, Answers}
+use Rattle.jm_options.specs.Asked.{SpellsNumber, HoldsNumber, HoldsRun, HoldsReplay, HoldsExplore, HoldsOutcome, HoldsAssemble, HoldsDisassemble, HoldsDebug, HoldsAsked, HoldsEntry, HoldsExplain, Holds, Subcommand, Finds, FindsRun, FindsReplay, FindsExplore, FindsOutcome, FindsAssemble, FindsDisassemble, FindsDebug, FindsExplain, Answers}
 use Rattle.jm_options.specs.CommandLine.{jm}
 use Rattle.jm_options.specs.declared.request.Options.{Options}
-use Rattle.jm_options.specs.declared.request.Options.TheVariants.{Run, Assemble, Disassemble, Debug, Explain, Version}
+use Rattle.jm_options.specs.declared.request.Options.TheVariants.{Run, Replay, Explore, Assemble, Disassemble, Debug, Explain, Version}
 use Rattle.jm_options.specs.declared.request.RunOptions.{RunOptions}
+use Rattle.jm_options.specs.declared.request.ReplayOptions.{ReplayOptions}
+use Rattle.jm_options.specs.declared.request.ExploreOptions.{ExploreOptions}
 use Rattle.jm_options.specs.declared.request.AssembleOptions.{AssembleOptions}
 use Rattle.jm_options.specs.declared.request.DisassembleOptions.{DisassembleOptions}
 use Rattle.jm_options.specs.declared.request.DebugOptions.{DebugOptions}
@@ -59,6 +61,38 @@ no_files rows none o holds = let some = none ∙ holds.files in cc
 pub none_asked : (rows : List Row) (fault : UsageFault) → ((o : RunOptions) → HoldsRun rows o → ⊥) → FindsRun rows (Err fault)
 none_asked rows (Usage text) none = none
 none_asked rows OutOfMemory none = tt
+
+-- ---- the options of a replay
+
+pub no_record : (rows : List Row) → None ≡ first_of (codes "recorded") rows → (o : ReplayOptions) → HoldsReplay rows o → ⊥
+no_record rows none o holds = let some = none ∙ holds.record_file in cc
+
+pub no_replay_files : (rows : List Row) → None ≡ all_of (codes "file") rows → (o : ReplayOptions) → HoldsReplay rows o → ⊥
+no_replay_files rows none o holds = let some = none ∙ holds.files in cc
+
+pub none_replayed : (rows : List Row) (fault : UsageFault) → ((o : ReplayOptions) → HoldsReplay rows o → ⊥) → FindsReplay rows (Err fault)
+none_replayed rows (Usage text) none = none
+none_replayed rows OutOfMemory none = tt
+
+-- ---- the options of an exploration
+
+outcome_or_not : (rows : List Row) (t : Text) (o : Option ℕ) → Some t ≡ first_of (codes "outcome") rows → ((n : ℕ) → HoldsNumber (codes "outcome") 1 100000000 rows n → ⊥)
+    → HoldsOutcome rows o → ⊥
+outcome_or_not rows t None given none holds = let is = given ∙ holds in cc
+outcome_or_not rows t (Some n) given none holds = none n holds
+
+-- a text is there, and no number within the limits
+pub no_outcome : (rows : List Row) (t : Text) (fault : UsageFault) → Some t ≡ first_of (codes "outcome") rows
+    → ((n : ℕ) → HoldsNumber (codes "outcome") 1 100000000 rows n → ⊥) → FindsOutcome rows (Err fault)
+no_outcome rows t (Usage text) given none = λ o holds. outcome_or_not rows t o given none holds
+no_outcome rows t OutOfMemory given none = tt
+
+pub no_explored_files : (rows : List Row) → None ≡ all_of (codes "file") rows → (o : ExploreOptions) → HoldsExplore rows o → ⊥
+no_explored_files rows none o holds = let some = none ∙ holds.files in cc
+
+pub none_explored : (rows : List Row) (fault : UsageFault) → ((o : ExploreOptions) → HoldsExplore rows o → ⊥) → FindsExplore rows (Err fault)
+none_explored rows (Usage text) none = none
+none_explored rows OutOfMemory none = tt
 
 -- ---- the options of an assembly
 
@@ -151,16 +185,18 @@ pub subcommand_is : (m : ArgMatches) (name : Text) (rows : List Row) → subcomm
     → subcommand_rows_of m ≡ Some (name, rows)
 subcommand_is m name rows named is = is_pair (subcommand_rows_of m) name rows (sym (name_of_rows m) ∙ named) is
 
-pub other_subcommand : (m : ArgMatches) → (subcommand_name_of m ≡ Some (codes "run") → ⊥) → (subcommand_name_of m ≡ Some (codes "asm") → ⊥)
+pub other_subcommand : (m : ArgMatches) → (subcommand_name_of m ≡ Some (codes "run") → ⊥) → (subcommand_name_of m ≡ Some (codes "replay") → ⊥) → (subcommand_name_of m ≡ Some (codes "explore") → ⊥) → (subcommand_name_of m ≡ Some (codes "asm") → ⊥)
     → (subcommand_name_of m ≡ Some (codes "dis") → ⊥) → (subcommand_name_of m ≡ Some (codes "debug") → ⊥)
     → (subcommand_name_of m ≡ Some (codes "explain") → ⊥) → (subcommand_name_of m ≡ Some (codes "version") → ⊥)
     → (o : Options) → Holds (subcommand_rows_of m) o → ⊥
-other_subcommand m not_run not_asm not_dis not_debug not_explain not_version (Run o) holds = not_run (name_of_rows m ∙ ap (option_map (λ (p : Subcommand). p.0)) holds.1)
-other_subcommand m not_run not_asm not_dis not_debug not_explain not_version (Assemble o) holds = not_asm (name_of_rows m ∙ ap (option_map (λ (p : Subcommand). p.0)) holds.1)
-other_subcommand m not_run not_asm not_dis not_debug not_explain not_version (Disassemble o) holds = not_dis (name_of_rows m ∙ ap (option_map (λ (p : Subcommand). p.0)) holds.1)
-other_subcommand m not_run not_asm not_dis not_debug not_explain not_version (Debug o) holds = not_debug (name_of_rows m ∙ ap (option_map (λ (p : Subcommand). p.0)) holds.1)
-other_subcommand m not_run not_asm not_dis not_debug not_explain not_version (Explain o) holds = not_explain (name_of_rows m ∙ ap (option_map (λ (p : Subcommand). p.0)) holds.1)
-other_subcommand m not_run not_asm not_dis not_debug not_explain not_version Version holds = not_version (name_of_rows m ∙ ap (option_map (λ (p : Subcommand). p.0)) holds.1)
+other_subcommand m not_run not_replay not_explore not_asm not_dis not_debug not_explain not_version (Run o) holds = not_run (name_of_rows m ∙ ap (option_map (λ (p : Subcommand). p.0)) holds.1)
+other_subcommand m not_run not_replay not_explore not_asm not_dis not_debug not_explain not_version (Replay o) holds = not_replay (name_of_rows m ∙ ap (option_map (λ (p : Subcommand). p.0)) holds.1)
+other_subcommand m not_run not_replay not_explore not_asm not_dis not_debug not_explain not_version (Explore o) holds = not_explore (name_of_rows m ∙ ap (option_map (λ (p : Subcommand). p.0)) holds.1)
+other_subcommand m not_run not_replay not_explore not_asm not_dis not_debug not_explain not_version (Assemble o) holds = not_asm (name_of_rows m ∙ ap (option_map (λ (p : Subcommand). p.0)) holds.1)
+other_subcommand m not_run not_replay not_explore not_asm not_dis not_debug not_explain not_version (Disassemble o) holds = not_dis (name_of_rows m ∙ ap (option_map (λ (p : Subcommand). p.0)) holds.1)
+other_subcommand m not_run not_replay not_explore not_asm not_dis not_debug not_explain not_version (Debug o) holds = not_debug (name_of_rows m ∙ ap (option_map (λ (p : Subcommand). p.0)) holds.1)
+other_subcommand m not_run not_replay not_explore not_asm not_dis not_debug not_explain not_version (Explain o) holds = not_explain (name_of_rows m ∙ ap (option_map (λ (p : Subcommand). p.0)) holds.1)
+other_subcommand m not_run not_replay not_explore not_asm not_dis not_debug not_explain not_version Version holds = not_version (name_of_rows m ∙ ap (option_map (λ (p : Subcommand). p.0)) holds.1)
 
 pub nothing_found : (s : Option Subcommand) (fault : UsageFault) → ((o : Options) → Holds s o → ⊥) → Finds s (Err fault)
 nothing_found s (Usage text) none = none
@@ -217,16 +253,79 @@ debug_is_not_version same = let first : 100 ≡ 118 = ap (λ (t : List ℕ). sli
 explain_is_not_version : codes "explain" ≡ codes "version" → ⊥
 explain_is_not_version same = let first : 101 ≡ 118 = ap (λ (t : List ℕ). slice_index t 0) same in absurd (omega (arith, first))
 
+run_is_not_replay : codes "run" ≡ codes "replay" → ⊥
+run_is_not_replay same = let second : 117 ≡ 101 = ap (λ (t : List ℕ). slice_index t 1) same in absurd (omega (arith, second))
+
+replay_is_not_asm : codes "replay" ≡ codes "asm" → ⊥
+replay_is_not_asm same = let first : 114 ≡ 97 = ap (λ (t : List ℕ). slice_index t 0) same in absurd (omega (arith, first))
+
+replay_is_not_dis : codes "replay" ≡ codes "dis" → ⊥
+replay_is_not_dis same = let first : 114 ≡ 100 = ap (λ (t : List ℕ). slice_index t 0) same in absurd (omega (arith, first))
+
+replay_is_not_debug : codes "replay" ≡ codes "debug" → ⊥
+replay_is_not_debug same = let first : 114 ≡ 100 = ap (λ (t : List ℕ). slice_index t 0) same in absurd (omega (arith, first))
+
+replay_is_not_explain : codes "replay" ≡ codes "explain" → ⊥
+replay_is_not_explain same = let first : 114 ≡ 101 = ap (λ (t : List ℕ). slice_index t 0) same in absurd (omega (arith, first))
+
+replay_is_not_version : codes "replay" ≡ codes "version" → ⊥
+replay_is_not_version same = let first : 114 ≡ 118 = ap (λ (t : List ℕ). slice_index t 0) same in absurd (omega (arith, first))
+
+run_is_not_explore : codes "run" ≡ codes "explore" → ⊥
+run_is_not_explore same = let first : 114 ≡ 101 = ap (λ (t : List ℕ). slice_index t 0) same in absurd (omega (arith, first))
+
+replay_is_not_explore : codes "replay" ≡ codes "explore" → ⊥
+replay_is_not_explore same = let first : 114 ≡ 101 = ap (λ (t : List ℕ). slice_index t 0) same in absurd (omega (arith, first))
+
+asm_is_not_explore : codes "asm" ≡ codes "explore" → ⊥
+asm_is_not_explore same = let first : 97 ≡ 101 = ap (λ (t : List ℕ). slice_index t 0) same in absurd (omega (arith, first))
+
+dis_is_not_explore : codes "dis" ≡ codes "explore" → ⊥
+dis_is_not_explore same = let first : 100 ≡ 101 = ap (λ (t : List ℕ). slice_index t 0) same in absurd (omega (arith, first))
+
+debug_is_not_explore : codes "debug" ≡ codes "explore" → ⊥
+debug_is_not_explore same = let first : 100 ≡ 101 = ap (λ (t : List ℕ). slice_index t 0) same in absurd (omega (arith, first))
+
+version_is_not_explore : codes "version" ≡ codes "explore" → ⊥
+version_is_not_explore same = let first : 118 ≡ 101 = ap (λ (t : List ℕ). slice_index t 0) same in absurd (omega (arith, first))
+
+explore_is_not_explain : codes "explore" ≡ codes "explain" → ⊥
+explore_is_not_explain same = let fifth : 111 ≡ 97 = ap (λ (t : List ℕ). slice_index t 4) same in absurd (omega (arith, fifth))
+
 no_run : (s : Option Subcommand) (rows : List Row) → s ≡ Some (codes "run", rows) → ((o : RunOptions) → HoldsRun rows o → ⊥) → (o : Options) → Holds s o → ⊥
 no_run s rows is none (Run o) holds = none o (subst (λ (x : List Row). HoldsRun x o) (same_rows s _ _ is holds.1) holds.2)
+no_run s rows is none (Replay o) holds = run_is_not_replay (same_name s _ _ is holds.1)
+no_run s rows is none (Explore o) holds = run_is_not_explore (same_name s _ _ is holds.1)
 no_run s rows is none (Assemble o) holds = run_is_not_asm (same_name s _ _ is holds.1)
 no_run s rows is none (Disassemble o) holds = run_is_not_dis (same_name s _ _ is holds.1)
 no_run s rows is none (Debug o) holds = run_is_not_debug (same_name s _ _ is holds.1)
 no_run s rows is none (Explain o) holds = run_is_not_explain (same_name s _ _ is holds.1)
 no_run s rows is none Version holds = run_is_not_version (same_name s _ _ is holds.1)
 
+no_replay : (s : Option Subcommand) (rows : List Row) → s ≡ Some (codes "replay", rows) → ((o : ReplayOptions) → HoldsReplay rows o → ⊥) → (o : Options) → Holds s o → ⊥
+no_replay s rows is none (Run o) holds = run_is_not_replay (same_name s _ _ holds.1 is)
+no_replay s rows is none (Replay o) holds = none o (subst (λ (x : List Row). HoldsReplay x o) (same_rows s _ _ is holds.1) holds.2)
+no_replay s rows is none (Explore o) holds = replay_is_not_explore (same_name s _ _ is holds.1)
+no_replay s rows is none (Assemble o) holds = replay_is_not_asm (same_name s _ _ is holds.1)
+no_replay s rows is none (Disassemble o) holds = replay_is_not_dis (same_name s _ _ is holds.1)
+no_replay s rows is none (Debug o) holds = replay_is_not_debug (same_name s _ _ is holds.1)
+no_replay s rows is none (Explain o) holds = replay_is_not_explain (same_name s _ _ is holds.1)
+no_replay s rows is none Version holds = replay_is_not_version (same_name s _ _ is holds.1)
+
+no_exploration : (s : Option Subcommand) (rows : List Row) → s ≡ Some (codes "explore", rows) → ((o : ExploreOptions) → HoldsExplore rows o → ⊥) → (o : Options) → Holds s o → ⊥
+no_exploration s rows is none (Run o) holds = run_is_not_explore (same_name s _ _ holds.1 is)
+no_exploration s rows is none (Replay o) holds = replay_is_not_explore (same_name s _ _ holds.1 is)
+no_exploration s rows is none (Explore o) holds = none o (subst (λ (x : List Row). HoldsExplore x o) (same_rows s _ _ is holds.1) holds.2)
+no_exploration s rows is none (Assemble o) holds = asm_is_not_explore (same_name s _ _ holds.1 is)
+no_exploration s rows is none (Disassemble o) holds = dis_is_not_explore (same_name s _ _ holds.1 is)
+no_exploration s rows is none (Debug o) holds = debug_is_not_explore (same_name s _ _ holds.1 is)
+no_exploration s rows is none (Explain o) holds = explore_is_not_explain (same_name s _ _ is holds.1)
+no_exploration s rows is none Version holds = version_is_not_explore (same_name s _ _ holds.1 is)
+
 no_assembly : (s : Option Subcommand) (rows : List Row) → s ≡ Some (codes "asm", rows) → ((o : AssembleOptions) → HoldsAssemble rows o → ⊥) → (o : Options) → Holds s o → ⊥
 no_assembly s rows is none (Run o) holds = run_is_not_asm (same_name s _ _ holds.1 is)
+no_assembly s rows is none (Replay o) holds = replay_is_not_asm (same_name s _ _ holds.1 is)
+no_assembly s rows is none (Explore o) holds = asm_is_not_explore (same_name s _ _ is holds.1)
 no_assembly s rows is none (Assemble o) holds = none o (subst (λ (x : List Row). HoldsAssemble x o) (same_rows s _ _ is holds.1) holds.2)
 no_assembly s rows is none (Disassemble o) holds = asm_is_not_dis (same_name s _ _ is holds.1)
 no_assembly s rows is none (Debug o) holds = asm_is_not_debug (same_name s _ _ is holds.1)
@@ -235,6 +334,8 @@ no_assembly s rows is none Version holds = asm_is_not_version (same_name s _ _ i
 
 no_disassembly : (s : Option Subcommand) (rows : List Row) → s ≡ Some (codes "dis", rows) → ((o : DisassembleOptions) → HoldsDisassemble rows o → ⊥) → (o : Options) → Holds s o → ⊥
 no_disassembly s rows is none (Run o) holds = run_is_not_dis (same_name s _ _ holds.1 is)
+no_disassembly s rows is none (Replay o) holds = replay_is_not_dis (same_name s _ _ holds.1 is)
+no_disassembly s rows is none (Explore o) holds = dis_is_not_explore (same_name s _ _ is holds.1)
 no_disassembly s rows is none (Assemble o) holds = asm_is_not_dis (same_name s _ _ holds.1 is)
 no_disassembly s rows is none (Disassemble o) holds = none o (subst (λ (x : List Row). HoldsDisassemble x o) (same_rows s _ _ is holds.1) holds.2)
 no_disassembly s rows is none (Debug o) holds = dis_is_not_debug (same_name s _ _ is holds.1)
@@ -243,6 +344,8 @@ no_disassembly s rows is none Version holds = dis_is_not_version (same_name s _ 
 
 no_debugger : (s : Option Subcommand) (rows : List Row) → s ≡ Some (codes "debug", rows) → ((o : DebugOptions) → HoldsDebug rows o → ⊥) → (o : Options) → Holds s o → ⊥
 no_debugger s rows is none (Run o) holds = run_is_not_debug (same_name s _ _ holds.1 is)
+no_debugger s rows is none (Replay o) holds = replay_is_not_debug (same_name s _ _ holds.1 is)
+no_debugger s rows is none (Explore o) holds = debug_is_not_explore (same_name s _ _ is holds.1)
 no_debugger s rows is none (Assemble o) holds = asm_is_not_debug (same_name s _ _ holds.1 is)
 no_debugger s rows is none (Disassemble o) holds = dis_is_not_debug (same_name s _ _ holds.1 is)
 no_debugger s rows is none (Debug o) holds = none o (subst (λ (x : List Row). HoldsDebug x o) (same_rows s _ _ is holds.1) holds.2)
@@ -251,19 +354,35 @@ no_debugger s rows is none Version holds = debug_is_not_version (same_name s _ _
 
 no_explanation : (s : Option Subcommand) (rows : List Row) → s ≡ Some (codes "explain", rows) → ((o : ExplainOptions) → HoldsExplain rows o → ⊥) → (o : Options) → Holds s o → ⊥
 no_explanation s rows is none (Run o) holds = run_is_not_explain (same_name s _ _ holds.1 is)
+no_explanation s rows is none (Replay o) holds = replay_is_not_explain (same_name s _ _ holds.1 is)
+no_explanation s rows is none (Explore o) holds = explore_is_not_explain (same_name s _ _ holds.1 is)
 no_explanation s rows is none (Assemble o) holds = asm_is_not_explain (same_name s _ _ holds.1 is)
 no_explanation s rows is none (Disassemble o) holds = dis_is_not_explain (same_name s _ _ holds.1 is)
 no_explanation s rows is none (Debug o) holds = debug_is_not_explain (same_name s _ _ holds.1 is)
 no_explanation s rows is none (Explain o) holds = none o (subst (λ (x : List Row). HoldsExplain x o) (same_rows s _ _ is holds.1) holds.2)
 no_explanation s rows is none Version holds = explain_is_not_version (same_name s _ _ is holds.1)
 
--- what a run, an assembly, a disassembly, a debugger's command or an explanation finds is what the subcommand finds
+-- what a run, a replay, an exploration, an assembly, a disassembly, a debugger's command or an explanation finds is what the subcommand finds
 pub finds_run : (s : Option Subcommand) (rows : List Row) (r : Result RunOptions UsageFault) (found : Result Options UsageFault) → s ≡ Some (codes "run", rows) → FindsRun rows r
     → MatchResult r (λ o. IsOkAnd found (λ given. given ≡ Run o)) (λ fault. found ≡ Err fault) → Finds s found
 finds_run s rows (Ok o) (Ok given) is holds same = rw same (rows, is, holds)
 finds_run s rows (Ok o) (Err fault) is holds same = absurd same
 finds_run s rows (Err (Usage text)) found is none same = rw same (no_run s rows is none)
 finds_run s rows (Err OutOfMemory) found is none same = rw same tt
+
+pub finds_replay : (s : Option Subcommand) (rows : List Row) (r : Result ReplayOptions UsageFault) (found : Result Options UsageFault) → s ≡ Some (codes "replay", rows) → FindsReplay rows r
+    → MatchResult r (λ o. IsOkAnd found (λ given. given ≡ Replay o)) (λ fault. found ≡ Err fault) → Finds s found
+finds_replay s rows (Ok o) (Ok given) is holds same = rw same (rows, is, holds)
+finds_replay s rows (Ok o) (Err fault) is holds same = absurd same
+finds_replay s rows (Err (Usage text)) found is none same = rw same (no_replay s rows is none)
+finds_replay s rows (Err OutOfMemory) found is none same = rw same tt
+
+pub finds_exploration : (s : Option Subcommand) (rows : List Row) (r : Result ExploreOptions UsageFault) (found : Result Options UsageFault) → s ≡ Some (codes "explore", rows) → FindsExplore rows r
+    → MatchResult r (λ o. IsOkAnd found (λ given. given ≡ Explore o)) (λ fault. found ≡ Err fault) → Finds s found
+finds_exploration s rows (Ok o) (Ok given) is holds same = rw same (rows, is, holds)
+finds_exploration s rows (Ok o) (Err fault) is holds same = absurd same
+finds_exploration s rows (Err (Usage text)) found is none same = rw same (no_exploration s rows is none)
+finds_exploration s rows (Err OutOfMemory) found is none same = rw same tt
 
 pub finds_assembly : (s : Option Subcommand) (rows : List Row) (r : Result AssembleOptions UsageFault) (found : Result Options UsageFault) → s ≡ Some (codes "asm", rows) → FindsAssemble rows r
     → MatchResult r (λ o. IsOkAnd found (λ given. given ≡ Assemble o)) (λ fault. found ≡ Err fault) → Finds s found

@@ -7,8 +7,10 @@ use Rattle.jm_explain.specs.Items.{Item, is_of, item}
 use Rattle.jm_explain.specs.Table.{items}
 use Rattle.jm_options.specs.CommandLine.{jm}
 use Rattle.jm_options.specs.declared.request.Options.{Options}
-use Rattle.jm_options.specs.declared.request.Options.TheVariants.{Run, Assemble, Disassemble, Debug, Explain, Version}
+use Rattle.jm_options.specs.declared.request.Options.TheVariants.{Run, Replay, Explore, Assemble, Disassemble, Debug, Explain, Version}
 use Rattle.jm_options.specs.declared.request.RunOptions.{RunOptions}
+use Rattle.jm_options.specs.declared.request.ReplayOptions.{ReplayOptions}
+use Rattle.jm_options.specs.declared.request.ExploreOptions.{ExploreOptions}
 use Rattle.jm_options.specs.declared.request.AssembleOptions.{AssembleOptions}
 use Rattle.jm_options.specs.declared.request.DisassembleOptions.{DisassembleOptions}
 use Rattle.jm_options.specs.declared.request.DebugOptions.{DebugOptions}
@@ -44,7 +46,31 @@ pub record HoldsRun (matches : List Row) (o : RunOptions) : Type 0 where
   pub schedule : first_of (codes "schedule") matches ≡ option_map string_bytes o.schedule
   pub steps : HoldsNumber (codes "steps") 1 10000000 matches o.steps
   pub quantum : HoldsNumber (codes "quantum") 1 1000000 matches o.quantum
+  pub workers : HoldsNumber (codes "workers") 1 16 matches o.workers
+  pub record_file : first_of (codes "record") matches ≡ option_map string_bytes o.record_file
   pub show_heap : o.show_heap ≡ is_set (first_of (codes "show-heap") matches)
+  pub files : all_of (codes "file") matches ≡ Some (map string_bytes o.files.items)
+
+-- the options are what the matches of a replay hold, and within the limits
+pub record HoldsReplay (matches : List Row) (o : ReplayOptions) : Type 0 where
+  pub heap : HoldsNumber (codes "heap") 16 16777216 matches o.heap
+  pub show_heap : o.show_heap ≡ is_set (first_of (codes "show-heap") matches)
+  pub record_file : first_of (codes "recorded") matches ≡ Some (string_bytes o.record_file)
+  pub files : all_of (codes "file") matches ≡ Some (map string_bytes o.files.items)
+
+-- they hold no number of an outcome, and none is asked for; or they hold the one that is asked for, within the limits
+abbrev pub HoldsOutcome : List Row → Option ℕ → Type 0
+HoldsOutcome matches None = first_of (codes "outcome") matches ≡ None
+HoldsOutcome matches (Some n) = HoldsNumber (codes "outcome") 1 100000000 matches n
+
+-- the options are what the matches of an exploration hold, and within the limits
+pub record HoldsExplore (matches : List Row) (o : ExploreOptions) : Type 0 where
+  pub switches : HoldsNumber (codes "switches") 0 16 matches o.switches
+  pub steps : HoldsNumber (codes "steps") 1 1000000 matches o.steps
+  pub runs : HoldsNumber (codes "runs") 1 100000000 matches o.runs
+  pub slice : HoldsNumber (codes "slice") 1 1000000 matches o.slice
+  pub outcome : HoldsOutcome matches o.outcome
+  pub heap : HoldsNumber (codes "heap") 16 16777216 matches o.heap
   pub files : all_of (codes "file") matches ≡ Some (map string_bytes o.files.items)
 
 -- the options are what the matches of an assembly hold, and OUT is another word than IN
@@ -81,6 +107,8 @@ pub record HoldsExplain (matches : List Row) (o : ExplainOptions) : Type 0 where
 -- the options are what the subcommand and its matches hold
 abbrev pub Holds : Option Subcommand → Options → Type 0
 Holds s (Run o) = (matches : List Row) × (s ≡ Some (codes "run", matches)) × HoldsRun matches o
+Holds s (Replay o) = (matches : List Row) × (s ≡ Some (codes "replay", matches)) × HoldsReplay matches o
+Holds s (Explore o) = (matches : List Row) × (s ≡ Some (codes "explore", matches)) × HoldsExplore matches o
 Holds s (Assemble o) = (matches : List Row) × (s ≡ Some (codes "asm", matches)) × HoldsAssemble matches o
 Holds s (Disassemble o) = (matches : List Row) × (s ≡ Some (codes "dis", matches)) × HoldsDisassemble matches o
 Holds s (Debug o) = (matches : List Row) × (s ≡ Some (codes "debug", matches)) × HoldsDebug matches o
@@ -99,7 +127,7 @@ Answers words (Ok o) = Asks words o
 Answers words (Err (Usage text)) = (o : Options) → ¬ (Asks words o)
 Answers words (Err OutOfMemory) = ⊤
 
--- the same of a subcommand, and of the matches of a run, of an assembly, of a disassembly, of a debugger's command and of an explanation
+-- the same of a subcommand, and of the matches of a run, of a replay, of an exploration and the number of its outcome, of an assembly, of a disassembly, of a debugger's command and of an explanation
 abbrev pub Finds : Option Subcommand → Result Options UsageFault → Type 0
 Finds s (Ok o) = Holds s o
 Finds s (Err (Usage text)) = (o : Options) → ¬ (Holds s o)
@@ -109,6 +137,21 @@ abbrev pub FindsRun : List Row → Result RunOptions UsageFault → Type 0
 FindsRun matches (Ok o) = HoldsRun matches o
 FindsRun matches (Err (Usage text)) = (o : RunOptions) → ¬ (HoldsRun matches o)
 FindsRun matches (Err OutOfMemory) = ⊤
+
+abbrev pub FindsReplay : List Row → Result ReplayOptions UsageFault → Type 0
+FindsReplay matches (Ok o) = HoldsReplay matches o
+FindsReplay matches (Err (Usage text)) = (o : ReplayOptions) → ¬ (HoldsReplay matches o)
+FindsReplay matches (Err OutOfMemory) = ⊤
+
+abbrev pub FindsOutcome : List Row → Result (Option ℕ) UsageFault → Type 0
+FindsOutcome matches (Ok o) = HoldsOutcome matches o
+FindsOutcome matches (Err (Usage text)) = (o : Option ℕ) → ¬ (HoldsOutcome matches o)
+FindsOutcome matches (Err OutOfMemory) = ⊤
+
+abbrev pub FindsExplore : List Row → Result ExploreOptions UsageFault → Type 0
+FindsExplore matches (Ok o) = HoldsExplore matches o
+FindsExplore matches (Err (Usage text)) = (o : ExploreOptions) → ¬ (HoldsExplore matches o)
+FindsExplore matches (Err OutOfMemory) = ⊤
 
 abbrev pub FindsAssemble : List Row → Result AssembleOptions UsageFault → Type 0
 FindsAssemble matches (Ok o) = HoldsAssemble matches o

@@ -38,6 +38,19 @@ quantum_argument = record (new_rule (codes "quantum")) {
   parser = Some (vp.Signed (pos 1) (pos 1000000));
 }
 
+-- --workers N: a number of workers, 1 where it is left out
+abbrev pub workers_argument : Rule
+workers_argument = record (new_rule (codes "workers")) {
+  long = Some (codes "workers");
+  value_names = 1;
+  defaults = codes "1" ∷ [];
+  parser = Some (vp.Signed (pos 1) (pos 16));
+}
+
+-- --record FILE
+abbrev pub record_argument : Rule
+record_argument = record (new_rule (codes "record")) { long = Some (codes "record"); value_names = 1 }
+
 -- --show-heap
 abbrev pub show_heap_argument : Rule
 show_heap_argument = record (new_rule (codes "show-heap")) { long = Some (codes "show-heap"); action = Some SetTrue }
@@ -46,15 +59,77 @@ show_heap_argument = record (new_rule (codes "show-heap")) { long = Some (codes 
 abbrev pub file_argument : Rule
 file_argument = record (new_rule (codes "file")) { value_names = 1; required = true; action = Some Append }
 
+-- what says which events a run makes
+abbrev pub turns_options : App
+turns_options = with_rule (with_rule (with_rule (with_rule (new_app (codes "run")) heap_argument) schedule_argument) steps_argument) quantum_argument
+
 -- the options of run
 abbrev pub run_options : App
-run_options =
-    with_rule (with_rule (with_rule (with_rule (with_rule (new_app (codes "run")) heap_argument) schedule_argument) steps_argument) quantum_argument)
-    show_heap_argument
+run_options = with_rule (with_rule (with_rule turns_options workers_argument) record_argument) show_heap_argument
 
--- run [--heap N] [--schedule FILE] [--steps N] [--quantum N] [--show-heap] FILE..
+-- run [--heap N] [--schedule FILE] [--steps N] [--quantum N] [--workers N] [--record FILE] [--show-heap] FILE..
 abbrev pub run_command : App
 run_command = with_rule run_options file_argument
+
+-- RECORD, which has to be there
+abbrev pub recorded_argument : Rule
+recorded_argument = record (new_rule (codes "recorded")) { value_names = 1; required = true }
+
+-- replay [--heap N] [--show-heap] RECORD FILE..
+abbrev pub replay_command : App
+replay_command = with_rule (with_rule (with_rule (with_rule (new_app (codes "replay")) heap_argument) show_heap_argument) recorded_argument) file_argument
+
+-- --switches N: 2 where it is left out
+abbrev pub switches_argument : Rule
+switches_argument = record (new_rule (codes "switches")) {
+  long = Some (codes "switches");
+  value_names = 1;
+  defaults = codes "2" ∷ [];
+  parser = Some (vp.Signed (pos 0) (pos 16));
+}
+
+-- --steps N of a schedule: 10,000 where it is left out
+abbrev pub schedule_steps_argument : Rule
+schedule_steps_argument = record (new_rule (codes "steps")) {
+  long = Some (codes "steps");
+  value_names = 1;
+  defaults = codes "10000" ∷ [];
+  parser = Some (vp.Signed (pos 1) (pos 1000000));
+}
+
+-- --runs N: 1,000,000 where it is left out
+abbrev pub runs_argument : Rule
+runs_argument = record (new_rule (codes "runs")) {
+  long = Some (codes "runs");
+  value_names = 1;
+  defaults = codes "1000000" ∷ [];
+  parser = Some (vp.Signed (pos 1) (pos 100000000));
+}
+
+-- --slice N: a number of events, 1,000 where it is left out
+abbrev pub slice_argument : Rule
+slice_argument = record (new_rule (codes "slice")) {
+  long = Some (codes "slice");
+  value_names = 1;
+  defaults = codes "1000" ∷ [];
+  parser = Some (vp.Signed (pos 1) (pos 1000000));
+}
+
+-- --outcome N, which may be left out
+abbrev pub outcome_argument : Rule
+outcome_argument = record (new_rule (codes "outcome")) {
+  long = Some (codes "outcome");
+  value_names = 1;
+  parser = Some (vp.Signed (pos 1) (pos 100000000));
+}
+
+-- what says how far a search goes
+abbrev pub bounds_options : App
+bounds_options = with_rule (with_rule (with_rule (with_rule (new_app (codes "explore")) switches_argument) schedule_steps_argument) runs_argument) slice_argument
+
+-- explore [--switches N] [--steps N] [--runs N] [--slice N] [--outcome N] [--heap N] FILE..
+abbrev pub explore_command : App
+explore_command = with_rule (with_rule (with_rule bounds_options outcome_argument) heap_argument) file_argument
 
 -- IN, which has to be there
 abbrev pub input_argument : Rule
@@ -100,11 +175,13 @@ version_command = new_app (codes "version")
 abbrev pub top_command : App
 top_command = on_top (λ (s : Shape). record s { subcommand_required = true; arg_required_else_help = true }) (new_app (codes "jm"))
 
+-- the subcommands that run a program
+abbrev pub on_programs : App
+on_programs = with_subcommand (with_subcommand (with_subcommand top_command run_command.top) replay_command.top) explore_command.top
+
 -- the subcommands that take files
 abbrev pub on_files : App
-on_files =
-    with_subcommand (with_subcommand (with_subcommand (with_subcommand top_command run_command.top) assemble_command.top) disassemble_command.top)
-    debug_command.top
+on_files = with_subcommand (with_subcommand (with_subcommand on_programs assemble_command.top) disassemble_command.top) debug_command.top
 
 unfoldable pub jm : App
 jm = with_subcommand (with_subcommand on_files explain_command.top) version_command.top

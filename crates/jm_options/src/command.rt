@@ -2,7 +2,7 @@
 
 ghost use Rattle.std.specs.Prelude.{◌≡◌, false, IfOk};
 ghost use Rattle.clap.specs.Words.{App, Rule, rule_of, with_rule, with_subcommand};
-ghost use Rattle.jm_options.specs.CommandLine.{heap_argument, schedule_argument, steps_argument, quantum_argument, show_heap_argument, file_argument, run_command, input_argument, output_argument, assemble_command, bare_argument, class_argument, disassemble_command, debug_command, number_argument, explain_command, version_command, top_command, jm, IsSeenAs};
+ghost use Rattle.jm_options.specs.CommandLine.{heap_argument, schedule_argument, steps_argument, quantum_argument, workers_argument, record_argument, show_heap_argument, file_argument, run_command, recorded_argument, replay_command, switches_argument, schedule_steps_argument, runs_argument, slice_argument, outcome_argument, explore_command, input_argument, output_argument, assemble_command, bare_argument, class_argument, disassemble_command, debug_command, number_argument, explain_command, version_command, top_command, jm, IsSeenAs};
 
 use clap::{Arg, ArgAction, Command, value_parser};
 use std::alloc::{AllocError, Global};
@@ -79,6 +79,30 @@ fn quantum_argument<'a>(alloc: Global) -> Arg<'a>
         .help("Most events of a thread's turn, from 1 to 1000000; no effect beside a schedule")
 }
 
+fn workers_argument<'a>(alloc: Global) -> Arg<'a>
+    ensures rule { rule_of result ≡ workers_argument }
+    ensures local { result.global ≡ false }
+{
+    Arg::new(alloc, "workers")
+        .long("workers")
+        .value_name("N")
+        .value_parser(value_parser!(u32).range(1..=16))
+        .default_value("1")
+        .help(
+            "Workers that make the events side by side, from 1 to 16, each of them up to --steps; no effect beside a schedule",
+        )
+}
+
+fn record_argument<'a>(alloc: Global) -> Arg<'a>
+    ensures rule { rule_of result ≡ record_argument }
+    ensures local { result.global ≡ false }
+{
+    Arg::new(alloc, "record")
+        .long("record")
+        .value_name("FILE")
+        .help("File to write the events that were made to, for `jm replay` or `--schedule`")
+}
+
 fn show_heap_argument<'a>(alloc: Global) -> Arg<'a>
     ensures rule { rule_of result ≡ show_heap_argument }
     ensures local { result.global ≡ false }
@@ -112,8 +136,116 @@ fn run_command<'a>(alloc: Global) -> Result<Command<'a>, AllocError>
     let run = with_argument(run, schedule_argument(alloc));
     let run = with_argument(run, steps_argument(alloc));
     let run = with_argument(run, quantum_argument(alloc));
+    let run = with_argument(run, workers_argument(alloc));
+    let run = with_argument(run, record_argument(alloc));
     let run = with_argument(run, show_heap_argument(alloc));
     with_argument(run, file_argument(alloc))
+}
+
+fn recorded_argument<'a>(alloc: Global) -> Arg<'a>
+    ensures rule { rule_of result ≡ recorded_argument }
+    ensures local { result.global ≡ false }
+{
+    Arg::new(alloc, "recorded")
+        .value_name("RECORD")
+        .required(true)
+        .help("File that `jm run --record` wrote")
+}
+
+fn replay_command<'a>(alloc: Global) -> Result<Command<'a>, AllocError>
+    ensures { IfOk result (λ c. IsSeenAs c replay_command) }
+{
+    let replay = Command::new(alloc, "replay")
+        .about("Run a program again by the events of a record, and compare how each is answered")
+        .after_help(
+            "Example: jm replay run.record Main.class Other.class\n\nClass files come from `javac --release 8`. What a number means says `jm explain N`.",
+        );
+    let replay = with_argument(Ok(replay), heap_argument(alloc));
+    let replay = with_argument(replay, show_heap_argument(alloc));
+    let replay = with_argument(replay, recorded_argument(alloc));
+    with_argument(replay, file_argument(alloc))
+}
+
+fn switches_argument<'a>(alloc: Global) -> Arg<'a>
+    ensures rule { rule_of result ≡ switches_argument }
+    ensures local { result.global ≡ false }
+{
+    Arg::new(alloc, "switches")
+        .long("switches")
+        .value_name("N")
+        .value_parser(value_parser!(u32).range(0..=16))
+        .default_value("2")
+        .help(
+            "Most switches of a schedule, from 0 to 16: events of another thread than the last one's, which could have gone on",
+        )
+}
+
+fn schedule_steps_argument<'a>(alloc: Global) -> Arg<'a>
+    ensures rule { rule_of result ≡ schedule_steps_argument }
+    ensures local { result.global ≡ false }
+{
+    Arg::new(alloc, "steps")
+        .long("steps")
+        .value_name("N")
+        .value_parser(value_parser!(u32).range(1..=1_000_000))
+        .default_value("10000")
+        .help("Most events of a schedule, which is cut there, from 1 to 1000000")
+}
+
+fn runs_argument<'a>(alloc: Global) -> Arg<'a>
+    ensures rule { rule_of result ≡ runs_argument }
+    ensures local { result.global ≡ false }
+{
+    Arg::new(alloc, "runs")
+        .long("runs")
+        .value_name("N")
+        .value_parser(value_parser!(u32).range(1..=100_000_000))
+        .default_value("1000000")
+        .help(
+            "Most runs that are made, from 1 to 100000000; behind them the search is not complete",
+        )
+}
+
+fn slice_argument<'a>(alloc: Global) -> Arg<'a>
+    ensures rule { rule_of result ≡ slice_argument }
+    ensures local { result.global ≡ false }
+{
+    Arg::new(alloc, "slice")
+        .long("slice")
+        .value_name("N")
+        .value_parser(value_parser!(u32).range(1..=1_000_000))
+        .default_value("1000")
+        .help(
+            "Events of one thread in a row behind which the next thread follows, which is no switch, from 1 to 1000000",
+        )
+}
+
+fn outcome_argument<'a>(alloc: Global) -> Arg<'a>
+    ensures rule { rule_of result ≡ outcome_argument }
+    ensures local { result.global ≡ false }
+{
+    Arg::new(alloc, "outcome")
+        .long("outcome")
+        .value_name("N")
+        .value_parser(value_parser!(u32).range(1..=100_000_000))
+        .help("Write the schedule of the outcome of this number alone, for `jm run --schedule`")
+}
+
+fn explore_command<'a>(alloc: Global) -> Result<Command<'a>, AllocError>
+    ensures { IfOk result (λ c. IsSeenAs c explore_command) }
+{
+    let explore = Command::new(alloc, "explore")
+        .about("Try every schedule of a program up to so many switches, and tell each outcome")
+        .after_help(
+            "Example: jm explore --switches 2 Main.class Other.class\n\nClass files come from `javac --release 8`. What a number means says `jm explain N`.",
+        );
+    let explore = with_argument(Ok(explore), switches_argument(alloc));
+    let explore = with_argument(explore, schedule_steps_argument(alloc));
+    let explore = with_argument(explore, runs_argument(alloc));
+    let explore = with_argument(explore, slice_argument(alloc));
+    let explore = with_argument(explore, outcome_argument(alloc));
+    let explore = with_argument(explore, heap_argument(alloc));
+    with_argument(explore, file_argument(alloc))
 }
 
 fn input_argument<'a>(alloc: Global) -> Arg<'a>
@@ -236,6 +368,8 @@ pub fn command<'a>(alloc: Global) -> Result<Command<'a>, AllocError>
     ensures { IfOk result (λ c. IsSeenAs c jm) }
 {
     let jm = with_command(Ok(top_command(alloc)), run_command(alloc));
+    let jm = with_command(jm, replay_command(alloc));
+    let jm = with_command(jm, explore_command(alloc));
     let jm = with_command(jm, assemble_command(alloc));
     let jm = with_command(jm, disassemble_command(alloc));
     let jm = with_command(jm, debug_command(alloc));

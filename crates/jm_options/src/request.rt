@@ -6,17 +6,36 @@ pub const MIN_HEAP: u32 = 16;
 /// The largest limit of the heap, in cells.
 pub const MAX_HEAP: u32 = 16_777_216;
 
-/// The largest number of events that a run without a schedule may be limited to.
+/// The largest number of events that a run without a schedule, or a worker of one, may be limited to.
 pub const MAX_STEPS: u32 = 10_000_000;
 
 /// The largest number of events of a thread's turn.
 pub const MAX_QUANTUM: u32 = 1_000_000;
+
+/// The largest number of workers.
+pub const MAX_WORKERS: u32 = 16;
+
+/// The largest number of switches of the schedules that are tried.
+pub const MAX_SWITCHES: u32 = 16;
+
+/// The largest number of events of a schedule that is tried.
+pub const MAX_SCHEDULE_STEPS: u32 = 1_000_000;
+
+/// The largest number of runs of a search, and of an outcome that it tells of.
+pub const MAX_RUNS: u32 = 100_000_000;
+
+/// The largest number of events of a slice.
+pub const MAX_SLICE: u32 = 1_000_000;
 
 /// What a command line asks for.
 #[derive(Drop)]
 pub enum Options {
     /// `jm run`: to run a program.
     Run(RunOptions),
+    /// `jm replay`: to run a program by the events of a record.
+    Replay(ReplayOptions),
+    /// `jm explore`: to try the schedules of a program.
+    Explore(ExploreOptions),
     /// `jm asm`: to assemble a text into a class file.
     Assemble(AssembleOptions),
     /// `jm dis`: to show the text of a class.
@@ -36,12 +55,53 @@ pub struct RunOptions {
     pub heap: u32,
     /// The file of the schedule, if the events are to be those of one.
     pub schedule: Option<String>,
-    /// The most events that are made without a schedule, from 1 to [`MAX_STEPS`].
+    /// The most events that are made without a schedule, by each worker where there are several, from 1
+    /// to [`MAX_STEPS`].
     pub steps: u32,
     /// The most events of a thread's turn without a schedule, from 1 to [`MAX_QUANTUM`].
     pub quantum: u32,
+    /// How many workers make the events without a schedule, from 1 to [`MAX_WORKERS`].
+    pub workers: u32,
+    /// The file to write the record of the run to, if there is to be one.
+    pub record_file: Option<String>,
     /// Whether the objects that are reachable at the end are shown.
     pub show_heap: bool,
+    /// The files of the classes, the main class's first: a class file, or the text of a class if its
+    /// name ends in `.j`.
+    pub files: Vec<String>,
+}
+
+/// What `jm replay` is given.
+#[derive(Drop)]
+pub struct ReplayOptions {
+    /// The limit of the heap, in cells.
+    pub heap: u32,
+    /// Whether the objects that are reachable at the end are shown.
+    pub show_heap: bool,
+    /// The file of the record.
+    pub record_file: String,
+    /// The files of the classes, the main class's first: a class file, or the text of a class if its
+    /// name ends in `.j`.
+    pub files: Vec<String>,
+}
+
+/// What `jm explore` is given.
+#[derive(Drop)]
+pub struct ExploreOptions {
+    /// The most switches of a schedule, from 0 to [`MAX_SWITCHES`].
+    pub switches: u32,
+    /// The most events of a schedule, from 1 to [`MAX_SCHEDULE_STEPS`].
+    pub steps: u32,
+    /// The most runs that are made, from 1 to [`MAX_RUNS`].
+    pub runs: u32,
+    /// The most events of one thread in a row behind which the next thread follows for nothing, from 1
+    /// to [`MAX_SLICE`].
+    pub slice: u32,
+    /// The number of the outcome whose schedule alone is asked for, from 1 to [`MAX_RUNS`]; `None`
+    /// where all that was found is.
+    pub outcome: Option<u32>,
+    /// The limit of the heap, in cells.
+    pub heap: u32,
     /// The files of the classes, the main class's first: a class file, or the text of a class if its
     /// name ends in `.j`.
     pub files: Vec<String>,

@@ -4,13 +4,14 @@ ghost use Rattle.std.specs.Prelude.{◌≡◌, ℕ, MatchOption, MatchResult, ma
 ghost use Rattle.clap.specs.Words.{first_of, found_of, kind_of, rows_of, subcommand_rows_of};
 ghost use Rattle.clap.specs.declared.error.kind.ErrorKind.TheVariants as kind;
 ghost use Rattle.jm_explain.specs.Items.{Item, item};
-ghost use Rattle.jm_options.specs.Asked.{Answers, Finds, FindsAssemble, FindsDebug, FindsDisassemble, FindsExplain, FindsRun, HoldsEntry, HoldsNumber, is_set};
+ghost use Rattle.jm_options.specs.Asked.{Answers, Finds, FindsAssemble, FindsDebug, FindsDisassemble, FindsExplain, FindsExplore, FindsOutcome, FindsReplay, FindsRun, HoldsEntry, HoldsNumber, is_set};
 
 use crate::command::command;
 use crate::fault::UsageFault;
 use crate::request::{
-    AssembleOptions, DebugOptions, DisassembleOptions, ExplainOptions, MAX_HEAP, MAX_QUANTUM,
-    MAX_STEPS, MIN_HEAP, Options, RunOptions,
+    AssembleOptions, DebugOptions, DisassembleOptions, ExplainOptions, ExploreOptions, MAX_HEAP,
+    MAX_QUANTUM, MAX_RUNS, MAX_SCHEDULE_STEPS, MAX_SLICE, MAX_STEPS, MAX_SWITCHES, MAX_WORKERS,
+    MIN_HEAP, Options, ReplayOptions, RunOptions,
 };
 use clap::error::ErrorKind;
 use clap::{ArgMatches, Error};
@@ -117,6 +118,9 @@ fn run_options(alloc: Global, matches: &ArgMatches<'_>) -> Result<RunOptions, Us
     let Some(quantum) = number_within(matches, "quantum", 1, MAX_QUANTUM) else {
         return Err(nothing_asked(alloc));
     };
+    let Some(workers) = number_within(matches, "workers", 1, MAX_WORKERS) else {
+        return Err(nothing_asked(alloc));
+    };
     let Some(files) = matches.get_strs("file") else {
         return Err(nothing_asked(alloc));
     };
@@ -125,7 +129,75 @@ fn run_options(alloc: Global, matches: &ArgMatches<'_>) -> Result<RunOptions, Us
         schedule: string_of(alloc, matches.get_str("schedule"))?,
         steps,
         quantum,
+        workers,
+        record_file: string_of(alloc, matches.get_str("record"))?,
         show_heap: is_set(matches, "show-heap"),
+        files: strings_of(alloc, files)?,
+    })
+}
+
+fn replay_options(alloc: Global, matches: &ArgMatches<'_>) -> Result<ReplayOptions, UsageFault>
+    ensures { FindsReplay (rows_of (found_of matches.now)) result }
+{
+    let Some(heap) = number_within(matches, "heap", MIN_HEAP, MAX_HEAP) else {
+        return Err(nothing_asked(alloc));
+    };
+    let Some(recorded) = matches.get_str("recorded") else {
+        return Err(nothing_asked(alloc));
+    };
+    let Some(files) = matches.get_strs("file") else {
+        return Err(nothing_asked(alloc));
+    };
+    let shown = is_set(matches, "show-heap");
+    Ok(ReplayOptions {
+        heap,
+        show_heap: shown,
+        record_file: String::from_str(alloc, recorded)?,
+        files: strings_of(alloc, files)?,
+    })
+}
+
+// The number of an outcome, if one is given.
+fn outcome_given(alloc: Global, matches: &ArgMatches<'_>) -> Result<Option<u32>, UsageFault>
+    ensures { FindsOutcome (rows_of (found_of matches.now)) result }
+{
+    let Some(_text) = matches.get_str("outcome") else {
+        return Ok(None);
+    };
+    match number_within(matches, "outcome", 1, MAX_RUNS) {
+        Some(number) => Ok(Some(number)),
+        None => Err(nothing_asked(alloc)),
+    }
+}
+
+fn explore_options(alloc: Global, matches: &ArgMatches<'_>) -> Result<ExploreOptions, UsageFault>
+    ensures { FindsExplore (rows_of (found_of matches.now)) result }
+{
+    let Some(switches) = number_within(matches, "switches", 0, MAX_SWITCHES) else {
+        return Err(nothing_asked(alloc));
+    };
+    let Some(steps) = number_within(matches, "steps", 1, MAX_SCHEDULE_STEPS) else {
+        return Err(nothing_asked(alloc));
+    };
+    let Some(runs) = number_within(matches, "runs", 1, MAX_RUNS) else {
+        return Err(nothing_asked(alloc));
+    };
+    let Some(slice) = number_within(matches, "slice", 1, MAX_SLICE) else {
+        return Err(nothing_asked(alloc));
+    };
+    let Some(heap) = number_within(matches, "heap", MIN_HEAP, MAX_HEAP) else {
+        return Err(nothing_asked(alloc));
+    };
+    let Some(files) = matches.get_strs("file") else {
+        return Err(nothing_asked(alloc));
+    };
+    Ok(ExploreOptions {
+        switches,
+        steps,
+        runs,
+        slice,
+        outcome: outcome_given(alloc, matches)?,
+        heap,
         files: strings_of(alloc, files)?,
     })
 }
@@ -204,6 +276,12 @@ fn found_options(alloc: Global, matches: &ArgMatches<'_>) -> Result<Options, Usa
 {
     if let Some(run) = matches.subcommand_matches("run") {
         return run_options(alloc, run).map(Options::Run);
+    }
+    if let Some(replay) = matches.subcommand_matches("replay") {
+        return replay_options(alloc, replay).map(Options::Replay);
+    }
+    if let Some(explore) = matches.subcommand_matches("explore") {
+        return explore_options(alloc, explore).map(Options::Explore);
     }
     if let Some(assemble) = matches.subcommand_matches("asm") {
         return assemble_options(alloc, assemble).map(Options::Assemble);

@@ -1,12 +1,15 @@
-// Machines: what is told after each event, the readers, collections, and journals.
+// Machines: what is told after each event, the readers, collections, journals, records, and workers.
 
 mod cases;
 mod collections;
 mod elements;
+mod exploration;
 mod journals;
 mod programs;
 mod readers;
+mod records;
 mod replies;
 mod rows;
 mod runs;
 mod threads;
+mod workers;

@@ -2,7 +2,7 @@
 
 use super::words::words_of;
 use crate::table::row_of;
-use jm_options::{ExplainOptions, Options, RunOptions, options};
+use jm_options::{ExplainOptions, ExploreOptions, Options, ReplayOptions, RunOptions, options};
 use std::alloc::Global;
 use std::test::Fail;
 
@@ -28,6 +28,16 @@ jm|run|asm|A.j|A.class => run of asm, A.j, A.class by 1000000 steps in turns of 
 jm|run|--show-heap|Main.class => run of Main.class by 1000000 steps in turns of 1 with 65536, its heap shown
 jm|run|Main.class|--schedule=s.txt|--show-heap|--heap=16 => run of Main.class by s.txt with 16, its heap shown
 jm|run|--|--show-heap => run of --show-heap by 1000000 steps in turns of 1 with 65536
+jm|run|--workers|16|Main.class => run of Main.class by 1000000 steps of 16 workers with 65536
+jm|run|--workers=2|--quantum=5|--steps=9|Main.class|--record|r => run of Main.class by 9 steps of 2 workers with 65536, recorded in r
+jm|run|--workers=2|--schedule=s.txt|--record=r|Main.class => run of Main.class by s.txt with 65536, recorded in r
+jm|replay|r|Main.class => replay of Main.class by r with 65536
+jm|replay|--heap=16|r|Main.class|A.j|--show-heap => replay of Main.class, A.j by r with 16, its heap shown
+jm|replay|replay|--|--heap => replay of --heap by replay with 65536
+jm|explore|Main.class => exploration of Main.class by 2 switches, 10000 steps, 1000000 runs, slices of 1000 with 65536
+jm|explore|--switches=0|--steps|1|A.j|--runs=1|--slice|1|--heap=16|B.j => exploration of A.j, B.j by 0 switches, 1 steps, 1 runs, slices of 1 with 16
+jm|explore|--switches|16|--steps=1000000|--runs=100000000|--slice=1000000|--outcome|100000000|A.j => exploration of A.j by 16 switches, 1000000 steps, 100000000 runs, slices of 1000000 with 65536, outcome 100000000
+jm|explore|--outcome=1|explore|--|--heap => exploration of explore, --heap by 2 switches, 10000 steps, 1000000 runs, slices of 1000 with 65536, outcome 1
 jm|debug|Main.class => debug of Main.class with 65536
 jm|debug|--heap=16|Main.class|A.j => debug of Main.class, A.j with 16
 jm|debug|Main.class|--heap|16777216|--|--heap => debug of Main.class, --heap with 16777216
@@ -67,8 +77,12 @@ fn events_of(alloc: Global, run: &RunOptions) -> Result<String, Fail> {
     match &run.schedule {
         Some(file) => Ok(String::from_str(alloc, file)?),
         None => {
-            let (steps, quantum) = (run.steps, run.quantum);
-            Ok(format!(in alloc; "{steps} steps in turns of {quantum}")?)
+            let (steps, quantum, workers) = (run.steps, run.quantum, run.workers);
+            if workers == 1 {
+                Ok(format!(in alloc; "{steps} steps in turns of {quantum}")?)
+            } else {
+                Ok(format!(in alloc; "{steps} steps of {workers} workers")?)
+            }
         }
     }
 }
@@ -82,7 +96,35 @@ fn run_text(alloc: Global, run: &RunOptions) -> Result<String, Fail> {
     } else {
         ""
     };
-    Ok(format!(in alloc; "run of {files} by {events} with {heap}{shown}")?)
+    let text = format!(in alloc; "run of {files} by {events} with {heap}{shown}")?;
+    match &run.record_file {
+        Some(file) => Ok(format!(in alloc; "{text}, recorded in {file}")?),
+        None => Ok(text),
+    }
+}
+
+fn replay_text(alloc: Global, replay: &ReplayOptions) -> Result<String, Fail> {
+    let files = list_of(alloc, &replay.files)?;
+    let (events, heap) = (&replay.record_file, replay.heap);
+    let shown = if replay.show_heap {
+        ", its heap shown"
+    } else {
+        ""
+    };
+    Ok(format!(in alloc; "replay of {files} by {events} with {heap}{shown}")?)
+}
+
+fn explore_text(alloc: Global, explore: &ExploreOptions) -> Result<String, Fail> {
+    let files = list_of(alloc, &explore.files)?;
+    let (switches, steps) = (explore.switches, explore.steps);
+    let (runs, slice, heap) = (explore.runs, explore.slice, explore.heap);
+    let text = format!(in alloc;
+        "exploration of {files} by {switches} switches, {steps} steps, {runs} runs, slices of {slice} with {heap}"
+    )?;
+    match explore.outcome {
+        Some(number) => Ok(format!(in alloc; "{text}, outcome {number}")?),
+        None => Ok(text),
+    }
 }
 
 // Of which number an explanation is.
@@ -99,6 +141,8 @@ fn explained(alloc: Global, explain: &ExplainOptions) -> Result<String, Fail> {
 fn text_of(alloc: Global, asked: &Options) -> Result<String, Fail> {
     match asked {
         Options::Run(run) => run_text(alloc, run),
+        Options::Replay(replay) => replay_text(alloc, replay),
+        Options::Explore(explore) => explore_text(alloc, explore),
         Options::Assemble(files) => {
             let (input, output) = (&files.input, &files.output);
             Ok(format!(in alloc; "assembly of {input} to {output}")?)
@@ -131,6 +175,6 @@ fn words_ask_for_this(rt: HostRuntime) -> Result<(), Fail> {
         let answer = answer(rt.alloc(), words)?;
         assert!(rt; answer.as_str() == want, "{row}");
     }
-    assert!(rt; ASKED.lines().count() == 41);
+    assert!(rt; ASKED.lines().count() == 51);
     Ok(())
 }

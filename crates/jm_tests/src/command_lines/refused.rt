@@ -16,7 +16,6 @@ jm help => 1 A Java virtual machine that makes one event after the other
 jm run --help => 1 Run a program: its threads take turns, or a schedule says which events are made
 jm help run => 1 Run a program: its threads take turns, or a schedule says which events are made
 jm --version => 1 error: unexpected argument '--version' found
-jm replay r A.class => 1 error: unrecognized subcommand 'replay'
 jm debg A.class => 1 error: unrecognized subcommand 'debg'
 jm A.class => 1 error: unrecognized subcommand 'A.class'
 jm run => 1 error: the following required arguments were not provided:
@@ -39,8 +38,32 @@ jm run --quantum=1000001 A.class => 1 error: invalid value '1000001' for '--quan
 jm run --quantum= A.class => 1 error: invalid value '' for '--quantum <N>': cannot parse integer from empty string
 jm run --shedule s A.class => 1 error: unexpected argument '--shedule' found
 jm run --copiers 2 --schedule=s A.class => 1 error: unexpected argument '--copiers' found
-jm run --workers=2 --schedule=s A.class => 1 error: unexpected argument '--workers' found
-jm run --record r --schedule=s A.class => 1 error: unexpected argument '--record' found
+jm run --workers 0 A.class => 1 error: invalid value '0' for '--workers <N>': 0 is not in 1..=16
+jm run --workers=17 A.class => 1 error: invalid value '17' for '--workers <N>': 17 is not in 1..=16
+jm run --workers=2 --workers=2 A.class => 1 error: the argument '--workers <N>' cannot be used multiple times
+jm run --record r --record s A.class => 1 error: the argument '--record <FILE>' cannot be used multiple times
+jm replay => 1 error: the following required arguments were not provided:
+jm replay r => 1 error: the following required arguments were not provided:
+jm replay --help => 1 Run a program again by the events of a record, and compare how each is answered
+jm replay --workers 2 r A.class => 1 error: unexpected argument '--workers' found
+jm replay --schedule s r A.class => 1 error: unexpected argument '--schedule' found
+jm replay --record s r A.class => 1 error: unexpected argument '--record' found
+jm explore => 1 error: the following required arguments were not provided:
+jm explore --help => 1 Try every schedule of a program up to so many switches, and tell each outcome
+jm explore --switches 17 A.class => 1 error: invalid value '17' for '--switches <N>': 17 is not in 0..=16
+jm explore --switches=-1 A.class => 1 error: invalid value '-1' for '--switches <N>': -1 is not in 0..=16
+jm explore --switches 1 --switches 1 A.class => 1 error: the argument '--switches <N>' cannot be used multiple times
+jm explore --steps 0 A.class => 1 error: invalid value '0' for '--steps <N>': 0 is not in 1..=1000000
+jm explore --steps=1000001 A.class => 1 error: invalid value '1000001' for '--steps <N>': 1000001 is not in 1..=1000000
+jm explore --runs 0 A.class => 1 error: invalid value '0' for '--runs <N>': 0 is not in 1..=100000000
+jm explore --runs=100000001 A.class => 1 error: invalid value '100000001' for '--runs <N>': 100000001 is not in 1..=100000000
+jm explore --slice 0 A.class => 1 error: invalid value '0' for '--slice <N>': 0 is not in 1..=1000000
+jm explore --slice=1000001 A.class => 1 error: invalid value '1000001' for '--slice <N>': 1000001 is not in 1..=1000000
+jm explore --outcome 0 A.class => 1 error: invalid value '0' for '--outcome <N>': 0 is not in 1..=100000000
+jm explore --outcome x A.class => 1 error: invalid value 'x' for '--outcome <N>': invalid digit found in string
+jm explore --schedule s A.class => 1 error: unexpected argument '--schedule' found
+jm explore --quantum 2 A.class => 1 error: unexpected argument '--quantum' found
+jm explore --show-heap A.class => 1 error: unexpected argument '--show-heap' found
 jm run --show-heap --show-heap A.class => 1 error: the argument '--show-heap' cannot be used multiple times
 jm run --show-heap=1 A.class => 1 error: unexpected value '1' for '--show-heap' found; no more were expected
 jm run --show-heaps A.class => 1 error: unexpected argument '--show-heaps' found
@@ -89,6 +112,10 @@ jm version --help => 1 Say which jm this is, and which kit it is written for";
 const PARTS: &str = "\
 jm => Usage: jm <COMMAND>
 jm --help =>   run      Run a program: its threads take turns, or a schedule says which events are made
+jm --help =>   explore  Try every schedule of a program up to so many switches, and tell each outcome
+jm explore -h => Usage: jm explore [OPTIONS] <FILE>...
+jm explore -h => Example: jm explore --switches 2 Main.class Other.class
+jm explore -h => [default: 10000]
 jm --help =>   asm      Assemble a text in Jasmin's syntax into a class file
 jm --help =>   dis      Show the text of a class in Jasmin's syntax, which `asm` gives back as the class
 jm dis -h => Usage: jm dis [OPTIONS] <FILE>
@@ -150,7 +177,7 @@ fn refusals_name_the_word(rt: HostRuntime) -> Result<(), Fail> {
         let said = first_line(rt.alloc(), words)?;
         assert!(rt; said.as_str() == want, "{row}");
     }
-    assert!(rt; REFUSED.lines().count() == 76);
+    assert!(rt; REFUSED.lines().count() == 99);
     Ok(())
 }
 
@@ -168,7 +195,7 @@ fn refusals_say_what_to_write(rt: HostRuntime) -> Result<(), Fail> {
         let (words, part) = row_of(row)?;
         assert!(rt; says(rt.alloc(), words, part)?, "{row}");
     }
-    assert!(rt; PARTS.lines().count() == 42);
+    assert!(rt; PARTS.lines().count() == 46);
     Ok(())
 }
 

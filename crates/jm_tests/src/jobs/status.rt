@@ -16,6 +16,8 @@ fn statuses_have_their_numbers(rt: HostRuntime) -> Result<(), Fail> {
         Status::OutOfMemory,
         Status::NotEnded,
         Status::BadSchedule,
+        Status::SeveralOutcomes,
+        Status::NotAllTried,
     ];
     for (number, status) in statuses.iter().enumerate() {
         assert!(rt; usize::from(status.code()) == number);

@@ -3,16 +3,18 @@
 ghost use Rattle.std.specs.Prelude.{⊤};
 
 use jm_execute::{
-    AssembleJob, Contents, DebugJob, DisassembleJob, InputFile, Job, RunEvents, RunJob, Watchable,
-    Watched, WriteFailed, execute, put_by_write, put_line_by_write, put_through_by_flush,
+    AssembleJob, Contents, DebugJob, DisassembleJob, InputFile, Job, ReplayJob, RunEvents, RunJob,
+    Watchable, Watched, WriteFailed, execute, put_by_write, put_line_by_write,
+    put_through_by_flush, several_workers,
 };
 use std::alloc::{AllocError, Global};
 use std::fmt::Display;
-use std::io;
 use std::io::{ErrorKind, Write};
 use std::process::Abort;
 use std::sync::Wait;
 use std::test::Fail;
+use std::thread::Threads;
+use std::{io, str};
 
 // Takes so many bytes, one at a call, and then none; where it is closed, as a pipe can be, it answers
 // an error to each write.
@@ -68,6 +70,25 @@ return
 .end method
 ";
 
+// The record of its seven events, and one whose sixth has another kind: the print is the sixth.
+const SEVEN: &str = "t 1 @0 done
+t 1 @0 done
+t 1 @1 done
+t 1 @0 done
+t 1 @2 done
+t 1 @0 done
+t 1 @0 done
+";
+
+const OTHER_SIXTH: &str = "t 1 @0 done
+t 1 @0 done
+t 1 @0 done
+t 1 @0 done
+t 1 @0 done
+t 1 @0 none
+t 1 @0 done
+";
+
 // A class whose class file has 53 bytes, and whose text with its version, as `jm dis` shows it, 48.
 const EMPTY: &str = ".class A
 .super java/lang/Object
@@ -83,6 +104,17 @@ run 7 | 1 | failed | jm: write failed | 2
 run 7 | 0 | failed | jm: write failed | 2
 run 7 | closed | failed | closed | 2
 run 6 | 2 | whole | closed | 8
+workers | 2 | whole | - | 0
+workers | 1 | failed | jm: write failed | 2
+workers | closed | failed | closed | 2
+replay | 2 | whole | - | 0
+replay | 1 | failed | jm: write failed | 2
+replay | 0 | failed | jm: write failed | 2
+replay | closed | failed | closed | 2
+differs | 2 | whole | jm: 71 ReplayDiffers(6) | 9
+differs | 2 | whole | closed | 9
+differs | 1 | failed | jm: write failed | 2
+bare | closed | whole | jm: 70 BadSchedule(1) | 9
 asm | 53 | whole | - | 0
 asm | 52 | failed | jm: A.class: not written | 2
 asm | 0 | failed | jm: A.class: not written | 2
@@ -105,10 +137,25 @@ fn file(alloc: Global, text: &str) -> Result<InputFile, AllocError> {
     })
 }
 
-fn run_job(alloc: Global, schedule: &str) -> Result<Job, AllocError> {
+fn run_job(alloc: Global, events: RunEvents) -> Result<Job, AllocError> {
     Ok(Job::Run(RunJob {
         heap: 100,
-        events: RunEvents::Schedule(file(alloc, schedule)?),
+        events,
+        program: vec![in alloc; file(alloc, FIVE)?]?,
+        show_heap: false,
+        is_recorded: true,
+    }))
+}
+
+fn scheduled_job(alloc: Global, schedule: &str) -> Result<Job, AllocError> {
+    let schedule = file(alloc, schedule)?;
+    run_job(alloc, RunEvents::Schedule(schedule))
+}
+
+fn replay_job(alloc: Global, record_text: &str) -> Result<Job, AllocError> {
+    Ok(Job::Replay(ReplayJob {
+        heap: 100,
+        record_file: file(alloc, record_text)?,
         program: vec![in alloc; file(alloc, FIVE)?]?,
         show_heap: false,
     }))
@@ -139,8 +186,12 @@ fn debug_job(alloc: Global) -> Result<Job, AllocError> {
 // The job of this name; an empty text is refused. What is read in a session is no command.
 fn job_of(alloc: Global, name: &str) -> Result<Job, AllocError> {
     match name {
-        "run 7" => run_job(alloc, "t 1 x 7"),
-        "run 6" => run_job(alloc, "t 1 x 6"),
+        "run 7" => scheduled_job(alloc, "t 1 x 7"),
+        "run 6" => scheduled_job(alloc, "t 1 x 6"),
+        "workers" => run_job(alloc, RunEvents::Workers(several_workers(3, 7))),
+        "replay" => replay_job(alloc, SEVEN),
+        "differs" => replay_job(alloc, OTHER_SIXTH),
+        "bare" => replay_job(alloc, "t 1\n"),
         "asm" => assembly_job(alloc, EMPTY),
         "dis" => disassembly_job(alloc, EMPTY),
         "debug" => debug_job(alloc),
@@ -167,7 +218,7 @@ fn line_of(alloc: Global, column: &str) -> Result<String, AllocError> {
 
 // Does a job, and says whether the two writers have failed, and the number of the status.
 fn done(
-    rt: &impl Wait,
+    rt: &(impl Threads + Wait + Sync),
     alloc: Global,
     job: &Job,
     output: &mut Narrow,
@@ -176,14 +227,14 @@ fn done(
     let mut input = Watched::new(b"unread".as_slice());
     let mut out = Watched::new(output);
     let mut err = Watched::new(told);
-    let status = execute(rt, alloc, job, &mut input, &mut out, &mut err);
+    let status = execute(rt, alloc, job, &mut input, &mut out, &mut err).status;
     (out.has_failed(), err.has_failed(), status.code())
 }
 
 // Does a job over the writers of two columns. Answers what standard error has taken, behind whether the
 // writers have failed and the number of the status.
 fn done_over(
-    rt: &impl Wait,
+    rt: &(impl Threads + Wait + Sync),
     alloc: Global,
     job: &Job,
     room: &str,
@@ -197,7 +248,11 @@ fn done_over(
     (done, taken)
 }
 
-fn check_row(rt: &(impl Abort + Wait), alloc: Global, row: &str) -> Result<(), Fail> {
+fn check_row(
+    rt: &(impl Abort + Threads + Wait + Sync),
+    alloc: Global,
+    row: &str,
+) -> Result<(), Fail> {
     let columns: Vec<&str> = row.split(" | ").collect(alloc)?;
     let [job, room, end, line, status] = columns.as_slice() else {
         return Err(Fail::from("a row without its columns"));
@@ -216,6 +271,62 @@ fn check_row(rt: &(impl Abort + Wait), alloc: Global, row: &str) -> Result<(), F
 fn writers_that_fail(rt: HostRuntime) -> Result<(), Fail> {
     for row in ROWS.lines() {
         check_row(&rt, rt.alloc(), row)?;
+    }
+    Ok(())
+}
+
+// The record that comes of a job, and `-` where there is none.
+fn record_of(rt: &(impl Threads + Wait + Sync), alloc: Global, name: &str) -> Result<String, Fail> {
+    let job = job_of(alloc, name)?;
+    let mut input = Watched::new(b"unread".as_slice());
+    let mut out = Watched::new(writer(alloc, "whole"));
+    let mut err = Watched::new(writer(alloc, "whole"));
+    let finished = execute(rt, alloc, &job, &mut input, &mut out, &mut err);
+    drop(job);
+    match &finished.record_text {
+        Some(text) => Ok(String::from_str(alloc, str::from_utf8(text)?)?),
+        None => Ok(String::from_str(alloc, "-")?),
+    }
+}
+
+// Jobs, and the line that stands in the record for each of so many events; a run that 61 did not end has one.
+const RECORDS: &str = "\
+run 7 | t 1 @0 done | 7
+run 6 | t 1 @0 done | 6
+asm | - | 0
+dis | - | 0
+debug | - | 0
+replay | - | 0
+differs | - | 0
+bare | - | 0
+";
+
+fn check_record(
+    rt: &(impl Abort + Threads + Wait + Sync),
+    alloc: Global,
+    row: &str,
+) -> Result<(), Fail> {
+    let columns: Vec<&str> = row.split(" | ").collect(alloc)?;
+    let [job, line, count] = columns.as_slice() else {
+        return Err(Fail::from("a row without its columns"));
+    };
+    let mut wanted = String::new(alloc);
+    for _ in 0..count.parse::<u32>()? {
+        wanted.push_str(line)?;
+        wanted.push_str("\n")?;
+    }
+    if *line == "-" {
+        wanted.push_str("-")?;
+    }
+    let text = record_of(rt, alloc, job)?;
+    assert!(rt; text.as_str() == wanted.as_str(), "{row}");
+    Ok(())
+}
+
+#[test]
+fn a_recorded_run_gives_its_record(rt: HostRuntime) -> Result<(), Fail> {
+    for row in RECORDS.lines() {
+        check_record(&rt, rt.alloc(), row)?;
     }
     Ok(())
 }

@@ -17,4 +17,4 @@ loop-preserved g c = record {
 pub returns-in-Err-clause-made : goal.returns-in-Err-clause-made
 returns-in-Err-clause-made g c =
     let same = ap (λ h. h.receipts) c.in-Err.ensures.seat in
-    repeats_part _ _ c.loop.counter c.args.run (omega arith) (subst (λ rs. Records c.args.seat.now.receipts rs (replicate c.loop.counter c.args.run.event)) (sym same) c.loop.invariant.made)
+    repeats_part _ _ c.loop.counter c.args.run (omega arith) (subst (λ rs. Records c.args.worker.now.receipts rs (replicate c.loop.counter c.args.run.event)) (sym same) c.loop.invariant.made)

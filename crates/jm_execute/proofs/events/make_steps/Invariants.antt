@@ -1,4 +1,4 @@
--- The seat has the steps so far.
+-- The worker has the steps so far.
 use Rattle.std.proofs.Common.{◌≡◌, ◌-◌, ◌≤◌}
 use Rattle.jm_machine.specs.ManySteps.{steps_of}
 use Rattle.jm_execute.specs.Turns.{Records}
@@ -6,9 +6,9 @@ use Rattle.jm_execute.proofs.events.make_steps.Given as goal
 
 abbrev pub invariant-loop-left : goal.invariant-loop-left
 invariant-loop-left g l = record {
-  made : Records l.initial.seat.receipts l.seat.receipts (steps_of l.thread (l.count - l.left));
+  made : Records l.initial.worker.receipts l.worker.receipts (steps_of l.thread (l.count - l.left));
   within : l.left ≤ l.count;
-  number : l.seat.number ≡ l.initial.seat.number;
+  number : l.worker.number ≡ l.initial.worker.number;
 }
 
 abbrev pub decreases-loop-left : goal.decreases-loop-left

@@ -13,11 +13,11 @@ returns-in_err-check_events-clause-run g c =
 
 pub returns-in-Ok-clause-run : goal.returns-in-Ok-clause-run
 returns-in-Ok-clause-run g c =
-    sourced _ c.in_ok-check_events.ensures _ _ refl c.deref.ensures.value (λ t. t.0) (λ t. t.1) (λ m. m.linked.program) choice_made c.in-Ok.machine c.in-Ok.ensures.program c.with_source.result (c.with_source.ensures.source _) c.with_source.ensures.same
+    sourced _ c.in_ok-check_events.ensures _ _ refl c.deref.ensures.value (λ t. t.0) (λ t. t.1) (λ m. m.linked.program) choice_made c.in-Ok.machine c.in-Ok.ensures.program c.with_plan.result (c.with_plan.ensures.plan _) c.with_plan.ensures.same
 
 pub returns-in-Ok-clause-ready : goal.returns-in-Ok-clause-ready
 returns-in-Ok-clause-ready g c =
-    kept_with (λ t. t.0) (StandsAtItsBeginning _) c.in-Ok.machine c.with_source.result c.with_source.ensures.same c.in-Ok.ensures.ready
+    kept_with (λ t. t.0) (StandsAtItsBeginning _) c.in-Ok.machine c.with_plan.result c.with_plan.ensures.same c.in-Ok.ensures.ready
 
 pub returns-in-Err-clause-run : goal.returns-in-Err-clause-run
 returns-in-Err-clause-run g c = no_program _ c.in_ok-check_events.ensures _ _ refl c.deref.ensures.value _ c.in-Err.ensures.program

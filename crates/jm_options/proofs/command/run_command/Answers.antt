@@ -1,4 +1,4 @@
--- Six arguments, one after the other.
+-- Eight arguments, one after the other.
 use Rattle.std.proofs.Common.{ap, ◌∙◌, codes}
 use Rattle.clap.specs.Words.{new_app}
 use Rattle.clap.specs.Simple.{app_of_fields}
@@ -12,5 +12,7 @@ returns c =
     let two = c.with_argument-run-2.ensures _ _ one c.schedule_argument.ensures.rule c.schedule_argument.ensures.local in
     let three = c.with_argument-run-3.ensures _ _ two c.steps_argument.ensures.rule c.steps_argument.ensures.local in
     let four = c.with_argument-run-4.ensures _ _ three c.quantum_argument.ensures.rule c.quantum_argument.ensures.local in
-    let five = c.with_argument-run-5.ensures _ _ four c.show_heap_argument.ensures.rule c.show_heap_argument.ensures.local in
-    c.with_argument.ensures _ _ five c.file_argument.ensures.rule c.file_argument.ensures.local
+    let five = c.with_argument-run-5.ensures _ _ four c.workers_argument.ensures.rule c.workers_argument.ensures.local in
+    let six = c.with_argument-run-6.ensures _ _ five c.record_argument.ensures.rule c.record_argument.ensures.local in
+    let seven = c.with_argument-run-7.ensures _ _ six c.show_heap_argument.ensures.rule c.show_heap_argument.ensures.local in
+    c.with_argument.ensures _ _ seven c.file_argument.ensures.rule c.file_argument.ensures.local

@@ -14,6 +14,9 @@ returns-in_default-number_within c = none_asked _ _ (λ o holds. c.in_default-nu
 pub returns-in_default-number_within-2 : goal.returns-in_default-number_within-2
 returns-in_default-number_within-2 c = none_asked _ _ (λ o holds. c.in_default-number_within-2.ensures o.quantum holds.quantum)
 
+pub returns-in_default-number_within-3 : goal.returns-in_default-number_within-3
+returns-in_default-number_within-3 c = none_asked _ _ (λ o holds. c.in_default-number_within-3.ensures o.workers holds.workers)
+
 pub returns-in_default-get_strs : goal.returns-in_default-get_strs
 returns-in_default-get_strs c =
     let none = rw c.in_default-get_strs.is at c.get_strs.ensures in
@@ -27,6 +30,8 @@ returns c =
       schedule = sym (first_value-rows (found_of c.args.matches.now) (codes "schedule")) ∙ sym c.get_str.ensures ∙ sym c.in_ok-string_of.ensures;
       steps = c.in-Some-number_within.ensures;
       quantum = c.in-Some-number_within-2.ensures;
+      workers = c.in-Some-number_within-3.ensures;
+      record_file = sym (first_value-rows (found_of c.args.matches.now) (codes "record")) ∙ sym c.get_str-2.ensures ∙ sym c.in_ok-string_of-2.ensures;
       show_heap = c.is_set.ensures;
       files = sym (raw_values-rows (found_of c.args.matches.now) (codes "file")) ∙ sym files ∙ ap Some (sym c.in_ok-strings_of.ensures);
     }

@@ -1,4 +1,4 @@
--- The seat has the runs so far.
+-- The worker has the runs so far.
 use Rattle.std.proofs.Common.{◌≡◌, [], take}
 use Rattle.jm_schedule.specs.Runs.{events_of}
 use Rattle.jm_execute.specs.Turns.{Records}
@@ -6,6 +6,6 @@ use Rattle.jm_execute.proofs.events.ScheduleEventSource.make_events.Given as goa
 
 abbrev pub invariant-loop-run : goal.invariant-loop-run
 invariant-loop-run g l = record {
-  made : Records [] l.seat.receipts (events_of (take l.run-index l.runs));
-  number : l.seat.number ≡ l.fn.seat.number;
+  made : Records [] l.worker.receipts (events_of (take l.run-index l.runs));
+  number : l.worker.number ≡ l.fn.worker.number;
 }

@@ -5,12 +5,12 @@ use Rattle.jm_execute.proofs.round_robin.RoundRobinEventSource.make_events.Goals
 
 pub loop-left-init : goal.loop-left-init
 loop-left-init g c = record {
-  made = λ are. begun g.S.Origin.first c.args.self.now.steps c.args.self.now.quantum c.args.seat.now.receipts c.in-Ok.pass c.requires.fresh (c.in-Ok.ensures g.S.Origin.first c.requires.begins);
+  made = λ are. begun g.R.Origin.first c.args.self.now.steps c.args.self.now.quantum c.args.worker.now.receipts c.in-Ok.pass c.requires.fresh (c.in-Ok.ensures g.R.Origin.first c.requires.begins);
   number = refl;
 }
 
 pub returns-in-Err-make_next-clause-made : goal.returns-in-Err-make_next-clause-made
 returns-in-Err-make_next-clause-made g c = λ are.
     let so = c.loop-left.invariant.made (c.in-Err-make_next.ensures.before are) in
-    is_short g.S.Origin.first c.args.self.now.steps c.args.self.now.quantum c.loop-left.left c.loop-left.standing c.loop-left.seat.receipts c.make_next.new.seat.receipts c.loop-left.pass so
+    is_short g.R.Origin.first c.args.self.now.steps c.args.self.now.quantum c.loop-left.left c.loop-left.standing c.loop-left.worker.receipts c.make_next.new.worker.receipts c.loop-left.pass so
     (c.in-Err-make_next.ensures.made are so.knows)

@@ -6,8 +6,8 @@ use Rattle.jm_execute.proofs.round_robin.RoundRobinEventSource.make_events.Given
 
 abbrev pub invariant-loop-left : goal.invariant-loop-left
 invariant-loop-left g l = record {
-  made : AreReplies g.S.Origin.first l.seat.receipts → SoFar g.S.Origin.first l.self.steps l.self.quantum l.left l.standing l.seat.receipts l.pass;
-  number : l.seat.number ≡ l.fn.seat.number;
+  made : AreReplies g.R.Origin.first l.worker.receipts → SoFar g.R.Origin.first l.self.steps l.self.quantum l.left l.standing l.worker.receipts l.pass;
+  number : l.worker.number ≡ l.fn.worker.number;
 }
 
 abbrev pub decreases-loop-left : goal.decreases-loop-left

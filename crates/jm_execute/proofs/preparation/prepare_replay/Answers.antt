@@ -1,0 +1,23 @@
+-- One step after the other.
+use Rattle.std.proofs.Common.{refl}
+use Rattle.std.proofs.lemmas.Result.{err_from_is_err_and}
+use Rattle.jm_execute.specs.Beginnings.{StandsAtItsBeginning}
+use Rattle.jm_execute.proofs.ReplayVerdicts.{no_program, not_read, replayed}
+use Rattle.jm_execute.proofs.RunVerdicts.{kept_with}
+use Rattle.jm_execute.proofs.preparation.prepare_replay.Goals as goal
+
+pub returns-in_err-text-clause-run : goal.returns-in_err-text-clause-run
+returns-in_err-text-clause-run g c =
+    let p = err_from_is_err_and c.from_residual.result c.from_residual.ensures.1 in
+    rw (p.1, p.2) (not_read _ _ c.in_err-text.ensures)
+
+pub returns-in-Ok-clause-run : goal.returns-in-Ok-clause-run
+returns-in-Ok-clause-run g c =
+    replayed _ _ c.in_ok-text.ensures _ _ refl c.deref.ensures.value (λ t. t.0) (λ t. t.1) (λ m. m.linked.program) c.in-Ok.machine c.in-Ok.ensures.program c.with_record.result c.with_record.ensures.record_is c.with_record.ensures.same
+
+pub returns-in-Ok-clause-ready : goal.returns-in-Ok-clause-ready
+returns-in-Ok-clause-ready g c =
+    kept_with (λ t. t.0) (StandsAtItsBeginning _) c.in-Ok.machine c.with_record.result c.with_record.ensures.same c.in-Ok.ensures.ready
+
+pub returns-in-Err-clause-run : goal.returns-in-Err-clause-run
+returns-in-Err-clause-run g c = no_program _ _ c.in_ok-text.ensures _ _ refl c.deref.ensures.value _ c.in-Err.ensures.program

@@ -1,0 +1,241 @@
+// Searches of the schedules of a program.
+
+ghost use Rattle.std.specs.Prelude.{◌≡◌, ◌∷◌, false, map, IfOk};
+ghost use Rattle.jm_explore.specs.Outcomes.{thrown_of, told_end};
+ghost use Rattle.jm_explore.specs.declared.bounds.Bounds.{Bounds as BoundsModel};
+ghost use Rattle.jm_explore.specs.declared.exploration.Explored.{Explored as ExploredModel};
+ghost use Rattle.jm_explore_text.specs.Explorations.{told_at};
+ghost use Rattle.jm_world.specs.Loading.{loaded_world};
+ghost use Rattle.jm_execute.specs.Endings.{Leaves, LeavesFound, Tells, explored};
+ghost use Rattle.jm_execute.specs.Explorations.{Finds, ended_status, found_text, lack_of, lack_of_outcome, lack_without, one_status, outcome_status, told_status};
+ghost use Rattle.jm_execute.specs.Written.{words};
+
+use crate::ends::stop_status;
+use crate::execution::tell_exhausted;
+use crate::job::ExploreJob;
+use crate::preparation::RunHeap;
+use crate::status::Status;
+use crate::watchable::Watchable;
+use crate::watched::Watched;
+use jm_copy::SerialCollector;
+use jm_explore::{
+    Bounds, EmptyHeaps, EndedBy, Explored, HowEnded, Outcome, Told, Unfinished, explore,
+};
+use jm_explore_text::{exploration_text, outcome_at, schedule_text};
+use jm_gen_heap::GenHeap;
+use jm_machine::Machine;
+use std::alloc::{AllocError, Global};
+
+/// The heap of each run of a search.
+pub(crate) type SearchHeap = RunHeap<SerialCollector>;
+
+/// What makes the heaps of a search, each of so many cells.
+#[derive(Clone, Copy)]
+struct SearchHeaps {
+    alloc: Global,
+    limit: u32,
+}
+
+impl EmptyHeaps<SearchHeap> for SearchHeaps {
+    ghost limit = { λ heaps. heaps.limit };
+
+    fn empty_heap(&self) -> Result<SearchHeap, AllocError> {
+        GenHeap::new(self.alloc, self.limit, SerialCollector)
+    }
+}
+
+/// What a search lacks.
+#[derive(Clone, Copy)]
+pub enum Lack {
+    /// Memory was refused before its end.
+    Memory,
+    /// There is no outcome of the number that is asked for.
+    Outcome,
+}
+
+// What is missing of an outcome of this number.
+fn lack_without(found: &Explored, number: u32) -> Option<Lack>
+    ensures { result ≡ lack_without (told_at number found.now.told.items) }
+{
+    match outcome_at(found, number) {
+        Some(_told) => None,
+        None => Some(Lack::Outcome),
+    }
+}
+
+// Where the search was made to its end: whether there is an outcome of the number that is asked for.
+fn lack_of_outcome(found: &Explored, wanted: Option<u32>) -> Option<Lack>
+    ensures { result ≡ lack_of_outcome found.now.told.items wanted }
+{
+    match wanted {
+        Some(number) => lack_without(found, number),
+        None => None,
+    }
+}
+
+// What a search lacks, if anything.
+fn lack_of(found: &Explored, wanted: Option<u32>) -> Option<Lack>
+    ensures { result ≡ lack_of found.now wanted }
+{
+    let lack = lack_of_outcome(found, wanted);
+    match found.unfinished {
+        None => lack,
+        Some(Unfinished::RunsEnd) => lack,
+        Some(Unfinished::OutOfMemory) => Some(Lack::Memory),
+        Some(Unfinished::HeapTooSmall) => lack,
+    }
+}
+
+// The status where all threads have ended.
+fn ended_status(ended_by: &[EndedBy]) -> Status
+    ensures { result ≡ ended_status (map thrown_of ended_by.now) }
+{
+    if ended_by.is_empty() {
+        Status::Done
+    } else {
+        Status::EndedByException
+    }
+}
+
+// The status of a run that comes to an outcome.
+fn outcome_status(outcome: &Outcome) -> Status
+    ensures { result ≡ outcome_status (told_end outcome.now) }
+{
+    match outcome.how {
+        HowEnded::Ended => ended_status(&outcome.ended_by),
+        HowEnded::Stopped(stop) => stop_status(stop),
+        HowEnded::Deadlock(_) => Status::NotEnded,
+        HowEnded::Cut => Status::NotEnded,
+    }
+}
+
+// The status where one outcome was found.
+fn one_status(why: Option<Unfinished>, told: &Told) -> Status
+    ensures { result ≡ one_status why told.now }
+{
+    match why {
+        None => outcome_status(&told.outcome),
+        Some(_) => Status::NotAllTried,
+    }
+}
+
+// The status where an outcome was found, and maybe others behind it.
+fn first_status(why: Option<Unfinished>, first: &Told, rest: &[Told]) -> Status
+    ensures { result ≡ told_status why (first.now ∷ rest.now) }
+{
+    match rest.split_first() {
+        None => one_status(why, first),
+        Some(_) => Status::SeveralOutcomes,
+    }
+}
+
+// The status of what was found.
+fn told_status(why: Option<Unfinished>, told: &[Told]) -> Status
+    ensures { result ≡ told_status why told.now }
+{
+    match told.split_first() {
+        Some((first, rest)) => first_status(why, first, rest),
+        None => Status::NotAllTried,
+    }
+}
+
+// All that was found, or the schedule of the outcome that is asked for; nothing where there is none of
+// its number.
+fn found_text(
+    alloc: Global,
+    bounds: Bounds,
+    found: &Explored,
+    wanted: Option<u32>,
+) -> Result<Vec<u8>, AllocError>
+    ensures { IfOk result (λ text. text.items ≡ found_text bounds found.now wanted) }
+{
+    let number = match wanted {
+        Some(number) => number,
+        None => return exploration_text(alloc, bounds, found),
+    };
+    match outcome_at(found, number) {
+        Some(told) => schedule_text(alloc, &told.schedule),
+        None => Ok(Vec::new(alloc)),
+    }
+}
+
+// Tells what a search lacks, if anything.
+fn tell_lack<E: Watchable>(found: &Explored, wanted: Option<u32>, err: &mut Watched<E>) -> Status
+    requires { err.old.failed ≡ false }
+    ensures { (b : BoundsModel) → Tells (words E.contents E.ends) (explored b found.now wanted) result err.old err.new }
+{
+    match lack_of(found, wanted) {
+        None => told_status(found.unfinished, &found.told),
+        Some(Lack::Memory) => tell_exhausted(err),
+        Some(Lack::Outcome) => {
+            let _told = err.write_line("jm: 81 NoSuch");
+            Status::Refused
+        }
+    }
+}
+
+// Tells of a search by the text of what it found.
+fn tell_explored<O: Watchable, E: Watchable>(
+    text: &[u8],
+    found: &Explored,
+    wanted: Option<u32>,
+    out: &mut Watched<O>,
+    err: &mut Watched<E>,
+) -> Status
+    requires out { out.old.failed ≡ false }
+    requires err { err.old.failed ≡ false }
+    ensures { (b : BoundsModel) → text.now ≡ found_text b found.now wanted
+        → Leaves (words O.contents O.ends) (words E.contents E.ends) (explored b found.now wanted) result out.old out.new err.old err.new }
+{
+    match out.write_all(text) {
+        Ok(()) => tell_lack(found, wanted, err),
+        Err(_) => {
+            let _told = err.write_line("jm: write failed");
+            Status::Files
+        }
+    }
+}
+
+// Tells of a search. Where a growth is refused to the text of it, nothing is written to the output.
+fn tell_found<O: Watchable, E: Watchable>(
+    alloc: Global,
+    bounds: Bounds,
+    found: &Explored,
+    wanted: Option<u32>,
+    out: &mut Watched<O>,
+    err: &mut Watched<E>,
+) -> Status
+    requires out { out.old.failed ≡ false }
+    requires err { err.old.failed ≡ false }
+    ensures { LeavesFound (words O.contents O.ends) (words E.contents E.ends) bounds found.now wanted result out.old out.new err.old err.new }
+{
+    match found_text(alloc, bounds, found, wanted) {
+        Ok(text) => tell_explored(&text, found, wanted, out, err),
+        Err(_) => tell_exhausted(err),
+    }
+}
+
+/// Tries the schedules of a machine's program within bounds, over heaps of so many cells, and tells of
+/// them.
+pub(crate) fn run_exploration<O: Watchable, E: Watchable>(
+    alloc: Global,
+    mut machine: Machine<SearchHeap>,
+    job: &ExploreJob,
+    out: &mut Watched<O>,
+    err: &mut Watched<E>,
+) -> Status
+    requires out { out.old.failed ≡ false }
+    requires err { err.old.failed ≡ false }
+    ensures { (found : ExploredModel) × Finds (loaded_world machine.linked.program job.now.heap) job.now.bounds found
+        × LeavesFound (words O.contents O.ends) (words E.contents E.ends) job.now.bounds found job.now.outcome result out.old out.new err.old err.new }
+{
+    let heaps = SearchHeaps {
+        alloc,
+        limit: job.heap,
+    };
+    let found = explore(alloc, &mut machine, &heaps, job.bounds);
+    drop(machine);
+    let status = tell_found(alloc, job.bounds, &found, job.outcome, out, err);
+    drop(found);
+    status
+}

@@ -1,0 +1,3 @@
+mod MarkedLines
+mod StretchLemmas
+mod Spelling

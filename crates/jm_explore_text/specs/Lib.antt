@@ -1,0 +1,4 @@
+pub mod Marked
+pub mod ScheduleTexts
+pub mod OutcomeLines
+pub mod Explorations
