@@ -1,5 +1,5 @@
 /** Two threads that count together and take no lock: an addition can be lost. The last one prints the sum. */
-public class Race extends Thread {
+public class LostCount extends Thread {
     private static final int[] running = {2};
     private static int sum;
 
@@ -17,7 +17,7 @@ public class Race extends Thread {
     }
 
     public static void main(String[] args) {
-        new Race().start();
-        new Race().start();
+        new LostCount().start();
+        new LostCount().start();
     }
 }
