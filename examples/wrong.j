@@ -4,5 +4,4 @@
 .limit stack 8
 .limit locals 8
 bipush 128
-return
 .end method
