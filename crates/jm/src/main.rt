@@ -15,13 +15,14 @@ mod word;
 
 use files::{input_file, input_files};
 use jm_execute::{
-    AssembleJob, DebugJob, DisassembleJob, ExploreJob, Finished, Job, ReplayJob, RunEvents, RunJob,
-    Status, Watched, Workers, execute, explain, several_workers, tell_version, write_out_of_memory,
+    AssembleJob, Copiers, DebugJob, DisassembleJob, ExploreJob, Finished, Job, ReplayJob,
+    RunEvents, RunJob, Status, Watched, Workers, execute, explain, several_workers,
+    so_many_copiers, tell_version, write_out_of_memory,
 };
 use jm_explore::Bounds;
 use jm_options::{
-    AssembleOptions, DebugOptions, DisassembleOptions, ExplainOptions, ExploreOptions, MAX_QUANTUM,
-    MAX_STEPS, MAX_WORKERS, Options, ReplayOptions, RunOptions, UsageFault, options,
+    AssembleOptions, DebugOptions, DisassembleOptions, ExplainOptions, ExploreOptions, MAX_COPIERS,
+    MAX_QUANTUM, MAX_STEPS, MAX_WORKERS, Options, ReplayOptions, RunOptions, UsageFault, options,
 };
 use jm_schedule::{RoundRobin, round_robin};
 use output::Output;
@@ -50,6 +51,11 @@ fn within(number: u32, most: u32) -> u32
 // The turns of a run without a schedule.
 fn turns(steps: u32, quantum: u32) -> RoundRobin {
     round_robin(within(steps, MAX_STEPS), within(quantum, MAX_QUANTUM))
+}
+
+// The copiers of a job.
+fn copiers(count: u32) -> Copiers {
+    so_many_copiers(within(count, MAX_COPIERS) as u8)
 }
 
 // The workers of a run, where they are several.
@@ -84,6 +90,7 @@ fn run_job(rt: &HostRuntime, asked: RunOptions) -> Result<(Job, Option<String>),
     let chosen = chosen_events(workers, turns);
     let job = Job::Run(RunJob {
         heap: asked.heap,
+        copiers: copiers(asked.copiers),
         events: events_of(rt, asked.schedule, chosen),
         program: input_files(rt, asked.files)?,
         show_heap: asked.show_heap,
@@ -95,6 +102,7 @@ fn run_job(rt: &HostRuntime, asked: RunOptions) -> Result<(Job, Option<String>),
 fn replay_job(rt: &HostRuntime, asked: ReplayOptions) -> Result<Job, AllocError> {
     Ok(Job::Replay(ReplayJob {
         heap: asked.heap,
+        copiers: copiers(asked.copiers),
         record_file: input_file(rt, asked.record_file),
         program: input_files(rt, asked.files)?,
         show_heap: asked.show_heap,
@@ -132,6 +140,7 @@ fn disassemble_job(rt: &HostRuntime, asked: DisassembleOptions) -> Job {
 fn debug_job(rt: &HostRuntime, asked: DebugOptions) -> Result<Job, AllocError> {
     Ok(Job::Debug(DebugJob {
         heap: asked.heap,
+        copiers: copiers(asked.copiers),
         program: input_files(rt, asked.files)?,
     }))
 }

@@ -2,7 +2,7 @@
 
 ghost use Rattle.std.specs.Prelude.{⊤};
 
-use crate::jobs::{HEAP, debug_job, input_file};
+use crate::jobs::{HEAP, debug_job, heap_of, input_file};
 use jm_execute::{
     Contents, Job, ReadFailed, Readable, Status, Watchable, Watched, WriteFailed, execute,
     get_by_read, put_by_write, put_line_by_write, put_through_by_flush,
@@ -134,7 +134,7 @@ impl Watchable for Answering<'_> {
 fn session_of(rt: &HostRuntime, file: &str) -> io::Result<Job> {
     let bytes = fs::read(rt, file)?;
     let file = input_file(rt.alloc(), file, Contents::Bytes(bytes))?;
-    Ok(debug_job(HEAP, vec![in rt.alloc(); file]?))
+    Ok(debug_job(heap_of(HEAP), vec![in rt.alloc(); file]?))
 }
 
 // Holds a session over what is asked and answered.

@@ -7,12 +7,12 @@ use jm_explore::Bounds;
 #[derive(Clone, Copy)]
 pub enum JobKind {
     /// Their program is run, with a heap of so many cells, which is shown at the end or not.
-    Run { heap: u32, show_heap: bool },
+    Run { cells: u32, show_heap: bool },
     /// Their program is run by the events of a record, with a heap of so many cells, which is shown at
     /// the end or not.
-    Replay { heap: u32, show_heap: bool },
+    Replay { cells: u32, show_heap: bool },
     /// The commands of a session of the debugger are answered, with a heap of so many cells.
-    Debug { heap: u32 },
+    Debug { cells: u32 },
     /// The schedules of their program within bounds are tried.
     Explore { bounds: Bounds },
     /// The class file of the text is made.
@@ -100,29 +100,29 @@ fn kind_of(word: &str) -> Option<JobKind> {
             bounds: bounds_of(bounds)?,
         });
     }
-    if let Some(heap) = cells_behind("debug", word) {
-        return Some(JobKind::Debug { heap });
+    if let Some(cells) = cells_behind("debug", word) {
+        return Some(JobKind::Debug { cells });
     }
-    if let Some(heap) = cells_behind("replay", word) {
+    if let Some(cells) = cells_behind("replay", word) {
         return Some(JobKind::Replay {
-            heap,
+            cells,
             show_heap: false,
         });
     }
-    if let Some(heap) = cells_behind("again", word) {
+    if let Some(cells) = cells_behind("again", word) {
         return Some(JobKind::Replay {
-            heap,
+            cells,
             show_heap: true,
         });
     }
-    if let Some(heap) = cells_behind("show", word) {
+    if let Some(cells) = cells_behind("show", word) {
         return Some(JobKind::Run {
-            heap,
+            cells,
             show_heap: true,
         });
     }
     Some(JobKind::Run {
-        heap: cells_behind("run", word)?,
+        cells: cells_behind("run", word)?,
         show_heap: false,
     })
 }

@@ -2,14 +2,44 @@
 // is assembled, and a class whose text is shown.
 
 use jm_execute::{
-    AssembleJob, Contents, DebugJob, DisassembleJob, ExploreJob, InputFile, Job, ReplayJob,
-    RunEvents, RunJob,
+    AssembleJob, Contents, Copiers, DebugJob, DisassembleJob, ExploreJob, InputFile, Job,
+    ReplayJob, RunEvents, RunJob, so_many_copiers,
 };
 use jm_explore::Bounds;
 use std::alloc::{AllocError, Global};
 
 /// The limit of the heap where none is named, in cells.
 pub const HEAP: u32 = 65_536;
+
+/// One copier.
+pub fn one_copier() -> Copiers {
+    so_many_copiers(1)
+}
+
+/// The copiers of a number, where it is from 1 to 16.
+pub fn copiers_of(count: &str) -> Option<Copiers> {
+    let count: u8 = count.parse().ok()?;
+    if count >= 1 && count <= 16 {
+        Some(so_many_copiers(count))
+    } else {
+        None
+    }
+}
+
+/// A heap of so many cells, which these copiers collect.
+#[derive(Clone, Copy)]
+pub struct JobHeap {
+    pub cells: u32,
+    pub copiers: Copiers,
+}
+
+/// A heap of so many cells with one copier.
+pub fn heap_of(cells: u32) -> JobHeap {
+    JobHeap {
+        cells,
+        copiers: one_copier(),
+    }
+}
 
 /// The file of this name.
 pub fn input_file(alloc: Global, name: &str, contents: Contents) -> Result<InputFile, AllocError> {
@@ -19,11 +49,11 @@ pub fn input_file(alloc: Global, name: &str, contents: Contents) -> Result<Input
     })
 }
 
-/// The run of a program's files by these events, with a heap of so many cells, which is shown at the
-/// end or not.
-pub fn run_job(heap: u32, events: RunEvents, program: Vec<InputFile>, show_heap: bool) -> Job {
+/// The run of a program's files by these events, with this heap, which is shown at the end or not.
+pub fn run_job(heap: JobHeap, events: RunEvents, program: Vec<InputFile>, show_heap: bool) -> Job {
     Job::Run(RunJob {
-        heap,
+        heap: heap.cells,
+        copiers: heap.copiers,
         events,
         program,
         show_heap,
@@ -31,25 +61,30 @@ pub fn run_job(heap: u32, events: RunEvents, program: Vec<InputFile>, show_heap:
     })
 }
 
-/// The run of a program's files by the events of a record, with a heap of so many cells, which is shown
-/// at the end or not.
+/// The run of a program's files by the events of a record, with this heap, which is shown at the end
+/// or not.
 pub fn replay_job(
-    heap: u32,
+    heap: JobHeap,
     record_file: InputFile,
     program: Vec<InputFile>,
     show_heap: bool,
 ) -> Job {
     Job::Replay(ReplayJob {
-        heap,
+        heap: heap.cells,
+        copiers: heap.copiers,
         record_file,
         program,
         show_heap,
     })
 }
 
-/// A session of the debugger over a program's files, with a heap of so many cells.
-pub fn debug_job(heap: u32, program: Vec<InputFile>) -> Job {
-    Job::Debug(DebugJob { heap, program })
+/// A session of the debugger over a program's files, with this heap.
+pub fn debug_job(heap: JobHeap, program: Vec<InputFile>) -> Job {
+    Job::Debug(DebugJob {
+        heap: heap.cells,
+        copiers: heap.copiers,
+        program,
+    })
 }
 
 /// A search of the schedules of a program's files within bounds, which tells of all outcomes or gives the

@@ -60,7 +60,7 @@ use std::rt::Files;
 use std::sync::Wait;
 use std::thread::Threads;
 use std::{env, fs, io};
-use tables::{print_answers, print_tables};
+use tables::{print_answers, print_copied, print_tables};
 use text_again::text_again;
 use turns::print_turns;
 use works::{print_small_works, print_works};
@@ -89,6 +89,7 @@ fn print_all<R: Threads + Wait + Sync>(rt: &HostRuntime, threads: &R) -> io::Res
     print_runs(rt, threads, "runs.txt")?;
     print_conversation(rt, threads, "sum.class")?;
     print_tables(rt, threads, "tables.txt")?;
+    print_copied(rt, threads, "copied.txt")?;
     print_answers(rt, threads, ANSWERS)?;
     print_workers(rt, threads, "workers/Main.j workers/W.j")?;
     print_recorded(rt, threads, "recorded.txt")

@@ -3,9 +3,13 @@
 use crate::columns::{bytes_of, file_of, files_of};
 use crate::events::events_of;
 use crate::job_rows::{JobKind, JobRow};
-use crate::jobs::{assembly_job, debug_job, disassembly_job, explore_job, replay_job, run_job};
+use crate::jobs::{
+    JobHeap, assembly_job, debug_job, disassembly_job, explore_job, replay_job, run_job,
+};
 use crate::notation::invalid;
-use jm_execute::{Finished, InputFile, Job, Watched, class_of, execute, explain, tell_version};
+use jm_execute::{
+    Copiers, Finished, InputFile, Job, Watched, class_of, execute, explain, tell_version,
+};
 use jm_explain::{Entry, entry_of};
 use jm_explore::Bounds;
 use jm_linker::{LinkFault, link};
@@ -44,13 +48,19 @@ pub fn wanted_of(rt: &HostRuntime, row: &JobRow<'_>) -> io::Result<Outcome> {
 }
 
 // The job of a row, but for those that link, and those that need no file.
-fn job_of(rt: &HostRuntime, row: &JobRow<'_>) -> io::Result<Option<Job>> {
+fn job_of(rt: &HostRuntime, row: &JobRow<'_>, copiers: Copiers) -> io::Result<Option<Job>> {
     match row.kind {
-        JobKind::Run { heap, show_heap } => Ok(Some(run_of(rt, row, heap, show_heap)?)),
-        JobKind::Replay { heap, show_heap } => Ok(Some(replay_of(rt, row, heap, show_heap)?)),
-        JobKind::Debug { heap } => {
+        JobKind::Run { cells, show_heap } => {
+            let heap = JobHeap { cells, copiers };
+            Ok(Some(run_of(rt, row, heap, show_heap)?))
+        }
+        JobKind::Replay { cells, show_heap } => {
+            let heap = JobHeap { cells, copiers };
+            Ok(Some(replay_of(rt, row, heap, show_heap)?))
+        }
+        JobKind::Debug { cells } => {
             let program = files_of(rt, row.names, row.contents)?;
-            Ok(Some(debug_job(heap, program)))
+            Ok(Some(debug_job(JobHeap { cells, copiers }, program)))
         }
         JobKind::Explore { bounds } => Ok(Some(search_of(rt, row, bounds)?)),
         JobKind::Assemble => {
@@ -66,14 +76,19 @@ fn job_of(rt: &HostRuntime, row: &JobRow<'_>) -> io::Result<Option<Job>> {
 }
 
 // The run of a row's program by its events.
-fn run_of(rt: &HostRuntime, row: &JobRow<'_>, heap: u32, show_heap: bool) -> io::Result<Job> {
+fn run_of(rt: &HostRuntime, row: &JobRow<'_>, heap: JobHeap, show_heap: bool) -> io::Result<Job> {
     let program = files_of(rt, row.names, row.contents)?;
     let events = events_of(rt, row.events)?;
     Ok(run_job(heap, events, program, show_heap))
 }
 
 // The run of a row's program by its record.
-fn replay_of(rt: &HostRuntime, row: &JobRow<'_>, heap: u32, show_heap: bool) -> io::Result<Job> {
+fn replay_of(
+    rt: &HostRuntime,
+    row: &JobRow<'_>,
+    heap: JobHeap,
+    show_heap: bool,
+) -> io::Result<Job> {
     let program = files_of(rt, row.names, row.contents)?;
     let record_file = file_of(rt, "record", row.events)?;
     Ok(replay_job(heap, record_file, program, show_heap))
@@ -104,11 +119,12 @@ fn input_of(rt: &HostRuntime, row: &JobRow<'_>) -> io::Result<Vec<u8>> {
     }
 }
 
-/// What comes of a row's job.
+/// What comes of a row's job, whose heap, where it has one, these copiers collect.
 pub fn outcome_of(
     rt: &HostRuntime,
     wait: &(impl Threads + Wait + Sync),
     row: &JobRow<'_>,
+    copiers: Copiers,
 ) -> io::Result<Outcome> {
     match row.kind {
         JobKind::Link => return linked(rt, &files_of(rt, row.names, row.contents)?),
@@ -116,7 +132,7 @@ pub fn outcome_of(
         JobKind::Version => return version(rt),
         _ => {}
     }
-    match job_of(rt, row)? {
+    match job_of(rt, row, copiers)? {
         Some(job) => {
             let outcome = done(rt, wait, &job, row);
             drop(job);

@@ -1,7 +1,7 @@
 // The programs among the data, and what running each comes to.
 
 use crate::events::events_of;
-use crate::jobs::{HEAP, input_file, run_job};
+use crate::jobs::{HEAP, heap_of, input_file, run_job};
 use crate::name_of;
 use jm_execute::{Contents, InputFile, Job, RunEvents, Status, Watched, execute};
 use std::sync::Wait;
@@ -119,7 +119,7 @@ pub fn files_named(rt: &HostRuntime, names: &str) -> io::Result<Vec<InputFile>> 
 
 // The job of a run.
 fn job_of(rt: &HostRuntime, heap: u32, events: RunEvents, names: &str) -> io::Result<Job> {
-    Ok(run_job(heap, events, files_named(rt, names)?, false))
+    Ok(run_job(heap_of(heap), events, files_named(rt, names)?, false))
 }
 
 // Prints the output of a program, the lines on its standard error, and its status.

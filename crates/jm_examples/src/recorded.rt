@@ -1,6 +1,6 @@
 // Programs that workers run, and what comes of the records of these runs.
 
-use crate::jobs::{HEAP, input_file, replay_job, run_job};
+use crate::jobs::{HEAP, heap_of, input_file, one_copier, replay_job, run_job};
 use crate::name_of;
 use crate::outcomes::{Outcome, finished_outcome};
 use crate::programs::{files_named, main_file};
@@ -62,6 +62,7 @@ fn is_made_again(
 ) -> io::Result<bool> {
     let job = Job::Run(RunJob {
         heap: HEAP,
+        copiers: one_copier(),
         events,
         program: files_named(rt, names)?,
         show_heap: true,
@@ -73,14 +74,14 @@ fn is_made_again(
         return Err(io::Error::from(ErrorKind::OutOfMemory));
     };
     let program = files_named(rt, names)?;
-    let replay = replay_job(HEAP, record_file(rt, text)?, program, true);
+    let replay = replay_job(heap_of(HEAP), record_file(rt, text)?, program, true);
     let is_replayed = comes_to(rt, threads, replay, &outcome)?;
     let schedule = RunEvents::Schedule(record_file(rt, text)?);
     let program = files_named(rt, names)?;
     let is_scheduled = comes_to(
         rt,
         threads,
-        run_job(HEAP, schedule, program, true),
+        run_job(heap_of(HEAP), schedule, program, true),
         &outcome,
     )?;
     Ok(is_replayed && is_scheduled)

@@ -2,7 +2,10 @@
 
 use crate::answers::{Question, answer, wanted_answer};
 use crate::job_rows::job_row;
+use crate::jobs::{copiers_of, one_copier};
+use crate::notation::invalid;
 use crate::outcomes::{Outcome, outcome_of, wanted_of};
+use jm_execute::Copiers;
 use std::sync::Wait;
 use std::thread::Threads;
 use std::{fmt, fs, io};
@@ -16,9 +19,39 @@ pub fn print_tables(
 ) -> io::Result<()> {
     let tables = fs::read_to_string(rt, list)?;
     for table in tables.lines() {
-        print_table(rt, wait, table, None)?;
+        print_table(rt, wait, table, RowKind::Job(one_copier()))?;
     }
     Ok(())
+}
+
+/// Does what [`print_tables`] does with the tables of a file whose lines have a number of copiers before
+/// the table: they collect the heaps of the jobs, of which the same is to come as with one copier.
+pub fn print_copied(
+    rt: &HostRuntime,
+    wait: &(impl Threads + Wait + Sync),
+    list: &str,
+) -> io::Result<()> {
+    let tables = fs::read_to_string(rt, list)?;
+    for line in tables.lines() {
+        print_copied_table(rt, wait, line)?;
+    }
+    Ok(())
+}
+
+// The table of a line, with its number of copiers.
+fn print_copied_table(
+    rt: &HostRuntime,
+    wait: &(impl Threads + Wait + Sync),
+    line: &str,
+) -> io::Result<()> {
+    let Some((count, table)) = line.split_once(" ") else {
+        return invalid();
+    };
+    let Some(copiers) = copiers_of(count) else {
+        return invalid();
+    };
+    println!(rt; "{count} copiers")?;
+    print_table(rt, wait, table, RowKind::Job(copiers))
 }
 
 /// Answers the question of each row of the tables, and prints what [`print_tables`] does.
@@ -28,17 +61,25 @@ pub fn print_answers(
     tables: &[(&str, Question)],
 ) -> io::Result<()> {
     for (table, question) in tables {
-        print_table(rt, wait, table, Some(*question))?;
+        print_table(rt, wait, table, RowKind::Answer(*question))?;
     }
     Ok(())
 }
 
-// A table of questions, or of jobs where there is none.
+// What the rows of a table are.
+#[derive(Clone, Copy)]
+enum RowKind {
+    // Jobs, whose heaps these copiers collect.
+    Job(Copiers),
+    Answer(Question),
+}
+
+// A table of questions, or of jobs.
 fn print_table(
     rt: &HostRuntime,
     wait: &(impl Threads + Wait + Sync),
     file: &str,
-    question: Option<Question>,
+    kind: RowKind,
 ) -> io::Result<()> {
     let table = fs::read_to_string(rt, file)?;
     let mut rows = 0usize;
@@ -52,7 +93,7 @@ fn print_table(
             file,
             number: index.saturating_add(1),
         };
-        if is_as_wanted(rt, wait, question, at, line)? {
+        if is_as_wanted(rt, wait, kind, at, line)? {
             kept = kept.saturating_add(1);
         }
     }
@@ -76,13 +117,13 @@ impl fmt::Display for At<'_> {
 fn is_as_wanted(
     rt: &HostRuntime,
     wait: &(impl Threads + Wait + Sync),
-    question: Option<Question>,
+    kind: RowKind,
     at: At<'_>,
     line: &str,
 ) -> io::Result<bool> {
-    match question {
-        Some(question) => is_answered(rt, question, at, line),
-        None => is_kept(rt, wait, at, line),
+    match kind {
+        RowKind::Answer(question) => is_answered(rt, question, at, line),
+        RowKind::Job(copiers) => is_kept(rt, wait, copiers, at, line),
     }
 }
 
@@ -109,6 +150,7 @@ impl<T: fmt::Display> fmt::Display for Difference<'_, T> {
 fn is_kept(
     rt: &HostRuntime,
     wait: &(impl Threads + Wait + Sync),
+    copiers: Copiers,
     at: At<'_>,
     line: &str,
 ) -> io::Result<bool> {
@@ -116,7 +158,7 @@ fn is_kept(
         return missed(rt, at, &"no row");
     };
     let wanted = wanted_of(rt, &row)?;
-    let came = outcome_of(rt, wait, &row)?;
+    let came = outcome_of(rt, wait, &row, copiers)?;
     are_equal(rt, at, &wanted, &came)
 }
 

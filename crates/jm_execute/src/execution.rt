@@ -20,6 +20,7 @@ ghost use Rattle.jm_execute.specs.Verdicts.{Verdict, assembly_verdict, debug_ver
 ghost use Rattle.jm_execute.specs.Written.{reads, words};
 
 use crate::assembly::assemble_file;
+use crate::copiers::{JobCollector, job_collector};
 use crate::disassembly::{ClassText, NoText, disassemble_file};
 use crate::ends::status_of;
 use crate::events::{EventSource, RunPlan};
@@ -36,7 +37,7 @@ use crate::status::{Finished, Status};
 use crate::watchable::Watchable;
 use crate::watched::Watched;
 use crate::workers::run_by_workers;
-use jm_copy::{Collector, SerialCollector};
+use jm_copy::Collector;
 use jm_debug::Debugger;
 use jm_disassembler::Unsaid;
 use jm_heap::Heap;
@@ -435,7 +436,8 @@ fn execute_replay<C: Collector + Drop, O: Watchable, E: Watchable>(
 }
 
 // Tries the schedules of the program of some files.
-fn execute_explore<O: Watchable, E: Watchable>(
+fn execute_explore<W: Threads, O: Watchable, E: Watchable>(
+    rt: &W,
     alloc: Global,
     job: &ExploreJob,
     out: &mut Watched<O>,
@@ -445,8 +447,8 @@ fn execute_explore<O: Watchable, E: Watchable>(
     requires err { err.old.failed ≡ false }
     ensures { IsDoneUnread (words O.contents O.ends) (words E.contents E.ends) (explore_verdict job.now) result out.old out.new err.old err.new }
 {
-    match prepare_exploration(alloc, job, SerialCollector) {
-        Ok(machine) => run_exploration(alloc, machine, job, out, err),
+    match prepare_exploration(alloc, job, JobCollector::<&W>::OneCopier) {
+        Ok(machine) => run_exploration(rt, alloc, machine, job, out, err),
         Err(obstacle) => tell_obstacle(obstacle, err),
     }
 }
@@ -545,6 +547,10 @@ fn execute_debug<C: Collector + Drop, W: Wait, R: Readable, O: Watchable, E: Wat
 /// The status is `Done` at the end of `reader`, and `Files` where it fails; the line for want of
 /// memory is the last, and then the status is `OutOfMemory`.
 ///
+/// The heap of a run, of a replay and of a session is collected by the job's copiers: where they are several,
+/// each in a thread of its own where one can be started, and a collection waits for them. What is told does
+/// not depend on how many there are.
+///
 /// Where a write to `out` fails, a beginning of the output stands in it, the status is `Files`, and
 /// `err` gets a line that says so; no other job ends with this status but one with a file that could
 /// not be read, or a session whose reader failed. A failing `err` changes no status.
@@ -563,16 +569,16 @@ pub fn execute<W: Threads + Wait + Sync, R: Readable, O: Watchable, E: Watchable
         result.status reader.old reader.new out.old out.new err.old err.new }
 {
     match job {
-        Job::Run(run) => execute_run(rt, alloc, run, SerialCollector, out, err),
-        Job::Replay(replay) => Finished::without_record(execute_replay(
-            alloc,
-            replay,
-            SerialCollector,
-            out,
-            err,
-        )),
+        Job::Run(run) => {
+            let collector = job_collector(rt, run.copiers);
+            execute_run(rt, alloc, run, collector, out, err)
+        }
+        Job::Replay(replay) => {
+            let collector = job_collector(rt, replay.copiers);
+            Finished::without_record(execute_replay(alloc, replay, collector, out, err))
+        }
         Job::Explore(explore) => {
-            Finished::without_record(execute_explore(alloc, explore, out, err))
+            Finished::without_record(execute_explore(rt, alloc, explore, out, err))
         }
         Job::Assemble(assemble) => {
             Finished::without_record(execute_assemble(alloc, assemble, out, err))
@@ -580,14 +586,9 @@ pub fn execute<W: Threads + Wait + Sync, R: Readable, O: Watchable, E: Watchable
         Job::Disassemble(disassemble) => {
             Finished::without_record(execute_disassemble(alloc, disassemble, out, err))
         }
-        Job::Debug(debug) => Finished::without_record(execute_debug(
-            rt,
-            alloc,
-            debug,
-            SerialCollector,
-            reader,
-            out,
-            err,
-        )),
+        Job::Debug(debug) => {
+            let collector = job_collector(rt, debug.copiers);
+            Finished::without_record(execute_debug(rt, alloc, debug, collector, reader, out, err))
+        }
     }
 }

@@ -10,6 +10,7 @@ ghost use Rattle.jm_execute.specs.Endings.{Leaves, LeavesFound, Tells, explored}
 ghost use Rattle.jm_execute.specs.Explorations.{Finds, ended_status, found_text, lack_of, lack_of_outcome, lack_without, one_status, outcome_status, told_status};
 ghost use Rattle.jm_execute.specs.Written.{words};
 
+use crate::copiers::JobCollector;
 use crate::ends::stop_status;
 use crate::execution::tell_exhausted;
 use crate::job::ExploreJob;
@@ -17,7 +18,6 @@ use crate::preparation::RunHeap;
 use crate::status::Status;
 use crate::watchable::Watchable;
 use crate::watched::Watched;
-use jm_copy::SerialCollector;
 use jm_explore::{
     Bounds, EmptyHeaps, EndedBy, Explored, HowEnded, Outcome, Told, Unfinished, explore,
 };
@@ -25,22 +25,24 @@ use jm_explore_text::{exploration_text, outcome_at, schedule_text};
 use jm_gen_heap::GenHeap;
 use jm_machine::Machine;
 use std::alloc::{AllocError, Global};
+use std::thread::Threads;
 
 /// The heap of each run of a search.
-pub(crate) type SearchHeap = RunHeap<SerialCollector>;
+pub(crate) type SearchHeap<'a, W> = RunHeap<JobCollector<&'a W>>;
 
 /// What makes the heaps of a search, each of so many cells.
-#[derive(Clone, Copy)]
-struct SearchHeaps {
+#[derive(Drop)]
+struct SearchHeaps<'a, W> {
+    rt: &'a W,
     alloc: Global,
     limit: u32,
 }
 
-impl EmptyHeaps<SearchHeap> for SearchHeaps {
+impl<'a, W: Threads> EmptyHeaps<SearchHeap<'a, W>> for SearchHeaps<'a, W> {
     ghost limit = { λ heaps. heaps.limit };
 
-    fn empty_heap(&self) -> Result<SearchHeap, AllocError> {
-        GenHeap::new(self.alloc, self.limit, SerialCollector)
+    fn empty_heap(&self) -> Result<SearchHeap<'a, W>, AllocError> {
+        GenHeap::new(self.alloc, self.limit, JobCollector::OneCopier)
     }
 }
 
@@ -217,9 +219,10 @@ fn tell_found<O: Watchable, E: Watchable>(
 
 /// Tries the schedules of a machine's program within bounds, over heaps of so many cells, and tells of
 /// them.
-pub(crate) fn run_exploration<O: Watchable, E: Watchable>(
+pub(crate) fn run_exploration<'a, W: Threads, O: Watchable, E: Watchable>(
+    rt: &'a W,
     alloc: Global,
-    mut machine: Machine<SearchHeap>,
+    mut machine: Machine<SearchHeap<'a, W>>,
     job: &ExploreJob,
     out: &mut Watched<O>,
     err: &mut Watched<E>,
@@ -230,6 +233,7 @@ pub(crate) fn run_exploration<O: Watchable, E: Watchable>(
         × LeavesFound (words O.contents O.ends) (words E.contents E.ends) job.now.bounds found job.now.outcome result out.old out.new err.old err.new }
 {
     let heaps = SearchHeaps {
+        rt,
         alloc,
         limit: job.heap,
     };

@@ -90,6 +90,24 @@ pub fn several_workers(count: u8, steps: u32) -> Workers
     Workers { count, steps }
 }
 
+/// So many copiers, which collect a heap. What a program does does not depend on how many there are.
+#[derive(Clone, Copy)]
+pub struct Copiers {
+    /// How many, from 1 to 16.
+    pub count: u8,
+    ghost some: { 1 ≤ count },
+    ghost few: { count ≤ 16 },
+}
+
+/// So many copiers.
+pub fn so_many_copiers(count: u8) -> Copiers
+    requires some { 1 ≤ count }
+    requires few { count ≤ 16 }
+    ensures { result.count ≡ count }
+{
+    Copiers { count }
+}
+
 /// Where the events of a run come from.
 pub enum RunEvents {
     /// They are those that the lines of a schedule spell.
@@ -113,6 +131,8 @@ impl Drop for RunEvents {
 pub struct RunJob {
     /// The limit of the heap, in cells.
     pub heap: u32,
+    /// The copiers that collect the heap.
+    pub copiers: Copiers,
     pub events: RunEvents,
     /// The files of the classes, the main class's first: each a class file, or an assembler text
     /// where its name ends in `.j`.
@@ -128,6 +148,7 @@ impl Drop for RunJob {
     fn drop(self) {
         let RunJob {
             heap: _,
+            copiers: _,
             events: _,
             program: _,
             show_heap: _,
@@ -140,6 +161,8 @@ impl Drop for RunJob {
 pub struct ReplayJob {
     /// The limit of the heap, in cells.
     pub heap: u32,
+    /// The copiers that collect the heap.
+    pub copiers: Copiers,
     /// The file of the record: lines as those of a schedule, each with its seat and the kind of the reply.
     pub record_file: InputFile,
     /// The files of the classes, the main class's first: each a class file, or an assembler text
@@ -154,6 +177,7 @@ impl Drop for ReplayJob {
     fn drop(self) {
         let ReplayJob {
             heap: _,
+            copiers: _,
             record_file: _,
             program: _,
             show_heap: _,
@@ -222,6 +246,8 @@ impl Drop for DisassembleJob {
 pub struct DebugJob {
     /// The limit of the heap, in cells.
     pub heap: u32,
+    /// The copiers that collect the heap.
+    pub copiers: Copiers,
     /// The files of the classes, the main class's first: each a class file, or an assembler text
     /// where its name ends in `.j`.
     pub program: Vec<InputFile>,
@@ -232,6 +258,7 @@ impl Drop for DebugJob {
     fn drop(self) {
         let DebugJob {
             heap: _,
+            copiers: _,
             program: _,
         } = self;
     }

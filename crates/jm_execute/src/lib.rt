@@ -28,6 +28,7 @@
 #![tactic(auto)]
 
 mod assembly;
+mod copiers;
 mod disassembly;
 mod ends;
 mod events;
@@ -65,8 +66,8 @@ pub use exploring::Lack;
 pub use files::{bytes_of, check_read};
 pub use jm_explore_text::Utf8;
 pub use job::{
-    AssembleJob, Contents, DebugJob, DisassembleJob, ExploreJob, InputFile, Job, ReplayJob,
-    RunEvents, RunJob, Workers, several_workers,
+    AssembleJob, Contents, Copiers, DebugJob, DisassembleJob, ExploreJob, InputFile, Job,
+    ReplayJob, RunEvents, RunJob, Workers, several_workers, so_many_copiers,
 };
 pub use laws::{an_outcome_is_that_of_its_run, class_of_its_text, equal_views, text_of_its_class};
 pub use lines::{LineFault, NextLine, Unread};

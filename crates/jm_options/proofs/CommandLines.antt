@@ -119,6 +119,42 @@ recorded_twice : fault (codes "--record=r" ∷ codes "--record=s" ∷ codes "A.c
 unfolding jm clap_on_literals
 recorded_twice = refl
 
+-- the copiers
+abbrev copied : Text → List Text → Option (Option Text)
+copied name words = option_map (λ (s : Subcommand). one_of (codes "copiers") s.1) (subcommand_of jm (codes "jm" ∷ name ∷ words))
+
+one_copier : copied (codes "run") (codes "A.class" ∷ []) ≡ Some (Some (codes "1"))
+unfolding jm clap_on_literals
+one_copier = refl
+
+sixteen_copiers : copied (codes "run") (codes "--copiers=16" ∷ codes "A.class" ∷ []) ≡ Some (Some (codes "16"))
+unfolding jm clap_on_literals
+sixteen_copiers = refl
+
+no_fault_of_copiers : fault (codes "--copiers=16" ∷ codes "A.class" ∷ []) ≡ []
+unfolding jm clap_on_literals
+no_fault_of_copiers = refl
+
+no_copiers : fault (codes "--copiers=0" ∷ codes "A.class" ∷ []) ≡ kind.ValueValidation ∷ []
+unfolding jm clap_on_literals
+no_copiers = refl
+
+one_copier_too_many : fault (codes "--copiers=17" ∷ codes "A.class" ∷ []) ≡ kind.ValueValidation ∷ []
+unfolding jm clap_on_literals
+one_copier_too_many = refl
+
+copiers_twice : fault (codes "--copiers=2" ∷ codes "--copiers=2" ∷ codes "A.class" ∷ []) ≡ kind.ArgumentConflict ∷ []
+unfolding jm clap_on_literals
+copiers_twice = refl
+
+copiers_of_a_replay : copied (codes "replay") (codes "--copiers" ∷ codes "2" ∷ codes "r" ∷ codes "A.class" ∷ []) ≡ Some (Some (codes "2"))
+unfolding jm clap_on_literals
+copiers_of_a_replay = refl
+
+copiers_of_a_debugger : copied (codes "debug") (codes "--copiers" ∷ codes "2" ∷ codes "A.class" ∷ []) ≡ Some (Some (codes "2"))
+unfolding jm clap_on_literals
+copiers_of_a_debugger = refl
+
 -- whether the heap is shown
 abbrev shows : List Text → Option Bool
 shows words = option_map (λ (s : Subcommand). is_set (first_of (codes "show-heap") s.1)) (subcommand_of jm (codes "jm" ∷ codes "run" ∷ words))
@@ -194,6 +230,10 @@ no_file_to_replay = refl
 workers_of_run : replay_fault (codes "--workers=2" ∷ codes "r" ∷ codes "A.class" ∷ []) ≡ kind.UnknownArgument ∷ []
 unfolding jm clap_on_literals
 workers_of_run = refl
+
+copiers_of_an_exploration : fault_of jm (codes "jm" ∷ codes "explore" ∷ codes "--copiers=2" ∷ codes "A.class" ∷ []) ≡ kind.UnknownArgument ∷ []
+unfolding jm clap_on_literals
+copiers_of_an_exploration = refl
 
 -- the words after jm explore: the bounds, the outcome and the files
 abbrev explored : List Text → Option (Option Text × Option Text × Option Text × Option Text × Option Text × Option (List Text))

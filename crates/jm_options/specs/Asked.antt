@@ -43,6 +43,7 @@ is_set (Some text) = bytes_eq text (codes "true")
 -- the options are what the matches of a run hold, and within the limits
 pub record HoldsRun (matches : List Row) (o : RunOptions) : Type 0 where
   pub heap : HoldsNumber (codes "heap") 16 16777216 matches o.heap
+  pub copiers : HoldsNumber (codes "copiers") 1 16 matches o.copiers
   pub schedule : first_of (codes "schedule") matches ≡ option_map string_bytes o.schedule
   pub steps : HoldsNumber (codes "steps") 1 10000000 matches o.steps
   pub quantum : HoldsNumber (codes "quantum") 1 1000000 matches o.quantum
@@ -54,6 +55,7 @@ pub record HoldsRun (matches : List Row) (o : RunOptions) : Type 0 where
 -- the options are what the matches of a replay hold, and within the limits
 pub record HoldsReplay (matches : List Row) (o : ReplayOptions) : Type 0 where
   pub heap : HoldsNumber (codes "heap") 16 16777216 matches o.heap
+  pub copiers : HoldsNumber (codes "copiers") 1 16 matches o.copiers
   pub show_heap : o.show_heap ≡ is_set (first_of (codes "show-heap") matches)
   pub record_file : first_of (codes "recorded") matches ≡ Some (string_bytes o.record_file)
   pub files : all_of (codes "file") matches ≡ Some (map string_bytes o.files.items)
@@ -87,6 +89,7 @@ pub record HoldsDisassemble (matches : List Row) (o : DisassembleOptions) : Type
 -- the options are what the matches of a debugger's command hold, and within the limits
 pub record HoldsDebug (matches : List Row) (o : DebugOptions) : Type 0 where
   pub heap : HoldsNumber (codes "heap") 16 16777216 matches o.heap
+  pub copiers : HoldsNumber (codes "copiers") 1 16 matches o.copiers
   pub files : all_of (codes "file") matches ≡ Some (map string_bytes o.files.items)
 
 -- the matches hold a number of which the table says this

@@ -16,6 +16,15 @@ heap_argument = record (new_rule (codes "heap")) {
   parser = Some (vp.Signed (pos 16) (pos 16777216));
 }
 
+-- --copiers N: a number of copiers, 1 where it is left out
+abbrev pub copiers_argument : Rule
+copiers_argument = record (new_rule (codes "copiers")) {
+  long = Some (codes "copiers");
+  value_names = 1;
+  defaults = codes "1" ∷ [];
+  parser = Some (vp.Signed (pos 1) (pos 16));
+}
+
 -- --schedule FILE
 abbrev pub schedule_argument : Rule
 schedule_argument = record (new_rule (codes "schedule")) { long = Some (codes "schedule"); value_names = 1 }
@@ -59,15 +68,15 @@ show_heap_argument = record (new_rule (codes "show-heap")) { long = Some (codes 
 abbrev pub file_argument : Rule
 file_argument = record (new_rule (codes "file")) { value_names = 1; required = true; action = Some Append }
 
--- what says which events a run makes
+-- what says which heap a run has, and which events it makes
 abbrev pub turns_options : App
-turns_options = with_rule (with_rule (with_rule (with_rule (new_app (codes "run")) heap_argument) schedule_argument) steps_argument) quantum_argument
+turns_options = with_rule (with_rule (with_rule (with_rule (with_rule (new_app (codes "run")) heap_argument) copiers_argument) schedule_argument) steps_argument) quantum_argument
 
 -- the options of run
 abbrev pub run_options : App
 run_options = with_rule (with_rule (with_rule turns_options workers_argument) record_argument) show_heap_argument
 
--- run [--heap N] [--schedule FILE] [--steps N] [--quantum N] [--workers N] [--record FILE] [--show-heap] FILE..
+-- run [--heap N] [--copiers N] [--schedule FILE] [--steps N] [--quantum N] [--workers N] [--record FILE] [--show-heap] FILE..
 abbrev pub run_command : App
 run_command = with_rule run_options file_argument
 
@@ -75,9 +84,9 @@ run_command = with_rule run_options file_argument
 abbrev pub recorded_argument : Rule
 recorded_argument = record (new_rule (codes "recorded")) { value_names = 1; required = true }
 
--- replay [--heap N] [--show-heap] RECORD FILE..
+-- replay [--heap N] [--copiers N] [--show-heap] RECORD FILE..
 abbrev pub replay_command : App
-replay_command = with_rule (with_rule (with_rule (with_rule (new_app (codes "replay")) heap_argument) show_heap_argument) recorded_argument) file_argument
+replay_command = with_rule (with_rule (with_rule (with_rule (with_rule (new_app (codes "replay")) heap_argument) copiers_argument) show_heap_argument) recorded_argument) file_argument
 
 -- --switches N: 2 where it is left out
 abbrev pub switches_argument : Rule
@@ -155,9 +164,9 @@ class_argument = record (new_rule (codes "class")) { value_names = 1; required =
 abbrev pub disassemble_command : App
 disassemble_command = with_rule (with_rule (new_app (codes "dis")) bare_argument) class_argument
 
--- debug [--heap N] FILE..
+-- debug [--heap N] [--copiers N] FILE..
 abbrev pub debug_command : App
-debug_command = with_rule (with_rule (new_app (codes "debug")) heap_argument) file_argument
+debug_command = with_rule (with_rule (with_rule (new_app (codes "debug")) heap_argument) copiers_argument) file_argument
 
 -- N, a number that may be left out
 abbrev pub number_argument : Rule

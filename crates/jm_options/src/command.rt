@@ -2,7 +2,7 @@
 
 ghost use Rattle.std.specs.Prelude.{◌≡◌, false, IfOk};
 ghost use Rattle.clap.specs.Words.{App, Rule, rule_of, with_rule, with_subcommand};
-ghost use Rattle.jm_options.specs.CommandLine.{heap_argument, schedule_argument, steps_argument, quantum_argument, workers_argument, record_argument, show_heap_argument, file_argument, run_command, recorded_argument, replay_command, switches_argument, schedule_steps_argument, runs_argument, slice_argument, outcome_argument, explore_command, input_argument, output_argument, assemble_command, bare_argument, class_argument, disassemble_command, debug_command, number_argument, explain_command, version_command, top_command, jm, IsSeenAs};
+ghost use Rattle.jm_options.specs.CommandLine.{heap_argument, copiers_argument, schedule_argument, steps_argument, quantum_argument, workers_argument, record_argument, show_heap_argument, file_argument, run_command, recorded_argument, replay_command, switches_argument, schedule_steps_argument, runs_argument, slice_argument, outcome_argument, explore_command, input_argument, output_argument, assemble_command, bare_argument, class_argument, disassemble_command, debug_command, number_argument, explain_command, version_command, top_command, jm, IsSeenAs};
 
 use clap::{Arg, ArgAction, Command, value_parser};
 use std::alloc::{AllocError, Global};
@@ -39,6 +39,20 @@ fn heap_argument<'a>(alloc: Global) -> Arg<'a>
         .value_parser(value_parser!(u32).range(16..=16_777_216))
         .default_value("65536")
         .help("Limit of the heap in cells, from 16 to 16777216")
+}
+
+fn copiers_argument<'a>(alloc: Global) -> Arg<'a>
+    ensures rule { rule_of result ≡ copiers_argument }
+    ensures local { result.global ≡ false }
+{
+    Arg::new(alloc, "copiers")
+        .long("copiers")
+        .value_name("N")
+        .value_parser(value_parser!(u32).range(1..=16))
+        .default_value("1")
+        .help(
+            "Copiers that collect the heap side by side, from 1 to 16; what is printed does not depend on them",
+        )
 }
 
 fn schedule_argument<'a>(alloc: Global) -> Arg<'a>
@@ -133,6 +147,7 @@ fn run_command<'a>(alloc: Global) -> Result<Command<'a>, AllocError>
             "Example: jm run Main.class Other.class\n\nClass files come from `javac --release 8`. What a number means says `jm explain N`.",
         );
     let run = with_argument(Ok(run), heap_argument(alloc));
+    let run = with_argument(run, copiers_argument(alloc));
     let run = with_argument(run, schedule_argument(alloc));
     let run = with_argument(run, steps_argument(alloc));
     let run = with_argument(run, quantum_argument(alloc));
@@ -161,6 +176,7 @@ fn replay_command<'a>(alloc: Global) -> Result<Command<'a>, AllocError>
             "Example: jm replay run.record Main.class Other.class\n\nClass files come from `javac --release 8`. What a number means says `jm explain N`.",
         );
     let replay = with_argument(Ok(replay), heap_argument(alloc));
+    let replay = with_argument(replay, copiers_argument(alloc));
     let replay = with_argument(replay, show_heap_argument(alloc));
     let replay = with_argument(replay, recorded_argument(alloc));
     with_argument(replay, file_argument(alloc))
@@ -321,6 +337,7 @@ fn debug_command<'a>(alloc: Global) -> Result<Command<'a>, AllocError>
             "Example: jm debug Main.class Other.class\n\nClass files come from `javac --release 8`. What a number means says `jm explain N`.",
         );
     let debug = with_argument(Ok(debug), heap_argument(alloc));
+    let debug = with_argument(debug, copiers_argument(alloc));
     with_argument(debug, file_argument(alloc))
 }
 

@@ -2,11 +2,11 @@
 //!
 //! [`options`] reads the words of a command line as [`Options`], or says by a [`UsageFault`] what is
 //! wrong with them. What it knows is
-//! `jm run [--heap N] [--schedule FILE] [--steps N] [--quantum N] [--workers N] [--record FILE] [--show-heap] FILE...`,
-//! `jm replay [--heap N] [--show-heap] RECORD FILE...`,
+//! `jm run [--heap N] [--copiers N] [--schedule FILE] [--steps N] [--quantum N] [--workers N] [--record FILE] [--show-heap] FILE...`,
+//! `jm replay [--heap N] [--copiers N] [--show-heap] RECORD FILE...`,
 //! `jm explore [--switches N] [--steps N] [--runs N] [--slice N] [--outcome N] [--heap N] FILE...`,
 //! `jm asm IN OUT`, where OUT is another word than IN, `jm dis [--bare] FILE`,
-//! `jm debug [--heap N] FILE...`, `jm explain [N]`, where N is a number that `jm_explain` tells of, and
+//! `jm debug [--heap N] [--copiers N] FILE...`, `jm explain [N]`, where N is a number that `jm_explain` tells of, and
 //! `jm version`; any other option or subcommand is refused by its name.
 //!
 //! The crate stands on `clap` and `jm_explain`.
@@ -19,8 +19,8 @@ mod words;
 
 pub use fault::UsageFault;
 pub use request::{
-    AssembleOptions, DebugOptions, DisassembleOptions, ExplainOptions, ExploreOptions, MAX_HEAP,
-    MAX_QUANTUM, MAX_RUNS, MAX_SCHEDULE_STEPS, MAX_SLICE, MAX_STEPS, MAX_SWITCHES, MAX_WORKERS,
-    MIN_HEAP, Options, ReplayOptions, RunOptions,
+    AssembleOptions, DebugOptions, DisassembleOptions, ExplainOptions, ExploreOptions, MAX_COPIERS,
+    MAX_HEAP, MAX_QUANTUM, MAX_RUNS, MAX_SCHEDULE_STEPS, MAX_SLICE, MAX_STEPS, MAX_SWITCHES,
+    MAX_WORKERS, MIN_HEAP, Options, ReplayOptions, RunOptions,
 };
 pub use words::options;

@@ -6,6 +6,9 @@ pub const MIN_HEAP: u32 = 16;
 /// The largest limit of the heap, in cells.
 pub const MAX_HEAP: u32 = 16_777_216;
 
+/// The largest number of copiers.
+pub const MAX_COPIERS: u32 = 16;
+
 /// The largest number of events that a run without a schedule, or a worker of one, may be limited to.
 pub const MAX_STEPS: u32 = 10_000_000;
 
@@ -53,6 +56,8 @@ pub enum Options {
 pub struct RunOptions {
     /// The limit of the heap, in cells.
     pub heap: u32,
+    /// How many copiers collect the heap, from 1 to [`MAX_COPIERS`].
+    pub copiers: u32,
     /// The file of the schedule, if the events are to be those of one.
     pub schedule: Option<String>,
     /// The most events that are made without a schedule, by each worker where there are several, from 1
@@ -76,6 +81,8 @@ pub struct RunOptions {
 pub struct ReplayOptions {
     /// The limit of the heap, in cells.
     pub heap: u32,
+    /// How many copiers collect the heap, from 1 to [`MAX_COPIERS`].
+    pub copiers: u32,
     /// Whether the objects that are reachable at the end are shown.
     pub show_heap: bool,
     /// The file of the record.
@@ -130,6 +137,8 @@ pub struct DisassembleOptions {
 pub struct DebugOptions {
     /// The limit of the heap, in cells.
     pub heap: u32,
+    /// How many copiers collect the heap, from 1 to [`MAX_COPIERS`].
+    pub copiers: u32,
     /// The files of the classes, the main class's first: a class file, or the text of a class if its
     /// name ends in `.j`.
     pub files: Vec<String>,

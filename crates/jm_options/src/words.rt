@@ -9,9 +9,9 @@ ghost use Rattle.jm_options.specs.Asked.{Answers, Finds, FindsAssemble, FindsDeb
 use crate::command::command;
 use crate::fault::UsageFault;
 use crate::request::{
-    AssembleOptions, DebugOptions, DisassembleOptions, ExplainOptions, ExploreOptions, MAX_HEAP,
-    MAX_QUANTUM, MAX_RUNS, MAX_SCHEDULE_STEPS, MAX_SLICE, MAX_STEPS, MAX_SWITCHES, MAX_WORKERS,
-    MIN_HEAP, Options, ReplayOptions, RunOptions,
+    AssembleOptions, DebugOptions, DisassembleOptions, ExplainOptions, ExploreOptions, MAX_COPIERS,
+    MAX_HEAP, MAX_QUANTUM, MAX_RUNS, MAX_SCHEDULE_STEPS, MAX_SLICE, MAX_STEPS, MAX_SWITCHES,
+    MAX_WORKERS, MIN_HEAP, Options, ReplayOptions, RunOptions,
 };
 use clap::error::ErrorKind;
 use clap::{ArgMatches, Error};
@@ -112,6 +112,9 @@ fn run_options(alloc: Global, matches: &ArgMatches<'_>) -> Result<RunOptions, Us
     let Some(heap) = number_within(matches, "heap", MIN_HEAP, MAX_HEAP) else {
         return Err(nothing_asked(alloc));
     };
+    let Some(copiers) = number_within(matches, "copiers", 1, MAX_COPIERS) else {
+        return Err(nothing_asked(alloc));
+    };
     let Some(steps) = number_within(matches, "steps", 1, MAX_STEPS) else {
         return Err(nothing_asked(alloc));
     };
@@ -126,6 +129,7 @@ fn run_options(alloc: Global, matches: &ArgMatches<'_>) -> Result<RunOptions, Us
     };
     Ok(RunOptions {
         heap,
+        copiers,
         schedule: string_of(alloc, matches.get_str("schedule"))?,
         steps,
         quantum,
@@ -142,6 +146,9 @@ fn replay_options(alloc: Global, matches: &ArgMatches<'_>) -> Result<ReplayOptio
     let Some(heap) = number_within(matches, "heap", MIN_HEAP, MAX_HEAP) else {
         return Err(nothing_asked(alloc));
     };
+    let Some(copiers) = number_within(matches, "copiers", 1, MAX_COPIERS) else {
+        return Err(nothing_asked(alloc));
+    };
     let Some(recorded) = matches.get_str("recorded") else {
         return Err(nothing_asked(alloc));
     };
@@ -151,6 +158,7 @@ fn replay_options(alloc: Global, matches: &ArgMatches<'_>) -> Result<ReplayOptio
     let shown = is_set(matches, "show-heap");
     Ok(ReplayOptions {
         heap,
+        copiers,
         show_heap: shown,
         record_file: String::from_str(alloc, recorded)?,
         files: strings_of(alloc, files)?,
@@ -241,11 +249,15 @@ fn debug_options(alloc: Global, matches: &ArgMatches<'_>) -> Result<DebugOptions
     let Some(heap) = number_within(matches, "heap", MIN_HEAP, MAX_HEAP) else {
         return Err(nothing_asked(alloc));
     };
+    let Some(copiers) = number_within(matches, "copiers", 1, MAX_COPIERS) else {
+        return Err(nothing_asked(alloc));
+    };
     let Some(files) = matches.get_strs("file") else {
         return Err(nothing_asked(alloc));
     };
     Ok(DebugOptions {
         heap,
+        copiers,
         files: strings_of(alloc, files)?,
     })
 }

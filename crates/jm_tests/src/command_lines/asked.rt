@@ -31,7 +31,11 @@ jm|run|--|--show-heap => run of --show-heap by 1000000 steps in turns of 1 with 
 jm|run|--workers|16|Main.class => run of Main.class by 1000000 steps of 16 workers with 65536
 jm|run|--workers=2|--quantum=5|--steps=9|Main.class|--record|r => run of Main.class by 9 steps of 2 workers with 65536, recorded in r
 jm|run|--workers=2|--schedule=s.txt|--record=r|Main.class => run of Main.class by s.txt with 65536, recorded in r
+jm|run|--copiers|16|Main.class => run of Main.class by 1000000 steps in turns of 1 with 65536 by 16 copiers
+jm|run|--copiers=1|Main.class => run of Main.class by 1000000 steps in turns of 1 with 65536
+jm|run|Main.class|--copiers=2|--workers=3|--show-heap|--heap=16 => run of Main.class by 1000000 steps of 3 workers with 16 by 2 copiers, its heap shown
 jm|replay|r|Main.class => replay of Main.class by r with 65536
+jm|replay|--copiers=8|r|Main.class|--show-heap => replay of Main.class by r with 65536 by 8 copiers, its heap shown
 jm|replay|--heap=16|r|Main.class|A.j|--show-heap => replay of Main.class, A.j by r with 16, its heap shown
 jm|replay|replay|--|--heap => replay of --heap by replay with 65536
 jm|explore|Main.class => exploration of Main.class by 2 switches, 10000 steps, 1000000 runs, slices of 1000 with 65536
@@ -42,6 +46,7 @@ jm|debug|Main.class => debug of Main.class with 65536
 jm|debug|--heap=16|Main.class|A.j => debug of Main.class, A.j with 16
 jm|debug|Main.class|--heap|16777216|--|--heap => debug of Main.class, --heap with 16777216
 jm|debug|debug => debug of debug with 65536
+jm|debug|--copiers|3|Main.class|--heap=16 => debug of Main.class with 16 by 3 copiers
 jm|dis|Main.class => text of Main.class
 jm|dis|--bare|Main.j => bare text of Main.j
 jm|dis|Main.class|--bare => bare text of Main.class
@@ -87,10 +92,19 @@ fn events_of(alloc: Global, run: &RunOptions) -> Result<String, Fail> {
     }
 }
 
+// The limit of the heap, with its copiers where they are several.
+fn heap_text(alloc: Global, heap: u32, copiers: u32) -> Result<String, Fail> {
+    if copiers == 1 {
+        Ok(format!(in alloc; "{heap}")?)
+    } else {
+        Ok(format!(in alloc; "{heap} by {copiers} copiers")?)
+    }
+}
+
 fn run_text(alloc: Global, run: &RunOptions) -> Result<String, Fail> {
     let files = list_of(alloc, &run.files)?;
     let events = events_of(alloc, run)?;
-    let heap = run.heap;
+    let heap = heap_text(alloc, run.heap, run.copiers)?;
     let shown = if run.show_heap {
         ", its heap shown"
     } else {
@@ -105,7 +119,8 @@ fn run_text(alloc: Global, run: &RunOptions) -> Result<String, Fail> {
 
 fn replay_text(alloc: Global, replay: &ReplayOptions) -> Result<String, Fail> {
     let files = list_of(alloc, &replay.files)?;
-    let (events, heap) = (&replay.record_file, replay.heap);
+    let events = &replay.record_file;
+    let heap = heap_text(alloc, replay.heap, replay.copiers)?;
     let shown = if replay.show_heap {
         ", its heap shown"
     } else {
@@ -153,7 +168,8 @@ fn text_of(alloc: Global, asked: &Options) -> Result<String, Fail> {
             Ok(format!(in alloc; "{bare}text of {file}")?)
         }
         Options::Debug(debug) => {
-            let (files, heap) = (list_of(alloc, &debug.files)?, debug.heap);
+            let files = list_of(alloc, &debug.files)?;
+            let heap = heap_text(alloc, debug.heap, debug.copiers)?;
             Ok(format!(in alloc; "debug of {files} with {heap}")?)
         }
         Options::Explain(explain) => explained(alloc, explain),
@@ -175,6 +191,6 @@ fn words_ask_for_this(rt: HostRuntime) -> Result<(), Fail> {
         let answer = answer(rt.alloc(), words)?;
         assert!(rt; answer.as_str() == want, "{row}");
     }
-    assert!(rt; ASKED.lines().count() == 51);
+    assert!(rt; ASKED.lines().count() == 56);
     Ok(())
 }

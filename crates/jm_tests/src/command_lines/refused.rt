@@ -37,7 +37,12 @@ jm run --quantum 0 A.class => 1 error: invalid value '0' for '--quantum <N>': 0 
 jm run --quantum=1000001 A.class => 1 error: invalid value '1000001' for '--quantum <N>': 1000001 is not in 1..=1000000
 jm run --quantum= A.class => 1 error: invalid value '' for '--quantum <N>': cannot parse integer from empty string
 jm run --shedule s A.class => 1 error: unexpected argument '--shedule' found
-jm run --copiers 2 --schedule=s A.class => 1 error: unexpected argument '--copiers' found
+jm run --copiers 0 A.class => 1 error: invalid value '0' for '--copiers <N>': 0 is not in 1..=16
+jm run --copiers=17 A.class => 1 error: invalid value '17' for '--copiers <N>': 17 is not in 1..=16
+jm run --copiers=2 --copiers=2 A.class => 1 error: the argument '--copiers <N>' cannot be used multiple times
+jm replay --copiers=0 r A.class => 1 error: invalid value '0' for '--copiers <N>': 0 is not in 1..=16
+jm explore --copiers 2 A.class => 1 error: unexpected argument '--copiers' found
+jm debug --copiers=17 A.class => 1 error: invalid value '17' for '--copiers <N>': 17 is not in 1..=16
 jm run --workers 0 A.class => 1 error: invalid value '0' for '--workers <N>': 0 is not in 1..=16
 jm run --workers=17 A.class => 1 error: invalid value '17' for '--workers <N>': 17 is not in 1..=16
 jm run --workers=2 --workers=2 A.class => 1 error: the argument '--workers <N>' cannot be used multiple times
@@ -136,6 +141,7 @@ jm run -h => Usage: jm run [OPTIONS] <FILE>...
 jm run -h => Also show, on standard error, the objects that are reachable at the end
 jm debug -h => Usage: jm debug [OPTIONS] <FILE>...
 jm debug -h => Class files, or texts ending in .j; the first one's `main` is run
+jm run -h => Copiers that collect the heap side by side, from 1 to 16; what is printed does not depend on them
 jm debg => a similar subcommand exists: 'debug'
 jm run --show-heaps A.class => a similar argument exists: '--show-heap'
 jm run -h => [default: 65536]
@@ -177,7 +183,7 @@ fn refusals_name_the_word(rt: HostRuntime) -> Result<(), Fail> {
         let said = first_line(rt.alloc(), words)?;
         assert!(rt; said.as_str() == want, "{row}");
     }
-    assert!(rt; REFUSED.lines().count() == 99);
+    assert!(rt; REFUSED.lines().count() == 104);
     Ok(())
 }
 
@@ -195,7 +201,7 @@ fn refusals_say_what_to_write(rt: HostRuntime) -> Result<(), Fail> {
         let (words, part) = row_of(row)?;
         assert!(rt; says(rt.alloc(), words, part)?, "{row}");
     }
-    assert!(rt; PARTS.lines().count() == 46);
+    assert!(rt; PARTS.lines().count() == 47);
     Ok(())
 }
 

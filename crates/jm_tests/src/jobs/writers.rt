@@ -5,7 +5,7 @@ ghost use Rattle.std.specs.Prelude.{⊤};
 use jm_execute::{
     AssembleJob, Contents, DebugJob, DisassembleJob, InputFile, Job, ReplayJob, RunEvents, RunJob,
     Watchable, Watched, WriteFailed, execute, put_by_write, put_line_by_write,
-    put_through_by_flush, several_workers,
+    put_through_by_flush, several_workers, so_many_copiers,
 };
 use std::alloc::{AllocError, Global};
 use std::fmt::Display;
@@ -140,6 +140,7 @@ fn file(alloc: Global, text: &str) -> Result<InputFile, AllocError> {
 fn run_job(alloc: Global, events: RunEvents) -> Result<Job, AllocError> {
     Ok(Job::Run(RunJob {
         heap: 100,
+        copiers: so_many_copiers(1),
         events,
         program: vec![in alloc; file(alloc, FIVE)?]?,
         show_heap: false,
@@ -155,6 +156,7 @@ fn scheduled_job(alloc: Global, schedule: &str) -> Result<Job, AllocError> {
 fn replay_job(alloc: Global, record_text: &str) -> Result<Job, AllocError> {
     Ok(Job::Replay(ReplayJob {
         heap: 100,
+        copiers: so_many_copiers(1),
         record_file: file(alloc, record_text)?,
         program: vec![in alloc; file(alloc, FIVE)?]?,
         show_heap: false,
@@ -179,6 +181,7 @@ fn disassembly_job(alloc: Global, text: &str) -> Result<Job, AllocError> {
 fn debug_job(alloc: Global) -> Result<Job, AllocError> {
     Ok(Job::Debug(DebugJob {
         heap: 100,
+        copiers: so_many_copiers(1),
         program: vec![in alloc; file(alloc, FIVE)?]?,
     }))
 }

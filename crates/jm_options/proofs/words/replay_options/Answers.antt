@@ -8,6 +8,9 @@ use Rattle.jm_options.proofs.words.replay_options.Goals as goal
 pub returns-in_default : goal.returns-in_default
 returns-in_default c = none_replayed _ _ (λ o holds. c.in_default.ensures o.heap holds.heap)
 
+pub returns-in_default-number_within : goal.returns-in_default-number_within
+returns-in_default-number_within c = none_replayed _ _ (λ o holds. c.in_default-number_within.ensures o.copiers holds.copiers)
+
 pub returns-in_default-get_str : goal.returns-in_default-get_str
 returns-in_default-get_str c =
     let none = rw c.in_default-get_str.is at c.get_str.ensures in
@@ -24,6 +27,7 @@ returns c =
     let files = rw c.in-Some-get_strs.is at c.get_strs.ensures in
     record {
       heap = c.in-Some.ensures;
+      copiers = c.in-Some-number_within.ensures;
       show_heap = c.is_set-shown.ensures;
       record_file = sym (first_value-rows (found_of c.args.matches.now) (codes "recorded")) ∙ sym recorded ∙ ap Some (sym c.in_ok-from_str.ensures.ok);
       files = sym (raw_values-rows (found_of c.args.matches.now) (codes "file")) ∙ sym files ∙ ap Some (sym c.in_ok-strings_of.ensures);
