@@ -75,10 +75,12 @@ impl BlockStore {
         }
     }
 
-    /// The lane of all blocks.
+    /// The lane of all blocks, from 1 to 63.
     #[inline]
     pub fn lane(&self) -> u64
-        ensures { result ≡ self.now.lane }
+        ensures value { result ≡ self.now.lane }
+        ensures some { 0 < result }
+        ensures below { result < 64 }
     {
         self.lane
     }

@@ -21,8 +21,9 @@
 //! and the law [`a_finished_scan_is_an_image`] states the end: with all values forwarded and all roots, the
 //! new objects are the image.
 //!
-//! The stores that a copier fills, the marks of its scan and the numbers of the condemned objects are public
-//! ([`Copies`], [`Marks`], [`Starts`]), for collectors of several copiers.
+//! The stores that a copier fills, the marks of its scan, the numbers of the condemned objects and the list of the
+//! promoted ones that point to young ones are public ([`Copies`], [`Marks`], [`Starts`], [`pointers`]), for
+//! collectors of several copiers.
 //!
 //! The crate stands on `jm_blocks` and `jm_nursery`.
 #![tactic(auto)]
@@ -31,7 +32,7 @@ mod collector;
 mod copies;
 mod forward;
 mod laws;
-mod pointers;
+mod old_pointers;
 mod scan;
 mod serial;
 mod source;
@@ -41,6 +42,7 @@ mod words;
 pub use collector::{Collector, Refused, Survivors};
 pub use copies::Copies;
 pub use laws::a_finished_scan_is_an_image;
+pub use old_pointers::pointers;
 pub use scan::{Marks, next, next_of, pass};
 pub use serial::SerialCollector;
 pub use source::{Source, condemned, number};

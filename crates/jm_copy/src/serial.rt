@@ -10,7 +10,7 @@ ghost use Rattle.jm_copy.specs.Numbers.{AreNumbers, object_count};
 use crate::collector::{Collector, Refused, Survivors};
 use crate::copies::Copies;
 use crate::forward::forward_roots;
-use crate::pointers::pointers;
+use crate::old_pointers::pointers;
 use crate::scan::scan;
 use crate::source::Source;
 use crate::starts::{Starts, number_all};

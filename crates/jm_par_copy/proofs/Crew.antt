@@ -1,7 +1,8 @@
 -- The seats of copiers, before their first claim and after the last round.
-use Rattle.std.proofs.Common.{◌≡◌, ℕ, zero, suc, ◌+◌, ◌*◌, ◌<◌, ◌≤◌, List, [], ◌∷◌, refl, sym, ap, ◌∙◌, subst, length, map, arith}
+use Rattle.std.proofs.Common.{◌≡◌, ◌≢◌, ◌⊎◌, ℕ, zero, suc, ◌+◌, ◌*◌, ◌<◌, ◌≤◌, List, [], ◌∷◌, refl, sym, ap, ◌∙◌, subst, inl, inr, length, map, arith}
 use Rattle.std.specs.Prelude.{◌/◌}
 use Rattle.std.specs.List.{All}
+use Rattle.std.proofs.lemmas.Bool.{cases_lt}
 use Rattle.std.proofs.Math.Nat.{mod-add-div, mod-lt}
 use Rattle.jm_blocks.specs.Stores.{Blocks}
 use Rattle.jm_forward.specs.Hands.{SeatView, TableView, fresh, hands_from, seat_of}
@@ -86,3 +87,11 @@ enough_turns blocks copiers some =
     let whole = mod-add-div blocks copiers in
     let rest = mod-lt blocks some in
     omega (arith, whole, rest)
+
+-- the lane of an old store
+pub old_lanes : (lane : ℕ) → 0 < lane → lane < 64 → lane ≢ 1 → (1 < lane) × (lane < 64)
+old_lanes lane some few apart = (by (cases_lt 1 lane), few)
+  where
+    by : (1 < lane) ⊎ (lane ≤ 1) → 1 < lane
+    by (inl h) = h
+    by (inr h) = absurd (apart (omega (arith, some, h)))

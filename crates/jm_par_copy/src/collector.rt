@@ -18,9 +18,6 @@ use std::thread::Threads;
 // There is a forwarding word for each of fewer objects than this.
 const MAX_OBJECTS: usize = 1 << 32;
 
-// Lanes are from 1 to 63.
-const LANES: u64 = 64;
-
 /// Copies what is reached by several copiers, from 1 to 16, each in a thread of its own, which pass a gate before each
 /// claim.
 #[derive(Drop)]
@@ -46,7 +43,7 @@ impl<R: Threads, G: Gate + Sync> ParallelCollector<R, G> {
     }
 
     // Copies what is reached, and puts what is promoted into the old store. Where a growth is refused, or there are
-    // 2^32 condemned objects, the old store has the objects that it had. (No store has the lane 0 or one from 64 on.)
+    // 2^32 condemned objects, the old store has the objects that it had.
     fn copy(
         &self,
         alloc: Global,
@@ -59,10 +56,6 @@ impl<R: Threads, G: Gate + Sync> ParallelCollector<R, G> {
         ensures ok { IfOk result (λ r. IsCollected condemned.now tenured.old roots.now r.young tenured.new r.remembered.items r.roots.items) }
         ensures err { OnErr result ((n : ℕ) → objects_in tenured.new n ≡ objects_in tenured.old n) }
     {
-        let lane = tenured.lane();
-        if lane < 2 || lane >= LANES {
-            return Err(AllocError);
-        }
         let (numbers, count) = number_all(alloc, condemned)?;
         if count >= MAX_OBJECTS {
             return Err(AllocError);

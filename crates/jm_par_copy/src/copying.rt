@@ -1,6 +1,6 @@
 // A collection by several copiers.
 
-ghost use Rattle.std.specs.Prelude.{◌≡◌, ℕ, ◌<◌, ◌≤◌, [], IfOk, OnErr, OnOk, length, map, vec_capacity};
+ghost use Rattle.std.specs.Prelude.{◌≡◌, ◌≢◌, ℕ, ◌<◌, ◌≤◌, [], IfOk, OnErr, OnOk, length, map, vec_capacity};
 ghost use Rattle.jm_blocks.specs.Stores.{objects_in};
 ghost use Rattle.jm_forward.specs.Hands.{Agree, SeatView, all_wins, hands_from, seat_of};
 ghost use Rattle.jm_copy.specs.Copies.{IsSource};
@@ -80,7 +80,7 @@ pub fn copy_with<R: Threads, G: Gate + Sync>(
     requires objects { words.now.objects ≡ object_count from.stores.now }
     requires copiers { (0 < words.now.copiers) × (words.now.copiers ≤ 16) }
     requires fresh { seats.old.items ≡ map (seat_of words.now.table) (hands_from words.now.copiers 0 words.now.copiers) }
-    requires lane { (1 < tenured.old.lane) × (tenured.old.lane < 64) }
+    requires apart { tenured.old.lane ≢ 1 }
     ensures ok { IfOk result (λ r. IsCollectedBy from.entry.stores.now tenured.old from.entry.roots.now (all_wins (map (λ (s : SeatView). s.hand) seats.new.items)) r.young tenured.new r.remembered.items r.roots.items) }
     ensures own { OnOk result (AllOwnWins seats.new.items) }
     ensures err { OnErr result ((n : ℕ) → objects_in tenured.new n ≡ objects_in tenured.old n) }

@@ -12,10 +12,9 @@ use crate::merging::move_all;
 use crate::new_roots::root_places;
 use crate::owner::CopierBlocks;
 use crate::piece::Piece;
-use crate::pointing::pointers;
 use crate::unloading::{YOUNG, put_together};
 use jm_blocks::BlockStore;
-use jm_copy::Source;
+use jm_copy::{Source, pointers};
 use jm_forward::Forwarding;
 use jm_values::Place;
 use std::alloc::{AllocError, Global};
@@ -53,7 +52,7 @@ pub fn finish(
 {
     let roots = root_places(alloc, from, words, copiers.as_slice())?;
     let (young, mut promoted) = put_together(alloc, copiers, aside, tenured.lane())?;
-    let remembered = pointers(alloc, &promoted, YOUNG)?;
+    let remembered = pointers(alloc, &promoted, &None, YOUNG)?;
     move_all(alloc, &mut promoted, tenured)?;
     Ok(Copied {
         young,

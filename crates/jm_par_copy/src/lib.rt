@@ -37,7 +37,6 @@ mod merging;
 mod new_roots;
 mod owner;
 mod piece;
-mod pointing;
 mod rooting;
 mod running;
 mod scan;

@@ -14,7 +14,7 @@ scan-requires-clause-copying c = first_stays c.args.from.stores.now c.args.from.
 pub returns-clause-ok : goal.returns-clause-ok
 returns-clause-ok c =
     let scanned = c.in_ok-scan.ensures.copying in
-    copied_out c.args.from.stores.now c.args.from.roots.now c.forward_roots.new.to c.scan.new.to c.in_ok-roots.roots.items c.in_ok-remembered.remembered.items scanned.0 scanned.1 scanned.2 c.in_ok-roots.ensures.forwarded.0 c.in_ok-roots.ensures.forwarded.1 c.scan.ensures.extends.known (subst (λ l. ListsAbove l c.scan.new.to.tenured c.scan.new.to.kept c.in_ok-remembered.remembered.items) c.lane.ensures c.in_ok-remembered.ensures)
+    copied_out c.args.from.stores.now c.args.from.roots.now c.forward_roots.new.to c.scan.new.to c.in_ok-roots.roots.items c.in_ok-remembered.remembered.items scanned.0 scanned.1 scanned.2 c.in_ok-roots.ensures.forwarded.0 c.in_ok-roots.ensures.forwarded.1 c.scan.ensures.extends.known (subst (λ l. ListsAbove l c.scan.new.to.tenured c.scan.new.to.kept c.in_ok-remembered.remembered.items) c.lane.ensures.value c.in_ok-remembered.ensures)
 
 pub returns-clause-stays : goal.returns-clause-stays
 returns-clause-stays c = stays_more c.args.to.now c.forward_roots.new.to c.scan.new.to c.forward_roots.ensures.extends.stays c.scan.ensures.extends.stays

@@ -9,7 +9,7 @@ use Rattle.jm_par_copy.specs.Copiers.{ArePlaced, hands}
 use Rattle.jm_par_copy.specs.Ending.{IsCollectedBy, seats_in}
 use Rattle.jm_par_copy.specs.Seats.{AreInOrder}
 use Rattle.jm_par_copy.specs.declared.ending.Copied.{Copied}
-use Rattle.jm_par_copy.proofs.Crew.{enough_turns, fresh_in_order, is_crew, many_fresh, many_in, order_tables}
+use Rattle.jm_par_copy.proofs.Crew.{enough_turns, fresh_in_order, is_crew, many_fresh, many_in, old_lanes, order_tables}
 use Rattle.jm_par_copy.proofs.Meeting.{hands_in}
 use Rattle.jm_par_copy.proofs.copying.copy_with.Goals as goal
 
@@ -20,6 +20,14 @@ all_stores-requires-clause-few g c =
     let blocks = c.len.ensures.numbered in
     let less = div-le_self c.len.result c.copiers-count.result in
     (omega (arith, count, few), omega (arith, blocks, less))
+
+pub all_stores-requires-clause-lane : goal.all_stores-requires-clause-lane
+all_stores-requires-clause-lane g c = old_lanes c.lane.result c.lane.ensures.some c.lane.ensures.below (λ e. c.requires.apart (sym c.lane.ensures.value ∙ e))
+
+pub copy_by-copied-requires-clause-lane : goal.copy_by-copied-requires-clause-lane
+copy_by-copied-requires-clause-lane g c κs within =
+    let lanes = old_lanes c.lane.result c.lane.ensures.some c.lane.ensures.below (λ e. c.requires.apart (sym c.lane.ensures.value ∙ e)) in
+    subst (λ l. (1 < l) × (l < 64)) c.lane.ensures.value lanes
 
 pub returns-in_err-stores-clause-seats : goal.returns-in_err-stores-clause-seats
 returns-in_err-stores-clause-seats g c = subst (λ (ss : List SeatView). AreInOrder c.args.words.now 0 ss) (sym c.requires.fresh) (fresh_in_order c.args.words.now 0 c.args.words.now.copiers)
@@ -79,7 +87,7 @@ copy_by-copied-requires-clause-placed g c κs within =
     let first = count * (c.len.result / count + 1) in
     let some : 0 < count = let is = c.copiers-count.ensures in let copiers = c.requires.copiers in omega (arith, is, copiers) in
     let enough = enough_turns c.len.result count some in
-    (first, subst (λ n. n ≤ first) c.len.ensures.value enough, subst (λ l. ArePlaced 1 l first c.seat_all-copiers.result.items []) c.lane.ensures crew.placed)
+    (first, subst (λ n. n ≤ first) c.len.ensures.value enough, subst (λ l. ArePlaced 1 l first c.seat_all-copiers.result.items []) c.lane.ensures.value crew.placed)
 
 pub leave_seats-requires-clause-room : goal.leave_seats-requires-clause-room
 leave_seats-requires-clause-room g c =

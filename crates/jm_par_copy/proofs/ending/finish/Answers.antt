@@ -12,12 +12,12 @@ use Rattle.jm_par_copy.proofs.Meeting.{numbered_are_all}
 use Rattle.jm_par_copy.proofs.ending.finish.Goals as goal
 
 pub put_together-requires-clause-lane : goal.put_together-requires-clause-lane
-put_together-requires-clause-lane c = subst (λ l. (1 < l) × (l < 64)) (sym c.lane.ensures) c.requires.lane
+put_together-requires-clause-lane c = subst (λ l. (1 < l) × (l < 64)) (sym c.lane.ensures.value) c.requires.lane
 
 pub put_together-requires-clause-loads : goal.put_together-requires-clause-loads
 put_together-requires-clause-loads c =
     let placed = c.requires.placed in
-    subst (λ l. AllLoads 1 l c.args.copiers.now.items c.args.aside.items) (sym c.lane.ensures)
+    subst (λ l. AllLoads 1 l c.args.copiers.now.items c.args.aside.items) (sym c.lane.ensures.value)
     (held_is_loads c.args.from.stores.now c.args.from.roots.now c.args.words.now c.args.copiers.now.items c.args.aside.items 1 c.args.tenured.now.lane placed.0 c.requires.copying placed.2)
 
 pub move_all-requires-clause-beside : goal.move_all-requires-clause-beside
@@ -26,7 +26,7 @@ move_all-requires-clause-beside c =
     let lanes = c.requires.lane in
     let other : c.args.tenured.now.lane ≢ 1 = λ e. absurd (omega (arith, lanes, e)) in
     let together = c.in_ok-young.ensures in
-    promoted_beside c.args.copiers.now.items c.args.aside.items c.args.tenured.now c.in_ok-young.young c.in_ok-young.promoted placed.0 other together.young_lane (together.old_lane ∙ c.lane.ensures) together.all placed.1 placed.2
+    promoted_beside c.args.copiers.now.items c.args.aside.items c.args.tenured.now c.in_ok-young.young c.in_ok-young.promoted placed.0 other together.young_lane (together.old_lane ∙ c.lane.ensures.value) together.all placed.1 placed.2
 
 pub returns-clause-ok : goal.returns-clause-ok
 returns-clause-ok c agree =
@@ -36,7 +36,7 @@ returns-clause-ok c agree =
     let together = c.in_ok-young.ensures in
     let put : IsPutTogether c.args.copiers.now.items c.args.aside.items c.args.tenured.now c.in_ok-young.young c.in_ok-young.promoted c.move_all.new.to = record {
       young_lane = together.young_lane;
-      promoted_lane = together.old_lane ∙ c.lane.ensures;
+      promoted_lane = together.old_lane ∙ c.lane.ensures.value;
       tenured_lane = c.move_all.ensures.lane;
       all = together.all;
       old = c.in_ok-move_all.ensures.ok;

@@ -1,6 +1,6 @@
 use Rattle.jm_copy.proofs.Marking.{less}
 use Rattle.jm_copy.proofs.Pointing.{listed_none, listed_more, listed_all}
-use Rattle.jm_copy.proofs.pointers.pointers.Goals as goal
+use Rattle.jm_copy.proofs.old_pointers.pointers.Goals as goal
 
 pub loop-place-init : goal.loop-place-init
 loop-place-init c = listed_none c.args.lane c.args.store.now c.args.kept.now c.new-places.result.items c.requires c.new-places.ensures.items

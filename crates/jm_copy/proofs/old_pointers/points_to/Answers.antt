@@ -4,7 +4,7 @@ use Rattle.jm_values.specs.declared.value.Value.{Value}
 use Rattle.jm_heap.specs.Elements.{elements}
 use Rattle.jm_copy.specs.Pointing.{names_lane, points_to}
 use Rattle.jm_copy.proofs.Plain.{plain_points}
-use Rattle.jm_copy.proofs.pointers.points_to.Goals as goal
+use Rattle.jm_copy.proofs.old_pointers.points_to.Goals as goal
 
 step_by : (lane : ℕ) (vs : List Value) (i : ℕ) (v : Value) → slice_get vs i ≡ Some v → points_to lane (drop i vs) ≡ (names_lane lane v || points_to lane (drop (suc i) vs))
 step_by lane [] i v e = cc
