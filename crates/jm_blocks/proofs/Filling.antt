@@ -10,7 +10,7 @@ use Rattle.jm_blocks.proofs.Sizes.{at_least_two, few_where_room}
 use Rattle.jm_blocks.proofs.Placing.{bumped_last, bumped_new}
 
 -- the last of two or more is the last of the rest
-last_step : (b c : List Object) (bs : List (List Object)) → last_of (b ∷ c ∷ bs) ≡ last_of (c ∷ bs)
+pub last_step : (b c : List Object) (bs : List (List Object)) → last_of (b ∷ c ∷ bs) ≡ last_of (c ∷ bs)
 last_step b c bs = let at : length (b ∷ c ∷ bs) - 1 ≡ suc (length (c ∷ bs) - 1) = omega arith in ap (λ i. slice_get (b ∷ c ∷ bs) i) at
 
 -- an object that has room goes into the last block

@@ -5,3 +5,4 @@ pub mod Spelled
 pub mod Held
 pub mod Places
 pub mod Stores
+pub mod Few
