@@ -64,7 +64,7 @@ round_of stores roots c d e on kept rooted scan =
     }
 
 -- a growth was refused when the roots were forwarded
-pub refused_round : (stores : List Blocks) (roots : List ℕ) (c d e : Copier) → GoesOn c d → e ≡ record { number = d.number; claims = d.claims; seat = d.seat; to = d.to; marks = d.marks; given = d.given; roots = d.roots; rooted = d.rooted; ended = d.ended; refused = true } → IsRound stores roots c e
+pub refused_round : (stores : List Blocks) (roots : List ℕ) (c d e : Copier) → GoesOn c d → e ≡ record { number = d.number; claims = d.claims; seat = d.seat; to = d.to; marks = d.marks; given = d.given; roots = d.roots; rooted = d.rooted; ended = d.ended; refused = true; room = d.room } → IsRound stores roots c e
 refused_round stores roots c d e on is = subst (λ z. IsRound stores roots c z) (sym is) (record {
   number = on.number;
   table = on.table;

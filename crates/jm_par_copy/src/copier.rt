@@ -19,8 +19,10 @@ use std::thread::{Threads, join_mut};
 
 /// A copier: its number, how many claims it has made, its seat, its own two stores with their marks, the
 /// blocks that it was given, the new places of its roots and whether they are there, whether nothing that it holds is left to scan, and
-/// whether a growth was refused to it.
+/// whether a growth was refused to it. Copiers at work stand one behind the other in a list, each written by its own
+/// thread, so there is room of a cache line (64 bytes) between what one of them has and what the next one has.
 #[derive(Drop)]
+#[repr(C)]
 pub struct Copier {
     pub number: usize,
     pub claims: u64,
@@ -32,6 +34,7 @@ pub struct Copier {
     pub rooted: bool,
     pub ended: bool,
     pub refused: bool,
+    pub room: [u64; 8],
 }
 
 // The copier forwards its roots, if it has not yet.

@@ -95,6 +95,7 @@ fn seat_one(alloc: Global, number: usize, seat: Seat, to: Copies) -> Copier
         rooted: false,
         ended: false,
         refused: false,
+        room: [0; 8],
     }
 }
 
