@@ -1,6 +1,7 @@
 pub mod Events
 pub mod Folds
 pub mod EachEvent
+pub mod BetweenEvents
 pub mod MainMethod
 pub mod WithinCells
 pub mod Holding

@@ -14,6 +14,7 @@ pub mod Marked
 pub mod ReachedObjects
 pub mod Readers
 pub mod EachEvent
+pub mod BetweenEvents
 pub mod ManySteps
 pub mod CodePlaces
 pub mod UpToPlaces

@@ -4,7 +4,8 @@
 //! A [`Machine`] matches a world of the model (`jm_world`) in every part, and each event leads it
 //! to a machine that matches the model's next world, with the model's reply. So the machine after
 //! any list of events matches the fold of those events, which the contract of [`Machine::run`]
-//! says. Its readers tell each part of that world, with references as numbers of objects.
+//! says. Its readers tell each part of that world, with references as numbers of objects. [`interleave`]
+//! puts collections between events, which lead to the same world.
 //!
 //! The crate stands on `jm_interp`, `jm_state`, `jm_linked` and `jm_heap`; what a schedule spells is
 //! read by `jm_schedule`.
@@ -19,6 +20,7 @@ mod fault;
 mod first_objects;
 mod frame;
 mod instance_fields;
+mod interleaving;
 mod load;
 mod machine;
 mod monitor;
@@ -35,6 +37,7 @@ pub use code_method::CodeMethod;
 pub use code_place::CodePlace;
 pub use fault::{Interrupted, LoadFault, OutOfMemory};
 pub use frame::{MethodFrame, WorldFrame};
+pub use interleaving::interleave;
 pub use jm_schedule::{Schedule, ScheduleFault, read_schedule};
 pub use machine::Machine;
 pub use monitor::WorldMonitor;
