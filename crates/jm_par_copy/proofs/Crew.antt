@@ -1,5 +1,5 @@
 -- The seats of copiers, before their first claim and after the last round.
-use Rattle.std.proofs.Common.{◌≡◌, ◌≢◌, ◌⊎◌, ℕ, zero, suc, ◌+◌, ◌*◌, ◌<◌, ◌≤◌, List, [], ◌∷◌, refl, sym, ap, ◌∙◌, subst, inl, inr, length, map, arith}
+use Rattle.std.proofs.Common.{◌≡◌, ◌≢◌, ◌⊎◌, ℕ, zero, suc, ◌+◌, ◌-◌, ◌*◌, ◌<◌, ◌≤◌, List, [], ◌∷◌, refl, sym, ap, ◌∙◌, subst, inl, inr, length, map, arith}
 use Rattle.std.specs.Prelude.{◌/◌}
 use Rattle.std.specs.List.{All}
 use Rattle.std.proofs.lemmas.Bool.{cases_lt}
@@ -82,11 +82,11 @@ is_crew stores roots words old_lane first count taken ts cs objects few same own
     }
 
 -- turns enough for the blocks that there are
-pub enough_turns : (blocks copiers : ℕ) → 0 < copiers → blocks ≤ copiers * (blocks / copiers + 1)
+pub enough_turns : (blocks copiers : ℕ) → 0 < copiers → blocks ≤ copiers * ((blocks + copiers - 1) / copiers)
 enough_turns blocks copiers some =
-    let whole = mod-add-div blocks copiers in
-    let rest = mod-lt blocks some in
-    omega (arith, whole, rest)
+    let whole = mod-add-div (blocks + copiers - 1) copiers in
+    let rest = mod-lt (blocks + copiers - 1) some in
+    omega (arith, whole, rest, some)
 
 -- the lane of an old store
 pub old_lanes : (lane : ℕ) → 0 < lane → lane < 64 → lane ≢ 1 → (1 < lane) × (lane < 64)

@@ -1,13 +1,14 @@
 -- The blocks of one store are put into another of the same lane.
-use Rattle.std.proofs.Common.{◌≡◌, ◌≢◌, ◌⊎◌, ℕ, zero, suc, ◌+◌, ◌<◌, List, [], ◌∷◌, Option, Some, None, Bool, true, false, not, cond, refl, sym, ap, ◌∙◌, subst, inl, inr, length, arith}
+use Rattle.std.proofs.Common.{◌≡◌, ◌≢◌, ◌⊎◌, ℕ, zero, suc, ◌+◌, ◌<◌, ◌≤◌, List, [], ◌∷◌, Option, Some, None, Bool, true, false, not, cond, refl, sym, ap, ◌∙◌, subst, inl, inr, length, arith}
 use Rattle.std.specs.Prelude.{slice_get, nat_eq}
+use Rattle.std.proofs.lemmas.Bool.{cases_lt}
 use Rattle.std.proofs.lemmas.Bool.Decides.{eqb_tells}
 use Rattle.std.proofs.lemmas.List.{length-set}
 use Rattle.std.proofs.lemmas.Option.{slice_get_within}
 use Rattle.jm_blocks.specs.Objects.{Object}
 use Rattle.jm_blocks.specs.Places.{lane_of, block_of, index_of, place_at}
-use Rattle.jm_blocks.specs.Stores.{Blocks, HasObject, objects_in, object_of_list}
-use Rattle.jm_blocks.proofs.Placing.{at_place, elsewhere, lane_put, block_put, index_put, get_set_same, get_set_other}
+use Rattle.jm_blocks.specs.Stores.{Blocks, HasObject, IsLast, objects_in, object_of_list}
+use Rattle.jm_blocks.proofs.Placing.{LiesIn, at_place, lies_in, lane_put, block_put, index_put, get_set_same, get_set_other}
 use Rattle.jm_par_copy.specs.Merging.{AreBeside, IsLeft, IsMoved}
 use Rattle.jm_par_copy.specs.Moves.{piece_of, with_block}
 use Rattle.jm_par_copy.specs.Pieces.{is_in, objects_of}
@@ -137,24 +138,42 @@ empty_more from from_now number l f k h = by (eqb_tells k number)
     by (inl t) = ap (slice_get from_now.lists) t.1 ∙ l.here
     by (inr t) = let other = t.1 in l.others k t.1 ∙ f k (omega (arith, h, other))
 
--- with all blocks empty there is nothing
-none_in : (s : Blocks) (n : ℕ) → ((k : ℕ) → k < length s.lists → slice_get s.lists k ≡ Some []) → objects_in s n ≡ None
-none_in s n f = by (eqb_tells (lane_of n) s.lane)
+-- and those above are as they were
+pub rest_more : (from mid now : Blocks) (number : ℕ) → IsLeft mid now number → ((k : ℕ) → number ≤ k → slice_get mid.lists k ≡ slice_get from.lists k) → (k : ℕ) → number + 1 ≤ k → slice_get now.lists k ≡ slice_get from.lists k
+rest_more from mid now number l f k h = l.others k (λ e. absurd (omega (arith, h, e))) ∙ f k (omega (arith, h))
+
+-- with all blocks empty as far as there were objects there is nothing
+none_left : (from now : Blocks) (count : ℕ) → now.lane ≡ from.lane → ((n : ℕ) → HasObject from n → block_of n < count) → ((k : ℕ) → k < count → slice_get now.lists k ≡ Some []) → ((k : ℕ) → count ≤ k → slice_get now.lists k ≡ slice_get from.lists k) → (n : ℕ) → objects_in now n ≡ None
+none_left from now count lane above empty rest n = by (objects_in now n) refl
   where
-    list : (x : Option (List Object)) → slice_get s.lists (block_of n) ≡ x → object_of_list (slice_get s.lists (block_of n)) (index_of n) ≡ None
-    list None e = ap (λ x. object_of_list x (index_of n)) e
-    list (Some os) e = ap (λ x. object_of_list x (index_of n)) (f (block_of n) (slice_get_within s.lists (block_of n) os e))
+    never : (o : Object) → LiesIn now n o → (block_of n < count) ⊎ (count ≤ block_of n) → ⊥
+    never o at (inl h) =
+        let two : Some [] ≡ Some at.block = sym (empty (block_of n) h) ∙ at.block_is in
+        let is : [] ≡ at.block = cc in
+        let none : None ≡ Some o = subst (λ os. slice_get os (index_of n) ≡ Some o) (sym is) at.object_is in
+        cc
+    never o at (inr h) =
+        let there : objects_in from n ≡ Some o = at_place from (block_of n) (index_of n) n (at.lane ∙ lane) refl refl ∙ ap (λ x. object_of_list x (index_of n)) (sym (rest (block_of n) h) ∙ at.block_is) ∙ at.object_is in
+        let below = above n (o, there) in
+        absurd (omega (arith, below, h))
 
-    by : ((nat_eq (lane_of n) s.lane ≡ true) × (lane_of n ≡ s.lane)) ⊎ ((nat_eq (lane_of n) s.lane ≡ false) × (lane_of n ≢ s.lane)) → objects_in s n ≡ None
-    by (inl t) = at_place s (block_of n) (index_of n) n t.1 refl refl ∙ list (slice_get s.lists (block_of n)) refl
-    by (inr t) = elsewhere s n t.1
+    by : (x : Option Object) → objects_in now n ≡ x → objects_in now n ≡ None
+    by None e = e
+    by (Some o) e = absurd (never o (lies_in now n o e) (cases_lt (block_of n) count))
 
-pub moved_all : (from to from_now to_now : Blocks) → IsMoved from to from_now to_now → ((k : ℕ) → k < length from_now.lists → slice_get from_now.lists k ≡ Some []) → (n : ℕ) → objects_in to_now n ≡ both (objects_in to) (objects_in from) n
-moved_all from to from_now to_now m f n = sym (alone (objects_in to_now n) refl) ∙ m.all n
+pub moved_all : (from to from_now to_now : Blocks) (count : ℕ) → IsMoved from to from_now to_now → ((n : ℕ) → HasObject from n → block_of n < count) → ((k : ℕ) → k < count → slice_get from_now.lists k ≡ Some []) → ((k : ℕ) → count ≤ k → slice_get from_now.lists k ≡ slice_get from.lists k) → (n : ℕ) → objects_in to_now n ≡ both (objects_in to) (objects_in from) n
+moved_all from to from_now to_now count m above empty rest n = sym (alone (objects_in to_now n) refl) ∙ m.all n
   where
     alone : (x : Option Object) → objects_in to_now n ≡ x → both (objects_in to_now) (objects_in from_now) n ≡ objects_in to_now n
-    alone None e = both_right (objects_in to_now) (objects_in from_now) n e ∙ none_in from_now n f ∙ sym e
+    alone None e = both_right (objects_in to_now) (objects_in from_now) n e ∙ none_left from from_now count m.from_lane above empty rest n ∙ sym e
     alone (Some o) e = both_left (objects_in to_now) (objects_in from_now) n o e ∙ sym e
+
+-- a store has a block for each of its objects, and none of them lies above that of the last one
+pub filled_within : (s : Blocks) (p : ℕ) → HasObject s p → block_of p + 1 ≤ length s.lists
+filled_within s p h = let at = lies_in s p h.0 h.1 in let within = slice_get_within s.lists (block_of p) at.block at.block_is in omega (arith, within)
+
+pub filled_above : (s : Blocks) (p : ℕ) → IsLast s p → (n : ℕ) → HasObject s n → block_of n < block_of p + 1
+filled_above s p last n h = let below = last n h in omega (arith, below)
 
 pub got_there : {X : Type 0} (xs : List X) (i : ℕ) → i < length xs → (x : X) × (slice_get xs i ≡ Some x)
 got_there [] i h = absurd (omega (arith, h))

@@ -1,6 +1,6 @@
 // A collection by several copiers.
 
-ghost use Rattle.std.specs.Prelude.{◌≡◌, ◌≢◌, ℕ, ◌<◌, ◌≤◌, [], IfOk, OnErr, OnOk, length, map, vec_capacity};
+ghost use Rattle.std.specs.Prelude.{◌≡◌, ◌≢◌, ℕ, ◌*◌, ◌<◌, ◌≤◌, ◌^◌, [], IfOk, OnErr, OnOk, length, map, vec_capacity};
 ghost use Rattle.jm_blocks.specs.Stores.{objects_in};
 ghost use Rattle.jm_forward.specs.Hands.{Agree, SeatView, all_wins, hands_from, seat_of};
 ghost use Rattle.jm_copy.specs.Copies.{IsSource};
@@ -63,6 +63,17 @@ fn leave_seats(copiers: Vec<Copier>, mut seats: Vec<Seat>) -> Vec<Seat>
     seats
 }
 
+// How many turns of blocks of all copiers (at most 16) so many blocks take.
+fn turns_above(blocks: usize, copiers: usize) -> usize
+    requires some { 0 < copiers }
+    requires few { copiers ≤ 16 }
+    requires numbered { blocks ≤ 2 ^ 49 }
+    ensures enough { blocks ≤ copiers * result }
+    ensures few { result ≤ 2 ^ 50 }
+{
+    (blocks + copiers - 1) / copiers
+}
+
 /// Copies what the roots reach by several copiers (at most 16), each in a thread of its own, which pass the gate
 /// before each claim, and puts the promoted objects into the old store. The seats are all those of a fresh table with
 /// a word for each condemned object; they come back in order, and have met. Where a growth is refused, to whichever
@@ -89,7 +100,7 @@ pub fn copy_with<R: Threads, G: Gate + Sync>(
     ensures agree { OnOk result (Agree (map (λ (s : SeatView). s.hand) seats.new.items)) }
 {
     let count = words.copiers();
-    let turns = tenured.len() / count + 1;
+    let turns = turns_above(tenured.len(), count);
     let stores = all_stores(alloc, count, tenured.lane(), turns)?;
     let room = Vec::with_capacity(alloc, count)?;
     let left = Vec::with_capacity(alloc, count)?;

@@ -2,13 +2,14 @@
 
 ghost use Rattle.std.specs.Prelude.{◌≡◌, ◌<◌, ◌≤◌, ℕ, None, OnErr, OnOk, Some, length};
 ghost use Rattle.jm_blocks.specs.Objects.{Object};
-ghost use Rattle.jm_blocks.specs.Stores.{objects_in};
+ghost use Rattle.jm_blocks.specs.Places.{block_of};
+ghost use Rattle.jm_blocks.specs.Stores.{HasObject, objects_in};
 ghost use Rattle.jm_par_copy.specs.Pieces.{objects_of};
 ghost use Rattle.jm_par_copy.specs.Merging.{AreBeside, IsLeft, IsMoved};
 ghost use Rattle.jm_par_copy.specs.Working.{both};
 
 use crate::piece::Piece;
-use jm_blocks::BlockStore;
+use jm_blocks::{BlockStore, Position};
 use std::alloc::{AllocError, Global};
 
 // How many blocks a lane may have.
@@ -82,23 +83,36 @@ fn move_block(alloc: Global, from: &mut BlockStore, number: usize, to: &mut Bloc
     to.put(number, block);
 }
 
-// Moves all blocks of a store into another of the same lane, which has as many and no object where the first has one.
-fn move_opened(alloc: Global, from: &mut BlockStore, to: &mut BlockStore)
+// How many blocks a store has as far as the last one with an object.
+fn filled_blocks(store: &BlockStore) -> usize
+    ensures within { result ≤ length store.now.lists }
+    ensures above { (n : ℕ) → HasObject store.now n → block_of n < result }
+{
+    match store.last() {
+        Some(place) => Position::of(place).block + 1,
+        None => 0,
+    }
+}
+
+// Moves the first so many blocks of a store, above which it has no object, into another of the same lane, which has as
+// many and no object where the first has one.
+fn move_opened(alloc: Global, from: &mut BlockStore, count: usize, to: &mut BlockStore)
     requires lane { from.old.lane ≡ to.old.lane }
     requires beside { AreBeside from.old to.old }
-    requires opened { length from.old.lists ≤ length to.old.lists }
+    requires there { count ≤ length from.old.lists }
+    requires above { (n : ℕ) → HasObject from.old n → block_of n < count }
+    requires opened { count ≤ length to.old.lists }
     ensures lane { to.new.lane ≡ to.old.lane }
     ensures all { (n : ℕ) → objects_in to.new n ≡ both (objects_in to.old) (objects_in from.old) n }
 {
-    let count = from.len();
     for number in 0..count {
         move_block(alloc, from, number, to);
     }
 }
 
-/// Moves all blocks of a store into another of the same lane, which has no object where the first has one. Only the
-/// opening of so many blocks can be refused, before any is moved: the second has the objects that it had then, and
-/// the first is as it was.
+/// Moves all blocks of a store into another of the same lane, which has no object where the first has one, and opens it
+/// as far as the last block with an object. Only that can be refused, before any block is moved: the second has the
+/// objects that it had then, and the first is as it was.
 pub fn move_all(alloc: Global, from: &mut BlockStore, to: &mut BlockStore) -> Result<(), AllocError>
     requires lane { from.old.lane ≡ to.old.lane }
     requires beside { AreBeside from.old to.old }
@@ -107,8 +121,8 @@ pub fn move_all(alloc: Global, from: &mut BlockStore, to: &mut BlockStore) -> Re
     ensures from { OnErr result (from.new ≡ from.old) }
     ensures lane { to.new.lane ≡ to.old.lane }
 {
-    let count = from.len();
+    let count = filled_blocks(from);
     open_all(alloc, to, count)?;
-    move_opened(alloc, from, to);
+    move_opened(alloc, from, count, to);
     Ok(())
 }

@@ -1,7 +1,5 @@
-use Rattle.std.proofs.Common.{◌≡◌, ◌≤◌, ◌<◌, ◌+◌, ◌*◌, List, [], ◌∙◌, rules, arith, sym, ap, subst, length, map}
-use Rattle.std.specs.Prelude.{◌/◌}
+use Rattle.std.proofs.Common.{◌≡◌, ◌≤◌, ◌*◌, List, [], ◌∙◌, rules, arith, sym, ap, subst, length, map}
 use Rattle.std.specs.List.{All}
-use Rattle.std.proofs.Math.Nat.{div-le_self}
 use Rattle.std.proofs.lemmas.Result.{IfOk-weaker}
 use Rattle.jm_forward.specs.declared.rule.Hand.{Hand}
 use Rattle.jm_forward.specs.Hands.{Agree, SeatView, all_wins}
@@ -9,7 +7,7 @@ use Rattle.jm_par_copy.specs.Copiers.{ArePlaced, hands}
 use Rattle.jm_par_copy.specs.Ending.{IsCollectedBy, seats_in}
 use Rattle.jm_par_copy.specs.Seats.{AreInOrder}
 use Rattle.jm_par_copy.specs.declared.ending.Copied.{Copied}
-use Rattle.jm_par_copy.proofs.Crew.{enough_turns, fresh_in_order, is_crew, many_fresh, many_in, old_lanes, order_tables}
+use Rattle.jm_par_copy.proofs.Crew.{fresh_in_order, is_crew, many_fresh, many_in, old_lanes, order_tables}
 use Rattle.jm_par_copy.proofs.Meeting.{hands_in}
 use Rattle.jm_par_copy.proofs.copying.copy_with.Goals as goal
 
@@ -17,9 +15,7 @@ pub all_stores-requires-clause-few : goal.all_stores-requires-clause-few
 all_stores-requires-clause-few g c =
     let count = c.copiers-count.ensures in
     let few = c.requires.copiers in
-    let blocks = c.len.ensures.numbered in
-    let less = div-le_self c.len.result c.copiers-count.result in
-    (omega (arith, count, few), omega (arith, blocks, less))
+    (omega (arith, count, few), c.turns_above-turns.ensures.few)
 
 pub all_stores-requires-clause-lane : goal.all_stores-requires-clause-lane
 all_stores-requires-clause-lane g c = old_lanes c.lane.result c.lane.ensures.some c.lane.ensures.below (λ e. c.requires.apart (sym c.lane.ensures.value ∙ e))
@@ -64,35 +60,32 @@ seat_all-copiers-requires-clause-room g c =
 pub copy_by-copied-requires-clause-copying : goal.copy_by-copied-requires-clause-copying
 copy_by-copied-requires-clause-copying g c κs within =
     let taken : c.replace-taken.result.items ≡ c.args.seats.now.items = search rules in
-    let crew = is_crew c.args.from.stores.now c.args.from.roots.now c.args.words.now c.lane.result (c.copiers-count.result * (c.len.result / c.copiers-count.result + 1)) c.copiers-count.result c.replace-taken.result.items c.in_ok-stores.stores.items c.seat_all-copiers.result.items c.requires.objects c.requires.copiers.1 c.copiers-count.ensures c.in_ok-stores.ensures.own (taken ∙ c.requires.fresh) c.seat_all-copiers.ensures in
+    let crew = is_crew c.args.from.stores.now c.args.from.roots.now c.args.words.now c.lane.result (c.copiers-count.result * c.turns_above-turns.result) c.copiers-count.result c.replace-taken.result.items c.in_ok-stores.stores.items c.seat_all-copiers.result.items c.requires.objects c.requires.copiers.1 c.copiers-count.ensures c.in_ok-stores.ensures.own (taken ∙ c.requires.fresh) c.seat_all-copiers.ensures in
     crew.copying
 
 pub copy_by-copied-requires-clause-numbered : goal.copy_by-copied-requires-clause-numbered
 copy_by-copied-requires-clause-numbered g c κs within =
     let taken : c.replace-taken.result.items ≡ c.args.seats.now.items = search rules in
-    let crew = is_crew c.args.from.stores.now c.args.from.roots.now c.args.words.now c.lane.result (c.copiers-count.result * (c.len.result / c.copiers-count.result + 1)) c.copiers-count.result c.replace-taken.result.items c.in_ok-stores.stores.items c.seat_all-copiers.result.items c.requires.objects c.requires.copiers.1 c.copiers-count.ensures c.in_ok-stores.ensures.own (taken ∙ c.requires.fresh) c.seat_all-copiers.ensures in
+    let crew = is_crew c.args.from.stores.now c.args.from.roots.now c.args.words.now c.lane.result (c.copiers-count.result * c.turns_above-turns.result) c.copiers-count.result c.replace-taken.result.items c.in_ok-stores.stores.items c.seat_all-copiers.result.items c.requires.objects c.requires.copiers.1 c.copiers-count.ensures c.in_ok-stores.ensures.own (taken ∙ c.requires.fresh) c.seat_all-copiers.ensures in
     crew.numbered
 
 pub copy_by-copied-requires-clause-many : goal.copy_by-copied-requires-clause-many
 copy_by-copied-requires-clause-many g c κs within =
     let taken : c.replace-taken.result.items ≡ c.args.seats.now.items = search rules in
-    let crew = is_crew c.args.from.stores.now c.args.from.roots.now c.args.words.now c.lane.result (c.copiers-count.result * (c.len.result / c.copiers-count.result + 1)) c.copiers-count.result c.replace-taken.result.items c.in_ok-stores.stores.items c.seat_all-copiers.result.items c.requires.objects c.requires.copiers.1 c.copiers-count.ensures c.in_ok-stores.ensures.own (taken ∙ c.requires.fresh) c.seat_all-copiers.ensures in
+    let crew = is_crew c.args.from.stores.now c.args.from.roots.now c.args.words.now c.lane.result (c.copiers-count.result * c.turns_above-turns.result) c.copiers-count.result c.replace-taken.result.items c.in_ok-stores.stores.items c.seat_all-copiers.result.items c.requires.objects c.requires.copiers.1 c.copiers-count.ensures c.in_ok-stores.ensures.own (taken ∙ c.requires.fresh) c.seat_all-copiers.ensures in
     (crew.many, c.requires.copiers.0)
 
 pub copy_by-copied-requires-clause-placed : goal.copy_by-copied-requires-clause-placed
 copy_by-copied-requires-clause-placed g c κs within =
     let taken : c.replace-taken.result.items ≡ c.args.seats.now.items = search rules in
-    let crew = is_crew c.args.from.stores.now c.args.from.roots.now c.args.words.now c.lane.result (c.copiers-count.result * (c.len.result / c.copiers-count.result + 1)) c.copiers-count.result c.replace-taken.result.items c.in_ok-stores.stores.items c.seat_all-copiers.result.items c.requires.objects c.requires.copiers.1 c.copiers-count.ensures c.in_ok-stores.ensures.own (taken ∙ c.requires.fresh) c.seat_all-copiers.ensures in
-    let count = c.copiers-count.result in
-    let first = count * (c.len.result / count + 1) in
-    let some : 0 < count = let is = c.copiers-count.ensures in let copiers = c.requires.copiers in omega (arith, is, copiers) in
-    let enough = enough_turns c.len.result count some in
-    (first, subst (λ n. n ≤ first) c.len.ensures.value enough, subst (λ l. ArePlaced 1 l first c.seat_all-copiers.result.items []) c.lane.ensures.value crew.placed)
+    let crew = is_crew c.args.from.stores.now c.args.from.roots.now c.args.words.now c.lane.result (c.copiers-count.result * c.turns_above-turns.result) c.copiers-count.result c.replace-taken.result.items c.in_ok-stores.stores.items c.seat_all-copiers.result.items c.requires.objects c.requires.copiers.1 c.copiers-count.ensures c.in_ok-stores.ensures.own (taken ∙ c.requires.fresh) c.seat_all-copiers.ensures in
+    let first = c.copiers-count.result * c.turns_above-turns.result in
+    (first, subst (λ n. n ≤ first) c.len.ensures.value c.turns_above-turns.ensures.enough, subst (λ l. ArePlaced 1 l first c.seat_all-copiers.result.items []) c.lane.ensures.value crew.placed)
 
 pub leave_seats-requires-clause-room : goal.leave_seats-requires-clause-room
 leave_seats-requires-clause-room g c =
     let taken : c.replace-taken.result.items ≡ c.args.seats.now.items = search rules in
-    let crew = is_crew c.args.from.stores.now c.args.from.roots.now c.args.words.now c.lane.result (c.copiers-count.result * (c.len.result / c.copiers-count.result + 1)) c.copiers-count.result c.replace-taken.result.items c.in_ok-stores.stores.items c.seat_all-copiers.result.items c.requires.objects c.requires.copiers.1 c.copiers-count.ensures c.in_ok-stores.ensures.own (taken ∙ c.requires.fresh) c.seat_all-copiers.ensures in
+    let crew = is_crew c.args.from.stores.now c.args.from.roots.now c.args.words.now c.lane.result (c.copiers-count.result * c.turns_above-turns.result) c.copiers-count.result c.replace-taken.result.items c.in_ok-stores.stores.items c.seat_all-copiers.result.items c.requires.objects c.requires.copiers.1 c.copiers-count.ensures c.in_ok-stores.ensures.own (taken ∙ c.requires.fresh) c.seat_all-copiers.ensures in
     let many = c.copy_by-copied.ensures.many in
     let before = crew.many in
     let count = c.copiers-count.ensures in
@@ -119,5 +112,5 @@ returns-clause-ok g c =
 pub returns-clause-many : goal.returns-clause-many
 returns-clause-many g c =
     let taken : c.replace-taken.result.items ≡ c.args.seats.now.items = search rules in
-    let crew = is_crew c.args.from.stores.now c.args.from.roots.now c.args.words.now c.lane.result (c.copiers-count.result * (c.len.result / c.copiers-count.result + 1)) c.copiers-count.result c.replace-taken.result.items c.in_ok-stores.stores.items c.seat_all-copiers.result.items c.requires.objects c.requires.copiers.1 c.copiers-count.ensures c.in_ok-stores.ensures.own (taken ∙ c.requires.fresh) c.seat_all-copiers.ensures in
+    let crew = is_crew c.args.from.stores.now c.args.from.roots.now c.args.words.now c.lane.result (c.copiers-count.result * c.turns_above-turns.result) c.copiers-count.result c.replace-taken.result.items c.in_ok-stores.stores.items c.seat_all-copiers.result.items c.requires.objects c.requires.copiers.1 c.copiers-count.ensures c.in_ok-stores.ensures.own (taken ∙ c.requires.fresh) c.seat_all-copiers.ensures in
     ap length c.meet.ensures.same ∙ ap length c.leave_seats.ensures ∙ many_in c.copy_by-copied.new.copiers.items ∙ c.copy_by-copied.ensures.many ∙ crew.many
