@@ -5,11 +5,11 @@ use Rattle.jm_execute.proofs.execution.execute.Goals as goal
 
 pub returns-in-Run : goal.returns-in-Run
 unfolding verdict
-returns-in-Run g c = rw c.in-Run.is (done_unread _ _ _ _ _ _ _ _ _ _ c.run_with_copiers.ensures)
+returns-in-Run g c = rw c.in-Run.is (done_unread _ _ _ _ _ _ _ _ _ _ c.execute_run.ensures)
 
 pub returns-in-Replay : goal.returns-in-Replay
 unfolding verdict
-returns-in-Replay g c = rw (c.in-Replay.is, c.without_record.ensures) (done_unread _ _ _ _ _ _ _ _ _ _ c.replay_with_copiers.ensures)
+returns-in-Replay g c = rw (c.in-Replay.is, c.without_record.ensures) (done_unread _ _ _ _ _ _ _ _ _ _ c.execute_replay.ensures)
 
 pub returns-in-Explore : goal.returns-in-Explore
 unfolding verdict
@@ -25,4 +25,4 @@ returns-in-Disassemble g c = rw (c.in-Disassemble.is, c.without_record-in-Disass
 
 pub returns-in-Debug : goal.returns-in-Debug
 unfolding verdict
-returns-in-Debug g c = rw (c.in-Debug.is, c.without_record-in-Debug.ensures) c.debug_with_copiers.ensures
+returns-in-Debug g c = rw (c.in-Debug.is, c.without_record-in-Debug.ensures) c.execute_debug.ensures
