@@ -1,0 +1,6 @@
+// Several copiers: what a gate sees of a collection.
+
+pub mod gate;
+mod gated;
+mod objects;
+mod seats;
