@@ -2,6 +2,7 @@
 
 mod cases;
 mod collections;
+mod copiers;
 mod elements;
 mod exploration;
 mod journals;

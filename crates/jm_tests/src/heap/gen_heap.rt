@@ -1,6 +1,6 @@
-// What the generational heap alone does, with the collector of one thread.
+// What the generational heap alone does, with the collector of one thread; and one with several copiers.
 
-ghost use Rattle.std.specs.Prelude.{IfOk};
+ghost use Rattle.std.specs.Prelude.{◌<◌, ◌≤◌, IfOk};
 ghost use Rattle.jm_gen_heap.specs.Residents.{content_of};
 ghost use Rattle.jm_mutator.specs.Ready.{IsReady};
 
@@ -8,7 +8,9 @@ use jm_copy::SerialCollector;
 use jm_gen_heap::GenHeap;
 use jm_heap::{Heap, Kind};
 use jm_mutator::{Failure, Mutator, Quantity, expect, expect_here, node};
+use jm_par_copy::{OpenGate, ParallelCollector};
 use std::alloc::{AllocError, Global};
+use std::thread::Threads;
 
 /// No registers, over an empty generational heap.
 #[tactic(auto, using(jm_mutator::proofs::ReadyLemmas::empty_sound))]
@@ -19,6 +21,23 @@ pub fn generational(
     ensures { IfOk result (λ mutator. IsReady (content_of mutator.heap) mutator.registers) }
 {
     let heap = GenHeap::new(alloc, limit, SerialCollector)?;
+    Ok(Mutator::new(alloc, heap))
+}
+
+/// No registers, over an empty generational heap that so many copiers collect.
+#[tactic(auto, using(jm_mutator::proofs::ReadyLemmas::empty_sound))]
+pub fn generational_by<R: Threads>(
+    rt: &R,
+    alloc: Global,
+    limit: u32,
+    copiers: usize,
+) -> Result<Mutator<GenHeap<ParallelCollector<&R, OpenGate>>>, AllocError>
+    requires some { 0 < copiers }
+    requires few { copiers ≤ 16 }
+    ensures { IfOk result (λ mutator. IsReady (content_of mutator.heap) mutator.registers) }
+{
+    let collector = ParallelCollector::new(rt, OpenGate, copiers);
+    let heap = GenHeap::new(alloc, limit, collector)?;
     Ok(Mutator::new(alloc, heap))
 }
 
