@@ -1,6 +1,8 @@
 // Jobs: readers and writers that fail. What jobs write and how they end stands in the tables of
 // `jm_examples`.
 
+mod each_read;
+mod each_write;
 mod explorations;
 mod readers;
 mod status;

@@ -16,18 +16,18 @@ use std::test::Fail;
 use std::thread::Threads;
 use std::{io, str};
 
-// Takes so many bytes, one at a call, and then none; where it is closed, as a pipe can be, it answers
-// an error to each write.
+/// Takes so many bytes, one at a call, and then none; where it is closed then, as a pipe can be, it answers
+/// an error to each write.
 #[derive(Drop)]
-struct Narrow {
-    room: usize,
-    closed: bool,
-    taken: Vec<u8>,
+pub struct Narrow {
+    pub room: usize,
+    pub closed: bool,
+    pub taken: Vec<u8>,
 }
 
 impl Write for Narrow {
     fn write(&mut self, buf: &[u8]) -> io::Result<usize> {
-        if self.closed {
+        if self.closed && self.taken.len() >= self.room {
             return Err(io::Error::from(ErrorKind::BrokenPipe));
         }
         if buf.is_empty() || self.taken.len() >= self.room {
@@ -186,8 +186,8 @@ fn debug_job(alloc: Global) -> Result<Job, AllocError> {
     }))
 }
 
-// The job of this name; an empty text is refused. What is read in a session is no command.
-fn job_of(alloc: Global, name: &str) -> Result<Job, AllocError> {
+/// The job of this name; an empty text is refused. What is read in a session is no command.
+pub fn job_of(alloc: Global, name: &str) -> Result<Job, AllocError> {
     match name {
         "run 7" => scheduled_job(alloc, "t 1 x 7"),
         "run 6" => scheduled_job(alloc, "t 1 x 6"),
@@ -202,10 +202,18 @@ fn job_of(alloc: Global, name: &str) -> Result<Job, AllocError> {
     }
 }
 
+// So many bytes; where no number is named, none where the writer is closed, and else more than are written.
+fn room_of(column: &str) -> usize {
+    if column == "closed" {
+        return 0;
+    }
+    column.parse().unwrap_or(1_000)
+}
+
 // The writer of a column.
 fn writer(alloc: Global, column: &str) -> Narrow {
     Narrow {
-        room: column.parse().unwrap_or(1_000),
+        room: room_of(column),
         closed: column == "closed",
         taken: Vec::new(alloc),
     }
