@@ -1,6 +1,7 @@
 // Machines: what is told after each event, the readers, collections, journals, records, and workers.
 
 mod cases;
+mod changed_records;
 mod collections;
 mod copiers;
 mod elements;
