@@ -1,10 +1,12 @@
 // Questions that the rows of tables ask, and their answers as texts.
 
+use crate::changes::Changed;
 use crate::class_lines::ClassQuestion;
 use crate::columns::{bytes_of, text_bytes};
 use crate::notation::{expanded, invalid};
 use crate::{
-    assembled, class_files, codes, descriptors, explanations, plain_rows, pools, schedules, tokens,
+    assembled, changes, class_files, codes, descriptors, explanations, plain_rows, pools,
+    schedules, tokens,
 };
 use std::alloc::Global;
 use std::ops::Range;
@@ -30,8 +32,8 @@ pub enum Question {
 pub enum BytesQuestion {
     /// What the class of a class file is.
     Class(ClassQuestion),
-    /// How many class files that differ in one byte are answered.
-    Changes,
+    /// How many files that differ in one byte are answered as they should be.
+    Changes(Changed),
     /// Whether the class is written as the same bytes.
     Same,
     /// With which versions the class keeps the rules.
@@ -40,6 +42,8 @@ pub enum BytesQuestion {
     Code,
     /// How many instructions a code has.
     CodeLength,
+    /// How many entries a record has.
+    RecordLength,
     Pool,
     /// The code units of a text of a pool.
     Units,
@@ -148,11 +152,12 @@ fn answer_of(alloc: Global, question: Question, bytes: &[u8]) -> io::Result<Stri
 fn answer_to_bytes(alloc: Global, question: BytesQuestion, bytes: &[u8]) -> io::Result<String> {
     match question {
         BytesQuestion::Class(question) => class_files::class(alloc, question, bytes),
-        BytesQuestion::Changes => class_files::changes(alloc, bytes),
+        BytesQuestion::Changes(what) => changes::kept(alloc, what, bytes),
         BytesQuestion::Same => class_files::bytes(alloc, bytes),
         BytesQuestion::Versions => class_files::versions(alloc, bytes),
         BytesQuestion::Code => codes::code(alloc, bytes),
         BytesQuestion::CodeLength => codes::code_length(alloc, bytes),
+        BytesQuestion::RecordLength => schedules::record_length(alloc, bytes),
         BytesQuestion::Pool => pools::pool(alloc, bytes),
         BytesQuestion::Units => pools::units(alloc, bytes),
     }

@@ -1,6 +1,7 @@
 // The tables of questions among the data, in answers/, and what the rows of each ask.
 
 use crate::answers::{BytesQuestion, Question, TextQuestion};
+use crate::changes::Changed;
 use crate::class_lines::ClassQuestion;
 
 pub const ANSWERS: &[(&str, Question)] = &[
@@ -14,7 +15,7 @@ pub const ANSWERS: &[(&str, Question)] = &[
     ),
     (
         "answers/class_changes.txt",
-        Question::Bytes(BytesQuestion::Changes),
+        Question::Bytes(BytesQuestion::Changes(Changed::ClassFile)),
     ),
     (
         "answers/class_file_parts.txt",
@@ -67,6 +68,18 @@ pub const ANSWERS: &[(&str, Question)] = &[
         Question::Bytes(BytesQuestion::Units),
     ),
     ("answers/pools.txt", Question::Bytes(BytesQuestion::Pool)),
+    (
+        "answers/record_changes.txt",
+        Question::Bytes(BytesQuestion::Changes(Changed::Record)),
+    ),
+    (
+        "answers/record_lengths.txt",
+        Question::Bytes(BytesQuestion::RecordLength),
+    ),
+    (
+        "answers/schedule_changes.txt",
+        Question::Bytes(BytesQuestion::Changes(Changed::Schedule)),
+    ),
     (
         "answers/schedule_lengths.txt",
         Question::Text(TextQuestion::ScheduleLength),

@@ -20,29 +20,6 @@ pub fn class(alloc: Global, question: ClassQuestion, bytes: &[u8]) -> io::Result
     }
 }
 
-// Reads a class file with each value for the byte at a place.
-fn change_at(alloc: Global, bytes: &[u8], at: usize) -> io::Result<u32> {
-    let mut changed = bytes.to_vec(alloc)?;
-    let mut answered = 0u32;
-    for value in 0..=255u8 {
-        if let Some(byte) = changed.get_mut(at) {
-            *byte = value;
-        }
-        drop(read_class(alloc, &changed));
-        answered = answered.saturating_add(1);
-    }
-    Ok(answered)
-}
-
-/// How many class files are answered that differ from this one in at most one byte.
-pub fn changes(alloc: Global, bytes: &[u8]) -> io::Result<String> {
-    let mut answered = 0u32;
-    for at in 0..bytes.len() {
-        answered = answered.saturating_add(change_at(alloc, bytes, at)?);
-    }
-    said(alloc, &answered)
-}
-
 // `the same bytes` where a class is written as these, or why it is not written.
 fn written_as(alloc: Global, class: &Class, bytes: &[u8]) -> io::Result<String> {
     match write_class(alloc, class) {

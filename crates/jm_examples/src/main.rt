@@ -17,6 +17,7 @@ mod again;
 mod answers;
 mod asked;
 mod assembled;
+mod changes;
 mod class_files;
 mod class_lines;
 mod codes;

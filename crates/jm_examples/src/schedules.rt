@@ -1,7 +1,7 @@
-// What texts of schedules are.
+// What texts of schedules and records are.
 
 use crate::notation::said;
-use jm_schedule::{Run, read_schedule};
+use jm_schedule::{Run, read_record, read_schedule};
 use jm_world::Event;
 use std::alloc::Global;
 use std::{fmt, io};
@@ -38,6 +38,18 @@ pub fn length(alloc: Global, text: &str) -> io::Result<String> {
         Ok(schedule) => {
             let (length, is_empty) = (schedule.len(), schedule.is_empty());
             Ok(format!(in alloc; "{length} {is_empty}")?)
+        }
+        Err(fault) => said(alloc, &fault),
+    }
+}
+
+/// How many entries a record has, or its first bad line.
+pub fn record_length(alloc: Global, text: &[u8]) -> io::Result<String> {
+    match read_record(alloc, text) {
+        Ok(record) => {
+            let length = record.len();
+            drop(record);
+            said(alloc, &length)
         }
         Err(fault) => said(alloc, &fault),
     }
