@@ -1,11 +1,14 @@
 // Works of a size, of which each prints what came of it and never a time: the scripts in bench/ time the
 // built program at two sizes. `cases SIZE` and `refused SIZE` show what the serial collector leaves: they
-// compare it with what is wanted, and print the first difference. `bench/refused-allocations` does the
-// second.
+// compare it with what is wanted, and print the first difference; `refused-COPIERS SIZE` does so with several copiers.
+// `bench/refused-allocations` does these. `tree-COPIERS COUNT`, `arrays-COPIERS COUNT` and `young-COPIERS COUNT` make
+// so many collections of a large tree, with arrays or without, or of one young object, with so many copiers; with 0
+// they are the serial collector's.
 
 mod barrier;
 mod cases;
 mod collecting;
+pub mod copying;
 mod descriptors;
 mod driver;
 mod forward;
@@ -15,10 +18,14 @@ mod plain;
 mod read;
 mod refusing;
 mod spaces;
+mod trees;
 
 use anyhow::{Context, Result, bail};
+use copying::collector_of;
+use jm_copy::{Collector, SerialCollector};
 use jm_heap::Kind;
 use std::thread::Threads;
+use trees::{Load, collected};
 
 // Each kind of work, at a small size.
 const SMALL: &[(&str, u32)] = &[
@@ -120,13 +127,57 @@ fn print_cases(rt: &HostRuntime, size: u32) -> Result<()> {
 fn print_shown(rt: &HostRuntime, which: &str, size: u32) -> Result<bool> {
     match which {
         "cases" => print_cases(rt, size)?,
-        "refused" => {
-            let minor = refusing::is_refused(rt.alloc(), Kind::Minor, size as usize)?;
-            let full = refusing::is_refused(rt.alloc(), Kind::Full, size as usize)?;
-            println!(rt; "refused {size} minor {minor} full {full}")?;
-        }
+        "refused" => print_refused(rt, &SerialCollector, which, size)?,
         _ => return Ok(false),
     }
+    Ok(true)
+}
+
+// Makes collections by a collector, and prints which of them were refused a growth.
+fn print_refused<C: Collector>(
+    rt: &HostRuntime,
+    collector: &C,
+    which: &str,
+    size: u32,
+) -> Result<()> {
+    let minor = refusing::is_refused(rt.alloc(), collector, Kind::Minor, size as usize)?;
+    let full = refusing::is_refused(rt.alloc(), collector, Kind::Full, size as usize)?;
+    println!(rt; "{which} {size} minor {minor} full {full}")?;
+    Ok(())
+}
+
+// Collects a load that often by a collector, and prints how many cells are left.
+fn print_left<C: Collector>(
+    rt: &HostRuntime,
+    collector: &C,
+    load: Load,
+    which: &str,
+    size: u32,
+) -> Result<()> {
+    let cells = collected(rt.alloc(), collector, load, size)?;
+    println!(rt; "{which} {size} cells {cells}")?;
+    Ok(())
+}
+
+// Does a work over a collector of so many copiers, where its name is `WORK-COPIERS`.
+fn print_copied<R: Threads>(rt: &HostRuntime, threads: &R, which: &str, size: u32) -> Result<bool> {
+    let Some((work, copiers)) = which.split_once("-") else {
+        return Ok(false);
+    };
+    let copiers: usize = copiers.parse().context("the number of copiers")?;
+    let collector = collector_of(threads, copiers);
+    let printed = match work {
+        "refused" => print_refused(rt, &collector, which, size),
+        "tree" => print_left(rt, &collector, Load::Nodes, which, size),
+        "arrays" => print_left(rt, &collector, Load::Arrays, which, size),
+        "young" => print_left(rt, &collector, Load::OneYoung, which, size),
+        _ => {
+            drop(collector);
+            return Ok(false);
+        }
+    };
+    drop(collector);
+    printed?;
     Ok(true)
 }
 
@@ -159,6 +210,9 @@ fn print_work<R: Threads + Sync>(
         return Ok(());
     }
     if print_collections(rt, which, size)? || print_shown(rt, which, size)? {
+        return Ok(());
+    }
+    if print_copied(rt, threads, which, size)? {
         return Ok(());
     }
     print_wins(rt, threads, which, size)

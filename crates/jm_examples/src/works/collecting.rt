@@ -5,6 +5,7 @@ ghost use Rattle.std.specs.Prelude.{◌≡◌};
 use crate::works::spaces::{Spaces, make};
 use anyhow::{Error, Result};
 use jm_blocks::{BlockStore, Header};
+use jm_copy::{Collector, SerialCollector};
 use jm_heap::{ClassId, Elements, Kind};
 use jm_values::{Place, Value};
 use std::alloc::{AllocError, Global};
@@ -47,8 +48,8 @@ fn lists(alloc: Global, store: &mut BlockStore, count: u32) -> Result<Vec<Place>
     Ok(places)
 }
 
-// The cells of all objects.
-fn cells(spaces: &Spaces) -> u64 {
+/// The cells of all objects.
+pub fn cells(spaces: &Spaces) -> u64 {
     let mut cells = 0u64;
     for store in [&spaces.young, &spaces.tenured] {
         for number in 0..store.len() {
@@ -73,9 +74,14 @@ fn filled(alloc: Global, count: u32) -> Result<Spaces, AllocError> {
     }
 }
 
-// What a collection of a kind leaves.
-fn left(alloc: Global, spaces: Spaces, kind: Kind) -> Result<Spaces> {
-    let (spaces, remembered) = spaces.condemn(alloc, kind)?.finish(alloc)?;
+/// What a collection of a kind leaves, by a collector.
+pub fn left<C: Collector>(
+    alloc: Global,
+    collector: &C,
+    spaces: Spaces,
+    kind: Kind,
+) -> Result<Spaces> {
+    let (spaces, remembered) = spaces.condemn(alloc, kind)?.finish(alloc, collector)?;
     drop(remembered);
     Ok(spaces)
 }
@@ -84,7 +90,7 @@ fn left(alloc: Global, spaces: Spaces, kind: Kind) -> Result<Spaces> {
 pub fn collected(alloc: Global, count: u32) -> Result<u64> {
     let mut spaces = filled(alloc, NODES)?;
     for _ in 0..count {
-        spaces = left(alloc, spaces, Kind::Full)?;
+        spaces = left(alloc, &SerialCollector, spaces, Kind::Full)?;
     }
     let cells = cells(&spaces);
     drop(spaces);
@@ -97,8 +103,8 @@ const YOUNG: u32 = 16_384;
 /// So many nodes that two minor collections have promoted.
 pub fn promoted(alloc: Global, count: u32) -> Result<Spaces> {
     let spaces = filled(alloc, count)?;
-    let spaces = left(alloc, spaces, Kind::Minor)?;
-    left(alloc, spaces, Kind::Minor)
+    let spaces = left(alloc, &SerialCollector, spaces, Kind::Minor)?;
+    left(alloc, &SerialCollector, spaces, Kind::Minor)
 }
 
 // Makes nodes that alone are the roots, and makes a minor collection.
@@ -107,7 +113,7 @@ fn renewed(alloc: Global, spaces: Spaces) -> Result<Spaces> {
     match lists(alloc, &mut spaces.young, YOUNG) {
         Ok(roots) => {
             drop(replace(&mut spaces.roots, roots));
-            left(alloc, spaces, Kind::Minor)
+            left(alloc, &SerialCollector, spaces, Kind::Minor)
         }
         Err(error) => {
             drop(spaces);

@@ -7,6 +7,7 @@ ghost use Rattle.jm_heap.specs.Packing.{kind_of};
 use crate::works::spaces::{Collection, Spaces, make};
 use anyhow::{Context, Result, bail};
 use jm_blocks::Header;
+use jm_copy::SerialCollector;
 use jm_heap::{ClassId, Component, Element, Elements, Kind};
 use jm_program::BaseType;
 use jm_values::{Place, Value};
@@ -295,9 +296,17 @@ impl Driver {
     // Collects, and compares what is left.
     fn collect(&mut self, kind: Kind) -> Result<()> {
         let spaces = mem::replace(&mut self.spaces, Spaces::new(self.alloc));
-        let (spaces, remembered) = spaces.condemn(self.alloc, kind)?.finish(self.alloc)?;
+        let (spaces, remembered) = spaces
+            .condemn(self.alloc, kind)?
+            .finish(self.alloc, &SerialCollector)?;
         self.spaces = spaces;
         self.remembered = remembered;
+        self.compare()
+    }
+
+    /// Compares what a collection left of what the steps made with what is to be.
+    pub fn compare_left(&mut self, left: Spaces) -> Result<()> {
+        self.spaces = left;
         self.compare()
     }
 

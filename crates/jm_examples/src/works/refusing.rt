@@ -5,8 +5,8 @@ use crate::works::driver::{Driver, Step};
 use crate::works::spaces::{Collection, Outcome, Spaces};
 use anyhow::{Result, bail};
 use jm_blocks::{Block, BlockStore};
+use jm_copy::{Collector, SerialCollector};
 use jm_heap::{Elements, Kind};
-use jm_values::Place;
 use std::alloc::Global;
 
 // Old objects, objects that the next collection promotes, one of which names a young one, young ones,
@@ -33,8 +33,8 @@ const STEPS: &[Step] = &[
     Ints(1_200),
 ];
 
-// What a collection of a kind is given, the same each time.
-fn prepared(alloc: Global, kind: Kind, count: usize) -> Result<Collection> {
+// The objects of the steps, the same each time.
+fn made(alloc: Global, count: usize) -> Result<Driver> {
     let mut driver = Driver::new(alloc, count);
     for step in STEPS {
         if let Err(error) = driver.make_step(*step) {
@@ -42,7 +42,12 @@ fn prepared(alloc: Global, kind: Kind, count: usize) -> Result<Collection> {
             return Err(error);
         }
     }
-    driver.condemn(kind)
+    Ok(driver)
+}
+
+// What a collection of a kind is given.
+fn prepared(alloc: Global, kind: Kind, count: usize) -> Result<Collection> {
+    made(alloc, count)?.condemn(kind)
 }
 
 // Whether two objects have the same values.
@@ -130,34 +135,42 @@ fn compare_given(found: &Collection, wanted: &Collection) -> Result<()> {
     Ok(())
 }
 
-// Compares what two collections left, and which places they remember.
-fn compare_spaces(
+// Compares how many objects two collections left, and how many they remember.
+fn compare_counts(
+    alloc: Global,
     found: &Spaces,
     wanted: &Spaces,
-    found_remembered: &[Place],
-    wanted_remembered: &[Place],
+    remembered: usize,
+    wanted_remembered: usize,
 ) -> Result<()> {
-    compare_stores(&found.young, &wanted.young)?;
-    compare_stores(&found.tenured, &wanted.tenured)?;
-    if found.roots.as_slice() != wanted.roots.as_slice() {
-        bail!("the roots are others");
+    if found.young_places(alloc)?.len() != wanted.young_places(alloc)?.len() {
+        bail!("more or less objects are young");
     }
-    if found_remembered != wanted_remembered {
-        bail!("other objects are remembered");
+    if found.old_places(alloc)?.len() != wanted.old_places(alloc)?.len() {
+        bail!("more or less objects are old");
+    }
+    if remembered != wanted_remembered {
+        bail!("more or less objects are remembered");
     }
     Ok(())
 }
 
-// Compares what a collection left with what another one leaves.
+// Compares what a collection left with how many objects the serial one leaves of the same.
 fn compare_left(
     alloc: Global,
     found: &Spaces,
-    remembered: &[Place],
+    remembered: usize,
     wanted: Collection,
 ) -> Result<()> {
-    match wanted.finish(alloc) {
+    match wanted.finish(alloc, &SerialCollector) {
         Ok((wanted, wanted_remembered)) => {
-            let compared = compare_spaces(found, &wanted, remembered, &wanted_remembered);
+            let compared = compare_counts(
+                alloc,
+                found,
+                &wanted,
+                remembered,
+                wanted_remembered.len(),
+            );
             drop(wanted);
             compared
         }
@@ -165,13 +178,49 @@ fn compare_left(
     }
 }
 
-// Compares what a collection left that was made again with what one leaves that was not refused.
-fn compare_again(alloc: Global, again: Collection, wanted: Collection) -> Result<()> {
-    match again.run(alloc) {
-        Ok(Outcome::Collected(found, remembered)) => {
-            let compared = compare_left(alloc, &found, &remembered, wanted);
-            drop(found);
+// Compares what a collection left, object by object, with what the steps made.
+fn compare_with_steps(alloc: Global, found: Spaces, count: usize) -> Result<()> {
+    match made(alloc, count) {
+        Ok(mut driver) => {
+            let compared = driver.compare_left(found);
+            drop(driver);
             compared
+        }
+        Err(error) => {
+            drop(found);
+            Err(error)
+        }
+    }
+}
+
+// Compares all that a collection left.
+fn compare_all(
+    alloc: Global,
+    found: Spaces,
+    remembered: usize,
+    wanted: Collection,
+    count: usize,
+) -> Result<()> {
+    match compare_left(alloc, &found, remembered, wanted) {
+        Ok(()) => compare_with_steps(alloc, found, count),
+        Err(error) => {
+            drop(found);
+            Err(error)
+        }
+    }
+}
+
+// Makes a collection again that was refused, and compares what it leaves with what is wanted.
+fn compare_again<C: Collector>(
+    alloc: Global,
+    collector: &C,
+    again: Collection,
+    wanted: Collection,
+    count: usize,
+) -> Result<()> {
+    match again.run(alloc, collector) {
+        Ok(Outcome::Collected(found, remembered)) => {
+            compare_all(alloc, found, remembered.len(), wanted, count)
         }
         Ok(refused) => {
             drop(refused);
@@ -185,11 +234,17 @@ fn compare_again(alloc: Global, again: Collection, wanted: Collection) -> Result
     }
 }
 
-// Compares what a refused collection handed back with what was there before, and then what is left when it
-// is made again.
-fn compare_refused(alloc: Global, refused: Collection, before: Collection) -> Result<()> {
+// Compares what a refused collection handed back with what was there before, place by place, and then
+// what is left when it is made again.
+fn compare_refused<C: Collector>(
+    alloc: Global,
+    collector: &C,
+    refused: Collection,
+    before: Collection,
+    count: usize,
+) -> Result<()> {
     match compare_given(&refused, &before) {
-        Ok(()) => compare_again(alloc, refused, before),
+        Ok(()) => compare_again(alloc, collector, refused, before, count),
         Err(error) => {
             drop(refused);
             drop(before);
@@ -199,20 +254,30 @@ fn compare_refused(alloc: Global, refused: Collection, before: Collection) -> Re
 }
 
 // Makes a collection of a kind.
-fn run_prepared(alloc: Global, kind: Kind, count: usize) -> Result<Outcome> {
+fn run_prepared<C: Collector>(
+    alloc: Global,
+    collector: &C,
+    kind: Kind,
+    count: usize,
+) -> Result<Outcome> {
     match prepared(alloc, kind, count) {
-        Ok(collection) => collection.run(alloc),
+        Ok(collection) => collection.run(alloc, collector),
         Err(error) => Err(error),
     }
 }
 
-/// Makes a collection, and answers whether it was refused a growth. If it was, all is compared with what
-/// was there before, and it is made again.
-pub fn is_refused(alloc: Global, kind: Kind, count: usize) -> Result<bool> {
+/// Makes a collection by a collector, and answers whether it was refused a growth. If it was, all is
+/// compared with what was there before, and it is made again.
+pub fn is_refused<C: Collector>(
+    alloc: Global,
+    collector: &C,
+    kind: Kind,
+    count: usize,
+) -> Result<bool> {
     let before = prepared(alloc, kind, count)?;
-    match run_prepared(alloc, kind, count) {
+    match run_prepared(alloc, collector, kind, count) {
         Ok(Outcome::Refused(collection)) => {
-            compare_refused(alloc, collection, before)?;
+            compare_refused(alloc, collector, collection, before, count)?;
             Ok(true)
         }
         Ok(collected) => {

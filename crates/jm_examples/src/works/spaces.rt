@@ -8,7 +8,7 @@ ghost use Rattle.jm_copy.specs.Condemned.{AreLanes};
 
 use anyhow::{Result, bail};
 use jm_blocks::{BlockStore, Header, Position};
-use jm_copy::{Collector, Refused, SerialCollector, Survivors};
+use jm_copy::{Collector, Refused, Survivors};
 use jm_heap::{Elements, Kind, Storage};
 use jm_values::{Place, Value};
 use std::alloc::{AllocError, Global};
@@ -168,14 +168,14 @@ impl Spaces {
 }
 
 impl Collection {
-    /// Collects.
-    pub fn run(self, alloc: Global) -> Result<Outcome> {
+    /// Collects, by a collector.
+    pub fn run<C: Collector>(self, alloc: Global, collector: &C) -> Result<Outcome> {
         let Collection {
             condemned,
             tenured,
             mut roots,
         } = self;
-        match SerialCollector.collect(alloc, condemned, tenured, &mut roots) {
+        match collector.collect(alloc, condemned, tenured, &mut roots) {
             Ok(survivors) => {
                 let Survivors {
                     young,
@@ -203,9 +203,13 @@ impl Collection {
         }
     }
 
-    /// Collects, where no growth may be refused.
-    pub fn finish(self, alloc: Global) -> Result<(Spaces, Vec<Place>)> {
-        match self.run(alloc)? {
+    /// Collects, by a collector, where no growth may be refused.
+    pub fn finish<C: Collector>(
+        self,
+        alloc: Global,
+        collector: &C,
+    ) -> Result<(Spaces, Vec<Place>)> {
+        match self.run(alloc, collector)? {
             Outcome::Collected(spaces, remembered) => Ok((spaces, remembered)),
             Outcome::Refused(_) => bail!("the collection was refused a growth"),
         }
