@@ -9,8 +9,9 @@
 //! be, and those that are not. Four workers share the machine of two printing threads, whose journal is
 //! run again. Workers run the programs with threads, and their records are replayed. Last it does each kind of work that the scripts in bench/ time, at a small size.
 //!
-//! With words it makes turns through the lock instead (`turns SEATS TURNS FILES`, for `bench/shared`), or
-//! does works of these sizes (`WHICH SIZE ..`).
+//! With words it makes turns through the lock instead (`turns SEATS TURNS FILES`, for `bench/shared`), makes a run
+//! in which memory may be refused (`retried COPIERS CELLS SCHEDULE FILES`, for `bench/refused-allocations`), or does works of these sizes
+//! (`WHICH SIZE ..`).
 #![tactic(auto)]
 
 mod again;
@@ -35,7 +36,9 @@ mod plain_rows;
 mod pools;
 mod programs;
 mod recorded;
+mod retried;
 mod row;
+mod runs;
 mod schedules;
 mod shared_run;
 mod tables;
@@ -43,6 +46,7 @@ mod text_again;
 mod tokens;
 mod turns;
 mod values;
+mod views;
 mod workers;
 mod works;
 
@@ -55,6 +59,7 @@ use jm_jasmin::assemble;
 use jm_program::Class;
 use programs::{print_programs, print_runs};
 use recorded::print_recorded;
+use retried::print_retried;
 use row::row_of;
 use shared_run::print_workers;
 use std::rt::Files;
@@ -74,6 +79,7 @@ fn main(rt: HostRuntime) -> anyhow::Result<()> {
             print_small_works(&rt, &rt)
         }
         Some((word, turns)) if word.as_str() == "turns" => Ok(print_turns(&rt, &rt, turns)?),
+        Some((word, run)) if word.as_str() == "retried" => print_retried(&rt, &rt, run),
         Some(_) => print_works(&rt, &rt, &words),
     }
 }

@@ -32,8 +32,8 @@ fn empty_heap(alloc: Global) -> Result<SharedHeap, AllocError>
     GenHeap::new(alloc, HEAP, SerialCollector)
 }
 
-// The machine of a program before its first event, over an empty heap.
-fn loaded<H: Heap + Drop>(
+/// The machine of a program before its first event, over an empty heap.
+pub fn loaded<H: Heap + Drop>(
     alloc: Global,
     files: &[InputFile],
     heap: H,
