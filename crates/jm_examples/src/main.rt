@@ -10,7 +10,8 @@
 //! run again. Workers run the programs with threads, and their records are replayed. Last it does each kind of work that the scripts in bench/ time, at a small size.
 //!
 //! With words it makes turns through the lock instead (`turns SEATS TURNS FILES`, for `bench/shared`), makes a run
-//! in which memory may be refused (`retried COPIERS CELLS SCHEDULE FILES`, for `bench/refused-allocations`), or does works of these sizes
+//! in which memory may be refused (`retried COPIERS CELLS SCHEDULE FILES`, for `bench/refused-allocations`) or with a
+//! collection between every two events (`moments CELLS SCHEDULE FILES`, for `bench/stress`), or does works of these sizes
 //! (`WHICH SIZE ..`).
 #![tactic(auto)]
 
@@ -30,6 +31,7 @@ mod explanations;
 mod job_rows;
 mod jobs;
 mod journals;
+mod moments;
 mod notation;
 mod outcomes;
 mod plain_rows;
@@ -57,6 +59,7 @@ use jm_class_reader::read_class;
 use jm_class_writer::write_class;
 use jm_jasmin::assemble;
 use jm_program::Class;
+use moments::print_moments;
 use programs::{print_programs, print_runs};
 use recorded::print_recorded;
 use retried::print_retried;
@@ -80,6 +83,7 @@ fn main(rt: HostRuntime) -> anyhow::Result<()> {
         }
         Some((word, turns)) if word.as_str() == "turns" => Ok(print_turns(&rt, &rt, turns)?),
         Some((word, run)) if word.as_str() == "retried" => print_retried(&rt, &rt, run),
+        Some((word, run)) if word.as_str() == "moments" => print_moments(&rt, &rt, run),
         Some(_) => print_works(&rt, &rt, &words),
     }
 }
