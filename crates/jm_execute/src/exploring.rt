@@ -229,7 +229,7 @@ pub(crate) fn run_exploration<'a, W: Threads, O: Watchable, E: Watchable>(
 ) -> Status
     requires out { out.old.failed ≡ false }
     requires err { err.old.failed ≡ false }
-    ensures { (found : ExploredModel) × Finds (loaded_world machine.linked.program job.now.heap) job.now.bounds found
+    ensures { (found : ExploredModel) × Finds (loaded_world machine.entry.linked.program job.now.heap) job.now.bounds found
         × LeavesFound (words O.contents O.ends) (words E.contents E.ends) job.now.bounds found job.now.outcome result out.old out.new err.old err.new }
 {
     let heaps = SearchHeaps {
