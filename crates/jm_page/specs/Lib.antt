@@ -1,0 +1,2 @@
+-- What stands in a writer of a page after a call.
+pub mod Writing
