@@ -105,7 +105,7 @@ fn writer(alloc: Global, room: usize, closed: bool) -> Narrow {
     }
 }
 
-fn done(
+fn finish(
     rt: &(impl Threads + Wait + Sync),
     alloc: Global,
     job: &Job,
@@ -127,7 +127,7 @@ fn done_over(
     mut told: Narrow,
 ) -> Result<Done, AllocError> {
     let job = job_of(alloc, name)?;
-    let finished = done(rt, alloc, &job, &mut output, &mut told);
+    let finished = finish(rt, alloc, &job, &mut output, &mut told);
     drop(job);
     let Narrow { taken: output, .. } = output;
     let Narrow { taken: told, .. } = told;

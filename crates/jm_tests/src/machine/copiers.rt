@@ -20,6 +20,7 @@ use std::alloc::{AllocError, Global};
 use std::process::Abort;
 use std::test::Fail;
 use std::thread::Threads;
+use std::time::Clock;
 
 // The limit of the heap, in cells.
 const LIMIT: u32 = 65_536;
@@ -97,11 +98,11 @@ return
 
 /// Two copiers that meet at their first claims.
 #[derive(Drop)]
-struct MeetingCopiers<'a> {
-    copiers: ParallelCollector<&'a HostRuntime, MeetingGate<'a, HostRuntime>>,
+struct MeetingCopiers<'a, R: Clock> {
+    copiers: ParallelCollector<&'a R, MeetingGate<'a, R>>,
 }
 
-impl Collector for MeetingCopiers<'_> {
+impl<R: Threads + Clock + Sync> Collector for MeetingCopiers<'_, R> {
     fn collect(
         &self,
         alloc: Global,
