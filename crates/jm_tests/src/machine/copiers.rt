@@ -20,7 +20,6 @@ use std::alloc::{AllocError, Global};
 use std::process::Abort;
 use std::test::Fail;
 use std::thread::Threads;
-use std::time::Clock;
 
 // The limit of the heap, in cells.
 const LIMIT: u32 = 65_536;
@@ -98,11 +97,11 @@ return
 
 /// Two copiers that meet at their first claims.
 #[derive(Drop)]
-struct MeetingCopiers<'a, R: Clock> {
-    copiers: ParallelCollector<&'a R, MeetingGate<'a, R>>,
+struct MeetingCopiers<'a, R> {
+    copiers: ParallelCollector<R, MeetingGate<'a, HostRuntime>>,
 }
 
-impl<R: Threads + Clock + Sync> Collector for MeetingCopiers<'_, R> {
+impl<R: Threads> Collector for MeetingCopiers<'_, R> {
     fn collect(
         &self,
         alloc: Global,
