@@ -2,5 +2,5 @@
 use Rattle.jm_execute.specs.Beginnings.{beginning}
 use Rattle.jm_examples.proofs.retried.make_whole.Given as goal
 
-abbrev pub ghosts-make_run-R-Origin : goal.ghosts-make_run-R-Origin
-ghosts-make_run-R-Origin g a = record { first = beginning a.machine }
+abbrev pub ghosts-make_run : goal.ghosts-make_run
+ghosts-make_run g a = record { first = beginning a.machine }
