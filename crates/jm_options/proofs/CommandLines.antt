@@ -5,7 +5,8 @@ use Rattle.clap.specs.Words.{Kinds, Text, all_of, fault_of, first_of, one_of, su
 use Rattle.clap.specs.declared.error.kind.ErrorKind.TheVariants as kind
 use Rattle.clap.proofs.OnLiterals.{clap_on_literals}
 use Rattle.jm_options.specs.CommandLine.{jm}
-use Rattle.jm_options.specs.Asked.{Subcommand, is_set}
+use Rattle.jm_options.specs.Asked.{Subcommand, is_set, stress_word}
+use Rattle.jm_options.specs.declared.request.Stress.TheVariants.{Minor, Full}
 
 abbrev held : Subcommand → Text × Option Text × Option Text × Option (List Text)
 held s = (s.0, one_of (codes "heap") s.1, first_of (codes "schedule") s.1, all_of (codes "file") s.1)
@@ -118,6 +119,30 @@ one_worker_too_many = refl
 recorded_twice : fault (codes "--record=r" ∷ codes "--record=s" ∷ codes "A.class" ∷ []) ≡ kind.ArgumentConflict ∷ []
 unfolding jm clap_on_literals
 recorded_twice = refl
+
+-- the kind of the collections between the events
+abbrev stressed : List Text → Option (Option Text)
+stressed words = option_map (λ (s : Subcommand). first_of (codes "stress") s.1) (subcommand_of jm (codes "jm" ∷ codes "run" ∷ words))
+
+no_stress : stressed (codes "A.class" ∷ []) ≡ Some None
+unfolding jm clap_on_literals
+no_stress = refl
+
+minor_ones : stressed (codes "--stress" ∷ codes "minor" ∷ codes "A.class" ∷ []) ≡ Some (Some (stress_word Minor))
+unfolding jm clap_on_literals
+minor_ones = refl
+
+full_ones : stressed (codes "--workers=1" ∷ codes "A.class" ∷ codes "--stress=full" ∷ []) ≡ Some (Some (stress_word Full))
+unfolding jm clap_on_literals
+full_ones = refl
+
+no_fault_of_stress : fault (codes "--workers=1" ∷ codes "A.class" ∷ codes "--stress=full" ∷ []) ≡ []
+unfolding jm clap_on_literals
+no_fault_of_stress = refl
+
+stressed_twice : fault (codes "--stress=full" ∷ codes "--stress=full" ∷ codes "A.class" ∷ []) ≡ kind.ArgumentConflict ∷ []
+unfolding jm clap_on_literals
+stressed_twice = refl
 
 -- the copiers
 abbrev copied : Text → List Text → Option (Option Text)

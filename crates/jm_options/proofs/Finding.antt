@@ -10,11 +10,13 @@ use Rattle.clap.specs.declared.parser.matches.ArgMatches.{ArgMatches}
 use Rattle.clap.specs.declared.parser.matches.ArgMatches.TheViews.{out-ArgMatches, out-SubCommand}
 use Rattle.clap.specs.declared.error.Error.{Error}
 use Rattle.clap.specs.declared.error.kind.ErrorKind.TheVariants as kind
-use Rattle.jm_options.specs.Asked.{SpellsNumber, HoldsNumber, HoldsRun, HoldsReplay, HoldsExplore, HoldsOutcome, HoldsAssemble, HoldsDisassemble, HoldsDebug, HoldsAsked, HoldsEntry, HoldsExplain, Holds, Subcommand, Finds, FindsRun, FindsReplay, FindsExplore, FindsOutcome, FindsAssemble, FindsDisassemble, FindsDebug, FindsExplain, Answers}
+use Rattle.jm_options.specs.Asked.{SpellsNumber, HoldsNumber, HoldsRun, HoldsStress, stress_word, HoldsReplay, HoldsExplore, HoldsOutcome, HoldsAssemble, HoldsDisassemble, HoldsDebug, HoldsAsked, HoldsEntry, HoldsExplain, Holds, Subcommand, Finds, FindsRun, FindsStress, FindsReplay, FindsExplore, FindsOutcome, FindsAssemble, FindsDisassemble, FindsDebug, FindsExplain, Answers}
 use Rattle.jm_options.specs.CommandLine.{jm}
 use Rattle.jm_options.specs.declared.request.Options.{Options}
 use Rattle.jm_options.specs.declared.request.Options.TheVariants.{Run, Replay, Explore, Assemble, Disassemble, Debug, Explain, Version}
 use Rattle.jm_options.specs.declared.request.RunOptions.{RunOptions}
+use Rattle.jm_options.specs.declared.request.Stress.{Stress}
+use Rattle.jm_options.specs.declared.request.Stress.TheVariants.{Minor, Full}
 use Rattle.jm_options.specs.declared.request.ReplayOptions.{ReplayOptions}
 use Rattle.jm_options.specs.declared.request.ExploreOptions.{ExploreOptions}
 use Rattle.jm_options.specs.declared.request.AssembleOptions.{AssembleOptions}
@@ -57,6 +59,45 @@ one_number t u n m same first second =
 
 pub no_files : (rows : List Row) → None ≡ all_of (codes "file") rows → (o : RunOptions) → HoldsRun rows o → ⊥
 no_files rows none o holds = let some = none ∙ holds.files in cc
+
+-- of a name one number is held
+same_number : (name : Text) (low high : ℕ) (rows : List Row) (n m : ℕ) → HoldsNumber name low high rows n → HoldsNumber name low high rows m → n ≡ m
+same_number name low high rows n m first second = one_number first.text second.text n m (sym first.given ∙ second.given) first.spelled second.spelled
+
+same_text : (t u : Text) → Some t ≡ Some u → t ≡ u
+same_text t u same = ap (λ (o : Option Text). unwrap_or o []) same
+
+pub other_word : (word : Text) → (word ≡ codes "minor" → ⊥) → (word ≡ codes "full" → ⊥) → (s : Stress) → word ≡ stress_word s → ⊥
+other_word word minor full Minor same = minor same
+other_word word minor full Full same = full same
+
+no_kind : (rows : List Row) (workers : ℕ) (t : Text) (o : Option Stress) → Some t ≡ first_of (codes "stress") rows → ((s : Stress) → t ≡ stress_word s → ⊥)
+    → HoldsStress rows workers o → ⊥
+no_kind rows workers t None given none holds = let is = given ∙ holds in cc
+no_kind rows workers t (Some s) given none holds = none s (same_text t (stress_word s) (given ∙ holds.0))
+
+-- a word is there, and it is that of no kind
+pub no_stress : (rows : List Row) (workers : ℕ) (t : Text) (fault : UsageFault) → Some t ≡ first_of (codes "stress") rows → ((s : Stress) → t ≡ stress_word s → ⊥)
+    → FindsStress rows workers (Err fault)
+no_stress rows workers t (Usage text) given none = λ o holds. no_kind rows workers t o given none holds
+no_stress rows workers t OutOfMemory given none = tt
+
+not_alone : (rows : List Row) (workers : ℕ) (t : Text) (o : Option Stress) → Some t ≡ first_of (codes "stress") rows → (workers ≡ 1 → ⊥) → HoldsStress rows workers o → ⊥
+not_alone rows workers t None given several holds = let is = given ∙ holds in cc
+not_alone rows workers t (Some s) given several holds = several holds.1
+
+-- a word is there, and several workers
+pub no_stress_of_several : (rows : List Row) (workers : ℕ) (t : Text) (fault : UsageFault) → Some t ≡ first_of (codes "stress") rows → (workers ≡ 1 → ⊥)
+    → FindsStress rows workers (Err fault)
+no_stress_of_several rows workers t (Usage text) given several = λ o holds. not_alone rows workers t o given several holds
+no_stress_of_several rows workers t OutOfMemory given several = tt
+
+-- what is wrong with the collections is wrong with the run
+pub none_stressed : (rows : List Row) (workers : ℕ) (fault : UsageFault) → HoldsNumber (codes "workers") 1 16 rows workers → FindsStress rows workers (Err fault)
+    → FindsRun rows (Err fault)
+none_stressed rows workers (Usage text) there none = λ o holds.
+    none o.stress (subst (λ n. HoldsStress rows n o.stress) (same_number (codes "workers") 1 16 rows o.workers workers holds.workers there) holds.stress)
+none_stressed rows workers OutOfMemory there none = tt
 
 pub none_asked : (rows : List Row) (fault : UsageFault) → ((o : RunOptions) → HoldsRun rows o → ⊥) → FindsRun rows (Err fault)
 none_asked rows (Usage text) none = none

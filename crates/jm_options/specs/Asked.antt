@@ -9,6 +9,8 @@ use Rattle.jm_options.specs.CommandLine.{jm}
 use Rattle.jm_options.specs.declared.request.Options.{Options}
 use Rattle.jm_options.specs.declared.request.Options.TheVariants.{Run, Replay, Explore, Assemble, Disassemble, Debug, Explain, Version}
 use Rattle.jm_options.specs.declared.request.RunOptions.{RunOptions}
+use Rattle.jm_options.specs.declared.request.Stress.{Stress}
+use Rattle.jm_options.specs.declared.request.Stress.TheVariants.{Minor, Full}
 use Rattle.jm_options.specs.declared.request.ReplayOptions.{ReplayOptions}
 use Rattle.jm_options.specs.declared.request.ExploreOptions.{ExploreOptions}
 use Rattle.jm_options.specs.declared.request.AssembleOptions.{AssembleOptions}
@@ -40,6 +42,16 @@ abbrev pub is_set : Option Text → Bool
 is_set None = false
 is_set (Some text) = bytes_eq text (codes "true")
 
+-- the word for a kind of collection
+abbrev pub stress_word : Stress → Text
+stress_word Minor = codes "minor"
+stress_word Full = codes "full"
+
+-- they name no kind of collection, and none is asked for; or they name the one that is asked for, and one worker makes the events
+abbrev pub HoldsStress : List Row → ℕ → Option Stress → Type 0
+HoldsStress matches workers None = first_of (codes "stress") matches ≡ None
+HoldsStress matches workers (Some kind) = (first_of (codes "stress") matches ≡ Some (stress_word kind)) × (workers ≡ 1)
+
 -- the options are what the matches of a run hold, and within the limits
 pub record HoldsRun (matches : List Row) (o : RunOptions) : Type 0 where
   pub heap : HoldsNumber (codes "heap") 16 16777216 matches o.heap
@@ -48,6 +60,7 @@ pub record HoldsRun (matches : List Row) (o : RunOptions) : Type 0 where
   pub steps : HoldsNumber (codes "steps") 1 10000000 matches o.steps
   pub quantum : HoldsNumber (codes "quantum") 1 1000000 matches o.quantum
   pub workers : HoldsNumber (codes "workers") 1 16 matches o.workers
+  pub stress : HoldsStress matches o.workers o.stress
   pub record_file : first_of (codes "record") matches ≡ option_map string_bytes o.record_file
   pub show_heap : o.show_heap ≡ is_set (first_of (codes "show-heap") matches)
   pub files : all_of (codes "file") matches ≡ Some (map string_bytes o.files.items)
@@ -130,7 +143,7 @@ Answers words (Ok o) = Asks words o
 Answers words (Err (Usage text)) = (o : Options) → ¬ (Asks words o)
 Answers words (Err OutOfMemory) = ⊤
 
--- the same of a subcommand, and of the matches of a run, of a replay, of an exploration and the number of its outcome, of an assembly, of a disassembly, of a debugger's command and of an explanation
+-- the same of a subcommand, and of the matches of a run and the collections between its events, of a replay, of an exploration and the number of its outcome, of an assembly, of a disassembly, of a debugger's command and of an explanation
 abbrev pub Finds : Option Subcommand → Result Options UsageFault → Type 0
 Finds s (Ok o) = Holds s o
 Finds s (Err (Usage text)) = (o : Options) → ¬ (Holds s o)
@@ -140,6 +153,11 @@ abbrev pub FindsRun : List Row → Result RunOptions UsageFault → Type 0
 FindsRun matches (Ok o) = HoldsRun matches o
 FindsRun matches (Err (Usage text)) = (o : RunOptions) → ¬ (HoldsRun matches o)
 FindsRun matches (Err OutOfMemory) = ⊤
+
+abbrev pub FindsStress : List Row → ℕ → Result (Option Stress) UsageFault → Type 0
+FindsStress matches workers (Ok o) = HoldsStress matches workers o
+FindsStress matches workers (Err (Usage text)) = (o : Option Stress) → ¬ (HoldsStress matches workers o)
+FindsStress matches workers (Err OutOfMemory) = ⊤
 
 abbrev pub FindsReplay : List Row → Result ReplayOptions UsageFault → Type 0
 FindsReplay matches (Ok o) = HoldsReplay matches o

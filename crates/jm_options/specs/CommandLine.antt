@@ -56,6 +56,10 @@ workers_argument = record (new_rule (codes "workers")) {
   parser = Some (vp.Signed (pos 1) (pos 16));
 }
 
+-- --stress KIND
+abbrev pub stress_argument : Rule
+stress_argument = record (new_rule (codes "stress")) { long = Some (codes "stress"); value_names = 1 }
+
 -- --record FILE
 abbrev pub record_argument : Rule
 record_argument = record (new_rule (codes "record")) { long = Some (codes "record"); value_names = 1 }
@@ -74,9 +78,9 @@ turns_options = with_rule (with_rule (with_rule (with_rule (with_rule (new_app (
 
 -- the options of run
 abbrev pub run_options : App
-run_options = with_rule (with_rule (with_rule turns_options workers_argument) record_argument) show_heap_argument
+run_options = with_rule (with_rule (with_rule (with_rule turns_options workers_argument) stress_argument) record_argument) show_heap_argument
 
--- run [--heap N] [--copiers N] [--schedule FILE] [--steps N] [--quantum N] [--workers N] [--record FILE] [--show-heap] FILE..
+-- run [--heap N] [--copiers N] [--schedule FILE] [--steps N] [--quantum N] [--workers N] [--stress minor|full] [--record FILE] [--show-heap] FILE..
 abbrev pub run_command : App
 run_command = with_rule run_options file_argument
 

@@ -2,7 +2,7 @@
 
 ghost use Rattle.std.specs.Prelude.{◌≡◌, false, IfOk};
 ghost use Rattle.clap.specs.Words.{App, Rule, rule_of, with_rule, with_subcommand};
-ghost use Rattle.jm_options.specs.CommandLine.{heap_argument, copiers_argument, schedule_argument, steps_argument, quantum_argument, workers_argument, record_argument, show_heap_argument, file_argument, run_command, recorded_argument, replay_command, switches_argument, schedule_steps_argument, runs_argument, slice_argument, outcome_argument, explore_command, input_argument, output_argument, assemble_command, bare_argument, class_argument, disassemble_command, debug_command, number_argument, explain_command, version_command, top_command, jm, IsSeenAs};
+ghost use Rattle.jm_options.specs.CommandLine.{heap_argument, copiers_argument, schedule_argument, steps_argument, quantum_argument, workers_argument, stress_argument, record_argument, show_heap_argument, file_argument, run_command, recorded_argument, replay_command, switches_argument, schedule_steps_argument, runs_argument, slice_argument, outcome_argument, explore_command, input_argument, output_argument, assemble_command, bare_argument, class_argument, disassemble_command, debug_command, number_argument, explain_command, version_command, top_command, jm, IsSeenAs};
 
 use clap::{Arg, ArgAction, Command, value_parser};
 use std::alloc::{AllocError, Global};
@@ -107,6 +107,18 @@ fn workers_argument<'a>(alloc: Global) -> Arg<'a>
         )
 }
 
+fn stress_argument<'a>(alloc: Global) -> Arg<'a>
+    ensures rule { rule_of result ≡ stress_argument }
+    ensures local { result.global ≡ false }
+{
+    Arg::new(alloc, "stress")
+        .long("stress")
+        .value_name("KIND")
+        .help(
+            "Collect before each event and behind the last one, KIND being `minor` or `full`; not with several workers",
+        )
+}
+
 fn record_argument<'a>(alloc: Global) -> Arg<'a>
     ensures rule { rule_of result ≡ record_argument }
     ensures local { result.global ≡ false }
@@ -152,6 +164,7 @@ fn run_command<'a>(alloc: Global) -> Result<Command<'a>, AllocError>
     let run = with_argument(run, steps_argument(alloc));
     let run = with_argument(run, quantum_argument(alloc));
     let run = with_argument(run, workers_argument(alloc));
+    let run = with_argument(run, stress_argument(alloc));
     let run = with_argument(run, record_argument(alloc));
     let run = with_argument(run, show_heap_argument(alloc));
     with_argument(run, file_argument(alloc))

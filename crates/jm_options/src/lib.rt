@@ -2,7 +2,7 @@
 //!
 //! [`options`] reads the words of a command line as [`Options`], or says by a [`UsageFault`] what is
 //! wrong with them. What it knows is
-//! `jm run [--heap N] [--copiers N] [--schedule FILE] [--steps N] [--quantum N] [--workers N] [--record FILE] [--show-heap] FILE...`,
+//! `jm run [--heap N] [--copiers N] [--schedule FILE] [--steps N] [--quantum N] [--workers N] [--stress minor|full] [--record FILE] [--show-heap] FILE...`,
 //! `jm replay [--heap N] [--copiers N] [--show-heap] RECORD FILE...`,
 //! `jm explore [--switches N] [--steps N] [--runs N] [--slice N] [--outcome N] [--heap N] FILE...`,
 //! `jm asm IN OUT`, where OUT is another word than IN, `jm dis [--bare] FILE`,
@@ -21,6 +21,6 @@ pub use fault::UsageFault;
 pub use request::{
     AssembleOptions, DebugOptions, DisassembleOptions, ExplainOptions, ExploreOptions, MAX_COPIERS,
     MAX_HEAP, MAX_QUANTUM, MAX_RUNS, MAX_SCHEDULE_STEPS, MAX_SLICE, MAX_STEPS, MAX_SWITCHES,
-    MAX_WORKERS, MIN_HEAP, Options, ReplayOptions, RunOptions,
+    MAX_WORKERS, MIN_HEAP, Options, ReplayOptions, RunOptions, Stress,
 };
 pub use words::options;

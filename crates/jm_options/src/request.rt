@@ -51,6 +51,15 @@ pub enum Options {
     Version,
 }
 
+/// The kind of the collections of `--stress`.
+#[derive(Clone, Copy, Debug, PartialEq, Eq)]
+pub enum Stress {
+    /// `minor`: of the young generation.
+    Minor,
+    /// `full`: of the whole heap.
+    Full,
+}
+
 /// What `jm run` is given.
 #[derive(Drop)]
 pub struct RunOptions {
@@ -67,6 +76,9 @@ pub struct RunOptions {
     pub quantum: u32,
     /// How many workers make the events without a schedule, from 1 to [`MAX_WORKERS`].
     pub workers: u32,
+    /// Of which kind a collection is before each event and behind the last one, where such are asked
+    /// for; `workers` is 1 then.
+    pub stress: Option<Stress>,
     /// The file to write the record of the run to, if there is to be one.
     pub record_file: Option<String>,
     /// Whether the objects that are reachable at the end are shown.

@@ -4,14 +4,15 @@ ghost use Rattle.std.specs.Prelude.{◌≡◌, ℕ, MatchOption, MatchResult, ma
 ghost use Rattle.clap.specs.Words.{first_of, found_of, kind_of, rows_of, subcommand_rows_of};
 ghost use Rattle.clap.specs.declared.error.kind.ErrorKind.TheVariants as kind;
 ghost use Rattle.jm_explain.specs.Items.{Item, item};
-ghost use Rattle.jm_options.specs.Asked.{Answers, Finds, FindsAssemble, FindsDebug, FindsDisassemble, FindsExplain, FindsExplore, FindsOutcome, FindsReplay, FindsRun, HoldsEntry, HoldsNumber, is_set};
+ghost use Rattle.jm_options.specs.Asked.{Answers, Finds, FindsAssemble, FindsDebug, FindsDisassemble, FindsExplain, FindsExplore, FindsOutcome, FindsReplay, FindsRun, FindsStress, HoldsEntry, HoldsNumber, is_set, stress_word};
+ghost use Rattle.jm_options.specs.declared.request.Stress.{Stress};
 
 use crate::command::command;
 use crate::fault::UsageFault;
 use crate::request::{
     AssembleOptions, DebugOptions, DisassembleOptions, ExplainOptions, ExploreOptions, MAX_COPIERS,
     MAX_HEAP, MAX_QUANTUM, MAX_RUNS, MAX_SCHEDULE_STEPS, MAX_SLICE, MAX_STEPS, MAX_SWITCHES,
-    MAX_WORKERS, MIN_HEAP, Options, ReplayOptions, RunOptions,
+    MAX_WORKERS, MIN_HEAP, Options, ReplayOptions, RunOptions, Stress,
 };
 use clap::error::ErrorKind;
 use clap::{ArgMatches, Error};
@@ -43,6 +44,27 @@ fn one_file(alloc: Global, file: &str) -> UsageFault {
 fn unknown_number(alloc: Global, number: &str) -> UsageFault {
     match format!(in alloc;
         "error: invalid value '{number}' for '[N]': no refusal and no status has this number\n\nFor the numbers that there are, try 'jm explain'.\n"
+    ) {
+        Ok(text) => UsageFault::Usage(text),
+        Err(_) => UsageFault::OutOfMemory,
+    }
+}
+
+// The text for a kind of collection that there is not.
+fn unknown_stress(alloc: Global, kind: &str) -> UsageFault {
+    match format!(in alloc;
+        "error: invalid value '{kind}' for '--stress <KIND>'\n  [possible values: minor, full]\n\nFor more information, try '--help'.\n"
+    ) {
+        Ok(text) => UsageFault::Usage(text),
+        Err(_) => UsageFault::OutOfMemory,
+    }
+}
+
+// The text for collections between the events of several workers.
+fn stress_of_several(alloc: Global) -> UsageFault {
+    match String::from_str(
+        alloc,
+        "error: the argument '--stress <KIND>' cannot be used with several workers\n\nFor more information, try '--help'.\n",
     ) {
         Ok(text) => UsageFault::Usage(text),
         Err(_) => UsageFault::OutOfMemory,
@@ -106,6 +128,37 @@ fn strings_of(alloc: Global, texts: &[&str]) -> Result<Vec<String>, UsageFault>
     Ok(strings)
 }
 
+// The kind of collection that a word names.
+fn stress_named(word: &str) -> Option<Stress>
+    ensures { MatchOption result ((s : Stress) → word.now ≡ stress_word s → ⊥) (λ s. word.now ≡ stress_word s) }
+{
+    match word {
+        "minor" => Some(Stress::Minor),
+        "full" => Some(Stress::Full),
+        _ => None,
+    }
+}
+
+// The kind of collection that is asked for where there are so many workers, if one is.
+fn stress_given(
+    alloc: Global,
+    matches: &ArgMatches<'_>,
+    workers: u32,
+) -> Result<Option<Stress>, UsageFault>
+    ensures { FindsStress (rows_of (found_of matches.now)) workers result }
+{
+    let Some(word) = matches.get_str("stress") else {
+        return Ok(None);
+    };
+    let Some(stress) = stress_named(word) else {
+        return Err(unknown_stress(alloc, word));
+    };
+    if workers != 1 {
+        return Err(stress_of_several(alloc));
+    }
+    Ok(Some(stress))
+}
+
 fn run_options(alloc: Global, matches: &ArgMatches<'_>) -> Result<RunOptions, UsageFault>
     ensures { FindsRun (rows_of (found_of matches.now)) result }
 {
@@ -134,6 +187,7 @@ fn run_options(alloc: Global, matches: &ArgMatches<'_>) -> Result<RunOptions, Us
         steps,
         quantum,
         workers,
+        stress: stress_given(alloc, matches, workers)?,
         record_file: string_of(alloc, matches.get_str("record"))?,
         show_heap: is_set(matches, "show-heap"),
         files: strings_of(alloc, files)?,

@@ -1,4 +1,4 @@
--- Nine arguments, one after the other.
+-- Ten arguments, one after the other.
 use Rattle.std.proofs.Common.{ap, ◌∙◌, codes}
 use Rattle.clap.specs.Words.{new_app}
 use Rattle.clap.specs.Simple.{app_of_fields}
@@ -14,6 +14,7 @@ returns c =
     let four = c.with_argument-run-4.ensures _ _ three c.steps_argument.ensures.rule c.steps_argument.ensures.local in
     let five = c.with_argument-run-5.ensures _ _ four c.quantum_argument.ensures.rule c.quantum_argument.ensures.local in
     let six = c.with_argument-run-6.ensures _ _ five c.workers_argument.ensures.rule c.workers_argument.ensures.local in
-    let seven = c.with_argument-run-7.ensures _ _ six c.record_argument.ensures.rule c.record_argument.ensures.local in
-    let eight = c.with_argument-run-8.ensures _ _ seven c.show_heap_argument.ensures.rule c.show_heap_argument.ensures.local in
-    c.with_argument.ensures _ _ eight c.file_argument.ensures.rule c.file_argument.ensures.local
+    let seven = c.with_argument-run-7.ensures _ _ six c.stress_argument.ensures.rule c.stress_argument.ensures.local in
+    let eight = c.with_argument-run-8.ensures _ _ seven c.record_argument.ensures.rule c.record_argument.ensures.local in
+    let nine = c.with_argument-run-9.ensures _ _ eight c.show_heap_argument.ensures.rule c.show_heap_argument.ensures.local in
+    c.with_argument.ensures _ _ nine c.file_argument.ensures.rule c.file_argument.ensures.local
