@@ -1,6 +1,7 @@
--- What the matches of a run hold, from what the calls of clap say of them.
-use Rattle.std.proofs.Common.{◌≡◌, true, false, find, [], ◌∷◌, inl, inr, ℕ, ◌<◌, ◌^◌, slice_index, List, Option, Some, None, Result, Ok, Err, refl, sym, ap, ◌∙◌, subst, codes, arith, ap₂}
-use Rattle.std.specs.Prelude.{option_map, unwrap_or, MatchOption, MatchResult, IsOkAnd}
+-- What the matches of a subcommand hold, from what the calls of clap say of them.
+use Rattle.std.proofs.Common.{◌≡◌, true, false, find, [], ◌∷◌, inl, inr, ℕ, ◌<◌, ◌^◌, List, Option, Some, None, Result, Ok, Err, refl, sym, ap, ◌∙◌, subst, codes, arith, ap₂}
+use Rattle.std.proofs.lemmas.Slice.Eq.{bytes_eq-Decides}
+use Rattle.std.specs.Prelude.{option_map, unwrap_or, MatchOption, MatchResult, IsOkAnd, IsErrAnd}
 use Rattle.std.specs.Str.{bytes_eq}
 use Rattle.std.specs.String.{string_bytes}
 use Rattle.std.specs.Str.Parse.{ParsesUnsigned, digits_value, without_leading_plus}
@@ -10,7 +11,7 @@ use Rattle.clap.specs.declared.parser.matches.ArgMatches.{ArgMatches}
 use Rattle.clap.specs.declared.parser.matches.ArgMatches.TheViews.{out-ArgMatches, out-SubCommand}
 use Rattle.clap.specs.declared.error.Error.{Error}
 use Rattle.clap.specs.declared.error.kind.ErrorKind.TheVariants as kind
-use Rattle.jm_options.specs.Asked.{SpellsNumber, HoldsNumber, HoldsRun, HoldsStress, stress_word, HoldsReplay, HoldsExplore, HoldsOutcome, HoldsAssemble, HoldsDisassemble, HoldsDebug, HoldsAsked, HoldsEntry, HoldsExplain, Holds, Subcommand, Finds, FindsRun, FindsStress, FindsReplay, FindsExplore, FindsOutcome, FindsAssemble, FindsDisassemble, FindsDebug, FindsExplain, Answers}
+use Rattle.jm_options.specs.Asked.{SpellsNumber, HoldsNumber, MayHoldNumber, HoldsSerialRun, HoldsRun, HoldsStress, stress_word, HoldsReplay, HoldsExplore, HoldsAssemble, HoldsDisassemble, HoldsDebug, HoldsAsked, HoldsEntry, HoldsExplain, HoldsNamed, Holds, Subcommand, Finds, Answers, name_of}
 use Rattle.jm_options.specs.CommandLine.{jm}
 use Rattle.jm_options.specs.declared.request.Options.{Options}
 use Rattle.jm_options.specs.declared.request.Options.TheVariants.{Run, Replay, Explore, Assemble, Disassemble, Debug, Explain, Version}
@@ -19,6 +20,7 @@ use Rattle.jm_options.specs.declared.request.Stress.{Stress}
 use Rattle.jm_options.specs.declared.request.Stress.TheVariants.{Minor, Full}
 use Rattle.jm_options.specs.declared.request.ReplayOptions.{ReplayOptions}
 use Rattle.jm_options.specs.declared.request.ExploreOptions.{ExploreOptions}
+use Rattle.jm_options.specs.declared.request.SerialRun.{SerialRun}
 use Rattle.jm_options.specs.declared.request.AssembleOptions.{AssembleOptions}
 use Rattle.jm_options.specs.declared.request.DisassembleOptions.{DisassembleOptions}
 use Rattle.jm_options.specs.declared.request.DebugOptions.{DebugOptions}
@@ -28,6 +30,24 @@ use Rattle.jm_explain.specs.Items.{Item, is_of, item}
 use Rattle.jm_explain.specs.Table.{items}
 use Rattle.jm_explain.specs.declared.entry.Entry.{Entry}
 use Rattle.jm_options.specs.declared.fault.UsageFault.TheVariants.{Usage, OutOfMemory}
+
+-- ---- what is found for a request
+
+pub none_found : {A : Type 0} (IsHeld : A → Type 0) (fault : UsageFault) → ((o : A) → IsHeld o → ⊥) → Finds {A = A} (Err fault) IsHeld
+none_found IsHeld (Usage text) none = none
+none_found IsHeld OutOfMemory none = tt
+
+-- where a part of a request is held in no form, the request is not
+none_of_part : {A B : Type 0} (IsPart : B → Type 0) (IsHeld : A → Type 0) (fault : UsageFault) → Finds {A = B} (Err fault) IsPart
+    → (part : A → B) → ((o : A) → IsHeld o → IsPart (part o)) → Finds {A = A} (Err fault) IsHeld
+none_of_part IsPart IsHeld (Usage text) none part held = λ o is. none (part o) (held o is)
+none_of_part IsPart IsHeld OutOfMemory none part held = tt
+
+-- what a `?` gives back there
+pub lacks_part : {A B : Type 0} (IsPart : B → Type 0) (IsHeld : A → Type 0) (r : Result A UsageFault) (fault : UsageFault) → IsErrAnd r (λ f. f ≡ fault)
+    → Finds {A = B} (Err fault) IsPart → (part : A → B) → ((o : A) → IsHeld o → IsPart (part o)) → Finds r IsHeld
+lacks_part IsPart IsHeld (Ok o) fault same none part held = absurd same
+lacks_part IsPart IsHeld (Err f) fault same none part held = rw same (none_of_part IsPart IsHeld fault none part held)
 
 -- ---- a number
 
@@ -55,133 +75,67 @@ one_number t u n m same first second =
     let b = second.value in
     sym a ∙ ap (λ (x : Text). digits_value 10 (without_leading_plus x)) text ∙ b
 
--- ---- the options of a run
-
-pub no_files : (rows : List Row) → None ≡ all_of (codes "file") rows → (o : RunOptions) → HoldsRun rows o → ⊥
-no_files rows none o holds = let some = none ∙ holds.files in cc
-
 -- of a name one number is held
-same_number : (name : Text) (low high : ℕ) (rows : List Row) (n m : ℕ) → HoldsNumber name low high rows n → HoldsNumber name low high rows m → n ≡ m
+pub same_number : (name : Text) (low high : ℕ) (rows : List Row) (n m : ℕ) → HoldsNumber name low high rows n → HoldsNumber name low high rows m → n ≡ m
 same_number name low high rows n m first second = one_number first.text second.text n m (sym first.given ∙ second.given) first.spelled second.spelled
+
+-- a text is there, and no number within the limits
+pub no_given : (name : Text) (low high : ℕ) (rows : List Row) (t : Text) → Some t ≡ first_of name rows → ((n : ℕ) → HoldsNumber name low high rows n → ⊥)
+    → (o : Option ℕ) → MayHoldNumber name low high rows o → ⊥
+no_given name low high rows t given none None holds = let is = given ∙ holds in cc
+no_given name low high rows t given none (Some n) holds = none n holds
+
+-- ---- a text
 
 same_text : (t u : Text) → Some t ≡ Some u → t ≡ u
 same_text t u same = ap (λ (o : Option Text). unwrap_or o []) same
+
+pub no_text : (name : Text) (rows : List Row) (t : Text) → None ≡ first_of name rows → first_of name rows ≡ Some t → ⊥
+no_text name rows t none some = let is = none ∙ some in cc
+
+pub no_files : (rows : List Row) (files : List Text) → None ≡ all_of (codes "file") rows → all_of (codes "file") rows ≡ Some files → ⊥
+no_files rows files none some = let is = none ∙ some in cc
+
+-- ---- the collections between the events of a run
 
 pub other_word : (word : Text) → (word ≡ codes "minor" → ⊥) → (word ≡ codes "full" → ⊥) → (s : Stress) → word ≡ stress_word s → ⊥
 other_word word minor full Minor same = minor same
 other_word word minor full Full same = full same
 
-no_kind : (rows : List Row) (workers : ℕ) (t : Text) (o : Option Stress) → Some t ≡ first_of (codes "stress") rows → ((s : Stress) → t ≡ stress_word s → ⊥)
-    → HoldsStress rows workers o → ⊥
-no_kind rows workers t None given none holds = let is = given ∙ holds in cc
-no_kind rows workers t (Some s) given none holds = none s (same_text t (stress_word s) (given ∙ holds.0))
-
 -- a word is there, and it is that of no kind
-pub no_stress : (rows : List Row) (workers : ℕ) (t : Text) (fault : UsageFault) → Some t ≡ first_of (codes "stress") rows → ((s : Stress) → t ≡ stress_word s → ⊥)
-    → FindsStress rows workers (Err fault)
-no_stress rows workers t (Usage text) given none = λ o holds. no_kind rows workers t o given none holds
-no_stress rows workers t OutOfMemory given none = tt
-
-not_alone : (rows : List Row) (workers : ℕ) (t : Text) (o : Option Stress) → Some t ≡ first_of (codes "stress") rows → (workers ≡ 1 → ⊥) → HoldsStress rows workers o → ⊥
-not_alone rows workers t None given several holds = let is = given ∙ holds in cc
-not_alone rows workers t (Some s) given several holds = several holds.1
+pub no_kind : (rows : List Row) (workers : ℕ) (t : Text) → Some t ≡ first_of (codes "stress") rows → ((s : Stress) → t ≡ stress_word s → ⊥)
+    → (o : Option Stress) → HoldsStress rows workers o → ⊥
+no_kind rows workers t given none None holds = let is = given ∙ holds in cc
+no_kind rows workers t given none (Some s) holds = none s (same_text t (stress_word s) (given ∙ holds.0))
 
 -- a word is there, and several workers
-pub no_stress_of_several : (rows : List Row) (workers : ℕ) (t : Text) (fault : UsageFault) → Some t ≡ first_of (codes "stress") rows → (workers ≡ 1 → ⊥)
-    → FindsStress rows workers (Err fault)
-no_stress_of_several rows workers t (Usage text) given several = λ o holds. not_alone rows workers t o given several holds
-no_stress_of_several rows workers t OutOfMemory given several = tt
+pub not_alone : (rows : List Row) (workers : ℕ) (t : Text) → Some t ≡ first_of (codes "stress") rows → (workers ≡ 1 → ⊥)
+    → (o : Option Stress) → HoldsStress rows workers o → ⊥
+not_alone rows workers t given several None holds = let is = given ∙ holds in cc
+not_alone rows workers t given several (Some s) holds = several holds.1
 
 -- what is wrong with the collections is wrong with the run
-pub none_stressed : (rows : List Row) (workers : ℕ) (fault : UsageFault) → HoldsNumber (codes "workers") 1 16 rows workers → FindsStress rows workers (Err fault)
-    → FindsRun rows (Err fault)
-none_stressed rows workers (Usage text) there none = λ o holds.
-    none o.stress (subst (λ n. HoldsStress rows n o.stress) (same_number (codes "workers") 1 16 rows o.workers workers holds.workers there) holds.stress)
-none_stressed rows workers OutOfMemory there none = tt
+pub lacks_stress : (rows : List Row) (workers : ℕ) (r : Result RunOptions UsageFault) (fault : UsageFault) → IsErrAnd r (λ f. f ≡ fault)
+    → HoldsNumber (codes "workers") 1 16 rows workers → Finds {A = Option Stress} (Err fault) (HoldsStress rows workers) → Finds r (HoldsRun rows)
+lacks_stress rows workers r fault same there none = lacks_part (HoldsStress rows workers) (HoldsRun rows) r fault same none (λ o. o.stress)
+    (λ o holds. subst (λ n. HoldsStress rows n o.stress) (same_number (codes "workers") 1 16 rows o.workers workers holds.workers there) holds.stress)
 
-pub none_asked : (rows : List Row) (fault : UsageFault) → ((o : RunOptions) → HoldsRun rows o → ⊥) → FindsRun rows (Err fault)
-none_asked rows (Usage text) none = none
-none_asked rows OutOfMemory none = tt
+-- ---- one word for both files of an assembly
 
--- ---- the options of a replay
-
-pub no_record : (rows : List Row) → None ≡ first_of (codes "recorded") rows → (o : ReplayOptions) → HoldsReplay rows o → ⊥
-no_record rows none o holds = let some = none ∙ holds.record_file in cc
-
-pub no_replay_files : (rows : List Row) → None ≡ all_of (codes "file") rows → (o : ReplayOptions) → HoldsReplay rows o → ⊥
-no_replay_files rows none o holds = let some = none ∙ holds.files in cc
-
-pub none_replayed : (rows : List Row) (fault : UsageFault) → ((o : ReplayOptions) → HoldsReplay rows o → ⊥) → FindsReplay rows (Err fault)
-none_replayed rows (Usage text) none = none
-none_replayed rows OutOfMemory none = tt
-
--- ---- the options of an exploration
-
-outcome_or_not : (rows : List Row) (t : Text) (o : Option ℕ) → Some t ≡ first_of (codes "outcome") rows → ((n : ℕ) → HoldsNumber (codes "outcome") 1 100000000 rows n → ⊥)
-    → HoldsOutcome rows o → ⊥
-outcome_or_not rows t None given none holds = let is = given ∙ holds in cc
-outcome_or_not rows t (Some n) given none holds = none n holds
-
--- a text is there, and no number within the limits
-pub no_outcome : (rows : List Row) (t : Text) (fault : UsageFault) → Some t ≡ first_of (codes "outcome") rows
-    → ((n : ℕ) → HoldsNumber (codes "outcome") 1 100000000 rows n → ⊥) → FindsOutcome rows (Err fault)
-no_outcome rows t (Usage text) given none = λ o holds. outcome_or_not rows t o given none holds
-no_outcome rows t OutOfMemory given none = tt
-
-pub no_explored_files : (rows : List Row) → None ≡ all_of (codes "file") rows → (o : ExploreOptions) → HoldsExplore rows o → ⊥
-no_explored_files rows none o holds = let some = none ∙ holds.files in cc
-
-pub none_explored : (rows : List Row) (fault : UsageFault) → ((o : ExploreOptions) → HoldsExplore rows o → ⊥) → FindsExplore rows (Err fault)
-none_explored rows (Usage text) none = none
-none_explored rows OutOfMemory none = tt
-
--- ---- the options of an assembly
-
-pub no_input : (rows : List Row) → None ≡ first_of (codes "input") rows → (o : AssembleOptions) → HoldsAssemble rows o → ⊥
-no_input rows none o holds = let some = none ∙ holds.input in cc
-
-pub no_output : (rows : List Row) → None ≡ first_of (codes "output") rows → (o : AssembleOptions) → HoldsAssemble rows o → ⊥
-no_output rows none o holds = let some = none ∙ holds.output in cc
-
--- one word for both
 pub one_word : (rows : List Row) (input output : Text) → Some input ≡ first_of (codes "input") rows → Some output ≡ first_of (codes "output") rows
     → bytes_eq input output ≡ true → (o : AssembleOptions) → HoldsAssemble rows o → ⊥
 one_word rows input output first second same o holds =
-    let a : Some input ≡ Some (string_bytes o.input) = first ∙ holds.input in
-    let b : Some output ≡ Some (string_bytes o.output) = second ∙ holds.output in
-    let c : input ≡ string_bytes o.input = ap (λ (t : Option Text). unwrap_or t []) a in
-    let d : output ≡ string_bytes o.output = ap (λ (t : Option Text). unwrap_or t []) b in
-    let apart : bytes_eq input output ≡ false = ap₂ bytes_eq c d ∙ holds.apart in
+    let a : input ≡ string_bytes o.input = same_text input (string_bytes o.input) (first ∙ holds.input) in
+    let b : output ≡ string_bytes o.output = same_text output (string_bytes o.output) (second ∙ holds.output) in
+    let apart : bytes_eq input output ≡ false = ap₂ bytes_eq a b ∙ holds.apart in
     cc
-
-pub none_assembled : (rows : List Row) (fault : UsageFault) → ((o : AssembleOptions) → HoldsAssemble rows o → ⊥) → FindsAssemble rows (Err fault)
-none_assembled rows (Usage text) none = none
-none_assembled rows OutOfMemory none = tt
-
--- ---- the options of a disassembly
-
-pub no_class : (rows : List Row) → None ≡ first_of (codes "class") rows → (o : DisassembleOptions) → HoldsDisassemble rows o → ⊥
-no_class rows none o holds = let some = none ∙ holds.file in cc
-
-pub none_disassembled : (rows : List Row) (fault : UsageFault) → ((o : DisassembleOptions) → HoldsDisassemble rows o → ⊥) → FindsDisassemble rows (Err fault)
-none_disassembled rows (Usage text) none = none
-none_disassembled rows OutOfMemory none = tt
-
--- ---- the options of a debugger's command
-
-pub no_program : (rows : List Row) → None ≡ all_of (codes "file") rows → (o : DebugOptions) → HoldsDebug rows o → ⊥
-no_program rows none o holds = let some = none ∙ holds.files in cc
-
-pub none_debugged : (rows : List Row) (fault : UsageFault) → ((o : DebugOptions) → HoldsDebug rows o → ⊥) → FindsDebug rows (Err fault)
-none_debugged rows (Usage text) none = none
-none_debugged rows OutOfMemory none = tt
 
 -- ---- the number that is to be explained
 
 -- of one number one thing is said
 pub no_entry : (rows : List Row) (n : ℕ) → HoldsNumber (codes "number") 0 99 rows n → find (is_of n) items ≡ None → (i : Item) → HoldsEntry rows i → ⊥
 no_entry rows n there none i holds =
-    let same = one_number holds.given.text there.text holds.number n (sym holds.given.given ∙ there.given) holds.given.spelled there.spelled in
+    let same = same_number (codes "number") 0 99 rows holds.number n holds.given there in
     let said = ap (λ (m : ℕ). find (is_of m) items) (sym same) ∙ holds.said in
     let is : None ≡ Some i = sym none ∙ said in
     cc
@@ -196,10 +150,9 @@ asked_or_not : (rows : List Row) (t : Text) (asked : Option Entry) → Some t �
 asked_or_not rows t None given none holds = let is = given ∙ holds in cc
 asked_or_not rows t (Some e) given none holds = none (item e) holds
 
-pub none_explained : (rows : List Row) (t : Text) (fault : UsageFault) → Some t ≡ first_of (codes "number") rows → ((i : Item) → HoldsEntry rows i → ⊥)
-    → FindsExplain rows (Err fault)
-none_explained rows t (Usage text) given none = λ o holds. asked_or_not rows t o.entry given none holds.asked
-none_explained rows t OutOfMemory given none = tt
+pub none_explained : (rows : List Row) (t : Text) → Some t ≡ first_of (codes "number") rows → ((i : Item) → HoldsEntry rows i → ⊥)
+    → (o : ExplainOptions) → HoldsExplain rows o → ⊥
+none_explained rows t given none o holds = asked_or_not rows t o.entry given none holds.asked
 
 -- ---- the subcommand
 
@@ -217,249 +170,107 @@ is_pair (Some p) name rows first second =
     let b : p.1 ≡ rows = cc in
     ap₂ (λ (x : Text) (y : List Row). Some (x, y)) a b
 
-pair_there : (s : Option Subcommand) (name : Text) → option_map (λ (p : Subcommand). p.0) s ≡ Some name → (rows : List Row) × (s ≡ Some (name, rows))
-pair_there None name first = absurd (let is = first in cc)
-pair_there (Some p) name first = (p.1, is_pair (Some p) name p.1 first refl)
-
 -- the subcommand of a name, with its matches
 pub subcommand_is : (m : ArgMatches) (name : Text) (rows : List Row) → subcommand_name_of m ≡ Some name → option_map (λ (p : Subcommand). p.1) (subcommand_rows_of m) ≡ Some rows
     → subcommand_rows_of m ≡ Some (name, rows)
 subcommand_is m name rows named is = is_pair (subcommand_rows_of m) name rows (sym (name_of_rows m) ∙ named) is
 
-pub other_subcommand : (m : ArgMatches) → (subcommand_name_of m ≡ Some (codes "run") → ⊥) → (subcommand_name_of m ≡ Some (codes "replay") → ⊥) → (subcommand_name_of m ≡ Some (codes "explore") → ⊥) → (subcommand_name_of m ≡ Some (codes "asm") → ⊥)
-    → (subcommand_name_of m ≡ Some (codes "dis") → ⊥) → (subcommand_name_of m ≡ Some (codes "debug") → ⊥)
-    → (subcommand_name_of m ≡ Some (codes "explain") → ⊥) → (subcommand_name_of m ≡ Some (codes "version") → ⊥)
-    → (o : Options) → Holds (subcommand_rows_of m) o → ⊥
-other_subcommand m not_run not_replay not_explore not_asm not_dis not_debug not_explain not_version (Run o) holds = not_run (name_of_rows m ∙ ap (option_map (λ (p : Subcommand). p.0)) holds.1)
-other_subcommand m not_run not_replay not_explore not_asm not_dis not_debug not_explain not_version (Replay o) holds = not_replay (name_of_rows m ∙ ap (option_map (λ (p : Subcommand). p.0)) holds.1)
-other_subcommand m not_run not_replay not_explore not_asm not_dis not_debug not_explain not_version (Explore o) holds = not_explore (name_of_rows m ∙ ap (option_map (λ (p : Subcommand). p.0)) holds.1)
-other_subcommand m not_run not_replay not_explore not_asm not_dis not_debug not_explain not_version (Assemble o) holds = not_asm (name_of_rows m ∙ ap (option_map (λ (p : Subcommand). p.0)) holds.1)
-other_subcommand m not_run not_replay not_explore not_asm not_dis not_debug not_explain not_version (Disassemble o) holds = not_dis (name_of_rows m ∙ ap (option_map (λ (p : Subcommand). p.0)) holds.1)
-other_subcommand m not_run not_replay not_explore not_asm not_dis not_debug not_explain not_version (Debug o) holds = not_debug (name_of_rows m ∙ ap (option_map (λ (p : Subcommand). p.0)) holds.1)
-other_subcommand m not_run not_replay not_explore not_asm not_dis not_debug not_explain not_version (Explain o) holds = not_explain (name_of_rows m ∙ ap (option_map (λ (p : Subcommand). p.0)) holds.1)
-other_subcommand m not_run not_replay not_explore not_asm not_dis not_debug not_explain not_version Version holds = not_version (name_of_rows m ∙ ap (option_map (λ (p : Subcommand). p.0)) holds.1)
+-- what is found by the name of the subcommand and its matches is what it asks for
+pub finds_met : (s : Option Subcommand) (name : Text) (rows : List Row) (found : Result Options UsageFault) → s ≡ Some (name, rows) → Finds found (HoldsNamed name rows)
+    → Finds found (Holds s)
+finds_met s name rows (Ok o) is holds = record { used = (name, rows); met = is; named = holds }
+finds_met s name rows (Err (Usage text)) is none = λ o holds.
+    let same : holds.used ≡ (name, rows) = ap (λ (x : Option Subcommand). unwrap_or x (name, rows)) (sym holds.met ∙ is) in
+    none o (subst (λ (p : Subcommand). HoldsNamed p.0 p.1 o) same holds.named)
+finds_met s name rows (Err OutOfMemory) is none = tt
 
-pub nothing_found : (s : Option Subcommand) (fault : UsageFault) → ((o : Options) → Holds s o → ⊥) → Finds s (Err fault)
-nothing_found s (Usage text) none = none
-nothing_found s OutOfMemory none = tt
+pub none_met : (m : ArgMatches) → None ≡ subcommand_name_of m → (o : Options) → Holds (subcommand_rows_of m) o → ⊥
+none_met m none o holds = let is = none ∙ name_of_rows m ∙ ap (option_map (λ (p : Subcommand). p.0)) holds.met in cc
 
-same_name : (s : Option Subcommand) (p q : Subcommand) → s ≡ Some p → s ≡ Some q → p.0 ≡ q.0
-same_name s p q first second = ap (λ (x : Option Subcommand). (unwrap_or x p).0) (sym first ∙ second)
+-- where a subcommand has one of two names, and they differ
+apart : (a b : Text) → bytes_eq a b ≡ false → a ≡ b → ⊥
+apart a b differ same = let is : bytes_eq a b ≡ true = (bytes_eq-Decides a b).1 same in cc
 
-same_rows : (s : Option Subcommand) (p q : Subcommand) → s ≡ Some p → s ≡ Some q → q.1 ≡ p.1
-same_rows s p q first second = sym (ap (λ (x : Option Subcommand). (unwrap_or x p).1) (sym first ∙ second))
+-- what is found in the matches is what is found for the subcommand
+finds_named : {A : Type 0} (IsHeld : A → Type 0) (asks : A → Options) (name : Text) (rows : List Row) (r : Result A UsageFault) (found : Result Options UsageFault)
+    → ((o : A) → IsHeld o → HoldsNamed name rows (asks o)) → (((o : A) → IsHeld o → ⊥) → (o : Options) → HoldsNamed name rows o → ⊥)
+    → Finds r IsHeld → MatchResult r (λ o. IsOkAnd found (λ given. given ≡ asks o)) (λ fault. found ≡ Err fault) → Finds found (HoldsNamed name rows)
+finds_named IsHeld asks name rows (Ok o) (Ok given) there none holds same = rw same (there o holds)
+finds_named IsHeld asks name rows (Ok o) (Err fault) there none holds same = absurd same
+finds_named IsHeld asks name rows (Err (Usage text)) found there none holds same = rw same (none holds)
+finds_named IsHeld asks name rows (Err OutOfMemory) found there none holds same = rw same tt
 
-run_is_not_asm : codes "run" ≡ codes "asm" → ⊥
-run_is_not_asm same = let first : 114 ≡ 97 = ap (λ (t : List ℕ). slice_index t 0) same in absurd (omega (arith, first))
+no_run : (name : Text) (rows : List Row) → name ≡ codes "run" → ((o : RunOptions) → HoldsRun rows o → ⊥) → (o : Options) → HoldsNamed name rows o → ⊥
+no_run name rows is none (Run o) holds = none o holds.held
+no_run name rows is none other holds = apart (codes "run") (name_of other) refl (sym is ∙ holds.named)
 
-run_is_not_debug : codes "run" ≡ codes "debug" → ⊥
-run_is_not_debug same = let first : 114 ≡ 100 = ap (λ (t : List ℕ). slice_index t 0) same in absurd (omega (arith, first))
+pub finds_run : (name : Text) (rows : List Row) (r : Result RunOptions UsageFault) (found : Result Options UsageFault) → name ≡ codes "run" → Finds r (HoldsRun rows)
+    → MatchResult r (λ o. IsOkAnd found (λ given. given ≡ Run o)) (λ fault. found ≡ Err fault) → Finds found (HoldsNamed name rows)
+finds_run name rows r found is = finds_named (HoldsRun rows) Run name rows r found (λ o holds. record { named = is; held = holds }) (no_run name rows is)
 
-asm_is_not_debug : codes "asm" ≡ codes "debug" → ⊥
-asm_is_not_debug same = let first : 97 ≡ 100 = ap (λ (t : List ℕ). slice_index t 0) same in absurd (omega (arith, first))
+no_replay : (name : Text) (rows : List Row) → name ≡ codes "replay" → ((o : ReplayOptions) → HoldsReplay rows o → ⊥) → (o : Options) → HoldsNamed name rows o → ⊥
+no_replay name rows is none (Replay o) holds = none o holds.held
+no_replay name rows is none other holds = apart (codes "replay") (name_of other) refl (sym is ∙ holds.named)
 
-run_is_not_dis : codes "run" ≡ codes "dis" → ⊥
-run_is_not_dis same = let first : 114 ≡ 100 = ap (λ (t : List ℕ). slice_index t 0) same in absurd (omega (arith, first))
+pub finds_replay : (name : Text) (rows : List Row) (r : Result ReplayOptions UsageFault) (found : Result Options UsageFault) → name ≡ codes "replay" → Finds r (HoldsReplay rows)
+    → MatchResult r (λ o. IsOkAnd found (λ given. given ≡ Replay o)) (λ fault. found ≡ Err fault) → Finds found (HoldsNamed name rows)
+finds_replay name rows r found is = finds_named (HoldsReplay rows) Replay name rows r found (λ o holds. record { named = is; held = holds }) (no_replay name rows is)
 
-asm_is_not_dis : codes "asm" ≡ codes "dis" → ⊥
-asm_is_not_dis same = let first : 97 ≡ 100 = ap (λ (t : List ℕ). slice_index t 0) same in absurd (omega (arith, first))
+no_exploration : (name : Text) (rows : List Row) → name ≡ codes "explore" → ((o : ExploreOptions) → HoldsExplore rows o → ⊥) → (o : Options) → HoldsNamed name rows o → ⊥
+no_exploration name rows is none (Explore o) holds = none o holds.held
+no_exploration name rows is none other holds = apart (codes "explore") (name_of other) refl (sym is ∙ holds.named)
 
-dis_is_not_debug : codes "dis" ≡ codes "debug" → ⊥
-dis_is_not_debug same = let second : 105 ≡ 101 = ap (λ (t : List ℕ). slice_index t 1) same in absurd (omega (arith, second))
+pub finds_exploration : (name : Text) (rows : List Row) (r : Result ExploreOptions UsageFault) (found : Result Options UsageFault) → name ≡ codes "explore" → Finds r (HoldsExplore rows)
+    → MatchResult r (λ o. IsOkAnd found (λ given. given ≡ Explore o)) (λ fault. found ≡ Err fault) → Finds found (HoldsNamed name rows)
+finds_exploration name rows r found is = finds_named (HoldsExplore rows) Explore name rows r found (λ o holds. record { named = is; held = holds }) (no_exploration name rows is)
 
-run_is_not_explain : codes "run" ≡ codes "explain" → ⊥
-run_is_not_explain same = let first : 114 ≡ 101 = ap (λ (t : List ℕ). slice_index t 0) same in absurd (omega (arith, first))
+no_assembly : (name : Text) (rows : List Row) → name ≡ codes "asm" → ((o : AssembleOptions) → HoldsAssemble rows o → ⊥) → (o : Options) → HoldsNamed name rows o → ⊥
+no_assembly name rows is none (Assemble o) holds = none o holds.held
+no_assembly name rows is none other holds = apart (codes "asm") (name_of other) refl (sym is ∙ holds.named)
 
-run_is_not_version : codes "run" ≡ codes "version" → ⊥
-run_is_not_version same = let first : 114 ≡ 118 = ap (λ (t : List ℕ). slice_index t 0) same in absurd (omega (arith, first))
+pub finds_assembly : (name : Text) (rows : List Row) (r : Result AssembleOptions UsageFault) (found : Result Options UsageFault) → name ≡ codes "asm" → Finds r (HoldsAssemble rows)
+    → MatchResult r (λ o. IsOkAnd found (λ given. given ≡ Assemble o)) (λ fault. found ≡ Err fault) → Finds found (HoldsNamed name rows)
+finds_assembly name rows r found is = finds_named (HoldsAssemble rows) Assemble name rows r found (λ o holds. record { named = is; held = holds }) (no_assembly name rows is)
 
-asm_is_not_explain : codes "asm" ≡ codes "explain" → ⊥
-asm_is_not_explain same = let first : 97 ≡ 101 = ap (λ (t : List ℕ). slice_index t 0) same in absurd (omega (arith, first))
+no_disassembly : (name : Text) (rows : List Row) → name ≡ codes "dis" → ((o : DisassembleOptions) → HoldsDisassemble rows o → ⊥) → (o : Options) → HoldsNamed name rows o → ⊥
+no_disassembly name rows is none (Disassemble o) holds = none o holds.held
+no_disassembly name rows is none other holds = apart (codes "dis") (name_of other) refl (sym is ∙ holds.named)
 
-asm_is_not_version : codes "asm" ≡ codes "version" → ⊥
-asm_is_not_version same = let first : 97 ≡ 118 = ap (λ (t : List ℕ). slice_index t 0) same in absurd (omega (arith, first))
+pub finds_disassembly : (name : Text) (rows : List Row) (r : Result DisassembleOptions UsageFault) (found : Result Options UsageFault) → name ≡ codes "dis" → Finds r (HoldsDisassemble rows)
+    → MatchResult r (λ o. IsOkAnd found (λ given. given ≡ Disassemble o)) (λ fault. found ≡ Err fault) → Finds found (HoldsNamed name rows)
+finds_disassembly name rows r found is = finds_named (HoldsDisassemble rows) Disassemble name rows r found (λ o holds. record { named = is; held = holds }) (no_disassembly name rows is)
 
-dis_is_not_explain : codes "dis" ≡ codes "explain" → ⊥
-dis_is_not_explain same = let first : 100 ≡ 101 = ap (λ (t : List ℕ). slice_index t 0) same in absurd (omega (arith, first))
+no_debugger : (name : Text) (rows : List Row) → name ≡ codes "debug" → ((o : DebugOptions) → HoldsDebug rows o → ⊥) → (o : Options) → HoldsNamed name rows o → ⊥
+no_debugger name rows is none (Debug o) holds = none o holds.held
+no_debugger name rows is none other holds = apart (codes "debug") (name_of other) refl (sym is ∙ holds.named)
 
-dis_is_not_version : codes "dis" ≡ codes "version" → ⊥
-dis_is_not_version same = let first : 100 ≡ 118 = ap (λ (t : List ℕ). slice_index t 0) same in absurd (omega (arith, first))
+pub finds_debugger : (name : Text) (rows : List Row) (r : Result DebugOptions UsageFault) (found : Result Options UsageFault) → name ≡ codes "debug" → Finds r (HoldsDebug rows)
+    → MatchResult r (λ o. IsOkAnd found (λ given. given ≡ Debug o)) (λ fault. found ≡ Err fault) → Finds found (HoldsNamed name rows)
+finds_debugger name rows r found is = finds_named (HoldsDebug rows) Debug name rows r found (λ o holds. record { named = is; held = holds }) (no_debugger name rows is)
 
-debug_is_not_explain : codes "debug" ≡ codes "explain" → ⊥
-debug_is_not_explain same = let first : 100 ≡ 101 = ap (λ (t : List ℕ). slice_index t 0) same in absurd (omega (arith, first))
+no_explanation : (name : Text) (rows : List Row) → name ≡ codes "explain" → ((o : ExplainOptions) → HoldsExplain rows o → ⊥) → (o : Options) → HoldsNamed name rows o → ⊥
+no_explanation name rows is none (Explain o) holds = none o holds.held
+no_explanation name rows is none other holds = apart (codes "explain") (name_of other) refl (sym is ∙ holds.named)
 
-debug_is_not_version : codes "debug" ≡ codes "version" → ⊥
-debug_is_not_version same = let first : 100 ≡ 118 = ap (λ (t : List ℕ). slice_index t 0) same in absurd (omega (arith, first))
+pub finds_explanation : (name : Text) (rows : List Row) (r : Result ExplainOptions UsageFault) (found : Result Options UsageFault) → name ≡ codes "explain" → Finds r (HoldsExplain rows)
+    → MatchResult r (λ o. IsOkAnd found (λ given. given ≡ Explain o)) (λ fault. found ≡ Err fault) → Finds found (HoldsNamed name rows)
+finds_explanation name rows r found is = finds_named (HoldsExplain rows) Explain name rows r found (λ o holds. record { named = is; held = holds }) (no_explanation name rows is)
 
-explain_is_not_version : codes "explain" ≡ codes "version" → ⊥
-explain_is_not_version same = let first : 101 ≡ 118 = ap (λ (t : List ℕ). slice_index t 0) same in absurd (omega (arith, first))
-
-run_is_not_replay : codes "run" ≡ codes "replay" → ⊥
-run_is_not_replay same = let second : 117 ≡ 101 = ap (λ (t : List ℕ). slice_index t 1) same in absurd (omega (arith, second))
-
-replay_is_not_asm : codes "replay" ≡ codes "asm" → ⊥
-replay_is_not_asm same = let first : 114 ≡ 97 = ap (λ (t : List ℕ). slice_index t 0) same in absurd (omega (arith, first))
-
-replay_is_not_dis : codes "replay" ≡ codes "dis" → ⊥
-replay_is_not_dis same = let first : 114 ≡ 100 = ap (λ (t : List ℕ). slice_index t 0) same in absurd (omega (arith, first))
-
-replay_is_not_debug : codes "replay" ≡ codes "debug" → ⊥
-replay_is_not_debug same = let first : 114 ≡ 100 = ap (λ (t : List ℕ). slice_index t 0) same in absurd (omega (arith, first))
-
-replay_is_not_explain : codes "replay" ≡ codes "explain" → ⊥
-replay_is_not_explain same = let first : 114 ≡ 101 = ap (λ (t : List ℕ). slice_index t 0) same in absurd (omega (arith, first))
-
-replay_is_not_version : codes "replay" ≡ codes "version" → ⊥
-replay_is_not_version same = let first : 114 ≡ 118 = ap (λ (t : List ℕ). slice_index t 0) same in absurd (omega (arith, first))
-
-run_is_not_explore : codes "run" ≡ codes "explore" → ⊥
-run_is_not_explore same = let first : 114 ≡ 101 = ap (λ (t : List ℕ). slice_index t 0) same in absurd (omega (arith, first))
-
-replay_is_not_explore : codes "replay" ≡ codes "explore" → ⊥
-replay_is_not_explore same = let first : 114 ≡ 101 = ap (λ (t : List ℕ). slice_index t 0) same in absurd (omega (arith, first))
-
-asm_is_not_explore : codes "asm" ≡ codes "explore" → ⊥
-asm_is_not_explore same = let first : 97 ≡ 101 = ap (λ (t : List ℕ). slice_index t 0) same in absurd (omega (arith, first))
-
-dis_is_not_explore : codes "dis" ≡ codes "explore" → ⊥
-dis_is_not_explore same = let first : 100 ≡ 101 = ap (λ (t : List ℕ). slice_index t 0) same in absurd (omega (arith, first))
-
-debug_is_not_explore : codes "debug" ≡ codes "explore" → ⊥
-debug_is_not_explore same = let first : 100 ≡ 101 = ap (λ (t : List ℕ). slice_index t 0) same in absurd (omega (arith, first))
-
-version_is_not_explore : codes "version" ≡ codes "explore" → ⊥
-version_is_not_explore same = let first : 118 ≡ 101 = ap (λ (t : List ℕ). slice_index t 0) same in absurd (omega (arith, first))
-
-explore_is_not_explain : codes "explore" ≡ codes "explain" → ⊥
-explore_is_not_explain same = let fifth : 111 ≡ 97 = ap (λ (t : List ℕ). slice_index t 4) same in absurd (omega (arith, fifth))
-
-no_run : (s : Option Subcommand) (rows : List Row) → s ≡ Some (codes "run", rows) → ((o : RunOptions) → HoldsRun rows o → ⊥) → (o : Options) → Holds s o → ⊥
-no_run s rows is none (Run o) holds = none o (subst (λ (x : List Row). HoldsRun x o) (same_rows s _ _ is holds.1) holds.2)
-no_run s rows is none (Replay o) holds = run_is_not_replay (same_name s _ _ is holds.1)
-no_run s rows is none (Explore o) holds = run_is_not_explore (same_name s _ _ is holds.1)
-no_run s rows is none (Assemble o) holds = run_is_not_asm (same_name s _ _ is holds.1)
-no_run s rows is none (Disassemble o) holds = run_is_not_dis (same_name s _ _ is holds.1)
-no_run s rows is none (Debug o) holds = run_is_not_debug (same_name s _ _ is holds.1)
-no_run s rows is none (Explain o) holds = run_is_not_explain (same_name s _ _ is holds.1)
-no_run s rows is none Version holds = run_is_not_version (same_name s _ _ is holds.1)
-
-no_replay : (s : Option Subcommand) (rows : List Row) → s ≡ Some (codes "replay", rows) → ((o : ReplayOptions) → HoldsReplay rows o → ⊥) → (o : Options) → Holds s o → ⊥
-no_replay s rows is none (Run o) holds = run_is_not_replay (same_name s _ _ holds.1 is)
-no_replay s rows is none (Replay o) holds = none o (subst (λ (x : List Row). HoldsReplay x o) (same_rows s _ _ is holds.1) holds.2)
-no_replay s rows is none (Explore o) holds = replay_is_not_explore (same_name s _ _ is holds.1)
-no_replay s rows is none (Assemble o) holds = replay_is_not_asm (same_name s _ _ is holds.1)
-no_replay s rows is none (Disassemble o) holds = replay_is_not_dis (same_name s _ _ is holds.1)
-no_replay s rows is none (Debug o) holds = replay_is_not_debug (same_name s _ _ is holds.1)
-no_replay s rows is none (Explain o) holds = replay_is_not_explain (same_name s _ _ is holds.1)
-no_replay s rows is none Version holds = replay_is_not_version (same_name s _ _ is holds.1)
-
-no_exploration : (s : Option Subcommand) (rows : List Row) → s ≡ Some (codes "explore", rows) → ((o : ExploreOptions) → HoldsExplore rows o → ⊥) → (o : Options) → Holds s o → ⊥
-no_exploration s rows is none (Run o) holds = run_is_not_explore (same_name s _ _ holds.1 is)
-no_exploration s rows is none (Replay o) holds = replay_is_not_explore (same_name s _ _ holds.1 is)
-no_exploration s rows is none (Explore o) holds = none o (subst (λ (x : List Row). HoldsExplore x o) (same_rows s _ _ is holds.1) holds.2)
-no_exploration s rows is none (Assemble o) holds = asm_is_not_explore (same_name s _ _ holds.1 is)
-no_exploration s rows is none (Disassemble o) holds = dis_is_not_explore (same_name s _ _ holds.1 is)
-no_exploration s rows is none (Debug o) holds = debug_is_not_explore (same_name s _ _ holds.1 is)
-no_exploration s rows is none (Explain o) holds = explore_is_not_explain (same_name s _ _ is holds.1)
-no_exploration s rows is none Version holds = version_is_not_explore (same_name s _ _ holds.1 is)
-
-no_assembly : (s : Option Subcommand) (rows : List Row) → s ≡ Some (codes "asm", rows) → ((o : AssembleOptions) → HoldsAssemble rows o → ⊥) → (o : Options) → Holds s o → ⊥
-no_assembly s rows is none (Run o) holds = run_is_not_asm (same_name s _ _ holds.1 is)
-no_assembly s rows is none (Replay o) holds = replay_is_not_asm (same_name s _ _ holds.1 is)
-no_assembly s rows is none (Explore o) holds = asm_is_not_explore (same_name s _ _ is holds.1)
-no_assembly s rows is none (Assemble o) holds = none o (subst (λ (x : List Row). HoldsAssemble x o) (same_rows s _ _ is holds.1) holds.2)
-no_assembly s rows is none (Disassemble o) holds = asm_is_not_dis (same_name s _ _ is holds.1)
-no_assembly s rows is none (Debug o) holds = asm_is_not_debug (same_name s _ _ is holds.1)
-no_assembly s rows is none (Explain o) holds = asm_is_not_explain (same_name s _ _ is holds.1)
-no_assembly s rows is none Version holds = asm_is_not_version (same_name s _ _ is holds.1)
-
-no_disassembly : (s : Option Subcommand) (rows : List Row) → s ≡ Some (codes "dis", rows) → ((o : DisassembleOptions) → HoldsDisassemble rows o → ⊥) → (o : Options) → Holds s o → ⊥
-no_disassembly s rows is none (Run o) holds = run_is_not_dis (same_name s _ _ holds.1 is)
-no_disassembly s rows is none (Replay o) holds = replay_is_not_dis (same_name s _ _ holds.1 is)
-no_disassembly s rows is none (Explore o) holds = dis_is_not_explore (same_name s _ _ is holds.1)
-no_disassembly s rows is none (Assemble o) holds = asm_is_not_dis (same_name s _ _ holds.1 is)
-no_disassembly s rows is none (Disassemble o) holds = none o (subst (λ (x : List Row). HoldsDisassemble x o) (same_rows s _ _ is holds.1) holds.2)
-no_disassembly s rows is none (Debug o) holds = dis_is_not_debug (same_name s _ _ is holds.1)
-no_disassembly s rows is none (Explain o) holds = dis_is_not_explain (same_name s _ _ is holds.1)
-no_disassembly s rows is none Version holds = dis_is_not_version (same_name s _ _ is holds.1)
-
-no_debugger : (s : Option Subcommand) (rows : List Row) → s ≡ Some (codes "debug", rows) → ((o : DebugOptions) → HoldsDebug rows o → ⊥) → (o : Options) → Holds s o → ⊥
-no_debugger s rows is none (Run o) holds = run_is_not_debug (same_name s _ _ holds.1 is)
-no_debugger s rows is none (Replay o) holds = replay_is_not_debug (same_name s _ _ holds.1 is)
-no_debugger s rows is none (Explore o) holds = debug_is_not_explore (same_name s _ _ is holds.1)
-no_debugger s rows is none (Assemble o) holds = asm_is_not_debug (same_name s _ _ holds.1 is)
-no_debugger s rows is none (Disassemble o) holds = dis_is_not_debug (same_name s _ _ holds.1 is)
-no_debugger s rows is none (Debug o) holds = none o (subst (λ (x : List Row). HoldsDebug x o) (same_rows s _ _ is holds.1) holds.2)
-no_debugger s rows is none (Explain o) holds = debug_is_not_explain (same_name s _ _ is holds.1)
-no_debugger s rows is none Version holds = debug_is_not_version (same_name s _ _ is holds.1)
-
-no_explanation : (s : Option Subcommand) (rows : List Row) → s ≡ Some (codes "explain", rows) → ((o : ExplainOptions) → HoldsExplain rows o → ⊥) → (o : Options) → Holds s o → ⊥
-no_explanation s rows is none (Run o) holds = run_is_not_explain (same_name s _ _ holds.1 is)
-no_explanation s rows is none (Replay o) holds = replay_is_not_explain (same_name s _ _ holds.1 is)
-no_explanation s rows is none (Explore o) holds = explore_is_not_explain (same_name s _ _ holds.1 is)
-no_explanation s rows is none (Assemble o) holds = asm_is_not_explain (same_name s _ _ holds.1 is)
-no_explanation s rows is none (Disassemble o) holds = dis_is_not_explain (same_name s _ _ holds.1 is)
-no_explanation s rows is none (Debug o) holds = debug_is_not_explain (same_name s _ _ holds.1 is)
-no_explanation s rows is none (Explain o) holds = none o (subst (λ (x : List Row). HoldsExplain x o) (same_rows s _ _ is holds.1) holds.2)
-no_explanation s rows is none Version holds = explain_is_not_version (same_name s _ _ is holds.1)
-
--- what a run, a replay, an exploration, an assembly, a disassembly, a debugger's command or an explanation finds is what the subcommand finds
-pub finds_run : (s : Option Subcommand) (rows : List Row) (r : Result RunOptions UsageFault) (found : Result Options UsageFault) → s ≡ Some (codes "run", rows) → FindsRun rows r
-    → MatchResult r (λ o. IsOkAnd found (λ given. given ≡ Run o)) (λ fault. found ≡ Err fault) → Finds s found
-finds_run s rows (Ok o) (Ok given) is holds same = rw same (rows, is, holds)
-finds_run s rows (Ok o) (Err fault) is holds same = absurd same
-finds_run s rows (Err (Usage text)) found is none same = rw same (no_run s rows is none)
-finds_run s rows (Err OutOfMemory) found is none same = rw same tt
-
-pub finds_replay : (s : Option Subcommand) (rows : List Row) (r : Result ReplayOptions UsageFault) (found : Result Options UsageFault) → s ≡ Some (codes "replay", rows) → FindsReplay rows r
-    → MatchResult r (λ o. IsOkAnd found (λ given. given ≡ Replay o)) (λ fault. found ≡ Err fault) → Finds s found
-finds_replay s rows (Ok o) (Ok given) is holds same = rw same (rows, is, holds)
-finds_replay s rows (Ok o) (Err fault) is holds same = absurd same
-finds_replay s rows (Err (Usage text)) found is none same = rw same (no_replay s rows is none)
-finds_replay s rows (Err OutOfMemory) found is none same = rw same tt
-
-pub finds_exploration : (s : Option Subcommand) (rows : List Row) (r : Result ExploreOptions UsageFault) (found : Result Options UsageFault) → s ≡ Some (codes "explore", rows) → FindsExplore rows r
-    → MatchResult r (λ o. IsOkAnd found (λ given. given ≡ Explore o)) (λ fault. found ≡ Err fault) → Finds s found
-finds_exploration s rows (Ok o) (Ok given) is holds same = rw same (rows, is, holds)
-finds_exploration s rows (Ok o) (Err fault) is holds same = absurd same
-finds_exploration s rows (Err (Usage text)) found is none same = rw same (no_exploration s rows is none)
-finds_exploration s rows (Err OutOfMemory) found is none same = rw same tt
-
-pub finds_assembly : (s : Option Subcommand) (rows : List Row) (r : Result AssembleOptions UsageFault) (found : Result Options UsageFault) → s ≡ Some (codes "asm", rows) → FindsAssemble rows r
-    → MatchResult r (λ o. IsOkAnd found (λ given. given ≡ Assemble o)) (λ fault. found ≡ Err fault) → Finds s found
-finds_assembly s rows (Ok o) (Ok given) is holds same = rw same (rows, is, holds)
-finds_assembly s rows (Ok o) (Err fault) is holds same = absurd same
-finds_assembly s rows (Err (Usage text)) found is none same = rw same (no_assembly s rows is none)
-finds_assembly s rows (Err OutOfMemory) found is none same = rw same tt
-
-pub finds_disassembly : (s : Option Subcommand) (rows : List Row) (r : Result DisassembleOptions UsageFault) (found : Result Options UsageFault) → s ≡ Some (codes "dis", rows) → FindsDisassemble rows r
-    → MatchResult r (λ o. IsOkAnd found (λ given. given ≡ Disassemble o)) (λ fault. found ≡ Err fault) → Finds s found
-finds_disassembly s rows (Ok o) (Ok given) is holds same = rw same (rows, is, holds)
-finds_disassembly s rows (Ok o) (Err fault) is holds same = absurd same
-finds_disassembly s rows (Err (Usage text)) found is none same = rw same (no_disassembly s rows is none)
-finds_disassembly s rows (Err OutOfMemory) found is none same = rw same tt
-
-pub finds_debugger : (s : Option Subcommand) (rows : List Row) (r : Result DebugOptions UsageFault) (found : Result Options UsageFault) → s ≡ Some (codes "debug", rows) → FindsDebug rows r
-    → MatchResult r (λ o. IsOkAnd found (λ given. given ≡ Debug o)) (λ fault. found ≡ Err fault) → Finds s found
-finds_debugger s rows (Ok o) (Ok given) is holds same = rw same (rows, is, holds)
-finds_debugger s rows (Ok o) (Err fault) is holds same = absurd same
-finds_debugger s rows (Err (Usage text)) found is none same = rw same (no_debugger s rows is none)
-finds_debugger s rows (Err OutOfMemory) found is none same = rw same tt
-
-pub finds_explanation : (s : Option Subcommand) (rows : List Row) (r : Result ExplainOptions UsageFault) (found : Result Options UsageFault) → s ≡ Some (codes "explain", rows) → FindsExplain rows r
-    → MatchResult r (λ o. IsOkAnd found (λ given. given ≡ Explain o)) (λ fault. found ≡ Err fault) → Finds s found
-finds_explanation s rows (Ok o) (Ok given) is holds same = rw same (rows, is, holds)
-finds_explanation s rows (Ok o) (Err fault) is holds same = absurd same
-finds_explanation s rows (Err (Usage text)) found is none same = rw same (no_explanation s rows is none)
-finds_explanation s rows (Err OutOfMemory) found is none same = rw same tt
-
--- the subcommand of a name, where it is looked for alone
-pub subcommand_there : (m : ArgMatches) (name : Text) → subcommand_name_of m ≡ Some name → (rows : List Row) × (subcommand_rows_of m ≡ Some (name, rows))
-subcommand_there m name named = pair_there (subcommand_rows_of m) name (sym (name_of_rows m) ∙ named)
+pub other_name : (name : Text) (rows : List Row) → (name ≡ codes "run" → ⊥) → (name ≡ codes "replay" → ⊥) → (name ≡ codes "explore" → ⊥) → (name ≡ codes "asm" → ⊥)
+    → (name ≡ codes "dis" → ⊥) → (name ≡ codes "debug" → ⊥) → (name ≡ codes "explain" → ⊥) → (name ≡ codes "version" → ⊥)
+    → (o : Options) → HoldsNamed name rows o → ⊥
+other_name name rows run replay explore asm dis debug explain version (Run o) holds = run holds.named
+other_name name rows run replay explore asm dis debug explain version (Replay o) holds = replay holds.named
+other_name name rows run replay explore asm dis debug explain version (Explore o) holds = explore holds.named
+other_name name rows run replay explore asm dis debug explain version (Assemble o) holds = asm holds.named
+other_name name rows run replay explore asm dis debug explain version (Disassemble o) holds = dis holds.named
+other_name name rows run replay explore asm dis debug explain version (Debug o) holds = debug holds.named
+other_name name rows run replay explore asm dis debug explain version (Explain o) holds = explain holds.named
+other_name name rows run replay explore asm dis debug explain version Version holds = version holds.named
 
 -- ---- the words
 
-pub answered : (words : List Text) (r : Result Options UsageFault) → fault_of jm words ≡ [] → Finds (subcommand_of jm words) r → Answers words r
+pub answered : (words : List Text) (r : Result Options UsageFault) → fault_of jm words ≡ [] → Finds r (Holds (subcommand_of jm words)) → Answers words r
 answered words (Ok o) taken found = record { taken = taken; held = found }
 answered words (Err (Usage text)) taken none = λ o asks. none o asks.held
 answered words (Err OutOfMemory) taken none = tt

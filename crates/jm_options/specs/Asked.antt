@@ -13,6 +13,7 @@ use Rattle.jm_options.specs.declared.request.Stress.{Stress}
 use Rattle.jm_options.specs.declared.request.Stress.TheVariants.{Minor, Full}
 use Rattle.jm_options.specs.declared.request.ReplayOptions.{ReplayOptions}
 use Rattle.jm_options.specs.declared.request.ExploreOptions.{ExploreOptions}
+use Rattle.jm_options.specs.declared.request.SerialRun.{SerialRun}
 use Rattle.jm_options.specs.declared.request.AssembleOptions.{AssembleOptions}
 use Rattle.jm_options.specs.declared.request.DisassembleOptions.{DisassembleOptions}
 use Rattle.jm_options.specs.declared.request.DebugOptions.{DebugOptions}
@@ -37,10 +38,24 @@ pub record HoldsNumber (name : Text) (low high : ℕ) (matches : List Row) (n : 
   pub at_least : low ≤ n
   pub at_most : n ≤ high
 
+-- they hold no number of this name, and none is asked for; or they hold the one that is asked for, within the limits
+abbrev pub MayHoldNumber : Text → ℕ → ℕ → List Row → Option ℕ → Type 0
+MayHoldNumber name low high matches None = first_of name matches ≡ None
+MayHoldNumber name low high matches (Some n) = HoldsNumber name low high matches n
+
 -- a flag is set where its text says so: `true` for one that was given, and `false` for another
 abbrev pub is_set : Option Text → Bool
 is_set None = false
 is_set (Some text) = bytes_eq text (codes "true")
+
+-- the options are what the matches say of a run by one worker, within the limits and with so many steps at most
+pub record HoldsSerialRun (most : ℕ) (matches : List Row) (o : SerialRun) : Type 0 where
+  pub heap : HoldsNumber (codes "heap") 16 16777216 matches o.heap
+  pub copiers : HoldsNumber (codes "copiers") 1 16 matches o.copiers
+  pub schedule : first_of (codes "schedule") matches ≡ option_map string_bytes o.schedule
+  pub steps : HoldsNumber (codes "steps") 1 most matches o.steps
+  pub quantum : HoldsNumber (codes "quantum") 1 1000000 matches o.quantum
+  pub files : all_of (codes "file") matches ≡ Some (map string_bytes o.files.items)
 
 -- the word for a kind of collection
 abbrev pub stress_word : Stress → Text
@@ -52,18 +67,17 @@ abbrev pub HoldsStress : List Row → ℕ → Option Stress → Type 0
 HoldsStress matches workers None = first_of (codes "stress") matches ≡ None
 HoldsStress matches workers (Some kind) = (first_of (codes "stress") matches ≡ Some (stress_word kind)) × (workers ≡ 1)
 
+-- what a run is given for one worker
+abbrev pub serial_of : RunOptions → SerialRun
+serial_of o = record { heap = o.heap; copiers = o.copiers; schedule = o.schedule; steps = o.steps; quantum = o.quantum; files = o.files }
+
 -- the options are what the matches of a run hold, and within the limits
 pub record HoldsRun (matches : List Row) (o : RunOptions) : Type 0 where
-  pub heap : HoldsNumber (codes "heap") 16 16777216 matches o.heap
-  pub copiers : HoldsNumber (codes "copiers") 1 16 matches o.copiers
-  pub schedule : first_of (codes "schedule") matches ≡ option_map string_bytes o.schedule
-  pub steps : HoldsNumber (codes "steps") 1 10000000 matches o.steps
-  pub quantum : HoldsNumber (codes "quantum") 1 1000000 matches o.quantum
+  pub serial : HoldsSerialRun 10000000 matches (serial_of o)
   pub workers : HoldsNumber (codes "workers") 1 16 matches o.workers
   pub stress : HoldsStress matches o.workers o.stress
   pub record_file : first_of (codes "record") matches ≡ option_map string_bytes o.record_file
   pub show_heap : o.show_heap ≡ is_set (first_of (codes "show-heap") matches)
-  pub files : all_of (codes "file") matches ≡ Some (map string_bytes o.files.items)
 
 -- the options are what the matches of a replay hold, and within the limits
 pub record HoldsReplay (matches : List Row) (o : ReplayOptions) : Type 0 where
@@ -73,18 +87,13 @@ pub record HoldsReplay (matches : List Row) (o : ReplayOptions) : Type 0 where
   pub record_file : first_of (codes "recorded") matches ≡ Some (string_bytes o.record_file)
   pub files : all_of (codes "file") matches ≡ Some (map string_bytes o.files.items)
 
--- they hold no number of an outcome, and none is asked for; or they hold the one that is asked for, within the limits
-abbrev pub HoldsOutcome : List Row → Option ℕ → Type 0
-HoldsOutcome matches None = first_of (codes "outcome") matches ≡ None
-HoldsOutcome matches (Some n) = HoldsNumber (codes "outcome") 1 100000000 matches n
-
 -- the options are what the matches of an exploration hold, and within the limits
 pub record HoldsExplore (matches : List Row) (o : ExploreOptions) : Type 0 where
   pub switches : HoldsNumber (codes "switches") 0 16 matches o.switches
   pub steps : HoldsNumber (codes "steps") 1 1000000 matches o.steps
   pub runs : HoldsNumber (codes "runs") 1 100000000 matches o.runs
   pub slice : HoldsNumber (codes "slice") 1 1000000 matches o.slice
-  pub outcome : HoldsOutcome matches o.outcome
+  pub outcome : MayHoldNumber (codes "outcome") 1 100000000 matches o.outcome
   pub heap : HoldsNumber (codes "heap") 16 16777216 matches o.heap
   pub files : all_of (codes "file") matches ≡ Some (map string_bytes o.files.items)
 
@@ -120,79 +129,54 @@ HoldsAsked matches (Some i) = HoldsEntry matches i
 pub record HoldsExplain (matches : List Row) (o : ExplainOptions) : Type 0 where
   pub asked : HoldsAsked matches (option_map item o.entry)
 
+-- the name of the subcommand that asks for such options
+abbrev pub name_of : Options → Text
+name_of (Run o) = codes "run"
+name_of (Replay o) = codes "replay"
+name_of (Explore o) = codes "explore"
+name_of (Assemble o) = codes "asm"
+name_of (Disassemble o) = codes "dis"
+name_of (Debug o) = codes "debug"
+name_of (Explain o) = codes "explain"
+name_of Version = codes "version"
+
+-- the options are what the matches of their subcommand hold
+abbrev pub HoldsOptions : List Row → Options → Type 0
+HoldsOptions matches (Run o) = HoldsRun matches o
+HoldsOptions matches (Replay o) = HoldsReplay matches o
+HoldsOptions matches (Explore o) = HoldsExplore matches o
+HoldsOptions matches (Assemble o) = HoldsAssemble matches o
+HoldsOptions matches (Disassemble o) = HoldsDisassemble matches o
+HoldsOptions matches (Debug o) = HoldsDebug matches o
+HoldsOptions matches (Explain o) = HoldsExplain matches o
+HoldsOptions matches Version = ⊤
+
+-- the options are what the subcommand of this name and its matches hold
+pub record HoldsNamed (name : Text) (matches : List Row) (o : Options) : Type 0 where
+  pub named : name ≡ name_of o
+  pub held : HoldsOptions matches o
+
 -- the options are what the subcommand and its matches hold
-abbrev pub Holds : Option Subcommand → Options → Type 0
-Holds s (Run o) = (matches : List Row) × (s ≡ Some (codes "run", matches)) × HoldsRun matches o
-Holds s (Replay o) = (matches : List Row) × (s ≡ Some (codes "replay", matches)) × HoldsReplay matches o
-Holds s (Explore o) = (matches : List Row) × (s ≡ Some (codes "explore", matches)) × HoldsExplore matches o
-Holds s (Assemble o) = (matches : List Row) × (s ≡ Some (codes "asm", matches)) × HoldsAssemble matches o
-Holds s (Disassemble o) = (matches : List Row) × (s ≡ Some (codes "dis", matches)) × HoldsDisassemble matches o
-Holds s (Debug o) = (matches : List Row) × (s ≡ Some (codes "debug", matches)) × HoldsDebug matches o
-Holds s (Explain o) = (matches : List Row) × (s ≡ Some (codes "explain", matches)) × HoldsExplain matches o
-Holds s Version = (matches : List Row) × (s ≡ Some (codes "version", matches))
+pub record Holds (s : Option Subcommand) (o : Options) : Type 0 where
+  pub used : Subcommand
+  pub met : s ≡ Some used
+  pub named : HoldsNamed used.0 used.1 o
 
 -- the words, of which the first is the program's name, are without a fault and ask for these options
 pub record Asks (words : List Text) (o : Options) : Type 0 where
   pub taken : fault_of jm words ≡ []
   pub held : Holds (subcommand_of jm words) o
 
--- An answer to words: the options that they ask for, or that they ask for none. That memory was
--- refused says nothing of the words.
+-- What is found for a request: one that is held so, or that none is. That memory was refused says
+-- nothing of it.
+abbrev pub Finds : {A : Type 0} → Result A UsageFault → (A → Type 0) → Type 0
+Finds {A} (Ok o) IsHeld = IsHeld o
+Finds {A} (Err (Usage text)) IsHeld = (o : A) → ¬ (IsHeld o)
+Finds {A} (Err OutOfMemory) IsHeld = ⊤
+
+-- An answer to words: the options that they ask for, or that they ask for none.
 abbrev pub Answers : List Text → Result Options UsageFault → Type 0
-Answers words (Ok o) = Asks words o
-Answers words (Err (Usage text)) = (o : Options) → ¬ (Asks words o)
-Answers words (Err OutOfMemory) = ⊤
-
--- the same of a subcommand, and of the matches of a run and the collections between its events, of a replay, of an exploration and the number of its outcome, of an assembly, of a disassembly, of a debugger's command and of an explanation
-abbrev pub Finds : Option Subcommand → Result Options UsageFault → Type 0
-Finds s (Ok o) = Holds s o
-Finds s (Err (Usage text)) = (o : Options) → ¬ (Holds s o)
-Finds s (Err OutOfMemory) = ⊤
-
-abbrev pub FindsRun : List Row → Result RunOptions UsageFault → Type 0
-FindsRun matches (Ok o) = HoldsRun matches o
-FindsRun matches (Err (Usage text)) = (o : RunOptions) → ¬ (HoldsRun matches o)
-FindsRun matches (Err OutOfMemory) = ⊤
-
-abbrev pub FindsStress : List Row → ℕ → Result (Option Stress) UsageFault → Type 0
-FindsStress matches workers (Ok o) = HoldsStress matches workers o
-FindsStress matches workers (Err (Usage text)) = (o : Option Stress) → ¬ (HoldsStress matches workers o)
-FindsStress matches workers (Err OutOfMemory) = ⊤
-
-abbrev pub FindsReplay : List Row → Result ReplayOptions UsageFault → Type 0
-FindsReplay matches (Ok o) = HoldsReplay matches o
-FindsReplay matches (Err (Usage text)) = (o : ReplayOptions) → ¬ (HoldsReplay matches o)
-FindsReplay matches (Err OutOfMemory) = ⊤
-
-abbrev pub FindsOutcome : List Row → Result (Option ℕ) UsageFault → Type 0
-FindsOutcome matches (Ok o) = HoldsOutcome matches o
-FindsOutcome matches (Err (Usage text)) = (o : Option ℕ) → ¬ (HoldsOutcome matches o)
-FindsOutcome matches (Err OutOfMemory) = ⊤
-
-abbrev pub FindsExplore : List Row → Result ExploreOptions UsageFault → Type 0
-FindsExplore matches (Ok o) = HoldsExplore matches o
-FindsExplore matches (Err (Usage text)) = (o : ExploreOptions) → ¬ (HoldsExplore matches o)
-FindsExplore matches (Err OutOfMemory) = ⊤
-
-abbrev pub FindsAssemble : List Row → Result AssembleOptions UsageFault → Type 0
-FindsAssemble matches (Ok o) = HoldsAssemble matches o
-FindsAssemble matches (Err (Usage text)) = (o : AssembleOptions) → ¬ (HoldsAssemble matches o)
-FindsAssemble matches (Err OutOfMemory) = ⊤
-
-abbrev pub FindsDisassemble : List Row → Result DisassembleOptions UsageFault → Type 0
-FindsDisassemble matches (Ok o) = HoldsDisassemble matches o
-FindsDisassemble matches (Err (Usage text)) = (o : DisassembleOptions) → ¬ (HoldsDisassemble matches o)
-FindsDisassemble matches (Err OutOfMemory) = ⊤
-
-abbrev pub FindsDebug : List Row → Result DebugOptions UsageFault → Type 0
-FindsDebug matches (Ok o) = HoldsDebug matches o
-FindsDebug matches (Err (Usage text)) = (o : DebugOptions) → ¬ (HoldsDebug matches o)
-FindsDebug matches (Err OutOfMemory) = ⊤
-
-abbrev pub FindsExplain : List Row → Result ExplainOptions UsageFault → Type 0
-FindsExplain matches (Ok o) = HoldsExplain matches o
-FindsExplain matches (Err (Usage text)) = (o : ExplainOptions) → ¬ (HoldsExplain matches o)
-FindsExplain matches (Err OutOfMemory) = ⊤
+Answers words answer = Finds answer (Asks words)
 
 -- the status that the program ends with
 abbrev pub status_of : UsageFault → ℕ

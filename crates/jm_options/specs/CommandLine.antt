@@ -72,13 +72,13 @@ show_heap_argument = record (new_rule (codes "show-heap")) { long = Some (codes 
 abbrev pub file_argument : Rule
 file_argument = record (new_rule (codes "file")) { value_names = 1; required = true; action = Some Append }
 
--- what says which heap a run has, and which events it makes
-abbrev pub turns_options : App
-turns_options = with_rule (with_rule (with_rule (with_rule (with_rule (new_app (codes "run")) heap_argument) copiers_argument) schedule_argument) steps_argument) quantum_argument
+-- [--heap N] [--copiers N] [--schedule FILE] [--steps N] [--quantum N], which say what heap a run by one worker has and which events it makes
+abbrev pub with_turns : Rule → App → App
+with_turns steps a = with_rule (with_rule (with_rule (with_rule (with_rule a heap_argument) copiers_argument) schedule_argument) steps) quantum_argument
 
 -- the options of run
 abbrev pub run_options : App
-run_options = with_rule (with_rule (with_rule (with_rule turns_options workers_argument) stress_argument) record_argument) show_heap_argument
+run_options = with_rule (with_rule (with_rule (with_rule (with_turns steps_argument (new_app (codes "run"))) workers_argument) stress_argument) record_argument) show_heap_argument
 
 -- run [--heap N] [--copiers N] [--schedule FILE] [--steps N] [--quantum N] [--workers N] [--stress minor|full] [--record FILE] [--show-heap] FILE..
 abbrev pub run_command : App

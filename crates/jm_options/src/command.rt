@@ -1,11 +1,18 @@
 // The command line as `clap` reads it.
 
 ghost use Rattle.std.specs.Prelude.{◌≡◌, false, IfOk};
-ghost use Rattle.clap.specs.Words.{App, Rule, rule_of, with_rule, with_subcommand};
-ghost use Rattle.jm_options.specs.CommandLine.{heap_argument, copiers_argument, schedule_argument, steps_argument, quantum_argument, workers_argument, stress_argument, record_argument, show_heap_argument, file_argument, run_command, recorded_argument, replay_command, switches_argument, schedule_steps_argument, runs_argument, slice_argument, outcome_argument, explore_command, input_argument, output_argument, assemble_command, bare_argument, class_argument, disassemble_command, debug_command, number_argument, explain_command, version_command, top_command, jm, IsSeenAs};
+ghost use Rattle.clap.specs.Words.{App, Rule, new_app, rule_of, with_rule, with_subcommand};
+ghost use Rattle.jm_options.specs.CommandLine.{with_turns, heap_argument, copiers_argument, schedule_argument, steps_argument, quantum_argument, workers_argument, stress_argument, record_argument, show_heap_argument, file_argument, run_command, recorded_argument, replay_command, switches_argument, schedule_steps_argument, runs_argument, slice_argument, outcome_argument, explore_command, input_argument, output_argument, assemble_command, bare_argument, class_argument, disassemble_command, debug_command, number_argument, explain_command, version_command, top_command, jm, IsSeenAs};
 
 use clap::{Arg, ArgAction, Command, value_parser};
 use std::alloc::{AllocError, Global};
+
+// A command of this name, with what it is about and what the help says behind its options.
+fn new_command<'a>(alloc: Global, name: &'a str, about: &'a str, more: &'a str) -> Command<'a>
+    ensures { IsSeenAs result (new_app name.entry.now) }
+{
+    Command::new(alloc, name).about(about).after_help(more)
+}
 
 // A command with one argument more, if there is a command.
 fn with_argument<'a>(
@@ -93,6 +100,23 @@ fn quantum_argument<'a>(alloc: Global) -> Arg<'a>
         .help("Most events of a thread's turn, from 1 to 1000000; no effect beside a schedule")
 }
 
+// A command with the arguments that say what heap a run by one worker has, and which events it makes,
+// of which `steps` says how many they are at most.
+fn with_turns<'a>(
+    alloc: Global,
+    command: Result<Command<'a>, AllocError>,
+    steps: Arg<'a>,
+) -> Result<Command<'a>, AllocError>
+    ensures { (app : App) (rule : Rule) → IfOk command.entry (λ c. IsSeenAs c app) → rule_of steps.entry ≡ rule
+        → steps.entry.global ≡ false → IfOk result (λ c. IsSeenAs c (with_turns rule app)) }
+{
+    let command = with_argument(command, heap_argument(alloc));
+    let command = with_argument(command, copiers_argument(alloc));
+    let command = with_argument(command, schedule_argument(alloc));
+    let command = with_argument(command, steps);
+    with_argument(command, quantum_argument(alloc))
+}
+
 fn workers_argument<'a>(alloc: Global) -> Arg<'a>
     ensures rule { rule_of result ≡ workers_argument }
     ensures local { result.global ≡ false }
@@ -153,16 +177,13 @@ fn file_argument<'a>(alloc: Global) -> Arg<'a>
 fn run_command<'a>(alloc: Global) -> Result<Command<'a>, AllocError>
     ensures { IfOk result (λ c. IsSeenAs c run_command) }
 {
-    let run = Command::new(alloc, "run")
-        .about("Run a program: its threads take turns, or a schedule says which events are made")
-        .after_help(
-            "Example: jm run Main.class Other.class\n\nClass files come from `javac --release 8`. What a number means says `jm explain N`.",
-        );
-    let run = with_argument(Ok(run), heap_argument(alloc));
-    let run = with_argument(run, copiers_argument(alloc));
-    let run = with_argument(run, schedule_argument(alloc));
-    let run = with_argument(run, steps_argument(alloc));
-    let run = with_argument(run, quantum_argument(alloc));
+    let run = new_command(
+        alloc,
+        "run",
+        "Run a program: its threads take turns, or a schedule says which events are made",
+        "Example: jm run Main.class Other.class\n\nClass files come from `javac --release 8`. What a number means says `jm explain N`.",
+    );
+    let run = with_turns(alloc, Ok(run), steps_argument(alloc));
     let run = with_argument(run, workers_argument(alloc));
     let run = with_argument(run, stress_argument(alloc));
     let run = with_argument(run, record_argument(alloc));
@@ -183,11 +204,12 @@ fn recorded_argument<'a>(alloc: Global) -> Arg<'a>
 fn replay_command<'a>(alloc: Global) -> Result<Command<'a>, AllocError>
     ensures { IfOk result (λ c. IsSeenAs c replay_command) }
 {
-    let replay = Command::new(alloc, "replay")
-        .about("Run a program again by the events of a record, and compare how each is answered")
-        .after_help(
-            "Example: jm replay run.record Main.class Other.class\n\nClass files come from `javac --release 8`. What a number means says `jm explain N`.",
-        );
+    let replay = new_command(
+        alloc,
+        "replay",
+        "Run a program again by the events of a record, and compare how each is answered",
+        "Example: jm replay run.record Main.class Other.class\n\nClass files come from `javac --release 8`. What a number means says `jm explain N`.",
+    );
     let replay = with_argument(Ok(replay), heap_argument(alloc));
     let replay = with_argument(replay, copiers_argument(alloc));
     let replay = with_argument(replay, show_heap_argument(alloc));
@@ -263,11 +285,12 @@ fn outcome_argument<'a>(alloc: Global) -> Arg<'a>
 fn explore_command<'a>(alloc: Global) -> Result<Command<'a>, AllocError>
     ensures { IfOk result (λ c. IsSeenAs c explore_command) }
 {
-    let explore = Command::new(alloc, "explore")
-        .about("Try every schedule of a program up to so many switches, and tell each outcome")
-        .after_help(
-            "Example: jm explore --switches 2 Main.class Other.class\n\nClass files come from `javac --release 8`. What a number means says `jm explain N`.",
-        );
+    let explore = new_command(
+        alloc,
+        "explore",
+        "Try every schedule of a program up to so many switches, and tell each outcome",
+        "Example: jm explore --switches 2 Main.class Other.class\n\nClass files come from `javac --release 8`. What a number means says `jm explain N`.",
+    );
     let explore = with_argument(Ok(explore), switches_argument(alloc));
     let explore = with_argument(explore, schedule_steps_argument(alloc));
     let explore = with_argument(explore, runs_argument(alloc));
@@ -300,11 +323,12 @@ fn output_argument<'a>(alloc: Global) -> Arg<'a>
 fn assemble_command<'a>(alloc: Global) -> Result<Command<'a>, AllocError>
     ensures { IfOk result (λ c. IsSeenAs c assemble_command) }
 {
-    let asm = Command::new(alloc, "asm")
-        .about("Assemble a text in Jasmin's syntax into a class file")
-        .after_help(
-            "Example: jm asm Main.j Main.class\n\nOUT is another file than IN. What a number means says `jm explain N`.",
-        );
+    let asm = new_command(
+        alloc,
+        "asm",
+        "Assemble a text in Jasmin's syntax into a class file",
+        "Example: jm asm Main.j Main.class\n\nOUT is another file than IN. What a number means says `jm explain N`.",
+    );
     let asm = with_argument(Ok(asm), input_argument(alloc));
     with_argument(asm, output_argument(alloc))
 }
@@ -332,11 +356,12 @@ fn class_argument<'a>(alloc: Global) -> Arg<'a>
 fn disassemble_command<'a>(alloc: Global) -> Result<Command<'a>, AllocError>
     ensures { IfOk result (λ c. IsSeenAs c disassemble_command) }
 {
-    let dis = Command::new(alloc, "dis")
-        .about("Show the text of a class in Jasmin's syntax, which `asm` gives back as the class")
-        .after_help(
-            "Example: jm dis Main.class\n\nClass files come from `javac --release 8`. What a number means says `jm explain N`.",
-        );
+    let dis = new_command(
+        alloc,
+        "dis",
+        "Show the text of a class in Jasmin's syntax, which `asm` gives back as the class",
+        "Example: jm dis Main.class\n\nClass files come from `javac --release 8`. What a number means says `jm explain N`.",
+    );
     let dis = with_argument(Ok(dis), bare_argument(alloc));
     with_argument(dis, class_argument(alloc))
 }
@@ -344,11 +369,12 @@ fn disassemble_command<'a>(alloc: Global) -> Result<Command<'a>, AllocError>
 fn debug_command<'a>(alloc: Global) -> Result<Command<'a>, AllocError>
     ensures { IfOk result (λ c. IsSeenAs c debug_command) }
 {
-    let debug = Command::new(alloc, "debug")
-        .about("Show a program at any event: commands are read from standard input, a line each")
-        .after_help(
-            "Example: jm debug Main.class Other.class\n\nClass files come from `javac --release 8`. What a number means says `jm explain N`.",
-        );
+    let debug = new_command(
+        alloc,
+        "debug",
+        "Show a program at any event: commands are read from standard input, a line each",
+        "Example: jm debug Main.class Other.class\n\nClass files come from `javac --release 8`. What a number means says `jm explain N`.",
+    );
     let debug = with_argument(Ok(debug), heap_argument(alloc));
     let debug = with_argument(debug, copiers_argument(alloc));
     with_argument(debug, file_argument(alloc))
@@ -367,18 +393,24 @@ fn number_argument<'a>(alloc: Global) -> Arg<'a>
 fn explain_command<'a>(alloc: Global) -> Result<Command<'a>, AllocError>
     ensures { IfOk result (λ c. IsSeenAs c explain_command) }
 {
-    let explain = Command::new(alloc, "explain")
-        .about("Say what a number means: that of a refusal, of a stop or of an exit status")
-        .after_help("Example: jm explain 51");
+    let explain = new_command(
+        alloc,
+        "explain",
+        "Say what a number means: that of a refusal, of a stop or of an exit status",
+        "Example: jm explain 51",
+    );
     with_argument(Ok(explain), number_argument(alloc))
 }
 
 fn version_command<'a>(alloc: Global) -> Command<'a>
     ensures { IsSeenAs result version_command }
 {
-    Command::new(alloc, "version")
-        .about("Say which jm this is, and which kit it is written for")
-        .after_help("Example: jm version")
+    new_command(
+        alloc,
+        "version",
+        "Say which jm this is, and which kit it is written for",
+        "Example: jm version",
+    )
 }
 
 fn top_command<'a>(alloc: Global) -> Command<'a>

@@ -15,12 +15,14 @@
 mod command;
 mod fault;
 mod request;
+mod usage;
+mod values;
 mod words;
 
 pub use fault::UsageFault;
 pub use request::{
     AssembleOptions, DebugOptions, DisassembleOptions, ExplainOptions, ExploreOptions, MAX_COPIERS,
     MAX_HEAP, MAX_QUANTUM, MAX_RUNS, MAX_SCHEDULE_STEPS, MAX_SLICE, MAX_STEPS, MAX_SWITCHES,
-    MAX_WORKERS, MIN_HEAP, Options, ReplayOptions, RunOptions, Stress,
+    MAX_WORKERS, MIN_HEAP, Options, ReplayOptions, RunOptions, SerialRun, Stress,
 };
 pub use words::options;

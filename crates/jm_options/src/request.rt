@@ -126,6 +126,24 @@ pub struct ExploreOptions {
     pub files: Vec<String>,
 }
 
+/// How a program is run by one worker.
+#[derive(Drop)]
+pub struct SerialRun {
+    /// The limit of the heap, in cells.
+    pub heap: u32,
+    /// How many copiers collect the heap, from 1 to [`MAX_COPIERS`].
+    pub copiers: u32,
+    /// The file of the schedule, if the events are to be those of one.
+    pub schedule: Option<String>,
+    /// The most events that are made without a schedule, from 1 to [`MAX_STEPS`].
+    pub steps: u32,
+    /// The most events of a thread's turn without a schedule, from 1 to [`MAX_QUANTUM`].
+    pub quantum: u32,
+    /// The files of the classes, the main class's first: a class file, or the text of a class if its
+    /// name ends in `.j`.
+    pub files: Vec<String>,
+}
+
 /// What `jm asm` is given.
 #[derive(Drop)]
 pub struct AssembleOptions {

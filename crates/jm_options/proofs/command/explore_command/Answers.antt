@@ -1,14 +1,9 @@
 -- Seven arguments, one after the other.
-use Rattle.std.proofs.Common.{ap, ◌∙◌, codes}
-use Rattle.clap.specs.Words.{new_app}
-use Rattle.clap.specs.Simple.{app_of_fields}
-use Rattle.jm_options.specs.CommandLine.{IsSeenAs}
 use Rattle.jm_options.proofs.command.explore_command.Goals as goal
 
 pub returns : goal.returns
 returns c =
-    let start : IsSeenAs c.after_help-explore.result (new_app (codes "explore")) = record { app = ap app_of_fields c.after_help-explore.ensures ∙ ap app_of_fields c.about.ensures ∙ c.new.ensures.app; local = rw (c.after_help-explore.ensures, c.about.ensures) c.new.ensures.local } in
-    let one = c.with_argument-explore.ensures _ _ start c.switches_argument.ensures.rule c.switches_argument.ensures.local in
+    let one = c.with_argument-explore.ensures _ _ c.new_command-explore.ensures c.switches_argument.ensures.rule c.switches_argument.ensures.local in
     let two = c.with_argument-explore-2.ensures _ _ one c.schedule_steps_argument.ensures.rule c.schedule_steps_argument.ensures.local in
     let three = c.with_argument-explore-3.ensures _ _ two c.runs_argument.ensures.rule c.runs_argument.ensures.local in
     let four = c.with_argument-explore-4.ensures _ _ three c.slice_argument.ensures.rule c.slice_argument.ensures.local in

@@ -1,39 +1,32 @@
 -- What the matches of an exploration hold, and what they lack.
-use Rattle.std.proofs.Common.{Some, sym, ap, ◌∙◌, codes}
-use Rattle.clap.specs.Words.{found_of}
-use Rattle.clap.proofs.WalkLemmas.{raw_values-rows}
-use Rattle.jm_options.proofs.Finding.{no_explored_files, none_explored}
+use Rattle.jm_options.proofs.Finding.{lacks_part}
+use Rattle.jm_options.specs.declared.request.ExploreOptions.{ExploreOptions}
 use Rattle.jm_options.proofs.words.explore_options.Goals as goal
 
-pub returns-in_default : goal.returns-in_default
-returns-in_default c = none_explored _ _ (λ o holds. c.in_default.ensures o.switches holds.switches)
+pub returns-in_err-number_asked : goal.returns-in_err-number_asked
+returns-in_err-number_asked c =
+    lacks_part _ _ c.from_residual.result _ c.from_residual.ensures.1 c.in_err-number_asked.ensures (λ (o : ExploreOptions). o.switches) (λ o holds. holds.switches)
 
-pub returns-in_default-number_within : goal.returns-in_default-number_within
-returns-in_default-number_within c = none_explored _ _ (λ o holds. c.in_default-number_within.ensures o.steps holds.steps)
+pub returns-in_err-number_asked-2 : goal.returns-in_err-number_asked-2
+returns-in_err-number_asked-2 c =
+    lacks_part _ _ c.from_residual-in_err-number_asked-2.result _ c.from_residual-in_err-number_asked-2.ensures.1 c.in_err-number_asked-2.ensures (λ (o : ExploreOptions). o.steps) (λ o holds. holds.steps)
 
-pub returns-in_default-number_within-2 : goal.returns-in_default-number_within-2
-returns-in_default-number_within-2 c = none_explored _ _ (λ o holds. c.in_default-number_within-2.ensures o.runs holds.runs)
+pub returns-in_err-number_asked-3 : goal.returns-in_err-number_asked-3
+returns-in_err-number_asked-3 c =
+    lacks_part _ _ c.from_residual-in_err-number_asked-3.result _ c.from_residual-in_err-number_asked-3.ensures.1 c.in_err-number_asked-3.ensures (λ (o : ExploreOptions). o.runs) (λ o holds. holds.runs)
 
-pub returns-in_default-number_within-3 : goal.returns-in_default-number_within-3
-returns-in_default-number_within-3 c = none_explored _ _ (λ o holds. c.in_default-number_within-3.ensures o.slice holds.slice)
+pub returns-in_err-number_asked-4 : goal.returns-in_err-number_asked-4
+returns-in_err-number_asked-4 c =
+    lacks_part _ _ c.from_residual-in_err-number_asked-4.result _ c.from_residual-in_err-number_asked-4.ensures.1 c.in_err-number_asked-4.ensures (λ (o : ExploreOptions). o.slice) (λ o holds. holds.slice)
 
-pub returns-in_default-number_within-4 : goal.returns-in_default-number_within-4
-returns-in_default-number_within-4 c = none_explored _ _ (λ o holds. c.in_default-number_within-4.ensures o.heap holds.heap)
+pub returns-in_err-number_given : goal.returns-in_err-number_given
+returns-in_err-number_given c =
+    lacks_part _ _ c.from_residual-in_err-number_given.result _ c.from_residual-in_err-number_given.ensures.1 c.in_err-number_given.ensures (λ (o : ExploreOptions). o.outcome) (λ o holds. holds.outcome)
 
-pub returns-in_default-get_strs : goal.returns-in_default-get_strs
-returns-in_default-get_strs c =
-    let none = rw c.in_default-get_strs.is at c.get_strs.ensures in
-    none_explored _ _ (no_explored_files _ (none ∙ raw_values-rows (found_of c.args.matches.now) (codes "file")))
+pub returns-in_err-heap_asked : goal.returns-in_err-heap_asked
+returns-in_err-heap_asked c =
+    lacks_part _ _ c.from_residual-in_err-heap_asked.result _ c.from_residual-in_err-heap_asked.ensures.1 c.in_err-heap_asked.ensures (λ (o : ExploreOptions). o.heap) (λ o holds. holds.heap)
 
-pub returns : goal.returns
-returns c =
-    let files = rw c.in-Some-get_strs.is at c.get_strs.ensures in
-    record {
-      switches = c.in-Some.ensures;
-      steps = c.in-Some-number_within.ensures;
-      runs = c.in-Some-number_within-2.ensures;
-      slice = c.in-Some-number_within-3.ensures;
-      outcome = c.in_ok-outcome_given.ensures;
-      heap = c.in-Some-number_within-4.ensures;
-      files = sym (raw_values-rows (found_of c.args.matches.now) (codes "file")) ∙ sym files ∙ ap Some (sym c.in_ok-strings_of.ensures);
-    }
+pub returns-in_err-files_asked : goal.returns-in_err-files_asked
+returns-in_err-files_asked c =
+    lacks_part _ _ c.from_residual-in_err-files_asked.result _ c.from_residual-in_err-files_asked.ensures.1 c.in_err-files_asked.ensures (λ (o : ExploreOptions). o.files) (λ o holds. holds.files)
