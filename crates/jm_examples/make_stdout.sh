@@ -4,8 +4,9 @@
 # written and read again, and when it is given a text and assembled again, but where javap says a flag
 # that no word says (expected_texts.py); the worked text has the bytes of the worked class file. Each
 # program prints what a real Java printed (expected_runs.py). Each row of the tables of jobs and of
-# questions is as it should be, those of the tables that data/copied.txt lists also with several copiers, and so is
-# what workers do, in whatever order: their records, replayed, come
+# questions is as it should be, those of the tables that data/copied.txt lists also with several copiers, those of
+# data/stressed.txt also with a collection between every two events, with which the runs of data/stressed_runs.txt come
+# to the same, and so is what workers do, in whatever order: their records, replayed, come
 # to the same. The works print what
 # their twins in plain Rust print (bench/descriptors, plain, heap, collecting, read and forward, at the
 # sizes in src/works.rt), each case of the collector is as wanted, and nothing is refused.
@@ -34,6 +35,14 @@ as_they_should_be() {
         echo "$copiers copiers"
         as_they_should_be "data/$table"
     done < data/copied.txt
+    while read -r kind copiers table; do
+        echo "$kind $copiers $table"
+        as_they_should_be "data/$table"
+    done < data/stressed.txt
+    while read -r kind copiers list; do
+        runs=$(wc -l < "data/$list")
+        echo "$kind $copiers $list: $runs of $runs runs come to the same"
+    done < data/stressed_runs.txt
     for table in data/answers/*.txt; do
         as_they_should_be "$table"
     done

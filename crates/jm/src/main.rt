@@ -15,14 +15,15 @@ mod word;
 
 use files::{input_file, input_files};
 use jm_execute::{
-    AssembleJob, Copiers, DebugJob, DisassembleJob, ExploreJob, Finished, Job, ReplayJob,
+    AssembleJob, Copiers, DebugJob, DisassembleJob, ExploreJob, Finished, Job, Kind, ReplayJob,
     RunEvents, RunJob, Status, Watched, Workers, execute, explain, several_workers,
     so_many_copiers, tell_version, write_out_of_memory,
 };
 use jm_explore::Bounds;
 use jm_options::{
     AssembleOptions, DebugOptions, DisassembleOptions, ExplainOptions, ExploreOptions, MAX_COPIERS,
-    MAX_QUANTUM, MAX_STEPS, MAX_WORKERS, Options, ReplayOptions, RunOptions, UsageFault, options,
+    MAX_QUANTUM, MAX_STEPS, MAX_WORKERS, Options, ReplayOptions, RunOptions, Stress, UsageFault,
+    options,
 };
 use jm_schedule::{RoundRobin, round_robin};
 use output::Output;
@@ -56,6 +57,15 @@ fn turns(steps: u32, quantum: u32) -> RoundRobin {
 // The copiers of a job.
 fn copiers(count: u32) -> Copiers {
     so_many_copiers(within(count, MAX_COPIERS) as u8)
+}
+
+// The kind of the collections between the events of a run, where such are asked for.
+fn collections(asked: Option<Stress>) -> Option<Kind> {
+    match asked {
+        None => None,
+        Some(Stress::Minor) => Some(Kind::Minor),
+        Some(Stress::Full) => Some(Kind::Full),
+    }
 }
 
 // The workers of a run, where they are several.
@@ -95,6 +105,7 @@ fn run_job(rt: &HostRuntime, asked: RunOptions) -> Result<(Job, Option<String>),
         program: input_files(rt, asked.files)?,
         show_heap: asked.show_heap,
         is_recorded: asked.record_file.is_some(),
+        stress: collections(asked.stress),
     });
     Ok((job, asked.record_file))
 }

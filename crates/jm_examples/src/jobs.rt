@@ -2,7 +2,7 @@
 // is assembled, and a class whose text is shown.
 
 use jm_execute::{
-    AssembleJob, Contents, Copiers, DebugJob, DisassembleJob, ExploreJob, InputFile, Job,
+    AssembleJob, Contents, Copiers, DebugJob, DisassembleJob, ExploreJob, InputFile, Job, Kind,
     ReplayJob, RunEvents, RunJob, so_many_copiers,
 };
 use jm_explore::Bounds;
@@ -26,18 +26,55 @@ pub fn copiers_of(count: &str) -> Option<Copiers> {
     }
 }
 
-/// A heap of so many cells, which these copiers collect.
+// The kind of collections of a word.
+fn kind_named(word: &str) -> Option<Kind> {
+    match word {
+        "minor" => Some(Kind::Minor),
+        "full" => Some(Kind::Full),
+        _ => None,
+    }
+}
+
+/// How the heap of a job is collected.
+#[derive(Clone, Copy)]
+pub struct Collecting {
+    pub copiers: Copiers,
+    /// Of which kind a collection is made before each event of a run and behind the last one, where such
+    /// are made.
+    pub stress: Option<Kind>,
+}
+
+/// How the heaps of the jobs of a line are collected, `KIND COPIERS REST`, and the rest.
+pub fn stressed_line(line: &str) -> Option<(Collecting, &str)> {
+    let (kind, rest) = line.split_once(" ")?;
+    let (count, rest) = rest.split_once(" ")?;
+    let collecting = Collecting {
+        copiers: copiers_of(count)?,
+        stress: Some(kind_named(kind)?),
+    };
+    Some((collecting, rest))
+}
+
+/// By so many copiers, where it must be.
+pub fn where_it_must_be(copiers: Copiers) -> Collecting {
+    Collecting {
+        copiers,
+        stress: None,
+    }
+}
+
+/// A heap of so many cells, and how it is collected.
 #[derive(Clone, Copy)]
 pub struct JobHeap {
     pub cells: u32,
-    pub copiers: Copiers,
+    pub collecting: Collecting,
 }
 
-/// A heap of so many cells with one copier.
+/// A heap of so many cells, which one copier collects where it must be.
 pub fn heap_of(cells: u32) -> JobHeap {
     JobHeap {
         cells,
-        copiers: one_copier(),
+        collecting: where_it_must_be(one_copier()),
     }
 }
 
@@ -53,11 +90,12 @@ pub fn input_file(alloc: Global, name: &str, contents: Contents) -> Result<Input
 pub fn run_job(heap: JobHeap, events: RunEvents, program: Vec<InputFile>, show_heap: bool) -> Job {
     Job::Run(RunJob {
         heap: heap.cells,
-        copiers: heap.copiers,
+        copiers: heap.collecting.copiers,
         events,
         program,
         show_heap,
         is_recorded: false,
+        stress: heap.collecting.stress,
     })
 }
 
@@ -71,7 +109,7 @@ pub fn replay_job(
 ) -> Job {
     Job::Replay(ReplayJob {
         heap: heap.cells,
-        copiers: heap.copiers,
+        copiers: heap.collecting.copiers,
         record_file,
         program,
         show_heap,
@@ -82,7 +120,7 @@ pub fn replay_job(
 pub fn debug_job(heap: JobHeap, program: Vec<InputFile>) -> Job {
     Job::Debug(DebugJob {
         heap: heap.cells,
-        copiers: heap.copiers,
+        copiers: heap.collecting.copiers,
         program,
     })
 }

@@ -60,7 +60,7 @@ use jm_class_writer::write_class;
 use jm_jasmin::assemble;
 use jm_program::Class;
 use moments::print_moments;
-use programs::{print_programs, print_runs};
+use programs::{print_programs, print_runs, print_stressed_runs};
 use recorded::print_recorded;
 use retried::print_retried;
 use row::row_of;
@@ -69,7 +69,7 @@ use std::rt::Files;
 use std::sync::Wait;
 use std::thread::Threads;
 use std::{env, fs, io};
-use tables::{print_answers, print_copied, print_tables};
+use tables::{print_answers, print_copied, print_stressed, print_tables};
 use text_again::text_again;
 use turns::print_turns;
 use works::{print_small_works, print_works};
@@ -101,6 +101,8 @@ fn print_all<R: Threads + Wait + Sync>(rt: &HostRuntime, threads: &R) -> io::Res
     print_conversation(rt, threads, "sum.class")?;
     print_tables(rt, threads, "tables.txt")?;
     print_copied(rt, threads, "copied.txt")?;
+    print_stressed(rt, threads, "stressed.txt")?;
+    print_stressed_runs(rt, threads, "stressed_runs.txt")?;
     print_answers(rt, threads, ANSWERS)?;
     print_workers(rt, threads, "workers/Main.j workers/W.j")?;
     print_recorded(rt, threads, "recorded.txt")

@@ -4,12 +4,10 @@ use crate::columns::{bytes_of, file_of, files_of};
 use crate::events::events_of;
 use crate::job_rows::{JobKind, JobRow};
 use crate::jobs::{
-    JobHeap, assembly_job, debug_job, disassembly_job, explore_job, replay_job, run_job,
+    Collecting, JobHeap, assembly_job, debug_job, disassembly_job, explore_job, replay_job, run_job,
 };
 use crate::notation::invalid;
-use jm_execute::{
-    Copiers, Finished, InputFile, Job, Watched, class_of, execute, explain, tell_version,
-};
+use jm_execute::{Finished, InputFile, Job, Watched, class_of, execute, explain, tell_version};
 use jm_explain::{Entry, entry_of};
 use jm_explore::Bounds;
 use jm_linker::{LinkFault, link};
@@ -48,19 +46,19 @@ pub fn wanted_of(rt: &HostRuntime, row: &JobRow<'_>) -> io::Result<Outcome> {
 }
 
 // The job of a row, but for those that link, and those that need no file.
-fn job_of(rt: &HostRuntime, row: &JobRow<'_>, copiers: Copiers) -> io::Result<Option<Job>> {
+fn job_of(rt: &HostRuntime, row: &JobRow<'_>, collecting: Collecting) -> io::Result<Option<Job>> {
     match row.kind {
         JobKind::Run { cells, show_heap } => {
-            let heap = JobHeap { cells, copiers };
+            let heap = JobHeap { cells, collecting };
             Ok(Some(run_of(rt, row, heap, show_heap)?))
         }
         JobKind::Replay { cells, show_heap } => {
-            let heap = JobHeap { cells, copiers };
+            let heap = JobHeap { cells, collecting };
             Ok(Some(replay_of(rt, row, heap, show_heap)?))
         }
         JobKind::Debug { cells } => {
             let program = files_of(rt, row.names, row.contents)?;
-            Ok(Some(debug_job(JobHeap { cells, copiers }, program)))
+            Ok(Some(debug_job(JobHeap { cells, collecting }, program)))
         }
         JobKind::Explore { bounds } => Ok(Some(search_of(rt, row, bounds)?)),
         JobKind::Assemble => {
@@ -119,12 +117,12 @@ fn input_of(rt: &HostRuntime, row: &JobRow<'_>) -> io::Result<Vec<u8>> {
     }
 }
 
-/// What comes of a row's job, whose heap, where it has one, these copiers collect.
+/// What comes of a row's job, whose heap, where it has one, is collected so.
 pub fn outcome_of(
     rt: &HostRuntime,
     wait: &(impl Threads + Wait + Sync),
     row: &JobRow<'_>,
-    copiers: Copiers,
+    collecting: Collecting,
 ) -> io::Result<Outcome> {
     match row.kind {
         JobKind::Link => return linked(rt, &files_of(rt, row.names, row.contents)?),
@@ -132,7 +130,7 @@ pub fn outcome_of(
         JobKind::Version => return version(rt),
         _ => {}
     }
-    match job_of(rt, row, copiers)? {
+    match job_of(rt, row, collecting)? {
         Some(job) => {
             let outcome = done(rt, wait, &job, row);
             drop(job);

@@ -1,8 +1,13 @@
 // The programs among the data, and what running each comes to.
 
 use crate::events::events_of;
-use crate::jobs::{HEAP, heap_of, input_file, run_job};
+use crate::jobs::{
+    Collecting, HEAP, JobHeap, heap_of, input_file, one_copier, run_job, stressed_line,
+    where_it_must_be,
+};
 use crate::name_of;
+use crate::notation::invalid;
+use crate::outcomes::{Outcome, finished_outcome};
 use jm_execute::{Contents, InputFile, Job, RunEvents, Status, Watched, execute};
 use std::sync::Wait;
 use std::thread::Threads;
@@ -120,6 +125,78 @@ pub fn files_named(rt: &HostRuntime, names: &str) -> io::Result<Vec<InputFile>> 
 // The job of a run.
 fn job_of(rt: &HostRuntime, heap: u32, events: RunEvents, names: &str) -> io::Result<Job> {
     Ok(run_job(heap_of(heap), events, files_named(rt, names)?, false))
+}
+
+/// Makes the runs that the words of each line of a file tell, `KIND COPIERS RUNS`: each run of the file
+/// RUNS, which [`print_runs`] knows, with a collection of that kind before each event and one behind the
+/// last, and prints how many come to what they come to without, and show the same heap.
+pub fn print_stressed_runs(
+    rt: &HostRuntime,
+    wait: &(impl Threads + Wait + Sync),
+    list: &str,
+) -> io::Result<()> {
+    let lists = fs::read_to_string(rt, list)?;
+    for line in lists.lines() {
+        match stressed_line(line) {
+            Some((collecting, file)) => print_stressed_list(rt, wait, line, collecting, file)?,
+            None => println!(rt; "no list: {line}")?,
+        }
+    }
+    Ok(())
+}
+
+// Makes the runs of a file and prints, behind the words that tell of them, how many come to the same.
+fn print_stressed_list(
+    rt: &HostRuntime,
+    wait: &(impl Threads + Wait + Sync),
+    words: &str,
+    collecting: Collecting,
+    file: &str,
+) -> io::Result<()> {
+    let programs = fs::read_to_string(rt, file)?;
+    let mut runs = 0usize;
+    let mut same = 0usize;
+    for line in programs.lines() {
+        let Some(run) = listed_run(line) else {
+            return invalid();
+        };
+        runs = runs.saturating_add(1);
+        if comes_to_the_same(rt, wait, &run, collecting)? {
+            same = same.saturating_add(1);
+        }
+    }
+    println!(rt; "{words}: {same} of {runs} runs come to the same")
+}
+
+// Whether a run comes to the same, collected so.
+fn comes_to_the_same(
+    rt: &HostRuntime,
+    wait: &(impl Threads + Wait + Sync),
+    run: &ListedRun<'_>,
+    collecting: Collecting,
+) -> io::Result<bool> {
+    let plain = listed_outcome(rt, wait, run, where_it_must_be(one_copier()))?;
+    let stressed = listed_outcome(rt, wait, run, collecting)?;
+    Ok(stressed == plain)
+}
+
+// What comes of a run, with the heap that it leaves.
+fn listed_outcome(
+    rt: &HostRuntime,
+    wait: &(impl Threads + Wait + Sync),
+    run: &ListedRun<'_>,
+    collecting: Collecting,
+) -> io::Result<Outcome> {
+    let heap = JobHeap {
+        cells: run.heap,
+        collecting,
+    };
+    let events = listed_events(rt, run.events)?;
+    let job = run_job(heap, events, files_named(rt, run.files)?, true);
+    let outcome = finished_outcome(rt, wait, &job, b"".as_slice());
+    drop(job);
+    let (outcome, _finished) = outcome?;
+    Ok(outcome)
 }
 
 // Prints the output of a program, the lines on its standard error, and its status.

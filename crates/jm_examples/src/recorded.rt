@@ -67,6 +67,7 @@ fn is_made_again(
         program: files_named(rt, names)?,
         show_heap: true,
         is_recorded: true,
+        stress: None,
     });
     let (outcome, finished) = finished_outcome(rt, threads, &job, b"".as_slice())?;
     drop(job);

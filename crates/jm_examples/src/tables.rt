@@ -2,10 +2,9 @@
 
 use crate::answers::{Question, answer, wanted_answer};
 use crate::job_rows::job_row;
-use crate::jobs::{copiers_of, one_copier};
+use crate::jobs::{Collecting, copiers_of, one_copier, stressed_line, where_it_must_be};
 use crate::notation::invalid;
 use crate::outcomes::{Outcome, outcome_of, wanted_of};
-use jm_execute::Copiers;
 use std::sync::Wait;
 use std::thread::Threads;
 use std::{fmt, fs, io};
@@ -19,7 +18,12 @@ pub fn print_tables(
 ) -> io::Result<()> {
     let tables = fs::read_to_string(rt, list)?;
     for table in tables.lines() {
-        print_table(rt, wait, table, RowKind::Job(one_copier()))?;
+        print_table(
+            rt,
+            wait,
+            table,
+            RowKind::Job(where_it_must_be(one_copier())),
+        )?;
     }
     Ok(())
 }
@@ -51,7 +55,35 @@ fn print_copied_table(
         return invalid();
     };
     println!(rt; "{count} copiers")?;
-    print_table(rt, wait, table, RowKind::Job(copiers))
+    print_table(rt, wait, table, RowKind::Job(where_it_must_be(copiers)))
+}
+
+/// Does what [`print_copied`] does with the tables of a file whose lines have a kind of collections before
+/// the number of copiers: one is made before each event of a run and one behind the last, and the same is
+/// to come of it.
+pub fn print_stressed(
+    rt: &HostRuntime,
+    wait: &(impl Threads + Wait + Sync),
+    list: &str,
+) -> io::Result<()> {
+    let tables = fs::read_to_string(rt, list)?;
+    for line in tables.lines() {
+        print_stressed_table(rt, wait, line)?;
+    }
+    Ok(())
+}
+
+// The table of a line, with its kind of collections and its number of copiers.
+fn print_stressed_table(
+    rt: &HostRuntime,
+    wait: &(impl Threads + Wait + Sync),
+    line: &str,
+) -> io::Result<()> {
+    let Some((collecting, table)) = stressed_line(line) else {
+        return invalid();
+    };
+    println!(rt; "{line}")?;
+    print_table(rt, wait, table, RowKind::Job(collecting))
 }
 
 /// Answers the question of each row of the tables, and prints what [`print_tables`] does.
@@ -69,8 +101,8 @@ pub fn print_answers(
 // What the rows of a table are.
 #[derive(Clone, Copy)]
 enum RowKind {
-    // Jobs, whose heaps these copiers collect.
-    Job(Copiers),
+    // Jobs, whose heaps are collected so.
+    Job(Collecting),
     Answer(Question),
 }
 
@@ -123,7 +155,7 @@ fn is_as_wanted(
 ) -> io::Result<bool> {
     match kind {
         RowKind::Answer(question) => is_answered(rt, question, at, line),
-        RowKind::Job(copiers) => is_kept(rt, wait, copiers, at, line),
+        RowKind::Job(collecting) => is_kept(rt, wait, collecting, at, line),
     }
 }
 
@@ -150,7 +182,7 @@ impl<T: fmt::Display> fmt::Display for Difference<'_, T> {
 fn is_kept(
     rt: &HostRuntime,
     wait: &(impl Threads + Wait + Sync),
-    copiers: Copiers,
+    collecting: Collecting,
     at: At<'_>,
     line: &str,
 ) -> io::Result<bool> {
@@ -158,7 +190,7 @@ fn is_kept(
         return missed(rt, at, &"no row");
     };
     let wanted = wanted_of(rt, &row)?;
-    let came = outcome_of(rt, wait, &row, copiers)?;
+    let came = outcome_of(rt, wait, &row, collecting)?;
     are_equal(rt, at, &wanted, &came)
 }
 

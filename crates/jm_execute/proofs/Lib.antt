@@ -25,5 +25,6 @@ mod Lefts
 mod DoneEvents
 mod RobinSteps
 mod ManyReceipts
+mod Woven
 mod SoleTurns
 pub mod Calls

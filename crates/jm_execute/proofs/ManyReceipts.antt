@@ -14,11 +14,9 @@ use Rattle.jm_world.specs.declared.reply.Reply.{Reply}
 use Rattle.jm_world.specs.declared.reply.ReplyKind.TheVariants.{Done}
 use Rattle.jm_shared.specs.Legal.{entry_of, events_of, reply_of}
 use Rattle.jm_shared.specs.ManyTurns.{entries_of_turns, receipts_from, receipts_of_turns}
-use Rattle.jm_shared.specs.Seats.{hand}
 use Rattle.jm_shared.specs.declared.entry.Entry.{Entry}
 use Rattle.jm_shared.specs.declared.entry.Receipt.{Receipt}
 use Rattle.jm_shared.specs.declared.entry.Receipts.{Receipts}
-use Rattle.jm_shared.specs.declared.rule.Hand.{Hand}
 use Rattle.jm_execute.specs.Standings.{Answer}
 use Rattle.jm_execute.specs.Turns.{AreReplies, Records, RecordsPart, events_in, replies_in, world_by}
 use Rattle.jm_execute.proofs.Turns.{many_replies, recorded_then}
@@ -41,7 +39,7 @@ other_events : (seat : ℕ) (event : Event) (rs : List Reply) → events_of (map
 other_events seat event [] = refl
 other_events seat event (r ∷ rs) = ap (λ (xs : List Event). event ∷ xs) (other_events seat event rs)
 
-turns_events : (t : Receipts) → events_in (receipts_of_turns t) ≡ steps_of t.thread (made_of_steps t.steps)
+pub turns_events : (t : Receipts) → events_in (receipts_of_turns t) ≡ steps_of t.thread (made_of_steps t.steps)
 turns_events t =
     let alike = replicate t.steps.alike (entry_of t.seat (Step t.thread) t.steps.reply) in
     let others = other_replies t.steps.end in
@@ -50,16 +48,17 @@ turns_events t =
     ∙ (λ i. alike_events t.steps.alike (entry_of t.seat (Step t.thread) t.steps.reply) i ++ other_events t.seat (Step t.thread) others i)
     ∙ replicate-append-replicate t.steps.alike (length others) (Step t.thread)
 
--- a seat that has them has so many steps of the thread more
-pub turns_recorded : (old new : Hand) (thread : ℕ) (t : Receipts) → t.thread ≡ thread → new ≡ hand old.number (old.receipts ++ receipts_of_turns t)
-    → Records old.receipts new.receipts (steps_of thread (made_of_steps t.steps))
-turns_recorded old new thread t is more =
-    ap (λ (h : Hand). events_in h.receipts) more
-    ∙ map-append (λ (r : Receipt). r.event) old.receipts (receipts_of_turns t)
-    ∙ ap (λ (es : List Event). events_in old.receipts ++ es) (turns_events t ∙ ap (λ n. steps_of n (made_of_steps t.steps)) is)
+-- so are those of the entries
+pub turns_made : (t : Receipts) → events_of (entries_of_turns t) ≡ steps_of t.thread (made_of_steps t.steps)
+turns_made t = sym (events_from t.number (entries_of_turns t)) ∙ turns_events t
 
-pub same_number : (new : Hand) (number before : ℕ) (rs : List Receipt) → new ≡ hand number rs → number ≡ before → new.number ≡ before
-same_number new number before rs is same = ap (λ (h : Hand). h.number) is ∙ same
+-- a seat that has them has so many steps of the thread more
+pub turns_recorded : (old new : List Receipt) (thread : ℕ) (t : Receipts) → t.thread ≡ thread → new ≡ old ++ receipts_of_turns t
+    → Records old new (steps_of thread (made_of_steps t.steps))
+turns_recorded old new thread t is more =
+    ap events_in more
+    ∙ map-append (λ (r : Receipt). r.event) old (receipts_of_turns t)
+    ∙ ap (λ (es : List Event). events_in old ++ es) (turns_events t ∙ ap (λ n. steps_of n (made_of_steps t.steps)) is)
 
 replies_from_entries : (number : ℕ) (es : List Entry) → replies_in (receipts_from number es) ≡ map reply_of es
 replies_from_entries number [] = refl
@@ -81,16 +80,16 @@ turns_replies t =
     ∙ map-append reply_of alike (map (entry_of t.seat (Step t.thread)) others)
     ∙ (λ i. alike_replies t.steps.alike (entry_of t.seat (Step t.thread) t.steps.reply) i ++ other_entries t.seat (Step t.thread) others i)
 
-turns_replied : (old new : Hand) (t : Receipts) → new ≡ hand old.number (old.receipts ++ receipts_of_turns t)
-    → replies_in new.receipts ≡ replies_in old.receipts ++ replies_of_steps t.steps
+turns_replied : (old new : List Receipt) (t : Receipts) → new ≡ old ++ receipts_of_turns t
+    → replies_in new ≡ replies_in old ++ replies_of_steps t.steps
 turns_replied old new t more =
-    ap (λ (h : Hand). replies_in h.receipts) more
-    ∙ map-append (λ (r : Receipt). r.reply) old.receipts (receipts_of_turns t)
-    ∙ ap (λ (rs : List Reply). replies_in old.receipts ++ rs) (turns_replies t)
+    ap replies_in more
+    ∙ map-append (λ (r : Receipt). r.reply) old (receipts_of_turns t)
+    ∙ ap (λ (rs : List Reply). replies_in old ++ rs) (turns_replies t)
 
 -- and their replies
-pub turns_told : (old new : Hand) (thread : ℕ) (t : Receipts) → t.thread ≡ thread → new ≡ hand old.number (old.receipts ++ receipts_of_turns t)
-    → Told old.receipts new.receipts thread t.steps.alike t.steps.reply t.steps.end
+pub turns_told : (old new : List Receipt) (thread : ℕ) (t : Receipts) → t.thread ≡ thread → new ≡ old ++ receipts_of_turns t
+    → Told old new thread t.steps.alike t.steps.reply t.steps.end
 turns_told old new thread t is more = (turns_recorded old new thread t is more, turns_replied old new t more)
 
 -- ---- how many they are

@@ -5,6 +5,7 @@ pub mod LineReading
 pub mod Reports
 pub mod Codes
 pub mod Turns
+pub mod Collecting
 pub mod Sources
 pub mod Passes
 pub mod Standings

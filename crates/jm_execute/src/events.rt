@@ -1,6 +1,6 @@
 // Where the events of a run by one worker come from.
 
-ghost use Rattle.std.specs.Prelude.{◌≡◌, MatchResult, List, []};
+ghost use Rattle.std.specs.Prelude.{◌≡◌, None, MatchResult, List, []};
 ghost use Rattle.jm_machine.specs.ManySteps.{steps_of};
 ghost use Rattle.jm_schedule.specs.Runs.{repeats_of};
 ghost use Rattle.jm_world.specs.World.{World};
@@ -25,7 +25,7 @@ const MANY: u32 = 4;
 fn make_each<H: Heap, R: Origin>(worker: &mut SoleWorker<H, R>, run: Run) -> Result<(), OutOfMemory>
     ensures made { MatchResult result (λ _. Records worker.old.receipts worker.new.receipts (repeats_of run))
         (λ _. RecordsPart worker.old.receipts worker.new.receipts (repeats_of run)) }
-    ensures number { worker.new.number ≡ worker.old.number }
+    ensures stress { worker.new.stress ≡ worker.old.stress }
 {
     for _ in 0..run.count {
         match worker.turn(run.event) {
@@ -42,9 +42,10 @@ fn make_steps<H: Heap, R: Origin>(
     thread: u64,
     count: usize,
 ) -> Result<(), OutOfMemory>
+    requires many { worker.old.stress ≡ None }
     ensures made { MatchResult result (λ _. Records worker.old.receipts worker.new.receipts (steps_of thread count))
         (λ _. RecordsPart worker.old.receipts worker.new.receipts (steps_of thread count)) }
-    ensures number { worker.new.number ≡ worker.old.number }
+    ensures stress { worker.new.stress ≡ worker.old.stress }
 {
     let mut left = count;
     while left != 0 {
@@ -65,10 +66,10 @@ fn make_repeats<H: Heap, R: Origin>(
 ) -> Result<(), OutOfMemory>
     ensures made { MatchResult result (λ _. Records worker.old.receipts worker.new.receipts (repeats_of run))
         (λ _. RecordsPart worker.old.receipts worker.new.receipts (repeats_of run)) }
-    ensures number { worker.new.number ≡ worker.old.number }
+    ensures stress { worker.new.stress ≡ worker.old.stress }
 {
     match run.event {
-        Event::Step(thread) if run.count >= MANY => {
+        Event::Step(thread) if run.count >= MANY && worker.makes_many() => {
             make_steps(worker, thread, run.count as usize)
         }
         _ => make_each(worker, run),
@@ -92,7 +93,7 @@ pub trait EventSource {
         requires fresh { worker.old.receipts ≡ [] }
         ensures made { AreReplies R.first worker.new.receipts →
             MatchResult result (λ _. Records [] worker.new.receipts (events self.now R.first)) (λ _. RecordsPart [] worker.new.receipts (events self.now R.first)) }
-        ensures number { worker.new.number ≡ worker.old.number };
+        ensures stress { worker.new.stress ≡ worker.old.stress };
 }
 
 /// The events of a schedule, whatever the world is.

@@ -1,10 +1,10 @@
 // What `jm run`, `jm replay`, `jm explore`, `jm asm`, `jm dis` and `jm debug` do.
 
-ghost use Rattle.std.specs.Prelude.{◌≡◌, [], Bool, false, MatchResult, string_bytes};
+ghost use Rattle.std.specs.Prelude.{◌≡◌, [], Bool, false, true, MatchResult, OnOk, string_bytes};
 ghost use Rattle.jm_machine.specs.View.{MatchesWorld};
-ghost use Rattle.jm_shared.specs.Legal.{events_of};
+ghost use Rattle.jm_shared.specs.Legal.{events_of, world_after};
 ghost use Rattle.jm_world.specs.World.{World};
-ghost use Rattle.jm_choice.specs.Choices.{Choice, Makes, MakesSome, listed};
+ghost use Rattle.jm_choice.specs.Choices.{Choice, Makes, MakesSome, RunEnds, all_made, cut_short, listed};
 ghost use Rattle.jm_execute.specs.Beginnings.{HasOneThread, beginning};
 ghost use Rattle.jm_program.specs.declared.class.ClassParts.{ClassParts};
 ghost use Rattle.jm_disassembler.specs.Texts.{class_text};
@@ -14,6 +14,8 @@ ghost use Rattle.jm_execute.specs.Endings.{Ending, assembled, completed, disasse
 ghost use Rattle.jm_debug.specs.Session.{session_of};
 ghost use Rattle.jm_execute.specs.Reports.{heap_shown};
 ghost use Rattle.jm_execute.specs.Sources.{choice_made};
+ghost use Rattle.jm_execute.specs.Collecting.{with_collections};
+ghost use Rattle.jm_execute.specs.Turns.{AreReplies, Records, RecordsPart};
 ghost use Rattle.jm_execute.specs.Talks.{IsHeld};
 ghost use Rattle.jm_execute.specs.Refusals.{Hinders};
 ghost use Rattle.jm_execute.specs.Verdicts.{Verdict, assembly_verdict, debug_verdict, disassembly_verdict, explore_verdict, replay_verdict, run_verdict, verdict};
@@ -40,7 +42,7 @@ use crate::workers::run_by_workers;
 use jm_copy::Collector;
 use jm_debug::Debugger;
 use jm_disassembler::Unsaid;
-use jm_heap::Heap;
+use jm_heap::{Heap, Kind};
 use jm_machine::{Machine, OutOfMemory};
 use jm_shared::{Journal, Origin};
 use std::alloc::{AllocError, Global};
@@ -55,6 +57,8 @@ pub(crate) struct Wanted {
     pub show_heap: bool,
     /// Its record.
     pub is_recorded: bool,
+    /// Collections of a kind between the events of one worker.
+    pub stress: Option<Kind>,
 }
 
 fn wanted_of(job: &RunJob) -> Wanted
@@ -63,6 +67,7 @@ fn wanted_of(job: &RunJob) -> Wanted
     Wanted {
         show_heap: job.show_heap,
         is_recorded: job.is_recorded,
+        stress: job.stress,
     }
 }
 
@@ -186,7 +191,7 @@ fn tell_made<H: Heap, R: Origin, O: Watchable, E: Watchable>(
     requires out { out.old.failed ≡ false }
     requires err { err.old.failed ≡ false }
     ensures { (choice : Choice)
-        → MatchResult made (λ _. Makes R.first choice (events_of journal.now.entries)) (λ _. MakesSome R.first choice (events_of journal.now.entries))
+        → MatchResult made (λ _. RunEnds R.first choice (all_made (world_after R.first journal.now.entries))) (λ _. RunEnds R.first choice (cut_short (world_after R.first journal.now.entries)))
         → (e : Ending) × Ends wanted.show_heap R.first choice e
         × Leaves (words O.contents O.ends) (words E.contents E.ends) e result.status out.old out.new err.old err.new }
 {
@@ -200,21 +205,47 @@ fn tell_made<H: Heap, R: Origin, O: Watchable, E: Watchable>(
 /// A journal, and whether a growth was refused before its events were all made.
 pub type Made<H, N> = (Journal<H, N>, Result<(), OutOfMemory>);
 
+// Makes the events of a source, and the collection behind the last one, where such are made.
+fn make_all<S: EventSource, H: Heap, R: Origin>(
+    alloc: Global,
+    source: &S,
+    worker: &mut SoleWorker<H, R>,
+) -> Result<(), OutOfMemory>
+    requires begins { HasOneThread R.first }
+    requires fresh { worker.old.receipts ≡ [] }
+    ensures made { AreReplies R.first worker.new.receipts →
+        MatchResult result (λ _. Records [] worker.new.receipts (S.events source.now R.first)) (λ _. RecordsPart [] worker.new.receipts (S.events source.now R.first)) }
+    ensures collected { OnOk result (worker.new.collected ≡ true) }
+    ensures stress { worker.new.stress ≡ worker.old.stress }
+{
+    match source.make_events(alloc, worker) {
+        Ok(()) => worker.collect(),
+        Err(fault) => Err(fault),
+    }
+}
+
 /// Makes the events of a source from a machine's beginning on, one after the other on this thread, as
 /// turns of seat 0, and gives the journal. It waits for nobody and starts no thread, so it returns.
-/// `OutOfMemory`: a growth was refused, and the journal has the events that were made.
+/// Where a kind of collections is given, one is made before each event and one behind the last, as turns
+/// of seat 0, and the events are turns of seat 1: the journal has them all in this order, and no other. A
+/// collection changes nothing of a world, so the journal leads to the world of the events.
+/// `OutOfMemory`: a growth was refused, and the journal has the events that were made, with those
+/// collections.
 pub fn make_journal<S: EventSource, H: Heap + Drop, R: Origin>(
     alloc: Global,
     machine: Machine<H>,
     source: &S,
+    stress: Option<Kind>,
 ) -> Made<H, R>
     requires first { MatchesWorld machine R.first }
     requires begins { HasOneThread R.first }
-    ensures { let choice = listed (S.events source.now R.first) in
+    ensures events { let choice = listed (with_collections stress (S.events source.now R.first)) in
         MatchResult result.1 (λ _. Makes R.first choice (events_of result.0.entries)) (λ _. MakesSome R.first choice (events_of result.0.entries)) }
+    ensures ends { let choice = listed (S.events source.now R.first) in let w = world_after R.first result.0.entries in
+        MatchResult result.1 (λ _. RunEnds R.first choice (all_made w)) (λ _. RunEnds R.first choice (cut_short w)) }
 {
-    let mut worker = SoleWorker::new(alloc, machine);
-    let made = source.make_events(alloc, &mut worker);
+    let mut worker = SoleWorker::new(alloc, machine, stress);
+    let made = make_all(alloc, source, &mut worker);
     (worker.into_journal(), made)
 }
 
@@ -234,7 +265,7 @@ fn run_events<S: EventSource, H: Heap + Drop, R: Origin, O: Watchable, E: Watcha
     ensures { (e : Ending) × Ends wanted.show_heap R.first (listed (S.events source.now R.first)) e
         × Leaves (words O.contents O.ends) (words E.contents E.ends) e result.status out.old out.new err.old err.new }
 {
-    let (journal, made) = make_journal::<S, H, R>(alloc, machine, source);
+    let (journal, made) = make_journal::<S, H, R>(alloc, machine, source, wanted.stress);
     let finished = tell_made(alloc, &journal, made, wanted, out, err);
     drop(journal);
     finished
@@ -518,7 +549,8 @@ fn execute_debug<C: Collector + Drop, W: Wait, R: Readable, O: Watchable, E: Wat
 /// the threads that have not ended, if any, and the view of the heap, where the job says so; the
 /// status says how the run ended. The view is made before anything is written; where a growth is
 /// refused then, all of the output is written, and the line and the status are those of want of
-/// memory.
+/// memory. Where the job asks for collections between the events of one worker, one is made before each
+/// and one behind the last; nothing that is told changes by them.
 ///
 /// `Replay`: the same, but that the events are those of a record, made again on this thread. At the
 /// first of them whose reply is of another kind than its line says, what was printed up to and with it

@@ -1,6 +1,7 @@
 ghost use Rattle.std.specs.Prelude.{◌≡◌, ◌≤◌};
 
 use jm_explore::Bounds;
+use jm_heap::Kind;
 use jm_schedule::RoundRobin;
 
 /// What reading a file came to.
@@ -141,6 +142,9 @@ pub struct RunJob {
     pub show_heap: bool,
     /// Whether a record of the run is wanted.
     pub is_recorded: bool,
+    /// Of which kind a collection is made before each event and behind the last one, where such are
+    /// wanted. Several workers make none.
+    pub stress: Option<Kind>,
 }
 
 // Written out, so that whoever lets go of one makes a call (docs/DECISIONS.md).
@@ -153,6 +157,7 @@ impl Drop for RunJob {
             program: _,
             show_heap: _,
             is_recorded: _,
+            stress: _,
         } = self;
     }
 }

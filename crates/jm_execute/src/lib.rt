@@ -65,6 +65,7 @@ pub use explanation::{explain, tell_version};
 pub use exploring::Lack;
 pub use files::{bytes_of, check_read};
 pub use jm_explore_text::Utf8;
+pub use jm_heap::Kind;
 pub use job::{
     AssembleJob, Contents, Copiers, DebugJob, DisassembleJob, ExploreJob, InputFile, Job,
     ReplayJob, RunEvents, RunJob, Workers, several_workers, so_many_copiers,

@@ -1,12 +1,13 @@
 // The events of a round robin.
 
-ghost use Rattle.std.specs.Prelude.{◌≡◌, ◌≤◌, ◌<◌, ◌⊎◌, ℕ, [], Some, IfOk, IfSome, MatchResult};
+ghost use Rattle.std.specs.Prelude.{◌≡◌, ◌≤◌, ◌<◌, ◌⊎◌, ℕ, [], true, Some, IfOk, IfSome, MatchResult};
 ghost use Rattle.jm_machine.specs.ManySteps.{EndsBy, made_of_steps, steps_of};
 ghost use Rattle.jm_world.specs.RoundRobin.{robin};
 ghost use Rattle.jm_world.specs.Run.{after};
 ghost use Rattle.jm_world.specs.World.{World};
 ghost use Rattle.jm_world.specs.declared.event.Event.TheVariants.{Step};
 ghost use Rattle.jm_execute.specs.Beginnings.{HasOneThread};
+ghost use Rattle.jm_execute.specs.Collecting.{MakesAtOnce};
 ghost use Rattle.jm_execute.specs.Passes.{IsAlone, Knows};
 ghost use Rattle.jm_execute.specs.Standings.{Answer, Goes, IsTurn, LeadsTo, Makes, from_of, left_behind, left_in, robin_at, standing_after, standing_behind, turn_behind};
 ghost use Rattle.jm_execute.specs.Turns.{AreReplies, Records, RecordsPart, world_by};
@@ -109,14 +110,18 @@ fn after_done(standing: Standing, turn: Turn, count: usize, quantum: usize) -> (
     (standing, turn)
 }
 
-// How many events of a turn may be made at once: those that it has left, or all steps where no other
-// thread is live.
-fn most_at_once(pass: &Pass, left: usize, steps: usize) -> usize
+// How many events of a turn may be made at once: one where no worker makes many, and else those that it
+// has left, or all steps where no other thread is live.
+fn most_at_once(pass: &Pass, left: usize, steps: usize, many: bool) -> usize
     requires { (0 < left) × (0 < steps) }
     ensures some { 0 < result }
     ensures within { result ≤ steps }
     ensures turn { (result ≤ left) ⊎ IsAlone pass.now }
+    ensures many { (many ≡ true) ⊎ (result ≡ 1) }
 {
+    if !many {
+        return 1;
+    }
     if pass.is_alone() {
         steps
     } else {
@@ -184,12 +189,13 @@ fn see_steps(
 // Makes steps of one thread, at most so many. They end before that only by one that answers otherwise
 // than done, or makes or ends a thread, which is made, or where a growth was refused.
 fn make_steps<H: Heap, R: Origin>(worker: &mut SoleWorker<H, R>, thread: u64, most: usize) -> Steps
-    requires { 0 < most }
+    requires some { 0 < most }
+    requires at_once { MakesAtOnce worker.old.stress most }
     ensures ends { EndsBy most result }
     ensures records { Records worker.old.receipts worker.new.receipts (steps_of thread (made_of_steps result)) }
     ensures answer { let w = world_by R.first worker.old.receipts in AreReplies R.first worker.new.receipts → Answer w thread result }
     ensures before { AreReplies R.first worker.new.receipts → AreReplies R.first worker.old.receipts }
-    ensures number { worker.new.number ≡ worker.old.number }
+    ensures stress { worker.new.stress ≡ worker.old.stress }
 {
     worker.turns(thread, most).steps
 }
@@ -211,9 +217,10 @@ fn make_turn<H: Heap, R: Origin>(
         (λ _. RecordsPart worker.old.receipts worker.new.receipts (robin_at steps quantum w standing)) }
     ensures count { IfOk result (λ m. (0 < m.count) × (m.count ≤ steps)) }
     ensures before { AreReplies R.first worker.new.receipts → AreReplies R.first worker.old.receipts }
-    ensures number { worker.new.number ≡ worker.old.number }
+    ensures stress { worker.new.stress ≡ worker.old.stress }
 {
-    let most = most_at_once(pass, left_in(standing, turn, quantum), steps);
+    let many = worker.makes_many();
+    let most = most_at_once(pass, left_in(standing, turn, quantum), steps, many);
     let made = make_steps(worker, turn.thread, most);
     see_steps(pass, standing, turn, made, most, quantum)
 }
@@ -234,7 +241,7 @@ fn make_next<H: Heap, R: Origin>(
         Goes R.first steps quantum standing worker.old.receipts worker.new.receipts pass.new result }
     ensures count { IfOk result (λ next. IfSome next (λ m. (0 < m.count) × (m.count ≤ steps))) }
     ensures before { AreReplies R.first worker.new.receipts → AreReplies R.first worker.old.receipts }
-    ensures number { worker.new.number ≡ worker.old.number }
+    ensures stress { worker.new.stress ≡ worker.old.stress }
 {
     match pass.next_turn(standing.moved) {
         Some(turn) => {

@@ -2,7 +2,9 @@
 
 use super::words::words_of;
 use crate::table::row_of;
-use jm_options::{ExplainOptions, ExploreOptions, Options, ReplayOptions, RunOptions, options};
+use jm_options::{
+    ExplainOptions, ExploreOptions, Options, ReplayOptions, RunOptions, Stress, options,
+};
 use std::alloc::Global;
 use std::test::Fail;
 
@@ -34,6 +36,8 @@ jm|run|--workers=2|--schedule=s.txt|--record=r|Main.class => run of Main.class b
 jm|run|--copiers|16|Main.class => run of Main.class by 1000000 steps in turns of 1 with 65536 by 16 copiers
 jm|run|--copiers=1|Main.class => run of Main.class by 1000000 steps in turns of 1 with 65536
 jm|run|Main.class|--copiers=2|--workers=3|--show-heap|--heap=16 => run of Main.class by 1000000 steps of 3 workers with 16 by 2 copiers, its heap shown
+jm|run|--stress|minor|Main.class => run of Main.class by 1000000 steps in turns of 1 with 65536, minor collections
+jm|run|Main.class|--stress=full|--workers=1|--schedule=s.txt => run of Main.class by s.txt with 65536, full collections
 jm|replay|r|Main.class => replay of Main.class by r with 65536
 jm|replay|--copiers=8|r|Main.class|--show-heap => replay of Main.class by r with 65536 by 8 copiers, its heap shown
 jm|replay|--heap=16|r|Main.class|A.j|--show-heap => replay of Main.class, A.j by r with 16, its heap shown
@@ -101,6 +105,15 @@ fn heap_text(alloc: Global, heap: u32, copiers: u32) -> Result<String, Fail> {
     }
 }
 
+// The collections between the events.
+fn stress_text(stress: Option<Stress>) -> &'static str {
+    match stress {
+        Some(Stress::Minor) => ", minor collections",
+        Some(Stress::Full) => ", full collections",
+        None => "",
+    }
+}
+
 fn run_text(alloc: Global, run: &RunOptions) -> Result<String, Fail> {
     let files = list_of(alloc, &run.files)?;
     let events = events_of(alloc, run)?;
@@ -110,7 +123,8 @@ fn run_text(alloc: Global, run: &RunOptions) -> Result<String, Fail> {
     } else {
         ""
     };
-    let text = format!(in alloc; "run of {files} by {events} with {heap}{shown}")?;
+    let stress = stress_text(run.stress);
+    let text = format!(in alloc; "run of {files} by {events} with {heap}{shown}{stress}")?;
     match &run.record_file {
         Some(file) => Ok(format!(in alloc; "{text}, recorded in {file}")?),
         None => Ok(text),
@@ -191,6 +205,6 @@ fn words_ask_for_this(rt: HostRuntime) -> Result<(), Fail> {
         let answer = answer(rt.alloc(), words)?;
         assert!(rt; answer.as_str() == want, "{row}");
     }
-    assert!(rt; ASKED.lines().count() == 56);
+    assert!(rt; ASKED.lines().count() == 58);
     Ok(())
 }

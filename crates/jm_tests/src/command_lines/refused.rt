@@ -72,7 +72,14 @@ jm explore --show-heap A.class => 1 error: unexpected argument '--show-heap' fou
 jm run --show-heap --show-heap A.class => 1 error: the argument '--show-heap' cannot be used multiple times
 jm run --show-heap=1 A.class => 1 error: unexpected value '1' for '--show-heap' found; no more were expected
 jm run --show-heaps A.class => 1 error: unexpected argument '--show-heaps' found
-jm run --stress=minor --schedule=s A.class => 1 error: unexpected argument '--stress' found
+jm run A.class --stress => 1 error: a value is required for '--stress <KIND>' but none was supplied
+jm run --stress=some A.class => 1 error: invalid value 'some' for '--stress <KIND>'
+jm run --stress= A.class => 1 error: invalid value '' for '--stress <KIND>'
+jm run --stress Minor A.class => 1 error: invalid value 'Minor' for '--stress <KIND>'
+jm run --stress=minor --stress=full A.class => 1 error: the argument '--stress <KIND>' cannot be used multiple times
+jm run --stress=minor --workers=2 A.class => 1 error: the argument '--stress <KIND>' cannot be used with several workers
+jm run --stress=full --schedule=s --workers=16 A.class => 1 error: the argument '--stress <KIND>' cannot be used with several workers
+jm replay --stress=minor r A.class => 1 error: unexpected argument '--stress' found
 jm --heap=16 run --schedule=s A.class => 1 error: unexpected argument '--heap' found
 jm debug => 1 error: the following required arguments were not provided:
 jm debug --help => 1 Show a program at any event: commands are read from standard input, a line each
@@ -144,6 +151,8 @@ jm debug -h => Class files, or texts ending in .j; the first one's `main` is run
 jm run -h => Copiers that collect the heap side by side, from 1 to 16; what is printed does not depend on them
 jm debg => a similar subcommand exists: 'debug'
 jm run --show-heaps A.class => a similar argument exists: '--show-heap'
+jm run -h => Collect before each event and behind the last one, KIND being `minor` or `full`; not with several workers
+jm run --stress=some A.class =>   [possible values: minor, full]
 jm run -h => [default: 65536]
 jm run -h => [default: 1000000]
 jm run -h => [default: 1]
@@ -183,7 +192,7 @@ fn refusals_name_the_word(rt: HostRuntime) -> Result<(), Fail> {
         let said = first_line(rt.alloc(), words)?;
         assert!(rt; said.as_str() == want, "{row}");
     }
-    assert!(rt; REFUSED.lines().count() == 104);
+    assert!(rt; REFUSED.lines().count() == 111);
     Ok(())
 }
 
@@ -201,7 +210,7 @@ fn refusals_say_what_to_write(rt: HostRuntime) -> Result<(), Fail> {
         let (words, part) = row_of(row)?;
         assert!(rt; says(rt.alloc(), words, part)?, "{row}");
     }
-    assert!(rt; PARTS.lines().count() == 47);
+    assert!(rt; PARTS.lines().count() == 49);
     Ok(())
 }
 

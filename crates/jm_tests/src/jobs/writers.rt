@@ -3,8 +3,8 @@
 ghost use Rattle.std.specs.Prelude.{⊤};
 
 use jm_execute::{
-    AssembleJob, Contents, DebugJob, DisassembleJob, InputFile, Job, ReplayJob, RunEvents, RunJob,
-    Watchable, Watched, WriteFailed, execute, put_by_write, put_line_by_write,
+    AssembleJob, Contents, DebugJob, DisassembleJob, InputFile, Job, Kind, ReplayJob, RunEvents,
+    RunJob, Watchable, Watched, WriteFailed, execute, put_by_write, put_line_by_write,
     put_through_by_flush, several_workers, so_many_copiers,
 };
 use std::alloc::{AllocError, Global};
@@ -137,7 +137,7 @@ fn file(alloc: Global, text: &str) -> Result<InputFile, AllocError> {
     })
 }
 
-fn run_job(alloc: Global, events: RunEvents) -> Result<Job, AllocError> {
+fn run_job(alloc: Global, events: RunEvents, stress: Option<Kind>) -> Result<Job, AllocError> {
     Ok(Job::Run(RunJob {
         heap: 100,
         copiers: so_many_copiers(1),
@@ -145,12 +145,19 @@ fn run_job(alloc: Global, events: RunEvents) -> Result<Job, AllocError> {
         program: vec![in alloc; file(alloc, FIVE)?]?,
         show_heap: false,
         is_recorded: true,
+        stress,
     }))
 }
 
 fn scheduled_job(alloc: Global, schedule: &str) -> Result<Job, AllocError> {
     let schedule = file(alloc, schedule)?;
-    run_job(alloc, RunEvents::Schedule(schedule))
+    run_job(alloc, RunEvents::Schedule(schedule), None)
+}
+
+// A run with a collection of a kind before each event and one behind the last.
+fn stressed_job(alloc: Global, kind: Kind) -> Result<Job, AllocError> {
+    let schedule = file(alloc, "t 1 x 7")?;
+    run_job(alloc, RunEvents::Schedule(schedule), Some(kind))
 }
 
 fn replay_job(alloc: Global, record_text: &str) -> Result<Job, AllocError> {
@@ -191,7 +198,9 @@ pub fn job_of(alloc: Global, name: &str) -> Result<Job, AllocError> {
     match name {
         "run 7" => scheduled_job(alloc, "t 1 x 7"),
         "run 6" => scheduled_job(alloc, "t 1 x 6"),
-        "workers" => run_job(alloc, RunEvents::Workers(several_workers(3, 7))),
+        "minor" => stressed_job(alloc, Kind::Minor),
+        "full" => stressed_job(alloc, Kind::Full),
+        "workers" => run_job(alloc, RunEvents::Workers(several_workers(3, 7)), None),
         "replay" => replay_job(alloc, SEVEN),
         "differs" => replay_job(alloc, OTHER_SIXTH),
         "bare" => replay_job(alloc, "t 1\n"),
@@ -300,17 +309,45 @@ fn record_of(rt: &(impl Threads + Wait + Sync), alloc: Global, name: &str) -> Re
     }
 }
 
-// Jobs, and the line that stands in the record for each of so many events; a run that 61 did not end has one.
+// Jobs, and the lines that stand in the record for each of so many events, with `~` between them, and behind the
+// last event; a run that 61 did not end has one.
 const RECORDS: &str = "\
-run 7 | t 1 @0 done | 7
-run 6 | t 1 @0 done | 6
-asm | - | 0
-dis | - | 0
-debug | - | 0
-replay | - | 0
-differs | - | 0
-bare | - | 0
+run 7 | t 1 @0 done | 7 | -
+run 6 | t 1 @0 done | 6 | -
+minor | minor @0 done~t 1 @1 done | 7 | minor @0 done
+full | full @0 done~t 1 @1 done | 7 | full @0 done
+asm | - | 0 | -
+dis | - | 0 | -
+debug | - | 0 | -
+replay | - | 0 | -
+differs | - | 0 | -
+bare | - | 0 | -
 ";
+
+// Adds the lines of a column, none for `-`.
+fn add_lines(text: &mut String, column: &str) -> Result<(), AllocError> {
+    if column == "-" {
+        return Ok(());
+    }
+    for line in column.split('~') {
+        text.push_str(line)?;
+        text.push_str("\n")?;
+    }
+    Ok(())
+}
+
+// The record of the columns, and `-` where there is none.
+fn wanted_record(alloc: Global, lines: &str, count: u32, last: &str) -> Result<String, AllocError> {
+    if lines == "-" {
+        return String::from_str(alloc, "-");
+    }
+    let mut wanted = String::new(alloc);
+    for _ in 0..count {
+        add_lines(&mut wanted, lines)?;
+    }
+    add_lines(&mut wanted, last)?;
+    Ok(wanted)
+}
 
 fn check_record(
     rt: &(impl Abort + Threads + Wait + Sync),
@@ -318,17 +355,10 @@ fn check_record(
     row: &str,
 ) -> Result<(), Fail> {
     let columns: Vec<&str> = row.split(" | ").collect(alloc)?;
-    let [job, line, count] = columns.as_slice() else {
+    let [job, lines, count, last] = columns.as_slice() else {
         return Err(Fail::from("a row without its columns"));
     };
-    let mut wanted = String::new(alloc);
-    for _ in 0..count.parse::<u32>()? {
-        wanted.push_str(line)?;
-        wanted.push_str("\n")?;
-    }
-    if *line == "-" {
-        wanted.push_str("-")?;
-    }
+    let wanted = wanted_record(alloc, lines, count.parse()?, last)?;
     let text = record_of(rt, alloc, job)?;
     assert!(rt; text.as_str() == wanted.as_str(), "{row}");
     Ok(())

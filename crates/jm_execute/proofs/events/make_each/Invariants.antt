@@ -6,5 +6,5 @@ use Rattle.jm_execute.proofs.events.make_each.Given as goal
 abbrev pub invariant-loop : goal.invariant-loop
 invariant-loop g l = record {
   made : Records l.initial.worker.receipts l.worker.receipts (replicate l.counter l.run.event);
-  number : l.worker.number ≡ l.initial.worker.number;
+  stress : l.worker.stress ≡ l.initial.worker.stress;
 }

@@ -1,13 +1,13 @@
 -- Each turn of the loop makes some steps more.
-use Rattle.std.proofs.Common.{◌+◌, ◌-◌, ◌≤◌, refl, arith}
+use Rattle.std.proofs.Common.{◌+◌, ◌-◌, ◌≤◌, refl, ◌∙◌, arith}
 use Rattle.jm_machine.specs.ManySteps.{made_of_steps}
-use Rattle.jm_execute.proofs.ManyReceipts.{made_all, made_other, made_short, same_number, steps_part, steps_recorded, turns_recorded}
+use Rattle.jm_execute.proofs.ManyReceipts.{made_all, made_other, made_short, steps_part, steps_recorded, turns_recorded}
 use Rattle.jm_execute.proofs.events.make_steps.Goals as goal
 
 pub returns-in-AllMade-clause-made : goal.returns-in-AllMade-clause-made
 returns-in-AllMade-clause-made g c =
     let turns = c.turns.result in
-    let more = turns_recorded c.loop-left.worker c.turns.new.self c.args.thread turns c.turns.ensures.receipts.1 c.turns.ensures.seat in
+    let more = turns_recorded c.loop-left.worker.receipts c.turns.new.self.receipts c.args.thread turns c.turns.ensures.told.1 c.turns.ensures.receipts in
     let all = made_all c.loop-left.left turns.steps c.in-AllMade.is c.turns.ensures.ends in
     let within = c.loop-left.invariant.within in
     steps_recorded _ _ _ c.args.thread (c.args.count - c.loop-left.left) (made_of_steps turns.steps) c.args.count c.loop-left.invariant.made more
@@ -16,7 +16,7 @@ returns-in-AllMade-clause-made g c =
 pub loop-left-preserved : goal.loop-left-preserved
 loop-left-preserved g c =
     let turns = c.turns.result in
-    let more = turns_recorded c.loop-left.worker c.turns.new.self c.args.thread turns c.turns.ensures.receipts.1 c.turns.ensures.seat in
+    let more = turns_recorded c.loop-left.worker.receipts c.turns.new.self.receipts c.args.thread turns c.turns.ensures.told.1 c.turns.ensures.receipts in
     let other = made_other c.loop-left.left turns.steps c.in-Other.field-0 c.in-Other.is c.turns.ensures.ends in
     let count = other.0 in
     let few = other.1 in
@@ -26,13 +26,13 @@ loop-left-preserved g c =
           (c.args.count - (c.loop-left.left - (turns.steps.alike + 1))) c.loop-left.invariant.made more
           (omega (arith, count, few, within));
       within = omega (arith, within);
-      number = same_number c.turns.new.self c.loop-left.worker.number c.args.worker.now.number _ c.turns.ensures.seat c.loop-left.invariant.number;
+      stress = c.turns.ensures.stress ∙ c.loop-left.invariant.stress;
     }
 
 pub returns-in-OutOfMemory-clause-made : goal.returns-in-OutOfMemory-clause-made
 returns-in-OutOfMemory-clause-made g c =
     let turns = c.turns.result in
-    let more = turns_recorded c.loop-left.worker c.turns.new.self c.args.thread turns c.turns.ensures.receipts.1 c.turns.ensures.seat in
+    let more = turns_recorded c.loop-left.worker.receipts c.turns.new.self.receipts c.args.thread turns c.turns.ensures.told.1 c.turns.ensures.receipts in
     let few = made_short c.loop-left.left turns.steps c.in-OutOfMemory.is c.turns.ensures.ends in
     let within = c.loop-left.invariant.within in
     let made = c.args.count - c.loop-left.left + made_of_steps turns.steps in

@@ -8,7 +8,7 @@ abbrev pub invariant-loop-left : goal.invariant-loop-left
 invariant-loop-left g l = record {
   made : Records l.initial.worker.receipts l.worker.receipts (steps_of l.thread (l.count - l.left));
   within : l.left ≤ l.count;
-  number : l.worker.number ≡ l.initial.worker.number;
+  stress : l.worker.stress ≡ l.initial.worker.stress;
 }
 
 abbrev pub decreases-loop-left : goal.decreases-loop-left

@@ -1,14 +1,25 @@
--- The journal's entries are those of the worker's receipts.
-use Rattle.std.proofs.Common.{◌≡◌, ap}
-use Rattle.jm_shared.specs.Seats.{of_seat}
-use Rattle.jm_execute.proofs.Receipts.{its_events, its_replies, journal_made}
+-- The journal's entries are those of the worker's receipts, with collections between them.
+use Rattle.std.proofs.Common.{ap, ◌∙◌}
+use Rattle.jm_execute.specs.Collecting.{own_seat}
+use Rattle.jm_execute.proofs.Receipts.{its_replies, its_world, journal_ends, journal_made}
 use Rattle.jm_execute.proofs.execution.make_journal.Goals as goal
 
-pub returns : goal.returns
-returns g c =
-    let h = c.make_events-made.new.worker in
+pub returns-clause-events : goal.returns-clause-events
+returns-clause-events g c =
+    let w = c.make_all-made.new.worker in
     let es = c.into_journal.result.entries in
-    let receipts : h.receipts ≡ of_seat 0 0 es = ap (λ h. h.receipts) c.into_journal.ensures.lists in
-    let known = c.into_journal.ensures.known in
-    let are = its_replies g.R.Origin.first es h.receipts known receipts c.into_journal.ensures.legal in
-    journal_made c.make_events-made.result es h.receipts _ (its_events es h.receipts known receipts) (c.make_events-made.ensures.made are)
+    let is = c.into_journal.ensures in
+    let are = its_replies g.R.Origin.first (own_seat w.stress) es w.receipts is.woven.known is.lists is.legal in
+    journal_made c.make_all-made.result w.stress c.args.stress w.collected es w.receipts _
+    (c.make_all-made.ensures.stress ∙ ap (λ x. x.stress) c.new-worker.ensures) is.lists is.woven c.make_all-made.ensures.collected
+    (c.make_all-made.ensures.made are)
+
+pub returns-clause-ends : goal.returns-clause-ends
+returns-clause-ends g c =
+    let w = c.make_all-made.new.worker in
+    let es = c.into_journal.result.entries in
+    let is = c.into_journal.ensures in
+    let seat = own_seat w.stress in
+    let are = its_replies g.R.Origin.first seat es w.receipts is.woven.known is.lists is.legal in
+    journal_ends c.make_all-made.result g.R.Origin.first _ w.receipts _ (its_world g.R.Origin.first seat es w.receipts is.woven.known is.lists)
+    (c.make_all-made.ensures.made are)

@@ -1,21 +1,19 @@
 -- All events, or those before a growth was refused.
-use Rattle.std.proofs.Common.{refl, subst, sym}
+use Rattle.std.proofs.Common.{subst, sym}
 use Rattle.jm_machine.specs.View.{MatchesWorld}
-use Rattle.jm_shared.specs.Legal.{events_of, world_after}
+use Rattle.jm_shared.specs.Legal.{world_after}
 use Rattle.jm_execute.specs.Endings.{interrupted}
 use Rattle.jm_execute.proofs.Telling.{ends_in}
 use Rattle.jm_execute.proofs.execution.tell_made.Goals as goal
 
 pub returns-in-Ok : goal.returns-in-Ok
 returns-in-Ok g c = λ choice made.
-    let entries = c.args.journal.now.entries in
-    let w = world_after g.R.Origin.first entries in
+    let w = world_after g.R.Origin.first c.args.journal.now.entries in
     let (ending, ends, leaves) = c.tell_all_made.ensures w c.machine-machine.ensures.matched in
-    (ending, ends_in _ _ choice w (events_of entries, rw c.in-Ok.is at made, refl) ending ends, leaves)
+    (ending, ends_in _ _ choice w (rw c.in-Ok.is at made) ending ends, leaves)
 
 pub returns-in-Err : goal.returns-in-Err
 returns-in-Err g c = λ choice made.
-    let entries = c.args.journal.now.entries in
-    let w = world_after g.R.Origin.first entries in
+    let w = world_after g.R.Origin.first c.args.journal.now.entries in
     let matches = subst (λ m. MatchesWorld m w) (sym c.machine-machine.ensures.machine) c.machine-machine.ensures.matched in
-    (interrupted w, (events_of entries, rw c.in-Err.is at made, refl), rw c.without_record.ensures (c.tell_interrupted.ensures w matches))
+    (interrupted w, rw c.in-Err.is at made, rw c.without_record.ensures (c.tell_interrupted.ensures w matches))

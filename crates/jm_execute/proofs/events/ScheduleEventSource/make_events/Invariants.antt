@@ -7,5 +7,5 @@ use Rattle.jm_execute.proofs.events.ScheduleEventSource.make_events.Given as goa
 abbrev pub invariant-loop-run : goal.invariant-loop-run
 invariant-loop-run g l = record {
   made : Records [] l.worker.receipts (events_of (take l.run-index l.runs));
-  number : l.worker.number ≡ l.fn.worker.number;
+  stress : l.worker.stress ≡ l.fn.worker.stress;
 }

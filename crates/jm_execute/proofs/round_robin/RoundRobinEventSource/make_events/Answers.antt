@@ -6,7 +6,7 @@ use Rattle.jm_execute.proofs.round_robin.RoundRobinEventSource.make_events.Goals
 pub loop-left-init : goal.loop-left-init
 loop-left-init g c = record {
   made = λ are. begun g.R.Origin.first c.args.self.now.steps c.args.self.now.quantum c.args.worker.now.receipts c.in-Ok.pass c.requires.fresh (c.in-Ok.ensures g.R.Origin.first c.requires.begins);
-  number = refl;
+  stress = refl;
 }
 
 pub returns-in-Err-make_next-clause-made : goal.returns-in-Err-make_next-clause-made

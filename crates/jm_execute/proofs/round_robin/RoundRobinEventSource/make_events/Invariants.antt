@@ -7,7 +7,7 @@ use Rattle.jm_execute.proofs.round_robin.RoundRobinEventSource.make_events.Given
 abbrev pub invariant-loop-left : goal.invariant-loop-left
 invariant-loop-left g l = record {
   made : AreReplies g.R.Origin.first l.worker.receipts → SoFar g.R.Origin.first l.self.steps l.self.quantum l.left l.standing l.worker.receipts l.pass;
-  number : l.worker.number ≡ l.fn.worker.number;
+  stress : l.worker.stress ≡ l.fn.worker.stress;
 }
 
 abbrev pub decreases-loop-left : goal.decreases-loop-left

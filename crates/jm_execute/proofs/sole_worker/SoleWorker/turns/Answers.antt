@@ -1,11 +1,10 @@
--- So many receipts more.
-use Rattle.jm_execute.proofs.SoleTurns.{counted, many_more}
+-- So many receipts more, or none.
+use Rattle.std.proofs.Common.{ap, subst}
+use Rattle.jm_world.specs.Run.{reply}
+use Rattle.jm_world.specs.declared.reply.ReplyKind.TheVariants.{Done}
+use Rattle.jm_execute.specs.Turns.{world_by}
+use Rattle.jm_execute.proofs.SoleTurns.{none_more}
 use Rattle.jm_execute.proofs.sole_worker.SoleWorker.turns.Goals as goal
 
-pub returns-clause-reply : goal.returns-clause-reply
-returns-clause-reply g c =
-    counted g.R.Origin.first c.self.inside.journal.entries c.turns.result c.args.self.now c.self.view_is c.self.invariant c.turns.ensures.reply
-
-pub returns-clause-seat : goal.returns-clause-seat
-returns-clause-seat g c =
-    many_more c.self.inside.journal.entries c.turns.new.self.entries c.turns.result c.args.self.now c.self.view_is c.turns.ensures.receipts.0 c.turns.ensures.receipts.1 c.turns.ensures.entries
+pub returns-in-Err-clause-receipts : goal.returns-in-Err-clause-receipts
+returns-in-Err-clause-receipts g c = none_more _ _ c.no_turns.result c.in-Err.ensures.receipts c.no_turns.ensures.none.0 c.no_turns.ensures.none.1
