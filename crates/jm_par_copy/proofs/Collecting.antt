@@ -1,62 +1,45 @@
 -- The end of a collection is what a collector promises.
-use Rattle.std.proofs.Common.{◌≡◌, ◌≢◌, ◌⊎◌, ℕ, ◌≤◌, List, [], ◌∷◌, Option, Some, None, true, false, cond, refl, sym, ap, ◌∙◌, inl, inr, length, eq-eqb, arith}
-use Rattle.std.specs.Prelude.{slice_get, nat_eq}
+use Rattle.std.proofs.Common.{◌≡◌, ◌≢◌, ◌⊎◌, ℕ, zero, suc, ◌+◌, ◌≤◌, List, [], ◌∷◌, ◌++◌, length, Option, Some, None, true, false, cond, refl, sym, ap, ◌∙◌, inl, inr, subst, eq-eqb, arith}
+use Rattle.std.specs.Prelude.{drop, slice_get, nat_eq}
 use Rattle.std.proofs.lemmas.Bool.Decides.{eqb_tells}
-use Rattle.std.proofs.lemmas.Option.{slice_get_within}
+use Rattle.jm_values.specs.Reach.{AllDistinct}
+use Rattle.jm_values.specs.Shape.{Among}
 use Rattle.jm_blocks.specs.Objects.{Object}
-use Rattle.jm_blocks.specs.Places.{block_of, lane_of}
+use Rattle.jm_blocks.specs.Places.{lane_of}
 use Rattle.jm_blocks.specs.Stores.{Blocks, objects_in}
-use Rattle.jm_blocks.proofs.Placing.{lane_put, lies_in}
+use Rattle.jm_blocks.proofs.Placing.{elsewhere, lane_put, lies_in}
 use Rattle.jm_forward.specs.Hands.{TableView, all_wins}
 use Rattle.jm_copy.specs.Collected.{fresh, promoted_in, survivors}
 use Rattle.jm_copy.specs.Condemned.{objects_at}
 use Rattle.jm_copy.specs.Image.{IsImage}
 use Rattle.jm_copy.proofs.Images.{image_same}
-use Rattle.jm_copy.proofs.Making.{made_above, made_young, unequal}
-use Rattle.jm_par_copy.specs.Copiers.{AllFill, AreApartGiven, AreInLanes, ArePlaced, AreSeated, IsPlaced, all_pieces, hands, parts}
-use Rattle.jm_par_copy.specs.Ending.{AllLoads, AreLoads, EndIsCollected, HeldIsLoads, stored}
+use Rattle.jm_copy.proofs.Making.{unequal}
+use Rattle.jm_par_copy.specs.Copiers.{AllFill, AreApartGiven, AreDifferent, AreInLanes, ArePlaced, AreSeated, IsPlaced, all_pieces, hands, parts}
+use Rattle.jm_par_copy.specs.Ending.{AllLoads, AreLoads, EndIsCollected, HeldIsLoads, new_if, new_of, stocks, stored}
 use Rattle.jm_par_copy.specs.Holding.{AreApartPieces, IsInOne}
-use Rattle.jm_par_copy.specs.Merging.{AreBeside}
+use Rattle.jm_par_copy.specs.Merging.{GoesOver}
 use Rattle.jm_par_copy.specs.Pieces.{IsPiece, place_in}
 use Rattle.jm_par_copy.specs.Together.{AreApart, joint, moved_by_wins}
 use Rattle.jm_par_copy.specs.declared.piece.Piece.{Piece}
 use Rattle.jm_par_copy.specs.declared.copier.Copier.{Copier}
-use Rattle.jm_par_copy.proofs.Copiers.{MadeBy, apart_of, joint_where, one_left, one_right}
+use Rattle.jm_par_copy.proofs.Copiers.{apart_of, one_left, one_right}
 use Rattle.jm_par_copy.proofs.Ends.{ages_are_by_lane, end_is_image}
 use Rattle.jm_par_copy.proofs.Pieces.{in_here}
 use Rattle.jm_par_copy.proofs.Reordering.{get_one}
 use Rattle.jm_par_copy.proofs.Sharing.{both_left, both_right}
+use Rattle.jm_par_copy.proofs.Stocks.{joint_clear, never_clear, own_once, stock_once, stocks_joint, stocks_over, stored_old, stored_young}
 
--- what two stores have
-pub stored_young : (young old : Blocks) (n : ℕ) → lane_of n ≡ young.lane → stored young old n ≡ objects_in young n
-stored_young young old n e = made_young young old None n e
-
-pub stored_old : (young old : Blocks) (n : ℕ) → lane_of n ≢ young.lane → stored young old n ≡ objects_in old n
-stored_old young old n e = made_above young old None n e refl
-
-module _ (young old first : ℕ) where
-  filled_in_lanes : (cs : List Copier) → AllFill young old first cs → AreInLanes young old cs
+module _ (young : ℕ) (before : Blocks) where
+  filled_in_lanes : (cs : List Copier) → AllFill young before cs → AreInLanes young before.lane cs
   filled_in_lanes [] f = tt
   filled_in_lanes (c ∷ cs) f = (f.0.young_lane, f.0.old_lane, filled_in_lanes cs f.1)
 
-  made_is_placed : (cs : List Copier) (n : ℕ) → AllFill young old first cs → MadeBy cs n → IsPlaced young old first n
-  made_is_placed [] n f h = absurd h
-  made_is_placed (c ∷ cs) n f (inl h) = f.0.made n h
-  made_is_placed (c ∷ cs) n f (inr h) = made_is_placed cs n f.1 h
-
-  pub held_is_placed : (cs : List Copier) (aside : List Piece) (n : ℕ) (a : Object) → ArePlaced young old first cs aside → joint (parts cs aside) n ≡ Some a → IsPlaced young old first n
-  held_is_placed cs aside n a p e = by (joint_where cs aside n a e)
-    where
-      by : MadeBy cs n ⊎ IsInOne (all_pieces cs aside) n → IsPlaced young old first n
-      by (inl h) = made_is_placed cs n p.own h
-      by (inr h) = p.pieces n h
-
   -- a block has the lane of its places
-  lane_is : (x : Piece) → IsPiece x → IsPlaced young old first (place_in x 0) → (x.lane ≡ young) ⊎ (x.lane ≡ old)
+  lane_is : (x : Piece) → IsPiece x → IsPlaced young before (place_in x 0) → (x.lane ≡ young) ⊎ (x.lane ≡ before.lane)
   lane_is x p (inl e) = inl (sym (lane_put x.lane x.number 0 p.lane (omega arith)) ∙ e)
   lane_is x p (inr e) = inr (sym (lane_put x.lane x.number 0 p.lane (omega arith)) ∙ e.0)
 
-  are_loads : (xs : List Piece) → ((i : ℕ) (x : Piece) → slice_get xs i ≡ Some x → IsPiece x) → AreApartPieces xs → ((n : ℕ) → IsInOne xs n → IsPlaced young old first n) → AreLoads young old xs
+  are_loads : (xs : List Piece) → ((i : ℕ) (x : Piece) → slice_get xs i ≡ Some x → IsPiece x) → AreApartPieces xs → ((n : ℕ) → IsInOne xs n → IsPlaced young before n) → AreLoads young before.lane xs
   are_loads xs pieces apart placed = record {
     pieces = pieces;
     lanes = λ i x e. let p = pieces i x e in lane_is x p (placed (place_in x 0) (get_one xs i x (place_in x 0) e (in_here x 0 p.lane (omega arith))));
@@ -67,51 +50,114 @@ module _ (young old first : ℕ) where
   aside_apart [] aside g = g
   aside_apart (c ∷ cs) aside g = aside_apart cs aside g.1
 
-  all_loads : (stores : List Blocks) (words : TableView) (pieces : List Piece) (cs : List Copier) (aside : List Piece) → AreSeated stores words pieces cs → AllFill young old first cs → AreApart (parts cs aside) → ((n : ℕ) → IsInOne (all_pieces cs aside) n → IsPlaced young old first n) → AreLoads young old aside → AllLoads young old cs aside
-  all_loads stores words pieces [] aside s f p h l = l
-  all_loads stores words pieces (c ∷ cs) aside s f p h l = (
+  all_loads : before.lane ≢ young → (stores : List Blocks) (words : TableView) (pieces : List Piece) (cs : List Copier) (aside : List Piece) → AreSeated stores words pieces cs → AreDifferent cs → AllFill young before cs → AreApart (parts cs aside) → ((n : ℕ) → IsInOne (all_pieces cs aside) n → IsPlaced young before n) → AreLoads young before.lane aside → AllLoads young before.lane cs aside
+  all_loads other stores words pieces [] aside s d f p h l = l
+  all_loads other stores words pieces (c ∷ cs) aside s d f p h l = (
     record {
       young_lane = f.0.young_lane;
       old_lane = f.0.old_lane;
-      none = f.0.none;
       given = are_loads c.given.items s.0.given.pieces s.0.given.apart (λ n i. h n (one_left c.given.items (all_pieces cs aside) n i));
-      once = s.0.local.once;
+      once = λ n a e. own_once young before other stores words pieces c n a f.0 s.0 (λ i. h n (one_left c.given.items (all_pieces cs aside) n i)) e;
     },
-    p.0,
-    all_loads stores words pieces cs aside s.1 f.1 p.1 (λ n i. h n (one_right c.given.items (all_pieces cs aside) n i)) l,
+    (λ n a e. stock_once young before other stores words pieces c cs aside n a f s d.0 (h n) (p.0 n) e),
+    all_loads other stores words pieces cs aside s.1 d.1 f.1 p.1 (λ n i. h n (one_right c.given.items (all_pieces cs aside) n i)) l,
   )
 
-  aside_placed : (cs : List Copier) (aside : List Piece) → ((n : ℕ) → IsInOne (all_pieces cs aside) n → IsPlaced young old first n) → (n : ℕ) → IsInOne aside n → IsPlaced young old first n
+  aside_placed : (cs : List Copier) (aside : List Piece) → ((n : ℕ) → IsInOne (all_pieces cs aside) n → IsPlaced young before n) → (n : ℕ) → IsInOne aside n → IsPlaced young before n
   aside_placed [] aside h n i = h n i
   aside_placed (c ∷ cs) aside h n i = aside_placed cs aside (λ m j. h m (one_right c.given.items (all_pieces cs aside) m j)) n i
 
 pub held_is_loads : HeldIsLoads
-held_is_loads stores roots words cs aside young old first c p =
-    let loads = are_loads young old first aside c.pieces (aside_apart young old first cs aside c.given) (aside_placed young old first cs aside p.pieces) in
-    all_loads young old first stores words (all_pieces cs aside) cs aside c.seated p.own (apart_of stores roots words cs aside c) p.pieces loads
+held_is_loads stores roots words cs aside young before c other p =
+    let loads = are_loads young before aside c.pieces (aside_apart young before cs aside c.given) (aside_placed young before cs aside p.pieces) in
+    all_loads young before other stores words (all_pieces cs aside) cs aside c.seated c.different p.own (apart_of stores roots words cs aside c) p.pieces loads
 
-module _ (cs : List Copier) (aside : List Piece) (before young promoted : Blocks) (first : ℕ) (other : before.lane ≢ 1) (young_lane : young.lane ≡ 1) (promoted_lane : promoted.lane ≡ before.lane) (all : (n : ℕ) → stored young promoted n ≡ joint (parts cs aside) n) where
+-- the new ones of a list of places
+new_if_in : (x : Option Object) (q p : ℕ) (ps : List ℕ) → Among p (new_if x q ps) → ((x ≡ None) × (p ≡ q)) ⊎ Among p ps
+new_if_in None q p ps (inl e) = inl (refl, e)
+new_if_in None q p ps (inr h) = inr h
+new_if_in (Some o) q p ps h = inr h
+
+new_among : (s : Blocks) (ps : List ℕ) (p : ℕ) → Among p (new_of s ps) → Among p ps × (objects_in s p ≡ None)
+new_among s [] p h = absurd h
+new_among s (q ∷ ps) p h = by (new_among s ps p) (new_if_in (objects_in s q) q p (new_of s ps) h)
+  where
+    rest : Among p ps × (objects_in s p ≡ None) → Among p (q ∷ ps) × (objects_in s p ≡ None)
+    rest t = (inr t.0, t.1)
+
+    by : (Among p (new_of s ps) → Among p ps × (objects_in s p ≡ None)) → ((objects_in s q ≡ None) × (p ≡ q)) ⊎ Among p (new_of s ps) → Among p (q ∷ ps) × (objects_in s p ≡ None)
+    by more (inl t) = (inl t.1, ap (objects_in s) t.1 ∙ t.0)
+    by more (inr t) = rest (more t)
+
+among_new : (s : Blocks) (ps : List ℕ) (p : ℕ) → objects_in s p ≡ None → Among p ps → Among p (new_of s ps)
+among_new s [] p e h = absurd h
+among_new s (q ∷ ps) p e (inl t) = subst (λ x. Among p (new_if x q (new_of s ps))) (sym e ∙ ap (objects_in s) t) (inl t)
+among_new s (q ∷ ps) p e (inr h) = by (among_new s ps p e h) (objects_in s q)
+  where
+    by : Among p (new_of s ps) → (x : Option Object) → Among p (new_if x q (new_of s ps))
+    by more None = inr more
+    by more (Some o) = more
+
+drop_next : (xs : List ℕ) (i x : ℕ) → slice_get xs i ≡ Some x → drop i xs ≡ x ∷ drop (suc i) xs
+drop_next [] i x e = cc
+drop_next (y ∷ xs) zero x e = let same : y ≡ x = cc in ap (λ z. z ∷ xs) same
+drop_next (y ∷ xs) (suc i) x e = drop_next xs i x e
+
+if_beside : (o : Option Object) (p : ℕ) (news ps : List ℕ) → news ++ new_if o p ps ≡ (news ++ new_if o p []) ++ ps
+if_beside o p news ps = ap (λ qs. news ++ qs) (split o) ∙ sym (append_assoc news (new_if o p []) ps)
+  where
+    split : (x : Option Object) → new_if x p ps ≡ new_if x p [] ++ ps
+    split None = refl
+    split (Some a) = refl
+
+    append_assoc : (xs ys zs : List ℕ) → (xs ++ ys) ++ zs ≡ xs ++ (ys ++ zs)
+    append_assoc [] ys zs = refl
+    append_assoc (x ∷ xs) ys zs = ap (λ ws. x ∷ ws) (append_assoc xs ys zs)
+
+pub one_listed : (s : Blocks) (ps : List ℕ) (i p : ℕ) (news more : List ℕ) → slice_get ps i ≡ Some p → more ≡ news ++ new_if (objects_in s p) p [] → new_of s ps ≡ news ++ new_of s (drop i ps) → new_of s ps ≡ more ++ new_of s (drop (i + 1) ps)
+one_listed s ps i p news more at is e =
+    let next : suc i ≡ i + 1 = omega arith in
+    e ∙ ap (λ qs. news ++ new_of s qs) (drop_next ps i p at ∙ ap (λ k. p ∷ drop k ps) next)
+    ∙ if_beside (objects_in s p) p news (new_of s (drop (i + 1) ps))
+    ∙ ap (λ qs. qs ++ new_of s (drop (i + 1) ps)) (sym is)
+
+pub if_few : (o : Option Object) (p : ℕ) → length (new_if o p []) ≤ 1
+if_few None p = omega arith
+if_few (Some a) p = omega arith
+
+pub drop_all : (xs : List ℕ) (i : ℕ) → length xs ≤ i → drop i xs ≡ []
+drop_all [] zero h = refl
+drop_all [] (suc i) h = refl
+drop_all (x ∷ xs) zero h = absurd (omega (arith, h))
+drop_all (x ∷ xs) (suc i) h = drop_all xs i (omega (arith, h))
+
+new_distinct : (s : Blocks) (ps : List ℕ) → AllDistinct ps → AllDistinct (new_of s ps)
+new_distinct s [] d = tt
+new_distinct s (q ∷ ps) d = by (new_distinct s ps d.1) (objects_in s q)
+  where
+    by : AllDistinct (new_of s ps) → (x : Option Object) → AllDistinct (new_if x q (new_of s ps))
+    by more None = ((λ h. d.0 (new_among s ps q h).0), more)
+    by more (Some o) = more
+
+module _ (cs : List Copier) (aside : List Piece) (before young promoted : Blocks) (other : before.lane ≢ 1) (young_lane : young.lane ≡ 1) (promoted_lane : promoted.lane ≡ before.lane) (all : (n : ℕ) → stored young promoted n ≡ stocks cs aside n) where
   promoted_away : (n : ℕ) (a : Object) → objects_in promoted n ≡ Some a → lane_of n ≢ young.lane
   promoted_away n a e h = let at = lies_in promoted n a e in other (sym promoted_lane ∙ sym at.lane ∙ h ∙ young_lane)
 
-  promoted_held : (n : ℕ) (a : Object) → objects_in promoted n ≡ Some a → joint (parts cs aside) n ≡ Some a
-  promoted_held n a e = sym (all n) ∙ stored_old young promoted n (promoted_away n a e) ∙ e
+  promoted_stock : (n : ℕ) (a : Object) → objects_in promoted n ≡ Some a → stocks cs aside n ≡ Some a
+  promoted_stock n a e = sym (all n) ∙ stored_old young promoted n (promoted_away n a e) ∙ e
 
-  -- the promoted objects lie above the old store's blocks
-  pub promoted_beside : length before.lists ≤ first → ArePlaced 1 before.lane first cs aside → AreBeside promoted before
-  promoted_beside few placed n p q = by (held_is_placed 1 before.lane first cs aside n p.0 placed (promoted_held n p.0 p.1))
-    where
-      by : IsPlaced 1 before.lane first n → ⊥
-      by (inl h) = promoted_away n p.0 p.1 (h ∙ sym young_lane)
-      by (inr h) =
-          let at = lies_in before n q.0 q.1 in
-          let within = slice_get_within before.lists (block_of n) at.block at.block_is in
-          let above = h.1 in
-          absurd (omega (arith, within, above, few))
+  was_away : (n : ℕ) (o : Object) → objects_in before n ≡ Some o → lane_of n ≢ young.lane
+  was_away n o e h = let at = lies_in before n o e in other (sym at.lane ∙ h ∙ young_lane)
+
+  -- where the promoted lie in a block of the old store they have its objects
+  pub promoted_over : (stores : List Blocks) (words : TableView) (pieces : List Piece) → AreSeated stores words pieces cs → ArePlaced 1 before cs aside → GoesOver promoted before
+  promoted_over stores words pieces seated placed n z e m h same =
+      let at = lies_in promoted m h.0 h.1 in
+      sym (stored_old young promoted n (was_away n z e)) ∙ all n ∙ stocks_over 1 before other stores words pieces cs aside placed.own seated placed.pieces m n h.0 z (at.lane ∙ promoted_lane) (promoted_stock m h.0 h.1) e same
 
 pub end_is_collected : EndIsCollected
 unfolding survivors
-end_is_collected stores roots new_roots words cs aside before young promoted tenured remembered first c ended agree all many forwarded other few placed t listed = record {
+end_is_collected stores roots new_roots words cs aside before young promoted tenured pointing c ended agree all many forwarded other placed t listed = record {
   image = image;
   collected = record {
     moved = moved_by_wins stores (all_wins (hands cs));
@@ -119,60 +165,69 @@ end_is_collected stores roots new_roots words cs aside before young promoted ten
     first_survival = λ n a e.
         let at = lies_in young n a e in
         let lane : lane_of n ≡ 1 = at.lane ∙ t.young_lane in
-        (aged n a (sym (t.all n) ∙ stored_young young promoted n at.lane ∙ e)).0 ∙ ap (λ b. cond b 1 2) (eq-eqb (lane_of n) 1 lane);
+        (aged n a (sym (stocks_are n (nothing_young n lane)) ∙ sym (t.all n) ∙ stored_young young promoted n at.lane ∙ e)).0 ∙ ap (λ b. cond b 1 2) (eq-eqb (lane_of n) 1 lane);
     promoted = λ n a e f.
         let here = came n a e f in
         let lane : lane_of n ≢ 1 = λ h. away n a here (h ∙ sym t.young_lane) in
-        (aged n a (old_held n a here)).0 ∙ ap (λ b. cond b 1 2) (unequal (lane_of n) 1 lane);
+        (aged n a (sym (stocks_are n e) ∙ old_stock n a here)).0 ∙ ap (λ b. cond b 1 2) (unequal (lane_of n) 1 lane);
     kept = λ n o e. t.old n ∙ both_left (objects_in before) (objects_in promoted) n o e;
     young_lane = t.young_lane;
     tenured_lane = t.tenured_lane;
     pointers = record {
-      sound = λ p h. let has = listed.sound p h in (has.0, new p has.0 has.1 (objects_in before p) refl, has.3);
-      complete = λ p o e g. listed.complete p o (was p o e (objects_in before p) refl) refl g;
-      distinct = listed.distinct;
+      sound = λ p h.
+          let new = new_among before pointing p h in
+          let has = listed.sound p new.0 in
+          (has.0, is_new p has.0 has.1 new.1, has.3);
+      complete = λ p o e g. let was = was_none p o e (objects_in before p) refl in among_new before pointing p was.0 (listed.complete p o was.1 refl g);
+      distinct = new_distinct before pointing listed.distinct;
     };
   };
 }
   where
     lanes : AreInLanes 1 before.lane cs
-    lanes = filled_in_lanes 1 before.lane first cs placed.own
+    lanes = filled_in_lanes 1 before cs placed.own
 
     aged : (n : ℕ) (a : Object) → joint (parts cs aside) n ≡ Some a → (a.age ≡ cond (nat_eq (lane_of n) 1) 1 2) × ((lane_of n ≡ 1) ⊎ (lane_of n ≡ before.lane))
     aged = ages_are_by_lane stores roots words cs aside 1 before.lane c lanes
 
     away : (n : ℕ) (a : Object) → objects_in promoted n ≡ Some a → lane_of n ≢ young.lane
-    away = promoted_away cs aside before young promoted first other t.young_lane t.promoted_lane t.all
+    away = promoted_away cs aside before young promoted other t.young_lane t.promoted_lane t.all
 
-    old_held : (n : ℕ) (a : Object) → objects_in promoted n ≡ Some a → joint (parts cs aside) n ≡ Some a
-    old_held = promoted_held cs aside before young promoted first other t.young_lane t.promoted_lane t.all
+    old_stock : (n : ℕ) (a : Object) → objects_in promoted n ≡ Some a → stocks cs aside n ≡ Some a
+    old_stock = promoted_stock cs aside before young promoted other t.young_lane t.promoted_lane t.all
 
-    never : (n : ℕ) (o a : Object) → objects_in before n ≡ Some o → objects_in promoted n ≡ Some a → ⊥
-    never n o a e f = promoted_beside cs aside before young promoted first other t.young_lane t.promoted_lane t.all few placed n (a, f) (o, e)
+    stocks_are : (n : ℕ) → objects_in before n ≡ None → stocks cs aside n ≡ joint (parts cs aside) n
+    stocks_are = stocks_joint 1 before other stores words (all_pieces cs aside) cs aside placed.own c.seated placed.pieces
+
+    nothing_young : (n : ℕ) → lane_of n ≡ 1 → objects_in before n ≡ None
+    nothing_young n l = elsewhere before n (λ e. other (sym e ∙ l))
 
     came : (n : ℕ) (a : Object) → objects_in before n ≡ None → objects_in tenured n ≡ Some a → objects_in promoted n ≡ Some a
     came n a e f = sym (both_right (objects_in before) (objects_in promoted) n e) ∙ sym (t.old n) ∙ f
 
-    new : (n : ℕ) (a : Object) → objects_in promoted n ≡ Some a → (x : Option Object) → objects_in before n ≡ x → promoted_in before tenured n ≡ Some a
-    new n a e None g = ap (λ x. fresh x (objects_in tenured n)) g ∙ t.old n ∙ both_right (objects_in before) (objects_in promoted) n g ∙ e
-    new n a e (Some o) g = absurd (never n o a g e)
+    is_new : (n : ℕ) (a : Object) → objects_in promoted n ≡ Some a → objects_in before n ≡ None → promoted_in before tenured n ≡ Some a
+    is_new n a e g = ap (λ x. fresh x (objects_in tenured n)) g ∙ t.old n ∙ both_right (objects_in before) (objects_in promoted) n g ∙ e
 
-    was : (n : ℕ) (a : Object) → promoted_in before tenured n ≡ Some a → (x : Option Object) → objects_in before n ≡ x → objects_in promoted n ≡ Some a
-    was n a e None g = came n a g (sym (ap (λ x. fresh x (objects_in tenured n)) g) ∙ e)
-    was n a e (Some o) g = let two : None ≡ Some a = sym (ap (λ x. fresh x (objects_in tenured n)) g) ∙ e in cc
+    was_none : (n : ℕ) (a : Object) → promoted_in before tenured n ≡ Some a → (x : Option Object) → objects_in before n ≡ x → (objects_in before n ≡ None) × (objects_in promoted n ≡ Some a)
+    was_none n a e None g = (g, came n a g (sym (ap (λ x. fresh x (objects_in tenured n)) g) ∙ e))
+    was_none n a e (Some o) g = let two : None ≡ Some a = sym (ap (λ x. fresh x (objects_in tenured n)) g) ∙ e in cc
 
-    -- what is new in the old store is what was promoted
-    added : (n : ℕ) (x y : Option Object) → objects_in before n ≡ x → objects_in promoted n ≡ y → objects_in promoted n ≡ fresh (objects_in before n) (objects_in tenured n)
-    added n None y e f = sym (ap (λ x. fresh x (objects_in tenured n)) e ∙ t.old n ∙ both_right (objects_in before) (objects_in promoted) n e)
-    added n (Some o) None e f = f ∙ sym (ap (λ x. fresh x (objects_in tenured n)) e)
-    added n (Some o) (Some a) e f = absurd (never n o a e f)
+    -- where the old store had one nothing is held
+    nothing_held : (n : ℕ) (o : Object) → objects_in before n ≡ Some o → (x : Option Object) → joint (parts cs aside) n ≡ x → joint (parts cs aside) n ≡ None
+    nothing_held n o e None h = h
+    nothing_held n o e (Some a) h = absurd (never_clear 1 before other n o (joint_clear 1 before other stores words (all_pieces cs aside) cs aside n a placed.own c.seated (placed.pieces n) h) e)
+
+    -- what is new in the old store is what they held
+    added : (n : ℕ) → lane_of n ≢ young.lane → (x : Option Object) → objects_in before n ≡ x → joint (parts cs aside) n ≡ fresh (objects_in before n) (objects_in tenured n)
+    added n l None e = sym (ap (λ x. fresh x (objects_in tenured n)) e ∙ t.old n ∙ both_right (objects_in before) (objects_in promoted) n e ∙ sym (stored_old young promoted n l) ∙ t.all n ∙ stocks_are n e)
+    added n l (Some o) e = nothing_held n o e (joint (parts cs aside) n) refl ∙ sym (ap (λ x. fresh x (objects_in tenured n)) e)
 
     same : (n : ℕ) → joint (parts cs aside) n ≡ survivors young before tenured n
     same n = by (eqb_tells (lane_of n) young.lane)
       where
         by : ((nat_eq (lane_of n) young.lane ≡ true) × (lane_of n ≡ young.lane)) ⊎ ((nat_eq (lane_of n) young.lane ≡ false) × (lane_of n ≢ young.lane)) → joint (parts cs aside) n ≡ cond (nat_eq (lane_of n) young.lane) (objects_in young n) (fresh (objects_in before n) (objects_in tenured n))
-        by (inl h) = sym (t.all n) ∙ stored_young young promoted n h.1 ∙ sym (ap (λ b. cond b (objects_in young n) (fresh (objects_in before n) (objects_in tenured n))) h.0)
-        by (inr h) = sym (t.all n) ∙ stored_old young promoted n h.1 ∙ added n (objects_in before n) (objects_in promoted n) refl refl ∙ sym (ap (λ b. cond b (objects_in young n) (fresh (objects_in before n) (objects_in tenured n))) h.0)
+        by (inl h) = sym (stocks_are n (nothing_young n (h.1 ∙ t.young_lane))) ∙ sym (t.all n) ∙ stored_young young promoted n h.1 ∙ sym (ap (λ b. cond b (objects_in young n) (fresh (objects_in before n) (objects_in tenured n))) h.0)
+        by (inr h) = added n h.1 (objects_in before n) refl ∙ sym (ap (λ b. cond b (objects_in young n) (fresh (objects_in before n) (objects_in tenured n))) h.0)
 
     image : IsImage (objects_at stores) roots (survivors young before tenured) new_roots (moved_by_wins stores (all_wins (hands cs)))
     image = image_same (joint (parts cs aside)) (survivors young before tenured) (end_is_image stores roots new_roots words cs aside c ended agree all many forwarded) same

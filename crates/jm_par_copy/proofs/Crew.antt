@@ -1,9 +1,7 @@
 -- The seats of copiers, before their first claim and after the last round.
-use Rattle.std.proofs.Common.{◌≡◌, ◌≢◌, ◌⊎◌, ℕ, zero, suc, ◌+◌, ◌-◌, ◌*◌, ◌<◌, ◌≤◌, List, [], ◌∷◌, refl, sym, ap, ◌∙◌, subst, inl, inr, length, map, arith}
-use Rattle.std.specs.Prelude.{◌/◌}
+use Rattle.std.proofs.Common.{◌≡◌, ◌≢◌, ◌⊎◌, ℕ, zero, suc, ◌+◌, ◌<◌, ◌≤◌, List, [], ◌∷◌, refl, sym, ap, ◌∙◌, subst, inl, inr, length, map, arith}
 use Rattle.std.specs.List.{All}
 use Rattle.std.proofs.lemmas.Bool.{cases_lt}
-use Rattle.std.proofs.Math.Nat.{mod-add-div, mod-lt}
 use Rattle.jm_blocks.specs.Stores.{Blocks}
 use Rattle.jm_forward.specs.Hands.{SeatView, TableView, fresh, hands_from, seat_of}
 use Rattle.jm_copy.specs.Numbers.{object_count}
@@ -64,29 +62,22 @@ order_tables words number (s ∷ ss) n zero d h = n.0
 order_tables words number (s ∷ ss) n (suc k) d h = order_tables words (number + 1) ss n.3 k d (omega (arith, h))
 
 -- all copiers with the seats of a fresh table, before their first claim
-pub record IsCrew (stores : List Blocks) (roots : List ℕ) (words : TableView) (old_lane first : ℕ) (cs : List Copier) : Type 0 where
+pub record IsCrew (stores : List Blocks) (roots : List ℕ) (words : TableView) (before : Blocks) (cs : List Copier) : Type 0 where
   pub copying : AreCopying stores roots words cs []
   pub numbered : AreNumbered words 0 cs
-  pub placed : ArePlaced 1 old_lane first cs []
+  pub placed : ArePlaced 1 before cs []
   pub many : length cs ≡ words.copiers
 
-pub is_crew : (stores : List Blocks) (roots : List ℕ) (words : TableView) (old_lane first count : ℕ) (taken : List SeatView) (ts : List Copies) (cs : List Copier) → words.objects ≡ object_count stores → words.copiers ≤ 16 → count ≡ words.copiers → AreOwnStores 0 count old_lane first ts → taken ≡ map (seat_of words.table) (hands_from words.copiers 0 words.copiers) → AreSeatsOf 0 taken ts cs → IsCrew stores roots words old_lane first cs
-is_crew stores roots words old_lane first count taken ts cs objects few same own fresh seats =
+pub is_crew : (stores : List Blocks) (roots : List ℕ) (words : TableView) (before : Blocks) (count : ℕ) (taken : List SeatView) (ts : List Copies) (cs : List Copier) → words.objects ≡ object_count stores → words.copiers ≤ 16 → count ≡ words.copiers → AreOwnStores 0 count before ts → taken ≡ map (seat_of words.table) (hands_from words.copiers 0 words.copiers) → AreSeatsOf 0 taken ts cs → IsCrew stores roots words before cs
+is_crew stores roots words before count taken ts cs objects few same own fresh seats =
     let at = subst (λ (ss : List SeatView). AreSeatsOf 0 ss ts cs) fresh seats in
-    let all = seated_are_fresh stores roots words old_lane first ts cs objects few (subst (λ n. AreOwnStores 0 n old_lane first ts) same own) at in
+    let all = seated_are_fresh stores roots words before ts cs objects few (subst (λ n. AreOwnStores 0 n before ts) same own) at in
     record {
       copying = fresh_are_copying stores roots words cs all.0 all.1;
       numbered = all.2;
       placed = all.3;
       many = many_seated 0 taken ts cs seats ∙ ap length fresh ∙ many_fresh words 0 words.copiers;
     }
-
--- turns enough for the blocks that there are
-pub enough_turns : (blocks copiers : ℕ) → 0 < copiers → blocks ≤ copiers * ((blocks + copiers - 1) / copiers)
-enough_turns blocks copiers some =
-    let whole = mod-add-div (blocks + copiers - 1) copiers in
-    let rest = mod-lt (blocks + copiers - 1) some in
-    omega (arith, whole, rest, some)
 
 -- the lane of an old store
 pub old_lanes : (lane : ℕ) → 0 < lane → lane < 64 → lane ≢ 1 → (1 < lane) × (lane < 64)

@@ -22,7 +22,7 @@ use Rattle.jm_par_copy.specs.Working.{Pairs, IsNew, IsScanning, IsWorking, both,
 use Rattle.jm_par_copy.specs.Pieces.{IsPiece, is_in, objects_of, progress_of}
 use Rattle.jm_par_copy.specs.Holding.{held_objects, held_progress, AreApartPieces, IsApart, AreGiven, IsHolding, IsInOne}
 use Rattle.jm_par_copy.specs.Moves.{piece_of, with_block}
-use Rattle.jm_par_copy.specs.Giving.{GoesOut, IsClosed, IsOwnBlock, GivenBack, GivesBack, SameBlocks, StillHolds, without_young, without_old}
+use Rattle.jm_par_copy.specs.Giving.{GoesOut, IsBeyond, IsClosed, IsOwnBlock, GivenBack, GivesBack, SameBlocks, StillHolds, without_young, without_old}
 use Rattle.jm_par_copy.specs.declared.piece.Piece.{Piece}
 use Rattle.jm_par_copy.proofs.Sharing.{both_left, both_right, both_where}
 use Rattle.jm_par_copy.proofs.Pieces.{progress_in, progress_out, objects_elsewhere}
@@ -44,6 +44,9 @@ pub record Splits (c d : Copies) (m : Marks) (x : Piece) : Type 0 where
   pub mark : x.mark ≡ 0
   pub piece : IsPiece x
   pub some : (n : ℕ) × (a : Object) × (made c n ≡ Some a) × (is_in x n ≡ true)
+  pub kept_same : d.kept ≡ c.kept
+  pub below : (n : ℕ) → is_above c.kept n ≡ false → objects_in d.tenured n ≡ objects_in c.tenured n
+  pub past : IsMark c.tenured c.kept → (n : ℕ) → is_in x n ≡ true → lane_of n ≡ c.tenured.lane → IsBeyond c.kept (block_of n)
 
 and_true : (a b : Bool) → (a && b) ≡ true → (a ≡ true) × (b ≡ true)
 and_true true true e = (refl, refl)
@@ -324,6 +327,9 @@ young_splits c m b os apart marks closed = record {
   mark = refl;
   piece = piece c.young m.young b os closed;
   some = let w = witness c.young m.young b os closed in (w.0, w.1, by_lane c w.0 (lane w.0 w.3) ∙ w.2, w.3);
+  kept_same = refl;
+  below = λ n e. refl;
+  past = λ k n t l. absurd (apart (sym l ∙ (at_block c.young b os n t).0));
 }
   where
     lane : (n : ℕ) → is_in (piece_of c.young b os 0) n ≡ true → nat_eq (lane_of n) c.young.lane ≡ true
@@ -350,6 +356,9 @@ old_splits c m b os apart marks kept closed = record {
   mark = refl;
   piece = piece c.tenured m.tenured b os closed;
   some = let w = witness c.tenured m.tenured b os closed in (w.0, w.1, by_other c w.0 (lane w.0 w.3) (over w.0 w.3) ∙ w.2, w.3);
+  kept_same = refl;
+  below = λ n e. below n e (is_in (piece_of c.tenured b os 0) n) refl;
+  past = λ k n t l. subst (λ a. IsBeyond c.kept a) (sym (at_block c.tenured b os n t).1) (past c.kept refl k);
 }
   where
     lane : (n : ℕ) → is_in (piece_of c.tenured b os 0) n ≡ true → nat_eq (lane_of n) c.young.lane ≡ false
@@ -357,6 +366,25 @@ old_splits c m b os apart marks kept closed = record {
 
     over : (n : ℕ) → is_in (piece_of c.tenured b os 0) n ≡ true → is_above c.kept n ≡ true
     over n t = marks.past n (above c.tenured m.tenured b os closed marks.tenured n t)
+
+    below : (n : ℕ) → is_above c.kept n ≡ false → (t : Bool) → is_in (piece_of c.tenured b os 0) n ≡ t → objects_in (with_block c.tenured b []) n ≡ objects_in c.tenured n
+    below n e true t = let two : true ≡ false = sym (over n t) ∙ e in cc
+    below n e false t = stays c.tenured m.tenured b os closed n t
+
+    past : (o : Option ℕ) → c.kept ≡ o → IsMark c.tenured o → IsBeyond o b
+    past None e h = tt
+    past (Some k) e h =
+        let n = place_at c.tenured.lane b 0 in
+        let lane : lane_of n ≡ c.tenured.lane = lane_put c.tenured.lane b 0 closed.lane (omega arith) in
+        let block : block_of n ≡ b = block_put c.tenured.lane b 0 closed.lane (omega arith) in
+        let index : index_of n ≡ 0 = index_put c.tenured.lane b 0 (omega arith) in
+        let inside : is_in (piece_of c.tenured b os 0) n ≡ true = ap (λ t. t && nat_eq (block_of n) b) (eq-eqb (lane_of n) c.tenured.lane lane) ∙ eq-eqb (block_of n) b block in
+        let less = is_over k n (ap (λ o. is_above o n) (sym e) ∙ over n inside) in
+        let lies = lies_in c.tenured k h.0 h.1 in
+        let on = lies.lane in
+        let mine = parts k in
+        let yours = parts n in
+        omega (arith, less, on, mine, yours, lane, block, index)
 
     kept_left : (o : Option ℕ) → c.kept ≡ o → IsMark c.tenured o → IsMark (with_block c.tenured b []) o
     kept_left None e h = tt
@@ -443,8 +471,11 @@ one_last (w ∷ xs) x n (inr h) = by (one_last xs x n h)
     by (inl g) = inl (inr g)
     by (inr g) = inr g
 
-split_out : (c d : Copies) (m : Marks) (x : Piece) (xs : List Piece) → Splits c d m x → GoesOut c d xs (xs ++ x ∷ [])
-split_out c d m x xs s = record {
+split_out : (c d : Copies) (m : Marks) (x : Piece) (xs : List Piece) → IsMark c.tenured c.kept → Splits c d m x → GoesOut c d xs (xs ++ x ∷ [])
+split_out c d m x xs mark s = record {
+  old_lane = s.old_lane;
+  kept = s.kept_same;
+  below = s.below;
   made = λ n a e. was n a e (is_in x n) refl;
   new = s.new;
   pieces = λ n h. where_from n (one_last xs x n h);
@@ -460,13 +491,16 @@ split_out c d m x xs s = record {
         let w = s.some in
         let a = and_true (nat_eq (lane_of w.0) x.lane) (nat_eq (block_of w.0) x.number) w.3 in
         let b = and_true (nat_eq (lane_of n) x.lane) (nat_eq (block_of n) x.number) t in
-        inr (w.0, (w.1, w.2), eqb-true _ _ a.0 ∙ sym (eqb-true _ _ b.0), eqb-true _ _ a.1 ∙ sym (eqb-true _ _ b.1))
+        inr (w.0, (w.1, w.2), eqb-true _ _ a.0 ∙ sym (eqb-true _ _ b.0), eqb-true _ _ a.1 ∙ sym (eqb-true _ _ b.1), s.past mark n t)
 
 out_refl : (c : Copies) (xs : List Piece) → GoesOut c c xs xs
-out_refl c xs = record { made = λ n a e. e; new = λ x k n h. h; pieces = λ n h. inl h }
+out_refl c xs = record { old_lane = refl; kept = refl; below = λ n e. refl; made = λ n a e. e; new = λ x k n h. h; pieces = λ n h. inl h }
 
 out_more : (c d e : Copies) (xs ys zs : List Piece) → GoesOut c d xs ys → GoesOut d e ys zs → GoesOut c e xs zs
 out_more c d e xs ys zs p q = record {
+  old_lane = q.old_lane ∙ p.old_lane;
+  kept = q.kept ∙ p.kept;
+  below = λ n f. q.below n (ap (λ k. is_above k n) p.kept ∙ f) ∙ p.below n f;
   made = λ n a t. p.made n a (q.made n a t);
   new = λ x k n h. p.new x k n (q.new x k n h);
   pieces = λ n h. by n (q.pieces n h);
@@ -474,19 +508,19 @@ out_more c d e xs ys zs p q = record {
   where
     by : (n : ℕ) → IsInOne ys n ⊎ IsOwnBlock d n → IsInOne xs n ⊎ IsOwnBlock c n
     by n (inl h) = p.pieces n h
-    by n (inr h) = inr (h.0, (h.1.0, p.made h.0 h.1.0 h.1.1), h.2, h.3)
+    by n (inr h) = inr (h.0, (h.1.0, p.made h.0 h.1.0 h.1.1), h.2, h.3, λ l. subst (λ k. IsBeyond k (block_of n)) p.kept (h.4 (l ∙ sym p.old_lane)))
 
 pub young_given : (c : Copies) (m : Marks) (b : ℕ) (os : List Object) (xs : List Piece) → IsClosed c.young m.young b os → StillHolds c (without_young c b) m xs (xs ++ piece_of c.young b os 0 ∷ [])
 young_given c m b os xs closed stores roots base held_ k h g marks f =
     let back = (gives_back stores roots base held_ k h c m xs b os g marks f).0 closed in
     let given = given_last h (without_young c b) (piece_of c.young b os 0) xs back.given in
-    (holding_last stores roots base held_ k h (without_young c b) m (piece_of c.young b os 0) xs given.apart back.holding, given, back.marks, split_out c (without_young c b) m (piece_of c.young b os 0) xs (young_splits c m b os f.apart marks closed))
+    (holding_last stores roots base held_ k h (without_young c b) m (piece_of c.young b os 0) xs given.apart back.holding, given, back.marks, split_out c (without_young c b) m (piece_of c.young b os 0) xs f.kept (young_splits c m b os f.apart marks closed))
 
 pub old_given : (c : Copies) (m : Marks) (b : ℕ) (os : List Object) (xs : List Piece) → IsClosed c.tenured m.tenured b os → StillHolds c (without_old c b) m xs (xs ++ piece_of c.tenured b os 0 ∷ [])
 old_given c m b os xs closed stores roots base held_ k h g marks f =
     let back = (gives_back stores roots base held_ k h c m xs b os g marks f).1 closed in
     let given = given_last h (without_old c b) (piece_of c.tenured b os 0) xs back.given in
-    (holding_last stores roots base held_ k h (without_old c b) m (piece_of c.tenured b os 0) xs given.apart back.holding, given, back.marks, split_out c (without_old c b) m (piece_of c.tenured b os 0) xs (old_splits c m b os f.apart marks f.kept closed))
+    (holding_last stores roots base held_ k h (without_old c b) m (piece_of c.tenured b os 0) xs given.apart back.holding, given, back.marks, split_out c (without_old c b) m (piece_of c.tenured b os 0) xs f.kept (old_splits c m b os f.apart marks f.kept closed))
 
 pub still_refl : (c : Copies) (m : Marks) (xs : List Piece) → StillHolds c c m xs xs
 still_refl c m xs stores roots base held_ k h g marks f = (f, g, marks, out_refl c xs)

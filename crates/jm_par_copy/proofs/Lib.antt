@@ -7,6 +7,7 @@ pub mod Plain
 pub mod Rounds
 pub mod Pieces
 pub mod Moves
+pub mod Begun
 pub mod Begins
 pub mod Fresh
 pub mod Turns
@@ -22,6 +23,7 @@ pub mod GivingBack
 pub mod ByPosition
 pub mod Seats
 pub mod Placed
+pub mod Stocks
 pub mod Merged
 pub mod Collecting
 pub mod Loads

@@ -7,21 +7,18 @@ use Rattle.jm_blocks.specs.Places.{block_of, lane_of}
 use Rattle.jm_blocks.specs.Stores.{Blocks, objects_in}
 use Rattle.jm_blocks.proofs.Placing.{elsewhere, lies_in}
 use Rattle.jm_blocks.proofs.Walking.{no_blocks, nothing_there}
-use Rattle.jm_copy.specs.Copies.{made, made_in}
-use Rattle.jm_par_copy.specs.Copiers.{contents, parts}
-use Rattle.jm_par_copy.specs.Ending.{AllLoads, AreLoads, IsBeside, IsLoad, IsLoaded, stored}
+use Rattle.jm_par_copy.specs.Ending.{AllLoads, AreLoads, IsBeside, IsLoad, IsLoaded, stock, stocks, stored}
 use Rattle.jm_par_copy.specs.Holding.{held_objects}
 use Rattle.jm_par_copy.specs.Merging.{AreBeside}
 use Rattle.jm_par_copy.specs.Pieces.{objects_of}
-use Rattle.jm_par_copy.specs.Together.{joint}
 use Rattle.jm_par_copy.specs.Working.{both, or_else}
 use Rattle.jm_par_copy.specs.declared.piece.Piece.{Piece}
 use Rattle.jm_par_copy.specs.declared.copier.Copier.{Copier}
 use Rattle.jm_par_copy.proofs.Aside.{is_there}
 use Rattle.jm_par_copy.proofs.Beside.{apart_back, held_aside}
-use Rattle.jm_par_copy.proofs.Collecting.{stored_old, stored_young}
 use Rattle.jm_par_copy.proofs.Pieces.{both_true, equal, objects_elsewhere}
 use Rattle.jm_par_copy.proofs.Sharing.{both_left, both_right}
+use Rattle.jm_par_copy.proofs.Stocks.{stored_old, stored_young}
 
 -- one after the other, in whatever order
 pub both_then : (f g h : ℕ → Option Object) (n : ℕ) → both (both f g) h n ≡ both f (both g h) n
@@ -156,66 +153,60 @@ one_put a b young old young' old' xs rest x p l = record {
 pub all_put : (a b young old : Blocks) (xs : List Piece) → ArePut a b xs young old [] → IsLoaded (held_objects xs) a b young old
 all_put a b young old xs p = record { young_lane = p.young_lane; old_lane = p.old_lane; all = λ n. sym (both_none (stored young old) (held_objects []) n refl) ∙ p.all n }
 
--- a copier's own objects
-pub own_stored : (young old : ℕ) (c : Copier) → IsLoad young old c → (n : ℕ) → made c.to n ≡ stored c.to.young c.to.tenured n
-own_stored young old c l n = ap (λ k. made_in c.to.young c.to.tenured k n) l.none
-
+-- a copier's own stores
 module _ (c : Copier) (young old : Blocks) (other : young.lane ≢ old.lane) (load : IsLoad young.lane old.lane c) where
-  pub own_young_beside : IsBeside (made c.to) young old → AreBeside c.to.young young
+  pub own_young_beside : IsBeside (stored c.to.young c.to.tenured) young old → AreBeside c.to.young young
   own_young_beside h n p q =
       let at = lies_in c.to.young n p.0 p.1 in
       let lane : lane_of n ≡ young.lane = at.lane ∙ load.young_lane in
-      let none = h n p.0 (own_stored young.lane old.lane c load n ∙ stored_young c.to.young c.to.tenured n at.lane ∙ p.1) in
+      let none = h n p.0 (stored_young c.to.young c.to.tenured n at.lane ∙ p.1) in
       let two : None ≡ Some q.0 = sym none ∙ stored_young young old n lane ∙ q.1 in
       cc
 
   old_away : (n : ℕ) → lane_of n ≡ c.to.tenured.lane → lane_of n ≢ c.to.young.lane
   old_away n e h = other (sym load.young_lane ∙ sym h ∙ e ∙ load.old_lane)
 
-  pub own_old_beside : IsBeside (made c.to) young old → AreBeside c.to.tenured old
+  pub own_old_beside : IsBeside (stored c.to.young c.to.tenured) young old → AreBeside c.to.tenured old
   own_old_beside h n p q =
       let at = lies_in c.to.tenured n p.0 p.1 in
       let away = old_away n at.lane in
-      let none = h n p.0 (own_stored young.lane old.lane c load n ∙ stored_old c.to.young c.to.tenured n away ∙ p.1) in
+      let none = h n p.0 (stored_old c.to.young c.to.tenured n away ∙ p.1) in
       let two : None ≡ Some q.0 = sym none ∙ stored_old young old n (λ e. away (e ∙ sym load.young_lane)) ∙ q.1 in
       cc
 
-  own_both : (n : ℕ) → both (objects_in c.to.young) (objects_in c.to.tenured) n ≡ made c.to n
-  own_both n = by (eqb_tells (lane_of n) c.to.young.lane) ∙ sym (own_stored young.lane old.lane c load n)
+  own_both : (n : ℕ) → both (objects_in c.to.young) (objects_in c.to.tenured) n ≡ stored c.to.young c.to.tenured n
+  own_both n = by (eqb_tells (lane_of n) c.to.young.lane)
     where
       by : ((nat_eq (lane_of n) c.to.young.lane ≡ true) × (lane_of n ≡ c.to.young.lane)) ⊎ ((nat_eq (lane_of n) c.to.young.lane ≡ false) × (lane_of n ≢ c.to.young.lane)) → both (objects_in c.to.young) (objects_in c.to.tenured) n ≡ stored c.to.young c.to.tenured n
       by (inl h) = both_none (objects_in c.to.young) (objects_in c.to.tenured) n (elsewhere c.to.tenured n (λ e. old_away n e h.1)) ∙ sym (stored_young c.to.young c.to.tenured n h.1)
       by (inr h) = both_right (objects_in c.to.young) (objects_in c.to.tenured) n (elsewhere c.to.young n h.1) ∙ sym (stored_old c.to.young c.to.tenured n h.1)
 
-  pub own_loaded : (young' old' : Blocks) → young'.lane ≡ young.lane → old'.lane ≡ old.lane → ((n : ℕ) → objects_in young' n ≡ both (objects_in young) (objects_in c.to.young) n) → ((n : ℕ) → objects_in old' n ≡ both (objects_in old) (objects_in c.to.tenured) n) → IsLoaded (made c.to) young old young' old'
+  pub own_loaded : (young' old' : Blocks) → young'.lane ≡ young.lane → old'.lane ≡ old.lane → ((n : ℕ) → objects_in young' n ≡ both (objects_in young) (objects_in c.to.young) n) → ((n : ℕ) → objects_in old' n ≡ both (objects_in old) (objects_in c.to.tenured) n) → IsLoaded (stored c.to.young c.to.tenured) young old young' old'
   own_loaded young' old' e f g h =
       let first = loaded_young (objects_in c.to.young) young old young' e (λ n a t. let at = lies_in c.to.young n a t in at.lane ∙ load.young_lane) g in
       let second = loaded_old (objects_in c.to.tenured) young' old old' (λ t. other (sym e ∙ t)) f (λ n a t. let at = lies_in c.to.tenured n a t in at.lane ∙ load.old_lane) h in
-      loaded_as (both (objects_in c.to.young) (objects_in c.to.tenured)) (made c.to) young old young' old' own_both (loaded_then (objects_in c.to.young) (objects_in c.to.tenured) young old young' old young' old' first second)
+      loaded_as (both (objects_in c.to.young) (objects_in c.to.tenured)) (stored c.to.young c.to.tenured) young old young' old' own_both (loaded_then (objects_in c.to.young) (objects_in c.to.tenured) young old young' old young' old' first second)
 
   -- and then its given blocks
-  pub given_loads : (young' old' : Blocks) → IsLoaded (made c.to) young old young' old' → AreLoads young'.lane old'.lane c.given.items
+  pub given_loads : (young' old' : Blocks) → IsLoaded (stored c.to.young c.to.tenured) young old young' old' → AreLoads young'.lane old'.lane c.given.items
   given_loads young' old' l = loads_as young.lane old.lane young'.lane old'.lane c.given.items l.young_lane l.old_lane load.given
 
-  pub given_beside : (young' old' : Blocks) → IsLoaded (made c.to) young old young' old' → IsBeside (contents c) young old → IsBeside (held_objects c.given.items) young' old'
-  given_beside young' old' l h = beside_then (made c.to) (held_objects c.given.items) young old young' old' l h (λ n b e. none_where (made c.to) (held_objects c.given.items) n b (λ a t. load.once n a t) e)
+  pub given_beside : (young' old' : Blocks) → IsLoaded (stored c.to.young c.to.tenured) young old young' old' → IsBeside (stock c) young old → IsBeside (held_objects c.given.items) young' old'
+  given_beside young' old' l h = beside_then (stored c.to.young c.to.tenured) (held_objects c.given.items) young old young' old' l h (λ n b e. none_where (stored c.to.young c.to.tenured) (held_objects c.given.items) n b (λ a t. load.once n a t) e)
 
 -- all copiers
 pub all_loads_as : (a b a' b' : ℕ) (cs : List Copier) (aside : List Piece) → a' ≡ a → b' ≡ b → AllLoads a b cs aside → AllLoads a' b' cs aside
 all_loads_as a b a' b' cs aside e f l = subst (λ k. AllLoads k b' cs aside) (sym e) (subst (λ k. AllLoads a k cs aside) (sym f) l)
 
-pub aside_joint : (aside : List Piece) (n : ℕ) → held_objects aside n ≡ joint (parts [] aside) n
-aside_joint aside n = sym (both_none (held_objects aside) (joint []) n refl)
-
-module _ (c : Copier) (cs : List Copier) (aside : List Piece) (young old young' old' : Blocks) (loads : AllLoads young.lane old.lane (c ∷ cs) aside) (l : IsLoaded (contents c) young old young' old') where
-  pub rest_beside : IsBeside (joint (parts (c ∷ cs) aside)) young old → IsBeside (joint (parts cs aside)) young' old'
-  rest_beside h = beside_then (contents c) (joint (parts cs aside)) young old young' old' l h (λ n b e. none_where (contents c) (joint (parts cs aside)) n b (λ a t. loads.1 n a t) e)
+module _ (c : Copier) (cs : List Copier) (aside : List Piece) (young old young' old' : Blocks) (loads : AllLoads young.lane old.lane (c ∷ cs) aside) (l : IsLoaded (stock c) young old young' old') where
+  pub rest_beside : IsBeside (stocks (c ∷ cs) aside) young old → IsBeside (stocks cs aside) young' old'
+  rest_beside h = beside_then (stock c) (stocks cs aside) young old young' old' l h (λ n b e. none_where (stock c) (stocks cs aside) n b (λ a t. loads.1 n a t) e)
 
   pub rest_all_loads : AllLoads young'.lane old'.lane cs aside
   rest_all_loads = all_loads_as young.lane old.lane young'.lane old'.lane cs aside l.young_lane l.old_lane loads.2
 
-  pub rest_loaded : (a b : Blocks) → IsLoaded (joint (parts cs aside)) young' old' a b → IsLoaded (joint (parts (c ∷ cs) aside)) young old a b
-  rest_loaded a b m = loaded_then (contents c) (joint (parts cs aside)) young old young' old' a b l m
+  pub rest_loaded : (a b : Blocks) → IsLoaded (stocks cs aside) young' old' a b → IsLoaded (stocks (c ∷ cs) aside) young old a b
+  rest_loaded a b m = loaded_then (stock c) (stocks cs aside) young old young' old' a b l m
 
 pub first_beside : (young old : Blocks) (x : Piece) (rest : List Piece) → IsBeside (held_objects (x ∷ rest)) young old → IsBeside (objects_of x) young old
 first_beside young old x rest h = beside_first (objects_of x) (held_objects rest) young old h
@@ -236,10 +227,10 @@ pub loaded_alone : (f : ℕ → Option Object) (young old young' old' : Blocks) 
 loaded_alone f young old young' old' e g l n = l.all n ∙ both_right (stored young old) f n (none_stored young old n e g)
 
 -- where there is no copier
-pub alone_beside : (cs : List Copier) (aside : List Piece) (young old : Blocks) → cs ≡ [] → IsBeside (joint (parts cs aside)) young old → IsBeside (held_objects aside) young old
+pub alone_beside : (cs : List Copier) (aside : List Piece) (young old : Blocks) → cs ≡ [] → IsBeside (stocks cs aside) young old → IsBeside (held_objects aside) young old
 alone_beside cs aside young old e h n a f =
-    let here : joint (parts cs aside) n ≡ Some a = ap (λ (xs : List Copier). joint (parts xs aside) n) e ∙ sym (aside_joint aside n) ∙ f in
+    let here : stocks cs aside n ≡ Some a = ap (λ (xs : List Copier). stocks xs aside n) e ∙ f in
     h n a here
 
-pub alone_loaded : (cs : List Copier) (aside : List Piece) (young old young' old' : Blocks) → cs ≡ [] → IsLoaded (held_objects aside) young old young' old' → IsLoaded (joint (parts cs aside)) young old young' old'
-alone_loaded cs aside young old young' old' e l = loaded_as (held_objects aside) (joint (parts cs aside)) young old young' old' (λ n. aside_joint aside n ∙ sym (ap (λ (xs : List Copier). joint (parts xs aside) n) e)) l
+pub alone_loaded : (cs : List Copier) (aside : List Piece) (young old young' old' : Blocks) → cs ≡ [] → IsLoaded (held_objects aside) young old young' old' → IsLoaded (stocks cs aside) young old young' old'
+alone_loaded cs aside young old young' old' e l = loaded_as (held_objects aside) (stocks cs aside) young old young' old' (λ n. sym (ap (λ (xs : List Copier). stocks xs aside n) e)) l

@@ -1,10 +1,10 @@
 -- What stays of a copier's own stores.
-use Rattle.std.proofs.Common.{◌≡◌, ◌≢◌, ◌⊎◌, ℕ, zero, suc, ◌+◌, ◌-◌, ◌<◌, ◌≤◌, ◌%◌, List, [], ◌∷◌, ◌++◌, Some, None, true, false, cond, refl, sym, ap, ◌∙◌, subst, inl, inr, length, replicate, arith, length-append, Bool, ◌*◌}
+use Rattle.std.proofs.Common.{◌≡◌, ◌≢◌, ◌⊎◌, ℕ, zero, suc, ◌+◌, ◌-◌, ◌<◌, ◌≤◌, ◌%◌, List, [], ◌∷◌, ◌++◌, Some, None, true, false, cond, refl, sym, ap, ◌∙◌, subst, inl, inr, length, replicate, arith, length-append, Bool}
 use Rattle.std.specs.Prelude.{slice_get, nat_eq}
 use Rattle.std.proofs.lemmas.Bool.Decides.{eqb_tells}
 use Rattle.std.proofs.lemmas.List.{length-set, length-replicate}
 use Rattle.std.proofs.lemmas.Option.{slice_get_within}
-use Rattle.std.proofs.Math.Nat.{add-mod_right, add-mul-mod_self_left, mod-eq_of_lt}
+use Rattle.std.proofs.Math.Nat.{add-mod_right}
 use Rattle.jm_blocks.specs.Objects.{Object}
 use Rattle.jm_blocks.specs.Cells.{object_cells}
 use Rattle.jm_blocks.specs.Places.{lane_of, block_of, index_of, place_at}
@@ -281,13 +281,13 @@ no_blocks_at lane p = by (nat_eq (lane_of p) lane)
 pub opened_empty : (s : Blocks) (lane k : ℕ) → s ≡ record { lane = lane; lists = replicate k [] } → IsEmpty s
 opened_empty s lane k e = subst IsEmpty (sym e) (λ p. open_same (record { lane = lane; lists = [] }) k p ∙ no_blocks_at lane p)
 
-pub first_opened : (s : Blocks) (lane x n turns : ℕ) → x < n → s ≡ record { lane = lane; lists = replicate (x + n * turns + 1) [] } → EndsOwn x n s
-first_opened s lane x n turns few e = subst (λ t. EndsOwn x n t) (sym e) (record { some = omega (arith, many); own = turn })
+pub first_opened : (s : Blocks) (lane x n last : ℕ) → last % n ≡ x → s ≡ record { lane = lane; lists = replicate (last + 1) [] } → EndsOwn x n s
+first_opened s lane x n last own e = subst (λ t. EndsOwn x n t) (sym e) (record { some = omega (arith, many); own = turn })
   where
-    many : length (only_empty lane (x + n * turns + 1)).lists ≡ x + n * turns + 1
-    many = length-replicate (x + n * turns + 1) []
+    many : length (only_empty lane (last + 1)).lists ≡ last + 1
+    many = length-replicate (last + 1) []
 
-    turn : (length (only_empty lane (x + n * turns + 1)).lists - 1) % n ≡ x
+    turn : (length (only_empty lane (last + 1)).lists - 1) % n ≡ x
     turn =
-        let at : length (only_empty lane (x + n * turns + 1)).lists - 1 ≡ x + n * turns = omega (arith, many) in
-        ap (λ k. k % n) at ∙ add-mul-mod_self_left x n turns ∙ mod-eq_of_lt few
+        let at : length (only_empty lane (last + 1)).lists - 1 ≡ last = omega (arith, many) in
+        ap (λ k. k % n) at ∙ own

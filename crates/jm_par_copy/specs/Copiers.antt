@@ -1,14 +1,14 @@
 -- What holds of all copiers together, between rounds.
-use Rattle.std.specs.Prelude.{◌≡◌, ◌≢◌, ◌⊎◌, ℕ, ◌<◌, ◌≤◌, List, [], ◌∷◌, ◌++◌, length, Option, Some, None, Bool, true, false, nat_eq, slice_get, if◌then◌else◌}
+use Rattle.std.specs.Prelude.{◌≡◌, ◌≢◌, ◌⊎◌, ℕ, ◌<◌, ◌≤◌, ◌%◌, List, [], ◌∷◌, ◌++◌, length, Option, Some, None, Bool, true, false, nat_eq, slice_get, if◌then◌else◌}
 use Rattle.jm_blocks.specs.Objects.{Object}
 use Rattle.jm_blocks.specs.Places.{block_of, lane_of}
-use Rattle.jm_blocks.specs.Stores.{Blocks}
+use Rattle.jm_blocks.specs.Stores.{Blocks, objects_in}
 use Rattle.jm_forward.specs.declared.rule.Hand.{Hand}
 use Rattle.jm_forward.specs.Hands.{Agree, AreAll, TableView, all_known, all_wins, fresh}
 use Rattle.jm_copy.specs.Copying.{AreForwarded, Copying, Progress}
 use Rattle.jm_copy.specs.Image.{IsImage}
 use Rattle.jm_copy.specs.Condemned.{objects_at}
-use Rattle.jm_copy.specs.Copies.{made, HasMade}
+use Rattle.jm_copy.specs.Copies.{made, HasMade, is_above}
 use Rattle.jm_copy.specs.Marks.{AllPassed, AreMarks}
 use Rattle.jm_copy.specs.Numbers.{object_count}
 use Rattle.jm_par_copy.specs.Begins.{IsLocal}
@@ -152,30 +152,42 @@ abbrev pub BackKeeps : Type 0
 BackKeeps = (stores : List Blocks) (roots : List ℕ) (words : TableView) (cs ds : List Copier) (aside : List Piece)
     → AreCopying stores roots words cs aside → AreBack cs ds → AreCopying stores roots words ds aside
 
+-- a place in the lane of the young, or in that of the old in a block where the old store has no object
+abbrev pub IsFreeBlock : Blocks → ℕ → Type 0
+IsFreeBlock before n = (m : ℕ) (o : Object) → objects_in before m ≡ Some o → block_of m ≡ block_of n → ⊥
+
+abbrev pub IsPlaced : ℕ → Blocks → ℕ → Type 0
+IsPlaced young before n = (lane_of n ≡ young) ⊎ ((lane_of n ≡ before.lane) × IsFreeBlock before n)
+
 -- a place in the lane of the young, or in that of the old in a block from a number on
-abbrev pub IsPlaced : ℕ → ℕ → ℕ → ℕ → Type 0
-IsPlaced young old first n = (lane_of n ≡ young) ⊎ ((lane_of n ≡ old) × (first ≤ block_of n))
+abbrev pub IsFrom : ℕ → ℕ → ℕ → ℕ → Type 0
+IsFrom young old first n = (lane_of n ≡ young) ⊎ ((lane_of n ≡ old) × (first ≤ block_of n))
 
--- a copier fills two lanes, of the old one blocks from a number on, and keeps no object that was there before
-pub record IsFilling (young old first : ℕ) (c : Copier) : Type 0 where
+-- a copier fills two lanes, of the old one its own blocks from a number on, above which the old store has no object in
+-- them; what it keeps are the objects that the old store has in the block of this number
+pub record IsFilling (young : ℕ) (before : Blocks) (c : Copier) : Type 0 where
   pub young_lane : c.to.young.lane ≡ young
-  pub old_lane : c.to.tenured.lane ≡ old
-  pub none : c.to.kept ≡ None
+  pub old_lane : c.to.tenured.lane ≡ before.lane
+  pub first : ℕ
+  pub own : first % c.seat.hand.copiers ≡ c.seat.hand.copier
   pub next : first < length c.to.tenured.lists
-  pub made : (n : ℕ) → HasMade c.to n → IsPlaced young old first n
+  pub made : (n : ℕ) → HasMade c.to n → IsFrom young before.lane first n
+  pub below : (n : ℕ) (o : Object) → objects_in before n ≡ Some o → owner_of c.seat.hand.copiers n ≡ c.seat.hand.copier → block_of n ≤ first
+  pub kept : (n : ℕ) (o : Object) → objects_in c.to.tenured n ≡ Some o → is_above c.to.kept n ≡ false → (objects_in before n ≡ Some o) × (block_of n ≡ first)
+  pub there : (n : ℕ) (o : Object) → objects_in before n ≡ Some o → block_of n ≡ first → (objects_in c.to.tenured n ≡ Some o) × (is_above c.to.kept n ≡ false)
 
-abbrev pub AllFill : ℕ → ℕ → ℕ → List Copier → Type 0
-AllFill young old first [] = Unit {0}
-AllFill young old first (c ∷ cs) = IsFilling young old first c × AllFill young old first cs
+abbrev pub AllFill : ℕ → Blocks → List Copier → Type 0
+AllFill young before [] = Unit {0}
+AllFill young before (c ∷ cs) = IsFilling young before c × AllFill young before cs
 
--- and so does each, also with the blocks that were moved
-pub record ArePlaced (young old first : ℕ) (cs : List Copier) (aside : List Piece) : Type 0 where
-  pub own : AllFill young old first cs
-  pub pieces : (n : ℕ) → IsInOne (all_pieces cs aside) n → IsPlaced young old first n
+-- so does each, and the blocks that were moved lie where the old store has none
+pub record ArePlaced (young : ℕ) (before : Blocks) (cs : List Copier) (aside : List Piece) : Type 0 where
+  pub own : AllFill young before cs
+  pub pieces : (n : ℕ) → IsInOne (all_pieces cs aside) n → IsPlaced young before n
 
 -- a step that keeps this
 abbrev pub KeepPlaced : List Copier → List Copier → List Piece → List Piece → Type 0
-KeepPlaced cs ds aside rest = (young old first : ℕ) → ArePlaced young old first cs aside → ArePlaced young old first ds rest
+KeepPlaced cs ds aside rest = (young : ℕ) (before : Blocks) → ArePlaced young before cs aside → ArePlaced young before ds rest
 
 -- a round does, giving back does, and dealing does
 abbrev pub RoundKeepsPlaced : Type 0

@@ -6,6 +6,7 @@ pub mod Round
 pub mod Moves
 pub mod Merging
 pub mod Begins
+pub mod Begun
 pub mod Roots
 pub mod Fresh
 pub mod Turns

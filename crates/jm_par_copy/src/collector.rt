@@ -9,7 +9,7 @@ use crate::copying::copy_with;
 use crate::ending::Copied;
 use crate::gate::{Gate, OpenGate};
 use jm_blocks::BlockStore;
-use jm_copy::{Collector, Refused, SerialCollector, Source, Survivors, number_all};
+use jm_copy::{Collector, Refused, Source, Survivors, number_all};
 use jm_forward::Forwarding;
 use jm_values::Place;
 use std::alloc::{AllocError, Global};
@@ -17,9 +17,6 @@ use std::thread::Threads;
 
 // There is a forwarding word for each of fewer objects than this.
 const MAX_OBJECTS: usize = 1 << 32;
-
-// So many blocks part full are left for each copier before a collection is made by one.
-const PART_FULL: u64 = 4;
 
 /// Copies what is reached by several copiers, from 1 to 16, each in a thread of its own, which pass a gate before each
 /// claim.
@@ -129,25 +126,8 @@ impl<R: Threads, G: Gate + Sync> ParallelCollector<R, G> {
     }
 }
 
-// Whether a store has many more blocks with objects than its cells fill: more than two for each 256 cells, and besides
-// these as many for each copier (at most 16) as a few collections leave part full.
-fn is_sparse(store: &BlockStore, copiers: usize) -> bool
-    requires { copiers ≤ 16 }
-{
-    let mut filled = 0u64;
-    let mut cells = 0u64;
-    for number in 0..store.len() {
-        let block = store.block(number);
-        if block.len() > 0 {
-            filled = filled.saturating_add(1);
-            cells = cells.saturating_add(block.cells());
-        }
-    }
-    filled > (cells / 128).saturating_add(copiers as u64 * PART_FULL)
-}
-
-// At a gate that nobody waits at, a collection that finds the old store sparse is made by one copier, on the thread that
-// calls it, which goes on in the last block of the old store: so blocks that are part full do not add up.
+// A trait's call does not know that a type parameter may be shared between threads, so the trait is kept to at the gate
+// that nobody waits at.
 impl<R: Threads> Collector for ParallelCollector<R, OpenGate> {
     fn collect(
         &self,
@@ -156,9 +136,6 @@ impl<R: Threads> Collector for ParallelCollector<R, OpenGate> {
         tenured: BlockStore,
         roots: &mut Vec<Place>,
     ) -> Result<Survivors, Refused> {
-        if is_sparse(&tenured, self.copiers) {
-            return SerialCollector.collect(alloc, condemned, tenured, roots);
-        }
         self.collect(alloc, condemned, tenured, roots)
     }
 }

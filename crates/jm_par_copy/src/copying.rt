@@ -1,6 +1,6 @@
 // A collection by several copiers.
 
-ghost use Rattle.std.specs.Prelude.{◌≡◌, ◌≢◌, ℕ, ◌*◌, ◌<◌, ◌≤◌, ◌^◌, [], IfOk, OnErr, OnOk, length, map, vec_capacity};
+ghost use Rattle.std.specs.Prelude.{◌≡◌, ◌≢◌, ℕ, ◌<◌, ◌≤◌, [], IfOk, OnErr, OnOk, length, map, vec_capacity};
 ghost use Rattle.jm_blocks.specs.Stores.{objects_in};
 ghost use Rattle.jm_forward.specs.Hands.{Agree, SeatView, all_wins, hands_from, seat_of};
 ghost use Rattle.jm_copy.specs.Copies.{IsSource};
@@ -36,8 +36,8 @@ fn copy_by<R: Threads, G: Gate + Sync>(
     requires copying { AreCopying from.stores.now from.roots.now words.now copiers.old.items [] }
     requires numbered { AreNumbered words.now 0 copiers.old.items }
     requires many { (length copiers.old.items ≡ words.now.copiers) × (0 < words.now.copiers) }
-    requires lane { (1 < tenured.old.lane) × (tenured.old.lane < 64) }
-    requires placed { (first : ℕ) × (length tenured.old.lists ≤ first) × ArePlaced 1 tenured.old.lane first copiers.old.items [] }
+    requires apart { tenured.old.lane ≢ 1 }
+    requires placed { ArePlaced 1 tenured.old copiers.old.items [] }
     ensures ok { IfOk result (λ r. Agree (hands copiers.new.items) → IsCollectedBy from.entry.stores.now tenured.old from.entry.roots.now (all_wins (hands copiers.new.items)) r.young tenured.new r.remembered.items r.roots.items) }
     ensures own { OnOk result (AllOwnWins (seats_in copiers.new.items)) }
     ensures err { OnErr result ((n : ℕ) → objects_in tenured.new n ≡ objects_in tenured.old n) }
@@ -61,17 +61,6 @@ fn leave_seats(copiers: Vec<Copier>, mut seats: Vec<Seat>) -> Vec<Seat>
         seats.push_reserved(seat);
     }
     seats
-}
-
-// How many turns of blocks of all copiers (at most 16) so many blocks take.
-fn turns_above(blocks: usize, copiers: usize) -> usize
-    requires some { 0 < copiers }
-    requires few { copiers ≤ 16 }
-    requires numbered { blocks ≤ 2 ^ 49 }
-    ensures enough { blocks ≤ copiers * result }
-    ensures few { result ≤ 2 ^ 50 }
-{
-    (blocks + copiers - 1) / copiers
 }
 
 /// Copies what the roots reach by several copiers (at most 16), each in a thread of its own, which pass the gate
@@ -100,8 +89,7 @@ pub fn copy_with<R: Threads, G: Gate + Sync>(
     ensures agree { OnOk result (Agree (map (λ (s : SeatView). s.hand) seats.new.items)) }
 {
     let count = words.copiers();
-    let turns = turns_above(tenured.len(), count);
-    let stores = all_stores(alloc, count, tenured.lane(), turns)?;
+    let stores = all_stores(alloc, count, tenured)?;
     let room = Vec::with_capacity(alloc, count)?;
     let left = Vec::with_capacity(alloc, count)?;
     let taken = mem::replace(seats, Vec::new(alloc));

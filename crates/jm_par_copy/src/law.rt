@@ -82,22 +82,22 @@ pub fn ages_are_by_lane()
     ensures { AgesAreByLane }
 {}
 
-/// Where copiers fill two lanes, of the old one blocks from a number on, no step changes that: a round, giving back
-/// and dealing keep it, of their own objects and of the blocks that were moved.
+/// Where copiers fill two lanes, each of the old one its own blocks from where it begins in the old store, no step changes
+/// that: a round, giving back and dealing keep it, of their own objects and of the blocks that were moved.
 pub fn what_is_held_is_placed()
     ensures round { RoundKeepsPlaced }
     ensures back { BackKeepsPlaced }
     ensures dealt { DealKeepsPlaced }
 {}
 
-/// Between rounds what all hold in these lanes can be put into one store of each: no place is held twice, and each
+/// Between rounds what all have in these lanes can be put into one store of each: no place is held twice, and each
 /// block that was moved has one of the two lanes.
 pub fn what_is_held_can_be_put_together()
     ensures { HeldIsLoads }
 {}
 
-/// Where all have ended and have met, and what they hold was put together, with the promoted objects above the blocks
-/// of the old store, the collection is what a collector promises, and the map of its image is the union of the wins.
+/// Where all have ended and have met, and what they have was put together, the old store's objects in the blocks in which
+/// they went on with it, the collection is what a collector promises, and the map of its image is the union of the wins.
 pub fn the_end_is_collected()
     ensures { EndIsCollected }
 {}

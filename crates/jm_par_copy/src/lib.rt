@@ -3,16 +3,17 @@
 //! [`ParallelCollector`] keeps to the trait of collectors, as the serial one does: [`copy_with`] makes a collection,
 //! for any gate that copiers pass before their claims. Each [`Copier`] runs in a thread of its own. Of n copiers the
 //! one of number c takes the roots whose position is c modulo n, and fills blocks of its own, those whose number is c
-//! modulo n, of the old lane above all blocks that the old store has. It looks at the forwarding word of an object
-//! that it meets, and where nobody has claimed it, it reserves a place among its own, passes the [`Gate`] and claims
-//! the word once: the winner copies the object, and a loser takes the winner's place and keeps nothing.
+//! modulo n, of the old lane from the last one on that has objects: it goes on in a copy of that. It looks at the
+//! forwarding word of an object that it meets, and where nobody has claimed it, it reserves a place among its own,
+//! passes the [`Gate`] and claims the word once: the winner copies the object, and a loser takes the winner's place and
+//! keeps nothing.
 //!
 //! The copiers work in rounds. In each a copier scans so many blocks: those that it was given first, and then its
 //! own. Between two rounds blocks that are closed and not yet scanned leave the stores of those who filled them,
 //! and are dealt out anew, block j to copier j modulo n; the block that a copier is filling and the one that its
 //! mark is in stay with it. [`run_rounds`] ends when nothing is left to scan. [`finish`] then puts all blocks into one
-//! store of the young and one of the promoted, and the promoted ones into the old store, which nobody has touched
-//! before: where a growth is refused there is nothing to mend.
+//! store of the young and one of the promoted, and the promoted ones into the old store, which was only read before:
+//! where a growth is refused there is nothing to mend.
 //!
 //! What holds of all copiers between two rounds is `AreCopying` (`specs/Copiers.antt`): what they hold together are
 //! the copies of what all have won, by what all know, and no place is held by two. A round keeps it, giving back

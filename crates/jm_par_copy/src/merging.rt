@@ -5,7 +5,7 @@ ghost use Rattle.jm_blocks.specs.Objects.{Object};
 ghost use Rattle.jm_blocks.specs.Places.{block_of};
 ghost use Rattle.jm_blocks.specs.Stores.{HasObject, objects_in};
 ghost use Rattle.jm_par_copy.specs.Pieces.{objects_of};
-ghost use Rattle.jm_par_copy.specs.Merging.{AreBeside, IsLeft, IsMoved};
+ghost use Rattle.jm_par_copy.specs.Merging.{GoesOver, IsLeft, IsMoved};
 ghost use Rattle.jm_par_copy.specs.Working.{both};
 
 use crate::piece::Piece;
@@ -65,10 +65,11 @@ pub fn put_piece(alloc: Global, piece: Piece, to: &mut BlockStore) -> Result<(),
     Ok(())
 }
 
-// Moves the block of a number into a store that has a block of this number, and no object there.
+// Moves the block of a number into a store that has a block of this number, whose objects, if there are any, are the
+// first ones of it.
 fn move_block(alloc: Global, from: &mut BlockStore, number: usize, to: &mut BlockStore)
     requires lane { from.old.lane ≡ to.old.lane }
-    requires beside { AreBeside from.old to.old }
+    requires over { GoesOver from.old to.old }
     requires there { number < length from.old.lists }
     requires opened { number < length to.old.lists }
     ensures moved { IsMoved from.old to.old from.new to.new }
@@ -80,6 +81,7 @@ fn move_block(alloc: Global, from: &mut BlockStore, number: usize, to: &mut Bloc
         return;
     }
     let block = from.take(alloc, number);
+    let _first = to.take(alloc, number);
     to.put(number, block);
 }
 
@@ -95,10 +97,10 @@ fn filled_blocks(store: &BlockStore) -> usize
 }
 
 // Moves the first so many blocks of a store, above which it has no object, into another of the same lane, which has as
-// many and no object where the first has one.
+// many, each with the first objects of the first store's or with none.
 fn move_opened(alloc: Global, from: &mut BlockStore, count: usize, to: &mut BlockStore)
     requires lane { from.old.lane ≡ to.old.lane }
-    requires beside { AreBeside from.old to.old }
+    requires over { GoesOver from.old to.old }
     requires there { count ≤ length from.old.lists }
     requires above { (n : ℕ) → HasObject from.old n → block_of n < count }
     requires opened { count ≤ length to.old.lists }
@@ -110,12 +112,12 @@ fn move_opened(alloc: Global, from: &mut BlockStore, count: usize, to: &mut Bloc
     }
 }
 
-/// Moves all blocks of a store into another of the same lane, which has no object where the first has one, and opens it
-/// as far as the last block with an object. Only that can be refused, before any block is moved: the second has the
-/// objects that it had then, and the first is as it was.
+/// Moves all blocks of a store that have objects into another of the same lane, which has a block of the same number empty
+/// or with the first objects of the moved one, and opens it as far as the last block with an object. Only that can be
+/// refused, before any block is moved: the second has the objects that it had then, and the first is as it was.
 pub fn move_all(alloc: Global, from: &mut BlockStore, to: &mut BlockStore) -> Result<(), AllocError>
     requires lane { from.old.lane ≡ to.old.lane }
-    requires beside { AreBeside from.old to.old }
+    requires over { GoesOver from.old to.old }
     ensures ok { OnOk result ((n : ℕ) → objects_in to.new n ≡ both (objects_in to.old) (objects_in from.old) n) }
     ensures err { OnErr result ((n : ℕ) → objects_in to.new n ≡ objects_in to.old n) }
     ensures from { OnErr result (from.new ≡ from.old) }

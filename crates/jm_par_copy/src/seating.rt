@@ -1,77 +1,149 @@
-// Copiers take their seats, each with two empty stores of its own.
+// Copiers take their seats, each with two stores of its own.
 
-ghost use Rattle.std.specs.Prelude.{◌≡◌, ◌+◌, ◌*◌, ◌<◌, ◌≤◌, ◌^◌, [], IfOk, length, vec_capacity};
+ghost use Rattle.std.specs.Prelude.{◌≡◌, ◌≢◌, ℕ, ◌+◌, ◌<◌, ◌≤◌, ◌^◌, ◌%◌, [], IfOk, length, vec_capacity};
 ghost use Rattle.jm_blocks.specs.Stores.{IsEmpty};
+ghost use Rattle.jm_par_copy.specs.Begun.{IsBegin, IsBegun};
 ghost use Rattle.jm_par_copy.specs.Seats.{AreOwnStores, AreSeatsOf, IsOwnStores, IsSeatOf};
 ghost use Rattle.jm_par_copy.specs.Strides.{EndsOwn};
 
 use crate::copier::Copier;
-use jm_blocks::BlockStore;
+use crate::unloading::YOUNG;
+use jm_blocks::{Block, BlockStore};
 use jm_copy::{Copies, Marks, Words};
 use jm_forward::Seat;
 use std::alloc::{AllocError, Global};
 
-// A store whose last block is the copier's own, with this many turns of all copiers below it, and no object.
-fn own_store(
-    alloc: Global,
-    lane: u64,
-    number: usize,
-    copiers: usize,
-    turns: usize,
-) -> Result<BlockStore, AllocError>
-    requires lane { (0 < lane) × (lane < 64) }
+// How many cells the smallest object has.
+const LEAST_CELLS: u64 = 2;
+
+// A store of the young whose last block is that of this number, without an object.
+fn own_young(alloc: Global, number: usize, copiers: usize) -> Result<BlockStore, AllocError>
     requires number { number < copiers }
-    requires few { (copiers ≤ 16) × (turns ≤ 2 ^ 50) }
-    ensures lane { IfOk result (λ s. s.lane ≡ lane) }
+    requires few { copiers ≤ 16 }
+    ensures lane { IfOk result (λ s. s.lane ≡ 1) }
     ensures empty { IfOk result (λ s. IsEmpty s) }
     ensures ends { IfOk result (λ s. EndsOwn number copiers s) }
-    ensures above { IfOk result (λ s. length s.lists ≡ number + copiers * turns + 1) }
 {
-    let mut store = BlockStore::new(alloc, lane);
-    store.open(alloc, number + copiers * turns + 1)?;
+    let mut store = BlockStore::new(alloc, YOUNG);
+    store.open(alloc, number + 1)?;
+    Ok(store)
+}
+
+// The number of the old block in which the copier of a number begins: its last one with objects where that has room for
+// the smallest object, else its next one; its first one where none of its blocks has objects.
+fn first_block(old: &BlockStore, number: usize, copiers: usize) -> usize
+    requires number { number < copiers }
+    requires few { copiers ≤ 16 }
+    ensures begins { IsBegin number copiers old.now.lists (length old.now.lists) result }
+    ensures below { result < 2 ^ 50 }
+{
+    let mut first = number;
+    let mut block = number;
+    while block < old.len() {
+        first = first_of(old, block, copiers, first);
+        block += copiers;
+    }
+    first
+}
+
+// Where a copier begins, as far as one block more of its own is looked at: there, if the block has objects and room, at
+// the next one of its own if it has none, and else where it was.
+fn first_of(old: &BlockStore, block: usize, copiers: usize, first: usize) -> usize
+    requires there { block < length old.now.lists }
+    requires few { (0 < copiers) × (copiers ≤ 16) }
+    requires numbered { (block < 2 ^ 49) × (first < 2 ^ 50) }
+    ensures begins { (number : ℕ) → block % copiers ≡ number → IsBegin number copiers old.now.lists block first → IsBegin number copiers old.now.lists (block + copiers) result }
+    ensures below { result < 2 ^ 50 }
+{
+    let last = old.block(block);
+    if last.len() == 0 {
+        return first;
+    }
+    if last.has_room(LEAST_CELLS) {
+        return block;
+    }
+    block + copiers
+}
+
+// The same objects in a block of their own, which has the memory that they take.
+fn copy_block(alloc: Global, block: &Block) -> Result<Block, AllocError>
+    ensures { IfOk result (λ copy. copy ≡ block.now) }
+{
+    let mut copy = Block::new(alloc);
+    // What is said of its cells shows that its objects have room one after the other.
+    let _cells = block.cells();
+    for index in 0..block.len() {
+        let (header, values) = block.object_at(index);
+        copy.bump(header, values)?;
+    }
+    Ok(copy)
+}
+
+// A store of the old that ends in the block in which the copier of a number begins, with copies of the objects that the
+// old store has there.
+fn own_old(
+    alloc: Global,
+    old: &BlockStore,
+    number: usize,
+    copiers: usize,
+) -> Result<BlockStore, AllocError>
+    requires number { number < copiers }
+    requires few { copiers ≤ 16 }
+    ensures lane { IfOk result (λ s. s.lane ≡ old.now.lane) }
+    ensures ends { IfOk result (λ s. EndsOwn number copiers s) }
+    ensures begun { IfOk result (λ s. IsBegun number copiers old.now s) }
+{
+    let first = first_block(old, number, copiers);
+    let mut store = BlockStore::new(alloc, old.lane());
+    store.open(alloc, first + 1)?;
+    if first >= old.len() {
+        return Ok(store);
+    }
+    let block = copy_block(alloc, old.block(first))?;
+    store.put(first, block);
     Ok(store)
 }
 
 // The two stores of the copier of a number.
 fn own_stores(
     alloc: Global,
+    old: &BlockStore,
     number: usize,
     copiers: usize,
-    old_lane: u64,
-    turns: usize,
 ) -> Result<Copies, AllocError>
-    requires lane { (1 < old_lane) × (old_lane < 64) }
+    requires apart { old.now.lane ≢ 1 }
     requires number { number < copiers }
-    requires few { (copiers ≤ 16) × (turns ≤ 2 ^ 50) }
-    ensures { IfOk result (λ to. IsOwnStores number copiers old_lane (copiers * turns) to) }
+    requires few { copiers ≤ 16 }
+    ensures { IfOk result (λ to. IsOwnStores number copiers old.now to) }
 {
     let words = Words::new(alloc, 0)?;
-    let young = own_store(alloc, 1, number, copiers, 0)?;
-    let tenured = own_store(alloc, old_lane, number, copiers, turns)?;
+    let young = own_young(alloc, number, copiers)?;
+    let tenured = own_old(alloc, old, number, copiers)?;
+    let kept = tenured.last();
     Ok(Copies {
         words,
         young,
         tenured,
-        kept: None,
+        kept,
     })
 }
 
-/// The stores of all copiers (at most 16), in order: the young have lane 1, and old objects come above so many
-/// turns of blocks of all copiers.
+/// The stores of all copiers (at most 16), in order: the young have lane 1, and that of the old is the old store's. Each
+/// copier begins in its last old block with objects, if that has room for one more, and else in its next one; it has
+/// copies of the objects there, and the old store is only read.
 pub fn all_stores(
     alloc: Global,
     copiers: usize,
-    old_lane: u64,
-    turns: usize,
+    old: &BlockStore,
 ) -> Result<Vec<Copies>, AllocError>
-    requires lane { (1 < old_lane) × (old_lane < 64) }
-    requires few { (copiers ≤ 16) × (turns ≤ 2 ^ 50) }
-    ensures own { IfOk result (λ ts. AreOwnStores 0 copiers old_lane (copiers * turns) ts.items) }
+    requires apart { old.now.lane ≢ 1 }
+    requires few { copiers ≤ 16 }
+    ensures own { IfOk result (λ ts. AreOwnStores 0 copiers old.now ts.items) }
     ensures many { IfOk result (λ ts. length ts.items ≡ copiers) }
 {
     let mut stores = Vec::with_capacity(alloc, copiers)?;
     for number in 0..copiers {
-        let own = own_stores(alloc, number, copiers, old_lane, turns)?;
+        let own = own_stores(alloc, old, number, copiers)?;
         stores.push_reserved(own);
     }
     Ok(stores)
@@ -81,6 +153,7 @@ pub fn all_stores(
 fn seat_one(alloc: Global, number: usize, seat: Seat, to: Copies) -> Copier
     ensures { IsSeatOf number seat to result }
 {
+    let kept = to.kept;
     Copier {
         number,
         claims: 0,
@@ -88,7 +161,7 @@ fn seat_one(alloc: Global, number: usize, seat: Seat, to: Copies) -> Copier
         to,
         marks: Marks {
             young: None,
-            tenured: None,
+            tenured: kept,
         },
         given: Vec::new(alloc),
         roots: Vec::new(alloc),

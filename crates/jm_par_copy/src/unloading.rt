@@ -2,12 +2,9 @@
 
 ghost use Rattle.std.specs.Prelude.{◌≡◌, ◌≢◌, ◌⊎◌, ℕ, ◌<◌, IfOk, OnOk};
 ghost use Rattle.jm_blocks.specs.Objects.{Object};
-ghost use Rattle.jm_copy.specs.Copies.{made};
-ghost use Rattle.jm_par_copy.specs.Copiers.{contents, parts};
-ghost use Rattle.jm_par_copy.specs.Ending.{AllLoads, AreLoads, IsBeside, IsLoad, IsLoaded, seats_in, stored};
+ghost use Rattle.jm_par_copy.specs.Ending.{AllLoads, AreLoads, IsBeside, IsLoad, IsLoaded, seats_in, stock, stocks, stored};
 ghost use Rattle.jm_par_copy.specs.Holding.{held_objects};
 ghost use Rattle.jm_par_copy.specs.Pieces.{IsPiece, objects_of};
-ghost use Rattle.jm_par_copy.specs.Together.{joint};
 
 use crate::copier::Copier;
 use crate::merging::{move_all, put_piece};
@@ -67,8 +64,8 @@ fn unload_own(
 ) -> Result<(), AllocError>
     requires lanes { young.old.lane ≢ promoted.old.lane }
     requires load { IsLoad young.old.lane promoted.old.lane copier.old }
-    requires beside { IsBeside (made copier.old.to) young.old promoted.old }
-    ensures loaded { OnOk result (IsLoaded (made copier.old.to) young.old promoted.old young.new promoted.new) }
+    requires beside { IsBeside (stored copier.old.to.young copier.old.to.tenured) young.old promoted.old }
+    ensures loaded { OnOk result (IsLoaded (stored copier.old.to.young copier.old.to.tenured) young.old promoted.old young.new promoted.new) }
     ensures given { copier.new.given.items ≡ copier.old.given.items }
     ensures seat { copier.new.seat ≡ copier.old.seat }
 {
@@ -86,8 +83,8 @@ fn unload(
 ) -> Result<(), AllocError>
     requires lanes { young.old.lane ≢ promoted.old.lane }
     requires load { IsLoad young.old.lane promoted.old.lane copier.old }
-    requires beside { IsBeside (contents copier.old) young.old promoted.old }
-    ensures loaded { OnOk result (IsLoaded (contents copier.old) young.old promoted.old young.new promoted.new) }
+    requires beside { IsBeside (stock copier.old) young.old promoted.old }
+    ensures loaded { OnOk result (IsLoaded (stock copier.old) young.old promoted.old young.new promoted.new) }
     ensures seat { copier.new.seat ≡ copier.old.seat }
 {
     unload_own(alloc, copier, young, promoted)?;
@@ -106,8 +103,8 @@ fn unload_all(
 ) -> Result<(), AllocError>
     requires lanes { young.old.lane ≢ promoted.old.lane }
     requires loads { AllLoads young.old.lane promoted.old.lane copiers.old aside.items }
-    requires beside { IsBeside (joint (parts copiers.old aside.items)) young.old promoted.old }
-    ensures loaded { OnOk result (IsLoaded (joint (parts copiers.old aside.items)) young.old promoted.old young.new promoted.new) }
+    requires beside { IsBeside (stocks copiers.old aside.items) young.old promoted.old }
+    ensures loaded { OnOk result (IsLoaded (stocks copiers.old aside.items) young.old promoted.old young.new promoted.new) }
     ensures seats { seats_in copiers.new ≡ seats_in copiers.old }
 {
     let Some((first, rest)) = copiers.split_first_mut() else {
@@ -131,7 +128,7 @@ pub fn put_together(
     requires loads { AllLoads 1 old_lane copiers.old.items aside.items }
     ensures young_lane { IfOk result (λ r. r.0.lane ≡ 1) }
     ensures old_lane { IfOk result (λ r. r.1.lane ≡ old_lane) }
-    ensures all { IfOk result (λ r. (n : ℕ) → stored r.0 r.1 n ≡ joint (parts copiers.old.items aside.items) n) }
+    ensures all { IfOk result (λ r. (n : ℕ) → stored r.0 r.1 n ≡ stocks copiers.old.items aside.items n) }
     ensures seats { seats_in copiers.new.items ≡ seats_in copiers.old.items }
 {
     let mut young = BlockStore::new(alloc, YOUNG);

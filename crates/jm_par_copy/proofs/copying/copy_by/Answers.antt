@@ -27,9 +27,8 @@ finish-requires-clause-placed g c =
     let cs = c.args.copiers.now.items in
     let ds = c.run_rounds.new.copiers.items in
     let none : c.new-aside.result.items ≡ [] = search rules in
-    let placed = c.requires.placed in
     let kept = subst (λ (xs : List Piece). KeepPlaced cs ds xs c.run_rounds.new.aside.items) none c.in_ok-run_rounds.ensures.placed in
-    (placed.0, placed.1, kept 1 c.args.tenured.now.lane placed.0 placed.2)
+    kept 1 c.args.tenured.now c.requires.placed
 
 pub returns-in_err-copied-clause-seats : goal.returns-in_err-copied-clause-seats
 returns-in_err-copied-clause-seats g c =

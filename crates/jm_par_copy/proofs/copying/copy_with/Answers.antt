@@ -1,13 +1,13 @@
-use Rattle.std.proofs.Common.{◌≡◌, ◌≤◌, ◌<◌, ◌*◌, List, [], ◌∙◌, rules, arith, sym, ap, subst, length, map}
+use Rattle.std.proofs.Common.{◌≡◌, List, ◌∙◌, rules, arith, sym, ap, subst, length, map}
 use Rattle.std.specs.List.{All}
 use Rattle.std.proofs.lemmas.Result.{IfOk-weaker}
 use Rattle.jm_forward.specs.declared.rule.Hand.{Hand}
 use Rattle.jm_forward.specs.Hands.{Agree, SeatView, all_wins}
-use Rattle.jm_par_copy.specs.Copiers.{ArePlaced, hands}
+use Rattle.jm_par_copy.specs.Copiers.{hands}
 use Rattle.jm_par_copy.specs.Ending.{IsCollectedBy, seats_in}
 use Rattle.jm_par_copy.specs.Seats.{AreInOrder}
 use Rattle.jm_par_copy.specs.declared.ending.Copied.{Copied}
-use Rattle.jm_par_copy.proofs.Crew.{fresh_in_order, is_crew, many_fresh, many_in, old_lanes, order_tables}
+use Rattle.jm_par_copy.proofs.Crew.{fresh_in_order, is_crew, many_fresh, many_in, order_tables}
 use Rattle.jm_par_copy.proofs.Meeting.{hands_in}
 use Rattle.jm_par_copy.proofs.copying.copy_with.Goals as goal
 
@@ -15,15 +15,7 @@ pub all_stores-requires-clause-few : goal.all_stores-requires-clause-few
 all_stores-requires-clause-few g c =
     let count = c.copiers-count.ensures in
     let few = c.requires.copiers in
-    (omega (arith, count, few), c.turns_above-turns.ensures.few)
-
-pub all_stores-requires-clause-lane : goal.all_stores-requires-clause-lane
-all_stores-requires-clause-lane g c = old_lanes c.lane.result c.lane.ensures.some c.lane.ensures.below (λ e. c.requires.apart (sym c.lane.ensures.value ∙ e))
-
-pub copy_by-copied-requires-clause-lane : goal.copy_by-copied-requires-clause-lane
-copy_by-copied-requires-clause-lane g c κs within =
-    let lanes = old_lanes c.lane.result c.lane.ensures.some c.lane.ensures.below (λ e. c.requires.apart (sym c.lane.ensures.value ∙ e)) in
-    subst (λ l. (1 < l) × (l < 64)) c.lane.ensures.value lanes
+    omega (arith, count, few)
 
 pub returns-in_err-stores-clause-seats : goal.returns-in_err-stores-clause-seats
 returns-in_err-stores-clause-seats g c = subst (λ (ss : List SeatView). AreInOrder c.args.words.now 0 ss) (sym c.requires.fresh) (fresh_in_order c.args.words.now 0 c.args.words.now.copiers)
@@ -60,32 +52,31 @@ seat_all-copiers-requires-clause-room g c =
 pub copy_by-copied-requires-clause-copying : goal.copy_by-copied-requires-clause-copying
 copy_by-copied-requires-clause-copying g c κs within =
     let taken : c.replace-taken.result.items ≡ c.args.seats.now.items = search rules in
-    let crew = is_crew c.args.from.stores.now c.args.from.roots.now c.args.words.now c.lane.result (c.copiers-count.result * c.turns_above-turns.result) c.copiers-count.result c.replace-taken.result.items c.in_ok-stores.stores.items c.seat_all-copiers.result.items c.requires.objects c.requires.copiers.1 c.copiers-count.ensures c.in_ok-stores.ensures.own (taken ∙ c.requires.fresh) c.seat_all-copiers.ensures in
+    let crew = is_crew c.args.from.stores.now c.args.from.roots.now c.args.words.now c.args.tenured.now c.copiers-count.result c.replace-taken.result.items c.in_ok-stores.stores.items c.seat_all-copiers.result.items c.requires.objects c.requires.copiers.1 c.copiers-count.ensures c.in_ok-stores.ensures.own (taken ∙ c.requires.fresh) c.seat_all-copiers.ensures in
     crew.copying
 
 pub copy_by-copied-requires-clause-numbered : goal.copy_by-copied-requires-clause-numbered
 copy_by-copied-requires-clause-numbered g c κs within =
     let taken : c.replace-taken.result.items ≡ c.args.seats.now.items = search rules in
-    let crew = is_crew c.args.from.stores.now c.args.from.roots.now c.args.words.now c.lane.result (c.copiers-count.result * c.turns_above-turns.result) c.copiers-count.result c.replace-taken.result.items c.in_ok-stores.stores.items c.seat_all-copiers.result.items c.requires.objects c.requires.copiers.1 c.copiers-count.ensures c.in_ok-stores.ensures.own (taken ∙ c.requires.fresh) c.seat_all-copiers.ensures in
+    let crew = is_crew c.args.from.stores.now c.args.from.roots.now c.args.words.now c.args.tenured.now c.copiers-count.result c.replace-taken.result.items c.in_ok-stores.stores.items c.seat_all-copiers.result.items c.requires.objects c.requires.copiers.1 c.copiers-count.ensures c.in_ok-stores.ensures.own (taken ∙ c.requires.fresh) c.seat_all-copiers.ensures in
     crew.numbered
 
 pub copy_by-copied-requires-clause-many : goal.copy_by-copied-requires-clause-many
 copy_by-copied-requires-clause-many g c κs within =
     let taken : c.replace-taken.result.items ≡ c.args.seats.now.items = search rules in
-    let crew = is_crew c.args.from.stores.now c.args.from.roots.now c.args.words.now c.lane.result (c.copiers-count.result * c.turns_above-turns.result) c.copiers-count.result c.replace-taken.result.items c.in_ok-stores.stores.items c.seat_all-copiers.result.items c.requires.objects c.requires.copiers.1 c.copiers-count.ensures c.in_ok-stores.ensures.own (taken ∙ c.requires.fresh) c.seat_all-copiers.ensures in
+    let crew = is_crew c.args.from.stores.now c.args.from.roots.now c.args.words.now c.args.tenured.now c.copiers-count.result c.replace-taken.result.items c.in_ok-stores.stores.items c.seat_all-copiers.result.items c.requires.objects c.requires.copiers.1 c.copiers-count.ensures c.in_ok-stores.ensures.own (taken ∙ c.requires.fresh) c.seat_all-copiers.ensures in
     (crew.many, c.requires.copiers.0)
 
 pub copy_by-copied-requires-clause-placed : goal.copy_by-copied-requires-clause-placed
 copy_by-copied-requires-clause-placed g c κs within =
     let taken : c.replace-taken.result.items ≡ c.args.seats.now.items = search rules in
-    let crew = is_crew c.args.from.stores.now c.args.from.roots.now c.args.words.now c.lane.result (c.copiers-count.result * c.turns_above-turns.result) c.copiers-count.result c.replace-taken.result.items c.in_ok-stores.stores.items c.seat_all-copiers.result.items c.requires.objects c.requires.copiers.1 c.copiers-count.ensures c.in_ok-stores.ensures.own (taken ∙ c.requires.fresh) c.seat_all-copiers.ensures in
-    let first = c.copiers-count.result * c.turns_above-turns.result in
-    (first, subst (λ n. n ≤ first) c.len.ensures.value c.turns_above-turns.ensures.enough, subst (λ l. ArePlaced 1 l first c.seat_all-copiers.result.items []) c.lane.ensures.value crew.placed)
+    let crew = is_crew c.args.from.stores.now c.args.from.roots.now c.args.words.now c.args.tenured.now c.copiers-count.result c.replace-taken.result.items c.in_ok-stores.stores.items c.seat_all-copiers.result.items c.requires.objects c.requires.copiers.1 c.copiers-count.ensures c.in_ok-stores.ensures.own (taken ∙ c.requires.fresh) c.seat_all-copiers.ensures in
+    crew.placed
 
 pub leave_seats-requires-clause-room : goal.leave_seats-requires-clause-room
 leave_seats-requires-clause-room g c =
     let taken : c.replace-taken.result.items ≡ c.args.seats.now.items = search rules in
-    let crew = is_crew c.args.from.stores.now c.args.from.roots.now c.args.words.now c.lane.result (c.copiers-count.result * c.turns_above-turns.result) c.copiers-count.result c.replace-taken.result.items c.in_ok-stores.stores.items c.seat_all-copiers.result.items c.requires.objects c.requires.copiers.1 c.copiers-count.ensures c.in_ok-stores.ensures.own (taken ∙ c.requires.fresh) c.seat_all-copiers.ensures in
+    let crew = is_crew c.args.from.stores.now c.args.from.roots.now c.args.words.now c.args.tenured.now c.copiers-count.result c.replace-taken.result.items c.in_ok-stores.stores.items c.seat_all-copiers.result.items c.requires.objects c.requires.copiers.1 c.copiers-count.ensures c.in_ok-stores.ensures.own (taken ∙ c.requires.fresh) c.seat_all-copiers.ensures in
     let many = c.copy_by-copied.ensures.many in
     let before = crew.many in
     let count = c.copiers-count.ensures in
@@ -112,5 +103,5 @@ returns-clause-ok g c =
 pub returns-clause-many : goal.returns-clause-many
 returns-clause-many g c =
     let taken : c.replace-taken.result.items ≡ c.args.seats.now.items = search rules in
-    let crew = is_crew c.args.from.stores.now c.args.from.roots.now c.args.words.now c.lane.result (c.copiers-count.result * c.turns_above-turns.result) c.copiers-count.result c.replace-taken.result.items c.in_ok-stores.stores.items c.seat_all-copiers.result.items c.requires.objects c.requires.copiers.1 c.copiers-count.ensures c.in_ok-stores.ensures.own (taken ∙ c.requires.fresh) c.seat_all-copiers.ensures in
+    let crew = is_crew c.args.from.stores.now c.args.from.roots.now c.args.words.now c.args.tenured.now c.copiers-count.result c.replace-taken.result.items c.in_ok-stores.stores.items c.seat_all-copiers.result.items c.requires.objects c.requires.copiers.1 c.copiers-count.ensures c.in_ok-stores.ensures.own (taken ∙ c.requires.fresh) c.seat_all-copiers.ensures in
     ap length c.meet.ensures.same ∙ ap length c.leave_seats.ensures ∙ many_in c.copy_by-copied.new.copiers.items ∙ c.copy_by-copied.ensures.many ∙ crew.many

@@ -1,11 +1,11 @@
 use Rattle.std.proofs.Common.{◌≡◌, ◌∙◌, ap}
 use Rattle.jm_blocks.specs.Stores.{objects_in}
 use Rattle.jm_par_copy.specs.Working.{both}
-use Rattle.jm_par_copy.proofs.Merged.{moved_opened}
+use Rattle.jm_par_copy.proofs.Merged.{over_opened}
 use Rattle.jm_par_copy.proofs.merging.move_all.Goals as goal
 
-pub move_opened-requires-clause-beside : goal.move_opened-requires-clause-beside
-move_opened-requires-clause-beside c = (moved_opened c.args.from.now c.args.to.now c.open_all.new.to c.requires.beside c.open_all.ensures.lane c.open_all.ensures.same).beside
+pub move_opened-requires-clause-over : goal.move_opened-requires-clause-over
+move_opened-requires-clause-over c = over_opened c.args.from.now c.args.to.now c.open_all.new.to c.requires.over c.open_all.ensures.same
 
 pub returns-clause-ok : goal.returns-clause-ok
 returns-clause-ok c n =

@@ -5,7 +5,7 @@ use Rattle.jm_par_copy.proofs.Redealing.{keep_seats, many_seats, seats_then}
 use Rattle.jm_par_copy.proofs.running.give_all_back.Goals as goal
 
 pub loop-number-init : goal.loop-number-init
-loop-number-init c = ((λ stores roots words aside h. (h, λ young old first p. p)), keep_seats c.args.copiers.now.items)
+loop-number-init c = ((λ stores roots words aside h. (h, λ young before p. p)), keep_seats c.args.copiers.now.items)
 
 pub give_back_of-requires : goal.give_back_of-requires
 give_back_of-requires c =

@@ -7,7 +7,7 @@ use Rattle.jm_par_copy.proofs.Redealing.{keep_seats, many_seats, seats_then}
 use Rattle.jm_par_copy.proofs.running.run_rounds.Goals as goal
 
 pub loop-init : goal.loop-init
-loop-init g c = (c.requires.copying, c.requires.scanned, keep_seats c.args.copiers.now.items, λ young old first p. p)
+loop-init g c = (c.requires.copying, c.requires.scanned, keep_seats c.args.copiers.now.items, λ young before p. p)
 
 pub make_round_of_all-requires-clause-ready : goal.make_round_of_all-requires-clause-ready
 make_round_of_all-requires-clause-ready g c κs within = all_are_ready c.args.from.stores.now c.args.from.roots.now c.args.words.now c.loop.copiers.items c.loop.aside.items c.loop.invariant.0

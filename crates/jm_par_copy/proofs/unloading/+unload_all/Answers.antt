@@ -1,7 +1,5 @@
 use Rattle.std.proofs.Common.{◌≡◌, ◌≢◌, ◌∷◌, [], List, ◌∙◌, rules, refl, sym, subst, length}
-use Rattle.jm_par_copy.specs.Copiers.{contents, parts}
-use Rattle.jm_par_copy.specs.Ending.{AllLoads, IsBeside, IsLoaded}
-use Rattle.jm_par_copy.specs.Together.{joint}
+use Rattle.jm_par_copy.specs.Ending.{AllLoads, IsBeside, IsLoaded, stock, stocks}
 use Rattle.jm_par_copy.specs.declared.copier.Copier.{Copier}
 use Rattle.jm_par_copy.proofs.Loads.{alone_beside, alone_loaded, beside_first, rest_all_loads, rest_beside, rest_loaded}
 use Rattle.jm_par_copy.proofs.Redealing.{none_left}
@@ -21,7 +19,7 @@ pub unload-requires-clause-beside : goal.unload-requires-clause-beside
 unload-requires-clause-beside t c =
     let cs = c.in-Some.first.now ∷ c.in-Some.rest.now in
     let all : c.args.copiers.now ≡ cs = search rules in
-    beside_first (contents c.in-Some.first.now) (joint (parts c.in-Some.rest.now c.args.aside.items)) c.args.young.now c.args.promoted.now (subst (λ (xs : List Copier). IsBeside (joint (parts xs c.args.aside.items)) c.args.young.now c.args.promoted.now) all c.requires.beside)
+    beside_first (stock c.in-Some.first.now) (stocks c.in-Some.rest.now c.args.aside.items) c.args.young.now c.args.promoted.now (subst (λ (xs : List Copier). IsBeside (stocks xs c.args.aside.items) c.args.young.now c.args.promoted.now) all c.requires.beside)
 
 pub unload_all-requires : goal.unload_all-requires
 unload_all-requires t c =
@@ -34,7 +32,7 @@ unload_all-requires t c =
     let old' = c.unload.new.promoted in
     let all : c.args.copiers.now ≡ first ∷ rest = search rules in
     let loads = subst (λ (xs : List Copier). AllLoads young.lane old.lane xs aside) all c.requires.loads in
-    let beside = subst (λ (xs : List Copier). IsBeside (joint (parts xs aside)) young old) all c.requires.beside in
+    let beside = subst (λ (xs : List Copier). IsBeside (stocks xs aside) young old) all c.requires.beside in
     let l = c.in_ok-unload.ensures.loaded in
     let lanes : young'.lane ≢ old'.lane = λ e. c.requires.lanes (sym l.young_lane ∙ e ∙ l.old_lane) in
     let next_loads = rest_all_loads first rest aside young old young' old' loads l in
@@ -54,4 +52,4 @@ returns-clause-loaded t c =
     let loads = subst (λ (xs : List Copier). AllLoads young.lane old.lane xs aside) all c.requires.loads in
     let a = c.unload_all.new.young in
     let b = c.unload_all.new.promoted in
-    subst (λ (xs : List Copier). IsLoaded (joint (parts xs aside)) young old a b) (sym all) (rest_loaded first rest aside young old young' old' loads c.in_ok-unload.ensures.loaded a b c.in_ok-unload_all.ensures.loaded)
+    subst (λ (xs : List Copier). IsLoaded (stocks xs aside) young old a b) (sym all) (rest_loaded first rest aside young old young' old' loads c.in_ok-unload.ensures.loaded a b c.in_ok-unload_all.ensures.loaded)

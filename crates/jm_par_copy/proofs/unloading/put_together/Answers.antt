@@ -1,8 +1,6 @@
 use Rattle.std.proofs.Common.{◌≡◌, List, ◌∙◌, arith, sym, ap, subst}
 use Rattle.jm_blocks.specs.Stores.{Blocks}
-use Rattle.jm_par_copy.specs.Copiers.{parts}
-use Rattle.jm_par_copy.specs.Ending.{AllLoads, IsLoaded, seats_in}
-use Rattle.jm_par_copy.specs.Together.{joint}
+use Rattle.jm_par_copy.specs.Ending.{AllLoads, IsLoaded, seats_in, stocks}
 use Rattle.jm_par_copy.specs.declared.copier.Copier.{Copier}
 use Rattle.jm_par_copy.proofs.Crew.{same_many}
 use Rattle.jm_par_copy.proofs.Listing.{put_back}
@@ -24,8 +22,8 @@ pub returns-clause-all : goal.returns-clause-all
 returns-clause-all c =
     let a = c.unload_all.new.young in
     let b = c.unload_all.new.promoted in
-    let loaded = subst (λ (xs : List Copier). IsLoaded (joint (parts xs c.args.aside.items)) c.new-young.result c.new-promoted.result a b) c.as_mut_slice.ensures.value c.in_ok-unload_all.ensures.loaded in
-    loaded_alone (joint (parts c.args.copiers.now.items c.args.aside.items)) c.new-young.result c.new-promoted.result a b (ap (λ (s : Blocks). s.lists) c.new-young.ensures) (ap (λ (s : Blocks). s.lists) c.new-promoted.ensures) loaded
+    let loaded = subst (λ (xs : List Copier). IsLoaded (stocks xs c.args.aside.items) c.new-young.result c.new-promoted.result a b) c.as_mut_slice.ensures.value c.in_ok-unload_all.ensures.loaded in
+    loaded_alone (stocks c.args.copiers.now.items c.args.aside.items) c.new-young.result c.new-promoted.result a b (ap (λ (s : Blocks). s.lists) c.new-young.ensures) (ap (λ (s : Blocks). s.lists) c.new-promoted.ensures) loaded
 
 pub returns-clause-seats : goal.returns-clause-seats
 returns-clause-seats c =
