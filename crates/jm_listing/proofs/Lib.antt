@@ -1,0 +1,2 @@
+pub mod Harmless
+pub mod WorkedListing
