@@ -4,3 +4,5 @@ pub mod ObjectsPut
 pub mod ViewPut
 pub mod EventsTold
 pub mod Films
+pub mod Free
+pub mod Waiting

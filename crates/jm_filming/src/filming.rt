@@ -62,8 +62,8 @@ fn kind_word(kind: ReplyKind) -> &'static str
     }
 }
 
-// Whether an event was blocked.
-fn is_blocked(kind: ReplyKind) -> bool
+/// Whether an event was blocked.
+pub fn is_blocked(kind: ReplyKind) -> bool
     ensures { result ≡ is_blocked kind }
 {
     match kind {

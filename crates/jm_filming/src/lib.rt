@@ -6,11 +6,14 @@
 //! events of a machine and writes each, as `jm_film` writes it; the data are the fold over the run's
 //! events.
 //!
+//! What is told of a thread that is blocked is what keeps it back in the model (`specs/Waits`).
+//!
 //! The crate stands on `jm_machine`, `jm_debug` and `jm_film`.
 #![tactic(auto)]
 
 mod filming;
 mod frames;
+mod laws;
 mod objects;
 mod section;
 mod shown;
@@ -18,5 +21,6 @@ mod statics;
 mod threads;
 mod waits;
 
-pub use filming::Filming;
+pub use filming::{Filming, is_blocked, waiting_after};
+pub use laws::blocked_threads_wait_for_what_is_told;
 pub use shown::view;
