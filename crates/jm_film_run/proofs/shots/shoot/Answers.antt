@@ -1,0 +1,23 @@
+-- What the event gave, and the piece that was written of it.
+use Rattle.std.proofs.Common.{ap, ◌∙◌}
+use Rattle.jm_page.proofs.Pieces.{put_nothing}
+use Rattle.jm_world.specs.RoundRobin.{is_blocked}
+use Rattle.jm_film_run.proofs.Fronts.{put_of}
+use Rattle.jm_film_run.proofs.Telling.{of_answer}
+use Rattle.jm_film_run.proofs.shots.shoot.Goals as goal
+
+pub returns-in-Ok-clause-told : goal.returns-in-Ok-clause-told
+returns-in-Ok-clause-told g c = λ w m. put_of _ _ c.put_piece.result _ _ _ _ _ (c.in-Ok.ensures.written w m) c.requires c.put_piece.ensures.put
+
+pub returns-in-Ok-clause-made : goal.returns-in-Ok-clause-made
+returns-in-Ok-clause-made g c = λ w m. of_answer _ c.put_piece.result (c.in-Ok.ensures.made w m).0
+
+pub returns-in-Ok-clause-behind : goal.returns-in-Ok-clause-behind
+returns-in-Ok-clause-behind g c = λ w m. of_answer _ c.put_piece.result (c.in-Ok.ensures.behind w m)
+
+pub returns-in-Ok-clause-seen : goal.returns-in-Ok-clause-seen
+returns-in-Ok-clause-seen g c = λ w m.
+    of_answer _ c.put_piece.result (c.see.ensures ∙ ap (g.S.EventsDue.seen c.args.events.now) (c.is_blocked.ensures ∙ ap (λ r. is_blocked r.kind) (c.in-Ok.ensures.made w m).1))
+
+pub returns-in-Err-clause-told : goal.returns-in-Err-clause-told
+returns-in-Err-clause-told g c = λ w m. put_nothing g.P.PageWriter.wrote g.P.PageWriter.broke (Unit {0}) g.met.P.PageWriter.wrote_none c.args.page.now _
