@@ -323,6 +323,48 @@ a_schedule_of_run : exploration_fault (codes "--schedule=s" ∷ codes "A.class" 
 unfolding jm clap_on_literals
 a_schedule_of_run = refl
 
+-- the words after another subcommand that runs a program by one worker: the heap, the copiers, the schedule, the steps, the quantum and the files
+abbrev serial : Text → List Text → Option (Option Text × Option Text × Option Text × Option Text × Option Text × Option (List Text))
+serial name words = option_map
+    (λ (s : Subcommand). (one_of (codes "heap") s.1, one_of (codes "copiers") s.1, first_of (codes "schedule") s.1, one_of (codes "steps") s.1, one_of (codes "quantum") s.1, all_of (codes "file") s.1))
+    (subcommand_of jm (codes "jm" ∷ name ∷ words))
+
+-- the words after jm film
+abbrev filmed : List Text → Option (Option Text × Option Text)
+filmed words = option_map (λ (s : Subcommand). (one_of (codes "from") s.1, first_of (codes "source") s.1)) (subcommand_of jm (codes "jm" ∷ codes "film" ∷ words))
+
+abbrev film_fault : List Text → Kinds
+film_fault words = fault_of jm (codes "jm" ∷ codes "film" ∷ words)
+
+a_film : filmed (codes "A.class" ∷ []) ≡ Some (Some (codes "1"), None)
+unfolding jm clap_on_literals
+a_film = refl
+
+no_film_fault : film_fault (codes "A.class" ∷ []) ≡ []
+unfolding jm clap_on_literals
+no_film_fault = refl
+
+a_film_with_lines : filmed (codes "--from=7" ∷ codes "A.class" ∷ codes "--source" ∷ codes "src" ∷ codes "--steps=10000" ∷ []) ≡ Some (Some (codes "7"), Some (codes "src"))
+unfolding jm clap_on_literals
+a_film_with_lines = refl
+
+the_longest_film : film_fault (codes "--from=7" ∷ codes "A.class" ∷ codes "--source" ∷ codes "src" ∷ codes "--steps=10000" ∷ []) ≡ []
+unfolding jm clap_on_literals
+the_longest_film = refl
+
+the_run_filmed : serial (codes "film") (codes "--heap=16" ∷ codes "--copiers=2" ∷ codes "--quantum=3" ∷ codes "A.class" ∷ codes "--schedule=s" ∷ [])
+    ≡ Some (Some (codes "16"), Some (codes "2"), Some (codes "s"), Some (codes "2000"), Some (codes "3"), Some (codes "A.class" ∷ []))
+unfolding jm clap_on_literals
+the_run_filmed = refl
+
+too_long_a_film : film_fault (codes "--steps=10001" ∷ codes "A.class" ∷ []) ≡ kind.ValueValidation ∷ []
+unfolding jm clap_on_literals
+too_long_a_film = refl
+
+nothing_to_film : film_fault [] ≡ kind.MissingRequiredArgument ∷ []
+unfolding jm clap_on_literals
+nothing_to_film = refl
+
 -- the words after jm asm
 abbrev assembled : List Text → Option (Text × Option Text × Option Text)
 assembled words = option_map (λ (s : Subcommand). (s.0, first_of (codes "input") s.1, first_of (codes "output") s.1)) (subcommand_of jm (codes "jm" ∷ codes "asm" ∷ words))

@@ -11,16 +11,17 @@ use Rattle.clap.specs.declared.parser.matches.ArgMatches.{ArgMatches}
 use Rattle.clap.specs.declared.parser.matches.ArgMatches.TheViews.{out-ArgMatches, out-SubCommand}
 use Rattle.clap.specs.declared.error.Error.{Error}
 use Rattle.clap.specs.declared.error.kind.ErrorKind.TheVariants as kind
-use Rattle.jm_options.specs.Asked.{SpellsNumber, HoldsNumber, MayHoldNumber, HoldsSerialRun, HoldsRun, HoldsStress, stress_word, HoldsReplay, HoldsExplore, HoldsAssemble, HoldsDisassemble, HoldsDebug, HoldsAsked, HoldsEntry, HoldsExplain, HoldsNamed, Holds, Subcommand, Finds, Answers, name_of}
+use Rattle.jm_options.specs.Asked.{SpellsNumber, HoldsNumber, MayHoldNumber, HoldsSerialRun, HoldsRun, HoldsStress, stress_word, HoldsReplay, HoldsExplore, HoldsFilm, HoldsAssemble, HoldsDisassemble, HoldsDebug, HoldsAsked, HoldsEntry, HoldsExplain, HoldsNamed, Holds, Subcommand, Finds, Answers, name_of}
 use Rattle.jm_options.specs.CommandLine.{jm}
 use Rattle.jm_options.specs.declared.request.Options.{Options}
-use Rattle.jm_options.specs.declared.request.Options.TheVariants.{Run, Replay, Explore, Assemble, Disassemble, Debug, Explain, Version}
+use Rattle.jm_options.specs.declared.request.Options.TheVariants.{Run, Replay, Explore, Film, Assemble, Disassemble, Debug, Explain, Version}
 use Rattle.jm_options.specs.declared.request.RunOptions.{RunOptions}
 use Rattle.jm_options.specs.declared.request.Stress.{Stress}
 use Rattle.jm_options.specs.declared.request.Stress.TheVariants.{Minor, Full}
 use Rattle.jm_options.specs.declared.request.ReplayOptions.{ReplayOptions}
 use Rattle.jm_options.specs.declared.request.ExploreOptions.{ExploreOptions}
 use Rattle.jm_options.specs.declared.request.SerialRun.{SerialRun}
+use Rattle.jm_options.specs.declared.request.FilmOptions.{FilmOptions}
 use Rattle.jm_options.specs.declared.request.AssembleOptions.{AssembleOptions}
 use Rattle.jm_options.specs.declared.request.DisassembleOptions.{DisassembleOptions}
 use Rattle.jm_options.specs.declared.request.DebugOptions.{DebugOptions}
@@ -224,6 +225,14 @@ pub finds_exploration : (name : Text) (rows : List Row) (r : Result ExploreOptio
     → MatchResult r (λ o. IsOkAnd found (λ given. given ≡ Explore o)) (λ fault. found ≡ Err fault) → Finds found (HoldsNamed name rows)
 finds_exploration name rows r found is = finds_named (HoldsExplore rows) Explore name rows r found (λ o holds. record { named = is; held = holds }) (no_exploration name rows is)
 
+no_film : (name : Text) (rows : List Row) → name ≡ codes "film" → ((o : FilmOptions) → HoldsFilm rows o → ⊥) → (o : Options) → HoldsNamed name rows o → ⊥
+no_film name rows is none (Film o) holds = none o holds.held
+no_film name rows is none other holds = apart (codes "film") (name_of other) refl (sym is ∙ holds.named)
+
+pub finds_film : (name : Text) (rows : List Row) (r : Result FilmOptions UsageFault) (found : Result Options UsageFault) → name ≡ codes "film" → Finds r (HoldsFilm rows)
+    → MatchResult r (λ o. IsOkAnd found (λ given. given ≡ Film o)) (λ fault. found ≡ Err fault) → Finds found (HoldsNamed name rows)
+finds_film name rows r found is = finds_named (HoldsFilm rows) Film name rows r found (λ o holds. record { named = is; held = holds }) (no_film name rows is)
+
 no_assembly : (name : Text) (rows : List Row) → name ≡ codes "asm" → ((o : AssembleOptions) → HoldsAssemble rows o → ⊥) → (o : Options) → HoldsNamed name rows o → ⊥
 no_assembly name rows is none (Assemble o) holds = none o holds.held
 no_assembly name rows is none other holds = apart (codes "asm") (name_of other) refl (sym is ∙ holds.named)
@@ -256,17 +265,18 @@ pub finds_explanation : (name : Text) (rows : List Row) (r : Result ExplainOptio
     → MatchResult r (λ o. IsOkAnd found (λ given. given ≡ Explain o)) (λ fault. found ≡ Err fault) → Finds found (HoldsNamed name rows)
 finds_explanation name rows r found is = finds_named (HoldsExplain rows) Explain name rows r found (λ o holds. record { named = is; held = holds }) (no_explanation name rows is)
 
-pub other_name : (name : Text) (rows : List Row) → (name ≡ codes "run" → ⊥) → (name ≡ codes "replay" → ⊥) → (name ≡ codes "explore" → ⊥) → (name ≡ codes "asm" → ⊥)
+pub other_name : (name : Text) (rows : List Row) → (name ≡ codes "run" → ⊥) → (name ≡ codes "replay" → ⊥) → (name ≡ codes "explore" → ⊥) → (name ≡ codes "film" → ⊥) → (name ≡ codes "asm" → ⊥)
     → (name ≡ codes "dis" → ⊥) → (name ≡ codes "debug" → ⊥) → (name ≡ codes "explain" → ⊥) → (name ≡ codes "version" → ⊥)
     → (o : Options) → HoldsNamed name rows o → ⊥
-other_name name rows run replay explore asm dis debug explain version (Run o) holds = run holds.named
-other_name name rows run replay explore asm dis debug explain version (Replay o) holds = replay holds.named
-other_name name rows run replay explore asm dis debug explain version (Explore o) holds = explore holds.named
-other_name name rows run replay explore asm dis debug explain version (Assemble o) holds = asm holds.named
-other_name name rows run replay explore asm dis debug explain version (Disassemble o) holds = dis holds.named
-other_name name rows run replay explore asm dis debug explain version (Debug o) holds = debug holds.named
-other_name name rows run replay explore asm dis debug explain version (Explain o) holds = explain holds.named
-other_name name rows run replay explore asm dis debug explain version Version holds = version holds.named
+other_name name rows run replay explore film asm dis debug explain version (Run o) holds = run holds.named
+other_name name rows run replay explore film asm dis debug explain version (Replay o) holds = replay holds.named
+other_name name rows run replay explore film asm dis debug explain version (Explore o) holds = explore holds.named
+other_name name rows run replay explore film asm dis debug explain version (Film o) holds = film holds.named
+other_name name rows run replay explore film asm dis debug explain version (Assemble o) holds = asm holds.named
+other_name name rows run replay explore film asm dis debug explain version (Disassemble o) holds = dis holds.named
+other_name name rows run replay explore film asm dis debug explain version (Debug o) holds = debug holds.named
+other_name name rows run replay explore film asm dis debug explain version (Explain o) holds = explain holds.named
+other_name name rows run replay explore film asm dis debug explain version Version holds = version holds.named
 
 -- ---- the words
 

@@ -7,13 +7,14 @@ use Rattle.jm_explain.specs.Items.{Item, is_of, item}
 use Rattle.jm_explain.specs.Table.{items}
 use Rattle.jm_options.specs.CommandLine.{jm}
 use Rattle.jm_options.specs.declared.request.Options.{Options}
-use Rattle.jm_options.specs.declared.request.Options.TheVariants.{Run, Replay, Explore, Assemble, Disassemble, Debug, Explain, Version}
+use Rattle.jm_options.specs.declared.request.Options.TheVariants.{Run, Replay, Explore, Film, Assemble, Disassemble, Debug, Explain, Version}
 use Rattle.jm_options.specs.declared.request.RunOptions.{RunOptions}
 use Rattle.jm_options.specs.declared.request.Stress.{Stress}
 use Rattle.jm_options.specs.declared.request.Stress.TheVariants.{Minor, Full}
 use Rattle.jm_options.specs.declared.request.ReplayOptions.{ReplayOptions}
 use Rattle.jm_options.specs.declared.request.ExploreOptions.{ExploreOptions}
 use Rattle.jm_options.specs.declared.request.SerialRun.{SerialRun}
+use Rattle.jm_options.specs.declared.request.FilmOptions.{FilmOptions}
 use Rattle.jm_options.specs.declared.request.AssembleOptions.{AssembleOptions}
 use Rattle.jm_options.specs.declared.request.DisassembleOptions.{DisassembleOptions}
 use Rattle.jm_options.specs.declared.request.DebugOptions.{DebugOptions}
@@ -97,6 +98,12 @@ pub record HoldsExplore (matches : List Row) (o : ExploreOptions) : Type 0 where
   pub heap : HoldsNumber (codes "heap") 16 16777216 matches o.heap
   pub files : all_of (codes "file") matches ≡ Some (map string_bytes o.files.items)
 
+-- the options are what the matches of a film hold, and within the limits
+pub record HoldsFilm (matches : List Row) (o : FilmOptions) : Type 0 where
+  pub serial : HoldsSerialRun 10000 matches o.run
+  pub first : HoldsNumber (codes "from") 1 10000000 matches o.first
+  pub source : first_of (codes "source") matches ≡ option_map string_bytes o.source
+
 -- the options are what the matches of an assembly hold, and OUT is another word than IN
 pub record HoldsAssemble (matches : List Row) (o : AssembleOptions) : Type 0 where
   pub input : first_of (codes "input") matches ≡ Some (string_bytes o.input)
@@ -134,6 +141,7 @@ abbrev pub name_of : Options → Text
 name_of (Run o) = codes "run"
 name_of (Replay o) = codes "replay"
 name_of (Explore o) = codes "explore"
+name_of (Film o) = codes "film"
 name_of (Assemble o) = codes "asm"
 name_of (Disassemble o) = codes "dis"
 name_of (Debug o) = codes "debug"
@@ -145,6 +153,7 @@ abbrev pub HoldsOptions : List Row → Options → Type 0
 HoldsOptions matches (Run o) = HoldsRun matches o
 HoldsOptions matches (Replay o) = HoldsReplay matches o
 HoldsOptions matches (Explore o) = HoldsExplore matches o
+HoldsOptions matches (Film o) = HoldsFilm matches o
 HoldsOptions matches (Assemble o) = HoldsAssemble matches o
 HoldsOptions matches (Disassemble o) = HoldsDisassemble matches o
 HoldsOptions matches (Debug o) = HoldsDebug matches o

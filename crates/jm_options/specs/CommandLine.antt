@@ -144,6 +144,32 @@ bounds_options = with_rule (with_rule (with_rule (with_rule (new_app (codes "exp
 abbrev pub explore_command : App
 explore_command = with_rule (with_rule (with_rule bounds_options outcome_argument) heap_argument) file_argument
 
+-- --from N: the number of an event, 1 where it is left out
+abbrev pub from_argument : Rule
+from_argument = record (new_rule (codes "from")) {
+  long = Some (codes "from");
+  value_names = 1;
+  defaults = codes "1" ∷ [];
+  parser = Some (vp.Signed (pos 1) (pos 10000000));
+}
+
+-- --steps N of a film: a number of events, 2,000 where it is left out
+abbrev pub film_steps_argument : Rule
+film_steps_argument = record (new_rule (codes "steps")) {
+  long = Some (codes "steps");
+  value_names = 1;
+  defaults = codes "2000" ∷ [];
+  parser = Some (vp.Signed (pos 1) (pos 10000));
+}
+
+-- --source DIR
+abbrev pub source_argument : Rule
+source_argument = record (new_rule (codes "source")) { long = Some (codes "source"); value_names = 1 }
+
+-- film [--from N] [--heap N] [--copiers N] [--schedule FILE] [--steps N] [--quantum N] [--source DIR] FILE..
+abbrev pub film_command : App
+film_command = with_rule (with_rule (with_turns film_steps_argument (with_rule (new_app (codes "film")) from_argument)) source_argument) file_argument
+
 -- IN, which has to be there
 abbrev pub input_argument : Rule
 input_argument = record (new_rule (codes "input")) { value_names = 1; required = true }
@@ -192,9 +218,13 @@ top_command = on_top (λ (s : Shape). record s { subcommand_required = true; arg
 abbrev pub on_programs : App
 on_programs = with_subcommand (with_subcommand (with_subcommand top_command run_command.top) replay_command.top) explore_command.top
 
+-- the subcommands that tell of a program
+abbrev pub on_tellings : App
+on_tellings = with_subcommand on_programs film_command.top
+
 -- the subcommands that take files
 abbrev pub on_files : App
-on_files = with_subcommand (with_subcommand (with_subcommand on_programs assemble_command.top) disassemble_command.top) debug_command.top
+on_files = with_subcommand (with_subcommand (with_subcommand on_tellings assemble_command.top) disassemble_command.top) debug_command.top
 
 unfoldable pub jm : App
 jm = with_subcommand (with_subcommand on_files explain_command.top) version_command.top

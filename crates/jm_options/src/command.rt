@@ -2,7 +2,7 @@
 
 ghost use Rattle.std.specs.Prelude.{◌≡◌, false, IfOk};
 ghost use Rattle.clap.specs.Words.{App, Rule, new_app, rule_of, with_rule, with_subcommand};
-ghost use Rattle.jm_options.specs.CommandLine.{with_turns, heap_argument, copiers_argument, schedule_argument, steps_argument, quantum_argument, workers_argument, stress_argument, record_argument, show_heap_argument, file_argument, run_command, recorded_argument, replay_command, switches_argument, schedule_steps_argument, runs_argument, slice_argument, outcome_argument, explore_command, input_argument, output_argument, assemble_command, bare_argument, class_argument, disassemble_command, debug_command, number_argument, explain_command, version_command, top_command, jm, IsSeenAs};
+ghost use Rattle.jm_options.specs.CommandLine.{with_turns, heap_argument, copiers_argument, schedule_argument, steps_argument, quantum_argument, workers_argument, stress_argument, record_argument, show_heap_argument, file_argument, run_command, recorded_argument, replay_command, switches_argument, schedule_steps_argument, runs_argument, slice_argument, outcome_argument, explore_command, from_argument, film_steps_argument, source_argument, film_command, input_argument, output_argument, assemble_command, bare_argument, class_argument, disassemble_command, debug_command, number_argument, explain_command, version_command, top_command, jm, IsSeenAs};
 
 use clap::{Arg, ArgAction, Command, value_parser};
 use std::alloc::{AllocError, Global};
@@ -300,6 +300,55 @@ fn explore_command<'a>(alloc: Global) -> Result<Command<'a>, AllocError>
     with_argument(explore, file_argument(alloc))
 }
 
+fn from_argument<'a>(alloc: Global) -> Arg<'a>
+    ensures rule { rule_of result ≡ from_argument }
+    ensures local { result.global ≡ false }
+{
+    Arg::new(alloc, "from")
+        .long("from")
+        .value_name("N")
+        .value_parser(value_parser!(u32).range(1..=10_000_000))
+        .default_value("1")
+        .help("Number of the first event that is shown, from 1 to 10000000")
+}
+
+fn film_steps_argument<'a>(alloc: Global) -> Arg<'a>
+    ensures rule { rule_of result ≡ film_steps_argument }
+    ensures local { result.global ≡ false }
+{
+    Arg::new(alloc, "steps")
+        .long("steps")
+        .value_name("N")
+        .value_parser(value_parser!(u32).range(1..=10_000))
+        .default_value("2000")
+        .help("Most events that are shown, from 1 to 10000")
+}
+
+fn source_argument<'a>(alloc: Global) -> Arg<'a>
+    ensures rule { rule_of result ≡ source_argument }
+    ensures local { result.global ≡ false }
+{
+    Arg::new(alloc, "source")
+        .long("source")
+        .value_name("DIR")
+        .help("Directory of the `.java` files, whose lines are shown beside the instructions")
+}
+
+fn film_command<'a>(alloc: Global) -> Result<Command<'a>, AllocError>
+    ensures { IfOk result (λ c. IsSeenAs c film_command) }
+{
+    let film = new_command(
+        alloc,
+        "film",
+        "Write the events of a run as a page to look at in a browser",
+        "Example: jm film Main.class Other.class > page.html\n\nClass files come from `javac --release 8`. What a number means says `jm explain N`.",
+    );
+    let film = with_argument(Ok(film), from_argument(alloc));
+    let film = with_turns(alloc, film, film_steps_argument(alloc));
+    let film = with_argument(film, source_argument(alloc));
+    with_argument(film, file_argument(alloc))
+}
+
 fn input_argument<'a>(alloc: Global) -> Arg<'a>
     ensures rule { rule_of result ≡ input_argument }
     ensures local { result.global ≡ false }
@@ -432,6 +481,7 @@ pub fn command<'a>(alloc: Global) -> Result<Command<'a>, AllocError>
     let jm = with_command(Ok(top_command(alloc)), run_command(alloc));
     let jm = with_command(jm, replay_command(alloc));
     let jm = with_command(jm, explore_command(alloc));
+    let jm = with_command(jm, film_command(alloc));
     let jm = with_command(jm, assemble_command(alloc));
     let jm = with_command(jm, disassemble_command(alloc));
     let jm = with_command(jm, debug_command(alloc));

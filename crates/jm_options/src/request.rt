@@ -30,6 +30,12 @@ pub const MAX_RUNS: u32 = 100_000_000;
 /// The largest number of events of a slice.
 pub const MAX_SLICE: u32 = 1_000_000;
 
+/// The largest number of an event or of a thread that is asked for, and of events that are shown.
+pub const MAX_EVENTS: u32 = 10_000_000;
+
+/// The largest number of events of a film.
+pub const MAX_FILM_STEPS: u32 = 10_000;
+
 /// What a command line asks for.
 #[derive(Drop)]
 pub enum Options {
@@ -39,6 +45,8 @@ pub enum Options {
     Replay(ReplayOptions),
     /// `jm explore`: to try the schedules of a program.
     Explore(ExploreOptions),
+    /// `jm film`: to write the events of a run as a page.
+    Film(FilmOptions),
     /// `jm asm`: to assemble a text into a class file.
     Assemble(AssembleOptions),
     /// `jm dis`: to show the text of a class.
@@ -142,6 +150,18 @@ pub struct SerialRun {
     /// The files of the classes, the main class's first: a class file, or the text of a class if its
     /// name ends in `.j`.
     pub files: Vec<String>,
+}
+
+/// What `jm film` is given.
+#[derive(Drop)]
+pub struct FilmOptions {
+    /// The run that is shown. Its `steps` are the most events that are shown, by turns or by a
+    /// schedule, from 1 to [`MAX_FILM_STEPS`].
+    pub run: SerialRun,
+    /// The number of the first event that is shown, from 1 to [`MAX_EVENTS`].
+    pub first: u32,
+    /// The directory of the `.java` files whose lines are shown, if they are to be.
+    pub source: Option<String>,
 }
 
 /// What `jm asm` is given.

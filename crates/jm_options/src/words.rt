@@ -3,14 +3,14 @@
 ghost use Rattle.std.specs.Prelude.{◌≡◌, MatchOption, map};
 ghost use Rattle.clap.specs.Words.{found_of, rows_of, subcommand_rows_of};
 ghost use Rattle.jm_explain.specs.Items.{Item, item};
-ghost use Rattle.jm_options.specs.Asked.{Answers, Finds, Holds, HoldsAssemble, HoldsDebug, HoldsDisassemble, HoldsEntry, HoldsExplain, HoldsExplore, HoldsNamed, HoldsReplay, HoldsRun, HoldsSerialRun};
+ghost use Rattle.jm_options.specs.Asked.{Answers, Finds, Holds, HoldsAssemble, HoldsDebug, HoldsDisassemble, HoldsEntry, HoldsExplain, HoldsExplore, HoldsFilm, HoldsNamed, HoldsReplay, HoldsRun, HoldsSerialRun};
 
 use crate::command::command;
 use crate::fault::UsageFault;
 use crate::request::{
-    AssembleOptions, DebugOptions, DisassembleOptions, ExplainOptions, ExploreOptions, MAX_QUANTUM,
-    MAX_RUNS, MAX_SCHEDULE_STEPS, MAX_SLICE, MAX_STEPS, MAX_SWITCHES, MAX_WORKERS, Options,
-    ReplayOptions, RunOptions, SerialRun,
+    AssembleOptions, DebugOptions, DisassembleOptions, ExplainOptions, ExploreOptions, FilmOptions,
+    MAX_EVENTS, MAX_FILM_STEPS, MAX_QUANTUM, MAX_RUNS, MAX_SCHEDULE_STEPS, MAX_SLICE, MAX_STEPS,
+    MAX_SWITCHES, MAX_WORKERS, Options, ReplayOptions, RunOptions, SerialRun,
 };
 use crate::usage::{nothing_asked, one_file, refusal, unknown_number};
 use crate::values::{
@@ -77,6 +77,16 @@ fn explore_options(alloc: Global, matches: &ArgMatches<'_>) -> Result<ExploreOpt
         outcome: number_given(alloc, matches, "outcome", 1, MAX_RUNS)?,
         heap: heap_asked(alloc, matches)?,
         files: files_asked(alloc, matches)?,
+    })
+}
+
+fn film_options(alloc: Global, matches: &ArgMatches<'_>) -> Result<FilmOptions, UsageFault>
+    ensures { Finds result (HoldsFilm (rows_of (found_of matches.now))) }
+{
+    Ok(FilmOptions {
+        run: serial_run(alloc, matches, MAX_FILM_STEPS)?,
+        first: number_asked(alloc, matches, "from", 1, MAX_EVENTS)?,
+        source: text_given(alloc, matches, "source")?,
     })
 }
 
@@ -149,6 +159,7 @@ fn named_options(alloc: Global, name: &str, matches: &ArgMatches<'_>) -> Result<
         "run" => run_options(alloc, matches).map(Options::Run),
         "replay" => replay_options(alloc, matches).map(Options::Replay),
         "explore" => explore_options(alloc, matches).map(Options::Explore),
+        "film" => film_options(alloc, matches).map(Options::Film),
         "asm" => assemble_options(alloc, matches).map(Options::Assemble),
         "dis" => disassemble_options(alloc, matches).map(Options::Disassemble),
         "debug" => debug_options(alloc, matches).map(Options::Debug),

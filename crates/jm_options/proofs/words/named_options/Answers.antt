@@ -1,5 +1,5 @@
 -- The subcommand of a name.
-use Rattle.jm_options.proofs.Finding.{none_found, other_name, finds_run, finds_replay, finds_exploration, finds_assembly, finds_disassembly, finds_debugger, finds_explanation}
+use Rattle.jm_options.proofs.Finding.{none_found, other_name, finds_run, finds_replay, finds_exploration, finds_film, finds_assembly, finds_disassembly, finds_debugger, finds_explanation}
 use Rattle.jm_options.proofs.words.named_options.Goals as goal
 
 pub returns-in-run : goal.returns-in-run
@@ -10,6 +10,9 @@ returns-in-replay c = finds_replay _ _ c.replay_options.result c.map-in-replay.r
 
 pub returns-in-explore : goal.returns-in-explore
 returns-in-explore c = finds_exploration _ _ c.explore_options.result c.map-in-explore.result c.in-explore.is c.explore_options.ensures c.map-in-explore.ensures.cases
+
+pub returns-in-film : goal.returns-in-film
+returns-in-film c = finds_film _ _ c.film_options.result c.map-in-film.result c.in-film.is c.film_options.ensures c.map-in-film.ensures.cases
 
 pub returns-in-asm : goal.returns-in-asm
 returns-in-asm c = finds_assembly _ _ c.assemble_options.result c.map-in-asm.result c.in-asm.is c.assemble_options.ensures c.map-in-asm.ensures.cases
@@ -27,5 +30,5 @@ pub returns-in-version : goal.returns-in-version
 returns-in-version c = record { named = c.in-version.is; held = tt }
 
 pub returns-in_default : goal.returns-in_default
-returns-in_default c = none_found _ _ (other_name _ _ c.in_default.not-run c.in_default.not-replay c.in_default.not-explore c.in_default.not-asm
+returns-in_default c = none_found _ _ (other_name _ _ c.in_default.not-run c.in_default.not-replay c.in_default.not-explore c.in_default.not-film c.in_default.not-asm
     c.in_default.not-dis c.in_default.not-debug c.in_default.not-explain c.in_default.not-version)
