@@ -27,4 +27,6 @@ mod RobinSteps
 mod ManyReceipts
 mod Woven
 mod SoleTurns
+mod FilmVerdicts
+mod FilmsTold
 pub mod Calls

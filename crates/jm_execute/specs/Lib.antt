@@ -17,6 +17,8 @@ pub mod Explorations
 pub mod Talks
 pub mod ClassTexts
 pub mod Endings
+pub mod Pieces
+pub mod Films
 pub mod Refusals
 pub mod ViewsAgain
 pub mod Shown

@@ -77,8 +77,8 @@ fn schedule_of<'a>(alloc: Global, text: &[u8]) -> Result<Schedule, Obstacle<'a>>
     }
 }
 
-// The schedule in a file.
-fn schedule_in(alloc: Global, file: &InputFile) -> Result<Schedule, Obstacle<'_>>
+/// The schedule in a file.
+pub(crate) fn schedule_in(alloc: Global, file: &InputFile) -> Result<Schedule, Obstacle<'_>>
     ensures { Gives result (scheduled_events file.now) (λ events. events) }
 {
     let text = bytes_of(file)?;
@@ -152,8 +152,8 @@ fn empty_heap<'a, C: Collector + Drop>(
 /// A machine before its first event, and how its events are chosen.
 pub type Ready<C> = (Machine<RunHeap<C>>, RunPlan);
 
-// The machine that the program of some files begins with, over an empty heap of so many cells.
-fn machine_within<C: Collector + Drop>(
+/// The machine that the program of some files begins with, over an empty heap of so many cells.
+pub(crate) fn machine_within<C: Collector + Drop>(
     alloc: Global,
     limit: u32,
     collector: C,
