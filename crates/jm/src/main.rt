@@ -1,6 +1,6 @@
 //! `jm`: runs the program of some class files and assembler texts, by turns of its threads or by the
 //! events of a schedule, tries its schedules, assembles texts into class files, shows the text of a class, answers the
-//! commands of a session of the debugger, and says what the numbers of refusals and statuses mean.
+//! commands of a session of the debugger, writes a run as a page, and says what the numbers of refusals and statuses mean.
 //!
 //! The command line is read by `jm_options`, and what a job does is `jm_execute`'s. What stands
 //! here reads the files, hands both over with the standard streams or the file to write, and ends
@@ -11,22 +11,26 @@ ghost use Rattle.std.specs.Prelude.{◌≤◌};
 
 mod files;
 mod output;
+mod sources;
 mod word;
 
 use files::{input_file, input_files};
 use jm_execute::{
-    AssembleJob, Copiers, DebugJob, DisassembleJob, ExploreJob, Finished, Job, Kind, ReplayJob,
-    RunEvents, RunJob, Status, Watched, Workers, execute, explain, several_workers,
-    so_many_copiers, tell_version, write_out_of_memory,
+    AssembleJob, Copiers, DebugJob, DisassembleJob, ExploreJob, FilmEvents, FilmJob, Finished,
+    InputFile, Job, Kind, ReplayJob, RunEvents, RunJob, Status, Watched, Workers, execute, explain,
+    film, several_workers, so_many_copiers, tell_version, write_out_of_memory,
 };
 use jm_explore::Bounds;
+use jm_film_run::Window;
+use jm_listing::Source;
 use jm_options::{
-    AssembleOptions, DebugOptions, DisassembleOptions, ExplainOptions, ExploreOptions, MAX_COPIERS,
-    MAX_QUANTUM, MAX_STEPS, MAX_WORKERS, Options, ReplayOptions, RunOptions, Stress, UsageFault,
-    options,
+    AssembleOptions, DebugOptions, DisassembleOptions, ExplainOptions, ExploreOptions, FilmOptions,
+    MAX_COPIERS, MAX_QUANTUM, MAX_STEPS, MAX_WORKERS, Options, ReplayOptions, RunOptions, Stress,
+    UsageFault, options,
 };
 use jm_schedule::{RoundRobin, round_robin};
 use output::Output;
+use sources::sources_of;
 use std::alloc::AllocError;
 use std::fs;
 use std::process::ExitCode;
@@ -156,6 +160,49 @@ fn debug_job(rt: &HostRuntime, asked: DebugOptions) -> Result<Job, AllocError> {
     }))
 }
 
+// The events of a film: those of a schedule, or those that turns make for as long as a run may go on.
+fn events_to_film(rt: &HostRuntime, schedule: Option<String>, quantum: u32) -> FilmEvents {
+    match schedule {
+        Some(name) => FilmEvents::Schedule(input_file(rt, name)),
+        None => FilmEvents::RoundRobin(turns(MAX_STEPS, quantum)),
+    }
+}
+
+// The sources that stand on a film's page.
+fn sources_to_film(
+    rt: &HostRuntime,
+    folder: Option<String>,
+    program: &[InputFile],
+) -> Result<Vec<Source>, AllocError> {
+    match folder {
+        Some(folder) => sources_of(rt, &folder, program),
+        None => Ok(Vec::new(rt.alloc())),
+    }
+}
+
+// A film begins behind the event before the first that is shown.
+fn film_job(rt: &HostRuntime, asked: FilmOptions) -> Result<FilmJob, AllocError> {
+    let program = input_files(rt, asked.run.files)?;
+    Ok(FilmJob {
+        heap: asked.run.heap,
+        copiers: copiers(asked.run.copiers),
+        events: events_to_film(rt, asked.run.schedule, asked.run.quantum),
+        window: Window {
+            from: asked.first.saturating_sub(1),
+            steps: asked.run.steps,
+        },
+        sources: sources_to_film(rt, asked.source, &program)?,
+        program,
+    })
+}
+
+// Writes a run as a page. It may start threads, which collect the heap.
+fn filmed(rt: &HostRuntime, threads: &impl Threads, job: &FilmJob) -> Status {
+    let mut out = Watched::new(rt.stdout());
+    let mut err = Watched::new(rt.stderr());
+    film(threads, rt.alloc(), job, &mut out, &mut err)
+}
+
 // Does a job, with its output where it belongs. A run may start threads, and wait for its machine's
 // lock, and a session for a line.
 fn finished(rt: &HostRuntime, wait: &(impl Threads + Wait + Sync), job: &Job) -> Finished {
@@ -237,6 +284,10 @@ fn answered(rt: &HostRuntime, wait: &(impl Threads + Wait + Sync), asked: Option
         },
         Options::Explore(asked) => match explore_job(rt, asked) {
             Ok(job) => done(rt, wait, &job),
+            Err(_) => out_of_memory(rt),
+        },
+        Options::Film(asked) => match film_job(rt, asked) {
+            Ok(job) => filmed(rt, wait, &job),
             Err(_) => out_of_memory(rt),
         },
         Options::Assemble(asked) => done(rt, wait, &assemble_job(rt, asked)),

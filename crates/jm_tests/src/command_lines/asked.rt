@@ -3,7 +3,8 @@
 use super::words::words_of;
 use crate::table::row_of;
 use jm_options::{
-    ExplainOptions, ExploreOptions, Options, ReplayOptions, RunOptions, Stress, options,
+    ExplainOptions, ExploreOptions, FilmOptions, Options, ReplayOptions, RunOptions, SerialRun,
+    Stress, options,
 };
 use std::alloc::Global;
 use std::test::Fail;
@@ -46,6 +47,9 @@ jm|explore|Main.class => exploration of Main.class by 2 switches, 10000 steps, 1
 jm|explore|--switches=0|--steps|1|A.j|--runs=1|--slice|1|--heap=16|B.j => exploration of A.j, B.j by 0 switches, 1 steps, 1 runs, slices of 1 with 16
 jm|explore|--switches|16|--steps=1000000|--runs=100000000|--slice=1000000|--outcome|100000000|A.j => exploration of A.j by 16 switches, 1000000 steps, 100000000 runs, slices of 1000000 with 65536, outcome 100000000
 jm|explore|--outcome=1|explore|--|--heap => exploration of explore, --heap by 2 switches, 10000 steps, 1000000 runs, slices of 1000 with 65536, outcome 1
+jm|film|Main.class => film of Main.class by 2000 steps in turns of 1 with 65536 from 1
+jm|film|--from=10000000|--steps=10000|--quantum|5|--heap=16|A.j|B.class|--copiers=2 => film of A.j, B.class by 10000 steps in turns of 5 with 16 by 2 copiers from 10000000
+jm|film|--source|src|--schedule=s.txt|film => film of film by s.txt with 65536 from 1 beside src
 jm|debug|Main.class => debug of Main.class with 65536
 jm|debug|--heap=16|Main.class|A.j => debug of Main.class, A.j with 16
 jm|debug|Main.class|--heap|16777216|--|--heap => debug of Main.class, --heap with 16777216
@@ -156,6 +160,26 @@ fn explore_text(alloc: Global, explore: &ExploreOptions) -> Result<String, Fail>
     }
 }
 
+fn serial_text(alloc: Global, run: &SerialRun) -> Result<String, Fail> {
+    let files = list_of(alloc, &run.files)?;
+    let heap = heap_text(alloc, run.heap, run.copiers)?;
+    match &run.schedule {
+        Some(file) => Ok(format!(in alloc; "{files} by {file} with {heap}")?),
+        None => {
+            let (steps, quantum) = (run.steps, run.quantum);
+            Ok(format!(in alloc; "{files} by {steps} steps in turns of {quantum} with {heap}")?)
+        }
+    }
+}
+
+fn film_text(alloc: Global, film: &FilmOptions) -> Result<String, Fail> {
+    let (run, first) = (serial_text(alloc, &film.run)?, film.first);
+    match &film.source {
+        Some(folder) => Ok(format!(in alloc; "film of {run} from {first} beside {folder}")?),
+        None => Ok(format!(in alloc; "film of {run} from {first}")?),
+    }
+}
+
 // Of which number an explanation is.
 fn explained(alloc: Global, explain: &ExplainOptions) -> Result<String, Fail> {
     match &explain.entry {
@@ -172,6 +196,7 @@ fn text_of(alloc: Global, asked: &Options) -> Result<String, Fail> {
         Options::Run(run) => run_text(alloc, run),
         Options::Replay(replay) => replay_text(alloc, replay),
         Options::Explore(explore) => explore_text(alloc, explore),
+        Options::Film(film) => film_text(alloc, film),
         Options::Assemble(files) => {
             let (input, output) = (&files.input, &files.output);
             Ok(format!(in alloc; "assembly of {input} to {output}")?)
@@ -205,6 +230,6 @@ fn words_ask_for_this(rt: HostRuntime) -> Result<(), Fail> {
         let answer = answer(rt.alloc(), words)?;
         assert!(rt; answer.as_str() == want, "{row}");
     }
-    assert!(rt; ASKED.lines().count() == 58);
+    assert!(rt; ASKED.lines().count() == 61);
     Ok(())
 }

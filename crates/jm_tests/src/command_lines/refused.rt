@@ -69,6 +69,14 @@ jm explore --outcome x A.class => 1 error: invalid value 'x' for '--outcome <N>'
 jm explore --schedule s A.class => 1 error: unexpected argument '--schedule' found
 jm explore --quantum 2 A.class => 1 error: unexpected argument '--quantum' found
 jm explore --show-heap A.class => 1 error: unexpected argument '--show-heap' found
+jm film => 1 error: the following required arguments were not provided:
+jm film --help => 1 Write the events of a run as a page to look at in a browser
+jm film --from 0 A.class => 1 error: invalid value '0' for '--from <N>': 0 is not in 1..=10000000
+jm film --from=10000001 A.class => 1 error: invalid value '10000001' for '--from <N>': 10000001 is not in 1..=10000000
+jm film --steps 0 A.class => 1 error: invalid value '0' for '--steps <N>': 0 is not in 1..=10000
+jm film --steps=10001 A.class => 1 error: invalid value '10001' for '--steps <N>': 10001 is not in 1..=10000
+jm film --source a --source b A.class => 1 error: the argument '--source <DIR>' cannot be used multiple times
+jm film --workers 2 A.class => 1 error: unexpected argument '--workers' found
 jm run --show-heap --show-heap A.class => 1 error: the argument '--show-heap' cannot be used multiple times
 jm run --show-heap=1 A.class => 1 error: unexpected value '1' for '--show-heap' found; no more were expected
 jm run --show-heaps A.class => 1 error: unexpected argument '--show-heaps' found
@@ -128,6 +136,10 @@ jm --help =>   explore  Try every schedule of a program up to so many switches, 
 jm explore -h => Usage: jm explore [OPTIONS] <FILE>...
 jm explore -h => Example: jm explore --switches 2 Main.class Other.class
 jm explore -h => [default: 10000]
+jm --help =>   film     Write the events of a run as a page to look at in a browser
+jm film -h => Usage: jm film [OPTIONS] <FILE>...
+jm film -h => Example: jm film Main.class Other.class > page.html
+jm film -h => [default: 2000]
 jm --help =>   asm      Assemble a text in Jasmin's syntax into a class file
 jm --help =>   dis      Show the text of a class in Jasmin's syntax, which `asm` gives back as the class
 jm dis -h => Usage: jm dis [OPTIONS] <FILE>
@@ -192,7 +204,7 @@ fn refusals_name_the_word(rt: HostRuntime) -> Result<(), Fail> {
         let said = first_line(rt.alloc(), words)?;
         assert!(rt; said.as_str() == want, "{row}");
     }
-    assert!(rt; REFUSED.lines().count() == 111);
+    assert!(rt; REFUSED.lines().count() == 119);
     Ok(())
 }
 
@@ -210,7 +222,7 @@ fn refusals_say_what_to_write(rt: HostRuntime) -> Result<(), Fail> {
         let (words, part) = row_of(row)?;
         assert!(rt; says(rt.alloc(), words, part)?, "{row}");
     }
-    assert!(rt; PARTS.lines().count() == 49);
+    assert!(rt; PARTS.lines().count() == 53);
     Ok(())
 }
 
