@@ -182,16 +182,17 @@ fn sources_to_film(
 
 // A film begins behind the event before the first that is shown.
 fn film_job(rt: &HostRuntime, asked: FilmOptions) -> Result<FilmJob, AllocError> {
-    let program = input_files(rt, asked.run.files)?;
+    let FilmOptions { run, first, source } = asked;
+    let program = input_files(rt, run.files)?;
     Ok(FilmJob {
-        heap: asked.run.heap,
-        copiers: copiers(asked.run.copiers),
-        events: events_to_film(rt, asked.run.schedule, asked.run.quantum),
+        heap: run.heap,
+        copiers: copiers(run.copiers),
+        events: events_to_film(rt, run.schedule, run.quantum),
         window: Window {
-            from: asked.first.saturating_sub(1),
-            steps: asked.run.steps,
+            from: first.saturating_sub(1),
+            steps: run.steps,
         },
-        sources: sources_to_film(rt, asked.source, &program)?,
+        sources: sources_to_film(rt, source, &program)?,
         program,
     })
 }
