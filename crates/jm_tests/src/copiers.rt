@@ -2,6 +2,5 @@
 
 pub mod gate;
 mod gated;
-mod going_on;
 mod objects;
 mod seats;
