@@ -47,11 +47,11 @@ fn filmed(
 // Lines of the page of all seven events, and of the page of the sixth alone: how often each stands in it. The sixth prints.
 const LINES: &str = "\
 <!DOCTYPE html> | 1 | 1
-=A | 1 | 1
+<script type=\"text/plain\" id=\"data\">=A | 1 | 1
 V0 | 1 | 0
 V5 | 0 | 1
 E1 done | 7 | 1
-\"5\\u000a | 1 | 1
+\"5\\u000A | 1 | 1
 .end | 1 | 0
 .cut | 0 | 1
 </html> | 1 | 1
