@@ -4,7 +4,6 @@
 mod each_read;
 mod each_write;
 mod explorations;
-mod films;
 mod readers;
 mod status;
 mod writers;
