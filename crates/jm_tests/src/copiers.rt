@@ -2,5 +2,6 @@
 
 pub mod gate;
 mod gated;
+mod going_on;
 mod objects;
 mod seats;

@@ -4,6 +4,7 @@
 mod each_read;
 mod each_write;
 mod explorations;
+mod films;
 mod readers;
 mod status;
 mod writers;

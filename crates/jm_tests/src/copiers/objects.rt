@@ -41,10 +41,11 @@ pub fn young_store(alloc: Global) -> BlockStore {
     BlockStore::new(alloc, YOUNG)
 }
 
-/// Puts an object of one field, of 3 cells, into a store, and answers its place.
-pub fn put_node(
+/// Puts an object of one field, of 3 cells, that has survived so many collections into a store, and answers its place.
+pub fn put_aged(
     alloc: Global,
     store: &mut BlockStore,
+    age: u8,
     serial: u64,
     field: Value,
 ) -> Result<Place, Fail> {
@@ -53,10 +54,20 @@ pub fn put_node(
     let header = Header {
         serial,
         class: ClassId::Instance(7),
-        age: 0,
+        age,
     };
     store.fill(alloc, header, Elements::Fields(fields.as_slice()))?;
     Ok(place)
+}
+
+/// Puts an object of one field, of 3 cells, into a store, and answers its place.
+pub fn put_node(
+    alloc: Global,
+    store: &mut BlockStore,
+    serial: u64,
+    field: Value,
+) -> Result<Place, Fail> {
+    put_aged(alloc, store, 0, serial, field)
 }
 
 // References to the objects at places.

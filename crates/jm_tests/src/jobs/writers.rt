@@ -58,8 +58,8 @@ impl Watchable for Narrow {
     }
 }
 
-// A main that prints 5 and a line feed, in three stages of initialization and four instructions.
-const FIVE: &str = ".class A
+/// A main that prints 5 and a line feed, in three stages of initialization and four instructions.
+pub const FIVE: &str = ".class A
 .super java/lang/Object
 .method static main([Ljava/lang/String;)V
 .limit stack 2
@@ -130,7 +130,8 @@ debug | closed | failed | closed | 2
 refused | closed | whole | closed | 4
 ";
 
-fn file(alloc: Global, text: &str) -> Result<InputFile, AllocError> {
+/// A file of a text.
+pub fn file(alloc: Global, text: &str) -> Result<InputFile, AllocError> {
     Ok(InputFile {
         name: String::from_str(alloc, "A.j")?,
         contents: Contents::Bytes(text.as_bytes().to_vec(alloc)?),
@@ -219,8 +220,8 @@ fn room_of(column: &str) -> usize {
     column.parse().unwrap_or(1_000)
 }
 
-// The writer of a column.
-fn writer(alloc: Global, column: &str) -> Narrow {
+/// The writer of a column.
+pub fn writer(alloc: Global, column: &str) -> Narrow {
     Narrow {
         room: room_of(column),
         closed: column == "closed",
