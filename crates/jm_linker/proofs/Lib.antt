@@ -22,3 +22,4 @@ pub mod InheritedLaws
 pub mod SelectedLaws
 pub mod ConstantLaws
 pub mod InitializerLaws
+pub mod FindingLaws

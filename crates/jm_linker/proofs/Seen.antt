@@ -97,7 +97,7 @@ method_twice xs i x l is twice h =
     h ∙ ap (λ ys. duplicate_methods (take i xs) ys) here ∙ ap (λ b. or_else (when b (duplicate_member x.name)) (duplicate_methods (x ∷ take i xs) (drop (i + 1) xs))) twice
 
 -- the classes that were seen, in another order
-named_end : (seen : List ClassParts) (x : ClassParts) (name : List ℕ) → is_named_among (x ∷ seen) name ≡ is_named_among (seen ++ x ∷ []) name
+pub named_end : (seen : List ClassParts) (x : ClassParts) (name : List ℕ) → is_named_among (x ∷ seen) name ≡ is_named_among (seen ++ x ∷ []) name
 named_end [] x name = refl
 named_end (y ∷ ys) x name = by (same_text x.name name) (same_text y.name name) (named_end ys x name)
   where
@@ -107,12 +107,12 @@ named_end (y ∷ ys) x name = by (same_text x.name name) (same_text y.name name)
     by false true e = refl
     by false false e = e
 
-duplicates_alike : (xs seen other : List ClassParts) → ((name : List ℕ) → is_named_among seen name ≡ is_named_among other name) → duplicates seen xs ≡ duplicates other xs
+pub duplicates_alike : (xs seen other : List ClassParts) → ((name : List ℕ) → is_named_among seen name ≡ is_named_among other name) → duplicates seen xs ≡ duplicates other xs
 duplicates_alike [] seen other h = refl
 duplicates_alike (x ∷ xs) seen other h = rw (h x.name) (ap (λ o. or_else (when (is_named_among other x.name) (duplicate_class x.name)) o) (duplicates_alike xs (x ∷ seen) (x ∷ other) (λ name. ap (λ b. same_text x.name name || b) (h name))))
 
 -- a name among the classes, and then among the built-in ones
-named_among : (seen : List ClassParts) (name : List ℕ) → is_named_among seen name ≡ (list_any (λ c. same_text c.name name) seen || is_built_in_name name)
+pub named_among : (seen : List ClassParts) (name : List ℕ) → is_named_among seen name ≡ (list_any (λ c. same_text c.name name) seen || is_built_in_name name)
 unfolding is_built_in_name
 named_among [] name = refl
 named_among (c ∷ cs) name = by (same_text c.name name) (named_among cs name)
@@ -121,13 +121,13 @@ named_among (c ∷ cs) name = by (same_text c.name name) (named_among cs name)
     by true e = refl
     by false e = e
 
-or_false : (a b : Bool) → a ≡ false → b ≡ false → (a || b) ≡ false
+pub or_false : (a b : Bool) → a ≡ false → b ≡ false → (a || b) ≡ false
 or_false a b e f = rw (e, f) refl
 
-or_left : (a b : Bool) → a ≡ true → (a || b) ≡ true
+pub or_left : (a b : Bool) → a ≡ true → (a || b) ≡ true
 or_left a b e = rw e refl
 
-or_right : (a b : Bool) → b ≡ true → (a || b) ≡ true
+pub or_right : (a b : Bool) → b ≡ true → (a || b) ≡ true
 or_right true b e = refl
 or_right false b e = e
 

@@ -17,3 +17,4 @@ pub mod LinkedMethods
 pub mod MainMethod
 pub mod Specials
 pub mod Literals
+pub mod Findings

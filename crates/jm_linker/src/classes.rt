@@ -263,12 +263,24 @@ impl<'a> Classes<'a> {
         ensures refusal { Answers result (first_of_all duplicate_members names.entry.program.now) }
         ensures program { IfOk result (λ classes. classes.program.now ≡ names.entry.program.now) }
     {
+        let members = members_of_program(alloc, names.program)?;
+        Ok(Classes::with_members(alloc, names, members)?)
+    }
+
+    /// The classes of these names with these members. The one error is that memory is refused.
+    pub fn with_members(
+        alloc: Global,
+        names: Names<'a>,
+        members: Vec<Members<'a>>,
+    ) -> Result<Classes<'a>, LinkFault>
+        requires { map (λ m. m.class.now) members.items ≡ names.program.now }
+        ensures { MatchResult result (λ classes. classes.program.now ≡ names.entry.program.now) (λ fault. IsOutOfMemory fault) }
+    {
         let Names {
             program,
             built_ins,
             numbers,
         } = names;
-        let members = members_of_program(alloc, program)?;
         let built_ins = members_of_built_ins(alloc, built_ins)?;
         let literals = Literals::of(alloc, program)?;
         let methods = methods_of_all(alloc, &built_ins, program)?;

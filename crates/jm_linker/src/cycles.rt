@@ -37,7 +37,7 @@ fn is_above_itself<'a>(
 }
 
 #[tactic(auto, using(crate::proofs::Reasons::memory_says))]
-fn check_cycle<'a>(
+pub fn check_cycle<'a>(
     alloc: Global,
     classes: &Classes<'a>,
     class: &'a ClassParts,

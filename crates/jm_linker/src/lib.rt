@@ -5,6 +5,7 @@
 //! `jm_program`, `jm_builtins`, `jm_world`, `jm_tables` and `jm_linked`.
 #![tactic(auto)]
 
+mod checking;
 mod classes;
 mod code;
 mod codes;
@@ -12,6 +13,7 @@ mod constants;
 mod cycles;
 mod duplicates;
 mod fault;
+mod finding;
 mod initializers;
 mod key;
 mod linking;
@@ -32,5 +34,8 @@ mod tables;
 mod types;
 mod walk;
 
+pub use checking::findings;
 pub use fault::LinkFault;
+pub use finding::{Finding, Site};
 pub use linking::link;
+pub use main_method::has_main;

@@ -53,7 +53,8 @@ pub fn main_number(methods: &[Method]) -> Option<usize>
     None
 }
 
-fn has_main(program: &[Class]) -> bool
+/// Whether the first of the classes declares a static main with code.
+pub fn has_main(program: &[Class]) -> bool
     ensures { result ≡ is_main (main_in program.now) }
 {
     let Some(first) = program.first() else {

@@ -30,7 +30,7 @@ fn is_strange_interface(class: &ClassParts, superclass: &Name) -> bool
     class.flags.has(AccessFlags::INTERFACE) && !superclass.is_object()
 }
 
-fn check_superclass<'a>(
+pub fn check_superclass<'a>(
     alloc: Global,
     classes: &Classes<'a>,
     class: &'a ClassParts,
@@ -54,7 +54,7 @@ fn check_superclass<'a>(
     }
 }
 
-fn check_interface<'a>(
+pub fn check_interface<'a>(
     alloc: Global,
     classes: &Classes<'a>,
     name: &'a Name,

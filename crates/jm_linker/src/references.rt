@@ -408,7 +408,7 @@ fn link_catch_type<'a>(
     }
 }
 
-fn link_handler<'a>(
+pub fn link_handler<'a>(
     alloc: Global,
     classes: &Classes<'a>,
     handler: &'a Handler,

@@ -6,7 +6,7 @@ use Rattle.jm_linker.specs.BuiltInClasses.{built_in_classes}
 use Rattle.jm_linker.specs.Selectors.{HasFirst, found_methods}
 use Rattle.jm_linker.specs.declared.members.Members.{Members}
 use Rattle.jm_linker.specs.declared.selectors.ClassMethod.{ClassMethod}
-use Rattle.jm_linker.proofs.classes.Classes.of.Goals as goal
+use Rattle.jm_linker.proofs.classes.Classes.with_members.Goals as goal
 
 all : (program : List ClassParts) (built_ins given : List Members) (ms : List ClassMethod) → given ≡ built_ins
     → found_methods ms ≡ methods_in (map (λ (m : Members). m.class.now) given ++ program)
