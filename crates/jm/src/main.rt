@@ -1,6 +1,7 @@
 //! `jm`: runs the program of some class files and assembler texts, by turns of its threads or by the
-//! events of a schedule, tries its schedules, assembles texts into class files, shows the text of a class, answers the
-//! commands of a session of the debugger, writes a run as a page, and says what the numbers of refusals and statuses mean.
+//! events of a schedule, tries its schedules, says all that is refused and missing in files, assembles texts into class
+//! files, shows the text of a class, answers the commands of a session of the debugger, writes a run as lines or as a
+//! page, tells how one ended, and says what the numbers of refusals and statuses mean.
 //!
 //! The command line is read by `jm_options`, and what a job does is `jm_execute`'s. What stands
 //! here reads the files, hands both over with the standard streams or the file to write, and ends
@@ -16,19 +17,21 @@ mod word;
 
 use files::{input_file, input_files};
 use jm_execute::{
-    AssembleJob, Copiers, DebugJob, DisassembleJob, ExploreJob, FilmEvents, FilmJob, Finished,
-    InputFile, Job, Kind, ReplayJob, RunEvents, RunJob, Status, Watched, Workers, execute, explain,
-    film, several_workers, so_many_copiers, tell_version, write_out_of_memory,
+    AssembleJob, Copiers, DebugJob, DisassembleJob, ExploreJob, FilmJob, Finished, InputFile, Job,
+    Kind, ReplayJob, RunEvents, RunJob, Status, ToldEvents, ToldJob, TraceJob, Watched, Workers,
+    check, execute, explain, film, several_workers, so_many_copiers, tell_version, trace, why,
+    write_out_of_memory,
 };
 use jm_explore::Bounds;
 use jm_film_run::Window;
 use jm_listing::Source;
 use jm_options::{
     AssembleOptions, DebugOptions, DisassembleOptions, ExplainOptions, ExploreOptions, FilmOptions,
-    MAX_COPIERS, MAX_QUANTUM, MAX_STEPS, MAX_WORKERS, Options, ReplayOptions, RunOptions, Stress,
-    UsageFault, options,
+    MAX_COPIERS, MAX_QUANTUM, MAX_STEPS, MAX_WORKERS, Options, ReplayOptions, RunOptions,
+    SerialRun, Stress, TraceOptions, UsageFault, options,
 };
 use jm_schedule::{RoundRobin, round_robin};
+use jm_trace::Shown;
 use output::Output;
 use sources::sources_of;
 use std::alloc::AllocError;
@@ -160,12 +163,34 @@ fn debug_job(rt: &HostRuntime, asked: DebugOptions) -> Result<Job, AllocError> {
     }))
 }
 
-// The events of a film: those of a schedule, or those that turns make for as long as a run may go on.
-fn events_to_film(rt: &HostRuntime, schedule: Option<String>, quantum: u32) -> FilmEvents {
+// The events of a run that is told: those of a schedule, or those of turns.
+fn told_events(rt: &HostRuntime, schedule: Option<String>, turns: RoundRobin) -> ToldEvents {
     match schedule {
-        Some(name) => FilmEvents::Schedule(input_file(rt, name)),
-        None => FilmEvents::RoundRobin(turns(MAX_STEPS, quantum)),
+        Some(name) => ToldEvents::Schedule(input_file(rt, name)),
+        None => ToldEvents::RoundRobin(turns),
     }
+}
+
+// A run that is told.
+fn told_job(rt: &HostRuntime, asked: SerialRun) -> Result<ToldJob, AllocError> {
+    let turns = turns(asked.steps, asked.quantum);
+    Ok(ToldJob {
+        heap: asked.heap,
+        copiers: copiers(asked.copiers),
+        events: told_events(rt, asked.schedule, turns),
+        program: input_files(rt, asked.files)?,
+    })
+}
+
+// The turns of a film go on for as long as a run may.
+fn run_to_film(rt: &HostRuntime, asked: SerialRun) -> Result<ToldJob, AllocError> {
+    let turns = turns(MAX_STEPS, asked.quantum);
+    Ok(ToldJob {
+        heap: asked.heap,
+        copiers: copiers(asked.copiers),
+        events: told_events(rt, asked.schedule, turns),
+        program: input_files(rt, asked.files)?,
+    })
 }
 
 // The sources that stand on a film's page.
@@ -183,17 +208,32 @@ fn sources_to_film(
 // A film begins behind the event before the first that is shown.
 fn film_job(rt: &HostRuntime, asked: FilmOptions) -> Result<FilmJob, AllocError> {
     let FilmOptions { run, first, source } = asked;
-    let program = input_files(rt, run.files)?;
+    let window = Window {
+        from: first.saturating_sub(1),
+        steps: run.steps,
+    };
+    let run = run_to_film(rt, run)?;
     Ok(FilmJob {
-        heap: run.heap,
-        copiers: copiers(run.copiers),
-        events: events_to_film(rt, run.schedule, run.quantum),
-        window: Window {
-            from: first.saturating_sub(1),
-            steps: run.steps,
+        sources: sources_to_film(rt, source, &run.program)?,
+        window,
+        run,
+    })
+}
+
+fn trace_job(rt: &HostRuntime, asked: TraceOptions) -> Result<TraceJob, AllocError> {
+    let TraceOptions {
+        run,
+        thread,
+        first,
+        most,
+    } = asked;
+    Ok(TraceJob {
+        run: told_job(rt, run)?,
+        shown: Shown {
+            thread: thread.map(u64::from),
+            first: u64::from(first),
+            most,
         },
-        sources: sources_to_film(rt, source, &program)?,
-        program,
     })
 }
 
@@ -202,6 +242,20 @@ fn filmed(rt: &HostRuntime, threads: &impl Threads, job: &FilmJob) -> Status {
     let mut out = Watched::new(rt.stdout());
     let mut err = Watched::new(rt.stderr());
     film(threads, rt.alloc(), job, &mut out, &mut err)
+}
+
+// Writes a line for each event of a run. It may start threads, which collect the heap.
+fn traced(rt: &HostRuntime, threads: &impl Threads, job: &TraceJob) -> Status {
+    let mut out = Watched::new(rt.stdout());
+    let mut err = Watched::new(rt.stderr());
+    trace(threads, rt.alloc(), job, &mut out, &mut err)
+}
+
+// Says how a run ended, and where. It may start threads, which collect the heap.
+fn reasoned(rt: &HostRuntime, threads: &impl Threads, job: &ToldJob) -> Status {
+    let mut out = Watched::new(rt.stdout());
+    let mut err = Watched::new(rt.stderr());
+    why(threads, rt.alloc(), job, &mut out, &mut err)
 }
 
 // Does a job, with its output where it belongs. A run may start threads, and wait for its machine's
@@ -242,6 +296,13 @@ fn run(
         (Some(text), Some(name)) => record_written(rt, text, name, finished.status),
         _ => finished.status,
     }
+}
+
+// Says all that is refused of files.
+fn checked(rt: &HostRuntime, files: &[InputFile]) -> Status {
+    let mut out = Watched::new(rt.stdout());
+    let mut err = Watched::new(rt.stderr());
+    check(rt.alloc(), files, &mut out, &mut err)
 }
 
 // Says what a number means, or which numbers there are.
@@ -285,6 +346,18 @@ fn answered(rt: &HostRuntime, wait: &(impl Threads + Wait + Sync), asked: Option
         },
         Options::Explore(asked) => match explore_job(rt, asked) {
             Ok(job) => done(rt, wait, &job),
+            Err(_) => out_of_memory(rt),
+        },
+        Options::Check(asked) => match input_files(rt, asked.files) {
+            Ok(files) => checked(rt, &files),
+            Err(_) => out_of_memory(rt),
+        },
+        Options::Why(asked) => match told_job(rt, asked) {
+            Ok(job) => reasoned(rt, wait, &job),
+            Err(_) => out_of_memory(rt),
+        },
+        Options::Trace(asked) => match trace_job(rt, asked) {
+            Ok(job) => traced(rt, wait, &job),
             Err(_) => out_of_memory(rt),
         },
         Options::Film(asked) => match film_job(rt, asked) {

@@ -4,7 +4,7 @@ ghost use Rattle.std.specs.Prelude.{MatchOption, ◌≤◌};
 
 use crate::columns::file_of;
 use crate::notation::invalid;
-use jm_execute::{RunEvents, Workers, several_workers};
+use jm_execute::{RunEvents, ToldEvents, Workers, several_workers};
 use jm_schedule::{MAX_QUANTUM, MAX_STEPS, RoundRobin, round_robin};
 use std::io;
 
@@ -42,13 +42,21 @@ fn workers_of(numbers: &str) -> Option<Workers> {
     Some(several_workers(count as u8, steps))
 }
 
+// The turns that a column says, if it says turns.
+fn turns_said(column: &str) -> io::Result<Option<RoundRobin>> {
+    let Some(numbers) = column.strip_prefix("@turns ") else {
+        return Ok(None);
+    };
+    match turns_of(numbers) {
+        Some(turns) => Ok(Some(turns)),
+        None => invalid(),
+    }
+}
+
 /// The events that a column says: `@turns` or `@workers` and two numbers, or a schedule.
 pub fn events_of(rt: &HostRuntime, column: &str) -> io::Result<RunEvents> {
-    if let Some(numbers) = column.strip_prefix("@turns ") {
-        return match turns_of(numbers) {
-            Some(turns) => Ok(RunEvents::RoundRobin(turns)),
-            None => invalid(),
-        };
+    if let Some(turns) = turns_said(column)? {
+        return Ok(RunEvents::RoundRobin(turns));
     }
     if let Some(numbers) = column.strip_prefix("@workers ") {
         return match workers_of(numbers) {
@@ -57,4 +65,12 @@ pub fn events_of(rt: &HostRuntime, column: &str) -> io::Result<RunEvents> {
         };
     }
     Ok(RunEvents::Schedule(file_of(rt, "events", column)?))
+}
+
+/// The events that a column says of a run that is told: `@turns` and two numbers, or a schedule.
+pub fn told_events_of(rt: &HostRuntime, column: &str) -> io::Result<ToldEvents> {
+    if let Some(turns) = turns_said(column)? {
+        return Ok(ToldEvents::RoundRobin(turns));
+    }
+    Ok(ToldEvents::Schedule(file_of(rt, "events", column)?))
 }

@@ -1,7 +1,9 @@
 // The rows of a table of jobs.
 
 use crate::jobs::HEAP;
+use crate::told::{all_shown, shown_of};
 use jm_explore::Bounds;
+use jm_trace::Shown;
 
 /// What is done with the files of a row.
 #[derive(Clone, Copy)]
@@ -21,6 +23,12 @@ pub enum JobKind {
     Disassemble { bare: bool },
     /// The classes are linked.
     Link,
+    /// Their program is run, and the events that are shown are told, a line each.
+    Trace { shown: Shown },
+    /// All that is refused of the files is told.
+    Check,
+    /// Their program is run, with a heap of so many cells, and how it ended is told.
+    Why { cells: u32 },
     /// What a number means is said, or which numbers there are.
     Explain { number: Option<u32> },
     /// The version is said.
@@ -78,27 +86,44 @@ fn bounds_of(text: &str) -> Option<Bounds> {
     })
 }
 
-// What a word says to do; behind `run`, `show`, `replay`, `again` (a replay whose heap is shown) and `debug`
-// the heap's cells may stand.
-fn kind_of(word: &str) -> Option<JobKind> {
+// What a word alone says to do.
+fn kind_named(word: &str) -> Option<JobKind> {
     match word {
-        "asm" => return Some(JobKind::Assemble),
-        "dis" => return Some(JobKind::Disassemble { bare: false }),
-        "dis bare" => return Some(JobKind::Disassemble { bare: true }),
-        "link" => return Some(JobKind::Link),
-        "explain" => return Some(JobKind::Explain { number: None }),
-        "version" => return Some(JobKind::Version),
-        _ => {}
+        "asm" => Some(JobKind::Assemble),
+        "dis" => Some(JobKind::Disassemble { bare: false }),
+        "dis bare" => Some(JobKind::Disassemble { bare: true }),
+        "link" => Some(JobKind::Link),
+        "explain" => Some(JobKind::Explain { number: None }),
+        "version" => Some(JobKind::Version),
+        "check" => Some(JobKind::Check),
+        "trace" => Some(JobKind::Trace { shown: all_shown() }),
+        _ => None,
     }
+}
+
+// What a word says to do that has other numbers behind it than the heap's cells.
+fn kind_with_numbers(word: &str) -> Option<JobKind> {
     if let Some(number) = word.strip_prefix("explain ") {
         return Some(JobKind::Explain {
             number: Some(number.parse().ok()?),
         });
     }
-    if let Some(bounds) = word.strip_prefix("explore ") {
-        return Some(JobKind::Explore {
-            bounds: bounds_of(bounds)?,
+    if let Some(shown) = word.strip_prefix("trace ") {
+        return Some(JobKind::Trace {
+            shown: shown_of(shown)?,
         });
+    }
+    let bounds = word.strip_prefix("explore ")?;
+    Some(JobKind::Explore {
+        bounds: bounds_of(bounds)?,
+    })
+}
+
+// What a word says to do behind which the heap's cells may stand: `run`, `show`, `replay`, `again` (a replay whose heap is
+// shown), `why` and `debug`.
+fn kind_with_heap(word: &str) -> Option<JobKind> {
+    if let Some(cells) = cells_behind("why", word) {
+        return Some(JobKind::Why { cells });
     }
     if let Some(cells) = cells_behind("debug", word) {
         return Some(JobKind::Debug { cells });
@@ -125,6 +150,17 @@ fn kind_of(word: &str) -> Option<JobKind> {
         cells: cells_behind("run", word)?,
         show_heap: false,
     })
+}
+
+// What a column says to do.
+fn kind_of(word: &str) -> Option<JobKind> {
+    if let Some(kind) = kind_named(word) {
+        return Some(kind);
+    }
+    if let Some(kind) = kind_with_numbers(word) {
+        return Some(kind);
+    }
+    kind_with_heap(word)
 }
 
 /// The row of a line whose columns have ` | ` between them.

@@ -46,6 +46,7 @@ mod shared_run;
 mod tables;
 mod text_again;
 mod tokens;
+mod told;
 mod turns;
 mod values;
 mod views;

@@ -7,7 +7,10 @@ use crate::jobs::{
     Collecting, JobHeap, assembly_job, debug_job, disassembly_job, explore_job, replay_job, run_job,
 };
 use crate::notation::invalid;
-use jm_execute::{Finished, InputFile, Job, Watched, class_of, execute, explain, tell_version};
+use crate::told::{reasoned, traced};
+use jm_execute::{
+    Finished, InputFile, Job, Watched, check, class_of, execute, explain, tell_version,
+};
 use jm_explain::{Entry, entry_of};
 use jm_explore::Bounds;
 use jm_linker::{LinkFault, link};
@@ -69,7 +72,12 @@ fn job_of(rt: &HostRuntime, row: &JobRow<'_>, collecting: Collecting) -> io::Res
             let file = file_of(rt, row.names, row.contents)?;
             Ok(Some(disassembly_job(bare, file)))
         }
-        JobKind::Link | JobKind::Explain { .. } | JobKind::Version => Ok(None),
+        JobKind::Link
+        | JobKind::Check
+        | JobKind::Trace { .. }
+        | JobKind::Why { .. }
+        | JobKind::Explain { .. }
+        | JobKind::Version => Ok(None),
     }
 }
 
@@ -126,6 +134,9 @@ pub fn outcome_of(
 ) -> io::Result<Outcome> {
     match row.kind {
         JobKind::Link => return linked(rt, &files_of(rt, row.names, row.contents)?),
+        JobKind::Trace { shown } => return traced(rt, wait, row, shown, collecting.copiers),
+        JobKind::Check => return checked(rt, &files_of(rt, row.names, row.contents)?),
+        JobKind::Why { cells } => return reasoned(rt, wait, row, cells, collecting.copiers),
         JobKind::Explain { number } => return explained(rt, number),
         JobKind::Version => return version(rt),
         _ => {}
@@ -138,6 +149,34 @@ pub fn outcome_of(
         }
         None => invalid(),
     }
+}
+
+// What is told of files.
+fn checked(rt: &HostRuntime, files: &[InputFile]) -> io::Result<Outcome> {
+    let mut output = Vec::new(rt.alloc());
+    let mut lines = Vec::new(rt.alloc());
+    let status = checked_over(rt.alloc(), files, &mut output, &mut lines)?;
+    Ok(Outcome {
+        output,
+        lines,
+        status,
+    })
+}
+
+// Tells it, and answers the number of the status. A list that fails is an error.
+fn checked_over(
+    alloc: Global,
+    files: &[InputFile],
+    output: &mut Vec<u8>,
+    lines: &mut Vec<u8>,
+) -> io::Result<u8> {
+    let mut out = Watched::new(output);
+    let mut err = Watched::new(lines);
+    let status = check(alloc, files, &mut out, &mut err);
+    if out.has_failed() || err.has_failed() {
+        return Err(io::Error::from(ErrorKind::OutOfMemory));
+    }
+    Ok(status.code())
 }
 
 // What is said of a number, or of all. A number of which there is nothing to say is an error.

@@ -9,6 +9,7 @@ mod Chains
 mod RunVerdicts
 mod ReplayVerdicts
 mod FileLists
+mod CheckLemmas
 mod Assemblies
 mod Disassemblies
 mod Beginnings
@@ -27,6 +28,6 @@ mod RobinSteps
 mod ManyReceipts
 mod Woven
 mod SoleTurns
-mod FilmVerdicts
-mod FilmsTold
+mod ToldVerdicts
+mod TextsTold
 pub mod Calls

@@ -18,7 +18,8 @@ pub mod Talks
 pub mod ClassTexts
 pub mod Endings
 pub mod Pieces
-pub mod Films
+pub mod Tellings
 pub mod Refusals
 pub mod ViewsAgain
 pub mod Shown
+pub mod Checks

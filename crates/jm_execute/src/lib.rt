@@ -28,6 +28,7 @@
 #![tactic(auto)]
 
 mod assembly;
+mod checking;
 mod copiers;
 mod disassembly;
 mod ends;
@@ -37,9 +38,6 @@ mod explanation;
 mod exploring;
 mod files;
 mod film_execution;
-mod film_job;
-mod film_page;
-mod film_preparation;
 mod job;
 mod laws;
 mod lines;
@@ -48,6 +46,7 @@ mod pass;
 mod preparation;
 mod program_file;
 mod readable;
+mod reasons_of_end;
 mod refusal;
 mod replaying;
 mod report;
@@ -56,11 +55,18 @@ mod round_trip;
 mod session;
 mod sole_worker;
 mod status;
+mod teller;
+mod text_page;
+mod told_job;
+mod told_preparation;
+mod told_run;
+mod tracing;
 mod watchable;
 mod watched;
 mod workers;
 
 pub use assembly::assemble_file;
+pub use checking::check;
 pub use disassembly::{ClassText, NoText, disassemble_file};
 pub use ends::status_of;
 pub use events::{EventSource, RunPlan, RunSource};
@@ -69,8 +75,6 @@ pub use explanation::{explain, tell_version};
 pub use exploring::Lack;
 pub use files::{bytes_of, check_read};
 pub use film_execution::film;
-pub use film_job::{FilmEvents, FilmJob};
-pub use film_preparation::{ReadyToFilm, prepare_film};
 pub use jm_explore_text::Utf8;
 pub use jm_heap::Kind;
 pub use job::{
@@ -85,12 +89,18 @@ pub use preparation::{
 };
 pub use program_file::{class_in_file, class_in_text, class_of};
 pub use readable::{ReadFailed, Readable, get_by_read};
+pub use reasons_of_end::why;
 pub use refusal::{Obstacle, Refusal};
 pub use report::{heap_view, write_difference, write_end, write_out_of_memory, write_report};
 pub use round_trip::written_and_read;
 pub use session::answer_lines;
 pub use sole_worker::SoleWorker;
 pub use status::{Finished, Status};
+pub use teller::{FilmTeller, Teller, TraceTeller, WhyTeller};
+pub use told_job::{FilmJob, ToldEvents, ToldJob, TraceJob};
+pub use told_preparation::{ReadyToTell, prepare_told};
+pub use told_run::tell_run;
+pub use tracing::trace;
 pub use watchable::{
     Watchable, WriteFailed, put_by_write, put_line_by_write, put_through_by_flush,
 };

@@ -1,6 +1,4 @@
 pub mod Passing
-pub mod Schedules
-pub mod Rounds
 pub mod Telling
 pub mod Fronts
 pub mod Harmless

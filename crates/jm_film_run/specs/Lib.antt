@@ -1,4 +1,3 @@
--- In reading order: the events of a run, which of them are shown, and the page of a film.
-pub mod Due
+-- In reading order: which events of a run are shown, and the page of a film.
 pub mod Shots
 pub mod FilmPages

@@ -13,11 +13,11 @@ ghost use Rattle.jm_page.specs.declared.page.TheConstants.{BELOW};
 ghost use Rattle.jm_film_run.specs.Shots.{shots_behind, shots_from};
 ghost use Rattle.jm_film_run.specs.FilmPages.{film_events, film_page};
 
-use crate::due::EventsDue;
 use crate::front::put_front;
 use crate::shots::show;
 use crate::skipping::{Skipped, skip};
 use crate::window::Window;
+use jm_due::EventsDue;
 use jm_filming::Filming;
 use jm_heap::Heap;
 use jm_listing::Source;

@@ -9,7 +9,8 @@ use Rattle.jm_world.specs.Frames.{Frame}
 use Rattle.jm_world.specs.Objects.{Object}
 use Rattle.jm_world.specs.World.{World, Thread, thread_at}
 use Rattle.jm_film.specs.Sections.{Part}
-use Rattle.jm_filming.specs.Shown.{frame_sections, frames_sections, is_waiting, object_section, thread_sections, threads_sections}
+use Rattle.jm_waits.specs.Blocked.{is_waiting}
+use Rattle.jm_filming.specs.Shown.{frame_sections, frames_sections, object_section, thread_sections, threads_sections}
 
 -- the first of those that are left
 pub next : {X : Type 0} (xs : List X) (i : ℕ) (x : X) → slice_get xs i ≡ Some x → drop i xs ≡ x ∷ drop (i + 1) xs

@@ -4,5 +4,3 @@ pub mod ObjectsPut
 pub mod ViewPut
 pub mod EventsTold
 pub mod Films
-pub mod Free
-pub mod Waiting

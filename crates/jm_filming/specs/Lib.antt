@@ -1,4 +1,3 @@
--- In reading order: what is shown of a world, what a blocked thread waits for, and the events of a run as a film tells them.
+-- In reading order: what is shown of a world, and the events of a run as a film tells them.
 pub mod Shown
-pub mod Waits
 pub mod Runs

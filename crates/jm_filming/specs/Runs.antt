@@ -1,6 +1,5 @@
 -- The events of a run, as a film tells them.
-use Rattle.std.specs.Prelude.{ℕ, List, [], ◌∷◌, codes, Bool, true, false, not, nat_eq, length}
-use Rattle.std.specs.List.{filter}
+use Rattle.std.specs.Prelude.{ℕ, List, [], ◌∷◌, codes, length}
 use Rattle.std.specs.Fmt.{decimal}
 use Rattle.jm_world.specs.World.{World}
 use Rattle.jm_world.specs.Run.{after}
@@ -9,14 +8,8 @@ use Rattle.jm_world.specs.declared.event.Event.{Event}
 use Rattle.jm_world.specs.declared.event.Event.TheVariants.{Step, Minor, Full}
 use Rattle.jm_debug.specs.Texts.{kind_text}
 use Rattle.jm_film.specs.Filming.{FilmView, Moment, told}
+use Rattle.jm_waits.specs.Blocked.{waiting_after}
 use Rattle.jm_filming.specs.Shown.{view}
-
--- the threads that were blocked at their last event, after one more
-abbrev pub waiting_after : List ℕ → Event → Bool → List ℕ
-waiting_after waiting (Step n) true = n ∷ filter (λ m. not (nat_eq m n)) waiting
-waiting_after waiting (Step n) false = filter (λ m. not (nat_eq m n)) waiting
-waiting_after waiting Minor blocked = waiting
-waiting_after waiting Full blocked = waiting
 
 abbrev pub who_text : Event → List ℕ
 who_text (Step n) = decimal n

@@ -1,28 +1,21 @@
 -- What a film shows of a world: sections, whose lines are the debugger's.
-use Rattle.std.specs.Prelude.{ℕ, ◌+◌, List, [], ◌∷◌, ◌++◌, Option, Some, None, codes, length, map, slice_get, Bool, true, false, nat_eq}
-use Rattle.std.specs.List.{flat_map, list_any}
+use Rattle.std.specs.Prelude.{ℕ, ◌+◌, List, [], ◌∷◌, ◌++◌, Option, Some, None, codes, length, map, Bool, true, false}
+use Rattle.std.specs.List.{flat_map}
 use Rattle.std.specs.Fmt.{decimal}
 use Rattle.jm_program.specs.JasminUnits.{name_text}
 use Rattle.jm_program.specs.declared.class.ClassParts.{ClassParts}
-use Rattle.jm_program.specs.declared.instruction.symbolic.Instr.{Instr}
-use Rattle.jm_program.specs.declared.instruction.symbolic.Instr.TheVariants as instr
-use Rattle.jm_program.specs.declared.instruction.operation.InvokeOp.{InvokeOp}
-use Rattle.jm_program.specs.declared.instruction.operation.InvokeOp.TheVariants.{Virtual, Special, Static, Interface}
-use Rattle.jm_program.specs.declared.instruction.operation.MonitorOp.{MonitorOp}
-use Rattle.jm_program.specs.declared.instruction.operation.MonitorOp.TheVariants.{Enter, Exit}
-use Rattle.jm_values.specs.declared.value.Value.{Value}
-use Rattle.jm_values.specs.declared.value.Value.TheVariants as value
-use Rattle.jm_world.specs.Classes.{method_named, system_class}
+use Rattle.jm_world.specs.Classes.{system_class}
 use Rattle.jm_world.specs.Objects.{Object, size}
-use Rattle.jm_world.specs.Frames.{Frame, method_frame, initialization_frame, entry_frame}
+use Rattle.jm_world.specs.Frames.{Frame}
 use Rattle.jm_world.specs.World.{World, Thread, Ending, running, returned, ended_by, reach, reach_cells}
 use Rattle.jm_world.specs.World as world
-use Rattle.jm_world.specs.Stepping.{instruction_in}
 use Rattle.jm_machine.specs.ReachedObjects.{reached_objects}
 use Rattle.jm_debug.specs.Texts.{reference_text, object_type_text, frame_text}
 use Rattle.jm_debug.specs.Views.{Lines, lines_from, locals_of_frame, stack_of_frame, end_lines, static_lines, part_lines, heap_text, monitor_lines}
 use Rattle.jm_debug.specs.Session.{ended}
 use Rattle.jm_film.specs.Sections.{Part}
+use Rattle.jm_waits.specs.Asked.{Need, entering, initializing, asked_by_top}
+use Rattle.jm_waits.specs.Blocked.{is_waiting}
 
 -- a section of some lines, each ended by a line feed; and one only if there are any
 abbrev pub section : List ℕ → Lines → Part
@@ -57,55 +50,18 @@ frames_sections program n (f ∷ fs) = frame_sections program n (length fs) f ++
 
 -- ---- what a blocked thread waits for
 
-abbrev pub reference_lines : Option Value → Lines
-reference_lines None = []
-reference_lines (Some (value.Int n)) = []
-reference_lines (Some (value.Long n)) = []
-reference_lines (Some value.Null) = []
-reference_lines (Some (value.Ref k)) = reference_text k ∷ []
+abbrev pub need_lines : Need → Lines
+need_lines (entering k) = reference_text k ∷ []
+need_lines (initializing class) = (codes "class " ++ name_text class) ∷ []
 
--- of a call: the receiver's, which lies below so many arguments; a static method has none
-abbrev pub asked_by_call : InvokeOp → List Value → ℕ → Lines
-asked_by_call Virtual stack arguments = reference_lines (slice_get stack arguments)
-asked_by_call Special stack arguments = reference_lines (slice_get stack arguments)
-asked_by_call Static stack arguments = []
-asked_by_call Interface stack arguments = reference_lines (slice_get stack arguments)
-
-abbrev pub asked_by_monitor : MonitorOp → List Value → Lines
-asked_by_monitor Enter stack = reference_lines (slice_get stack 0)
-asked_by_monitor Exit stack = []
-
--- the object whose monitor an instruction asks for
-abbrev pub asked_by_instruction : List Value → Option Instr → Lines
-asked_by_instruction stack None = []
-asked_by_instruction stack (Some (instr.Monitor op)) = asked_by_monitor op stack
-asked_by_instruction stack (Some (instr.Invoke op m)) = asked_by_call op stack (length m.descriptor.parameters)
-asked_by_instruction stack (Some (instr.Plain op)) = []
-asked_by_instruction stack (Some (instr.Array op)) = []
-asked_by_instruction stack (Some (instr.Return op)) = []
-asked_by_instruction stack (Some instr.Throw) = []
-asked_by_instruction stack (Some (instr.Constant c)) = []
-asked_by_instruction stack (Some (instr.Field op f)) = []
-asked_by_instruction stack (Some (instr.New class)) = []
-asked_by_instruction stack (Some (instr.Type op t)) = []
-
--- of a frame at the top: such an object, or a class whose initialization another thread makes. A thread's entry asks for
--- the monitor of the thread's object, which no view of the debugger tells
-abbrev pub asked_by : List ClassParts → Frame → Lines
-asked_by program (method_frame m a monitor) = asked_by_instruction a.stack (instruction_in (method_named program m) a.at)
-asked_by program (initialization_frame class stage) = (codes "class " ++ name_text class) ∷ []
-asked_by program entry_frame = []
-
-abbrev pub asked_by_top : List ClassParts → List Frame → Lines
-asked_by_top program [] = []
-asked_by_top program (f ∷ fs) = asked_by program f
-
-abbrev pub is_waiting : List ℕ → ℕ → Bool
-is_waiting waiting n = list_any (λ m. nat_eq m n) waiting
+-- as far as it is told
+abbrev pub asked_lines : Option Need → Lines
+asked_lines None = []
+asked_lines (Some need) = need_lines need
 
 -- a section that stands also where it has no lines
 abbrev pub waits_sections : List ClassParts → Bool → ℕ → List Frame → List Part
-waits_sections program true n frames = section (thread_key (codes "b") n) (asked_by_top program frames) ∷ []
+waits_sections program true n frames = section (thread_key (codes "b") n) (asked_lines (asked_by_top program frames)) ∷ []
 waits_sections program false n frames = []
 
 -- ---- threads

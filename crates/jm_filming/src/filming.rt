@@ -1,22 +1,20 @@
 // A film that is being made of a machine.
 
-ghost use Rattle.std.specs.Prelude.{◌≡◌, ◌++◌, ◌⊎◌, MatchOption, MatchResult, None, Some, OnOk, IfOk, OnErr, nat_eq, not, slice_get};
-ghost use Rattle.std.specs.List.{filter};
+ghost use Rattle.std.specs.Prelude.{◌≡◌, ◌++◌, ◌⊎◌, MatchOption, MatchResult, None, Some, OnOk, IfOk, OnErr, slice_get};
 ghost use Rattle.jm_world.specs.World.{World};
 ghost use Rattle.jm_world.specs.Run.{after, run_from};
-ghost use Rattle.jm_world.specs.RoundRobin.{is_blocked};
-ghost use Rattle.jm_world.specs.declared.event.Event.TheVariants.{Step};
 ghost use Rattle.jm_machine.specs.View.{MatchesWorld};
 ghost use Rattle.jm_debug.specs.Texts.{kind_text};
 ghost use Rattle.jm_film.specs.Data.{view_text};
 ghost use Rattle.jm_film.specs.Filming.{all_told};
-ghost use Rattle.jm_filming.specs.Runs.{begun, event_written, filming_behind, moments_from, waiting_after, who_text};
+ghost use Rattle.jm_filming.specs.Runs.{begun, event_written, filming_behind, moments_from, who_text};
 ghost use Rattle.jm_filming.specs.Shown.{view};
 
 use crate::shown::view;
 use jm_film::Film;
 use jm_heap::Heap;
 use jm_machine::Machine;
+use jm_waits::{is_blocked, waiting_after};
 use jm_world::{Event, Reply, ReplyKind};
 use std::alloc::{AllocError, Global};
 use std::marker::Model;
@@ -60,74 +58,6 @@ fn kind_word(kind: ReplyKind) -> &'static str
         ReplyKind::None => "none",
         ReplyKind::Stopped => "stopped",
     }
-}
-
-/// Whether an event was blocked.
-pub fn is_blocked(kind: ReplyKind) -> bool
-    ensures { result ≡ is_blocked kind }
-{
-    match kind {
-        ReplyKind::Blocked => true,
-        ReplyKind::Done => false,
-        ReplyKind::Ended => false,
-        ReplyKind::None => false,
-        ReplyKind::Stopped => false,
-    }
-}
-
-fn is_same(other: u64, thread: u64) -> bool
-    ensures { result ≡ nat_eq other thread }
-{
-    other == thread
-}
-
-// Takes a number away.
-fn take_away(waiting: &mut Vec<u64>, thread: u64)
-    ensures { waiting.new.items ≡ filter (λ m. not (nat_eq m thread)) waiting.old.items }
-{
-    waiting.retain(|other| !is_same(*other, thread));
-}
-
-// The numbers but one.
-fn without(alloc: Global, waiting: &[u64], thread: u64) -> Result<Vec<u64>, AllocError>
-    ensures { IfOk result (λ left. left.items ≡ filter (λ m. not (nat_eq m thread)) waiting.now) }
-{
-    let mut left = Vec::from_slice(alloc, waiting)?;
-    take_away(&mut left, thread);
-    Ok(left)
-}
-
-/// The threads that were blocked at their last event, after one more event, which was blocked or not.
-/// `AllocError`: a growth was refused.
-pub fn waiting_after(
-    alloc: Global,
-    waiting: &[u64],
-    event: Event,
-    blocked: bool,
-) -> Result<Vec<u64>, AllocError>
-    ensures { IfOk result (λ next. next.items ≡ waiting_after waiting.now event blocked) }
-{
-    match event {
-        Event::Step(thread) => waiting_after_step(alloc, waiting, thread, blocked),
-        Event::Minor => Vec::from_slice(alloc, waiting),
-        Event::Full => Vec::from_slice(alloc, waiting),
-    }
-}
-
-// The same after a step.
-fn waiting_after_step(
-    alloc: Global,
-    waiting: &[u64],
-    thread: u64,
-    blocked: bool,
-) -> Result<Vec<u64>, AllocError>
-    ensures { IfOk result (λ next. next.items ≡ waiting_after waiting.now (Step thread) blocked) }
-{
-    let mut next = without(alloc, waiting, thread)?;
-    if blocked {
-        next.insert(0, thread)?;
-    }
-    Ok(next)
 }
 
 // The event of an index.

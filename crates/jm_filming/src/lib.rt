@@ -6,14 +6,13 @@
 //! events of a machine and writes each, as `jm_film` writes it; the data are the fold over the run's
 //! events.
 //!
-//! What is told of a thread that is blocked is what keeps it back in the model (`specs/Waits`).
+//! What is told of a thread that is blocked is what keeps it back in the model (`jm_waits`).
 //!
-//! The crate stands on `jm_machine`, `jm_debug` and `jm_film`.
+//! The crate stands on `jm_machine`, `jm_debug`, `jm_film` and `jm_waits`.
 #![tactic(auto)]
 
 mod filming;
 mod frames;
-mod laws;
 mod objects;
 mod section;
 mod shown;
@@ -21,6 +20,6 @@ mod statics;
 mod threads;
 mod waits;
 
-pub use filming::{Filming, is_blocked, waiting_after};
-pub use laws::blocked_threads_wait_for_what_is_told;
+pub use filming::Filming;
+pub use jm_waits::{is_blocked, waiting_after};
 pub use shown::view;

@@ -7,7 +7,7 @@ ghost use Rattle.jm_world.specs.World.{World, Thread, thread_at};
 ghost use Rattle.jm_machine.specs.View.{MatchesWorld};
 ghost use Rattle.jm_debug.specs.Texts.{reference_text};
 ghost use Rattle.jm_debug.specs.Session.{ended};
-ghost use Rattle.jm_filming.specs.Shown.{end_sections, is_waiting, pending_sections, running_sections, thread_sections, threads_sections, waits_sections};
+ghost use Rattle.jm_filming.specs.Shown.{end_sections, pending_sections, running_sections, thread_sections, threads_sections, waits_sections};
 
 use crate::frames::put_frames;
 use crate::section::put;
@@ -16,6 +16,7 @@ use jm_debug::write_end;
 use jm_film::Section;
 use jm_heap::Heap;
 use jm_machine::Machine;
+use jm_waits::is_waiting;
 use std::alloc::{AllocError, Global};
 
 // The line of an object that is thrown and not caught yet.
@@ -41,13 +42,6 @@ fn put_pending(
     let key = format!(in alloc; "p {thread}")?;
     let text = pending_line(alloc, number)?;
     put(view, key, text)
-}
-
-// Whether a thread was blocked at its last event.
-fn is_waiting(waiting: &[u64], thread: u64) -> bool
-    ensures { result ≡ is_waiting waiting.now thread }
-{
-    waiting.contains(&thread)
 }
 
 // Puts what a thread waits for, if it does.

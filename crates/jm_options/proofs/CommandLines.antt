@@ -323,11 +323,103 @@ a_schedule_of_run : exploration_fault (codes "--schedule=s" ∷ codes "A.class" 
 unfolding jm clap_on_literals
 a_schedule_of_run = refl
 
+-- the words after jm check
+abbrev checked : List Text → Option (Text × Option (List Text))
+checked words = option_map (λ (s : Subcommand). (s.0, all_of (codes "file") s.1)) (subcommand_of jm (codes "jm" ∷ codes "check" ∷ words))
+
+abbrev check_fault : List Text → Kinds
+check_fault words = fault_of jm (codes "jm" ∷ codes "check" ∷ words)
+
+a_check : checked (codes "A.class" ∷ codes "B.j" ∷ []) ≡ Some (codes "check", Some (codes "A.class" ∷ codes "B.j" ∷ []))
+unfolding jm clap_on_literals
+a_check = refl
+
+no_check_fault : check_fault (codes "A.class" ∷ codes "B.j" ∷ []) ≡ []
+unfolding jm clap_on_literals
+no_check_fault = refl
+
+nothing_to_check : check_fault [] ≡ kind.MissingRequiredArgument ∷ []
+unfolding jm clap_on_literals
+nothing_to_check = refl
+
+a_heap_to_check : check_fault (codes "--heap=16" ∷ codes "A.class" ∷ []) ≡ kind.UnknownArgument ∷ []
+unfolding jm clap_on_literals
+a_heap_to_check = refl
+
 -- the words after another subcommand that runs a program by one worker: the heap, the copiers, the schedule, the steps, the quantum and the files
 abbrev serial : Text → List Text → Option (Option Text × Option Text × Option Text × Option Text × Option Text × Option (List Text))
 serial name words = option_map
     (λ (s : Subcommand). (one_of (codes "heap") s.1, one_of (codes "copiers") s.1, first_of (codes "schedule") s.1, one_of (codes "steps") s.1, one_of (codes "quantum") s.1, all_of (codes "file") s.1))
     (subcommand_of jm (codes "jm" ∷ name ∷ words))
+
+abbrev why_fault : List Text → Kinds
+why_fault words = fault_of jm (codes "jm" ∷ codes "why" ∷ words)
+
+a_reason : serial (codes "why") (codes "A.class" ∷ codes "B.j" ∷ [])
+    ≡ Some (Some (codes "65536"), Some (codes "1"), None, Some (codes "1000000"), Some (codes "1"), Some (codes "A.class" ∷ codes "B.j" ∷ []))
+unfolding jm clap_on_literals
+a_reason = refl
+
+no_why_fault : why_fault (codes "--heap=16" ∷ codes "--copiers=2" ∷ codes "--steps=9" ∷ codes "--quantum=3" ∷ codes "A.class" ∷ codes "--schedule=s" ∷ []) ≡ []
+unfolding jm clap_on_literals
+no_why_fault = refl
+
+all_of_why : serial (codes "why") (codes "--heap=16" ∷ codes "--copiers=2" ∷ codes "--steps=9" ∷ codes "--quantum=3" ∷ codes "A.class" ∷ codes "--schedule=s" ∷ [])
+    ≡ Some (Some (codes "16"), Some (codes "2"), Some (codes "s"), Some (codes "9"), Some (codes "3"), Some (codes "A.class" ∷ []))
+unfolding jm clap_on_literals
+all_of_why = refl
+
+no_program_for_why : why_fault (codes "--heap=16" ∷ []) ≡ kind.MissingRequiredArgument ∷ []
+unfolding jm clap_on_literals
+no_program_for_why = refl
+
+workers_for_why : why_fault (codes "--workers=2" ∷ codes "A.class" ∷ []) ≡ kind.UnknownArgument ∷ []
+unfolding jm clap_on_literals
+workers_for_why = refl
+
+-- the words after jm trace
+abbrev traced : List Text → Option (Option Text × Option Text × Option Text)
+traced words = option_map (λ (s : Subcommand). (first_of (codes "thread") s.1, one_of (codes "from") s.1, one_of (codes "most") s.1)) (subcommand_of jm (codes "jm" ∷ codes "trace" ∷ words))
+
+abbrev trace_fault : List Text → Kinds
+trace_fault words = fault_of jm (codes "jm" ∷ codes "trace" ∷ words)
+
+a_trace : traced (codes "A.class" ∷ []) ≡ Some (None, Some (codes "1"), Some (codes "10000000"))
+unfolding jm clap_on_literals
+a_trace = refl
+
+no_trace_fault : trace_fault (codes "A.class" ∷ []) ≡ []
+unfolding jm clap_on_literals
+no_trace_fault = refl
+
+one_thread_traced : traced (codes "--thread" ∷ codes "2" ∷ codes "--from=7" ∷ codes "A.class" ∷ codes "--most=20" ∷ codes "--steps=9" ∷ []) ≡ Some (Some (codes "2"), Some (codes "7"), Some (codes "20"))
+unfolding jm clap_on_literals
+one_thread_traced = refl
+
+no_fault_of_a_thread : trace_fault (codes "--thread" ∷ codes "2" ∷ codes "--from=7" ∷ codes "A.class" ∷ codes "--most=20" ∷ codes "--steps=9" ∷ []) ≡ []
+unfolding jm clap_on_literals
+no_fault_of_a_thread = refl
+
+the_run_traced : serial (codes "trace") (codes "--heap=16" ∷ codes "--copiers=2" ∷ codes "--steps=9" ∷ codes "--quantum=3" ∷ codes "A.class" ∷ codes "--schedule=s" ∷ [])
+    ≡ Some (Some (codes "16"), Some (codes "2"), Some (codes "s"), Some (codes "9"), Some (codes "3"), Some (codes "A.class" ∷ []))
+unfolding jm clap_on_literals
+the_run_traced = refl
+
+no_thread_to_trace : trace_fault (codes "--thread=0" ∷ codes "A.class" ∷ []) ≡ kind.ValueValidation ∷ []
+unfolding jm clap_on_literals
+no_thread_to_trace = refl
+
+no_event_to_trace : trace_fault (codes "--from=0" ∷ codes "A.class" ∷ []) ≡ kind.ValueValidation ∷ []
+unfolding jm clap_on_literals
+no_event_to_trace = refl
+
+no_line_of_a_trace : trace_fault (codes "--most=0" ∷ codes "A.class" ∷ []) ≡ kind.ValueValidation ∷ []
+unfolding jm clap_on_literals
+no_line_of_a_trace = refl
+
+nothing_to_trace : trace_fault [] ≡ kind.MissingRequiredArgument ∷ []
+unfolding jm clap_on_literals
+nothing_to_trace = refl
 
 -- the words after jm film
 abbrev filmed : List Text → Option (Option Text × Option Text)

@@ -11,16 +11,18 @@ use Rattle.clap.specs.declared.parser.matches.ArgMatches.{ArgMatches}
 use Rattle.clap.specs.declared.parser.matches.ArgMatches.TheViews.{out-ArgMatches, out-SubCommand}
 use Rattle.clap.specs.declared.error.Error.{Error}
 use Rattle.clap.specs.declared.error.kind.ErrorKind.TheVariants as kind
-use Rattle.jm_options.specs.Asked.{SpellsNumber, HoldsNumber, MayHoldNumber, HoldsSerialRun, HoldsRun, HoldsStress, stress_word, HoldsReplay, HoldsExplore, HoldsFilm, HoldsAssemble, HoldsDisassemble, HoldsDebug, HoldsAsked, HoldsEntry, HoldsExplain, HoldsNamed, Holds, Subcommand, Finds, Answers, name_of}
+use Rattle.jm_options.specs.Asked.{SpellsNumber, HoldsNumber, MayHoldNumber, HoldsSerialRun, HoldsRun, HoldsStress, stress_word, HoldsReplay, HoldsExplore, HoldsCheck, HoldsTrace, HoldsFilm, HoldsAssemble, HoldsDisassemble, HoldsDebug, HoldsAsked, HoldsEntry, HoldsExplain, HoldsNamed, Holds, Subcommand, Finds, Answers, name_of}
 use Rattle.jm_options.specs.CommandLine.{jm}
 use Rattle.jm_options.specs.declared.request.Options.{Options}
-use Rattle.jm_options.specs.declared.request.Options.TheVariants.{Run, Replay, Explore, Film, Assemble, Disassemble, Debug, Explain, Version}
+use Rattle.jm_options.specs.declared.request.Options.TheVariants.{Run, Replay, Explore, Check, Why, Trace, Film, Assemble, Disassemble, Debug, Explain, Version}
 use Rattle.jm_options.specs.declared.request.RunOptions.{RunOptions}
 use Rattle.jm_options.specs.declared.request.Stress.{Stress}
 use Rattle.jm_options.specs.declared.request.Stress.TheVariants.{Minor, Full}
 use Rattle.jm_options.specs.declared.request.ReplayOptions.{ReplayOptions}
 use Rattle.jm_options.specs.declared.request.ExploreOptions.{ExploreOptions}
+use Rattle.jm_options.specs.declared.request.CheckOptions.{CheckOptions}
 use Rattle.jm_options.specs.declared.request.SerialRun.{SerialRun}
+use Rattle.jm_options.specs.declared.request.TraceOptions.{TraceOptions}
 use Rattle.jm_options.specs.declared.request.FilmOptions.{FilmOptions}
 use Rattle.jm_options.specs.declared.request.AssembleOptions.{AssembleOptions}
 use Rattle.jm_options.specs.declared.request.DisassembleOptions.{DisassembleOptions}
@@ -225,6 +227,30 @@ pub finds_exploration : (name : Text) (rows : List Row) (r : Result ExploreOptio
     → MatchResult r (λ o. IsOkAnd found (λ given. given ≡ Explore o)) (λ fault. found ≡ Err fault) → Finds found (HoldsNamed name rows)
 finds_exploration name rows r found is = finds_named (HoldsExplore rows) Explore name rows r found (λ o holds. record { named = is; held = holds }) (no_exploration name rows is)
 
+no_checking : (name : Text) (rows : List Row) → name ≡ codes "check" → ((o : CheckOptions) → HoldsCheck rows o → ⊥) → (o : Options) → HoldsNamed name rows o → ⊥
+no_checking name rows is none (Check o) holds = none o holds.held
+no_checking name rows is none other holds = apart (codes "check") (name_of other) refl (sym is ∙ holds.named)
+
+pub finds_checking : (name : Text) (rows : List Row) (r : Result CheckOptions UsageFault) (found : Result Options UsageFault) → name ≡ codes "check" → Finds r (HoldsCheck rows)
+    → MatchResult r (λ o. IsOkAnd found (λ given. given ≡ Check o)) (λ fault. found ≡ Err fault) → Finds found (HoldsNamed name rows)
+finds_checking name rows r found is = finds_named (HoldsCheck rows) Check name rows r found (λ o holds. record { named = is; held = holds }) (no_checking name rows is)
+
+no_reason : (name : Text) (rows : List Row) → name ≡ codes "why" → ((o : SerialRun) → HoldsSerialRun 10000000 rows o → ⊥) → (o : Options) → HoldsNamed name rows o → ⊥
+no_reason name rows is none (Why o) holds = none o holds.held
+no_reason name rows is none other holds = apart (codes "why") (name_of other) refl (sym is ∙ holds.named)
+
+pub finds_reason : (name : Text) (rows : List Row) (r : Result SerialRun UsageFault) (found : Result Options UsageFault) → name ≡ codes "why" → Finds r (HoldsSerialRun 10000000 rows)
+    → MatchResult r (λ o. IsOkAnd found (λ given. given ≡ Why o)) (λ fault. found ≡ Err fault) → Finds found (HoldsNamed name rows)
+finds_reason name rows r found is = finds_named (HoldsSerialRun 10000000 rows) Why name rows r found (λ o holds. record { named = is; held = holds }) (no_reason name rows is)
+
+no_trace : (name : Text) (rows : List Row) → name ≡ codes "trace" → ((o : TraceOptions) → HoldsTrace rows o → ⊥) → (o : Options) → HoldsNamed name rows o → ⊥
+no_trace name rows is none (Trace o) holds = none o holds.held
+no_trace name rows is none other holds = apart (codes "trace") (name_of other) refl (sym is ∙ holds.named)
+
+pub finds_trace : (name : Text) (rows : List Row) (r : Result TraceOptions UsageFault) (found : Result Options UsageFault) → name ≡ codes "trace" → Finds r (HoldsTrace rows)
+    → MatchResult r (λ o. IsOkAnd found (λ given. given ≡ Trace o)) (λ fault. found ≡ Err fault) → Finds found (HoldsNamed name rows)
+finds_trace name rows r found is = finds_named (HoldsTrace rows) Trace name rows r found (λ o holds. record { named = is; held = holds }) (no_trace name rows is)
+
 no_film : (name : Text) (rows : List Row) → name ≡ codes "film" → ((o : FilmOptions) → HoldsFilm rows o → ⊥) → (o : Options) → HoldsNamed name rows o → ⊥
 no_film name rows is none (Film o) holds = none o holds.held
 no_film name rows is none other holds = apart (codes "film") (name_of other) refl (sym is ∙ holds.named)
@@ -265,18 +291,21 @@ pub finds_explanation : (name : Text) (rows : List Row) (r : Result ExplainOptio
     → MatchResult r (λ o. IsOkAnd found (λ given. given ≡ Explain o)) (λ fault. found ≡ Err fault) → Finds found (HoldsNamed name rows)
 finds_explanation name rows r found is = finds_named (HoldsExplain rows) Explain name rows r found (λ o holds. record { named = is; held = holds }) (no_explanation name rows is)
 
-pub other_name : (name : Text) (rows : List Row) → (name ≡ codes "run" → ⊥) → (name ≡ codes "replay" → ⊥) → (name ≡ codes "explore" → ⊥) → (name ≡ codes "film" → ⊥) → (name ≡ codes "asm" → ⊥)
+pub other_name : (name : Text) (rows : List Row) → (name ≡ codes "run" → ⊥) → (name ≡ codes "replay" → ⊥) → (name ≡ codes "explore" → ⊥) → (name ≡ codes "check" → ⊥) → (name ≡ codes "why" → ⊥) → (name ≡ codes "trace" → ⊥) → (name ≡ codes "film" → ⊥) → (name ≡ codes "asm" → ⊥)
     → (name ≡ codes "dis" → ⊥) → (name ≡ codes "debug" → ⊥) → (name ≡ codes "explain" → ⊥) → (name ≡ codes "version" → ⊥)
     → (o : Options) → HoldsNamed name rows o → ⊥
-other_name name rows run replay explore film asm dis debug explain version (Run o) holds = run holds.named
-other_name name rows run replay explore film asm dis debug explain version (Replay o) holds = replay holds.named
-other_name name rows run replay explore film asm dis debug explain version (Explore o) holds = explore holds.named
-other_name name rows run replay explore film asm dis debug explain version (Film o) holds = film holds.named
-other_name name rows run replay explore film asm dis debug explain version (Assemble o) holds = asm holds.named
-other_name name rows run replay explore film asm dis debug explain version (Disassemble o) holds = dis holds.named
-other_name name rows run replay explore film asm dis debug explain version (Debug o) holds = debug holds.named
-other_name name rows run replay explore film asm dis debug explain version (Explain o) holds = explain holds.named
-other_name name rows run replay explore film asm dis debug explain version Version holds = version holds.named
+other_name name rows run replay explore check why trace film asm dis debug explain version (Run o) holds = run holds.named
+other_name name rows run replay explore check why trace film asm dis debug explain version (Replay o) holds = replay holds.named
+other_name name rows run replay explore check why trace film asm dis debug explain version (Explore o) holds = explore holds.named
+other_name name rows run replay explore check why trace film asm dis debug explain version (Check o) holds = check holds.named
+other_name name rows run replay explore check why trace film asm dis debug explain version (Why o) holds = why holds.named
+other_name name rows run replay explore check why trace film asm dis debug explain version (Trace o) holds = trace holds.named
+other_name name rows run replay explore check why trace film asm dis debug explain version (Film o) holds = film holds.named
+other_name name rows run replay explore check why trace film asm dis debug explain version (Assemble o) holds = asm holds.named
+other_name name rows run replay explore check why trace film asm dis debug explain version (Disassemble o) holds = dis holds.named
+other_name name rows run replay explore check why trace film asm dis debug explain version (Debug o) holds = debug holds.named
+other_name name rows run replay explore check why trace film asm dis debug explain version (Explain o) holds = explain holds.named
+other_name name rows run replay explore check why trace film asm dis debug explain version Version holds = version holds.named
 
 -- ---- the words
 

@@ -7,13 +7,15 @@ use Rattle.jm_explain.specs.Items.{Item, is_of, item}
 use Rattle.jm_explain.specs.Table.{items}
 use Rattle.jm_options.specs.CommandLine.{jm}
 use Rattle.jm_options.specs.declared.request.Options.{Options}
-use Rattle.jm_options.specs.declared.request.Options.TheVariants.{Run, Replay, Explore, Film, Assemble, Disassemble, Debug, Explain, Version}
+use Rattle.jm_options.specs.declared.request.Options.TheVariants.{Run, Replay, Explore, Check, Why, Trace, Film, Assemble, Disassemble, Debug, Explain, Version}
 use Rattle.jm_options.specs.declared.request.RunOptions.{RunOptions}
 use Rattle.jm_options.specs.declared.request.Stress.{Stress}
 use Rattle.jm_options.specs.declared.request.Stress.TheVariants.{Minor, Full}
 use Rattle.jm_options.specs.declared.request.ReplayOptions.{ReplayOptions}
 use Rattle.jm_options.specs.declared.request.ExploreOptions.{ExploreOptions}
+use Rattle.jm_options.specs.declared.request.CheckOptions.{CheckOptions}
 use Rattle.jm_options.specs.declared.request.SerialRun.{SerialRun}
+use Rattle.jm_options.specs.declared.request.TraceOptions.{TraceOptions}
 use Rattle.jm_options.specs.declared.request.FilmOptions.{FilmOptions}
 use Rattle.jm_options.specs.declared.request.AssembleOptions.{AssembleOptions}
 use Rattle.jm_options.specs.declared.request.DisassembleOptions.{DisassembleOptions}
@@ -98,6 +100,17 @@ pub record HoldsExplore (matches : List Row) (o : ExploreOptions) : Type 0 where
   pub heap : HoldsNumber (codes "heap") 16 16777216 matches o.heap
   pub files : all_of (codes "file") matches ≡ Some (map string_bytes o.files.items)
 
+-- the options are what the matches of a check hold
+pub record HoldsCheck (matches : List Row) (o : CheckOptions) : Type 0 where
+  pub files : all_of (codes "file") matches ≡ Some (map string_bytes o.files.items)
+
+-- the options are what the matches of a trace hold, and within the limits
+pub record HoldsTrace (matches : List Row) (o : TraceOptions) : Type 0 where
+  pub serial : HoldsSerialRun 10000000 matches o.run
+  pub thread : MayHoldNumber (codes "thread") 1 10000000 matches o.thread
+  pub first : HoldsNumber (codes "from") 1 10000000 matches o.first
+  pub most : HoldsNumber (codes "most") 1 10000000 matches o.most
+
 -- the options are what the matches of a film hold, and within the limits
 pub record HoldsFilm (matches : List Row) (o : FilmOptions) : Type 0 where
   pub serial : HoldsSerialRun 10000 matches o.run
@@ -141,6 +154,9 @@ abbrev pub name_of : Options → Text
 name_of (Run o) = codes "run"
 name_of (Replay o) = codes "replay"
 name_of (Explore o) = codes "explore"
+name_of (Check o) = codes "check"
+name_of (Why o) = codes "why"
+name_of (Trace o) = codes "trace"
 name_of (Film o) = codes "film"
 name_of (Assemble o) = codes "asm"
 name_of (Disassemble o) = codes "dis"
@@ -153,6 +169,9 @@ abbrev pub HoldsOptions : List Row → Options → Type 0
 HoldsOptions matches (Run o) = HoldsRun matches o
 HoldsOptions matches (Replay o) = HoldsReplay matches o
 HoldsOptions matches (Explore o) = HoldsExplore matches o
+HoldsOptions matches (Check o) = HoldsCheck matches o
+HoldsOptions matches (Why o) = HoldsSerialRun 10000000 matches o
+HoldsOptions matches (Trace o) = HoldsTrace matches o
 HoldsOptions matches (Film o) = HoldsFilm matches o
 HoldsOptions matches (Assemble o) = HoldsAssemble matches o
 HoldsOptions matches (Disassemble o) = HoldsDisassemble matches o

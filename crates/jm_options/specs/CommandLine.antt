@@ -144,6 +144,22 @@ bounds_options = with_rule (with_rule (with_rule (with_rule (new_app (codes "exp
 abbrev pub explore_command : App
 explore_command = with_rule (with_rule (with_rule bounds_options outcome_argument) heap_argument) file_argument
 
+-- check FILE..
+abbrev pub check_command : App
+check_command = with_rule (new_app (codes "check")) file_argument
+
+-- why [--heap N] [--copiers N] [--schedule FILE] [--steps N] [--quantum N] FILE..
+abbrev pub why_command : App
+why_command = with_rule (with_turns steps_argument (new_app (codes "why"))) file_argument
+
+-- --thread T: a thread's number, which may be left out
+abbrev pub thread_argument : Rule
+thread_argument = record (new_rule (codes "thread")) {
+  long = Some (codes "thread");
+  value_names = 1;
+  parser = Some (vp.Signed (pos 1) (pos 10000000));
+}
+
 -- --from N: the number of an event, 1 where it is left out
 abbrev pub from_argument : Rule
 from_argument = record (new_rule (codes "from")) {
@@ -152,6 +168,19 @@ from_argument = record (new_rule (codes "from")) {
   defaults = codes "1" ∷ [];
   parser = Some (vp.Signed (pos 1) (pos 10000000));
 }
+
+-- --most N: a number of events, 10,000,000 where it is left out
+abbrev pub most_argument : Rule
+most_argument = record (new_rule (codes "most")) {
+  long = Some (codes "most");
+  value_names = 1;
+  defaults = codes "10000000" ∷ [];
+  parser = Some (vp.Signed (pos 1) (pos 10000000));
+}
+
+-- trace [--thread T] [--from N] [--most N] [--heap N] [--copiers N] [--schedule FILE] [--steps N] [--quantum N] FILE..
+abbrev pub trace_command : App
+trace_command = with_rule (with_turns steps_argument (with_rule (with_rule (with_rule (new_app (codes "trace")) thread_argument) from_argument) most_argument)) file_argument
 
 -- --steps N of a film: a number of events, 2,000 where it is left out
 abbrev pub film_steps_argument : Rule
@@ -220,7 +249,7 @@ on_programs = with_subcommand (with_subcommand (with_subcommand top_command run_
 
 -- the subcommands that tell of a program
 abbrev pub on_tellings : App
-on_tellings = with_subcommand on_programs film_command.top
+on_tellings = with_subcommand (with_subcommand (with_subcommand (with_subcommand on_programs check_command.top) why_command.top) trace_command.top) film_command.top
 
 -- the subcommands that take files
 abbrev pub on_files : App

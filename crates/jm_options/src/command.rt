@@ -2,7 +2,7 @@
 
 ghost use Rattle.std.specs.Prelude.{◌≡◌, false, IfOk};
 ghost use Rattle.clap.specs.Words.{App, Rule, new_app, rule_of, with_rule, with_subcommand};
-ghost use Rattle.jm_options.specs.CommandLine.{with_turns, heap_argument, copiers_argument, schedule_argument, steps_argument, quantum_argument, workers_argument, stress_argument, record_argument, show_heap_argument, file_argument, run_command, recorded_argument, replay_command, switches_argument, schedule_steps_argument, runs_argument, slice_argument, outcome_argument, explore_command, from_argument, film_steps_argument, source_argument, film_command, input_argument, output_argument, assemble_command, bare_argument, class_argument, disassemble_command, debug_command, number_argument, explain_command, version_command, top_command, jm, IsSeenAs};
+ghost use Rattle.jm_options.specs.CommandLine.{with_turns, heap_argument, copiers_argument, schedule_argument, steps_argument, quantum_argument, workers_argument, stress_argument, record_argument, show_heap_argument, file_argument, run_command, recorded_argument, replay_command, switches_argument, schedule_steps_argument, runs_argument, slice_argument, outcome_argument, explore_command, check_command, why_command, thread_argument, from_argument, most_argument, trace_command, film_steps_argument, source_argument, film_command, input_argument, output_argument, assemble_command, bare_argument, class_argument, disassemble_command, debug_command, number_argument, explain_command, version_command, top_command, jm, IsSeenAs};
 
 use clap::{Arg, ArgAction, Command, value_parser};
 use std::alloc::{AllocError, Global};
@@ -300,6 +300,42 @@ fn explore_command<'a>(alloc: Global) -> Result<Command<'a>, AllocError>
     with_argument(explore, file_argument(alloc))
 }
 
+fn check_command<'a>(alloc: Global) -> Result<Command<'a>, AllocError>
+    ensures { IfOk result (λ c. IsSeenAs c check_command) }
+{
+    let check = new_command(
+        alloc,
+        "check",
+        "Say all that is refused and missing in a program's files, without running it",
+        "Example: jm check Main.class Other.class\n\nClass files come from `javac --release 8`. What a number means says `jm explain N`.",
+    );
+    with_argument(Ok(check), file_argument(alloc))
+}
+
+fn why_command<'a>(alloc: Global) -> Result<Command<'a>, AllocError>
+    ensures { IfOk result (λ c. IsSeenAs c why_command) }
+{
+    let why = new_command(
+        alloc,
+        "why",
+        "Run a program again without its output, and say how the run ended, and where",
+        "Example: jm why Main.class Other.class\n\nClass files come from `javac --release 8`. What a number means says `jm explain N`.",
+    );
+    let why = with_turns(alloc, Ok(why), steps_argument(alloc));
+    with_argument(why, file_argument(alloc))
+}
+
+fn thread_argument<'a>(alloc: Global) -> Arg<'a>
+    ensures rule { rule_of result ≡ thread_argument }
+    ensures local { result.global ≡ false }
+{
+    Arg::new(alloc, "thread")
+        .long("thread")
+        .value_name("T")
+        .value_parser(value_parser!(u32).range(1..=10_000_000))
+        .help("Show the events of the thread of this number alone, from 1 to 10000000")
+}
+
 fn from_argument<'a>(alloc: Global) -> Arg<'a>
     ensures rule { rule_of result ≡ from_argument }
     ensures local { result.global ≡ false }
@@ -310,6 +346,34 @@ fn from_argument<'a>(alloc: Global) -> Arg<'a>
         .value_parser(value_parser!(u32).range(1..=10_000_000))
         .default_value("1")
         .help("Number of the first event that is shown, from 1 to 10000000")
+}
+
+fn most_argument<'a>(alloc: Global) -> Arg<'a>
+    ensures rule { rule_of result ≡ most_argument }
+    ensures local { result.global ≡ false }
+{
+    Arg::new(alloc, "most")
+        .long("most")
+        .value_name("N")
+        .value_parser(value_parser!(u32).range(1..=10_000_000))
+        .default_value("10000000")
+        .help("Most events that are shown, from 1 to 10000000")
+}
+
+fn trace_command<'a>(alloc: Global) -> Result<Command<'a>, AllocError>
+    ensures { IfOk result (λ c. IsSeenAs c trace_command) }
+{
+    let trace = new_command(
+        alloc,
+        "trace",
+        "Run a program again without its output, and show each event in a line",
+        "Example: jm trace --thread 1 --most 20 Main.class Other.class\n\nClass files come from `javac --release 8`. What a number means says `jm explain N`.",
+    );
+    let trace = with_argument(Ok(trace), thread_argument(alloc));
+    let trace = with_argument(trace, from_argument(alloc));
+    let trace = with_argument(trace, most_argument(alloc));
+    let trace = with_turns(alloc, trace, steps_argument(alloc));
+    with_argument(trace, file_argument(alloc))
 }
 
 fn film_steps_argument<'a>(alloc: Global) -> Arg<'a>
@@ -481,6 +545,9 @@ pub fn command<'a>(alloc: Global) -> Result<Command<'a>, AllocError>
     let jm = with_command(Ok(top_command(alloc)), run_command(alloc));
     let jm = with_command(jm, replay_command(alloc));
     let jm = with_command(jm, explore_command(alloc));
+    let jm = with_command(jm, check_command(alloc));
+    let jm = with_command(jm, why_command(alloc));
+    let jm = with_command(jm, trace_command(alloc));
     let jm = with_command(jm, film_command(alloc));
     let jm = with_command(jm, assemble_command(alloc));
     let jm = with_command(jm, disassemble_command(alloc));

@@ -5,6 +5,9 @@
 //! `jm run [--heap N] [--copiers N] [--schedule FILE] [--steps N] [--quantum N] [--workers N] [--stress minor|full] [--record FILE] [--show-heap] FILE...`,
 //! `jm replay [--heap N] [--copiers N] [--show-heap] RECORD FILE...`,
 //! `jm explore [--switches N] [--steps N] [--runs N] [--slice N] [--outcome N] [--heap N] FILE...`,
+//! `jm check FILE...`,
+//! `jm why [--heap N] [--copiers N] [--schedule FILE] [--steps N] [--quantum N] FILE...`,
+//! `jm trace [--thread T] [--from N] [--most N] [--heap N] [--copiers N] [--schedule FILE] [--steps N] [--quantum N] FILE...`,
 //! `jm film [--from N] [--heap N] [--copiers N] [--schedule FILE] [--steps N] [--quantum N] [--source DIR] FILE...`,
 //! `jm asm IN OUT`, where OUT is another word than IN, `jm dis [--bare] FILE`,
 //! `jm debug [--heap N] [--copiers N] FILE...`, `jm explain [N]`, where N is a number that `jm_explain` tells of, and
@@ -22,9 +25,9 @@ mod words;
 
 pub use fault::UsageFault;
 pub use request::{
-    AssembleOptions, DebugOptions, DisassembleOptions, ExplainOptions, ExploreOptions, FilmOptions,
-    MAX_COPIERS, MAX_EVENTS, MAX_FILM_STEPS, MAX_HEAP, MAX_QUANTUM, MAX_RUNS, MAX_SCHEDULE_STEPS,
-    MAX_SLICE, MAX_STEPS, MAX_SWITCHES, MAX_WORKERS, MIN_HEAP, Options, ReplayOptions, RunOptions,
-    SerialRun, Stress,
+    AssembleOptions, CheckOptions, DebugOptions, DisassembleOptions, ExplainOptions,
+    ExploreOptions, FilmOptions, MAX_COPIERS, MAX_EVENTS, MAX_FILM_STEPS, MAX_HEAP, MAX_QUANTUM,
+    MAX_RUNS, MAX_SCHEDULE_STEPS, MAX_SLICE, MAX_STEPS, MAX_SWITCHES, MAX_WORKERS, MIN_HEAP,
+    Options, ReplayOptions, RunOptions, SerialRun, Stress, TraceOptions,
 };
 pub use words::options;

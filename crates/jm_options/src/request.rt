@@ -45,6 +45,12 @@ pub enum Options {
     Replay(ReplayOptions),
     /// `jm explore`: to try the schedules of a program.
     Explore(ExploreOptions),
+    /// `jm check`: to say all that is refused and missing in the files of a program.
+    Check(CheckOptions),
+    /// `jm why`: to say how a run ended, and where.
+    Why(SerialRun),
+    /// `jm trace`: to show the events of a run, a line each.
+    Trace(TraceOptions),
     /// `jm film`: to write the events of a run as a page.
     Film(FilmOptions),
     /// `jm asm`: to assemble a text into a class file.
@@ -134,6 +140,14 @@ pub struct ExploreOptions {
     pub files: Vec<String>,
 }
 
+/// What `jm check` is given.
+#[derive(Drop)]
+pub struct CheckOptions {
+    /// The files of the classes, the main class's first: a class file, or the text of a class if its
+    /// name ends in `.j`.
+    pub files: Vec<String>,
+}
+
 /// How a program is run by one worker.
 #[derive(Drop)]
 pub struct SerialRun {
@@ -150,6 +164,20 @@ pub struct SerialRun {
     /// The files of the classes, the main class's first: a class file, or the text of a class if its
     /// name ends in `.j`.
     pub files: Vec<String>,
+}
+
+/// What `jm trace` is given.
+#[derive(Drop)]
+pub struct TraceOptions {
+    /// The run whose events are shown.
+    pub run: SerialRun,
+    /// The number of the thread whose events alone are shown, from 1 to [`MAX_EVENTS`]; `None` where
+    /// those of all are.
+    pub thread: Option<u32>,
+    /// The number of the first event that is shown, from 1 to [`MAX_EVENTS`].
+    pub first: u32,
+    /// The most events that are shown, from 1 to [`MAX_EVENTS`].
+    pub most: u32,
 }
 
 /// What `jm film` is given.

@@ -3,14 +3,15 @@
 ghost use Rattle.std.specs.Prelude.{◌≡◌, MatchOption, map};
 ghost use Rattle.clap.specs.Words.{found_of, rows_of, subcommand_rows_of};
 ghost use Rattle.jm_explain.specs.Items.{Item, item};
-ghost use Rattle.jm_options.specs.Asked.{Answers, Finds, Holds, HoldsAssemble, HoldsDebug, HoldsDisassemble, HoldsEntry, HoldsExplain, HoldsExplore, HoldsFilm, HoldsNamed, HoldsReplay, HoldsRun, HoldsSerialRun};
+ghost use Rattle.jm_options.specs.Asked.{Answers, Finds, Holds, HoldsAssemble, HoldsCheck, HoldsDebug, HoldsDisassemble, HoldsEntry, HoldsExplain, HoldsExplore, HoldsFilm, HoldsNamed, HoldsReplay, HoldsRun, HoldsSerialRun, HoldsTrace};
 
 use crate::command::command;
 use crate::fault::UsageFault;
 use crate::request::{
-    AssembleOptions, DebugOptions, DisassembleOptions, ExplainOptions, ExploreOptions, FilmOptions,
-    MAX_EVENTS, MAX_FILM_STEPS, MAX_QUANTUM, MAX_RUNS, MAX_SCHEDULE_STEPS, MAX_SLICE, MAX_STEPS,
-    MAX_SWITCHES, MAX_WORKERS, Options, ReplayOptions, RunOptions, SerialRun,
+    AssembleOptions, CheckOptions, DebugOptions, DisassembleOptions, ExplainOptions,
+    ExploreOptions, FilmOptions, MAX_EVENTS, MAX_FILM_STEPS, MAX_QUANTUM, MAX_RUNS,
+    MAX_SCHEDULE_STEPS, MAX_SLICE, MAX_STEPS, MAX_SWITCHES, MAX_WORKERS, Options, ReplayOptions,
+    RunOptions, SerialRun, TraceOptions,
 };
 use crate::usage::{nothing_asked, one_file, refusal, unknown_number};
 use crate::values::{
@@ -77,6 +78,25 @@ fn explore_options(alloc: Global, matches: &ArgMatches<'_>) -> Result<ExploreOpt
         outcome: number_given(alloc, matches, "outcome", 1, MAX_RUNS)?,
         heap: heap_asked(alloc, matches)?,
         files: files_asked(alloc, matches)?,
+    })
+}
+
+fn check_options(alloc: Global, matches: &ArgMatches<'_>) -> Result<CheckOptions, UsageFault>
+    ensures { Finds result (HoldsCheck (rows_of (found_of matches.now))) }
+{
+    Ok(CheckOptions {
+        files: files_asked(alloc, matches)?,
+    })
+}
+
+fn trace_options(alloc: Global, matches: &ArgMatches<'_>) -> Result<TraceOptions, UsageFault>
+    ensures { Finds result (HoldsTrace (rows_of (found_of matches.now))) }
+{
+    Ok(TraceOptions {
+        run: serial_run(alloc, matches, MAX_STEPS)?,
+        thread: number_given(alloc, matches, "thread", 1, MAX_EVENTS)?,
+        first: number_asked(alloc, matches, "from", 1, MAX_EVENTS)?,
+        most: number_asked(alloc, matches, "most", 1, MAX_EVENTS)?,
     })
 }
 
@@ -159,6 +179,9 @@ fn named_options(alloc: Global, name: &str, matches: &ArgMatches<'_>) -> Result<
         "run" => run_options(alloc, matches).map(Options::Run),
         "replay" => replay_options(alloc, matches).map(Options::Replay),
         "explore" => explore_options(alloc, matches).map(Options::Explore),
+        "check" => check_options(alloc, matches).map(Options::Check),
+        "why" => serial_run(alloc, matches, MAX_STEPS).map(Options::Why),
+        "trace" => trace_options(alloc, matches).map(Options::Trace),
         "film" => film_options(alloc, matches).map(Options::Film),
         "asm" => assemble_options(alloc, matches).map(Options::Assemble),
         "dis" => disassemble_options(alloc, matches).map(Options::Disassemble),

@@ -7,4 +7,5 @@ mod explorations;
 mod films;
 mod readers;
 mod status;
+mod traces;
 mod writers;

@@ -4,7 +4,7 @@ use super::words::words_of;
 use crate::table::row_of;
 use jm_options::{
     ExplainOptions, ExploreOptions, FilmOptions, Options, ReplayOptions, RunOptions, SerialRun,
-    Stress, options,
+    Stress, TraceOptions, options,
 };
 use std::alloc::Global;
 use std::test::Fail;
@@ -47,6 +47,15 @@ jm|explore|Main.class => exploration of Main.class by 2 switches, 10000 steps, 1
 jm|explore|--switches=0|--steps|1|A.j|--runs=1|--slice|1|--heap=16|B.j => exploration of A.j, B.j by 0 switches, 1 steps, 1 runs, slices of 1 with 16
 jm|explore|--switches|16|--steps=1000000|--runs=100000000|--slice=1000000|--outcome|100000000|A.j => exploration of A.j by 16 switches, 1000000 steps, 100000000 runs, slices of 1000000 with 65536, outcome 100000000
 jm|explore|--outcome=1|explore|--|--heap => exploration of explore, --heap by 2 switches, 10000 steps, 1000000 runs, slices of 1000 with 65536, outcome 1
+jm|check|Main.class => check of Main.class
+jm|check|A.j|B.class|--|--heap => check of A.j, B.class, --heap
+jm|check|check => check of check
+jm|why|Main.class => end of Main.class by 1000000 steps in turns of 1 with 65536
+jm|why|--steps=10000000|--quantum|5|--heap=16|A.j|B.class|--copiers=2 => end of A.j, B.class by 10000000 steps in turns of 5 with 16 by 2 copiers
+jm|why|--schedule=s.txt|why => end of why by s.txt with 65536
+jm|trace|Main.class => trace of Main.class by 1000000 steps in turns of 1 with 65536 from 1, 10000000 at most
+jm|trace|--thread|10000000|--from=10000000|--most=1|--heap=16|A.j|--copiers=2 => trace of A.j by 1000000 steps in turns of 1 with 16 by 2 copiers from 10000000, 1 at most, of thread 10000000
+jm|trace|--schedule=s.txt|--steps=1|trace => trace of trace by s.txt with 65536 from 1, 10000000 at most
 jm|film|Main.class => film of Main.class by 2000 steps in turns of 1 with 65536 from 1
 jm|film|--from=10000000|--steps=10000|--quantum|5|--heap=16|A.j|B.class|--copiers=2 => film of A.j, B.class by 10000 steps in turns of 5 with 16 by 2 copiers from 10000000
 jm|film|--source|src|--schedule=s.txt|film => film of film by s.txt with 65536 from 1 beside src
@@ -172,6 +181,16 @@ fn serial_text(alloc: Global, run: &SerialRun) -> Result<String, Fail> {
     }
 }
 
+fn trace_text(alloc: Global, trace: &TraceOptions) -> Result<String, Fail> {
+    let run = serial_text(alloc, &trace.run)?;
+    let (first, most) = (trace.first, trace.most);
+    let text = format!(in alloc; "trace of {run} from {first}, {most} at most")?;
+    match trace.thread {
+        Some(thread) => Ok(format!(in alloc; "{text}, of thread {thread}")?),
+        None => Ok(text),
+    }
+}
+
 fn film_text(alloc: Global, film: &FilmOptions) -> Result<String, Fail> {
     let (run, first) = (serial_text(alloc, &film.run)?, film.first);
     match &film.source {
@@ -196,6 +215,15 @@ fn text_of(alloc: Global, asked: &Options) -> Result<String, Fail> {
         Options::Run(run) => run_text(alloc, run),
         Options::Replay(replay) => replay_text(alloc, replay),
         Options::Explore(explore) => explore_text(alloc, explore),
+        Options::Check(check) => {
+            let files = list_of(alloc, &check.files)?;
+            Ok(format!(in alloc; "check of {files}")?)
+        }
+        Options::Why(run) => {
+            let run = serial_text(alloc, run)?;
+            Ok(format!(in alloc; "end of {run}")?)
+        }
+        Options::Trace(trace) => trace_text(alloc, trace),
         Options::Film(film) => film_text(alloc, film),
         Options::Assemble(files) => {
             let (input, output) = (&files.input, &files.output);
@@ -230,6 +258,6 @@ fn words_ask_for_this(rt: HostRuntime) -> Result<(), Fail> {
         let answer = answer(rt.alloc(), words)?;
         assert!(rt; answer.as_str() == want, "{row}");
     }
-    assert!(rt; ASKED.lines().count() == 61);
+    assert!(rt; ASKED.lines().count() == 70);
     Ok(())
 }

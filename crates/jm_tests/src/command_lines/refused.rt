@@ -69,6 +69,18 @@ jm explore --outcome x A.class => 1 error: invalid value 'x' for '--outcome <N>'
 jm explore --schedule s A.class => 1 error: unexpected argument '--schedule' found
 jm explore --quantum 2 A.class => 1 error: unexpected argument '--quantum' found
 jm explore --show-heap A.class => 1 error: unexpected argument '--show-heap' found
+jm check => 1 error: the following required arguments were not provided:
+jm check --help => 1 Say all that is refused and missing in a program's files, without running it
+jm check --heap 16 A.class => 1 error: unexpected argument '--heap' found
+jm why => 1 error: the following required arguments were not provided:
+jm why --help => 1 Run a program again without its output, and say how the run ended, and where
+jm why --steps 0 A.class => 1 error: invalid value '0' for '--steps <N>': 0 is not in 1..=10000000
+jm why --workers 2 A.class => 1 error: unexpected argument '--workers' found
+jm trace => 1 error: the following required arguments were not provided:
+jm trace --help => 1 Run a program again without its output, and show each event in a line
+jm trace --thread 0 A.class => 1 error: invalid value '0' for '--thread <T>': 0 is not in 1..=10000000
+jm trace --most=10000001 A.class => 1 error: invalid value '10000001' for '--most <N>': 10000001 is not in 1..=10000000
+jm trace --from 1 --from 2 A.class => 1 error: the argument '--from <N>' cannot be used multiple times
 jm film => 1 error: the following required arguments were not provided:
 jm film --help => 1 Write the events of a run as a page to look at in a browser
 jm film --from 0 A.class => 1 error: invalid value '0' for '--from <N>': 0 is not in 1..=10000000
@@ -136,6 +148,13 @@ jm --help =>   explore  Try every schedule of a program up to so many switches, 
 jm explore -h => Usage: jm explore [OPTIONS] <FILE>...
 jm explore -h => Example: jm explore --switches 2 Main.class Other.class
 jm explore -h => [default: 10000]
+jm --help =>   check    Say all that is refused and missing in a program's files, without running it
+jm --help =>   why      Run a program again without its output, and say how the run ended, and where
+jm --help =>   trace    Run a program again without its output, and show each event in a line
+jm check -h => Example: jm check Main.class Other.class
+jm why -h => Example: jm why Main.class Other.class
+jm trace -h => Example: jm trace --thread 1 --most 20 Main.class Other.class
+jm trace -h => [default: 10000000]
 jm --help =>   film     Write the events of a run as a page to look at in a browser
 jm film -h => Usage: jm film [OPTIONS] <FILE>...
 jm film -h => Example: jm film Main.class Other.class > page.html
@@ -204,7 +223,7 @@ fn refusals_name_the_word(rt: HostRuntime) -> Result<(), Fail> {
         let said = first_line(rt.alloc(), words)?;
         assert!(rt; said.as_str() == want, "{row}");
     }
-    assert!(rt; REFUSED.lines().count() == 119);
+    assert!(rt; REFUSED.lines().count() == 131);
     Ok(())
 }
 
@@ -222,7 +241,7 @@ fn refusals_say_what_to_write(rt: HostRuntime) -> Result<(), Fail> {
         let (words, part) = row_of(row)?;
         assert!(rt; says(rt.alloc(), words, part)?, "{row}");
     }
-    assert!(rt; PARTS.lines().count() == 53);
+    assert!(rt; PARTS.lines().count() == 60);
     Ok(())
 }
 

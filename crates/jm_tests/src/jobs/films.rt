@@ -1,7 +1,7 @@
 // A run as a page. What the pages of six programs hold and draw is compared with the debugger by `bench/film`.
 
 use super::writers::{FIVE, Narrow, file, writer};
-use jm_execute::{FilmEvents, FilmJob, Status, Watched, film, so_many_copiers};
+use jm_execute::{FilmJob, Status, ToldEvents, ToldJob, Watched, film, so_many_copiers};
 use jm_film_run::Window;
 use jm_schedule::round_robin;
 use std::alloc::{AllocError, Global};
@@ -12,12 +12,15 @@ use std::thread::Threads;
 
 // The run by turns of a text's class: so many events are not shown, and at most so many are.
 fn film_job(alloc: Global, text: &str, from: u32, steps: u32) -> Result<FilmJob, AllocError> {
-    Ok(FilmJob {
+    let run = ToldJob {
         heap: 100,
         copiers: so_many_copiers(1),
-        events: FilmEvents::RoundRobin(round_robin(100, 1)),
-        window: Window { from, steps },
+        events: ToldEvents::RoundRobin(round_robin(100, 1)),
         program: vec![in alloc; file(alloc, text)?]?,
+    };
+    Ok(FilmJob {
+        run,
+        window: Window { from, steps },
         sources: Vec::new(alloc),
     })
 }

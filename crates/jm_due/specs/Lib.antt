@@ -1,0 +1,2 @@
+-- The events that are due behind some of them.
+pub mod Due

@@ -1,0 +1,1 @@
+class Bool { public static void main(String[] a) { System.out.println(true); } }

@@ -1,0 +1,11 @@
+-- Nothing is written to the output.
+use Rattle.std.proofs.Common.{[], inl, refl}
+use Rattle.jm_execute.specs.Refusals.{reason_of}
+use Rattle.jm_execute.specs.Tellings.{cut_short, turned_away}
+use Rattle.jm_execute.proofs.told_run.tell_untold.Goals as goal
+
+pub returns-in-Refused : goal.returns-in-Refused
+returns-in-Refused g c = λ tells v hinders. (turned_away (reason_of c.in-Refused.refusal), rw c.in-Refused.is at hinders, refl, c.tell_refusal.ensures)
+
+pub returns-in-OutOfMemory : goal.returns-in-OutOfMemory
+returns-in-OutOfMemory g c = λ tells v hinders. (cut_short [], inl refl, refl, c.tell_exhausted.ensures)

@@ -1,0 +1,169 @@
+// What is told of a run: the text, its lines, its status.
+
+ghost use Rattle.std.specs.Prelude.{◌≡◌, ℕ, [], List, Ok, OnOk, Result, Some, false};
+ghost use Rattle.jm_machine.specs.View.{MatchesWorld};
+ghost use Rattle.jm_world.specs.Loading.{loaded_world};
+ghost use Rattle.jm_world.specs.World.{World};
+ghost use Rattle.jm_execute.specs.Reasons.{reason_line, reason_status};
+ghost use Rattle.jm_execute.specs.Refusals.{Hinders, reason_of};
+ghost use Rattle.jm_execute.specs.Reports.{failure_line, report, status_of};
+ghost use Rattle.jm_execute.specs.Sources.{events_made};
+ghost use Rattle.jm_execute.specs.Tellings.{IsTold, Says, SaysEnding, Telling, TellingAllows, TellingEnding, TextTold, ToldRun, telling_output, told_run, told_verdict};
+ghost use Rattle.jm_execute.specs.Verdicts.{Cause};
+ghost use Rattle.jm_execute.specs.Written.{words};
+ghost use Rattle.jm_program.specs.declared.class.ClassParts.{ClassParts};
+
+use crate::copiers::job_collector;
+use crate::ends::status_of;
+use crate::events::RunSource;
+use crate::execution::tell_exhausted;
+use crate::refusal::{Obstacle, Refusal};
+use crate::report::write_report;
+use crate::status::Status;
+use crate::teller::Teller;
+use crate::told_job::ToldJob;
+use crate::told_preparation::prepare_told;
+use crate::watchable::Watchable;
+use crate::watched::Watched;
+use jm_due::{EventsDue, Scheduled, Turns};
+use jm_heap::Heap;
+use jm_machine::Machine;
+use jm_page::PageFault;
+use std::alloc::Global;
+use std::thread::Threads;
+
+// Tells why there is no run.
+fn tell_refusal<E: Watchable>(refusal: Refusal<'_>, err: &mut Watched<E>) -> Status
+    requires { err.old.failed ≡ false }
+    ensures { Says (words E.contents E.ends) (reason_status (reason_of refusal.entry)) (reason_line (reason_of refusal.entry)) result err.old err.new }
+{
+    let status = refusal.status();
+    let _told = err.write_line(refusal);
+    status
+}
+
+// Tells what keeps a run from being made. Nothing is written to the output.
+fn tell_untold<E: Watchable>(obstacle: Obstacle<'_>, err: &mut Watched<E>) -> Status
+    requires { err.old.failed ≡ false }
+    ensures { (tells : Telling) (v : Result ToldRun Cause) → Hinders v obstacle.entry
+        → (e : TellingEnding) × TellingAllows tells v e × (telling_output tells e ≡ []) × SaysEnding (words E.contents E.ends) tells e result err.old err.new }
+{
+    match obstacle {
+        Obstacle::Refused(refusal) => tell_refusal(refusal, err),
+        Obstacle::OutOfMemory => tell_exhausted(err),
+    }
+}
+
+// Tells that a write of the text failed.
+fn tell_broken<E: Watchable>(err: &mut Watched<E>) -> Status
+    requires { err.old.failed ≡ false }
+    ensures { Says (words E.contents E.ends) Status.Files (Some failure_line) result err.old err.new }
+{
+    let _told = err.write_line("jm: write failed");
+    Status::Files
+}
+
+// Tells of a run whose events were all made.
+fn tell_last<H: Heap, E: Watchable>(machine: &Machine<H>, err: &mut Watched<E>) -> Status
+    requires { err.old.failed ≡ false }
+    ensures { (w : World) → MatchesWorld machine.now w → Says (words E.contents E.ends) (status_of w) (Some (report w)) result err.old err.new }
+{
+    let _told = write_report(machine, err);
+    status_of(machine)
+}
+
+// Tells of the run whose text was written, or why it was not written whole.
+fn tell_told<H: Heap, E: Watchable>(
+    machine: &Machine<H>,
+    written: Result<(), PageFault>,
+    err: &mut Watched<E>,
+) -> Status
+    requires { err.old.failed ≡ false }
+    ensures { (w : World) → OnOk written (MatchesWorld machine.now w) → TextTold (words E.contents E.ends) written w result err.old err.new }
+{
+    match written {
+        Ok(()) => tell_last(machine, err),
+        Err(PageFault::OutOfMemory) => tell_exhausted(err),
+        Err(PageFault::WriteFailed) => tell_broken(err),
+    }
+}
+
+// Writes what is told of the events that are due while they are made, and tells of the run.
+fn tell_events<T: Teller, H: Heap, S: EventsDue, O: Watchable, E: Watchable>(
+    alloc: Global,
+    machine: &mut Machine<H>,
+    events: &mut S,
+    teller: &T,
+    out: &mut Watched<O>,
+    err: &mut Watched<E>,
+) -> Status
+    requires out { out.old.failed ≡ false }
+    requires err { err.old.failed ≡ false }
+    ensures { (program : List ClassParts) (limit : ℕ) → let w : World = loaded_world program limit in MatchesWorld machine.old w
+        → IsTold (words O.contents O.ends) (words E.contents E.ends) (T.telling teller.now) (Ok (told_run program limit (S.due events.old w))) result out.old out.new err.old err.new }
+{
+    let written = teller.tell(alloc, machine, events, out);
+    tell_told(machine, written, err)
+}
+
+// Tells of the events of a source from a machine's beginning on.
+fn tell_source<T: Teller, H: Heap, O: Watchable, E: Watchable>(
+    alloc: Global,
+    machine: &mut Machine<H>,
+    source: &RunSource,
+    teller: &T,
+    out: &mut Watched<O>,
+    err: &mut Watched<E>,
+) -> Status
+    requires out { out.old.failed ≡ false }
+    requires err { err.old.failed ≡ false }
+    ensures { (program : List ClassParts) (limit : ℕ) → let w : World = loaded_world program limit in MatchesWorld machine.old w
+        → IsTold (words O.contents O.ends) (words E.contents E.ends) (T.telling teller.now) (Ok (told_run program limit (events_made source.now w))) result out.old out.new err.old err.new }
+{
+    match source {
+        RunSource::Schedule(schedule) => {
+            let mut events = Scheduled::new(schedule);
+            tell_events(alloc, machine, &mut events, teller, out, err)
+        }
+        RunSource::RoundRobin(robin) => {
+            let mut events = Turns::new(*robin);
+            tell_events(alloc, machine, &mut events, teller, out, err)
+        }
+    }
+}
+
+/// Makes a run, on this thread, and writes to `out` what a teller tells of it while its events are made.
+/// What the Java program prints is not written. `err` gets a line for each thread that an exception has
+/// ended, and one for the stop or for the threads that have not ended, if any; the status is that of the
+/// run of the events that were made.
+///
+/// A job whose files hold no program, or whose schedule is none, gets a line on `err` that says why,
+/// and writes nothing to `out`. Where a growth was refused, a beginning of the text stands in `out`, or
+/// nothing, `err` gets the line that says so alone, and the status is `OutOfMemory`. Where a write to
+/// `out` fails, a beginning of the text stands in it, `err` gets a line that says so, and the status is
+/// `Files`. A failing `err` changes no status.
+///
+/// The heap is collected by the job's copiers, each in a thread of its own where they are several and
+/// it can be started. What is written does not depend on how many there are.
+pub fn tell_run<T: Teller, W: Threads, O: Watchable, E: Watchable>(
+    rt: &W,
+    alloc: Global,
+    job: &ToldJob,
+    teller: &T,
+    out: &mut Watched<O>,
+    err: &mut Watched<E>,
+) -> Status
+    requires out { out.old.failed ≡ false }
+    requires err { err.old.failed ≡ false }
+    ensures { IsTold (words O.contents O.ends) (words E.contents E.ends) (T.telling teller.now) (told_verdict job.now) result out.old out.new err.old err.new }
+{
+    let collector = job_collector(rt, job.copiers);
+    match prepare_told(alloc, job, collector) {
+        Ok((mut machine, source)) => {
+            let status = tell_source(alloc, &mut machine, &source, teller, out, err);
+            drop(machine);
+            status
+        }
+        Err(obstacle) => tell_untold(obstacle, err),
+    }
+}

@@ -1,0 +1,192 @@
+// The line of an event.
+
+ghost use Rattle.std.specs.Prelude.{◌≡◌, ◌++◌, MatchOption, None, OnOk, Some};
+ghost use Rattle.jm_world.specs.World.{World, thread_at};
+ghost use Rattle.jm_world.specs.declared.event.Event.TheVariants.{Step};
+ghost use Rattle.jm_machine.specs.Readers.{frame_at, pending_of};
+ghost use Rattle.jm_machine.specs.View.{MatchesWorld};
+ghost use Rattle.jm_debug.specs.Texts.{reference_text};
+ghost use Rattle.jm_debug.specs.Views.{object_text};
+ghost use Rattle.jm_trace.specs.EventLines.{event_part, line_before, line_behind, place_part, running_part, standing_part, thread_part, thrown_text};
+
+use crate::doing::{write_place, write_standing};
+use jm_debug::text::KindText;
+use jm_debug::write_type;
+use jm_heap::Heap;
+use jm_machine::{Machine, WorldObject};
+use jm_world::{Event, ReplyKind};
+use std::alloc::{AllocError, Global};
+use std::fmt::Write;
+
+// Writes the number of an object.
+#[tactic(auto, unfolding(jm_debug::specs::Texts::reference_text))]
+fn write_reference(out: &mut String, number: u64) -> Result<(), AllocError>
+    ensures { OnOk result (out.new.bytes.items ≡ out.old.bytes.items ++ reference_text number) }
+{
+    write!(out, "#{number}")
+}
+
+// Writes the number of an object, and its class.
+#[tactic(auto, unfolding(jm_debug::specs::Views::object_text))]
+fn write_object<H: Heap>(
+    alloc: Global,
+    out: &mut String,
+    number: u64,
+    object: &WorldObject<'_, H>,
+) -> Result<(), AllocError>
+    ensures { OnOk result (out.new.bytes.items ≡ out.old.bytes.items ++ object_text number object.now.object) }
+{
+    write_reference(out, number)?;
+    out.push_str(" ")?;
+    write_type(alloc, out, object.kind())
+}
+
+/// Writes an object that is thrown: its number, and its class where it is reachable. `AllocError`: a growth was refused;
+/// a part of it may stand there then. It looks at each reachable object once at most.
+pub fn write_thrown<H: Heap>(
+    alloc: Global,
+    out: &mut String,
+    machine: &Machine<H>,
+    number: u64,
+) -> Result<(), AllocError>
+    ensures { (w : World) → MatchesWorld machine.now w → OnOk result (out.new.bytes.items ≡ out.old.bytes.items ++ thrown_text w number) }
+{
+    match machine.object(number) {
+        Ok(Some(object)) => write_object(alloc, out, number, &object),
+        Ok(None) => write_reference(out, number),
+        Err(_) => Err(AllocError),
+    }
+}
+
+// Writes where a thread stands, if it has a frame.
+fn write_place_part<H: Heap>(
+    out: &mut String,
+    machine: &Machine<H>,
+    thread: u64,
+) -> Result<(), AllocError>
+    ensures { (w : World) → MatchesWorld machine.now w
+        → OnOk result (out.new.bytes.items ≡ out.old.bytes.items ++ place_part w (frame_at (thread_at w thread) 0)) }
+{
+    let Some(frame) = machine.frame(thread, 0) else {
+        return Ok(());
+    };
+    out.push_str(" ")?;
+    write_place(out, &frame)
+}
+
+// Writes where a thread stands and what is next there, if it has a frame.
+fn write_standing_part<H: Heap>(
+    out: &mut String,
+    machine: &Machine<H>,
+    thread: u64,
+) -> Result<(), AllocError>
+    ensures { (w : World) → MatchesWorld machine.now w
+        → OnOk result (out.new.bytes.items ≡ out.old.bytes.items ++ standing_part w (frame_at (thread_at w thread) 0)) }
+{
+    let Some(frame) = machine.frame(thread, 0) else {
+        return Ok(());
+    };
+    out.push_str(" ")?;
+    write_standing(out, &frame)
+}
+
+// Writes a stage of unwinding, by the exception that is pending.
+fn write_unwinding<H: Heap>(
+    alloc: Global,
+    out: &mut String,
+    machine: &Machine<H>,
+    thread: u64,
+    pending: u64,
+) -> Result<(), AllocError>
+    ensures { (w : World) → MatchesWorld machine.now w
+        → OnOk result (out.new.bytes.items ≡ out.old.bytes.items ++ running_part w (frame_at (thread_at w thread) 0) (Some pending)) }
+{
+    write_place_part(out, machine, thread)?;
+    out.push_str(": unwind ")?;
+    write_thrown(alloc, out, machine, pending)
+}
+
+// Writes what is next of a thread that has not ended.
+fn write_running<H: Heap>(
+    alloc: Global,
+    out: &mut String,
+    machine: &Machine<H>,
+    thread: u64,
+) -> Result<(), AllocError>
+    ensures { (w : World) → MatchesWorld machine.now w
+        → OnOk result (out.new.bytes.items ≡ out.old.bytes.items ++ running_part w (frame_at (thread_at w thread) 0) (pending_of (thread_at w thread))) }
+{
+    match machine.pending(thread) {
+        Some(pending) => write_unwinding(alloc, out, machine, thread, pending),
+        None => write_standing_part(out, machine, thread),
+    }
+}
+
+// Writes what is next of a thread.
+fn write_thread<H: Heap>(
+    alloc: Global,
+    out: &mut String,
+    machine: &Machine<H>,
+    thread: u64,
+) -> Result<(), AllocError>
+    ensures { (w : World) → MatchesWorld machine.now w → OnOk result (out.new.bytes.items ≡ out.old.bytes.items ++ thread_part w thread) }
+{
+    if machine.is_live(thread) {
+        write_running(alloc, out, machine, thread)
+    } else {
+        Ok(())
+    }
+}
+
+// Writes a thread, and what is next of it.
+fn write_step<H: Heap>(
+    alloc: Global,
+    out: &mut String,
+    machine: &Machine<H>,
+    thread: u64,
+) -> Result<(), AllocError>
+    ensures { (w : World) → MatchesWorld machine.now w → OnOk result (out.new.bytes.items ≡ out.old.bytes.items ++ event_part w (Step thread)) }
+{
+    write!(out, "t{thread}")?;
+    write_thread(alloc, out, machine, thread)
+}
+
+// Writes what an event is.
+fn write_event<H: Heap>(
+    alloc: Global,
+    out: &mut String,
+    machine: &Machine<H>,
+    event: Event,
+) -> Result<(), AllocError>
+    ensures { (w : World) → MatchesWorld machine.now w → OnOk result (out.new.bytes.items ≡ out.old.bytes.items ++ event_part w event) }
+{
+    match event {
+        Event::Step(thread) => write_step(alloc, out, machine, thread),
+        Event::Minor => out.push_str("minor"),
+        Event::Full => out.push_str("full"),
+    }
+}
+
+/// Writes what an event of a number is, in the world before it. `AllocError`: a growth was refused.
+#[tactic(auto, unfolding(crate::specs::EventLines::line_before))]
+pub fn write_before<H: Heap>(
+    alloc: Global,
+    out: &mut String,
+    machine: &Machine<H>,
+    number: u64,
+    event: Event,
+) -> Result<(), AllocError>
+    ensures { (w : World) → MatchesWorld machine.now w → OnOk result (out.new.bytes.items ≡ out.old.bytes.items ++ line_before number w event) }
+{
+    write!(out, "{number} ")?;
+    write_event(alloc, out, machine, event)
+}
+
+/// Writes what an event came to, and ends its line. `AllocError`: a growth was refused.
+#[tactic(auto, unfolding(crate::specs::EventLines::line_behind))]
+pub fn write_behind(out: &mut String, kind: ReplyKind) -> Result<(), AllocError>
+    ensures { OnOk result (out.new.bytes.items ≡ out.old.bytes.items ++ line_behind kind) }
+{
+    let kind = KindText(kind);
+    write!(out, " -> {kind}\n")
+}

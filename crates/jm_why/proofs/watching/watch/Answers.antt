@@ -1,0 +1,35 @@
+-- Each turn makes an event, and keeps what it came to.
+use Rattle.std.proofs.Common.{◌≡◌, ◌∷◌, refl, sym, ap, subst}
+use Rattle.jm_world.specs.Run.{after}
+use Rattle.jm_machine.specs.View.{MatchesWorld}
+use Rattle.jm_why.specs.Kept.{kept_from}
+use Rattle.jm_why.proofs.Watched.{one_kept, one_made, none_kept, none_made}
+use Rattle.jm_why.proofs.watching.watch.Goals as goal
+
+pub loop-made-init : goal.loop-made-init
+loop-made-init g c = λ w m. (w, m, ap (λ k. kept_from w k (g.S.EventsDue.due c.args.events.now w)) (sym c.nothing-kept.ensures), refl)
+
+pub loop-made-preserved : goal.loop-made-preserved
+loop-made-preserved g c = λ w m.
+    let so_far = c.loop-made.invariant w m in
+    let now = so_far.0 in
+    let event = c.in-Some.event in
+    let due = subst (λ s. g.S.EventsDue.due c.loop-made.events now ≡ event ∷ g.S.EventsDue.due s (after now event).world)
+    (sym (c.in_ok-watch_event.ensures.seen now so_far.1)) (c.in-Some.ensures now so_far.1) in (
+      (after now event).world,
+      c.in_ok-watch_event.ensures.made now so_far.1,
+      one_kept now _ _ _ _ _ event due (c.in_ok-watch_event.ensures.kept now so_far.1) so_far.2,
+      one_made now _ _ _ event due so_far.3,
+    )
+
+pub returns-in_default-clause-made : goal.returns-in_default-clause-made
+returns-in_default-clause-made g c = λ w m.
+    let so_far = c.loop-made.invariant w m in
+    let due = c.in_default.ensures so_far.0 so_far.1 in
+    subst (MatchesWorld c.loop-made.machine) (none_made so_far.0 _ _ due.0 so_far.3) so_far.1
+
+pub returns-in_default-clause-kept : goal.returns-in_default-clause-kept
+returns-in_default-clause-kept g c = λ w m.
+    let so_far = c.loop-made.invariant w m in
+    let due = c.in_default.ensures so_far.0 so_far.1 in
+    none_kept so_far.0 _ _ _ due.0 so_far.2
