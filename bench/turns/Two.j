@@ -1,0 +1,15 @@
+.class public Main
+.super java/lang/Object
+.method public static main([Ljava/lang/String;)V
+.limit stack 2
+.limit locals 2
+new W
+dup
+invokespecial java/lang/Thread/<init>()V
+invokevirtual java/lang/Thread/start()V
+iconst_0
+istore_1
+Again:
+iinc 1 1
+goto Again
+.end method
