@@ -7,9 +7,7 @@
 # questions is as it should be, those of the tables that data/copied.txt lists also with several copiers, those of
 # data/stressed.txt also with a collection between every two events, with which the runs of data/stressed_runs.txt come
 # to the same, and so is what workers do, in whatever order: their records, replayed, come
-# to the same. The works print what
-# their twins in plain Rust print (bench/descriptors, plain, heap, collecting, read and forward, at the
-# sizes in src/works.rt), each case of the collector is as wanted, and nothing is refused.
+# to the same. Each case of the collector is as wanted, and nothing is refused.
 # Needs javap and python3. No check runs this: stdout is committed.
 set -eu
 cd "$(dirname "$0")"

@@ -1,4 +1,4 @@
-//! The same works as `jm_examples collect SIZE`, `minor-N SIZE`, `barrier SIZE` and `allocate SIZE`, in plain Rust: a copying
+//! The same works as `works collect SIZE`, `minor-N SIZE`, `barrier SIZE` and `allocate SIZE`, in plain Rust: a copying
 //! collector of the same duties over the same blocks. Forwarding words stand in a table beside, and the
 //! old blocks stay whole to the end. `memcpy SIZE` copies the live cells alone, as often.
 

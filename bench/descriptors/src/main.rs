@@ -1,4 +1,4 @@
-//! The same work as `jm_examples descriptors SIZE`, in plain Rust.
+//! The same work as `works descriptors SIZE`, in plain Rust.
 
 struct FieldType {
     dimensions: u8,

@@ -1,4 +1,4 @@
-//! The plain Rust twin of `jm_examples forward-N SIZE`: so many threads claim the words of all
+//! The plain Rust twin of `works forward-N SIZE`: so many threads claim the words of all
 //! objects by a compare-exchange from 0, and each keeps what it has won.
 
 use std::sync::atomic::{AtomicU64, Ordering::SeqCst};

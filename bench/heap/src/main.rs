@@ -1,5 +1,5 @@
-//! The same work as `jm_examples heap SIZE` and, with the word `mark` before the size, as
-//! `jm_examples mark SIZE`, in plain Rust: an arena of the same shape.
+//! The same work as `works heap SIZE` and, with the word `mark` before the size, as
+//! `works mark SIZE`, in plain Rust: an arena of the same shape.
 
 #[derive(Clone, Copy)]
 enum Value {

@@ -1,4 +1,4 @@
-//! The same work as `jm_examples read SIZE`, in plain Rust: a class of that many methods, read to
+//! The same work as `works read SIZE`, in plain Rust: a class of that many methods, read to
 //! symbolic instructions. Texts are UTF-16 code units; every name and type that is used is parsed,
 //! tested and copied.
 #![allow(dead_code)]

@@ -4,8 +4,9 @@ use Rattle.std.specs.Prelude.{slice_get, slice_set, nat_eq}
 use Rattle.std.proofs.lemmas.Bool.Decides.{eqb_tells}
 use Rattle.std.proofs.lemmas.List.{get_or-set_same, get_or-set_other, length-set, length-replicate}
 use Rattle.std.proofs.lemmas.Option.{slice_get_read}
+use Rattle.jm_program.proofs.Sequences.{got_written, got_unwritten}
 use Rattle.jm_blocks.specs.Places.{lane_of, block_of, index_of}
-use Rattle.jm_blocks.proofs.Placing.{parts, get_set_same, get_set_other}
+use Rattle.jm_blocks.proofs.Placing.{parts}
 use Rattle.jm_barrier.specs.Marks.{number_of, marks_of, lane_marks, is_marked, IsMarked, AreBare}
 
 -- two places with one lane and one number in it are one
@@ -16,7 +17,7 @@ same_place p q l n = let here = parts p in let there = parts q in omega (arith, 
 pub put_at : (lanes : List (List Bool)) (p l n : ℕ) (cur new : List Bool) (on : Bool) → l ≡ lane_of p → n ≡ number_of (block_of p) (index_of p) → l < length lanes → cur ≡ get_or lanes l cur → n < length cur → new ≡ slice_set cur n on → IsMarked lanes (slice_set lanes l new) p on
 put_at lanes p l n cur new on e f h r w put = record {
   here = ap (λ x. get_or (lane_marks (slice_set lanes l new) x) (number_of (block_of p) (index_of p)) false) (sym e)
-      ∙ ap (λ x. get_or (marks_of x) (number_of (block_of p) (index_of p)) false) (get_set_same lanes l new h)
+      ∙ ap (λ x. get_or (marks_of x) (number_of (block_of p) (index_of p)) false) (got_written lanes l new h)
       ∙ ap (λ k. get_or new k false) (sym f)
       ∙ ap (λ x. get_or x n false) put
       ∙ get_or-set_same cur n on false w;
@@ -25,10 +26,10 @@ put_at lanes p l n cur new on e f h r w put = record {
 }
   where
     by : (q : ℕ) → q ≢ p → ((nat_eq (lane_of q) l ≡ true) × (lane_of q ≡ l)) ⊎ ((nat_eq (lane_of q) l ≡ false) × (lane_of q ≢ l)) → is_marked (slice_set lanes l new) q ≡ is_marked lanes q
-    by q ne (inr d) = ap (λ x. get_or (marks_of x) (number_of (block_of q) (index_of q)) false) (get_set_other lanes l (lane_of q) new d.1)
+    by q ne (inr d) = ap (λ x. get_or (marks_of x) (number_of (block_of q) (index_of q)) false) (got_unwritten lanes l (lane_of q) new d.1)
     by q ne (inl d) =
         ap (λ x. get_or (lane_marks (slice_set lanes l new) x) (number_of (block_of q) (index_of q)) false) d.1
-        ∙ ap (λ x. get_or (marks_of x) (number_of (block_of q) (index_of q)) false) (get_set_same lanes l new h)
+        ∙ ap (λ x. get_or (marks_of x) (number_of (block_of q) (index_of q)) false) (got_written lanes l new h)
         ∙ ap (λ x. get_or x (number_of (block_of q) (index_of q)) false) put
         ∙ get_or-set_other cur n (number_of (block_of q) (index_of q)) on false (λ k. ne (same_place p q (d.1 ∙ e) (k ∙ f)))
         ∙ ap (λ x. get_or (marks_of x) (number_of (block_of q) (index_of q)) false) (sym (slice_get_read lanes (length lanes) l cur refl h r))

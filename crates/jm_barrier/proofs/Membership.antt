@@ -3,8 +3,8 @@ use Rattle.std.proofs.Common.{◌≡◌, ◌≢◌, ◌⊎◌, ℕ, suc, ◌<◌
 use Rattle.std.specs.Prelude.{nat_eq}
 use Rattle.std.proofs.lemmas.Bool.{ne_eqb}
 use Rattle.std.proofs.lemmas.Bool.Decides.{eqb_tells}
-use Rattle.jm_values.specs.Shape.{Among}
 use Rattle.jm_values.specs.Reach.{AllDistinct, is_among}
+use Rattle.jm_values.proofs.Among.{among_or_last}
 use Rattle.jm_barrier.specs.Marks.{is_marked, SameMarks, IsMarked, AreUnmarked, IsRemembered}
 
 among_itself : (p : ℕ) (xs : List ℕ) → is_among p (xs ++ p ∷ []) ≡ true
@@ -27,17 +27,11 @@ not_first p x xs e = by (eqb_tells p x)
     by (inl h) = let found : is_among p (x ∷ xs) ≡ true = ap (λ t. elim t [ true ↦ true | false ↦ is_among p xs ]) h.0 in cc
     by (inr h) = (h.1, sym (ap (λ t. elim t [ true ↦ true | false ↦ is_among p xs ]) h.0) ∙ e)
 
-among_push : (n p : ℕ) (xs : List ℕ) → Among n (xs ++ p ∷ []) → Among n xs ⊎ (n ≡ p)
-among_push n p [] (inl e) = inr e
-among_push n p [] (inr h) = absurd h
-among_push n p (x ∷ xs) (inl e) = inl (inl e)
-among_push n p (x ∷ xs) (inr h) = elim (among_push n p xs h) [ inl a ↦ inl (inr a) | inr e ↦ inr e ]
-
 distinct_push : (p : ℕ) (xs : List ℕ) → AllDistinct xs → is_among p xs ≡ false → AllDistinct (xs ++ p ∷ [])
 distinct_push p [] d e = (λ h. absurd h, tt)
 distinct_push p (x ∷ xs) d e =
     let not = not_first p x xs e in
-    (λ h. elim (among_push x p xs h) [ inl a ↦ d.0 a | inr i ↦ not.0 (sym i) ], distinct_push p xs d.1 not.1)
+    (λ h. elim (among_or_last x p xs h) [ inl a ↦ d.0 a | inr i ↦ not.0 (sym i) ], distinct_push p xs d.1 not.1)
 
 -- a place more
 pub remembered_more : (lanes roomy marked : List (List Bool)) (places : List ℕ) (p : ℕ) → IsRemembered lanes places → length roomy ≡ 64 → SameMarks lanes roomy → IsMarked roomy marked p true → is_among p places ≡ false → IsRemembered marked (places ++ p ∷ [])

@@ -5,12 +5,13 @@ use Rattle.std.proofs.lemmas.Bool.{cases_lt}
 use Rattle.std.proofs.lemmas.Bool.Decides.{eqb_tells}
 use Rattle.std.proofs.lemmas.List.Sums.{sum_by-cons}
 use Rattle.std.proofs.lemmas.Option.{slice_get_within}
+use Rattle.jm_program.proofs.Sequences.{got_last, got_before_last}
 use Rattle.jm_blocks.specs.Objects.{Object}
 use Rattle.jm_blocks.specs.Cells.{object_cells, block_cells}
 use Rattle.jm_blocks.specs.Places.{place_at, lane_of, block_of, index_of}
 use Rattle.jm_blocks.specs.Stores.{Blocks, objects_in, object_of_list, HasObject, IsLast, IsLastBlock, NoneFrom, Bumped, IsPopped, store_cells}
 use Rattle.jm_blocks.proofs.Counting.{cells_push}
-use Rattle.jm_blocks.proofs.Placing.{lies_in, at_place, elsewhere, parts, lane_put, block_put, index_put, get_end, get_before_end}
+use Rattle.jm_blocks.proofs.Placing.{lies_in, at_place, elsewhere, parts, lane_put, block_put, index_put}
 use Rattle.jm_blocks.proofs.Walking.{none_there, last_there}
 
 -- the blocks up to one, which is another
@@ -91,7 +92,7 @@ module _ (s : Blocks) (b : ℕ) (new : List Object) (o : Object) (p : ℕ) (lane
   index_is = ap index_of place_is ∙ index_put s.lane b (length new) (omega (arith, few))
 
   here : objects_in s p ≡ Some o
-  here = at_place s b (length new) p lane_is block_is index_is ∙ ap (λ x. object_of_list x (length new)) is ∙ get_end new o
+  here = at_place s b (length new) p lane_is block_is index_is ∙ ap (λ x. object_of_list x (length new)) is ∙ got_last new o
 
   within : b < length s.lists
   within = slice_get_within s.lists b (new ++ o ∷ []) is
@@ -116,7 +117,7 @@ module _ (s : Blocks) (b : ℕ) (new : List Object) (o : Object) (p : ℕ) (lane
               let apart : index_of q ≢ length new = λ f. n (let mine = parts p in let whole = parts q in omega (arith, mine, whole, l, lane_is, g.1, block_is, f, index_is)) in
               at_place s b (index_of q) q l g.1 refl
               ∙ ap (λ x. object_of_list x (index_of q)) is
-              ∙ get_before_end new o (index_of q) apart
+              ∙ got_before_last new o (index_of q) apart
               ∙ ap (λ x. object_of_list x (index_of q)) (sym (cut_here s.lists b new within))
               ∙ sym (at_place left b (index_of q) q l g.1 refl)
 

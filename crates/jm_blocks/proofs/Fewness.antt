@@ -6,12 +6,12 @@ use Rattle.std.proofs.lemmas.Bool.{leb-false}
 use Rattle.std.proofs.lemmas.List.{length-set, length-replicate, replicate-append-replicate}
 use Rattle.std.proofs.lemmas.List.Sums.{sum_by-cons, sum_by-append}
 use Rattle.std.proofs.lemmas.Option.{slice_get_within}
+use Rattle.jm_program.proofs.Sequences.{got_last, got_written}
 use Rattle.jm_blocks.specs.Objects.{Object}
 use Rattle.jm_blocks.specs.Cells.{object_cells, sizes_of, block_cells, has_room}
 use Rattle.jm_blocks.specs.Stores.{with_object, last_of, last_has_room, list_has_room, objects_of, store_cells}
 use Rattle.jm_blocks.specs.Few.{AreFew, with_strided}
 use Rattle.jm_blocks.proofs.Sizes.{sum_cons}
-use Rattle.jm_blocks.proofs.Placing.{get_set_same, get_end}
 use Rattle.jm_blocks.proofs.Counting.{cells_push, cells_more}
 use Rattle.jm_blocks.proofs.Filling.{last_step, last_is, with_object_last, with_object_new}
 
@@ -34,7 +34,7 @@ last_end : (bs : List (List Object)) (os : List Object) → last_of (bs ++ os �
 last_end bs os =
     let many = length-append bs (os ∷ []) in
     let at : length (bs ++ os ∷ []) - 1 ≡ length bs = omega (arith, many) in
-    ap (slice_get (bs ++ os ∷ [])) at ∙ get_end bs os
+    ap (slice_get (bs ++ os ∷ [])) at ∙ got_last bs os
 
 -- the last of some empty blocks
 last_empty : (bs : List (List Object)) (k : ℕ) → last_of (bs ++ replicate (suc k) []) ≡ Some []
@@ -65,7 +65,7 @@ grown n g bs o room many held = record {
     last =
         ap last_of whole
         ∙ ap (λ m. slice_get (slice_set bs (length bs - 1) (objects_of (last_of bs) ++ o ∷ [])) (m - 1)) (length-set bs (length bs - 1) (objects_of (last_of bs) ++ o ∷ []))
-        ∙ get_set_same bs (length bs - 1) (objects_of (last_of bs) ++ o ∷ []) within
+        ∙ got_written bs (length bs - 1) (objects_of (last_of bs) ++ o ∷ []) within
 
     cells : block_cells (objects_of (last_of (with_object bs o))) ≡ block_cells (objects_of (last_of bs)) + object_cells o
     cells = ap (λ x. block_cells (objects_of x)) last ∙ cells_push (objects_of (last_of bs)) o

@@ -124,3 +124,10 @@ reserved_last s t n cells k cur e m r room many = subst (λ x. last_has_room x.l
 pub reserved_new : (s t : Blocks) (n cells : ℕ) → s ≡ t → n ≡ length s.lists → last_has_room t.lists cells ≡ false → place_at t.lane n 0 ≡ next_place t cells
 reserved_new s t n cells e m room =
     ap (λ b. place_at t.lane b 0) (m ∙ ap (λ x. length x.lists) e) ∙ next_new t cells room
+
+-- and the room there
+pub room_in_last : (s t : Blocks) (n cells : ℕ) (cur : List Object) → s ≡ t → n ≡ length s.lists → cur ≡ get_or s.lists (n - 1) cur → last_has_room t.lists cells ≡ true → has_room (sizes_of cur) cells ≡ true
+room_in_last s t n cells cur e m r room =
+    let last = last_is s.lists cells (ap (λ x. last_has_room x.lists cells) e ∙ room) in
+    let read = read_last s.lists n cur last.0 m r last.1 in
+    ap (λ os. has_room (sizes_of os) cells) read.0 ∙ last.2

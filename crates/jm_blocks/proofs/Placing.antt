@@ -4,31 +4,10 @@ use Rattle.std.proofs.lemmas.Bool.{eqb-true}
 use Rattle.std.specs.Prelude.{slice_get, slice_set, nat_eq, MatchOption}
 use Rattle.std.proofs.lemmas.Bool.Decides.{eqb_tells}
 use Rattle.std.proofs.lemmas.Option.{slice_get_within, slice_get_past, slice_get_read, get_or_from_slice_get}
+use Rattle.jm_program.proofs.Sequences.{got_last, got_before_last as get_before_end, got_written, got_unwritten as get_set_other}
 use Rattle.jm_blocks.specs.Objects.{Object}
 use Rattle.jm_blocks.specs.Places.{place_at, lane_of, block_of, index_of}
 use Rattle.jm_blocks.specs.Stores.{Blocks, objects_in, object_of_list, Changed, Bumped}
-
-pub get_set_same : {X : Type 0} (xs : List X) (i : ℕ) (x : X) → i < length xs → slice_get (slice_set xs i x) i ≡ Some x
-get_set_same [] i x h = absurd (omega arith)
-get_set_same (y ∷ xs) zero x h = refl
-get_set_same (y ∷ xs) (suc i) x h = get_set_same xs i x (omega arith)
-
-pub get_set_other : {X : Type 0} (xs : List X) (i j : ℕ) (x : X) → j ≢ i → slice_get (slice_set xs i x) j ≡ slice_get xs j
-get_set_other [] i j x h = refl
-get_set_other (y ∷ xs) zero zero x h = absurd (h refl)
-get_set_other (y ∷ xs) zero (suc j) x h = refl
-get_set_other (y ∷ xs) (suc i) zero x h = refl
-get_set_other (y ∷ xs) (suc i) (suc j) x h = get_set_other xs i j x (λ e. h (ap suc e))
-
-pub get_end : {X : Type 0} (xs : List X) (x : X) → slice_get (xs ++ x ∷ []) (length xs) ≡ Some x
-get_end [] x = refl
-get_end (y ∷ xs) x = get_end xs x
-
-pub get_before_end : {X : Type 0} (xs : List X) (x : X) (j : ℕ) → j ≢ length xs → slice_get (xs ++ x ∷ []) j ≡ slice_get xs j
-get_before_end [] x zero h = absurd (h refl)
-get_before_end [] x (suc j) h = refl
-get_before_end (y ∷ xs) x zero h = refl
-get_before_end (y ∷ xs) x (suc j) h = get_before_end xs x j (λ e. h (ap suc e))
 
 -- a place is its parts put together
 pub parts : (p : ℕ) → place_at (lane_of p) (block_of p) (index_of p) ≡ p
@@ -108,30 +87,30 @@ changed lane old new b k p o l e f c = record {
 -- a block's object is written over
 pub block_set : (bs : List (List Object)) (b k : ℕ) (os : List Object) (o a : Object) → slice_get bs b ≡ Some os → slice_get os k ≡ Some a → ChangedBlock bs (slice_set bs b (slice_set os k o)) b k o
 block_set bs b k os o a e f = record {
-  here = ap (λ x. object_of_list x k) set ∙ get_set_same os k o (slice_get_within os k a f);
+  here = ap (λ x. object_of_list x k) set ∙ got_written os k o (slice_get_within os k a f);
   inner = λ l h. ap (λ x. object_of_list x l) set ∙ get_set_other os k l o h ∙ ap (λ x. object_of_list x l) (sym e);
   outer = λ c h. get_set_other bs b c (slice_set os k o) h;
 }
   where
     set : slice_get (slice_set bs b (slice_set os k o)) b ≡ Some (slice_set os k o)
-    set = get_set_same bs b (slice_set os k o) (slice_get_within bs b os e)
+    set = got_written bs b (slice_set os k o) (slice_get_within bs b os e)
 
 -- a block gets an object at its end
 pub block_more : (bs : List (List Object)) (b : ℕ) (os : List Object) (o : Object) → slice_get bs b ≡ Some os → ChangedBlock bs (slice_set bs b (os ++ o ∷ [])) b (length os) o
 block_more bs b os o e = record {
-  here = ap (λ x. object_of_list x (length os)) set ∙ get_end os o;
+  here = ap (λ x. object_of_list x (length os)) set ∙ got_last os o;
   inner = λ l h. ap (λ x. object_of_list x l) set ∙ get_before_end os o l h ∙ ap (λ x. object_of_list x l) (sym e);
   outer = λ c h. get_set_other bs b c (os ++ o ∷ []) h;
 }
   where
     set : slice_get (slice_set bs b (os ++ o ∷ [])) b ≡ Some (os ++ o ∷ [])
-    set = get_set_same bs b (os ++ o ∷ []) (slice_get_within bs b os e)
+    set = got_written bs b (os ++ o ∷ []) (slice_get_within bs b os e)
 
 -- a block with one object comes after all others
 pub block_new : (bs : List (List Object)) (o : Object) → ChangedBlock bs (bs ++ (o ∷ []) ∷ []) (length bs) 0 o
 block_new bs o = record {
-  here = ap (λ x. object_of_list x 0) (get_end bs (o ∷ []));
-  inner = λ l h. ap (λ x. object_of_list x l) (get_end bs (o ∷ [])) ∙ past l h ∙ ap (λ x. object_of_list x l) (sym (slice_get_past bs (length bs) (omega arith)));
+  here = ap (λ x. object_of_list x 0) (got_last bs (o ∷ []));
+  inner = λ l h. ap (λ x. object_of_list x l) (got_last bs (o ∷ [])) ∙ past l h ∙ ap (λ x. object_of_list x l) (sym (slice_get_past bs (length bs) (omega arith)));
   outer = λ c h. get_before_end bs (o ∷ []) c h;
 }
   where

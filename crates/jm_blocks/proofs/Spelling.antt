@@ -71,6 +71,9 @@ part_pushed : (n s : ℕ) (xs ws : List Value) → s + n ≤ length xs → take 
 part_pushed n s xs ws h =
     ap (take n) (drop-append-le s xs ws (omega (arith, h))) ∙ take-append-le n (drop s xs) ws (omega (arith, h, length-drop s xs))
 
+pub part_length : (n s : ℕ) (xs : List Value) → s + n ≤ length xs → n ≡ length (take n (drop s xs))
+part_length n s xs h = let short = length-take n (drop s xs) in let less = length-drop s xs in omega (arith, h, short, less)
+
 part_new : (n s : ℕ) (xs ws : List Value) → s ≡ length xs → n ≡ length ws → take n (drop s (xs ++ ws)) ≡ ws
 part_new n s xs ws a b =
     ap (λ i. take n (drop i (xs ++ ws))) a ∙ ap (take n) (past xs) ∙ take_all n ws (omega (arith, b))

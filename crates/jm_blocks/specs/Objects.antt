@@ -16,6 +16,10 @@ pub record Object : Type 0 where
 abbrev pub object_of : Header → List Value → Object
 object_of h vs = record { serial = h.serial; class = h.class; age = h.age; values = vs }
 
+-- the object at another age
+abbrev pub aged : ℕ → Object → Object
+aged age o = record { serial = o.serial; class = o.class; age = age; values = o.values }
+
 -- the object with one value changed
 abbrev pub with_value : Object → ℕ → Value → Object
 with_value o i v = record { serial = o.serial; class = o.class; age = o.age; values = slice_set o.values i v }

@@ -1,6 +1,6 @@
 // A block of cells.
 
-ghost use Rattle.std.specs.Prelude.{◌≡◌, ◌+◌, ◌<◌, ◌≤◌, ◌^◌, ◌++◌, ◌∷◌, [], Some, None, MatchOption, OnOk, OnErr, IfSome, IsTrue, true};
+ghost use Rattle.std.specs.Prelude.{◌≡◌, ◌+◌, ◌<◌, ◌≤◌, ◌^◌, ◌++◌, ◌∷◌, [], Some, None, MatchOption, IfOk, OnOk, OnErr, IfSome, IsTrue, true};
 ghost use Rattle.std.specs.Prelude.{length, map, slice_get, slice_set, replicate};
 ghost use Rattle.jm_values.specs.Objects.{default_of};
 ghost use Rattle.jm_values.specs.declared.value.Value.{Value};
@@ -8,7 +8,7 @@ ghost use Rattle.jm_heap.specs.Cells.{class_size};
 ghost use Rattle.jm_heap.specs.Elements.{elements, element_kind};
 ghost use Rattle.jm_heap.specs.Packing.{Fits, kind_of};
 ghost use Rattle.jm_heap.specs.declared.storage.Storage.TheVariants as kind;
-ghost use Rattle.jm_blocks.specs.Objects.{Object, object_of, with_value};
+ghost use Rattle.jm_blocks.specs.Objects.{Object, aged, object_of, with_value};
 ghost use Rattle.jm_blocks.specs.Cells.{object_cells, sizes_of, block_cells, has_room, HoldsItsCells};
 
 use crate::contents::Contents;
@@ -47,6 +47,29 @@ impl Model for Block {
     ghost use Rattle.jm_blocks.specs.Held.{objects_held};
 
     ghost view = { λ b. objects_held b.contents.items };
+}
+
+// The contents of a block that has none yet: a copy of an object, of that age, and room for more of its size. A growth
+// that is refused changes nothing.
+#[inline(never)]
+fn open_with_copy(
+    alloc: Global,
+    contents: &mut Vec<Contents>,
+    from: &Contents,
+    index: usize,
+    age: u8,
+) -> Result<(), AllocError>
+    requires there { (o : Object) × (slice_get from.now index ≡ Some o) }
+    requires none { contents.old.items ≡ [] }
+    ensures ok { OnOk result ((o : Object) → slice_get from.now index ≡ Some o → contents.new.items ≡ (aged age o ∷ []) ∷ []) }
+    ensures err { OnErr result (contents.new.items ≡ []) }
+{
+    let mut first = Contents::new(alloc);
+    first.reserve_like(from, index)?;
+    first.bump_copy(from, index, age)?;
+    contents.reserve_exact(1)?;
+    contents.push_reserved(first);
+    Ok(())
 }
 
 impl Block {
@@ -161,6 +184,40 @@ impl Block {
         self.contents.reserve_exact(1)?;
         self.contents.push_reserved(contents);
         Ok(())
+    }
+
+    /// How many collections the object of this number has survived.
+    #[inline(always)]
+    pub fn age(&self, index: usize) -> u8
+        requires { (o : Object) × (slice_get self.now index ≡ Some o) }
+        ensures { (o : Object) → slice_get self.now index ≡ Some o → result ≡ o.age }
+    {
+        self.contents[0].age(index)
+    }
+
+    /// The cells of the object of this number.
+    #[inline(always)]
+    pub fn cells_of(&self, index: usize) -> u64
+        requires { (o : Object) × (slice_get self.now index ≡ Some o) }
+        ensures { (o : Object) → slice_get self.now index ≡ Some o → result ≡ object_cells o }
+    {
+        self.contents[0].cells_of(index)
+    }
+
+    /// Puts a copy of an object of some block at the end, of that age: its entry is looked up once, and its
+    /// values are one copy of memory. A growth that is refused changes nothing.
+    #[inline(always)]
+    pub fn bump_copy(&mut self, from: &Block, index: usize, age: u8) -> Result<(), AllocError>
+        requires { (o : Object) × (slice_get from.now index ≡ Some o) × (has_room (sizes_of self.old) (object_cells o) ≡ true) }
+        ensures ok { OnOk result ((o : Object) → slice_get from.now index ≡ Some o → self.new ≡ self.old ++ aged age o ∷ []) }
+        ensures err { OnErr result (self.new ≡ self.old) }
+    {
+        let source = &from.contents[0];
+        if self.contents.len() > 0 {
+            let contents = &mut self.contents[0];
+            return contents.bump_copy(source, index, age);
+        }
+        open_with_copy(self.alloc, &mut self.contents, source, index, age)
     }
 
     /// Puts an object at the end whose values are so many copies of one, which is one of its type. A

@@ -4,7 +4,7 @@ ghost use Rattle.std.specs.Prelude.{◌≡◌, ◌+◌, ◌<◌, ◌≤◌, ◌^
 ghost use Rattle.std.specs.Prelude.{take, drop, length, map, slice_get, slice_set, replicate};
 ghost use Rattle.jm_values.specs.Objects.{default_of};
 ghost use Rattle.jm_heap.specs.Cells.{class_size};
-ghost use Rattle.jm_blocks.specs.Objects.{Object, object_of, with_value};
+ghost use Rattle.jm_blocks.specs.Objects.{Object, aged, object_of, with_value};
 ghost use Rattle.jm_values.specs.declared.value.Value.{Value};
 ghost use Rattle.jm_heap.specs.Elements.{elements, element_kind};
 ghost use Rattle.jm_heap.specs.Packing.{Fits, kind_of};
@@ -25,6 +25,21 @@ const CELLS: u64 = 512;
 
 /// The cells of the largest object that shares a block.
 const SHARED: u64 = 256;
+
+/// Room is made at once for so many objects that are like the first one, at most: others may be larger.
+const LIKE: u64 = 64;
+
+// How many objects of so many cells a block has room made for at once.
+fn room_for(cells: u64) -> usize
+    requires { 2 ≤ cells }
+    ensures { result ≤ 64 }
+{
+    let objects = CELLS / cells;
+    if objects > LIKE {
+        return LIKE as usize;
+    }
+    objects as usize
+}
 
 /// The objects of a block: their entries, and their values packed.
 pub(crate) struct Contents {
@@ -181,6 +196,65 @@ impl Contents {
         self.entries
             .push_reserved(Entry::new(header, start as u32, count as u32));
         Ok(())
+    }
+
+    /// Puts a copy of an object of some block at the end, of that age: its entry is looked up once, and its
+    /// values are one copy of memory. A growth that is refused changes nothing.
+    #[inline(always)]
+    pub(crate) fn bump_copy(
+        &mut self,
+        from: &Contents,
+        index: usize,
+        age: u8,
+    ) -> Result<(), AllocError>
+        requires { (o : Object) × (slice_get from.now index ≡ Some o) × (has_room (sizes_of self.old) (object_cells o) ≡ true) }
+        ensures ok { OnOk result ((o : Object) → slice_get from.now index ≡ Some o → self.new ≡ self.old ++ aged age o ∷ []) }
+        ensures err { OnErr result (self.new ≡ self.old) }
+    {
+        let entry = &from.entries[index];
+        self.entries.reserve(1)?;
+        let start = self
+            .values
+            .push_from(entry.kind(), &from.values, entry.start(), entry.length())?;
+        self.cells += entry.cells();
+        self.entries.push_reserved(entry.copied(age, start as u32));
+        Ok(())
+    }
+
+    /// Makes room for objects like this one of some block, as many as fit or 64. A growth that is refused
+    /// changes nothing either.
+    pub(crate) fn reserve_like(&mut self, from: &Contents, index: usize) -> Result<(), AllocError>
+        requires { (o : Object) × (slice_get from.now index ≡ Some o) }
+        ensures { self.new ≡ self.old }
+    {
+        let entry = &from.entries[index];
+        let cells = entry.cells();
+        if cells > SHARED {
+            return Ok(());
+        }
+        let objects = room_for(cells);
+        self.entries.reserve(objects)?;
+        self.values.reserve(entry.kind(), objects * entry.length())
+    }
+
+    /// How many collections the object of this number has survived.
+    #[inline(always)]
+    pub(crate) fn age(&self, index: usize) -> u8
+        requires { (o : Object) × (slice_get self.now index ≡ Some o) }
+        ensures { (o : Object) → slice_get self.now index ≡ Some o → result ≡ o.age }
+    {
+        let entry = &self.entries[index];
+        entry.age()
+    }
+
+    /// The cells of the object of this number.
+    #[inline(always)]
+    pub(crate) fn cells_of(&self, index: usize) -> u64
+        requires { (o : Object) × (slice_get self.now index ≡ Some o) }
+        ensures { (o : Object) → slice_get self.now index ≡ Some o → result ≡ object_cells o }
+    {
+        let entry = &self.entries[index];
+        entry.cells()
     }
 
     /// Puts an object at the end whose values are so many copies of one, which is one of its type. A

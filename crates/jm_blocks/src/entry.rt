@@ -4,6 +4,7 @@ ghost use Rattle.std.proofs.Common.{ap, sym};
 ghost use Rattle.std.specs.Prelude.{◌≡◌, ◌<◌, ◌^◌};
 ghost use Rattle.jm_heap.specs.Packing.{kind_of};
 ghost use Rattle.jm_blocks.specs.Entries.{Entry};
+ghost use Rattle.jm_blocks.specs.Spelled.{entry_cells};
 
 use crate::header::Header;
 use jm_heap::{ClassId, Storage};
@@ -58,6 +59,33 @@ impl Entry {
             start,
             length,
         }
+    }
+
+    /// The entry of a copy of that age, whose values begin elsewhere.
+    #[inline(always)]
+    pub(crate) fn copied(&self, age: u8, start: u32) -> Entry
+        ensures { result ≡ record { header = record { serial = self.now.header.serial; class = self.now.header.class; age = age }; start = start; length = self.now.length } }
+    {
+        let mut copy = *self;
+        copy.age = age;
+        copy.start = start;
+        copy
+    }
+
+    /// How many collections the object has survived.
+    #[inline(always)]
+    pub(crate) fn age(&self) -> u8
+        ensures { result ≡ self.now.header.age }
+    {
+        self.age
+    }
+
+    /// The cells of the object.
+    #[inline(always)]
+    pub(crate) fn cells(&self) -> u64
+        ensures { result ≡ entry_cells self.now }
+    {
+        self.class.size(self.length as u64)
     }
 
     /// The object's header.

@@ -1,6 +1,6 @@
 // The values of a block, packed.
 
-ghost use Rattle.std.specs.Prelude.{pos, ◌≡◌, ◌+◌, ◌<◌, ◌≤◌, ◌^◌, ◌++◌, OnOk, OnErr, IfSome, Some};
+ghost use Rattle.std.specs.Prelude.{pos, ◌≡◌, ◌+◌, ◌<◌, ◌≤◌, ◌^◌, ◌++◌, IfOk, OnOk, OnErr, IfSome, Some};
 ghost use Rattle.std.specs.Prelude.{take, drop, length, map, replicate, slice_get, slice_set};
 ghost use Rattle.jm_values.specs.Objects.{default_of};
 ghost use Rattle.jm_values.specs.declared.value.Value.{Value};
@@ -93,6 +93,25 @@ fn push_items<T: Lies>(items: &mut Vec<T>, more: &[T]) -> Result<(), AllocError>
     ensures err { OnErr result (map T.stands_for items.new.items ≡ map T.stands_for items.old.items) }
 {
     append(items, more)
+}
+
+// So many values of another list from a start on at the end, and the number of the first. A growth that is refused
+// changes nothing.
+#[inline(always)]
+fn push_part<T: Lies>(
+    items: &mut Vec<T>,
+    from: &Vec<T>,
+    start: usize,
+    count: usize,
+) -> Result<usize, AllocError>
+    requires { start + count ≤ length from.now.items }
+    ensures ok { OnOk result (map T.stands_for items.new.items ≡ map T.stands_for items.old.items ++ map T.stands_for (take count (drop start from.now.items))) }
+    ensures first { IfOk result (λ n. n ≡ length items.old.items) }
+    ensures err { OnErr result (map T.stands_for items.new.items ≡ map T.stands_for items.old.items) }
+{
+    let first = items.len();
+    append(items, part(from.as_slice(), start, count))?;
+    Ok(first)
 }
 
 // Gives up the values of a list from a number on.
@@ -306,6 +325,48 @@ impl Packed {
             Elements::Shorts(values) => push_items(&mut self.shorts, values),
             Elements::Ints(values) => push_items(&mut self.ints, values),
             Elements::Longs(values) => push_items(&mut self.longs, values),
+        }
+    }
+
+    /// So many values of a kind from a start on in another block, at the end of the list of their kind: one copy
+    /// of memory. It answers the number of the first. A growth that is refused changes nothing.
+    #[inline(always)]
+    #[tactic(auto, using(crate::proofs::Lists::taken))]
+    pub(crate) fn push_from(
+        &mut self,
+        kind: Storage,
+        from: &Packed,
+        start: usize,
+        count: usize,
+    ) -> Result<usize, AllocError>
+        requires { start + count ≤ length (list_of kind from.now) }
+        ensures ok { OnOk result (self.new ≡ with_list kind (list_of kind self.old ++ take count (drop start (list_of kind from.now))) self.old) }
+        ensures first { IfOk result (λ n. n ≡ length (list_of kind self.old)) }
+        ensures err { OnErr result (self.new ≡ self.old) }
+    {
+        match kind {
+            Storage::Fields => push_part(&mut self.fields, &from.fields, start, count),
+            Storage::References => push_part(&mut self.references, &from.references, start, count),
+            Storage::Bytes => push_part(&mut self.bytes, &from.bytes, start, count),
+            Storage::Chars => push_part(&mut self.chars, &from.chars, start, count),
+            Storage::Shorts => push_part(&mut self.shorts, &from.shorts, start, count),
+            Storage::Ints => push_part(&mut self.ints, &from.ints, start, count),
+            Storage::Longs => push_part(&mut self.longs, &from.longs, start, count),
+        }
+    }
+
+    /// Makes room for so many values more of a kind. A growth that is refused changes nothing either.
+    pub(crate) fn reserve(&mut self, kind: Storage, count: usize) -> Result<(), AllocError>
+        ensures { self.new ≡ self.old }
+    {
+        match kind {
+            Storage::Fields => self.fields.reserve(count),
+            Storage::References => self.references.reserve(count),
+            Storage::Bytes => self.bytes.reserve(count),
+            Storage::Chars => self.chars.reserve(count),
+            Storage::Shorts => self.shorts.reserve(count),
+            Storage::Ints => self.ints.reserve(count),
+            Storage::Longs => self.longs.reserve(count),
         }
     }
 

@@ -1,8 +1,8 @@
 // Blocks under numbers.
 
-ghost use Rattle.std.specs.Prelude.{◌≡◌, ℕ, ◌+◌, ◌<◌, ◌≤◌, ◌^◌, ◌++◌, Some, None, MatchOption, IfSome, IfOk, OnOk, OnErr, length, map, slice_get, slice_set, replicate, [], ◌∷◌};
+ghost use Rattle.std.specs.Prelude.{◌≡◌, ℕ, ◌+◌, ◌<◌, ◌≤◌, ◌^◌, ◌++◌, false, Some, None, MatchOption, IfSome, IfOk, OnOk, OnErr, length, map, slice_get, slice_set, replicate, [], ◌∷◌};
 ghost use Rattle.jm_values.specs.Objects.{default_of};
-ghost use Rattle.jm_blocks.specs.Objects.{Object, object_of};
+ghost use Rattle.jm_blocks.specs.Objects.{Object, aged, object_of};
 ghost use Rattle.jm_blocks.specs.Cells.{object_cells};
 ghost use Rattle.jm_heap.specs.Elements.{elements, element_kind};
 ghost use Rattle.jm_heap.specs.Packing.{Fits, kind_of};
@@ -134,6 +134,25 @@ impl BlockStore {
         block.object_at(position.index)
     }
 
+    /// The block of the object at a place, and the object's number there.
+    #[inline]
+    pub fn find(&self, place: Place) -> Option<(&Block, usize)>
+        ensures { MatchOption result (objects_in self.now place ≡ None) (λ r. (o : Object) × (objects_in self.now place ≡ Some o) × (slice_get r.0.now r.1 ≡ Some o)) }
+    {
+        let position = Position::of(place);
+        if position.lane != self.lane {
+            return None;
+        }
+        if position.block >= self.blocks.len() {
+            return None;
+        }
+        let block = &self.blocks[position.block];
+        if position.index >= block.len() {
+            return None;
+        }
+        Some((block, position.index))
+    }
+
     /// One value of the object at a place.
     #[inline]
     pub fn get(&self, place: Place, number: usize) -> Value
@@ -234,6 +253,57 @@ impl BlockStore {
         block.bump(header, values)?;
         self.blocks.push(block)?;
         Ok(())
+    }
+
+    // Puts a copy of an object into a block of its own, as `push_copy` does.
+    #[inline(never)]
+    fn push_copy_apart(
+        &mut self,
+        alloc: Global,
+        from: &Block,
+        index: usize,
+        age: u8,
+    ) -> Result<Place, AllocError>
+        requires { (o : Object) × (slice_get from.now index ≡ Some o) × (last_has_room self.old.lists (object_cells o) ≡ false) }
+        ensures ok { IfOk result (λ p. (o : Object) → slice_get from.now index ≡ Some o → Bumped self.old self.new p (aged age o)) }
+        ensures lane { IfOk result (λ p. lane_of p ≡ self.old.lane) }
+        ensures same { self.new.lane ≡ self.old.lane }
+        ensures err { OnErr result (self.new ≡ self.old) }
+    {
+        let blocks = self.blocks.len();
+        if blocks >= MAX_BLOCKS {
+            return Err(AllocError);
+        }
+        let mut block = Block::new(alloc);
+        block.bump_copy(from, index, age)?;
+        self.blocks.push(block)?;
+        Ok(self.place_in(blocks, 0))
+    }
+
+    /// Puts a copy of an object of some block above all others, of that age, and answers its place. It is
+    /// refused where a growth is, or where the lane would have more than 2^49 blocks; nothing has changed then.
+    #[inline(always)]
+    pub fn push_copy(
+        &mut self,
+        alloc: Global,
+        from: &Block,
+        index: usize,
+        age: u8,
+    ) -> Result<Place, AllocError>
+        requires { (o : Object) × (slice_get from.now index ≡ Some o) }
+        ensures ok { IfOk result (λ p. (o : Object) → slice_get from.now index ≡ Some o → Bumped self.old self.new p (aged age o)) }
+        ensures lane { IfOk result (λ p. lane_of p ≡ self.old.lane) }
+        ensures same { self.new.lane ≡ self.old.lane }
+        ensures err { OnErr result (self.new ≡ self.old) }
+    {
+        let blocks = self.blocks.len();
+        if self.last_has_room(from.cells_of(index)) {
+            let place = self.place_in(blocks - 1, self.blocks[blocks - 1].len());
+            let block = &mut self.blocks[blocks - 1];
+            block.bump_copy(from, index, age)?;
+            return Ok(place);
+        }
+        self.push_copy_apart(alloc, from, index, age)
     }
 
     /// Puts an object whose values are so many copies of one at the place that is reserved for one of

@@ -9,6 +9,7 @@ use Rattle.jm_world.specs.declared.event.Event.TheVariants.{Step}
 use Rattle.jm_world.specs.declared.reply.Reply.{Reply}
 use Rattle.jm_world.specs.declared.reply.ReplyKind.{ReplyKind}
 use Rattle.jm_world.specs.declared.reply.ReplyKind.TheVariants.{Done}
+use Rattle.jm_world.proofs.RunsOn.{run_append}
 use Rattle.jm_machine.specs.View.{MachineView, MatchesWorld}
 use Rattle.jm_machine.specs.ManySteps.{AreSteps, made_of_steps, other_replies, steps_of}
 use Rattle.jm_machine.specs.declared.steps.Steps.{Steps}
@@ -17,10 +18,6 @@ use Rattle.jm_machine.specs.declared.fault.OutOfMemory.{OutOfMemory}
 use Rattle.jm_schedule.specs.Records.{entry_at, lines_from}
 use Rattle.jm_schedule.proofs.RecordLemmas.{lines_more}
 use Rattle.jm_choice.specs.Replays.{Agrees, DiffersAt, Replays, StopsWithin, events_in, kinds_in, kinds_of, world_behind}
-
-run_append : (w : World) (es fs : List Event) → run_from w (es ++ fs) ≡ run_from (run_from w es) fs
-run_append w [] fs = refl
-run_append w (e ∷ es) fs = run_append (after w e).world es fs
 
 kinds_append : (w : World) (es fs : List Event) → kinds_of (replies_from w (es ++ fs)) ≡ kinds_of (replies_from w es) ++ kinds_of (replies_from (run_from w es) fs)
 kinds_append w [] fs = refl

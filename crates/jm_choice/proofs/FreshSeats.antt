@@ -4,6 +4,7 @@ use mathlib.Core.Logic.{dite}
 use native.Mathlib.Decide.{ℕ_discrete}
 use Rattle.std.specs.List.{All}
 use Rattle.std.proofs.lemmas.List.Elements.{All-head, All-tail}
+use Rattle.std.proofs.lemmas.Bool.{or_parts}
 use Rattle.jm_world.specs.World.{World}
 use Rattle.jm_shared.specs.Legal.{IsLegal, events_of}
 use Rattle.jm_shared.specs.Seats.{LacksOne, fresh_hands, hand, of_seat, times}
@@ -23,14 +24,10 @@ fresh_at P seat b (suc k) low high all = dite (ℕ_discrete seat b)
     (λ e. subst (λ n. P (hand n [])) (sym e) (All-head P (hand b []) (fresh_hands (b + 1) k) all))
     (λ ne. fresh_at P seat (b + 1) k (omega arith) (omega arith) (All-tail P (hand b []) (fresh_hands (b + 1) k) all))
 
-no_or : (a b : Bool) → (a || b) ≡ false → (a ≡ false) × (b ≡ false)
-no_or true b e = cc
-no_or false b e = (refl, e)
-
 none_short : (steps seat b k : ℕ) (entries : List Entry) → b ≤ seat → seat < b + k → any_short steps entries (fresh_hands b k) ≡ false → is_short steps (of_seat seat 0 entries) ≡ false
 none_short steps seat b zero entries low high none = absurd (omega arith)
 none_short steps seat b (suc k) entries low high none =
-    let both = no_or (is_short steps (of_seat b 0 entries)) (any_short steps entries (fresh_hands (b + 1) k)) none in
+    let both = or_parts (is_short steps (of_seat b 0 entries)) (any_short steps entries (fresh_hands (b + 1) k)) none in
     dite (ℕ_discrete seat b)
     (λ e. ap (λ n. is_short steps (of_seat n 0 entries)) e ∙ both.0)
     (λ ne. none_short steps seat (b + 1) k entries (omega arith) (omega arith) both.1)

@@ -2,16 +2,17 @@
 use Rattle.std.proofs.Common.{◌≡◌, ℕ, zero, suc, Bool, true, false, ◌&&◌, ◌==◌, nat_lt, nat_le, List, [], ◌∷◌, ◌++◌, length, Option, Some, None, Result, Ok, refl, sym, ap, subst, ◌∙◌, arith}
 use Rattle.std.specs.Prelude.{if◌then◌else◌, codes}
 use Rattle.std.specs.List.{list_all, position}
+use Rattle.std.proofs.lemmas.Bool.{and_from}
 use Rattle.jm_bytes.specs.Reading.{each}
 use Rattle.jm_bytes.specs.Laws.{and_then_ok, ok_or_ok, same_Ok}
 use Rattle.jm_program.specs.Names.{same_text}
 use Rattle.jm_program.specs.Instructions.{instr_fits}
 use Rattle.jm_program.specs.Codes.{catch_type_fits, handler_fits, line_fits, code_fits}
-use Rattle.jm_program.proofs.DescriptorLaws.{and_true, both_true}
 use Rattle.jm_program.specs.declared.code.Code.{Code}
 use Rattle.jm_program.specs.declared.code.Handler.{Handler}
 use Rattle.jm_program.specs.declared.code.LineNumber.{LineNumber}
 use Rattle.jm_program.specs.declared.instruction.symbolic.Instr.{Instr}
+use Rattle.jm_program.proofs.Truths.{all_pass}
 use Rattle.jm_class_format.specs.declared.constant_pool.Entry.{Entry}
 use Rattle.jm_class_format.specs.declared.instruction.PlacedInstr.{PlacedInstr}
 use Rattle.jm_class_format.specs.declared.read_fault.ReadFault.{ReadFault}
@@ -66,7 +67,7 @@ range_kept places bytes range h =
     let within = number_kept places.starts h.second.second.value target after.second.second.first.1 in
     let rises : nat_lt start end ≡ true = guard_held (nat_lt start end) after.second.second.second.first.1 in
     subst (RangeFits count) after.second.second.second.second.1
-    (and_true (nat_lt start end && nat_le end count) (nat_lt target count) (and_true (nat_lt start end) (nat_le end count) rises most) within)
+    (and_from (nat_lt start end && nat_le end count) (nat_lt target count) (and_from (nat_lt start end) (nat_le end count) rises most) within)
 
 handler_kept : (es : List Entry) (places : Places) (bytes : List ℕ) (x : Handler) → (handler es places).Spells bytes x → handler_fits (length places.starts) x ≡ true
 unfolding handler
@@ -77,7 +78,7 @@ handler_kept es places bytes x h =
     let placed = range_kept places h.front range h.first in
     let named = catch_type_kept es h.second.value caught h.second.second.first.1 in
     subst (λ (y : Handler). handler_fits count y ≡ true) h.second.second.second.1
-    (and_true (nat_lt range.0 range.1 && nat_le range.1 count && nat_lt range.2 count) (catch_type_fits caught) placed named)
+    (and_from (nat_lt range.0 range.1 && nat_le range.1 count && nat_lt range.2 count) (catch_type_fits caught) placed named)
 
 handlers_kept : (es : List Entry) (places : Places) (bytes : List ℕ) (xs : List Handler) → (handlers es places).Spells bytes xs → list_all (handler_fits (length places.starts)) xs ≡ true
 unfolding handlers
@@ -94,19 +95,13 @@ lines_kept : (places : Places) (bytes : List ℕ) (ls : List LineNumber) → (li
 unfolding line_numbers
 lines_kept places bytes ls h = many_keep (line_fits (length places.starts)) (line_number places) (line_kept places) h.value h.back ls h.second
 
-all_both : {A : Type 0} (ok : A → Bool) (xs ys : List A) → list_all ok xs ≡ true → list_all ok ys ≡ true → list_all ok (xs ++ ys) ≡ true
-all_both ok [] ys h k = k
-all_both ok (x ∷ xs) ys h k =
-    let p = both_true (ok x) (list_all ok xs) h in
-    and_true (ok x) (list_all ok (xs ++ ys)) p.0 (all_both ok xs ys p.1 k)
-
 abbrev LinesFit : Places → List LineNumber → Type 0
 LinesFit places ls = list_all (line_fits (length places.starts)) ls ≡ true
 
 attribute_info_kept : (places : Places) (lines : List LineNumber) (b : Bool) (bytes : List ℕ) (ls : List LineNumber) → LinesFit places lines → (code_attribute_info places lines b).Spells bytes ls → LinesFit places ls
 unfolding code_attribute_info whole_info
 attribute_info_kept places lines true bytes ls fit h =
-    subst (LinesFit places) h.second.1 (all_both (line_fits (length places.starts)) lines h.value fit (lines_kept places h.first.back h.value h.first.second.1))
+    subst (LinesFit places) h.second.1 (all_pass (line_fits (length places.starts)) lines h.value fit (lines_kept places h.first.back h.value h.first.second.1))
 attribute_info_kept places lines false bytes ls fit h = subst (LinesFit places) h.second.1 fit
 
 attribute_kept : (es : List Entry) (places : Places) (lines : List LineNumber) (bytes : List ℕ) (ls : List LineNumber) → LinesFit places lines → (code_attribute es places lines).Spells bytes ls → LinesFit places ls
@@ -159,6 +154,6 @@ code_body_fits es slots bytes c h =
     let tables = subst (λ (n : ℕ). TablesFit n table.value) same (tables_kept es places table.front table.value table.first) in
     let n : ℕ = length is in
     subst (λ (x : Code). code_fits slots x ≡ true) table.second.1
-    (and_true (nat_le slots limit.1 && nat_lt 0 n && list_all (instr_fits n) is && list_all (handler_fits n) table.value.0) (list_all (line_fits n) table.value.1)
-    (and_true (nat_le slots limit.1 && nat_lt 0 n && list_all (instr_fits n) is) (list_all (handler_fits n) table.value.0)
-    (and_true (nat_le slots limit.1 && nat_lt 0 n) (list_all (instr_fits n) is) (and_true (nat_le slots limit.1) (nat_lt 0 n) held named.0.0) named.0.1) tables.0) tables.1)
+    (and_from (nat_le slots limit.1 && nat_lt 0 n && list_all (instr_fits n) is && list_all (handler_fits n) table.value.0) (list_all (line_fits n) table.value.1)
+    (and_from (nat_le slots limit.1 && nat_lt 0 n && list_all (instr_fits n) is) (list_all (handler_fits n) table.value.0)
+    (and_from (nat_le slots limit.1 && nat_lt 0 n) (list_all (instr_fits n) is) (and_from (nat_le slots limit.1) (nat_lt 0 n) held named.0.0) named.0.1) tables.0) tables.1)

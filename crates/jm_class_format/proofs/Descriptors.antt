@@ -1,5 +1,6 @@
 -- A parsed descriptor is the one that a class file's text spells, and its fault the one that comes there.
 use Rattle.std.proofs.Common.{◌≡◌, ℕ, Bool, true, false, List, Option, Some, None, Result, Ok, Err, refl}
+use Rattle.std.proofs.lemmas.Bool.{false_from_ne_true}
 use Rattle.jm_bytes.specs.Reading.{GivesAll, fault_as}
 use Rattle.jm_program.specs.Descriptors.{HasShape, is_descriptor}
 use Rattle.jm_program.specs.DescriptorFaults.{Parses}
@@ -29,12 +30,8 @@ none_read : (units : List ℕ) (o : Option Descriptor) → whole_descriptor unit
 none_read units None read none = read
 none_read units (Some d) read none = absurd (none d (whole_sound units d read))
 
-not_true : (b : Bool) → ¬ (b ≡ true) → b ≡ false
-not_true true h = absurd (h refl)
-not_true false h = refl
-
 pub descriptor_parsed : (units : List ℕ) (r : Result Descriptor DescriptorFault) → Parses units r → GivesAll (λ d. d) fault.OutOfMemory (fault_as of_descriptor r) (descriptor_of units)
 descriptor_parsed units (Ok d) h = shape_named units d true (shape_read units d (h.0, descriptor_shape d h.1)) h.1
 descriptor_parsed units (Err descriptor.BadDescriptor) h = λ other. no_shape units (none_read units (whole_descriptor units) refl h)
-descriptor_parsed units (Err descriptor.BadName) h = λ other. shape_named units h.0 false (shape_read units h.0 h.1) (not_true (is_descriptor h.0) h.2)
+descriptor_parsed units (Err descriptor.BadName) h = λ other. shape_named units h.0 false (shape_read units h.0 h.1) (false_from_ne_true (is_descriptor h.0) h.2)
 descriptor_parsed units (Err descriptor.OutOfMemory) h = λ other. absurd (other refl)

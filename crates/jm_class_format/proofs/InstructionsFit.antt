@@ -3,13 +3,13 @@ use Rattle.std.proofs.Common.{◌≡◌, ℕ, suc, ◌+◌, Bool, true, false, �
 use Rattle.std.specs.Prelude.{ℤ, pos, ◌+ℤ◌, int_le, if◌then◌else◌}
 use Rattle.std.specs.Option.{ok_or}
 use Rattle.std.specs.List.{list_all, position}
+use Rattle.std.proofs.lemmas.Bool.{and_from}
 use Rattle.jm_bytes.specs.Reading.{each}
 use Rattle.jm_bytes.specs.Laws.{and_then_ok, ok_or_ok, same_Ok}
 use Rattle.jm_program.specs.Descriptors.{argument_slots}
 use Rattle.jm_program.specs.Names.{is_class_name}
 use Rattle.jm_program.specs.References.{class_ref_fits, method_ref_fits}
 use Rattle.jm_program.specs.Instructions.{is_above, keys_rise, has_high, type_op_fits, plain_fits, instr_fits}
-use Rattle.jm_program.proofs.DescriptorLaws.{and_true, both_true}
 use Rattle.jm_program.specs.declared.reference.ClassRef.{ClassRef}
 use Rattle.jm_program.specs.declared.reference.MethodRef.{MethodRef}
 use Rattle.jm_program.specs.declared.instruction.operation.InvokeOp.{InvokeOp}
@@ -22,6 +22,7 @@ use Rattle.jm_program.specs.declared.instruction.plain.Plain.{Plain}
 use Rattle.jm_program.specs.declared.instruction.plain.Plain.TheVariants as plain
 use Rattle.jm_program.specs.declared.instruction.symbolic.Instr.{Instr}
 use Rattle.jm_program.specs.declared.instruction.symbolic.Instr.TheVariants as instr
+use Rattle.jm_program.proofs.Truths.{both_true}
 use Rattle.jm_class_format.specs.declared.constant_pool.Entry.{Entry}
 use Rattle.jm_class_format.specs.declared.instruction.IndexedInstr.{IndexedInstr}
 use Rattle.jm_class_format.specs.declared.instruction.IndexedInstr.TheVariants as indexed
@@ -61,9 +62,9 @@ table_numbered_fits starts t s kept h =
     let made : TableSwitch = record { low = t.low; targets = b.0; default = a.0 } in
     let targets = each_keep (λ (_ : ℕ). true) within (number_of starts) (λ target n _ k. number_kept starts target n k) t.targets b.0 (all_pass t.targets) b.1 in
     let high : has_high made ≡ true = subst (λ (n : ℕ). (nat_lt 0 n && int_le (t.low +ℤ pos n) (pos 2147483648)) ≡ true) targets.1 kept in
-    let all : (has_high made && list_all within b.0) ≡ true = and_true (has_high made) (list_all within b.0) high targets.0 in
+    let all : (has_high made && list_all within b.0) ≡ true = and_from (has_high made) (list_all within b.0) high targets.0 in
     subst (λ (x : TableSwitch). plain_fits count (plain.TableSwitch x) ≡ true) (same_Ok {F = CodeFault} made s b.2)
-    (and_true (has_high made && list_all within b.0) (nat_lt a.0 count) all (number_kept starts t.default a.0 a.1))
+    (and_from (has_high made && list_all within b.0) (nat_lt a.0 count) all (number_kept starts t.default a.0 a.1))
 
 abbrev PairsFit : ℕ → Option ℤ → List SwitchPair → Type 0
 PairsFit count previous qs = (keys_rise previous qs ≡ true) × (list_all (λ (q : SwitchPair). nat_lt q.target count) qs ≡ true)
@@ -80,7 +81,7 @@ pairs_numbered_fit starts previous (p ∷ ps) qs rise h =
     let is : q ≡ a.0 = same_Ok {F = CodeFault} q a.0 t.2 in
     let above = both_true (is_above previous p.key) (keys_rise (Some p.key) ps) rise in
     let rest = pairs_numbered_fit starts (Some p.key) ps b.0 above.1 b.1 in
-    let whole : PairsFit count previous (q ∷ b.0) = (and_true (is_above previous p.key) (keys_rise (Some p.key) b.0) above.0 rest.0, and_true (nat_lt t.0 count) (list_all (λ (q : SwitchPair). nat_lt q.target count) b.0) (number_kept starts p.target t.0 t.1) rest.1) in
+    let whole : PairsFit count previous (q ∷ b.0) = (and_from (is_above previous p.key) (keys_rise (Some p.key) b.0) above.0 rest.0, and_from (nat_lt t.0 count) (list_all (λ (q : SwitchPair). nat_lt q.target count) b.0) (number_kept starts p.target t.0 t.1) rest.1) in
     subst (PairsFit count previous) (same_Ok {F = CodeFault} (a.0 ∷ b.0) qs b.2) (subst (λ (x : SwitchPair). PairsFit count previous (x ∷ b.0)) is whole)
 
 lookup_numbered_fits : (starts : List ℕ) (l s : LookupSwitch) → keys_rise None l.pairs ≡ true → lookup_numbered starts l ≡ Ok s → plain_fits (length starts) (plain.LookupSwitch s) ≡ true
@@ -91,9 +92,9 @@ lookup_numbered_fits starts l s rise h =
     let b = and_then_ok (each (pair_numbered starts) l.pairs) _ s a.2 in
     let made : LookupSwitch = record { pairs = b.0; default = a.0 } in
     let pairs = pairs_numbered_fit starts None l.pairs b.0 rise b.1 in
-    let all = and_true (keys_rise None b.0) (list_all (λ (q : SwitchPair). nat_lt q.target count) b.0) pairs.0 pairs.1 in
+    let all = and_from (keys_rise None b.0) (list_all (λ (q : SwitchPair). nat_lt q.target count) b.0) pairs.0 pairs.1 in
     subst (λ (x : LookupSwitch). plain_fits count (plain.LookupSwitch x) ≡ true) (same_Ok {F = CodeFault} made s b.2)
-    (and_true (keys_rise None b.0 && list_all (λ (q : SwitchPair). nat_lt q.target count) b.0) (nat_lt a.0 count) all (number_kept starts l.default a.0 a.1))
+    (and_from (keys_rise None b.0 && list_all (λ (q : SwitchPair). nat_lt q.target count) b.0) (nat_lt a.0 count) all (number_kept starts l.default a.0 a.1))
 
 plain_numbered_fits : (starts : List ℕ) (p q : Plain) → plain_kept p ≡ true → plain_numbered starts p ≡ Ok q → plain_fits (length starts) q ≡ true
 unfolding plain_numbered

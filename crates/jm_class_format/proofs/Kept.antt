@@ -3,10 +3,12 @@ use Rattle.std.proofs.Common.{◌≡◌, ℕ, zero, suc, Bool, true, false, List
 use Rattle.std.specs.Prelude.{if◌then◌else◌}
 use Rattle.std.specs.List.{list_all, position, position_or_len}
 use Rattle.std.proofs.lemmas.Option.{same_Some}
+use Rattle.std.proofs.lemmas.Bool.{and_from}
 use Rattle.jm_bytes.specs.Reading.{each}
 use Rattle.jm_bytes.specs.Laws.{and_then_ok, same_Ok}
 use Rattle.jm_bytes.specs.Format.{Format, many, repeated}
-use Rattle.jm_program.proofs.DescriptorLaws.{and_true, both_true, cond_inverse}
+use Rattle.jm_program.proofs.DescriptorLaws.{cond_inverse}
+use Rattle.jm_program.proofs.Truths.{both_true}
 
 -- ---- tests
 
@@ -31,7 +33,7 @@ unfolding many
 many_keep {A = A} ok f one zero bytes xs h = subst (λ (ys : List A). list_all ok ys ≡ true) h.1 refl
 many_keep {A = A} ok f one (suc n) bytes xs h =
     let others = many_keep ok f one n h.second.front h.second.value h.second.first in
-    subst (λ (ys : List A). list_all ok ys ≡ true) h.second.second.1 (and_true (ok h.value) (list_all ok h.second.value) (one h.front h.value h.first) others)
+    subst (λ (ys : List A). list_all ok ys ≡ true) h.second.second.1 (and_from (ok h.value) (list_all ok h.second.value) (one h.front h.value h.first) others)
 
 pub many_count : {F A : Type 0} (f : Format F A) (n : ℕ) (bytes : List ℕ) (xs : List A) → (many n f).Spells bytes xs → length xs ≡ n
 unfolding many
@@ -55,7 +57,7 @@ each_keep {F} {A} {B} before after f step (x ∷ xs) ys all h =
     let b = and_then_ok (each f xs) _ ys a.2 in
     let others = each_keep before after f step xs b.0 p.1 b.1 in
     subst (λ (zs : List B). (list_all after zs ≡ true) × (length (x ∷ xs) ≡ length zs)) (same_Ok {F = F} (a.0 ∷ b.0) ys b.2)
-    (and_true (after a.0) (list_all after b.0) (step x a.0 p.0 a.1) others.0, ap suc others.1)
+    (and_from (after a.0) (list_all after b.0) (step x a.0 p.0 a.1) others.0, ap suc others.1)
 
 pub all_pass : {A : Type 0} (xs : List A) → list_all (λ (_ : A). true) xs ≡ true
 all_pass [] = refl

@@ -2,13 +2,13 @@
 use Rattle.std.proofs.Common.{◌≡◌, ℕ, Bool, true, false, not, ◌&&◌, ◌||◌, ◌==◌, nat_le, List, Option, Some, None, refl, subst}
 use Rattle.std.specs.Prelude.{codes, is_none, is_some}
 use Rattle.std.specs.List.{list_all}
+use Rattle.std.proofs.lemmas.Bool.{and_from}
 use Rattle.jm_program.specs.Flags.{is_static, is_synchronized, is_native, is_abstract}
 use Rattle.jm_program.specs.Names.{is_unqualified, is_method_name, is_init, is_clinit, same_text}
 use Rattle.jm_program.specs.Descriptors.{is_method_type, is_kept_method_type}
 use Rattle.jm_program.specs.References.{type_fits}
 use Rattle.jm_program.specs.Codes.{code_fits}
 use Rattle.jm_program.specs.Fits.{constant_is_of, field_constant_fits, field_fits, is_class_initializer, is_finalizer, method_slots, body_fits, method_fits}
-use Rattle.jm_program.proofs.DescriptorLaws.{and_true, both_true}
 use Rattle.jm_program.specs.declared.constant.Constant.{Constant}
 use Rattle.jm_program.specs.declared.flags.AccessFlags.{AccessFlags}
 use Rattle.jm_program.specs.declared.descriptor.FieldType.{FieldType}
@@ -16,6 +16,7 @@ use Rattle.jm_program.specs.declared.descriptor.MethodDescriptor.{MethodDescript
 use Rattle.jm_program.specs.declared.code.Code.{Code}
 use Rattle.jm_program.specs.declared.class.Field.{Field}
 use Rattle.jm_program.specs.declared.class.Method.{Method}
+use Rattle.jm_program.proofs.Truths.{both_true}
 use Rattle.jm_class_format.specs.declared.constant_pool.Entry.{Entry}
 use Rattle.jm_class_format.specs.CodeAttribute.{whole_info}
 use Rattle.jm_class_format.specs.Members.{constant_value, field_attribute_info, field_attribute, field_attributes, field_name, field_type, field, fields, method_flags, method_name, own_receiver, declaration, may_have_code, method_attribute_info, method_attribute, method_attributes, method, methods}
@@ -45,7 +46,7 @@ field_info_kept es access t found true bytes more static fits h =
     let c : Constant = h.second.value in
     let held = both_true (t.dimensions == 0) (constant_is_of c t.element) (value_kept es t info.back c info.second.1) in
     subst (BeginsWith access t) h.second.second.1
-    (and_true (is_static access && t.dimensions == 0) (constant_is_of c t.element) (and_true (is_static access) (t.dimensions == 0) (static refl) held.0) held.1)
+    (and_from (is_static access && t.dimensions == 0) (constant_is_of c t.element) (and_from (is_static access) (t.dimensions == 0) (static refl) held.0) held.1)
 field_info_kept es access t found false bytes more static fits h = subst (BeginsWith access t) h.second.1 fits
 
 field_attribute_kept : (es : List Entry) (access : AccessFlags) (t : FieldType) (found : Option Constant) (bytes : List ℕ) (more : Option Constant) → BeginsWith access t found → (field_attribute es access t found).Spells bytes more → BeginsWith access t more
@@ -72,7 +73,7 @@ field_kept es bytes f h =
     let types : type_fits t ≡ true = (field_type_kept typed.value t typed.second.1).0 in
     let constants : field_constant_fits access t found ≡ true = field_attributes_kept es access t attributes.front found attributes.first in
     subst (λ (x : Field). field_fits x ≡ true) attributes.second.1
-    (and_true (is_unqualified name && type_fits t) (field_constant_fits access t found) (and_true (is_unqualified name) (type_fits t) names types) constants)
+    (and_from (is_unqualified name && type_fits t) (field_constant_fits access t found) (and_from (is_unqualified name) (type_fits t) names types) constants)
 
 pub fields_fit : (es : List Entry) (bytes : List ℕ) (fs : List Field) → (fields es).Spells bytes fs → list_all field_fits fs ≡ true
 unfolding fields
@@ -134,7 +135,7 @@ method_info_kept es in_interface m found true bytes more fits h =
     let held = both_true (is_none found) concrete (guard_held (is_none found && concrete) h.first.first.1) in
     let kept = guard_held allowed h.first.second.1 in
     subst (FoundFits in_interface m) h.second.second.1
-    (and_true (concrete && allowed) (code_fits (method_slots m) c) (and_true concrete allowed held.1 kept) (code_body_fits es (method_slots m) info.back c info.second.1))
+    (and_from (concrete && allowed) (code_fits (method_slots m) c) (and_from concrete allowed held.1 kept) (code_body_fits es (method_slots m) info.back c info.second.1))
 method_info_kept es in_interface m found false bytes more fits h = subst (FoundFits in_interface m) h.second.1 fits
 
 method_attribute_kept : (es : List Entry) (in_interface : Bool) (m : Method) (found : Option Code) (bytes : List ℕ) (more : Option Code) → FoundFits in_interface m found → (method_attribute es in_interface m found).Spells bytes more → FoundFits in_interface m more
@@ -168,11 +169,11 @@ method_rules in_interface m found declared body =
     let alone : Bool = not (is_static m.flags && is_synchronized m.flags) in
     let other : Bool = not (is_finalizer m) in
     let types = declared.2 in
-    and_true (name && type && known && few && native && alone && other) (body_fits in_interface m found)
-    (and_true (name && type && known && few && native && alone) other
-    (and_true (name && type && known && few && native) alone
-    (and_true (name && type && known && few) native
-    (and_true (name && type && known) few (and_true (name && type) known (and_true name type declared.1.0 types.0) types.1) types.2)
+    and_from (name && type && known && few && native && alone && other) (body_fits in_interface m found)
+    (and_from (name && type && known && few && native && alone) other
+    (and_from (name && type && known && few && native) alone
+    (and_from (name && type && known && few) native
+    (and_from (name && type && known) few (and_from (name && type) known (and_from name type declared.1.0 types.0) types.1) types.2)
     declared.0.0) declared.0.1) declared.3) body
 
 method_kept : (es : List Entry) (in_interface : Bool) (bytes : List ℕ) (x : Method) → (method es in_interface).Spells bytes x → method_fits in_interface x ≡ true

@@ -6,13 +6,14 @@ use Rattle.std.specs.List.{list_all}
 use Rattle.std.specs.Int.{w32, cast_signed, from_be_bytes}
 use Rattle.std.proofs.lemmas.Int.{ints}
 use Rattle.std.proofs.lemmas.Option.{same_Some}
+use Rattle.std.proofs.lemmas.Bool.{and_from}
 use mir.Val.{sel}
 use Rattle.jm_bytes.specs.Spelling.{IsRun}
 use Rattle.jm_program.specs.Instructions.{is_above, keys_rise, has_high}
-use Rattle.jm_program.proofs.DescriptorLaws.{and_true, both_true}
 use Rattle.jm_program.specs.declared.instruction.plain.SwitchPair.{SwitchPair}
 use Rattle.jm_program.specs.declared.instruction.plain.Plain.{Plain}
 use Rattle.jm_program.specs.declared.instruction.plain.Plain.TheVariants as plain
+use Rattle.jm_program.proofs.Truths.{both_true}
 use Rattle.jm_class_format.specs.declared.opcode.Opcode.{Opcode}
 use Rattle.jm_class_format.specs.declared.opcode.Opcode.TheVariants as opcode
 use Rattle.jm_class_format.specs.declared.instruction.IndexedInstr.{IndexedInstr}
@@ -78,7 +79,7 @@ table_kept at bytes i h =
     let targets : List ℕ = h.second.second.second.value in
     let long : length targets ≡ count = many_count (far_target at) h.second.second.value.1 h.second.second.second.front targets h.second.second.second.first ∙ sym (ap (λ (p : ℤ × ℕ). p.1) ints) in
     let high : (nat_lt 0 (length targets) && int_le (low +ℤ pos (length targets)) (pos 2147483648)) ≡ true =
-    and_true (nat_lt 0 (length targets)) (int_le (low +ℤ pos (length targets)) (pos 2147483648)) (ap (λ (n : ℕ). nat_lt 0 n) long ∙ kept.0) (ap (λ (n : ℕ). int_le (low +ℤ pos n) (pos 2147483648)) long ∙ kept.1) in
+    and_from (nat_lt 0 (length targets)) (int_le (low +ℤ pos (length targets)) (pos 2147483648)) (ap (λ (n : ℕ). nat_lt 0 n) long ∙ kept.0) (ap (λ (n : ℕ). int_le (low +ℤ pos n) (pos 2147483648)) long ∙ kept.1) in
     let made : has_high (record { low = h.second.second.value.0; targets = targets; default = default }) ≡ true = subst (λ (p : ℤ × ℕ). has_high (record { low = p.0; targets = targets; default = default }) ≡ true) ints high in
     subst Kept h.second.second.second.second.1 made
 
@@ -99,10 +100,10 @@ last_of [] = refl
 last_of (p ∷ ps) = last_is p ps
 
 rise_more : (previous : Option ℤ) (ps : List SwitchPair) (p : SwitchPair) → keys_rise previous ps ≡ true → is_above (last_or previous ps) p.key ≡ true → keys_rise previous (ps ++ p ∷ []) ≡ true
-rise_more previous [] p rise above = and_true (is_above previous p.key) true above refl
+rise_more previous [] p rise above = and_from (is_above previous p.key) true above refl
 rise_more previous (q ∷ qs) p rise above =
     let a = both_true (is_above previous q.key) (keys_rise (Some q.key) qs) rise in
-    and_true (is_above previous q.key) (keys_rise (Some q.key) (qs ++ p ∷ [])) a.0 (rise_more (Some q.key) qs p a.1 above)
+    and_from (is_above previous q.key) (keys_rise (Some q.key) (qs ++ p ∷ [])) a.0 (rise_more (Some q.key) qs p a.1 above)
 
 abbrev Rise : List SwitchPair → Type 0
 Rise ps = keys_rise None ps ≡ true
@@ -168,4 +169,4 @@ placed_kept at bytes p h =
 
 pub run_kept : (at : ℕ) (ps : List PlacedInstr) (bytes : List ℕ) → IsRun (λ n. (placed n).Spells) at ps bytes → list_all (λ (p : PlacedInstr). instr_kept p.instr) ps ≡ true
 run_kept at [] bytes h = refl
-run_kept at (p ∷ ps) bytes h = and_true (instr_kept p.instr) (list_all (λ (p : PlacedInstr). instr_kept p.instr) ps) (placed_kept at h.0 p h.3) (run_kept (at + length h.0) ps h.1 h.4)
+run_kept at (p ∷ ps) bytes h = and_from (instr_kept p.instr) (list_all (λ (p : PlacedInstr). instr_kept p.instr) ps) (placed_kept at h.0 p h.3) (run_kept (at + length h.0) ps h.1 h.4)

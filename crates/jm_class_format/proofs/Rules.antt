@@ -1,11 +1,12 @@
 -- A class that bytes spell keeps the rules of a class.
 use Rattle.std.proofs.Common.{◌≡◌, ℕ, Bool, true, ◌&&◌, List, subst}
 use Rattle.std.specs.List.{list_all}
+use Rattle.std.proofs.lemmas.Bool.{and_from}
 use Rattle.jm_program.specs.Flags.{is_interface}
 use Rattle.jm_program.specs.Names.{is_class_name}
 use Rattle.jm_program.specs.Fits.{Fits, version_fits, superclass_fits, field_fits, method_fits}
-use Rattle.jm_program.proofs.DescriptorLaws.{both_true, and_true}
 use Rattle.jm_program.specs.declared.class.ClassParts.{ClassParts}
+use Rattle.jm_program.proofs.Truths.{both_true}
 use Rattle.jm_class_format.specs.ClassFile.{Spells, class, class_fits, parts_of}
 use Rattle.jm_class_format.proofs.Kept.{guard_held}
 
@@ -34,10 +35,10 @@ of_fits c h =
     let interfaces : Bool = list_all is_class_name c.interfaces in
     let fields : Bool = list_all field_fits c.fields in
     let methods : Bool = list_all (method_fits (is_interface c.flags)) c.methods in
-    and_true (version && name && superclass && interfaces && fields) methods
-    (and_true (version && name && superclass && interfaces) fields
-    (and_true (version && name && superclass) interfaces
-    (and_true (version && name) superclass (and_true version name h.version h.name) h.superclass) h.interfaces) h.fields) h.methods
+    and_from (version && name && superclass && interfaces && fields) methods
+    (and_from (version && name && superclass && interfaces) fields
+    (and_from (version && name && superclass) interfaces
+    (and_from (version && name) superclass (and_from version name h.version h.name) h.superclass) h.interfaces) h.fields) h.methods
 
 pub spelled_fits : (bytes : List ℕ) (c : ClassParts) → Spells bytes c → Fits c
 unfolding class

@@ -3,6 +3,7 @@ use Rattle.std.proofs.Common.{◌≡◌, ℕ, ◌+◌, Bool, true, false, ◌&&�
 use Rattle.std.specs.Prelude.{if◌then◌else◌}
 use Rattle.std.specs.Option.{ok_or}
 use Rattle.std.specs.List.{list_all}
+use Rattle.std.proofs.lemmas.Bool.{and_from}
 use Rattle.jm_bytes.specs.Reading.{and_then}
 use Rattle.jm_bytes.specs.Laws.{and_then_ok, ok_or_ok, same_Ok}
 use Rattle.jm_program.specs.Names.{is_class_name, is_unqualified, is_method_name, is_invoked_name}
@@ -10,7 +11,7 @@ use Rattle.jm_program.specs.Descriptors.{is_descriptor, is_field_type, is_kept_e
 use Rattle.jm_program.specs.DescriptorReading.{whole_descriptor}
 use Rattle.jm_program.specs.References.{type_fits, class_ref_fits, field_ref_fits, method_ref_fits, receiver_slots}
 use Rattle.jm_program.specs.Instructions.{can_be_element, has_dimensions, type_op_fits}
-use Rattle.jm_program.proofs.DescriptorLaws.{and_true, element_front}
+use Rattle.jm_program.proofs.DescriptorLaws.{element_front}
 use Rattle.jm_program.proofs.WholeDescriptors.{whole_sound}
 use Rattle.jm_program.specs.declared.descriptor.BaseType.TheVariants as base
 use Rattle.jm_program.specs.declared.descriptor.ElementType.{ElementType}
@@ -106,7 +107,7 @@ field_type_kept us t h =
     let same : a.0 ≡ descriptor.Field t = field_held a.0 b.0 b.1 ∙ ap (λ (x : FieldType). descriptor.Field x) kept.1 in
     let whole = subst (λ (x : Descriptor). (is_descriptor x ≡ true) × (us ≡ descriptor_text x)) same (descriptor_kept us a.0 a.1) in
     let element : is_kept_field_type t ≡ true = subst (λ (x : FieldType). is_kept_field_type x ≡ true) kept.1 (kept_element b.0.element kept.0) in
-    (and_true (is_field_type t) (is_kept_field_type t) whole.0 element, whole.1)
+    (and_from (is_field_type t) (is_kept_field_type t) whole.0 element, whole.1)
 
 or_none : (o p : Option LeftOutPart) → or_else o p ≡ None → (o ≡ None) × (p ≡ None)
 or_none None p h = (refl, h)
@@ -116,7 +117,7 @@ kept_types : (ts : List FieldType) → left_out_types ts ≡ None → list_all i
 kept_types [] h = refl
 kept_types (t ∷ ts) h =
     let p = or_none (left_out_element t.element) (left_out_types ts) h in
-    and_true (is_kept_field_type t) (list_all is_kept_field_type ts) (kept_element t.element p.0) (kept_types ts p.1)
+    and_from (is_kept_field_type t) (list_all is_kept_field_type ts) (kept_element t.element p.0) (kept_types ts p.1)
 
 kept_return : (r : Option FieldType) → left_out_return r ≡ None → is_kept_return_type r ≡ true
 kept_return None h = refl
@@ -126,7 +127,7 @@ kept_method : (d : MethodDescriptor) → left_out_method_type d ≡ None → is_
 unfolding left_out_method_type
 kept_method d h =
     let p = or_none (left_out_types d.parameters) (left_out_return d.return_type) h in
-    and_true (list_all is_kept_field_type d.parameters) (is_kept_return_type d.return_type) (kept_types d.parameters p.0) (kept_return d.return_type p.1)
+    and_from (list_all is_kept_field_type d.parameters) (is_kept_return_type d.return_type) (kept_types d.parameters p.0) (kept_return d.return_type p.1)
 
 slots_held : (b : Bool) (d e : MethodDescriptor) → ◌≡◌ {A = Result MethodDescriptor ReadFault} (if b then Ok d else Err fault.BadDescriptor) (Ok e) → (b ≡ true) × (d ≡ e)
 slots_held true d e h = (refl, same_Ok {F = ReadFault} d e h)
@@ -168,7 +169,7 @@ class_ref_by true us c is h =
     let a = and_then_ok (field_type_of us) array c h in
     let p = field_type_kept us a.0 a.1 in
     let dimension = has_dimension a.0.dimensions a.0.element (sym (ap begins_with_bracket p.1) ∙ is) in
-    subst (λ (x : ClassRef). class_ref_fits x ≡ true) (same_Ok {F = ReadFault} (class_ref.Array a.0) c a.2) (and_true (nat_lt 0 a.0.dimensions) (type_fits a.0) dimension p.0)
+    subst (λ (x : ClassRef). class_ref_fits x ≡ true) (same_Ok {F = ReadFault} (class_ref.Array a.0) c a.2) (and_from (nat_lt 0 a.0.dimensions) (type_fits a.0) dimension p.0)
 class_ref_by false us c is h =
     let class : List ℕ → Result ClassRef ReadFault = λ name. Ok (class_ref.Class name) in
     let a = and_then_ok (class_name_of us) class c h in
@@ -204,10 +205,10 @@ dimensioned_kept n d c h =
 pub operand_kept : (op : TypeOp) (d c : ClassRef) → class_ref_fits d ≡ true → operand_ref op d ≡ Ok c → type_op_fits op c ≡ true
 operand_kept type.NewArray d c fits h =
     let p = element_kept d c h in
-    and_true (class_ref_fits c) (can_be_element c) (subst (λ (x : ClassRef). class_ref_fits x ≡ true) p.1 fits) p.0
+    and_from (class_ref_fits c) (can_be_element c) (subst (λ (x : ClassRef). class_ref_fits x ≡ true) p.1 fits) p.0
 operand_kept (type.NewArrays n) d c fits h =
     let p = dimensioned_kept n d c h in
-    and_true (class_ref_fits c) (has_dimensions c n) (subst (λ (x : ClassRef). class_ref_fits x ≡ true) p.1 fits) p.0
+    and_from (class_ref_fits c) (has_dimensions c n) (subst (λ (x : ClassRef). class_ref_fits x ≡ true) p.1 fits) p.0
 operand_kept type.CheckCast d c fits h = subst (λ (x : ClassRef). class_ref_fits x ≡ true) (same_Ok {F = ReadFault} d c h) fits
 operand_kept type.InstanceOf d c fits h = subst (λ (x : ClassRef). class_ref_fits x ≡ true) (same_Ok {F = ReadFault} d c h) fits
 
@@ -218,8 +219,8 @@ field_ref_kept texts f h =
     let a = and_then_ok (class_ref_of texts.0) (λ class. and_then (field_name_of texts.1) (λ name. and_then (field_type_of texts.2) (make class name))) f h in
     let b = and_then_ok (field_name_of texts.1) (λ name. and_then (field_type_of texts.2) (make a.0 name)) f a.2 in
     let e = and_then_ok (field_type_of texts.2) (make a.0 b.0) f b.2 in
-    let names = and_true (class_ref_fits a.0) (is_unqualified b.0) (class_ref_kept texts.0 a.0 a.1) (field_name_fits texts.1 b.0 b.1) in
-    let all = and_true (class_ref_fits a.0 && is_unqualified b.0) (type_fits e.0) names (field_type_kept texts.2 e.0 e.1).0 in
+    let names = and_from (class_ref_fits a.0) (is_unqualified b.0) (class_ref_kept texts.0 a.0 a.1) (field_name_fits texts.1 b.0 b.1) in
+    let all = and_from (class_ref_fits a.0 && is_unqualified b.0) (type_fits e.0) names (field_type_kept texts.2 e.0 e.1).0 in
     let made : FieldRef = record { class = a.0; name = b.0; descriptor = e.0 } in
     subst (λ (x : FieldRef). field_ref_fits x ≡ true) {x = made} (same_Ok {F = ReadFault} made f e.2) all
 
@@ -234,8 +235,8 @@ method_ref_kept op texts m h =
     let name = invoked_name_fits texts.1 b.0 b.1 in
     let type = method_type_kept (receiver_slots op) texts.2 e.0 e.1 in
     let made : MethodRef = record { class = a.0; name = b.0; descriptor = e.0 } in
-    let names = and_true (class_ref_fits a.0) (is_invoked_name b.0) class name in
-    let types = and_true (class_ref_fits a.0 && is_invoked_name b.0) (is_method_type e.0) names type.0 in
-    let kept = and_true (class_ref_fits a.0 && is_invoked_name b.0 && is_method_type e.0) (is_kept_method_type e.0) types type.1 in
-    let all = and_true (class_ref_fits a.0 && is_invoked_name b.0 && is_method_type e.0 && is_kept_method_type e.0) (nat_le (argument_slots e.0 + receiver_slots op) 255) kept type.2 in
+    let names = and_from (class_ref_fits a.0) (is_invoked_name b.0) class name in
+    let types = and_from (class_ref_fits a.0 && is_invoked_name b.0) (is_method_type e.0) names type.0 in
+    let kept = and_from (class_ref_fits a.0 && is_invoked_name b.0 && is_method_type e.0) (is_kept_method_type e.0) types type.1 in
+    let all = and_from (class_ref_fits a.0 && is_invoked_name b.0 && is_method_type e.0 && is_kept_method_type e.0) (nat_le (argument_slots e.0 + receiver_slots op) 255) kept type.2 in
     subst (λ (x : MethodRef). method_ref_fits op x ≡ true) {x = made} (same_Ok {F = ReadFault} made m e.2) all

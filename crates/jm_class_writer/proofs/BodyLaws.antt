@@ -2,7 +2,7 @@
 use Rattle.std.proofs.Common.{◌≡◌, ℕ, zero, suc, ◌<◌, Bool, true, false, cond, ◌&&◌, eqb, leb, ltb, List, [], ◌∷◌, ◌++◌, length, map, Option, Some, None, Result, Ok, refl, sym, ap, subst, ◌∙◌, arith, slice_get}
 use Rattle.std.specs.Prelude.{codes}
 use Rattle.std.specs.List.{All, list_all, position}
-use Rattle.std.proofs.lemmas.Bool.{eqb-true, ltb-true, lt-ltb}
+use Rattle.std.proofs.lemmas.Bool.{eqb-true, ltb-true, lt-ltb, and_from}
 use Rattle.std.proofs.lemmas.Bool.Decides.{nat_tests}
 use Rattle.std.proofs.lemmas.Option.{slice_get_within, get_or_from_slice_get}
 use Rattle.jm_bytes.specs.Laws.{and_then_ok, same_Ok, ok_or_ok, fault_as_ok}
@@ -11,11 +11,11 @@ use Rattle.jm_bytes.specs.Format.{Format, ◌>>=◌, done, outcome, guard, u2, u
 use Rattle.jm_program.specs.Names.{same_text, is_class_name}
 use Rattle.jm_program.specs.Instructions.{instr_fits}
 use Rattle.jm_program.specs.Codes.{catch_type_fits, handler_fits, line_fits}
-use Rattle.jm_program.proofs.DescriptorLaws.{both_true, and_true}
 use Rattle.jm_program.specs.declared.instruction.symbolic.Instr.{Instr}
 use Rattle.jm_program.specs.declared.code.Code.{Code}
 use Rattle.jm_program.specs.declared.code.Handler.{Handler}
 use Rattle.jm_program.specs.declared.code.LineNumber.{LineNumber}
+use Rattle.jm_program.proofs.Truths.{both_true}
 use Rattle.jm_class_format.specs.declared.constant_pool.Entry.{Entry}
 use Rattle.jm_class_format.specs.declared.instruction.IndexedInstr.{IndexedInstr}
 use Rattle.jm_class_format.specs.declared.instruction.PlacedInstr.{PlacedInstr}
@@ -248,7 +248,7 @@ instrs_law count (i ∷ is) a x s r fits h =
       grows = grows_on a p.0.1 q.0.1 one.grows rest.grows;
       names = λ final b. rw (one.names final (begins_on p.0.1.entries q.0.1.entries final rest.grows.begins b)) (rw (rest.names final b) refl);
       range = All-cons ranges.InRange p.0.0 q.0.0 (one.range s) rest.range;
-      ruled = and_true (has_bytes p.0.0) (list_all has_bytes q.0.0) one.ruled rest.ruled;
+      ruled = and_from (has_bytes p.0.0) (list_all has_bytes q.0.0) one.ruled rest.ruled;
       count = ap suc rest.count;
     })
 
@@ -314,7 +314,7 @@ unfolding put_bytes
 bytes_put bytes a z h = ap (λ (x : Unit {0} × DraftParts). x.1) (same_Ok {F = WriteFault} (tt, drafts.add_bytes bytes a) z h)
 
 length_fits : (n : ℕ) → 0 < n → n < 65536 → (ltb 0 n && ltb n 65536) ≡ true
-length_fits n some few = and_true (ltb 0 n) (ltb n 65536) (lt-ltb 0 n some) (lt-ltb n 65536 few)
+length_fits n some few = and_from (ltb 0 n) (ltb n 65536) (lt-ltb 0 n some) (lt-ltb n 65536 few)
 
 size_writes : (n : ℕ) (a : DraftParts) (z : Unit {0} × DraftParts) → 0 < n → n < 65536 → put_u4 n a ≡ Ok z → Writes (λ es. attribute.code_length) n a z.1
 unfolding attribute.code_length

@@ -2,6 +2,7 @@
 use Rattle.std.proofs.Common.{◌≡◌, ℕ, zero, suc, Bool, true, false, not, ◌&&◌, ◌||◌, eqb, leb, List, Option, Some, None, Ok, refl, sym, subst}
 use Rattle.std.specs.Prelude.{codes, is_some}
 use Rattle.std.specs.List.{All, list_all}
+use Rattle.std.proofs.lemmas.Bool.{and_from}
 use Rattle.jm_bytes.specs.Reading.{and_then}
 use Rattle.jm_bytes.specs.Format.{Format, ◌>>=◌, done, outcome, guard, u2, repeated}
 use Rattle.jm_program.specs.Flags.{is_static, is_synchronized, is_native, is_abstract}
@@ -10,7 +11,6 @@ use Rattle.jm_program.specs.Descriptors.{field_text, method_text, is_method_type
 use Rattle.jm_program.specs.References.{type_fits}
 use Rattle.jm_program.specs.Codes.{code_fits}
 use Rattle.jm_program.specs.Fits.{superclass_fits, field_fits, field_constant_fits, constant_is_of, method_fits, method_slots, body_fits, is_finalizer, is_class_initializer, Fits}
-use Rattle.jm_program.proofs.DescriptorLaws.{both_true, and_true}
 use Rattle.jm_program.specs.declared.constant.Constant.{Constant}
 use Rattle.jm_program.specs.declared.constant.Constant.TheVariants as constant
 use Rattle.jm_program.specs.declared.flags.AccessFlags.{AccessFlags}
@@ -19,6 +19,7 @@ use Rattle.jm_program.specs.declared.code.Code.{Code}
 use Rattle.jm_program.specs.declared.class.Field.{Field}
 use Rattle.jm_program.specs.declared.class.Method.{Method}
 use Rattle.jm_program.specs.declared.class.ClassParts.{ClassParts}
+use Rattle.jm_program.proofs.Truths.{both_true}
 use Rattle.jm_class_format.specs.declared.constant_pool.Entry.{Entry}
 use Rattle.jm_class_format.specs.declared.read_fault.ReadFault.{ReadFault}
 use Rattle.jm_class_format.specs.declared.read_fault.ReadFault.TheVariants as read
@@ -142,7 +143,7 @@ field_attributes_writes access t (Some value) a z r fits h =
     let q = step_ok (put_name (codes "ConstantValue")) (λ _. with_length (put_constant value)) p.0.1 z p.2 in
     let body : Writes (λ es. whole_info read.Cut (members.constant_value es t)) value q.0.1 z.1 =
     length_writes read.Cut (λ es. members.constant_value es t) value (put_constant value) q.0.1 z
-    (λ x k. constant_writes t value (opened q.0.1) x r (and_true (eqb t.dimensions 0) (constant_is_of value t.element) static.1 kind.1) k) q.2 in
+    (λ x k. constant_writes t value (opened q.0.1) x r (and_from (eqb t.dimensions 0) (constant_is_of value t.element) static.1 kind.1) k) q.2 in
     let info : Writes (λ es. members.field_attribute_info es t None true) (Some value) q.0.1 z.1 =
     writes_then (λ es. guard read.BadAttribute true) (λ es _. whole_info read.Cut (members.constant_value es t) >>= (λ v. done (Some v))) tt (Some value) q.0.1 q.0.1 z.1
     (writes_guard read.BadAttribute true q.0.1 refl)

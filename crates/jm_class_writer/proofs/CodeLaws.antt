@@ -8,7 +8,6 @@ use Rattle.jm_program.specs.Names.{is_class_name, is_unqualified, is_invoked_nam
 use Rattle.jm_program.specs.Descriptors.{field_text, method_text, argument_slots, is_method_type, is_kept_method_type}
 use Rattle.jm_program.specs.References.{type_fits, class_ref_fits, field_ref_fits, method_ref_fits, receiver_slots}
 use Rattle.jm_program.specs.Instructions.{instr_fits, plain_fits, has_high, keys_rise, type_op_fits, has_dimensions}
-use Rattle.jm_program.proofs.DescriptorLaws.{both_true}
 use Rattle.jm_program.specs.declared.constant.Constant.{Constant}
 use Rattle.jm_program.specs.declared.constant.Constant.TheVariants as constant
 use Rattle.jm_program.specs.declared.reference.ClassRef.{ClassRef}
@@ -25,6 +24,7 @@ use Rattle.jm_class_writer.proofs.Fitting.{slots_fit}
 use Rattle.jm_program.specs.declared.instruction.operation.TypeOp.TheVariants as type
 use Rattle.jm_program.specs.declared.instruction.symbolic.Instr.{Instr}
 use Rattle.jm_program.specs.declared.instruction.symbolic.Instr.TheVariants as instr
+use Rattle.jm_program.proofs.Truths.{both_true}
 use Rattle.jm_class_format.specs.declared.constant_pool.Entry.{Entry}
 use Rattle.jm_class_format.specs.declared.constant_pool.Entry.TheVariants as entry
 use Rattle.jm_class_format.specs.declared.instruction.IndexedInstr.{IndexedInstr}

@@ -7,11 +7,11 @@ use Rattle.jm_program.specs.Names.{is_invoked_name}
 use Rattle.jm_program.specs.Descriptors.{argument_slots, is_method_type, is_kept_method_type}
 use Rattle.jm_program.specs.References.{class_ref_fits, method_ref_fits}
 use Rattle.jm_program.specs.Fits.{method_fits, body_fits}
-use Rattle.jm_program.proofs.DescriptorLaws.{both_true}
 use Rattle.jm_program.specs.declared.code.Code.{Code}
 use Rattle.jm_program.specs.declared.class.Method.{Method}
 use Rattle.jm_program.specs.declared.reference.MethodRef.{MethodRef}
 use Rattle.jm_program.specs.declared.instruction.operation.InvokeOp.TheVariants.{Interface}
+use Rattle.jm_program.proofs.Truths.{both_true}
 use Rattle.jm_class_writer.specs.CodeParts.{InstructionsFit}
 
 -- the arguments of an interface's method take fewer than 255 slots

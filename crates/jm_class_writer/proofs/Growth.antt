@@ -76,7 +76,7 @@ writes_last f g x a b h = writes_then f (λ es y. done (g y)) x (g x) a b b h (w
 
 -- ---- numbers
 
-only_put : (b : Bool) (a : DraftParts) (z : Unit {0} × DraftParts) → cond b (Ok (tt, a)) (Err fault.TooMany) ≡ Ok z → (b ≡ true) × (a ≡ z.1)
+pub only_put : (b : Bool) (a : DraftParts) (z : Unit {0} × DraftParts) → cond b (Ok (tt, a)) (Err fault.TooMany) ≡ Ok z → (b ≡ true) × (a ≡ z.1)
 only_put true a z h = (refl, cc)
 only_put false a z h = absurd cc
 

@@ -36,17 +36,11 @@ use Rattle.jm_class_writer.specs.PoolUse.{entry_index, text_index, class_index, 
 use Rattle.jm_class_writer.specs.CodeParts.{load_of, invoke_of, instr_indexed, start_of, end_of, put_start, put_end, put_catch_type, put_handler, put_handlers, put_line, put_lines, put_name, put_line_table, put_code_attributes, put_instructions, code_encoded, put_code_body}
 use Rattle.jm_class_writer.specs.ClassParts.{put_constant}
 use Rattle.jm_class_writer.specs.Lengths.{LengthFits}
-use Rattle.jm_class_writer.proofs.Growth.{step_ok}
+use Rattle.jm_class_writer.proofs.Growth.{step_ok, only_put}
 
 -- at most so many bytes more
 abbrev Within : ℕ → DraftParts → DraftParts → Type 0
 Within n a b = length b.written ≤ length a.written + n
-
--- ---- numbers and bytes
-
-only_put : (b : Bool) (a : DraftParts) (z : Unit {0} × DraftParts) → cond b (Ok (tt, a)) (Err fault.TooMany) ≡ Ok z → (b ≡ true) × (a ≡ z.1)
-only_put true a z h = (refl, cc)
-only_put false a z h = absurd cc
 
 added : (bytes : List ℕ) (a b : DraftParts) → add_bytes bytes a ≡ b → length b.written ≡ length a.written + length bytes
 added bytes a b same = ap (λ (d : DraftParts). length d.written) (sym same) ∙ length-append a.written bytes

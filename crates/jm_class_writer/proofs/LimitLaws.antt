@@ -13,7 +13,6 @@ use Rattle.jm_program.specs.Instructions.{instr_fits}
 use Rattle.jm_program.specs.Codes.{handler_fits, line_fits, code_fits}
 use Rattle.jm_program.specs.Flags.{is_interface, is_abstract}
 use Rattle.jm_program.specs.Fits.{method_fits, body_fits, method_slots, is_class_initializer, Fits}
-use Rattle.jm_program.proofs.DescriptorLaws.{both_true}
 use Rattle.jm_program.specs.declared.constant.Constant.{Constant}
 use Rattle.jm_program.specs.declared.constant.Constant.TheVariants as constant
 use Rattle.jm_program.specs.declared.reference.ClassRef.{ClassRef}
@@ -30,6 +29,7 @@ use Rattle.jm_program.specs.declared.class.Version.{Version}
 use Rattle.jm_program.specs.declared.class.Field.{Field}
 use Rattle.jm_program.specs.declared.class.Method.{Method}
 use Rattle.jm_program.specs.declared.class.ClassParts.{ClassParts}
+use Rattle.jm_program.proofs.Truths.{both_true}
 use Rattle.jm_class_format.specs.ModifiedUtf8.{unit_bytes, text_bytes}
 use Rattle.jm_class_format.specs.PoolLookups.{entry_at}
 use Rattle.jm_class_format.specs.declared.constant_pool.Entry.{Entry}

@@ -1,5 +1,5 @@
 -- The parts that several structures have: names, lists with their count, and what stands behind its length.
-use Rattle.std.proofs.Common.{◌≡◌, ℕ, suc, ◌<◌, Bool, true, false, cond, ltb, List, [], ◌∷◌, ◌++◌, length, Result, Ok, Err, refl, sym, subst, append_assoc, arith}
+use Rattle.std.proofs.Common.{◌≡◌, ℕ, suc, ◌<◌, ltb, List, [], ◌∷◌, ◌++◌, length, Result, Ok, refl, sym, subst, append_assoc, arith}
 use Rattle.std.specs.Int.{w32, to_be_bytes}
 use Rattle.std.specs.List.{All}
 use Rattle.std.proofs.lemmas.Bool.{ltb-true}
@@ -22,7 +22,7 @@ use Rattle.jm_class_writer.specs.Drafts.{DraftParts, Drafting, put_u2, opened, c
 use Rattle.jm_class_writer.specs.PoolUse.{text_index}
 use Rattle.jm_class_writer.specs.CodeParts.{put_name}
 use Rattle.jm_class_writer.specs.Ranges.{UnitsInRange}
-use Rattle.jm_class_writer.proofs.Growth.{step_ok, Writes, writes_then, writes_done, writes_outcome, writes_last, writes_u2}
+use Rattle.jm_class_writer.proofs.Growth.{step_ok, only_put, Writes, writes_then, writes_done, writes_outcome, writes_last, writes_u2}
 use Rattle.jm_class_writer.proofs.PoolLaws.{IsText, text_indexed, text_named, writes_lookup}
 
 -- ---- names
@@ -91,10 +91,6 @@ count_writes_sound e f format P law xs a z s r h =
 
 -- ---- what stands behind its length
 
-only_closed : (b : Bool) (a : DraftParts) (z : Unit {0} × DraftParts) → cond b (Ok (tt, a)) (Err fault.TooMany) ≡ Ok z → (b ≡ true) × (a ≡ z.1)
-only_closed true a z h = (refl, cc)
-only_closed false a z h = absurd cc
-
 pub length_writes : {A : Type 0} (cut : ReadFault) (format : List Entry → Format ReadFault A) (v : A) (body : Drafting (Unit {0})) (a : DraftParts) (z : Unit {0} × DraftParts)
     → ((x : Unit {0} × DraftParts) → body (opened a) ≡ Ok x → Writes format v (opened a) x.1) → with_length body a ≡ Ok z → Writes (λ es. whole_info cut (format es)) v a z.1
 unfolding with_length closed whole_info
@@ -103,7 +99,7 @@ length_writes {A} cut format v body a z law h =
     let inner : List ℕ = p.0.1.written in
     let size : List ℕ = to_be_bytes w32 (length inner) in
     let after : DraftParts = record { entries = p.0.1.entries; written = a.written ++ size ++ inner } in
-    let g = only_closed (ltb (length inner) 4294967296) after z p.2 in
+    let g = only_put (ltb (length inner) 4294967296) after z p.2 in
     let w = law p.0 p.1 in
     let same : w.text ≡ inner = sym w.bytes in
     subst (λ (d : DraftParts). Writes (λ es. whole_info cut (format es)) v a d) g.1

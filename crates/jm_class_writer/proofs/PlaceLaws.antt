@@ -9,12 +9,12 @@ use Rattle.std.proofs.lemmas.List.Elements.{All-nil, All-cons}
 use Rattle.std.proofs.lemmas.Option.{slice_get-get_or}
 use Rattle.jm_bytes.specs.Laws.{and_then_ok, ok_pair_parts, fault_as_ok}
 use Rattle.jm_bytes.specs.Reading.{fault_as}
-use Rattle.jm_program.proofs.DescriptorLaws.{both_true}
 use Rattle.jm_program.specs.Instructions.{instr_fits}
 use Rattle.jm_program.specs.Codes.{catch_type_fits, handler_fits, line_fits}
 use Rattle.jm_program.specs.declared.code.Code.{Code}
 use Rattle.jm_program.specs.declared.code.Handler.{Handler}
 use Rattle.jm_program.specs.declared.instruction.symbolic.Instr.{Instr}
+use Rattle.jm_program.proofs.Truths.{both_true}
 use Rattle.jm_encode.specs.declared.encoded.EncodedCode.{EncodedCode}
 use Rattle.jm_encode.specs.Encoding.{starts_from, encoded}
 use Rattle.jm_encode.proofs.Codes.{starts_length, encoded_ok}

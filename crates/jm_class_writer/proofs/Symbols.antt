@@ -7,7 +7,6 @@ use Rattle.jm_program.specs.Names.{is_name_unit, is_unqualified, is_class_name, 
 use Rattle.jm_program.specs.Descriptors.{field_text, method_text, descriptor_text, argument_slots, is_named_element, is_field_type, is_method_type, is_descriptor, is_kept_element, is_kept_field_type, is_kept_return_type, is_kept_method_type}
 use Rattle.jm_program.specs.References.{type_fits, class_ref_fits}
 use Rattle.jm_program.specs.Instructions.{can_be_element, has_dimensions, type_op_fits}
-use Rattle.jm_program.proofs.DescriptorLaws.{both_true}
 use Rattle.jm_program.proofs.WholeDescriptors.{whole_complete}
 use Rattle.jm_program.proofs.NameShapes.{descriptor_shape}
 use Rattle.jm_program.specs.declared.descriptor.BaseType.TheVariants as base
@@ -21,6 +20,7 @@ use Rattle.jm_program.specs.declared.reference.ClassRef.{ClassRef}
 use Rattle.jm_program.specs.declared.reference.ClassRef.TheVariants as class_ref
 use Rattle.jm_program.specs.declared.instruction.operation.TypeOp.{TypeOp}
 use Rattle.jm_program.specs.declared.instruction.operation.TypeOp.TheVariants as type
+use Rattle.jm_program.proofs.Truths.{both_true}
 use Rattle.jm_class_format.specs.Symbols.{element_ref, dimensioned_ref, operand_ref, class_name_of, field_name_of, method_name_of, invoked_name_of, descriptor_of, field_only, method_only, left_out_element, left_out_types, left_out_return, left_out_method_type, field_type_of, with_slots, method_type_of, begins_with_bracket, class_ref_of}
 use Rattle.jm_class_writer.specs.PoolUse.{class_text}
 

@@ -3,12 +3,11 @@ use Rattle.std.proofs.Common.{◌≡◌, ℕ, suc, ◌+◌, ◌<◌, Bool, true,
 use Rattle.std.specs.Prelude.{ℤ, pos, negsuc, ◌&&◌, int_le, nat_lt}
 use Rattle.std.specs.List.{list_all}
 use Rattle.std.specs.Int.{w16, w32}
-use Rattle.std.proofs.lemmas.Bool.{ltb-true}
+use Rattle.std.proofs.lemmas.Bool.{ltb-true, and_from}
 use Rattle.std.proofs.lemmas.Option.{slice_get-get_or}
 use Rattle.jm_bytes.specs.Laws.{and_then_ok, same_Ok}
 use Rattle.jm_bytes.specs.Reading.{and_then}
 use Rattle.jm_bytes.specs.Writing.{signed_bytes}
-use Rattle.jm_program.proofs.DescriptorLaws.{both_true}
 use Rattle.jm_program.specs.Instructions.{has_high, plain_fits, instr_fits}
 use Rattle.jm_program.specs.declared.instruction.operation.Branch.{Branch}
 use Rattle.jm_program.specs.declared.instruction.operation.Branch.TheVariants as branch
@@ -22,7 +21,6 @@ use Rattle.jm_encode.specs.declared.fault.EncodeFault.{EncodeFault}
 use Rattle.jm_encode.specs.declared.fault.EncodeFault.TheVariants as fault
 use Rattle.jm_encode.specs.Encoding.{distance, in_16_bits, near_text, far_text, branch_text, texts, table_text, pair_text, lookup_text, plain_text, text_at, placed_text, placed_from, starts_from, size_at, end_from, all_starts, encoded}
 use Rattle.jm_encode.proofs.Codes.{starts_length}
-use Rattle.jm_program.proofs.DescriptorLaws.{and_true}
 use Rattle.jm_program.specs.declared.constant.Constant.{Constant}
 use Rattle.jm_program.specs.declared.constant.Constant.TheVariants as constant
 use Rattle.jm_program.specs.declared.reference.MethodRef.{MethodRef}
@@ -30,6 +28,7 @@ use Rattle.jm_program.specs.declared.instruction.operation.InvokeOp.{InvokeOp}
 use Rattle.jm_program.specs.declared.instruction.operation.InvokeOp.TheVariants as invoke
 use Rattle.jm_program.specs.declared.instruction.symbolic.Instr.{Instr}
 use Rattle.jm_program.specs.declared.instruction.symbolic.Instr.TheVariants as instr
+use Rattle.jm_program.proofs.Truths.{both_true}
 use Rattle.jm_class_writer.specs.declared.fault.WriteFault.{WriteFault}
 use Rattle.jm_class_writer.specs.Drafts.{DraftParts, Drafting, each_of}
 use Rattle.jm_class_writer.specs.PoolUse.{class_index, constant_index, class_ref_index, field_ref_index, method_ref_index}
@@ -192,7 +191,7 @@ all_kept count (i ∷ is) a x fits h =
     let first = instr_kept count i a p.0 both.0 p.1 in
     let rest = all_kept count is p.0.1 q.0 both.1 q.1 in
     subst (λ (y : List IndexedInstr × DraftParts). (list_all (targets_fit count) y.0 ≡ true) × (length y.0 ≡ suc (length is))) (same_Ok {F = WriteFault} (p.0.0 ∷ q.0.0, q.0.1) x q.2)
-    (and_true (targets_fit count p.0.0) (list_all (targets_fit count) q.0.0) first rest.0, ap suc rest.1)
+    (and_from (targets_fit count p.0.0) (list_all (targets_fit count) q.0.0) first rest.0, ap suc rest.1)
 
 pub no_bad_target : (is : List Instr) (a : DraftParts) (all : List IndexedInstr) (b : DraftParts) → list_all (instr_fits (length is)) is ≡ true → each_of instr_indexed is a ≡ Ok (all, b) → ¬ (encoded all ≡ Err fault.BadTarget)
 no_bad_target is a all b fits h =

@@ -9,10 +9,12 @@ use Rattle.jm_values.specs.Shape.{Among}
 use Rattle.jm_values.specs.Reach.{Reach, root, field}
 use Rattle.jm_values.specs.declared.value.Value.{Value}
 use Rattle.jm_values.specs.declared.value.Value.TheVariants.{Int, Long, Null, Ref}
+use Rattle.jm_values.proofs.Lists.{get_there}
+use Rattle.jm_values.proofs.Among.{index_among}
 use Rattle.jm_blocks.specs.Objects.{Object}
 use Rattle.jm_copy.specs.Image.{IsImage, bare, bare_at, older, renamed, copy_of}
 use Rattle.jm_copy.specs.Copying.{Forwarded, ForwardedValue, IsCopy, HasCopy, Copying, Progress, AreForwarded, IsScanned, Moves}
-use Rattle.jm_copy.proofs.Listed.{some_at, mapped_at, same_lists, at_among, at_ref}
+use Rattle.jm_copy.proofs.Listed.{mapped_at, same_lists, at_ref}
 
 -- a forwarded place is the renamed one
 place_renamed : (old : ℕ → Option Object) (m : ℕ → Option ℕ) (p q : ℕ) → ((r n : ℕ) → m r ≡ Some n → (o : Object) × (old r ≡ Some o)) → Forwarded old (Moves m) p q → q ≡ renamed m p
@@ -70,7 +72,7 @@ module _ {old : ℕ → Option Object} {roots : List ℕ} where
           let at = at_ref has.o.values p (subst family has.old_is h) in
           let copy = full q n has in
           let within : at.0 < length has.o.values = slice_get_within has.o.values at.0 (Ref p) at.1 in
-          let w = some_at has.a.values at.0 (let same = copy.values.many in omega arith) in
+          let w = get_there has.a.values at.0 (let same = copy.values.many in omega arith) in
           let v : ForwardedValue old (Moves m) (Ref p) w.0 = copy.values.done at.0 (Ref p) w.0 within at.1 w.1 in
           has_place p v.0 o g v.2
 
@@ -84,8 +86,8 @@ module _ {old : ℕ → Option Object} {roots : List ℕ} where
 
       reached_all : (p : ℕ) (o : Object) → Reach (bare_at old) roots p → old p ≡ Some o → (n : ℕ) × (m p ≡ Some n)
       reached_all p o (root _ h) e =
-          let at = at_among roots p h in
-          let q = some_at new_roots at.0 (let w = slice_get_within roots at.0 p at.1 in omega arith) in
+          let at = index_among roots p h in
+          let q = get_there new_roots at.0 (let w = slice_get_within roots at.0 p at.1 in omega arith) in
           has_place p q.0 o e (f.each at.0 p q.0 at.1 q.1)
       reached_all p o (field q _ h g) e =
           let from = holder q p g in

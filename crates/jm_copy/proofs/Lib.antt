@@ -10,3 +10,4 @@ pub mod Listed
 pub mod Steps
 pub mod Images
 pub mod Plain
+pub mod Scanning

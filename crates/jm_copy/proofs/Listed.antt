@@ -5,12 +5,8 @@ use Rattle.jm_values.specs.Shape.{Among}
 use Rattle.jm_values.specs.Rename.{refs, stack_shape}
 use Rattle.jm_values.specs.declared.value.Value.{Value}
 use Rattle.jm_values.specs.declared.value.Value.TheVariants.{Int, Long, Null, Ref}
-use Rattle.jm_values.proofs.Among.{among_left, among_right}
-
-pub some_at : {X : Type 0} (xs : List X) (i : ℕ) → i < length xs → (x : X) × (slice_get xs i ≡ Some x)
-some_at [] i h = absurd (omega arith)
-some_at (x ∷ xs) zero h = (x, refl)
-some_at (x ∷ xs) (suc i) h = some_at xs i (omega arith)
+use Rattle.jm_values.proofs.Among.{among_left, among_right, among_read, index_among}
+use Rattle.jm_values.proofs.Lists.{get_there}
 
 pub mapped_at : {X Y : Type 0} (f : X → Y) (xs : List X) (i : ℕ) (y : Y) → slice_get (map f xs) i ≡ Some y → (x : X) × (slice_get xs i ≡ Some x) × (y ≡ f x)
 mapped_at f [] i y e = cc
@@ -24,17 +20,6 @@ same_lists [] (y ∷ ys) m h = absurd (omega arith)
 same_lists (x ∷ xs) [] m h = absurd (omega arith)
 same_lists (x ∷ xs) (y ∷ ys) m h =
     ap (λ z. z ∷ xs) (h 0 x y refl refl) ∙ ap (λ zs. y ∷ zs) (same_lists xs ys (omega arith) (λ i a b e f. h (suc i) a b e f))
-
--- a number of a list stands at some place of it
-pub among_at : (ns : List ℕ) (i n : ℕ) → slice_get ns i ≡ Some n → Among n ns
-among_at [] i n e = cc
-among_at (x ∷ ns) zero n e = let same : x ≡ n = cc in inl (sym same)
-among_at (x ∷ ns) (suc i) n e = inr (among_at ns i n e)
-
-pub at_among : (ns : List ℕ) (n : ℕ) → Among n ns → (i : ℕ) × (slice_get ns i ≡ Some n)
-at_among [] n h = absurd h
-at_among (x ∷ ns) n (inl e) = (0, ap (λ y. Some y) (sym e))
-at_among (x ∷ ns) n (inr h) = let at = at_among ns n h in (suc at.0, at.1)
 
 -- and a reference among the values
 pub ref_at : (vs : List Value) (i p : ℕ) → slice_get vs i ≡ Some (Ref p) → Among p (stack_shape.refs vs)

@@ -3,25 +3,17 @@ use Rattle.std.proofs.Common.{◌≡◌, ◌≢◌, ◌⊎◌, ℕ, zero, suc, �
 use Rattle.std.specs.Prelude.{nat_eq, nat_lt}
 use Rattle.std.proofs.lemmas.Bool.{lt-ltb, le-ltb, cases_lt}
 use Rattle.std.proofs.lemmas.Bool.Decides.{eqb_tells}
+use Rattle.jm_program.proofs.Numbers.{found_unequal}
 use Rattle.jm_values.specs.declared.value.Value.{Value}
-use Rattle.jm_blocks.specs.Objects.{Object, object_of}
-use Rattle.jm_blocks.specs.declared.header.Header.{Header}
-use Rattle.jm_nursery.specs.Ages.{survived, survived_at}
-use Rattle.jm_nursery.specs.declared.age.Survival.TheVariants.{Young, Old}
+use Rattle.jm_blocks.specs.Objects.{Object, aged}
 use Rattle.jm_copy.specs.Image.{older}
 use Rattle.jm_blocks.specs.Places.{lane_of}
 use Rattle.jm_blocks.specs.Stores.{Blocks, objects_in, HasObject, Bumped, Changed}
 use Rattle.jm_copy.specs.Copying.{IsAdded, IsReplaced, raw_copy}
 use Rattle.jm_copy.specs.Copies.{is_above, made_in, made, store_of, IsPutIn, IsPutYoung, IsPutOld, IsPut, Stays, Extends, IsMark, IsPast}
+use Rattle.jm_copy.specs.Marks.{AllStay, OthersStay}
 use Rattle.jm_copy.specs.Words.{moved}
 use Rattle.jm_copy.specs.declared.copies.Copies.{Copies}
-
-pub unequal : (a b : ℕ) → a ≢ b → nat_eq a b ≡ false
-unequal a b h = by (eqb_tells a b)
-  where
-    by : ((nat_eq a b ≡ true) × (a ≡ b)) ⊎ ((nat_eq a b ≡ false) × (a ≢ b)) → nat_eq a b ≡ false
-    by (inl e) = absurd (h e.1)
-    by (inr e) = e.0
 
 pub made_young : (young old : Blocks) (kept : Option ℕ) (n : ℕ) → lane_of n ≡ young.lane → made_in young old kept n ≡ objects_in young n
 unfolding made_in
@@ -29,7 +21,7 @@ made_young young old kept n e = ap (λ b. cond b (objects_in young n) (cond (is_
 
 pub made_old : (young old : Blocks) (kept : Option ℕ) (n : ℕ) → lane_of n ≢ young.lane → made_in young old kept n ≡ cond (is_above kept n) (objects_in old n) None
 unfolding made_in
-made_old young old kept n e = ap (λ b. cond b (objects_in young n) (cond (is_above kept n) (objects_in old n) None)) (unequal (lane_of n) young.lane e)
+made_old young old kept n e = ap (λ b. cond b (objects_in young n) (cond (is_above kept n) (objects_in old n) None)) (found_unequal (lane_of n) young.lane e)
 
 pub made_above : (young old : Blocks) (kept : Option ℕ) (n : ℕ) → lane_of n ≢ young.lane → is_above kept n ≡ true → made_in young old kept n ≡ objects_in old n
 made_above young old kept n e h = made_old young old kept n e ∙ ap (λ b. cond b (objects_in old n) None) h
@@ -60,7 +52,7 @@ pub store_young : (c : Copies) (n : ℕ) → lane_of n ≡ c.young.lane → stor
 store_young c n e = ap (λ b. cond b c.young c.tenured) (eq-eqb (lane_of n) c.young.lane e)
 
 pub store_old : (c : Copies) (n : ℕ) → lane_of n ≢ c.young.lane → store_of c n ≡ c.tenured
-store_old c n e = ap (λ b. cond b c.young c.tenured) (unequal (lane_of n) c.young.lane e)
+store_old c n e = ap (λ b. cond b c.young c.tenured) (found_unequal (lane_of n) c.young.lane e)
 
 pub store_has : (c : Copies) (n : ℕ) (a : Object) → made c n ≡ Some a → objects_in (store_of c n) n ≡ Some a
 store_has c n a e = by (made_where c n a e)
@@ -159,6 +151,17 @@ put_stays c d p a mark put = by put.by_age
       below = λ n e. t.put.bumped.changed.others n (λ h. let both : true ≡ false = sym (mark_past c.tenured c.kept p mark t.put.bumped.above) ∙ ap (is_above c.kept) (sym h) ∙ e in cc);
     }
 
+-- below an object of the old store nothing is changed by one more, and by steps one after the other
+pub put_all_stay : (c d : Copies) (p : ℕ) (a : Object) → IsPut c d p a → AllStay c d
+put_all_stay c d p a put m n h below = by put.by_age
+  where
+    by : IsPutYoung c d p a ⊎ IsPutOld c d p a → objects_in d.tenured n ≡ objects_in c.tenured n
+    by (inl t) = ap (λ s. objects_in s n) t.tenured
+    by (inr t) = let over = t.put.bumped.above m h in t.put.bumped.changed.others n (λ e. absurd (omega (arith, over, below, e)))
+
+pub others_more : (c d e : Copies) (p : ℕ) → Stays c d → OthersStay c d p → OthersStay d e p → OthersStay c e p
+others_more c d e p stays s t m n h below apart = t m n (stays.old_there m h) below apart ∙ s m n h below apart
+
 pub stays_refl : (c : Copies) → Stays c c
 stays_refl c = record { kept = refl; young_lane = refl; old_lane = refl; young_there = λ n h. h; old_there = λ n h. h; below = λ n e. refl }
 
@@ -228,7 +231,7 @@ young_has c n a t e = by (made_where c n a e)
   where
     by : LiesYoung c n a ⊎ LiesOld c n a → LiesYoung c n a
     by (inl h) = h
-    by (inr h) = let both : true ≡ false = sym t ∙ unequal (lane_of n) c.young.lane h.lane in cc
+    by (inr h) = let both : true ≡ false = sym t ∙ found_unequal (lane_of n) c.young.lane h.lane in cc
 
 pub old_has : (c : Copies) (n : ℕ) (a : Object) → nat_eq (lane_of n) c.young.lane ≡ false → made c n ≡ Some a → LiesOld c n a
 old_has c n a t e = by (made_where c n a e)
@@ -237,27 +240,17 @@ old_has c n a t e = by (made_where c n a e)
     by (inl h) = let both : true ≡ false = sym (eq-eqb (lane_of n) c.young.lane h.lane) ∙ t in cc
     by (inr h) = h
 
--- what a survival makes of an object is its raw copy
-by_young : (h k : Header) (n : ℕ) (vs : List Value) → h.age ≡ n → Young k ≡ survived_at n h → (object_of k vs ≡ raw_copy (object_of h vs)) × (k.age ≡ 1)
-by_young h k zero vs e f = let is : k ≡ record { serial = h.serial; class = h.class; age = 1 } = cc in (ap (λ x. object_of x vs) is ∙ ap (λ g. record { serial = h.serial; class = h.class; age = older g; values = vs }) (sym e), ap (λ x. x.age) is)
-by_young h k (suc n) vs e f = cc
+-- an object of that age goes into the store of the young, and any other one into the old store
+pub young_put : (c : Copies) (young : Blocks) (o : Object) (p : ℕ) → o.age ≡ 0 → IsPutIn c.young young p (aged 1 o) → IsPut c (record { words = c.words; young = young; tenured = c.tenured; kept = c.kept }) p (raw_copy o)
+young_put c young o p e put =
+    let is : aged 1 o ≡ raw_copy o = ap (λ n. aged (older n) o) (sym e) in
+    record { words = refl; kept = refl; by_age = inl (record { age = ap (λ a. a.age) (sym is); put = subst (λ a. IsPutIn c.young young p a) is put; tenured = refl }) }
 
-pub survived_young : (h k : Header) (vs : List Value) → Young k ≡ survived h → (object_of k vs ≡ raw_copy (object_of h vs)) × (k.age ≡ 1)
-survived_young h k vs f = by_young h k h.age vs refl f
+older_old : (n : ℕ) → n ≢ 0 → 2 ≡ older n
+older_old zero h = absurd (h refl)
+older_old (suc n) h = refl
 
-by_old : (h k : Header) (n : ℕ) (vs : List Value) → h.age ≡ n → Old k ≡ survived_at n h → (object_of k vs ≡ raw_copy (object_of h vs)) × (k.age ≡ 2)
-by_old h k zero vs e f = cc
-by_old h k (suc n) vs e f = let is : k ≡ record { serial = h.serial; class = h.class; age = 2 } = cc in (ap (λ x. object_of x vs) is ∙ ap (λ g. record { serial = h.serial; class = h.class; age = older g; values = vs }) (sym e), ap (λ x. x.age) is)
-
-pub survived_old : (h k : Header) (vs : List Value) → Old k ≡ survived h → (object_of k vs ≡ raw_copy (object_of h vs)) × (k.age ≡ 2)
-survived_old h k vs f = by_old h k h.age vs refl f
-
-pub young_put : (c : Copies) (young : Blocks) (h k : Header) (vs : List Value) (p : ℕ) → Young k ≡ survived h → IsPutIn c.young young p (object_of k vs) → IsPut c (record { words = c.words; young = young; tenured = c.tenured; kept = c.kept }) p (raw_copy (object_of h vs))
-young_put c young h k vs p e put =
-    let is = survived_young h k vs e in
-    record { words = refl; kept = refl; by_age = inl (record { age = ap (λ a. a.age) (sym is.0) ∙ is.1; put = subst (λ a. IsPutIn c.young young p a) is.0 put; tenured = refl }) }
-
-pub old_put : (c : Copies) (tenured : Blocks) (h k : Header) (vs : List Value) (p : ℕ) → Old k ≡ survived h → IsPutIn c.tenured tenured p (object_of k vs) → IsPut c (record { words = c.words; young = c.young; tenured = tenured; kept = c.kept }) p (raw_copy (object_of h vs))
-old_put c tenured h k vs p e put =
-    let is = survived_old h k vs e in
-    record { words = refl; kept = refl; by_age = inr (record { age = ap (λ a. a.age) (sym is.0) ∙ is.1; put = subst (λ a. IsPutIn c.tenured tenured p a) is.0 put; young = refl }) }
+pub old_put : (c : Copies) (tenured : Blocks) (o : Object) (p : ℕ) → o.age ≢ 0 → IsPutIn c.tenured tenured p (aged 2 o) → IsPut c (record { words = c.words; young = c.young; tenured = tenured; kept = c.kept }) p (raw_copy o)
+old_put c tenured o p h put =
+    let is : aged 2 o ≡ raw_copy o = ap (λ n. aged n o) (older_old o.age h) in
+    record { words = refl; kept = refl; by_age = inr (record { age = ap (λ a. a.age) (sym is); put = subst (λ a. IsPutIn c.tenured tenured p a) is put; young = refl }) }

@@ -1,8 +1,9 @@
 -- What the words say, and what one that is set moves.
-use Rattle.std.proofs.Common.{◌≡◌, ◌≢◌, ◌⊎◌, ℕ, zero, suc, ◌<◌, List, Option, Some, None, true, false, refl, sym, ap, ◌∙◌, subst, inl, inr, length, arith, replicate}
+use Rattle.std.proofs.Common.{◌≡◌, ◌≢◌, ◌⊎◌, ℕ, zero, suc, ◌<◌, List, Option, Some, None, true, false, refl, sym, ap, ◌∙◌, subst, inl, inr, length, arith}
 use Rattle.std.specs.Prelude.{slice_set, slice_index, nat_eq, MatchOption}
 use Rattle.std.proofs.lemmas.Bool.Decides.{eqb_tells}
 use Rattle.std.proofs.lemmas.List.{get_or-set_same, get_or-set_other}
+use Rattle.jm_program.proofs.Sequences.{zeros}
 use Rattle.jm_blocks.specs.Objects.{Object}
 use Rattle.jm_blocks.specs.Stores.{Blocks}
 use Rattle.jm_copy.specs.Copying.{Forwarded, Gains, Moves}
@@ -49,12 +50,6 @@ moved_gains m m' p n none t = record { knows = keeps; keeps = keeps; here = t.he
     only : (q k : ℕ) → m' q ≡ Some k → ((nat_eq q p ≡ true) × (q ≡ p)) ⊎ ((nat_eq q p ≡ false) × (q ≢ p)) → (m q ≡ Some k) ⊎ ((q ≡ p) × (k ≡ n))
     only q k e (inl h) = let both : Some k ≡ Some n = sym e ∙ ap m' h.1 ∙ t.here in let same : k ≡ n = cc in inr (h.1, same)
     only q k e (inr h) = inl (sym (t.others q h.1) ∙ e)
-
--- in a fresh table nothing was moved
-pub fresh_word : (n i : ℕ) → slice_index (replicate n 0) i ≡ 0
-fresh_word zero i = refl
-fresh_word (suc n) zero = refl
-fresh_word (suc n) (suc i) = fresh_word n i
 
 pub none_moved : (stores : List Blocks) (words : List ℕ) (p n : ℕ) → ((i : ℕ) → slice_index words i ≡ 0) → moved stores words p ≡ Some n → ⊥
 unfolding moved

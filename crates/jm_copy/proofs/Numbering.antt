@@ -4,12 +4,14 @@ use Rattle.std.specs.Prelude.{slice_get, slice_index, nat_eq}
 use Rattle.std.proofs.lemmas.Bool.Decides.{eqb_tells}
 use Rattle.std.proofs.lemmas.Option.{slice_get_within, slice_get_past, slice_get_read}
 use Rattle.std.proofs.lemmas.List.{get_or_at, get_or_append_left}
+use Rattle.jm_program.proofs.Sequences.{got_last, got_before_last}
 use Rattle.jm_blocks.specs.Objects.{Object}
 use Rattle.jm_blocks.specs.Places.{lane_of, block_of, index_of}
 use Rattle.jm_blocks.specs.Stores.{Blocks, objects_in}
-use Rattle.jm_blocks.proofs.Placing.{LiesIn, lies_in, elsewhere, parts, get_end, get_before_end}
+use Rattle.jm_blocks.proofs.Placing.{LiesIn, lies_in, elsewhere, parts}
 use Rattle.jm_copy.specs.Condemned.{AreLanes, objects_at, object_of_store}
 use Rattle.jm_copy.specs.Numbers.{before, list_length, block_counts, lane_count, lane_counts, object_count, number_in, number_of, AreStarts, AreNumbers}
+use Rattle.jm_values.proofs.Lists.{get_map}
 
 pub before_more : (ns : List ℕ) (k n : ℕ) → slice_get ns k ≡ Some n → before (k + 1) ns ≡ before k ns + n
 before_more [] k n e = cc
@@ -30,11 +32,6 @@ before_apart (n ∷ ns) zero zero x y i j e f g h same = (refl, omega (arith, sa
 before_apart (n ∷ ns) zero (suc c) x y i j e f g h same = let is : n ≡ x = cc in absurd (omega (arith, is, g, same))
 before_apart (n ∷ ns) (suc b) zero x y i j e f g h same = let is : n ≡ y = cc in absurd (omega (arith, is, h, same))
 before_apart (n ∷ ns) (suc b) (suc c) x y i j e f g h same = let rest = before_apart ns b c x y i j e f g h (omega (arith, same)) in (ap suc rest.0, rest.1)
-
-pub get_map : {X Y : Type 0} (f : X → Y) (xs : List X) (k : ℕ) (x : X) → slice_get xs k ≡ Some x → slice_get (map f xs) k ≡ Some (f x)
-get_map f [] k x e = cc
-get_map f (y ∷ xs) zero x e = let same : y ≡ x = cc in ap (λ z. Some (f z)) same
-get_map f (y ∷ xs) (suc k) x e = get_map f xs k x e
 
 -- where a condemned object lies
 pub record LiesAt (stores : List Blocks) (p : ℕ) (o : Object) : Type 0 where
@@ -154,12 +151,12 @@ pub numbers_more : (stores : List Blocks) (numbers : List (List ℕ)) (cur : Blo
 numbers_more stores numbers cur starts n count m here c new old k s xs e f = by (eqb_tells k (length numbers))
   where
     by : ((nat_eq k (length numbers) ≡ true) × (k ≡ length numbers)) ⊎ ((nat_eq k (length numbers) ≡ false) × (k ≢ length numbers)) → AreStarts (before k (lane_counts stores)) s xs
-    by (inr h) = old k s xs e (sym (get_before_end numbers starts k h.1) ∙ f)
+    by (inr h) = old k s xs e (sym (got_before_last numbers starts k h.1) ∙ f)
     by (inl h) =
         let at : k ≡ n = h.1 ∙ m in
         let both : Some cur ≡ Some s = sym here ∙ ap (slice_get stores) (sym at) ∙ e in
         let store : cur ≡ s = cc in
-        let ends : Some starts ≡ Some xs = sym (get_end numbers starts) ∙ ap (slice_get (numbers ++ starts ∷ [])) (sym h.1) ∙ f in
+        let ends : Some starts ≡ Some xs = sym (got_last numbers starts) ∙ ap (slice_get (numbers ++ starts ∷ [])) (sym h.1) ∙ f in
         let list : starts ≡ xs = cc in
         let first : count ≡ before k (lane_counts stores) = c ∙ ap (λ i. before i (lane_counts stores)) (sym at) in
         subst (λ x. AreStarts (before k (lane_counts stores)) s x) list (subst (λ x. AreStarts (before k (lane_counts stores)) x starts) store (subst (λ x. AreStarts x cur starts) first new))

@@ -1,5 +1,5 @@
 -- What a collection has made so far, and what holds of it.
-use Rattle.std.specs.Prelude.{◌≡◌, ◌≢◌, ◌⊎◌, ℕ, ◌<◌, ◌^◌, List, length, Option, Some, None, Bool, true, false, nat_eq, nat_lt, replicate, if◌then◌else◌}
+use Rattle.std.specs.Prelude.{◌≡◌, ◌≢◌, ◌⊎◌, ℕ, ◌<◌, ◌^◌, List, length, Option, Some, None, Bool, true, false, nat_eq, nat_lt, replicate, slice_set, if◌then◌else◌}
 use Rattle.jm_blocks.specs.Objects.{Object}
 use Rattle.jm_blocks.specs.Places.{lane_of}
 use Rattle.jm_blocks.specs.Stores.{Blocks, objects_in, HasObject, IsEmpty, Bumped}
@@ -48,6 +48,12 @@ pub record IsPut (c d : Copies) (p : ℕ) (a : Object) : Type 0 where
   pub words : d.words ≡ c.words
   pub kept : d.kept ≡ c.kept
   pub by_age : IsPutYoung c d p a ⊎ IsPutOld c d p a
+
+-- and its place is written into the word of a number
+pub record IsNoted (c d : Copies) (n p : ℕ) (a : Object) : Type 0 where
+  pub put : IsPut c (record { words = c.words; young = d.young; tenured = d.tenured; kept = d.kept }) p a
+  pub words : d.words ≡ slice_set c.words n p
+  pub some : 0 < p
 
 -- what no step changes: the lanes, the kept objects, and that there is an object where there was one
 pub record Stays (c d : Copies) : Type 0 where

@@ -3,6 +3,7 @@ pub mod Numbers
 pub mod Words
 pub mod Copies
 pub mod Marks
+pub mod Naming
 pub mod Pointing
 pub mod Collected
 pub mod Image

@@ -1,10 +1,12 @@
 -- How far the scan of the two stores has come.
 use Rattle.std.specs.Prelude.{◌≡◌, ◌≢◌, ◌⊎◌, ℕ, ◌+◌, ◌≤◌, List, length, Option, Some, None, Bool, true, false, nat_eq, if◌then◌else◌}
-use Rattle.jm_blocks.specs.Objects.{Object}
+use Rattle.jm_values.specs.declared.value.Value.{Value}
+use Rattle.jm_blocks.specs.Objects.{Object, with_value}
 use Rattle.jm_blocks.specs.Places.{lane_of}
-use Rattle.jm_blocks.specs.Stores.{Blocks, HasObject}
+use Rattle.jm_blocks.specs.Stores.{Blocks, HasObject, objects_in}
 use Rattle.jm_copy.specs.Copying.{Progress}
 use Rattle.jm_copy.specs.Copies.{is_above, made, IsCopying, IsMark}
+use Rattle.jm_copy.specs.Pointing.{names_lane}
 use Rattle.jm_copy.specs.declared.copies.Copies.{Copies}
 use Rattle.jm_copy.specs.declared.scan.Marks.{Marks}
 
@@ -61,3 +63,14 @@ ScansObject stores roots c d p =
 -- an object that was made has as many values as before
 abbrev pub KeepsLength : Copies → Copies → ℕ → Type 0
 KeepsLength c d p = (a : Object) → made c p ≡ Some a → (b : Object) × (made d p ≡ Some b) × (length b.values ≡ length a.values)
+
+-- where the old store had an object, it has it still, and below it nothing more; or all but the one at a place
+abbrev pub AllStay : Copies → Copies → Type 0
+AllStay c d = (m n : ℕ) → HasObject c.tenured m → n ≤ m → objects_in d.tenured n ≡ objects_in c.tenured n
+
+abbrev pub OthersStay : Copies → Copies → ℕ → Type 0
+OthersStay c d p = (m n : ℕ) → HasObject c.tenured m → n ≤ m → n ≢ p → objects_in d.tenured n ≡ objects_in c.tenured n
+
+-- one value of the object a at a place is another, which names a young one or not
+abbrev pub BecomesValue : Copies → Copies → ℕ → ℕ → Object → Bool → Type 0
+BecomesValue c d p j a names = (v : Value) × (made d p ≡ Some (with_value a j v)) × (names ≡ names_lane c.young.lane v)

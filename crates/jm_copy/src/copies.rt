@@ -1,18 +1,20 @@
 // What a collection has made so far.
 
-ghost use Rattle.std.specs.Prelude.{◌≡◌, ◌≢◌, ◌<◌, ◌^◌, ℕ, [], length, slice_get, Some, MatchOption, IfOk, OnErr, nat_eq};
+ghost use Rattle.std.specs.Prelude.{◌≡◌, ◌≢◌, ◌+◌, ◌<◌, ◌^◌, ℕ, [], length, slice_get, Some, MatchOption, IfOk, OnErr, nat_eq};
 ghost use Rattle.jm_values.specs.Rename.{stack_shape};
+ghost use Rattle.jm_values.specs.declared.value.Value.TheVariants.{Ref};
 ghost use Rattle.jm_heap.specs.Elements.{elements, element_kind};
 ghost use Rattle.jm_heap.specs.Packing.{Fits, kind_of};
-ghost use Rattle.jm_blocks.specs.Objects.{Object, object_of, with_value};
+ghost use Rattle.jm_blocks.specs.Objects.{Object, aged, with_value};
 ghost use Rattle.jm_blocks.specs.Places.{lane_of};
+ghost use Rattle.jm_blocks.specs.Stores.{objects_in};
 ghost use Rattle.jm_copy.specs.Copying.{IsReplaced, raw_copy};
+ghost use Rattle.jm_copy.specs.Naming.{NamesFirst, NamesNext};
 ghost use Rattle.jm_copy.specs.Copies.{HasMade, IsPut, IsPutIn, Stays, made, store_of};
 
 use crate::words::Words;
-use jm_blocks::{BlockStore, Header, Position};
+use jm_blocks::{Block, BlockStore, Position};
 use jm_heap::Elements;
-use jm_nursery::Survival;
 use jm_values::{Place, Value};
 use std::alloc::{AllocError, Global};
 
@@ -26,49 +28,85 @@ pub struct Copies {
     pub kept: Option<Place>,
 }
 
-// Puts an object above all others of a store. A growth that is refused changes nothing.
+// Puts a copy of an object of a block, of that age, above all others of a store. A growth that is refused changes
+// nothing.
 #[inline(always)]
 fn push(
     alloc: Global,
     store: &mut BlockStore,
-    header: Header,
-    values: Elements<'_>,
+    block: &Block,
+    index: usize,
+    age: u8,
 ) -> Result<Place, AllocError>
-    requires short { length (elements values) < 2 ^ 32 }
-    requires same { element_kind values ≡ kind_of header.class }
-    ensures ok { IfOk result (λ p. IsPutIn store.old store.new p (object_of header (elements values.entry))) }
+    requires { (o : Object) × (slice_get block.now index ≡ Some o) }
+    ensures ok { IfOk result (λ p. (o : Object) → slice_get block.now index ≡ Some o → IsPutIn store.old store.new p (aged age o)) }
     ensures err { OnErr result (store.new ≡ store.old) }
 {
-    let cells = header.class.size(values.len() as u64);
-    let place = store.reserve(cells)?;
-    store.fill(alloc, header, values)?;
+    let place = store.push_copy(alloc, block, index, age)?;
     Ok(place)
 }
 
-impl Copies {
-    /// Copies an object: into the store of the young at its first survival, and else into the old
-    /// one. A growth that is refused changes nothing.
-    #[inline(always)]
-    pub fn put(
-        &mut self,
-        alloc: Global,
-        header: Header,
-        values: Elements<'_>,
-    ) -> Result<Place, AllocError>
-        requires short { length (elements values) < 2 ^ 32 }
-        requires same { element_kind values ≡ kind_of header.class }
-        ensures ok { IfOk result (λ p. IsPut self.old self.new p (raw_copy (object_of header (elements values.entry)))) }
-        ensures err { OnErr result (self.new ≡ self.old) }
-    {
-        match Survival::of(header) {
-            Survival::Young(older) => push(alloc, &mut self.young, older, values),
-            Survival::Old(older) => push(alloc, &mut self.tenured, older, values),
+/// A reference among the values of an object: which value it is, what it names, and how many values there are.
+#[derive(Clone, Copy)]
+pub struct Named {
+    pub number: usize,
+    pub place: Place,
+    pub count: usize,
+}
+
+// The place that a value names, if it is a reference.
+#[inline(always)]
+fn named_by(value: Value) -> Option<Place>
+    ensures { MatchOption result ((p : ℕ) → value ≢ Ref p) (λ p. value ≡ Ref p) }
+{
+    match value {
+        Value::Ref(place) => Some(place),
+        Value::Int(_) => None,
+        Value::Long(_) => None,
+        Value::Null => None,
+    }
+}
+
+// The first reference among values from a number on.
+#[inline(always)]
+fn named_from(values: Elements<'_>, first: usize) -> Option<Named>
+    ensures { NamesFirst (elements values.entry) (element_kind values.entry) first result }
+{
+    if values.is_plain() {
+        return None;
+    }
+    let count = values.len();
+    for number in first..count {
+        if let Some(place) = named_by(values.get(number)) {
+            return Some(Named {
+                number,
+                place,
+                count,
+            });
         }
     }
+    None
+}
 
-    // Whether a place is in the lane of the young.
+impl Copies {
+    /// Copies an object of a block: into the store of the young at its first survival, and else into the
+    /// old one. A growth that is refused changes nothing.
     #[inline]
-    fn is_young(&self, place: Place) -> bool
+    pub fn put(&mut self, alloc: Global, block: &Block, index: usize) -> Result<Place, AllocError>
+        requires { (o : Object) × (slice_get block.now index ≡ Some o) }
+        ensures ok { IfOk result (λ p. (o : Object) → slice_get block.now index ≡ Some o → IsPut self.old self.new p (raw_copy o)) }
+        ensures err { OnErr result (self.new ≡ self.old) }
+    {
+        let age = block.age(index);
+        if age == 0 {
+            return push(alloc, &mut self.young, block, index, 1);
+        }
+        push(alloc, &mut self.tenured, block, index, 2)
+    }
+
+    /// Whether a place is in the lane of the young.
+    #[inline]
+    pub fn is_young(&self, place: Place) -> bool
         ensures { result ≡ nat_eq (lane_of place) self.now.young.lane }
     {
         Position::of(place).lane == self.young.lane()
@@ -109,14 +147,39 @@ impl Copies {
         }
     }
 
+    /// The first reference among the values of a new object from a number on.
+    #[inline(always)]
+    pub fn named_from(&self, place: Place, first: usize) -> Option<Named>
+        requires { HasMade self.now place }
+        ensures { (a : Object) → made self.now place ≡ Some a → NamesNext a first result }
+    {
+        let (_, values) = self.store(place).object_at(place);
+        named_from(values, first)
+    }
+
+    /// The first reference of a new object, of so many values, after one: where that is its last value nothing is
+    /// looked up.
+    #[inline(always)]
+    pub fn named_after(&self, place: Place, number: usize, count: usize) -> Option<Named>
+        requires { (a : Object) × (made self.now place ≡ Some a) × (number < length a.values) × (count ≡ length a.values) }
+        ensures { (a : Object) → made self.now place ≡ Some a → NamesNext a (number + 1) result }
+    {
+        let first = number + 1;
+        if first >= count {
+            return None;
+        }
+        self.named_from(place, first)
+    }
+
     /// Changes one value of a new object.
-    #[inline]
+    #[inline(always)]
     pub fn set(&mut self, place: Place, number: usize, value: Value)
         requires fits { (a : Object) → made self.old place ≡ Some a → Fits (kind_of a.class) value }
         requires there { (a : Object) × (made self.old place ≡ Some a) × (number < length a.values) }
         ensures set { (a : Object) → made self.old place ≡ Some a → IsReplaced (made self.old) (made self.new) place (with_value a number value) }
         ensures stays { Stays self.old self.new }
         ensures words { self.new.words ≡ self.old.words }
+        ensures others { (n : ℕ) → n ≢ place → objects_in self.new.tenured n ≡ objects_in self.old.tenured n }
         ensures many { (length self.new.young.lists ≡ length self.old.young.lists) × (length self.new.tenured.lists ≡ length self.old.tenured.lists) }
     {
         if self.is_young(place) {

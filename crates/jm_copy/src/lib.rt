@@ -25,7 +25,7 @@
 //! promoted ones that point to young ones are public ([`Copies`], [`Marks`], [`Starts`], [`pointers`]), for
 //! collectors of several copiers.
 //!
-//! The crate stands on `jm_blocks` and `jm_nursery`.
+//! The crate stands on `jm_blocks`.
 #![tactic(auto)]
 
 mod collector;
@@ -40,7 +40,7 @@ mod starts;
 mod words;
 
 pub use collector::{Collector, Refused, Survivors};
-pub use copies::Copies;
+pub use copies::{Copies, Named};
 pub use laws::a_finished_scan_is_an_image;
 pub use old_pointers::pointers;
 pub use scan::{Marks, next, next_of, pass};

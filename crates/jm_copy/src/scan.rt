@@ -1,13 +1,15 @@
 // The scan over the two stores that are filled.
 
-ghost use Rattle.std.specs.Prelude.{◌≡◌, ◌≢◌, ◌<◌, ◌^◌, ℕ, Some, MatchOption, OnOk, length};
+ghost use Rattle.std.specs.Prelude.{◌≡◌, ◌≢◌, ◌<◌, ◌^◌, ◌++◌, ◌∷◌, ◌||◌, [], ℕ, Some, MatchOption, IfOk, OnOk, length, if◌then◌else◌};
 ghost use Rattle.jm_blocks.specs.Objects.{Object};
+ghost use Rattle.jm_blocks.specs.Places.{lane_of};
 ghost use Rattle.jm_copy.specs.Copying.{IsScanned, Progress};
 ghost use Rattle.jm_copy.specs.Copies.{Extends, HasMade, IsCopying, IsMark, IsSource, made};
-ghost use Rattle.jm_copy.specs.Marks.{ScansObject, at, passed, progress, first_marks, AllPassed, AreMarks, IsNext, IsNextOf, IsPassed};
+ghost use Rattle.jm_copy.specs.Pointing.{ListsAbove, points_to};
+ghost use Rattle.jm_copy.specs.Marks.{OthersStay, ScansObject, at, passed, progress, first_marks, AllPassed, AreMarks, IsNext, IsNextOf, IsPassed};
 
 use crate::copies::Copies;
-use crate::forward::forward_value;
+use crate::forward::forward_named;
 use crate::source::Source;
 use jm_blocks::{BlockStore, Position};
 use jm_values::Place;
@@ -61,42 +63,74 @@ pub fn pass(to: &Copies, marks: &Marks, place: Place) -> Marks
     }
 }
 
-// Forwards each value of one new object; one in which nothing can be a reference is passed over.
+// Whether one of two facts holds.
+#[inline(always)]
+fn either(one: bool, other: bool) -> bool
+    ensures { result ≡ (one || other) }
+{
+    if one { true } else { other }
+}
+
+// Forwards each reference of one new object, and answers whether one of them names a young one afterwards.
+#[inline(never)]
 fn scan_object(
     alloc: Global,
     from: Source<'_>,
     to: &mut Copies,
     place: Place,
-) -> Result<(), AllocError>
+) -> Result<bool, AllocError>
     requires source { IsSource from.stores.now from.numbers.now }
     requires copying { (done : Progress) × IsCopying from.stores.now from.roots.now to.old (at done place 0) }
     requires there { HasMade to.old place }
     ensures copying { OnOk result (ScansObject from.entry.stores.now from.entry.roots.now to.old to.new place) }
+    ensures points { IfOk result (λ b. (a : Object) → made to.new place ≡ Some a → b ≡ points_to to.old.young.lane a.values) }
+    ensures passed { OnOk result (OthersStay to.old to.new place) }
     ensures extends { Extends from.entry.stores.now to.old to.new }
 {
-    let Some(count) = to.to_forward(place) else {
-        return Ok(());
-    };
-    for number in 0..count {
-        forward_value(alloc, from, to, place, number)?;
+    let mut points = false;
+    let mut next = to.named_from(place, 0);
+    while let Some(named) = next {
+        let names = forward_named(alloc, from, to, place, named.number, named.place)?;
+        points = either(points, names);
+        next = to.named_after(place, named.number, named.count);
     }
+    Ok(points)
+}
+
+// Lists the place of an object that was scanned, if it is an old one and points to a young one.
+#[inline]
+fn note(to: &Copies, place: Place, points: bool, places: &mut Vec<Place>) -> Result<(), AllocError>
+    ensures young { OnOk result (lane_of place ≡ to.now.young.lane → places.new.items ≡ places.old.items) }
+    ensures old { OnOk result (lane_of place ≢ to.now.young.lane → places.new.items ≡ (if points then places.old.items ++ place ∷ [] else places.old.items)) }
+{
+    if !points {
+        return Ok(());
+    }
+    if to.is_young(place) {
+        return Ok(());
+    }
+    places.push(place)?;
     Ok(())
 }
 
-/// Scans all new objects, also those that the scan itself makes.
-pub fn scan(alloc: Global, from: Source<'_>, to: &mut Copies) -> Result<(), AllocError>
+/// Scans all new objects, also those that the scan itself makes, and lists the places of the promoted
+/// ones that point to young ones, each once.
+pub fn scan(alloc: Global, from: Source<'_>, to: &mut Copies) -> Result<Vec<Place>, AllocError>
     requires source { IsSource from.stores.now from.numbers.now }
     requires copying { IsCopying from.stores.now from.roots.now to.old (progress to.old.young.lane (first_marks to.old)) }
     ensures copying { OnOk result ((done : Progress) × IsCopying from.entry.stores.now from.entry.roots.now to.new done × IsScanned (made to.new) done) }
+    ensures listed { IfOk result (λ places. ListsAbove to.new.young.lane to.new.tenured to.new.kept places.items) }
     ensures extends { Extends from.entry.stores.now to.old to.new }
 {
     let mut marks = Marks {
         young: None,
         tenured: to.kept,
     };
+    let mut pointing = Vec::new(alloc);
     while let Some(place) = next(to, &marks) {
-        scan_object(alloc, from, to, place)?;
+        let points = scan_object(alloc, from, to, place)?;
+        note(to, place, points, &mut pointing)?;
         marks = pass(to, &marks, place);
     }
-    Ok(())
+    Ok(pointing)
 }

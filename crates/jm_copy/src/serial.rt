@@ -10,7 +10,6 @@ ghost use Rattle.jm_copy.specs.Numbers.{AreNumbers, object_count};
 use crate::collector::{Collector, Refused, Survivors};
 use crate::copies::Copies;
 use crate::forward::forward_roots;
-use crate::old_pointers::pointers;
 use crate::scan::scan;
 use crate::source::Source;
 use crate::starts::{Starts, number_all};
@@ -53,8 +52,7 @@ fn copy_reached(alloc: Global, from: Source<'_>, to: &mut Copies) -> Result<Move
     ensures stays { Stays to.old to.new }
 {
     let roots = forward_roots(alloc, from, to)?;
-    scan(alloc, from, to)?;
-    let remembered = pointers(alloc, &to.tenured, &to.kept, to.young.lane())?;
+    let remembered = scan(alloc, from, to)?;
     Ok(Moved { roots, remembered })
 }
 

@@ -32,7 +32,7 @@ on_turn left first blocked s turn.Ended = says (codes "ended") s
 on_turn left first blocked s turn.Blocked = says (codes "blocked") s
 on_turn left first blocked s (turn.Of n) = on_break left blocked s n (break_before s first n)
 
-opened : (s : Session) (first : Bool) (blocked left : ℕ) → continue_from (suc left) first blocked s ≡ on_turn left first blocked s (turn_of s blocked)
+pub opened : (s : Session) (first : Bool) (blocked left : ℕ) → continue_from (suc left) first blocked s ≡ on_turn left first blocked s (turn_of s blocked)
 unfolding continue_from
 opened s first blocked left = refl
 

@@ -9,7 +9,7 @@ use Rattle.jm_program.specs.declared.class.ClassParts.{ClassParts}
 use Rattle.jm_program.specs.declared.class.Method.{Method}
 use Rattle.jm_program.specs.declared.code.Code.{Code}
 use Rattle.jm_program.specs.declared.descriptor.MethodDescriptor.{MethodDescriptor}
-use Rattle.jm_program.proofs.DescriptorLaws.{both_true}
+use Rattle.jm_program.proofs.Truths.{both_true}
 use Rattle.jm_builtins.specs.List.{the_builtins}
 use Rattle.jm_builtins.specs.declared.built_in.BuiltIn.{BuiltIn}
 use Rattle.jm_world.specs.Types.{same_method_type}

@@ -73,6 +73,7 @@ use Rattle.jm_world.specs.declared.stop.Stop.{Stop}
 use Rattle.jm_world.proofs.Fitting.{grown}
 use Rattle.jm_world.proofs.KeepingForm.{with_monitors}
 use Rattle.jm_debug.specs.Kept.{OthersStay, ended_in, has_stopped}
+use Rattle.jm_interp.proofs.Started.{live_few}
 
 -- of a world's threads only that of a number is another, and new ones, which are live, may follow
 pub record Alone (number : ℕ) (old : List Thread) (old_stop : Option Stop) (new : List Thread) (new_stop : Option Stop) : Type 0 where
@@ -583,10 +584,6 @@ live_first t ts = by (is_running t.ending)
     by true = refl
     by false = omega arith
 
-pub live_most : (ts : List Thread) → live_among ts ≤ length ts
-live_most [] = omega arith
-live_most (t ∷ ts) = let rest = live_most ts in let first = live_first t ts in let bit = one_of_both (is_running t.ending) in omega arith
-
 live_append : (ts us : List Thread) → live_among (ts ++ us) ≡ live_among ts + live_among us
 live_append [] us = omega arith
 live_append (t ∷ ts) us = let rest = live_append ts us in let old = live_first t ts in let new = live_first t (ts ++ us) in omega arith
@@ -651,7 +648,7 @@ module _ (w v : World) (i : ℕ) (t : Thread) (there : slice_get w.threads i ≡
       let all = ap live_among is ∙ live_append (slice_set w.threads i a) more in
       let new = live_all more live in
       let set = live_set w.threads i t a there runs in
-      let most = live_most w.threads in
+      let most = live_few w.threads in
       let bit = one_of_both (is_running a.ending) in
       omega (arith, all, new, set, most, bit, grown_by)
 

@@ -21,7 +21,7 @@ one_more w low high none ended = λ k above below. elim (cases_lt k high) [
 ]
 
 -- where the first is passed over, and where it is found
-passed_over : (from number : ℕ) (t : Thread) (ts : List Thread) → (from ≤ number → is_running t.ending ≡ false) → live_from from number (t ∷ ts) ≡ live_from from (number + 1) ts
+pub passed_over : (from number : ℕ) (t : Thread) (ts : List Thread) → (from ≤ number → is_running t.ending ≡ false) → live_from from number (t ∷ ts) ≡ live_from from (number + 1) ts
 passed_over from number t ts ended = by (nat_le from number) refl
   where
     by : (b : Bool) → nat_le from number ≡ b
@@ -30,7 +30,7 @@ passed_over from number t ts ended = by (nat_le from number) refl
     by false e = refl
     by true e = ap (λ r. elim r as (λ _. Option ℕ) [ true ↦ Some number | false ↦ live_from from (number + 1) ts ]) (ended (leb-true from number e))
 
-taken_first : (from number : ℕ) (t : Thread) (ts : List Thread) → from ≤ number → is_running t.ending ≡ true → live_from from number (t ∷ ts) ≡ Some number
+pub taken_first : (from number : ℕ) (t : Thread) (ts : List Thread) → from ≤ number → is_running t.ending ≡ true → live_from from number (t ∷ ts) ≡ Some number
 taken_first from number t ts within live = by (nat_le from number) refl
   where
     by : (b : Bool) → nat_le from number ≡ b
@@ -39,7 +39,7 @@ taken_first from number t ts within live = by (nat_le from number) refl
     by false e = let below = leb-false from number e in absurd (omega arith)
     by true e = ap (λ r. elim r as (λ _. Option ℕ) [ true ↦ Some number | false ↦ live_from from (number + 1) ts ]) live
 
-found_at : (ts : List Thread) (from number i : ℕ) → from ≤ number + i → is_live_thread (slice_get ts i) ≡ true → ((j : ℕ) → from ≤ number + j → j < i → is_live_thread (slice_get ts j) ≡ false)
+pub found_at : (ts : List Thread) (from number i : ℕ) → from ≤ number + i → is_live_thread (slice_get ts i) ≡ true → ((j : ℕ) → from ≤ number + j → j < i → is_live_thread (slice_get ts j) ≡ false)
     → live_from from number ts ≡ Some (number + i)
 found_at [] from number i within live none = cc
 found_at (t ∷ ts) from number zero within live none =
@@ -51,7 +51,7 @@ found_at (t ∷ ts) from number (suc i) within live none =
     ∙ found_at ts from (number + 1) i (omega arith) live (λ j above below. none (suc j) (omega arith) (omega arith))
     ∙ ap Some same
 
-found_nowhere : (ts : List Thread) (from number : ℕ) → ((j : ℕ) → from ≤ number + j → is_live_thread (slice_get ts j) ≡ false) → live_from from number ts ≡ None
+pub found_nowhere : (ts : List Thread) (from number : ℕ) → ((j : ℕ) → from ≤ number + j → is_live_thread (slice_get ts j) ≡ false) → live_from from number ts ≡ None
 found_nowhere [] from number none = refl
 found_nowhere (t ∷ ts) from number none =
     passed_over from number t ts (λ h. none zero (omega arith)) ∙ found_nowhere ts from (number + 1) (λ j above. none (suc j) (omega arith))

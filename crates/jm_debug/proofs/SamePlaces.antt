@@ -1,16 +1,14 @@
 -- The types of methods, compared.
-use Rattle.std.proofs.Common.{rules, ◌≡◌, List, [], ◌∷◌, Bool, true, false, ◌&&◌, Option, Some, None, ap, refl, sym, ◌∙◌, subst, nat_eq}
-use Rattle.std.proofs.lemmas.Cmp.{nat_eq_equiv, nat_list_eq_equiv}
+use Rattle.std.proofs.Common.{rules, ◌≡◌, List, [], ◌∷◌, Bool, true, false, ◌&&◌, Option, Some, None, ap, refl, sym, ◌∙◌, subst}
 use lib.Pointwise.{pointwise}
 use Rattle.jm_program.specs.declared.descriptor.MethodDescriptor.{MethodDescriptor}
 use Rattle.jm_program.specs.declared.descriptor.FieldType.{FieldType}
-use Rattle.jm_program.specs.declared.descriptor.ElementType.{ElementType}
-use Rattle.jm_program.specs.declared.descriptor.ElementType.TheVariants.{Base, Class}
 use Rattle.jm_program.specs.contracts.descriptor.FieldTypePartialEq.TheImpl as field_type
 use Rattle.jm_program.specs.contracts.descriptor.FieldTypeEq.TheImpl.Laws.{laws-law}
 use Rattle.jm_program.specs.contracts.descriptor.MethodDescriptorPartialEq.TheImpl as method_type
-use Rattle.jm_world.specs.Types.{same_type, same_types, same_result, same_element, same_method_type}
+use Rattle.jm_world.specs.Types.{same_type, same_types, same_result, same_method_type}
 use Rattle.jm_world.proofs.FoundAgain.{type_is}
+use Rattle.jm_world.proofs.Comparing.{type_itself}
 
 -- two tests that each follow from the other are one
 both_ways : (a b : Bool) → (a ≡ true → b ≡ true) → (b ≡ true → a ≡ true) → a ≡ b
@@ -18,23 +16,12 @@ both_ways true b there back = sym (there refl)
 both_ways false true there back = back refl
 both_ways false false there back = refl
 
-both : (a b : Bool) → a ≡ true → b ≡ true → (a && b) ≡ true
-both true b first second = second
-both false b first second = cc
-
-element_self : (e : ElementType) → same_element e e ≡ true
-element_self (Base b) = nat_eq_equiv.refl _
-element_self (Class name) = nat_list_eq_equiv.refl name
-
-type_self : (t : FieldType) → same_type t t ≡ true
-type_self t = both (nat_eq t.dimensions t.dimensions) (same_element t.element t.element) (nat_eq_equiv.refl t.dimensions) (element_self t.element)
-
 equal_is : (a b : FieldType) → field_type.ghosts.eq a b ≡ true → a ≡ b
 equal_is a b equal = search rules
 
 same_field : (a b : FieldType) → field_type.ghosts.eq a b ≡ same_type a b
 same_field a b = both_ways (field_type.ghosts.eq a b) (same_type a b)
-    (λ equal. subst (λ (t : FieldType). same_type a t ≡ true) (equal_is a b equal) (type_self a))
+    (λ equal. subst (λ (t : FieldType). same_type a t ≡ true) (equal_is a b equal) (type_itself a))
     (λ same. subst (λ (t : FieldType). field_type.ghosts.eq a t ≡ true) (type_is a b same) (laws-law.refl a))
 
 same_fields : (as' bs : List FieldType) → pointwise field_type.ghosts.eq as' bs ≡ same_types as' bs

@@ -3,10 +3,10 @@ use Rattle.std.proofs.Common.{◌≡◌, ℕ, zero, suc, ◌<◌, ◌≤◌, Lis
 use Rattle.std.specs.Prelude.{option_map}
 use Rattle.std.proofs.lemmas.Option.{slice_get_past}
 use Rattle.jm_program.specs.declared.class.ClassParts.{ClassParts}
+use Rattle.jm_program.proofs.Sequences.{got_past}
 use Rattle.jm_world.specs.World.{World, Thread, Ending, running, returned, ended_by, thread_at, is_running}
 use Rattle.jm_debug.specs.Views.{running_lines, thread_lines, where_lines}
 use Rattle.jm_debug.specs.Session.{bytes_of}
-use Rattle.jm_debug.proofs.Written.{past_end}
 
 pub of_running : (program : List ClassParts) (t : Thread) (e : Ending) → is_running e ≡ true → thread_lines program t e ≡ running_lines program t
 of_running program t running is = refl
@@ -33,7 +33,7 @@ shown_of w (Some t) text some written = ap Some (sym (written t refl))
 
 not_none : (w : World) (n : ℕ) → 0 < n → n ≤ length w.threads → thread_at w n ≡ None → ⊥
 not_none w zero some within none = absurd (omega arith)
-not_none w (suc n) some within none = let past : length w.threads ≤ n = past_end w.threads n none in absurd (omega arith)
+not_none w (suc n) some within none = let past : length w.threads ≤ n = got_past w.threads n none in absurd (omega arith)
 
 pub thread_shown : (w : World) (n : ℕ) (text : List ℕ) → 0 < n → n ≤ length w.threads → ((t : Thread) → thread_at w n ≡ Some t → text ≡ bytes_of (thread_lines w.program t t.ending))
     → option_map bytes_of (where_lines w n) ≡ Some text

@@ -1,10 +1,11 @@
 -- Lines that are written one after the other.
-use Rattle.std.proofs.Common.{◌≡◌, ℕ, ◌+◌, ◌<◌, ◌≤◌, List, [], ◌∷◌, ◌++◌, Option, Some, None, length, drop, get_or, slice_get, refl, sym, ap, ◌∙◌, inl, inr, ◌-◌, append_assoc, append-nil, arith, add-one}
+use Rattle.std.proofs.Common.{◌≡◌, ℕ, ◌+◌, ◌<◌, ◌≤◌, List, [], ◌∷◌, ◌++◌, Option, Some, None, length, drop, get_or, slice_get, refl, sym, ap, ◌∙◌, ◌-◌, append_assoc, append-nil, arith, add-one}
 use Rattle.std.specs.Prelude.{codes, reverse}
 use Rattle.std.proofs.Math.Seq.{drop-cons}
 use Rattle.std.proofs.lemmas.List.{drop_all, get_or-reverse, length-reverse}
-use Rattle.std.proofs.lemmas.Option.{slice_get_within, slice_get_cases, slice_get-get_or, get_or_from_slice_get}
+use Rattle.std.proofs.lemmas.Option.{slice_get_within, slice_get-get_or, get_or_from_slice_get}
 use Rattle.std.specs.List.{flat_map}
+use Rattle.jm_program.proofs.Sequences.{got_past}
 use Rattle.jm_debug.specs.Views.{Lines, lines_from, lines_of}
 use Rattle.jm_debug.specs.Session.{ended}
 
@@ -40,12 +41,6 @@ one_more lines_at xs i x before after total is grown so_far =
     ∙ ap (λ t. before ++ t) (sym (there lines_at xs i x is))
     ∙ so_far
 
-pub past_end : {A : Type 0} (xs : List A) (i : ℕ) → slice_get xs i ≡ None → length xs ≤ i
-past_end xs i none = elim (slice_get_cases xs i).1 as (λ _. length xs ≤ i) [
-  | inl within ↦ let some : slice_get xs i ≡ Some within.0 = within.2 in cc
-  | inr past ↦ past.0
-]
-
 none_read : {A : Type 0} (lines_at : ℕ → A → Lines) (xs : List A) (i : ℕ) (before after total : List ℕ) → length xs ≤ i
     → after ≡ before ++ [] → before ++ rest_of lines_at xs i ≡ total → after ++ rest_of lines_at xs (i + 1) ≡ total
 unfolding rest_of
@@ -58,7 +53,7 @@ none_read lines_at xs i before after total past grown so_far =
 pub one_read : {A : Type 0} (lines_at : ℕ → A → Lines) (xs : List A) (i : ℕ) (read : Option A) (before after total : List ℕ) → read ≡ slice_get xs i
     → after ≡ before ++ flat_map ended (lines_of lines_at i read) → before ++ rest_of lines_at xs i ≡ total → after ++ rest_of lines_at xs (i + 1) ≡ total
 one_read lines_at xs i (Some x) before after total is grown so_far = one_more lines_at xs i x before after total (sym is) grown so_far
-one_read lines_at xs i None before after total is grown so_far = none_read lines_at xs i before after total (past_end xs i (sym is)) grown so_far
+one_read lines_at xs i None before after total is grown so_far = none_read lines_at xs i before after total (got_past xs i (sym is)) grown so_far
 
 -- none is left
 pub no_more : {A : Type 0} (lines_at : ℕ → A → Lines) (xs : List A) (i : ℕ) (before total : List ℕ) → length xs ≤ i

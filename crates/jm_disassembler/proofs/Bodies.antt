@@ -6,7 +6,7 @@ use Rattle.std.specs.List.{list_all}
 use Rattle.std.specs.Fmt.{decimal}
 use Rattle.std.proofs.lemmas.List.{append-nil}
 use Rattle.std.proofs.lemmas.Bool.Decides.{nat_tests}
-use Rattle.jm_program.proofs.DescriptorLaws.{both_true, and_true}
+use Rattle.std.proofs.lemmas.Bool.{and_from}
 use Rattle.jm_program.specs.Flags.{is_abstract}
 use Rattle.jm_program.specs.Instructions.{instr_fits}
 use Rattle.jm_program.specs.Names.{same_text}
@@ -21,6 +21,7 @@ use Rattle.jm_program.specs.declared.instruction.plain.Plain.{Plain}
 use Rattle.jm_program.specs.declared.instruction.plain.Plain.TheVariants as plain
 use Rattle.jm_program.specs.declared.instruction.symbolic.Instr.{Instr}
 use Rattle.jm_program.specs.declared.instruction.symbolic.Instr.TheVariants as instr
+use Rattle.jm_program.proofs.Truths.{both_true}
 use Rattle.jm_class_writer.specs.Ranges.{InstrInRange}
 use Rattle.jm_jasmin_ops.specs.declared.labelled.LabelledInstr.{LabelledInstr}
 use Rattle.jm_jasmin.specs.declared.item.Item.{Item}
@@ -95,7 +96,7 @@ digits_in_line : (ds : List ℕ) → list_all is_decimal ds ≡ true → list_al
 digits_in_line [] h = refl
 digits_in_line (b ∷ bs) h =
     let p = both_true (is_decimal b) (list_all is_decimal bs) h in
-    and_true (in_line b) (list_all in_line bs) (digit_in_line b p.0) (digits_in_line bs p.1)
+    and_from (in_line b) (list_all in_line bs) (digit_in_line b p.0) (digits_in_line bs p.1)
 
 note_laid : (commented : Bool) (k : ℕ) → k < 2 ^ 64 → Laid (note commented k) []
 note_laid false k lt = ends

@@ -4,7 +4,7 @@ use Rattle.std.proofs.Common.{ap, sym, arith, subst, append_assoc, nat_lt, nat_l
 use Rattle.std.specs.Prelude.{if◌then◌else◌}
 use Rattle.std.specs.List.{list_all, flat_map, position_or_len}
 use Rattle.std.proofs.lemmas.Bool.Decides.{nat_tests}
-use Rattle.jm_program.proofs.DescriptorLaws.{both_true, and_true}
+use Rattle.std.proofs.lemmas.Bool.{and_from}
 use Rattle.jm_program.specs.Flags.{is_interface}
 use Rattle.jm_program.specs.Names.{is_class_name}
 use Rattle.jm_program.specs.Fits.{version_fits, superclass_fits, field_fits, method_fits, Fits}
@@ -18,6 +18,7 @@ use Rattle.jm_program.specs.declared.code.Code.{Code}
 use Rattle.jm_program.specs.declared.code.Handler.{Handler}
 use Rattle.jm_program.specs.declared.constant.Constant.{Constant}
 use Rattle.jm_program.specs.declared.instruction.symbolic.Instr.{Instr}
+use Rattle.jm_program.proofs.Truths.{both_true}
 use Rattle.jm_class_writer.specs.Ranges.{OfSome, ConstantInRange}
 use Rattle.jm_jasmin.specs.Text.{denoted}
 use Rattle.jm_jasmin.specs.WordForms.{Word, Line, bare}
@@ -67,7 +68,7 @@ found_here p x xs false e = rw e refl
 
 place_by : {A : Type 0} (p : A → Bool) (x : A) (xs : List A) (b : Bool) → p x ≡ b → length (x ∷ xs) ≤ position_or_len (λ (y : A). not (p y)) (x ∷ xs)
     → (length xs ≤ position_or_len (λ (y : A). not (p y)) xs → list_all p xs ≡ true) → (p x && list_all p xs) ≡ true
-place_by {A} p x xs true e h next = and_true (p x) (list_all p xs) e (next (omega (arith, h, found_here p x xs true e)))
+place_by {A} p x xs true e h next = and_from (p x) (list_all p xs) e (next (omega (arith, h, found_here p x xs true e)))
 place_by {A} p x xs false e h next = absurd (omega (arith, h, found_here p x xs false e))
 
 no_place : {A : Type 0} (p : A → Bool) (xs : List A) → length xs ≤ position_or_len (λ (x : A). not (p x)) xs → list_all p xs ≡ true
@@ -132,9 +133,9 @@ code_known (Some c) h =
     let hs = none_found handler_said c.handlers b.0 in
     let is = none_found instr_said c.instructions d.0 in
     let said : code_said c ≡ true =
-    and_true (sizes_said c && list_all handler_said c.handlers && list_all instr_said c.instructions) (lines_said 0 c.lines)
-    (and_true (sizes_said c && list_all handler_said c.handlers) (list_all instr_said c.instructions)
-    (and_true (sizes_said c) (list_all handler_said c.handlers) a.0 hs) is) e.0 in
+    and_from (sizes_said c && list_all handler_said c.handlers && list_all instr_said c.instructions) (lines_said 0 c.lines)
+    (and_from (sizes_said c && list_all handler_said c.handlers) (list_all instr_said c.instructions)
+    (and_from (sizes_said c) (list_all handler_said c.handlers) a.0 hs) is) e.0 in
     (said, code_numbers c said)
 
 method_known : (in_interface : Bool) (m : Method) → method_fits in_interface m ≡ true → method_part m ≡ None → SayableMethod in_interface m

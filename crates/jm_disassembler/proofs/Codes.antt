@@ -6,9 +6,9 @@ use Rattle.std.specs.List.{list_all, flat_map}
 use Rattle.std.proofs.lemmas.List.{append-nil}
 use Rattle.std.proofs.lemmas.Grind.{flat_map-append}
 use Rattle.std.proofs.lemmas.Bool.Decides.{nat_tests}
+use Rattle.std.proofs.lemmas.Bool.{and_from}
 use Rattle.jm_bytes.specs.Reading.{each}
 use Rattle.jm_bytes.specs.Laws.{and_then_ok, same_Ok}
-use Rattle.jm_program.proofs.DescriptorLaws.{both_true, and_true}
 use Rattle.jm_program.specs.Codes.{handler_fits}
 use Rattle.jm_program.specs.Instructions.{instr_fits}
 use Rattle.jm_program.specs.Names.{same_text}
@@ -19,6 +19,8 @@ use Rattle.jm_program.specs.declared.code.Code.{Code}
 use Rattle.jm_program.specs.declared.code.Handler.{Handler}
 use Rattle.jm_program.specs.declared.code.LineNumber.{LineNumber}
 use Rattle.jm_program.specs.declared.instruction.symbolic.Instr.{Instr}
+use Rattle.jm_program.proofs.Texts.{text_itself}
+use Rattle.jm_program.proofs.Truths.{both_true}
 use Rattle.jm_class_format.specs.Symbols.{or_else}
 use Rattle.jm_jasmin_ops.specs.declared.fault.AsmFault.{AsmFault}
 use Rattle.jm_jasmin.specs.declared.item.Item.{Item}
@@ -28,10 +30,11 @@ use Rattle.jm_jasmin.specs.declared.part.Part.TheVariants as part
 use Rattle.jm_jasmin.specs.Items.{instruction_here, instruction_count, value_here, label_value, stack_here, stack_limit, locals_here, locals_limit}
 use Rattle.jm_jasmin.specs.Labels.{handler_of, part_of}
 use Rattle.jm_jasmin.specs.Body.{checked_locals, checked_count, code_of, instruction_in, handler_in, line_in, tables_of, empty_range_in, empty_range}
+use Rattle.jm_jasmin.proofs.ItemLaws.{or_assoc}
 use Rattle.jm_disassembler.specs.Labels.{label_name, instr_targets, handler_places, marks_of, is_marked}
 use Rattle.jm_disassembler.specs.Bodies.{row_said, lines_said, lines_behind}
 use Rattle.jm_disassembler.specs.Said.{is_short}
-use Rattle.jm_disassembler.proofs.LabelWords.{same_itself, other_label}
+use Rattle.jm_disassembler.proofs.LabelWords.{other_label}
 use Rattle.jm_disassembler.proofs.Switches.{Each, Known, labelled_of, instr_found}
 use Rattle.jm_disassembler.proofs.Marks.{Up, Marked, handler_parts, instrs_up, handlers_up, code_marked}
 use Rattle.jm_disassembler.proofs.Bodies.{label_items, source_items, body_items, Sayable, EachOf, behind_range}
@@ -41,10 +44,6 @@ use Rattle.jm_disassembler.proofs.Bodies.{label_items, source_items, body_items,
 or_none : {A : Type 0} (o : Option A) → or_else o None ≡ o
 or_none None = refl
 or_none (Some x) = refl
-
-or_assoc : {A : Type 0} (o p q : Option A) → or_else (or_else o p) q ≡ or_else o (or_else p q)
-or_assoc None p q = refl
-or_assoc (Some x) p q = refl
 
 pub label_append : (xs ys : List Item) (name : List ℕ) → label_value (xs ++ ys) name ≡ or_else (label_value ys name) (label_value xs name)
 unfolding label_value
@@ -156,7 +155,7 @@ other_here marks k t p q other = by (is_marked marks k) refl
     by false e = here_by marks k (label_name t) false false e (other_label k t p q other)
 
 own_here : (marks : List Bool) (k : ℕ) → is_marked marks k ≡ true → label_value (label_items marks k) (label_name k) ≡ Some k
-own_here marks k e = here_by marks k (label_name k) true true e (same_itself (label_name k))
+own_here marks k e = here_by marks k (label_name k) true true e (text_itself (label_name k))
 
 below_body : (marks : List Bool) (k t : ℕ) (is : List Instr) (ls : List LineNumber) → k + length is < 2 ^ 64 → t < k
     → label_value (body_items marks k is ls) (label_name t) ≡ None
@@ -355,7 +354,7 @@ behind_said k (l ∷ ls) h =
         → lines_said (suc k) (if b then lines_behind k ls else l ∷ ls) ≡ true
     by true e le small more next = next (eqb-true l.start k e)
     by false e le small more next =
-        and_true (row_said (suc k) l) (lines_said l.start ls) (and_true (nat_le (suc k) l.start) (is_short l.line) (above k l.start e le) small) more
+        and_from (row_said (suc k) l) (lines_said l.start ls) (and_from (nat_le (suc k) l.start) (is_short l.line) (above k l.start e le) small) more
 
 -- each line begins at an instruction
 abbrev pub Starts : ℕ → LineNumber → Type 0

@@ -3,7 +3,6 @@ use Rattle.std.proofs.Common.{◌≡◌, ℕ, ◌==◌, Bool, true, false, not, 
 use Rattle.std.proofs.Common.{ap, sym, ◌∙◌, subst}
 use Rattle.std.specs.List.{list_all}
 use Rattle.std.specs.Fmt.{signed_decimal}
-use Rattle.jm_program.proofs.DescriptorLaws.{both_true}
 use Rattle.jm_program.specs.Flags.{is_static}
 use Rattle.jm_program.specs.Names.{same_text, is_unqualified}
 use Rattle.jm_program.specs.Texts.{utf16_of}
@@ -17,6 +16,8 @@ use Rattle.jm_program.specs.declared.constant.Constant.TheVariants as constant
 use Rattle.jm_program.specs.declared.descriptor.BaseType.TheVariants as base
 use Rattle.jm_program.specs.declared.descriptor.ElementType.{ElementType}
 use Rattle.jm_program.specs.declared.descriptor.ElementType.TheVariants.{Base, Class}
+use Rattle.jm_program.proofs.Texts.{text_itself, text_is}
+use Rattle.jm_program.proofs.Truths.{both_true, not_true}
 use Rattle.jm_class_format.specs.Symbols.{field_name_of, field_type_of}
 use Rattle.jm_class_writer.specs.Ranges.{OfSome, UnitsInRange, ConstantInRange, FieldInRange}
 use Rattle.jm_class_writer.proofs.Symbols.{field_name_read, field_type_read}
@@ -36,7 +37,6 @@ use Rattle.jm_disassembler.proofs.Laid.{apart, Laid}
 use Rattle.jm_disassembler.proofs.Laid.Laid.{blank, word, string}
 use Rattle.jm_disassembler.proofs.Spelled.{name_spelled}
 use Rattle.jm_disassembler.proofs.Types.{is_ascii_word, ascii_spelled, type_spelled}
-use Rattle.jm_disassembler.proofs.LabelWords.{same_itself, same_is}
 use Rattle.jm_disassembler.proofs.Numbers.{signed_read, signed_word}
 use Rattle.jm_disassembler.proofs.Words.{name_is_word, type_is_word, unqualified_some}
 use Rattle.jm_disassembler.proofs.Instructions.{int_is, long_32, long_64}
@@ -53,9 +53,9 @@ other_word name w is_it range ascii other = by (same_text (name_text name) w) re
 
     by : (b : Bool) → same_text (name_text name) w ≡ b → b ≡ false
     by true e =
-        let text : name_text name ≡ w = same_is (name_text name) w e in
+        let text : name_text name ≡ w = text_is (name_text name) w e in
         let same : name ≡ w = sym (name_spelled name is_it range).units_are ∙ ap utf16_of text ∙ (ascii_spelled w ascii).units_are in
-        let yes : same_text w w ≡ true = same_itself w in
+        let yes : same_text w w ≡ true = text_itself w in
         absurd (cc (same_as same, yes, other))
     by false e = refl
 
@@ -132,10 +132,6 @@ field_parts f h =
     let a = both_true (is_unqualified f.name && type_fits f.descriptor) (field_constant_fits f.flags f.descriptor f.constant) h in
     let b = both_true (is_unqualified f.name) (type_fits f.descriptor) a.0 in
     (b.0, b.1, a.1)
-
-not_true : (b : Bool) → not b ≡ true → b ≡ false
-not_true true h = absurd cc
-not_true false h = refl
 
 field_by : (f : Field) (o : Option Constant) → SayableField f → field_constant_fits f.flags f.descriptor o ≡ true → field_name_said f.name o ≡ true
     → OfSome ConstantInRange o

@@ -11,7 +11,7 @@ use Rattle.std.proofs.lemmas.Str.{digit_value_digit}
 use Rattle.std.proofs.lemmas.Str.Parse.{digit_at}
 use Rattle.std.proofs.lemmas.Bool.Decides.{nat_tests}
 use Rattle.std.proofs.Math.Seq.{take-append_seam, drop-append_seam}
-use Rattle.jm_program.proofs.DescriptorLaws.{both_true, and_true}
+use Rattle.std.proofs.lemmas.Bool.{and_from}
 use Rattle.jm_program.specs.Flags.{is_interface}
 use Rattle.jm_program.specs.Names.{is_class_name}
 use Rattle.jm_program.specs.Texts.{utf16_of}
@@ -19,6 +19,7 @@ use Rattle.jm_program.specs.Fits.{version_fits}
 use Rattle.jm_program.specs.JasminUnits.{name_text}
 use Rattle.jm_program.specs.declared.class.Version.{Version}
 use Rattle.jm_program.specs.declared.flags.AccessFlags.{AccessFlags}
+use Rattle.jm_program.proofs.Truths.{both_true}
 use Rattle.jm_class_format.specs.Symbols.{class_name_of}
 use Rattle.jm_class_writer.specs.Ranges.{UnitsInRange}
 use Rattle.jm_class_writer.proofs.Symbols.{class_name_read}
@@ -93,7 +94,7 @@ digits_no_point : (ds : List ℕ) → list_all is_decimal ds ≡ true → list_a
 digits_no_point [] h = refl
 digits_no_point (b ∷ bs) h =
     let p = both_true (is_decimal b) (list_all is_decimal bs) h in
-    and_true (not (is_point b)) (list_all (λ (u : ℕ). not (is_point u)) bs) (digit_no_point b p.0) (digits_no_point bs p.1)
+    and_from (not (is_point b)) (list_all (λ (u : ℕ). not (is_point u)) bs) (digit_no_point b p.0) (digits_no_point bs p.1)
 
 -- 49.0
 abbrev pub version_word : Version → List ℕ
@@ -128,7 +129,7 @@ version_begins (b ∷ bs) rest some h =
 version_is_word : (v : Version) → v.major < 2 ^ 16 → v.minor < 2 ^ 16 → is_word (version_word v) ≡ true
 version_is_word v major minor =
     let d = decimal_is v.major (omega arith) in
-    and_true (begins_word (version_word v)) (list_all is_word_byte (version_word v)) (version_begins (decimal v.major) (46 ∷ decimal v.minor) d.some d.decimals)
+    and_from (begins_word (version_word v)) (list_all is_word_byte (version_word v)) (version_begins (decimal v.major) (46 ∷ decimal v.minor) d.some d.decimals)
     (version_spelled v major minor).bytes
 
 abbrev pub version_words : Version → Line

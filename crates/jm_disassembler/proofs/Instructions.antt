@@ -10,7 +10,7 @@ use Rattle.std.proofs.lemmas.List.{append-nil}
 use Rattle.std.proofs.lemmas.List.Folds.{list_all-append}
 use Rattle.std.proofs.lemmas.Bool.Decides.{nat_tests}
 use Rattle.std.proofs.Math.Seq.{take-append_seam, drop-append_seam}
-use Rattle.jm_program.proofs.DescriptorLaws.{both_true, and_true}
+use Rattle.std.proofs.lemmas.Bool.{and_from}
 use Rattle.jm_program.specs.Names.{is_class_name, is_unqualified, is_invoked_name, is_method_name, is_clinit}
 use Rattle.jm_program.specs.Descriptors.{argument_slots, element_text, field_text, return_text, method_text, is_method_type, is_kept_method_type}
 use Rattle.jm_program.specs.Instructions.{instr_fits, has_dimensions, type_op_fits}
@@ -46,6 +46,7 @@ use Rattle.jm_program.specs.declared.instruction.plain.Plain.{Plain}
 use Rattle.jm_program.specs.declared.instruction.plain.Plain.TheVariants as plain
 use Rattle.jm_program.specs.declared.instruction.symbolic.Instr.{Instr}
 use Rattle.jm_program.specs.declared.instruction.symbolic.Instr.TheVariants as instr
+use Rattle.jm_program.proofs.Truths.{both_true}
 use Rattle.jm_class_format.specs.Symbols.{class_name_of, class_ref_of, field_type_of, method_ref_of}
 use Rattle.jm_class_format.specs.declared.opcode.Opcode.{Opcode}
 use Rattle.jm_class_format.specs.declared.opcode.Opcode.TheVariants as opcode
@@ -99,17 +100,17 @@ long_64 (pos n) h = grind (arith, ints)
 long_64 (negsuc n) h = grind (arith, ints)
 
 pub byte_is : (z : ℤ) → FitsSigned w8 z → IsBetween (negsuc 127) (pos 127) (signed_decimal z) z
-byte_is z h = record { value = signed_read z (long_8 z h); fits = and_true (int_le (negsuc 127) z) (int_le z (pos 127)) (grind (arith, ints)) (grind (arith, ints)) }
+byte_is z h = record { value = signed_read z (long_8 z h); fits = and_from (int_le (negsuc 127) z) (int_le z (pos 127)) (grind (arith, ints)) (grind (arith, ints)) }
 
 pub signed_short_is : (z : ℤ) → FitsSigned w16 z → IsBetween (negsuc 32767) (pos 32767) (signed_decimal z) z
 signed_short_is z h =
-    record { value = signed_read z (long_16 z h); fits = and_true (int_le (negsuc 32767) z) (int_le z (pos 32767)) (grind (arith, ints)) (grind (arith, ints)) }
+    record { value = signed_read z (long_16 z h); fits = and_from (int_le (negsuc 32767) z) (int_le z (pos 32767)) (grind (arith, ints)) (grind (arith, ints)) }
 
 pub int_is : (z : ℤ) → FitsSigned w32 z → IsBetween (negsuc 2147483647) (pos 2147483647) (signed_decimal z) z
 int_is z h =
     record {
       value = signed_read z (long_32 z h);
-      fits = and_true (int_le (negsuc 2147483647) z) (int_le z (pos 2147483647)) (grind (arith, ints)) (grind (arith, ints));
+      fits = and_from (int_le (negsuc 2147483647) z) (int_le z (pos 2147483647)) (grind (arith, ints)) (grind (arith, ints));
     }
 
 -- ---- words of the line
@@ -177,7 +178,7 @@ field_is_word f fits h all =
     let q = both_true (is_sayable_class f.class) (is_plain f.name) p.0 in
     let k = both_true (class_ref_fits f.class && is_unqualified f.name) (type_fits f.descriptor) fits in
     let l = both_true (class_ref_fits f.class) (is_unqualified f.name) k.0 in
-    and_true (begins_word (field_word f)) (list_all is_word_byte (field_word f)) (class_begins f.class (47 ∷ name_text f.name) l.0 q.0) (field_spelled f h all).bytes
+    and_from (begins_word (field_word f)) (list_all is_word_byte (field_word f)) (class_begins f.class (47 ∷ name_text f.name) l.0 q.0) (field_spelled f h all).bytes
 
 field_form : (op : _) (f : FieldRef) → field_ref_fits f ≡ true → field_ref_said f ≡ true → FieldRefInRange f
     → Operands (opcode.Field op) (bare (field_word f) ∷ bare (type_line f.descriptor) ∷ []) (instr.Field op f)
@@ -239,7 +240,7 @@ method_is_word : (op : InvokeOp) (m : MethodRef) → method_ref_fits op m ≡ tr
 method_is_word op m fits h all =
     let p = said_parts m h in
     let k = fits_parts op m fits in
-    and_true (begins_word (method_word m)) (list_all is_word_byte (method_word m))
+    and_from (begins_word (method_word m)) (list_all is_word_byte (method_word m))
     (class_begins m.class (47 ∷ (name_text m.name ++ method_line m.descriptor)) k.0 p.0) (method_spelled m h all).bytes
 
 letter_no_parenthesis : (b : BaseType) → no_parenthesis (element_text (Base b)) ≡ true

@@ -1,18 +1,19 @@
 -- Labels as words: where each is used and where each stands.
 use Rattle.std.proofs.Common.{◌≡◌, ℕ, ◌+◌, ◌-◌, ◌<◌, ◌^◌, ◌==◌, Bool, true, false, List, [], ◌∷◌, ◌++◌, length, refl}
-use Rattle.std.proofs.Common.{ap, sym, ◌∙◌, arith, nat_lt, eqb-true}
-use Rattle.std.specs.Prelude.{slice_index, nat_eq}
+use Rattle.std.proofs.Common.{ap, sym, ◌∙◌, arith, nat_lt}
+use Rattle.std.specs.Prelude.{slice_index}
 use Rattle.std.specs.List.{list_all, list_any}
 use Rattle.std.specs.Fmt.{decimal}
 use Rattle.std.specs.Str.Parse.{digits_value}
 use Rattle.std.proofs.lemmas.Fmt.{decimal_is_IsNumeral}
-use Rattle.std.proofs.lemmas.Bool.{eq-eqb}
+use Rattle.std.proofs.lemmas.Bool.{eq-eqb, and_from}
 use Rattle.std.proofs.lemmas.Bool.Decides.{nat_tests}
 use Rattle.std.proofs.Math.Seq.{take-append_seam}
 use Rattle.std.proofs.Common.{length-append}
-use Rattle.jm_program.proofs.DescriptorLaws.{both_true, and_true}
 use Rattle.jm_program.specs.Names.{same_text}
 use Rattle.jm_program.specs.Texts.{utf16_of}
+use Rattle.jm_program.proofs.Texts.{text_itself, text_is}
+use Rattle.jm_program.proofs.Truths.{both_true}
 use Rattle.jm_jasmin_ops.specs.Profile.{is_signed, is_signed_digits, is_offset, is_colon, has_colon}
 use Rattle.jm_jasmin.specs.Items.{ends_with_colon, without_last}
 use Rattle.jm_jasmin.specs.InstructionForms.{IsLabelName}
@@ -57,7 +58,7 @@ label_ends n =
     let size : length (label_word n) ≡ length (label_name n) + 1 = length-append (label_name n) (58 ∷ []) in
     let at : length (label_word n) - 1 ≡ length (label_name n) = omega (arith, size) in
     let long : nat_lt 1 (length (label_word n)) ≡ true = more (length (label_word n)) (omega (arith, size)) in
-    and_true (nat_lt 1 (length (label_word n))) (slice_index (label_word n) (length (label_word n) - 1) == 58) long
+    and_from (nat_lt 1 (length (label_word n))) (slice_index (label_word n) (length (label_word n) - 1) == 58) long
     (rw (at, last_is (label_name n) 58) refl)
   where
     more : (k : ℕ) → 1 < k → nat_lt 1 k ≡ true
@@ -72,20 +73,6 @@ label_is n lt =
 
 -- ---- no two labels have one name
 
-pub same_itself : (a : List ℕ) → same_text a a ≡ true
-same_itself [] = refl
-same_itself (x ∷ a) = and_true (nat_eq x x) (same_text a a) (eq-eqb x x refl) (same_itself a)
-
-pub same_is : (a b : List ℕ) → same_text a b ≡ true → a ≡ b
-same_is [] [] h = refl
-same_is [] (y ∷ b) h = absurd cc
-same_is (x ∷ a) [] h = absurd cc
-same_is (x ∷ a) (y ∷ b) h =
-    let p = both_true (nat_eq x y) (same_text a b) h in
-    let head : x ≡ y = eqb-true x y p.0 in
-    let tail : a ≡ b = same_is a b p.1 in
-    cc
-
 one_number : (m n : ℕ) → m < 2 ^ 64 → n < 2 ^ 64 → decimal m ≡ decimal n → m ≡ n
 one_number m n p q e = sym (decimal_is_IsNumeral m p).1 ∙ ap (digits_value 10) e ∙ (decimal_is_IsNumeral n q).1
 
@@ -97,7 +84,7 @@ other_label m n p q other = by (same_text (label_name m) (label_name n)) refl
   where
     by : (b : Bool) → same_text (label_name m) (label_name n) ≡ b → b ≡ false
     by true e =
-        let same : m ≡ n = one_number m n p q (behind_first m n (same_is (label_name m) (label_name n) e)) in
+        let same : m ≡ n = one_number m n p q (behind_first m n (text_is (label_name m) (label_name n) e)) in
         let yes : (m == n) ≡ true = eq-eqb m n same in
         absurd (cc (yes, other))
     by false e = refl

@@ -6,9 +6,9 @@ use Rattle.std.specs.Char.{is_ascii_hexdigit}
 use Rattle.std.proofs.lemmas.Bool.{eq-eqb}
 use Rattle.std.proofs.lemmas.Bool.Decides.{nat_tests}
 use Rattle.std.proofs.Math.Seq.{take-append_seam, drop-append_seam}
-use Rattle.jm_program.proofs.DescriptorLaws.{both_true}
 use Rattle.jm_jasmin_lex.specs.Token.{TokenParts}
 use Rattle.std.specs.Prelude.{if◌then◌else◌}
+use Rattle.jm_program.proofs.Truths.{both_true}
 use Rattle.jm_jasmin_lex.specs.Signs.{begins_with_line_feed, sign_of, signs}
 use Rattle.jm_jasmin_lex.specs.Tokens.{token_at, tokens_of}
 use Rattle.jm_jasmin_lex.specs.Grammar.{InWord, InText, IsToken, Parted, Lie}

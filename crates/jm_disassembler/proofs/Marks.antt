@@ -1,12 +1,11 @@
 -- Each place that something uses is marked.
 use Rattle.std.proofs.Common.{◌≡◌, ℕ, zero, suc, ◌+◌, ◌<◌, Bool, true, false, ◌&&◌, List, [], ◌∷◌, ◌++◌, length, refl, replicate, nat_lt, nat_le}
-use Rattle.std.proofs.Common.{ap, ◌∙◌, arith}
+use Rattle.std.proofs.Common.{◌∙◌, arith}
 use Rattle.std.specs.Prelude.{set}
 use Rattle.std.specs.List.{list_all, flat_map}
 use Rattle.std.proofs.lemmas.List.{length-set, get_or-set_same}
 use Rattle.std.specs.Prelude.{None}
 use Rattle.std.proofs.lemmas.Bool.Decides.{nat_tests}
-use Rattle.jm_program.proofs.DescriptorLaws.{both_true}
 use Rattle.jm_program.specs.Codes.{catch_type_fits, handler_fits}
 use Rattle.jm_program.specs.Instructions.{has_high, keys_rise, instr_fits}
 use Rattle.jm_program.specs.declared.instruction.plain.SwitchPair.{SwitchPair}
@@ -16,6 +15,8 @@ use Rattle.jm_program.specs.declared.instruction.symbolic.Instr.TheVariants as i
 use Rattle.jm_program.specs.declared.code.Code.{Code}
 use Rattle.jm_program.specs.declared.code.Handler.{Handler}
 use Rattle.jm_program.specs.declared.instruction.symbolic.Instr.{Instr}
+use Rattle.jm_program.proofs.Truths.{both_true}
+use Rattle.jm_program.proofs.Sequences.{many_falses}
 use Rattle.jm_disassembler.specs.Labels.{pair_targets, plain_targets, instr_targets, handler_places, marked, marks_of, is_marked}
 use Rattle.jm_disassembler.proofs.Switches.{Each}
 
@@ -132,10 +133,6 @@ handlers_up count (h ∷ hs) fits =
     let p = both_true (handler_fits count h) (list_all (handler_fits count) hs) fits in
     each_append (Up (count + 1)) (handler_places h) (flat_map handler_places hs) (handler_up count h p.0) (handlers_up count hs p.1)
 
-fresh_size : (n : ℕ) → length (replicate n false) ≡ n
-fresh_size zero = refl
-fresh_size (suc n) = ap suc (fresh_size n)
-
 pub record AllMarked (c : Code) : Type 0 where
   pub targets : Each (Marked (marks_of c)) (flat_map instr_targets c.instructions)
   pub places : Each (Marked (marks_of c)) (flat_map handler_places c.handlers)
@@ -149,9 +146,9 @@ code_marked c is hs =
     let ts : List ℕ = flat_map instr_targets c.instructions in
     let ps : List ℕ = flat_map handler_places c.handlers in
     let first : List Bool = marked fresh ts in
-    let size : length first ≡ n = size_kept fresh ts ∙ fresh_size n in
+    let size : length first ≡ n = size_kept fresh ts ∙ many_falses n in
     record {
-      targets = each_kept first ps ts (all_marked n fresh ts (fresh_size n) (instrs_up (length c.instructions) c.instructions is));
+      targets = each_kept first ps ts (all_marked n fresh ts (many_falses n) (instrs_up (length c.instructions) c.instructions is));
       places = all_marked n first ps size (handlers_up (length c.instructions) c.handlers hs);
       size = size_kept first ps ∙ size;
     }

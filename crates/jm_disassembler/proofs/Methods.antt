@@ -5,8 +5,8 @@ use Rattle.std.specs.Prelude.{if◌then◌else◌, All}
 use Rattle.std.specs.List.{list_all, flat_map}
 use Rattle.std.specs.Fmt.{decimal}
 use Rattle.std.proofs.lemmas.Bool.Decides.{nat_tests}
+use Rattle.std.proofs.lemmas.Bool.{and_from}
 use Rattle.jm_bytes.specs.Reading.{each}
-use Rattle.jm_program.proofs.DescriptorLaws.{both_true, and_true}
 use Rattle.jm_program.specs.Flags.{is_static, is_synchronized, is_native, is_abstract}
 use Rattle.jm_program.specs.Names.{same_text, is_method_name, is_init, is_clinit}
 use Rattle.jm_program.specs.Texts.{utf16_of}
@@ -21,6 +21,8 @@ use Rattle.jm_program.specs.declared.code.Code.{Code}
 use Rattle.jm_program.specs.declared.code.Handler.{Handler}
 use Rattle.jm_program.specs.declared.code.LineNumber.{LineNumber}
 use Rattle.jm_program.specs.declared.instruction.symbolic.Instr.{Instr}
+use Rattle.jm_program.proofs.Truths.{both_true, not_true}
+use Rattle.jm_program.proofs.Texts.{text_is}
 use Rattle.jm_class_format.specs.Members.{own_receiver}
 use Rattle.jm_class_format.specs.Symbols.{class_name_of}
 use Rattle.jm_class_writer.specs.Ranges.{OfSome, UnitsInRange, InstrInRange, HandlerInRange, MethodTypeInRange}
@@ -49,7 +51,7 @@ use Rattle.jm_disassembler.proofs.Laid.Laid.{ends, blank, word}
 use Rattle.jm_disassembler.proofs.Laid.Texts.{line}
 use Rattle.jm_disassembler.proofs.Spelled.{Spelled, then_spelled, name_spelled}
 use Rattle.jm_disassembler.proofs.Types.{ascii_spelled, method_type_spelled}
-use Rattle.jm_disassembler.proofs.LabelWords.{same_is, name_of_label, name_word}
+use Rattle.jm_disassembler.proofs.LabelWords.{name_of_label, name_word}
 use Rattle.jm_disassembler.proofs.Words.{name_begins, class_name_word, method_some}
 use Rattle.jm_disassembler.proofs.Instructions.{short_is, decimal_word}
 use Rattle.jm_disassembler.proofs.Marks.{handler_parts}
@@ -181,7 +183,7 @@ not_all name plain range said = by (same_text (name_text name) (codes "all")) re
 
     by : (b : Bool) → same_text (name_text name) (codes "all") ≡ b → b ≡ false
     by true e =
-        let text : name_text name ≡ codes "all" = same_is (name_text name) (codes "all") e in
+        let text : name_text name ≡ codes "all" = text_is (name_text name) (codes "all") e in
         let same : name ≡ codes "all" =
         sym (name_spelled name plain range).units_are ∙ ap utf16_of text ∙ (ascii_spelled (codes "all") refl).units_are in
         absurd (cc (same_as same, test (same_text name (codes "all")) said))
@@ -309,10 +311,6 @@ record MethodRules (in_interface : Bool) (m : Method) : Type 0 where
   ends_well : is_finalizer m ≡ false
   body : body_fits in_interface m m.code ≡ true
 
-not_true : (b : Bool) → not b ≡ true → b ≡ false
-not_true true h = absurd cc
-not_true false h = refl
-
 rules_of : (in_interface : Bool) (m : Method) → method_fits in_interface m ≡ true → MethodRules in_interface m
 rules_of in_interface m h =
     let n : Bool = is_method_name m.name in
@@ -397,7 +395,7 @@ declared_is_word : (in_interface : Bool) (m : Method) → SayableMethod in_inter
 declared_is_word in_interface m s =
     let r = rules_of in_interface m s.fits in
     let p = both_true (is_sayable m.name) (no_parenthesis m.name) s.name in
-    and_true (begins_word (declared_word m)) (list_all is_word_byte (declared_word m)) (name_begins m.name (method_line m.descriptor) (method_some m.name r.name) p.0)
+    and_from (begins_word (declared_word m)) (list_all is_word_byte (declared_word m)) (name_begins m.name (method_line m.descriptor) (method_some m.name r.name) p.0)
     (declared_spelled in_interface m s).bytes
 
 abbrev pub head_words : Method → Line

@@ -8,7 +8,8 @@ use Rattle.std.specs.Str.Parse.{AllDigits}
 use Rattle.std.proofs.lemmas.Fmt.{decimal_is_IsNumeral}
 use Rattle.std.proofs.lemmas.Str.Parse.{digit_at}
 use Rattle.std.proofs.lemmas.Bool.Decides.{nat_tests}
-use Rattle.jm_program.proofs.DescriptorLaws.{both_true, and_true}
+use Rattle.std.proofs.lemmas.Bool.{and_from}
+use Rattle.jm_program.proofs.Truths.{both_true, and_false}
 use Rattle.jm_jasmin_lex.specs.Integers.{is_digit, numeral, integer_of}
 use Rattle.jm_jasmin_ops.specs.Profile as profile
 use Rattle.jm_jasmin_ops.specs.Profile.{begins_with, is_named, is_real, is_offset, has_colon}
@@ -28,11 +29,11 @@ decimal_digit c cs h =
 
 all_decimal : (ds : List ℕ) → AllDigits 10 ds → list_all is_decimal ds ≡ true
 all_decimal [] h = refl
-all_decimal (c ∷ cs) h = and_true (is_decimal c) (list_all is_decimal cs) (decimal_digit c cs h) (all_decimal cs h.1)
+all_decimal (c ∷ cs) h = and_from (is_decimal c) (list_all is_decimal cs) (decimal_digit c cs h) (all_decimal cs h.1)
 
 all_digits : (ds : List ℕ) → AllDigits 10 ds → list_all (is_digit 10) ds ≡ true
 all_digits [] h = refl
-all_digits (c ∷ cs) h = and_true (is_digit 10 c) (list_all (is_digit 10) cs) (less h.0) (all_digits cs h.1)
+all_digits (c ∷ cs) h = and_from (is_digit 10 c) (list_all (is_digit 10) cs) (less h.0) (all_digits cs h.1)
   where
     less : {n : ℕ} → n < 10 → nat_lt n 10 ≡ true
     less {n} lt = grind (arith, nat_tests)
@@ -44,7 +45,7 @@ all_ascii : (ds : List ℕ) → list_all is_decimal ds ≡ true → list_all is_
 all_ascii [] h = refl
 all_ascii (b ∷ bs) h =
     let p = both_true (is_decimal b) (list_all is_decimal bs) h in
-    and_true (is_ascii_word b) (list_all is_ascii_word bs) (decimal_ascii b p.0) (all_ascii bs p.1)
+    and_from (is_ascii_word b) (list_all is_ascii_word bs) (decimal_ascii b p.0) (all_ascii bs p.1)
 
 -- ---- decimal numbers
 
@@ -69,7 +70,7 @@ word_of_digits (b ∷ bs) h =
     let first : is_decimal b ≡ true = p.0 in
     let begins : not (b == 59 || b == 34) ≡ true = grind (arith, nat_tests) in
     let bytes : list_all is_word_byte (b ∷ bs) ≡ true = (ascii_spelled (b ∷ bs) (all_ascii (b ∷ bs) h.decimals)).bytes in
-    and_true (not (b == 59 || b == 34)) (list_all is_word_byte (b ∷ bs)) begins bytes
+    and_from (not (b == 59 || b == 34)) (list_all is_word_byte (b ∷ bs)) begins bytes
 
 numeral_is : (most n : ℕ) → n < 2 ^ 64 → n ≤ most → numeral 10 most (decimal n) ≡ Some n
 unfolding numeral
@@ -85,21 +86,21 @@ numeral_is most n lt le =
 -- no number of digits begins with 0x or -
 no_radix : (ds : List ℕ) → list_all is_decimal ds ≡ true → (slice_index ds 0 == 48 && slice_index ds 1 == 120) ≡ false
 no_radix [] h = refl
-no_radix (b ∷ []) h = and_no (b == 48)
+no_radix (b ∷ []) h = and_false (b == 48)
   where
-    and_no : (x : Bool) → (x && (0 == 120)) ≡ false
-    and_no true = refl
-    and_no false = refl
+    and_false : (x : Bool) → (x && (0 == 120)) ≡ false
+    and_false true = refl
+    and_false false = refl
 no_radix (b ∷ c ∷ cs) h =
     let p = both_true (is_decimal b) (is_decimal c && list_all is_decimal cs) h in
     let q = both_true (is_decimal c) (list_all is_decimal cs) p.1 in
     let second : is_decimal c ≡ true = q.0 in
     let no : (c == 120) ≡ false = grind (arith, nat_tests) in
-    rw no (and_no (b == 48))
+    rw no (and_false (b == 48))
   where
-    and_no : (x : Bool) → (x && false) ≡ false
-    and_no true = refl
-    and_no false = refl
+    and_false : (x : Bool) → (x && false) ≡ false
+    and_false true = refl
+    and_false false = refl
 
 no_minus : (ds : List ℕ) → list_all is_decimal ds ≡ true → (slice_index ds 0 == 45) ≡ false
 no_minus [] h = refl
@@ -152,13 +153,9 @@ all_dropped : (ds : List ℕ) → drop (length ds) ds ≡ []
 all_dropped [] = refl
 all_dropped (b ∷ bs) = all_dropped bs
 
-and_no : (x : Bool) → (x && false) ≡ false
-and_no true = refl
-and_no false = refl
-
 nothing_behind : (b : Bool) → profile.is_real_behind b [] ≡ false
 unfolding profile.is_real_behind profile.is_exponent
-nothing_behind b = and_no b
+nothing_behind b = and_false b
 
 digits_not_real : (ds : List ℕ) → list_all is_decimal ds ≡ true → profile.is_unsigned_real ds ≡ false
 unfolding profile.is_unsigned_real

@@ -7,7 +7,6 @@ use Rattle.std.specs.List.{list_all}
 use Rattle.std.proofs.lemmas.Int.{ints}
 use Rattle.std.proofs.lemmas.List.Elements.{All-cons, All-nil}
 use Rattle.std.proofs.lemmas.Bool.Decides.{nat_tests}
-use Rattle.jm_program.proofs.DescriptorLaws.{both_true}
 use Rattle.jm_program.specs.JasminUnits.{is_escaped}
 use Rattle.jm_program.specs.Surrogates.{is_high, is_low}
 use Rattle.jm_program.specs.declared.jasmin.units.Context.TheVariants.{InName}
@@ -27,6 +26,7 @@ use Rattle.jm_program.specs.declared.instruction.plain.Plain.{Plain}
 use Rattle.jm_program.specs.declared.instruction.plain.Plain.TheVariants as plain
 use Rattle.jm_program.specs.declared.instruction.symbolic.Instr.{Instr}
 use Rattle.jm_program.specs.declared.instruction.symbolic.Instr.TheVariants as instr
+use Rattle.jm_program.proofs.Truths.{both_true}
 use Rattle.jm_class_writer.specs.Ranges.{OfSome, UnitsInRange, ConstantInRange, ElementInRange, TypeInRange, MethodTypeInRange, ClassRefInRange, InstrInRange, HandlerInRange}
 use Rattle.jm_disassembler.specs.Names.{is_unit, is_plain_unit, plain_from, is_plain, is_sayable, begins_with_quote, is_plain_element, is_plain_type, is_plain_return, is_plain_method_type, is_sayable_class}
 use Rattle.jm_disassembler.specs.Said.{no_parenthesis, class_no_parenthesis, is_within, is_int, is_long, is_short, key_said, plain_said, constant_said, instr_said}

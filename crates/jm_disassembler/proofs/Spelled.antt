@@ -11,11 +11,11 @@ use Rattle.std.proofs.lemmas.Grind.{flat_map-append}
 use Rattle.std.proofs.lemmas.Bool.Decides.{nat_tests}
 use Rattle.std.proofs.lemmas.Nat.{div-mul-add, mod-mul-add}
 use Rattle.std.proofs.Math.Utf8.{encode, scalar, scalars}
-use Rattle.jm_program.proofs.DescriptorLaws.{both_true}
 use Rattle.jm_program.specs.Texts.{utf16_of}
 use Rattle.jm_program.specs.Surrogates.{is_high, is_low, is_surrogate, character_of}
 use Rattle.jm_program.specs.JasminUnits.{is_escaped, unit_text, pair_text, lone_text, after_text, step_text, text_from, name_text}
 use Rattle.jm_program.specs.declared.jasmin.units.Context.TheVariants.{InName}
+use Rattle.jm_program.proofs.Truths.{both_true, not_true}
 use Rattle.jm_class_writer.specs.Ranges.{UnitsInRange}
 use Rattle.jm_class_writer.proofs.PartLaws.{all_tail, all_head}
 use Rattle.std.specs.Prelude.{if◌then◌else◌}
@@ -73,10 +73,6 @@ unit_spelled u lt h =
     let short : nat_lt u 0x1_0000 ≡ true = grind (arith, nat_tests) in
     let one : encode_utf16 u ≡ u ∷ [] = rw short refl in
     subst (λ (us : List ℕ). Spelled (encode u) us) one (character_spelled u s w)
-
-pub not_true : (b : Bool) → not b ≡ true → b ≡ false
-not_true true h = absurd cc
-not_true false h = refl
 
 pub not_high : (u : ℕ) → is_low u ≡ true → is_high u ≡ false
 not_high u h = grind (arith, nat_tests)

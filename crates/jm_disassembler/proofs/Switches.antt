@@ -8,7 +8,6 @@ use Rattle.std.specs.Fmt.{decimal, signed_decimal}
 use Rattle.std.proofs.lemmas.Int.{ints}
 use Rattle.std.proofs.lemmas.Bool.Decides.{nat_tests}
 use Rattle.jm_bytes.specs.Reading.{each}
-use Rattle.jm_program.proofs.DescriptorLaws.{both_true}
 use Rattle.jm_program.specs.Instructions.{is_above, has_high, keys_rise, instr_fits}
 use Rattle.jm_program.specs.Texts.{utf16_of}
 use Rattle.jm_program.specs.declared.instruction.plain.SwitchPair.{SwitchPair}
@@ -16,6 +15,7 @@ use Rattle.jm_program.specs.declared.instruction.plain.Plain.{Plain}
 use Rattle.jm_program.specs.declared.instruction.plain.Plain.TheVariants as plain
 use Rattle.jm_program.specs.declared.instruction.symbolic.Instr.{Instr}
 use Rattle.jm_program.specs.declared.instruction.symbolic.Instr.TheVariants as instr
+use Rattle.jm_program.proofs.Truths.{both_true}
 use Rattle.jm_class_format.specs.declared.opcode.Opcode.TheVariants as opcode
 use Rattle.jm_class_writer.specs.Ranges.{InstrInRange}
 use Rattle.jm_class_writer.proofs.PartLaws.{all_tail, all_head}

@@ -6,7 +6,6 @@ use Rattle.std.proofs.lemmas.Str.{encode_ascii}
 use Rattle.std.proofs.lemmas.Bool.Decides.{nat_tests}
 use Rattle.std.proofs.Math.Utf8.{encode, scalar}
 use Rattle.std.specs.Char.Escape.{encode_utf16}
-use Rattle.jm_program.proofs.DescriptorLaws.{both_true}
 use Rattle.jm_program.specs.Descriptors.{base_letter, element_text, field_text, return_text, method_text}
 use Rattle.jm_program.specs.JasminUnits.{name_text}
 use Rattle.jm_program.specs.JasminTypes.{element_line, type_line, return_line, method_line, class_line}
@@ -18,6 +17,7 @@ use Rattle.jm_program.specs.declared.descriptor.FieldType.{FieldType}
 use Rattle.jm_program.specs.declared.descriptor.MethodDescriptor.{MethodDescriptor}
 use Rattle.jm_program.specs.declared.reference.ClassRef.{ClassRef}
 use Rattle.jm_program.specs.declared.reference.ClassRef.TheVariants as class_ref
+use Rattle.jm_program.proofs.Truths.{both_true}
 use Rattle.jm_class_writer.specs.PoolUse.{class_text}
 use Rattle.jm_class_writer.specs.Ranges.{OfSome, ElementInRange, TypeInRange, MethodTypeInRange, ClassRefInRange}
 use Rattle.jm_class_writer.proofs.PartLaws.{all_tail, all_head}

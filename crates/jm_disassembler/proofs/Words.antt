@@ -8,7 +8,7 @@ use Rattle.std.proofs.lemmas.List.Folds.{list_all-append}
 use Rattle.std.proofs.lemmas.Bool.Decides.{nat_tests}
 use Rattle.std.proofs.Math.Utf8.{encode}
 use Rattle.std.proofs.Math.Seq.{take-append_seam, drop-append_seam}
-use Rattle.jm_program.proofs.DescriptorLaws.{both_true, and_true}
+use Rattle.std.proofs.lemmas.Bool.{and_from}
 use Rattle.jm_program.specs.Names.{is_name_unit, is_unqualified, is_method_unit, is_ordinary_method_name, is_init, is_clinit, is_method_name, is_class_name}
 use Rattle.jm_program.specs.Surrogates.{is_high, is_low, character_of}
 use Rattle.jm_program.specs.JasminUnits.{is_escaped, pair_text, lone_text, after_text, step_text, text_from, name_text}
@@ -21,12 +21,14 @@ use Rattle.jm_program.specs.declared.descriptor.ElementType.TheVariants.{Base, C
 use Rattle.jm_program.specs.declared.descriptor.FieldType.{FieldType}
 use Rattle.jm_program.specs.declared.reference.ClassRef.{ClassRef}
 use Rattle.jm_program.specs.declared.reference.ClassRef.TheVariants as class_ref
+use Rattle.jm_program.proofs.Numbers.{found_less as less}
+use Rattle.jm_program.proofs.Truths.{both_true, not_true}
+use Rattle.jm_program.proofs.Texts.{text_is}
 use Rattle.jm_class_writer.specs.Ranges.{UnitsInRange, TypeInRange, ClassRefInRange}
 use Rattle.jm_jasmin_ops.specs.Operands.{is_slash, member}
 use Rattle.jm_disassembler.specs.Names.{is_unit, is_plain_unit, plain_from, is_plain, begins_with_quote, is_sayable, is_plain_type, is_sayable_class}
 use Rattle.jm_disassembler.proofs.Laid.{is_word_byte, begins_word, is_word}
-use Rattle.jm_disassembler.proofs.LabelWords.{same_is}
-use Rattle.jm_disassembler.proofs.Spelled.{Spelled, name_spelled, pair_of, not_true, not_high, first_of_two, second_of_two, step_none, unit_plain}
+use Rattle.jm_disassembler.proofs.Spelled.{Spelled, name_spelled, pair_of, not_high, first_of_two, second_of_two, step_none, unit_plain}
 use Rattle.jm_disassembler.proofs.Types.{type_spelled, class_spelled}
 
 -- ---- words begin with neither ; nor "
@@ -122,18 +124,18 @@ pub class_name_word : (name : List ℕ) → is_class_name name ≡ true → is_s
 class_name_word name fits h all =
     let begins : begins_word (name_text name) ≡ true = ap begins_word (sym (append-nil (name_text name))) ∙ name_begins name [] (class_some name fits) h in
     let plain = (both_true (not (begins_with_quote name)) (is_plain name) h).1 in
-    and_true (begins_word (name_text name)) (list_all is_word_byte (name_text name)) begins (name_spelled name plain all).bytes
+    and_from (begins_word (name_text name)) (list_all is_word_byte (name_text name)) begins (name_spelled name plain all).bytes
 
 pub name_is_word : (name : List ℕ) → 0 < length name → is_sayable name ≡ true → UnitsInRange name → is_word (name_text name) ≡ true
 name_is_word name some h all =
     let begins : begins_word (name_text name) ≡ true = ap begins_word (sym (append-nil (name_text name))) ∙ name_begins name [] some h in
     let plain = (both_true (not (begins_with_quote name)) (is_plain name) h).1 in
-    and_true (begins_word (name_text name)) (list_all is_word_byte (name_text name)) begins (name_spelled name plain all).bytes
+    and_from (begins_word (name_text name)) (list_all is_word_byte (name_text name)) begins (name_spelled name plain all).bytes
 
 pub type_is_word : (t : FieldType) → is_plain_type t ≡ true → TypeInRange t → is_word (type_line t) ≡ true
 type_is_word t h all =
     let begins : begins_word (type_line t) ≡ true = ap begins_word (sym (append-nil (type_line t))) ∙ type_begins t [] in
-    and_true (begins_word (type_line t)) (list_all is_word_byte (type_line t)) begins (type_spelled t h all).bytes
+    and_from (begins_word (type_line t)) (list_all is_word_byte (type_line t)) begins (type_spelled t h all).bytes
 
 pub class_begins : (c : ClassRef) (rest : List ℕ) → class_ref_fits c ≡ true → is_sayable_class c ≡ true → begins_word (class_line c ++ rest) ≡ true
 unfolding class_line
@@ -141,12 +143,12 @@ class_begins (class_ref.Class name) rest fits h = name_begins name rest (class_s
 class_begins (class_ref.Array t) rest fits h = type_begins t rest
 
 pub word_of : (text units rest : List ℕ) → Spelled (text ++ rest) units → begins_word (text ++ rest) ≡ true → is_word (text ++ rest) ≡ true
-word_of text units rest s h = and_true (begins_word (text ++ rest)) (list_all is_word_byte (text ++ rest)) h s.bytes
+word_of text units rest s h = and_from (begins_word (text ++ rest)) (list_all is_word_byte (text ++ rest)) h s.bytes
 
 pub class_is_word : (c : ClassRef) → class_ref_fits c ≡ true → is_sayable_class c ≡ true → ClassRefInRange c → is_word (class_line c) ≡ true
 class_is_word c fits h all =
     let begins : begins_word (class_line c) ≡ true = ap begins_word (sym (append-nil (class_line c))) ∙ class_begins c [] fits h in
-    and_true (begins_word (class_line c)) (list_all is_word_byte (class_line c)) begins (class_spelled c h all).bytes
+    and_from (begins_word (class_line c)) (list_all is_word_byte (class_line c)) begins (class_spelled c h all).bytes
 
 -- ---- a class and a member's name, and a method's types
 
@@ -160,7 +162,7 @@ units_no_slash : (us : List ℕ) → list_all is_name_unit us ≡ true → list_
 units_no_slash [] h = refl
 units_no_slash (u ∷ us) h =
     let p = both_true (is_name_unit u) (list_all is_name_unit us) h in
-    and_true (no_slash u) (list_all no_slash us) (unit_no_slash u p.0) (units_no_slash us p.1)
+    and_from (no_slash u) (list_all no_slash us) (unit_no_slash u p.0) (units_no_slash us p.1)
 
 pub unqualified_no_slash : (name : List ℕ) → is_unqualified name ≡ true → list_all no_slash name ≡ true
 unqualified_no_slash name h = units_no_slash name (both_true (not (length name == 0)) (list_all is_name_unit name) h).1
@@ -172,9 +174,6 @@ ahead test [] u back h e = rw e refl
 ahead test (x ∷ front) u back h e =
     let p = both_true (not (test x)) (list_all (λ x. not (test x)) front) h in
     rw (p.0, ahead test front u back p.1 e, one-add) refl
-
-less : (a b : ℕ) → a < b → nat_lt a b ≡ true
-less a b lt = grind (arith, nat_tests)
 
 pub found_at : (test : ℕ → Bool) (front : List ℕ) (u : ℕ) (back : List ℕ) → list_all (λ x. not (test x)) front ≡ true → test u ≡ true
     → position test (front ++ u ∷ back) ≡ Some (length front)
@@ -211,8 +210,8 @@ method_no_slash name h = by (is_ordinary_method_name name) (is_init name) refl r
   where
     by : (o i : Bool) → is_ordinary_method_name name ≡ o → is_init name ≡ i → (o || i || is_clinit name) ≡ true → list_all no_slash name ≡ true
     by true i e f k = ordinary_no_slash name e
-    by false true e f k = subst (λ (n : List ℕ). list_all no_slash n ≡ true) (sym (same_is name (codes "<init>") f)) refl
-    by false false e f k = subst (λ (n : List ℕ). list_all no_slash n ≡ true) (sym (same_is name (codes "<clinit>") k)) refl
+    by false true e f k = subst (λ (n : List ℕ). list_all no_slash n ≡ true) (sym (text_is name (codes "<init>") f)) refl
+    by false false e f k = subst (λ (n : List ℕ). list_all no_slash n ≡ true) (sym (text_is name (codes "<clinit>") k)) refl
 
 pub method_some : (name : List ℕ) → is_method_name name ≡ true → 0 < length name
 method_some [] h = absurd (cc h)

@@ -1,7 +1,7 @@
 -- Texts that are written one behind another.
-use Rattle.std.proofs.Common.{◌≡◌, ℕ, ◌+◌, ◌-◌, ◌<◌, ◌≤◌, ◌==◌, zero, take, Bool, true, false, List, [], ◌∷◌, ◌++◌, length, get_or, drop, Result, Ok, Err, refl, sym, ap, ◌∙◌, append_assoc, add-one, drop-cons, arith}
+use Rattle.std.proofs.Common.{◌≡◌, ℕ, ◌+◌, ◌-◌, ◌<◌, ◌≤◌, ◌==◌, take, Bool, true, false, List, [], ◌∷◌, ◌++◌, length, get_or, drop, Result, Ok, Err, refl, sym, ap, ◌∙◌, append_assoc, add-one, drop-cons, arith}
 use Rattle.std.specs.Prelude.{OnOk, if◌then◌else◌, suc}
-use Rattle.std.proofs.lemmas.List.{append-nil, nil_from_length, length-drop}
+use Rattle.std.proofs.lemmas.List.{append-nil, nil_from_length, length-drop, take_all}
 use Rattle.std.specs.Prelude.{Option, Some, None}
 use Rattle.jm_program.specs.declared.class.Field.{Field}
 use Rattle.jm_program.specs.declared.class.Method.{Method}
@@ -21,12 +21,6 @@ then_written (Err x) old mid new a b e h = tt
 pub on_ok : {A E : Type 0} (r : Result A E) (x y z : List ℕ) → OnOk r (x ≡ y) → y ≡ z → OnOk r (x ≡ z)
 on_ok (Ok a) x y z h e = h ∙ e
 on_ok (Err a) x y z h e = tt
-
-take_all : {A : Type 0} (n : ℕ) (xs : List A) → length xs ≤ n → take n xs ≡ xs
-take_all zero [] le = refl
-take_all (suc n) [] le = refl
-take_all zero (x ∷ xs) le = absurd (omega arith)
-take_all (suc n) (x ∷ xs) le = ap (λ (ys : List _). x ∷ ys) (take_all n xs (omega arith))
 
 pub rest_of : {A : Type 0} (xs : List A) (at : ℕ) → take (length xs - at) (drop at xs) ≡ drop at xs
 rest_of xs at = take_all (length xs - at) (drop at xs) (omega (arith, length-drop at xs))

@@ -101,7 +101,7 @@ made_by steps quantum w from left o = elim o as (λ _. List Event) [
       ]
 ]
 
-left_standing : (steps quantum : ℕ) (v : World) (n left : ℕ)
+pub left_standing : (steps quantum : ℕ) (v : World) (n left : ℕ)
     → (elim (nat_lt 1 left) as (λ _. List Event) [ true ↦ robin_from steps quantum v n (left - 1) true | false ↦ robin_from steps quantum v (n + 1) quantum true ])
     ≡ robin_from steps quantum v (from_after n (left - 1)) (left_after quantum (left - 1)) true
 left_standing steps quantum v n left = by (nat_lt 1 left) refl

@@ -1,20 +1,14 @@
 -- The events of a schedule from a run on, of whose events so many were made.
-use Rattle.std.proofs.Common.{◌≡◌, ℕ, suc, ◌+◌, ◌-◌, ◌≤◌, ◌<◌, List, [], ◌∷◌, ◌++◌, Some, length, drop, get_or, replicate, slice_get, refl, sym, ap, subst, ◌∙◌, add-one, arith}
+use Rattle.std.proofs.Common.{◌≡◌, ℕ, suc, ◌+◌, ◌-◌, ◌≤◌, ◌<◌, List, [], ◌∷◌, ◌++◌, Some, length, drop, replicate, slice_get, sym, ap, subst, ◌∙◌, arith}
 use Rattle.std.specs.List.{flat_map}
-use Rattle.std.proofs.Math.Seq.{drop-append-add, drop-cons}
+use Rattle.std.proofs.Math.Seq.{drop-append-add}
 use Rattle.std.proofs.lemmas.List.{drop_all, drop-append-le, drop-replicate, length-replicate}
-use Rattle.std.proofs.lemmas.Option.{slice_get_within, get_or_from_slice_get}
+use Rattle.jm_program.proofs.Sequences.{first_left as next}
 use Rattle.jm_world.specs.declared.event.Event.{Event}
 use Rattle.jm_schedule.specs.Runs.{repeats_of, events_of}
 use Rattle.jm_schedule.specs.declared.schedule.Run.{Run}
 use Rattle.jm_schedule.proofs.RunLemmas.{no_run}
 use Rattle.jm_due.specs.Due.{events_from}
-
--- the first of those that are left
-next : {X : Type 0} (xs : List X) (i : ℕ) (x : X) → slice_get xs i ≡ Some x → drop i xs ≡ x ∷ drop (i + 1) xs
-next xs i x is =
-    let read : get_or xs i x ≡ x = get_or_from_slice_get xs i x x is in
-    drop-cons xs i x (slice_get_within xs i x is) ∙ rw (read, add-one) refl
 
 split : (runs : List Run) (i : ℕ) (run : Run) → slice_get runs i ≡ Some run → events_of (drop i runs) ≡ repeats_of run ++ events_of (drop (i + 1) runs)
 unfolding events_of

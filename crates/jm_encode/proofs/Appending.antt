@@ -1,7 +1,7 @@
 -- What a loop keeps that appends the bytes of one item after the other: what is there so far, in front of the bytes of the items that
 -- are left, is the whole.
-use Rattle.std.proofs.Common.{◌≡◌, ℕ, zero, suc, ◌+◌, ◌<◌, ◌≤◌, List, [], ◌∷◌, ◌++◌, length, get_or, take, drop, drop-cons, add-one, Result, Ok, Err, refl, sym, ap, ◌∙◌, append_assoc, arith, length-drop}
-use Rattle.std.proofs.lemmas.List.{append-nil, nil_from_length}
+use Rattle.std.proofs.Common.{◌≡◌, ℕ, suc, ◌+◌, ◌<◌, ◌≤◌, List, [], ◌∷◌, ◌++◌, length, get_or, drop, drop-cons, add-one, Result, Ok, Err, refl, sym, ap, ◌∙◌, append_assoc, arith, length-drop}
+use Rattle.std.proofs.lemmas.List.{append-nil, nil_from_length, take_all}
 use Rattle.jm_bytes.specs.Reading.{and_then}
 use Rattle.jm_bytes.specs.Laws.{same_Ok}
 use Rattle.jm_bytes.proofs.Loops.{with_front_all}
@@ -41,12 +41,5 @@ unfolding texts with_front_all
 texts_done {A = A} {B = B} text front xs i le =
     let none : drop i xs ≡ [] = nil_from_length (drop i xs) (omega (arith, length-drop i xs)) in
     ap (λ (ys : List A). with_front_all front (texts text ys)) none ∙ ap (λ (ns : List B). Ok ns) (append-nil front)
-
--- what was gone over is the whole
-pub take_whole : {A : Type 0} (n : ℕ) (xs : List A) → length xs ≤ n → take n xs ≡ xs
-take_whole zero [] le = refl
-take_whole (suc n) [] le = refl
-take_whole zero (x ∷ xs) le = absurd (omega arith)
-take_whole {A} (suc n) (x ∷ xs) le = ap (λ (ys : List A). x ∷ ys) (take_whole n xs (omega arith))
 
 pub ruleset texts_steps = (texts_next, texts_done)

@@ -14,6 +14,7 @@ use Rattle.jm_program.specs.declared.instruction.operation.ArrayOp.TheVariants a
 use Rattle.jm_program.specs.declared.instruction.operation.TypeOp.TheVariants as type
 use Rattle.jm_program.specs.declared.instruction.plain.Plain.{Plain}
 use Rattle.jm_program.specs.declared.instruction.plain.Plain.TheVariants as plain
+use Rattle.jm_program.proofs.Truths.{both_true as both}
 use Rattle.jm_class_format.specs.declared.fault.CodeFault.TheVariants as code_fault
 use Rattle.jm_class_format.specs.declared.instruction.IndexedInstr.{IndexedInstr}
 use Rattle.jm_class_format.specs.declared.instruction.IndexedInstr.TheVariants as indexed
@@ -26,7 +27,6 @@ use Rattle.jm_encode.specs.declared.fault.EncodeFault.TheVariants as fault
 use Rattle.jm_encode.specs.Encoding.{has_bytes, local_size, plain_size, array_size, type_size, size_at, placed_from, starts_from, end_from, texts, text_at, placed_text, all_starts, encoded}
 use Rattle.jm_encode.specs.Ranges.{InRange}
 use Rattle.jm_encode.proofs.Targets.{offset_in, AreStarts}
-use Rattle.jm_encode.proofs.Switches.{both}
 use Rattle.jm_encode.proofs.Instructions.{instr_at, instr_is}
 
 -- ---- each instruction takes a byte at least

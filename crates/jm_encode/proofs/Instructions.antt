@@ -20,6 +20,7 @@ use Rattle.jm_program.specs.declared.instruction.operation.TypeOp.{TypeOp}
 use Rattle.jm_program.specs.declared.instruction.operation.TypeOp.TheVariants as type
 use Rattle.jm_program.specs.declared.instruction.plain.Plain.{Plain}
 use Rattle.jm_program.specs.declared.instruction.plain.Plain.TheVariants as plain
+use Rattle.jm_program.proofs.Truths.{both_true as both}
 use Rattle.jm_class_format.specs.declared.opcode.Opcode.{Opcode}
 use Rattle.jm_class_format.specs.declared.opcode.Opcode.TheVariants as opcode
 use Rattle.jm_class_format.specs.declared.fault.CodeFault.TheVariants as code_fault
@@ -35,7 +36,7 @@ use Rattle.jm_encode.specs.Ranges.{PlainInRange, InRange}
 use Rattle.jm_encode.proofs.Rows.{simple_row, load_row, store_row, branch_row, array_load_row, array_store_row, element_row, return_row, monitor_row, field_row, virtual_row, special_row, static_row, type_row, push_byte_row, push_short_row, load_constant_row, load_constant_wide_row, load_long_row, increment_row, table_switch_row, lookup_switch_row, interface_row, new_row, new_array_row, length_row, throw_row, wide_row}
 use Rattle.jm_encode.proofs.Opcodes.{instruction_text, last_text}
 use Rattle.jm_encode.proofs.Targets.{offset_in, AreStarts, near_is, far_is, number_there}
-use Rattle.jm_encode.proofs.Switches.{both, table_at, lookup_at, table_is, lookup_is}
+use Rattle.jm_encode.proofs.Switches.{table_at, lookup_at, table_is, lookup_is}
 
 -- ---- with offsets for targets
 

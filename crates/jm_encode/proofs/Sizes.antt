@@ -25,6 +25,7 @@ use Rattle.jm_encode.specs.OpcodeBytes.{simple_byte, load_byte, store_byte, bran
 use Rattle.jm_encode.specs.Encoding.{padding_size, plain_size, array_size, type_size, size_at, distance, in_16_bits, near_text, far_text, branch_text, texts, switch_text, range_text, table_text, pair_text, lookup_text, local_text, increment_text, constant_text, plain_text, array_text, type_text, text_at, placed_text, placed_from, end_from, encoded}
 use Rattle.jm_encode.proofs.Instructions.{local_text_size, increment_size}
 use Rattle.jm_encode.proofs.Codes.{encoded_ok}
+use Rattle.jm_encode.proofs.Switches.{range_size}
 
 -- the one text that there is
 one_size : (one text : List ℕ) (n : ℕ) → length one ≡ n → ◌≡◌ {A = Result (List ℕ) EncodeFault} (Ok one) (Ok text) → length text ≡ n
@@ -85,10 +86,6 @@ all_of_8 text one (x ∷ xs) t h =
     let b = and_then_ok (texts text xs) (λ back. Ok (a.0 ++ back)) t a.2 in
     let size : length (a.0 ++ b.0) ≡ 8 * suc (length xs) = omega (arith, length-append a.0 b.0, one x a.0 a.1, all_of_8 text one xs b.0 b.1) in
     one_size (a.0 ++ b.0) t _ size b.2
-
-range_size : (low : ℤ) (count : ℕ) → length (range_text low count) ≡ 8
-unfolding range_text
-range_size low count = refl
 
 table_size : (starts : List ℕ) (at : ℕ) (t : TableSwitch) (text : List ℕ) → table_text starts at t ≡ Ok text → length text ≡ plain_size at (plain.TableSwitch t)
 unfolding table_text switch_text plain_size

@@ -1,6 +1,6 @@
 -- What is written for a switch spells it, its targets as offsets, and those offsets have the numbers of the targets.
-use Rattle.std.proofs.Common.{◌≡◌, ℕ, suc, ◌+◌, ◌-◌, ◌*◌, ◌^◌, ◌<◌, ◌≤◌, Bool, true, false, List, [], ◌∷◌, ◌++◌, length, map, replicate, Some, None, Ok, refl, sym, ap, subst, ◌∙◌, append_assoc, arith}
-use Rattle.std.specs.Prelude.{ℤ, pos, ◌+ℤ◌, ◌-ℤ◌, int_le, nat_lt, ◌&&◌, FitsSigned, slice_get, All}
+use Rattle.std.proofs.Common.{◌≡◌, ℕ, suc, ◌+◌, ◌-◌, ◌*◌, ◌^◌, ◌<◌, ◌≤◌, Bool, true, List, [], ◌∷◌, ◌++◌, length, map, replicate, Some, None, Ok, refl, sym, ap, subst, ◌∙◌, append_assoc, arith}
+use Rattle.std.specs.Prelude.{ℤ, pos, ◌+ℤ◌, ◌-ℤ◌, int_le, nat_lt, ◌&&◌, FitsSigned, All}
 use Rattle.std.specs.Int.{w32, to_be_bytes}
 use Rattle.std.proofs.lemmas.Int.{ints}
 use Rattle.std.proofs.lemmas.Bool.Decides.{nat_tests}
@@ -16,6 +16,8 @@ use Rattle.jm_program.specs.declared.instruction.plain.SwitchPair.{SwitchPair}
 use Rattle.jm_program.specs.declared.instruction.plain.TableSwitch.{TableSwitch}
 use Rattle.jm_program.specs.declared.instruction.plain.LookupSwitch.{LookupSwitch}
 use Rattle.jm_program.specs.declared.instruction.plain.Plain.TheVariants as plain
+use Rattle.jm_program.proofs.Truths.{both_true as both}
+use Rattle.jm_program.proofs.Sequences.{got_last}
 use Rattle.jm_class_format.specs.declared.fault.CodeFault.TheVariants as code_fault
 use Rattle.jm_class_format.specs.declared.instruction.IndexedInstr.TheVariants as indexed
 use Rattle.jm_class_format.specs.Instructions.{far_target, padding, natural, count_from, switch_range, table_switch, last_key, next_pair, pair_count, lookup_switch}
@@ -103,7 +105,7 @@ range_is at low count fits some le =
       };
     }
 
-range_size : (low : ℤ) (count : ℕ) → length (range_text low count) ≡ 8
+pub range_size : (low : ℤ) (count : ℕ) → length (range_text low count) ≡ 8
 unfolding range_text
 range_size low count = refl
 
@@ -165,18 +167,10 @@ table_is starts at t text good low range rule h =
 
 -- ---- lookupswitch
 
-last_there : {X : Type 0} (xs : List X) (y : X) → slice_get (xs ++ y ∷ []) (length xs) ≡ Some y
-last_there [] y = refl
-last_there (x ∷ xs) y = last_there xs y
-
 last_key_is : (pairs : List SwitchPair) (pair : SwitchPair) → last_key (pairs ++ pair ∷ []) ≡ Some pair.key
 last_key_is pairs pair =
     let place : length (pairs ++ pair ∷ []) - 1 ≡ length pairs = omega (arith, length-append pairs (pair ∷ [])) in
-    rw (place, last_there pairs pair) refl
-
-pub both : (a b : Bool) → (a && b) ≡ true → (a ≡ true) × (b ≡ true)
-both true b h = (refl, h)
-both false b h = absurd cc
+    rw (place, got_last pairs pair) refl
 
 pub record PairsSpelled (starts : List ℕ) (at : ℕ) (front pairs : List SwitchPair) (text : List ℕ) : Type 0 where
   pub size : length text ≡ 8 * length pairs

@@ -1,2 +1,1 @@
 pub mod Lanes
-pub mod Storing

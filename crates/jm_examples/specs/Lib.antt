@@ -1,4 +1,3 @@
 pub mod Row
 pub mod Again
-pub mod Storing
 pub mod TextAgain

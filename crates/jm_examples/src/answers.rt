@@ -1,12 +1,10 @@
 // Questions that the rows of tables ask, and their answers as texts.
 
 use crate::changes::Changed;
-use crate::class_lines::ClassQuestion;
 use crate::columns::{bytes_of, text_bytes};
 use crate::notation::{expanded, invalid};
 use crate::{
-    assembled, changes, class_files, codes, descriptors, explanations, plain_rows, pools,
-    schedules, tokens,
+    assembled, changes, class_files, codes, descriptors, explanations, plain_rows, pools, tokens,
 };
 use std::alloc::Global;
 use std::ops::Range;
@@ -30,8 +28,6 @@ pub enum Question {
 /// What is asked of bytes.
 #[derive(Clone, Copy)]
 pub enum BytesQuestion {
-    /// What the class of a class file is.
-    Class(ClassQuestion),
     /// How many files that differ in one byte are answered as they should be.
     Changes(Changed),
     /// Whether the class is written as the same bytes.
@@ -42,8 +38,6 @@ pub enum BytesQuestion {
     Code,
     /// How many instructions a code has.
     CodeLength,
-    /// How many entries a record has.
-    RecordLength,
     Pool,
     /// The code units of a text of a pool.
     Units,
@@ -52,8 +46,10 @@ pub enum BytesQuestion {
 /// What is asked of a text.
 #[derive(Clone, Copy)]
 pub enum TextQuestion {
-    /// What its class is.
-    Class(ClassQuestion),
+    /// Its fault and the line, where it is no class.
+    Fault,
+    /// What comes of writing its class and reading it again.
+    Again,
     /// Whether it is a class, or has a fault with a number and a line.
     IsAnswered,
     /// Some bytes of its class file.
@@ -65,9 +61,6 @@ pub enum TextQuestion {
     TokenLines,
     Literal,
     Number,
-    Schedule,
-    /// How many events a schedule has.
-    ScheduleLength,
     Descriptor,
     /// The name of the code units.
     Name,
@@ -151,13 +144,11 @@ fn answer_of(alloc: Global, question: Question, bytes: &[u8]) -> io::Result<Stri
 
 fn answer_to_bytes(alloc: Global, question: BytesQuestion, bytes: &[u8]) -> io::Result<String> {
     match question {
-        BytesQuestion::Class(question) => class_files::class(alloc, question, bytes),
         BytesQuestion::Changes(what) => changes::kept(alloc, what, bytes),
         BytesQuestion::Same => class_files::bytes(alloc, bytes),
         BytesQuestion::Versions => class_files::versions(alloc, bytes),
         BytesQuestion::Code => codes::code(alloc, bytes),
         BytesQuestion::CodeLength => codes::code_length(alloc, bytes),
-        BytesQuestion::RecordLength => schedules::record_length(alloc, bytes),
         BytesQuestion::Pool => pools::pool(alloc, bytes),
         BytesQuestion::Units => pools::units(alloc, bytes),
     }
@@ -165,7 +156,8 @@ fn answer_to_bytes(alloc: Global, question: BytesQuestion, bytes: &[u8]) -> io::
 
 fn answer_to_text(alloc: Global, question: TextQuestion, text: &str) -> io::Result<String> {
     match question {
-        TextQuestion::Class(question) => assembled::class(alloc, question, text),
+        TextQuestion::Fault => assembled::fault(alloc, text),
+        TextQuestion::Again => assembled::again(alloc, text),
         TextQuestion::IsAnswered => assembled::is_answered(alloc, text),
         TextQuestion::ClassFile => assembled::class_file(alloc, text),
         TextQuestion::Tokens => tokens::tokens_of(alloc, text),
@@ -173,8 +165,6 @@ fn answer_to_text(alloc: Global, question: TextQuestion, text: &str) -> io::Resu
         TextQuestion::TokenLines => tokens::lines(alloc, text),
         TextQuestion::Literal => tokens::literal_of(alloc, text),
         TextQuestion::Number => tokens::number_of(alloc, text),
-        TextQuestion::Schedule => schedules::events(alloc, text),
-        TextQuestion::ScheduleLength => schedules::length(alloc, text),
         TextQuestion::Descriptor => descriptors::descriptor(alloc, text),
         TextQuestion::Name => descriptors::name(alloc, text),
         TextQuestion::Explanation => explanations::name(alloc, text),

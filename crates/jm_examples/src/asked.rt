@@ -2,13 +2,8 @@
 
 use crate::answers::{BytesQuestion, Question, TextQuestion};
 use crate::changes::Changed;
-use crate::class_lines::ClassQuestion;
 
 pub const ANSWERS: &[(&str, Question)] = &[
-    (
-        "answers/bodies.txt",
-        Question::Text(TextQuestion::Class(ClassQuestion::IsThere)),
-    ),
     (
         "answers/class_bytes.txt",
         Question::Bytes(BytesQuestion::Same),
@@ -22,14 +17,6 @@ pub const ANSWERS: &[(&str, Question)] = &[
         Question::Text(TextQuestion::ClassFile),
     ),
     (
-        "answers/class_files.txt",
-        Question::Bytes(BytesQuestion::Class(ClassQuestion::Whole)),
-    ),
-    (
-        "answers/class_instructions.txt",
-        Question::Bytes(BytesQuestion::Class(ClassQuestion::Instructions)),
-    ),
-    (
         "answers/class_versions.txt",
         Question::Bytes(BytesQuestion::Versions),
     ),
@@ -38,10 +25,6 @@ pub const ANSWERS: &[(&str, Question)] = &[
         Question::Bytes(BytesQuestion::CodeLength),
     ),
     ("answers/codes.txt", Question::Bytes(BytesQuestion::Code)),
-    (
-        "answers/cut_outcomes.txt",
-        Question::Text(TextQuestion::Class(ClassQuestion::IsThere)),
-    ),
     (
         "answers/cut_texts.txt",
         Question::Text(TextQuestion::IsAnswered),
@@ -54,6 +37,7 @@ pub const ANSWERS: &[(&str, Question)] = &[
         "answers/explanations.txt",
         Question::Text(TextQuestion::Explanation),
     ),
+    ("answers/left_out.txt", Question::Text(TextQuestion::Fault)),
     (
         "answers/literals.txt",
         Question::Text(TextQuestion::Literal),
@@ -73,32 +57,8 @@ pub const ANSWERS: &[(&str, Question)] = &[
         Question::Bytes(BytesQuestion::Changes(Changed::Record)),
     ),
     (
-        "answers/record_lengths.txt",
-        Question::Bytes(BytesQuestion::RecordLength),
-    ),
-    (
         "answers/schedule_changes.txt",
         Question::Bytes(BytesQuestion::Changes(Changed::Schedule)),
-    ),
-    (
-        "answers/schedule_lengths.txt",
-        Question::Text(TextQuestion::ScheduleLength),
-    ),
-    (
-        "answers/schedules.txt",
-        Question::Text(TextQuestion::Schedule),
-    ),
-    (
-        "answers/text_classes.txt",
-        Question::Text(TextQuestion::Class(ClassQuestion::Whole)),
-    ),
-    (
-        "answers/text_instructions.txt",
-        Question::Text(TextQuestion::Class(ClassQuestion::Instructions)),
-    ),
-    (
-        "answers/texts.txt",
-        Question::Text(TextQuestion::Class(ClassQuestion::IsThere)),
     ),
     (
         "answers/token_lines.txt",
@@ -111,6 +71,6 @@ pub const ANSWERS: &[(&str, Question)] = &[
     ),
     (
         "answers/written_again.txt",
-        Question::Text(TextQuestion::Class(ClassQuestion::Again)),
+        Question::Text(TextQuestion::Again),
     ),
 ];

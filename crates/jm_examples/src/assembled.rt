@@ -1,6 +1,6 @@
 // What texts in Jasmin's syntax are.
 
-use crate::class_lines::{ClassQuestion, class_answer};
+use crate::again::read_again;
 use crate::notation::{Bytes, invalid, said};
 use jm_class_writer::write_class;
 use jm_jasmin::{AsmFault, assemble};
@@ -15,11 +15,22 @@ fn fault_line(alloc: Global, fault: &AsmFault) -> io::Result<String> {
     }
 }
 
-/// The answer to a question about the class of a text, or why it is none.
-pub fn class(alloc: Global, question: ClassQuestion, text: &str) -> io::Result<String> {
+/// The fault of a text, with its line, or `class` where it has none.
+pub fn fault(alloc: Global, text: &str) -> io::Result<String> {
     match assemble(alloc, text) {
         Ok(class) => {
-            let answer = class_answer(alloc, question, &class);
+            drop(class);
+            Ok(String::from_str(alloc, "class")?)
+        }
+        Err(fault) => fault_line(alloc, &fault),
+    }
+}
+
+/// What comes of writing the class of a text and reading it again.
+pub fn again(alloc: Global, text: &str) -> io::Result<String> {
+    match assemble(alloc, text) {
+        Ok(class) => {
+            let answer = said(alloc, &read_again(alloc, &class));
             drop(class);
             answer
         }

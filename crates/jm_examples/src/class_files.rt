@@ -1,24 +1,11 @@
 // What class files are.
 
-use crate::class_lines::{ClassQuestion, class_answer};
 use crate::notation::{Numbers, said};
 use jm_class_reader::read_class;
 use jm_class_writer::write_class;
 use jm_program::{Class, ClassParts, Version};
 use std::alloc::Global;
 use std::io;
-
-/// The answer to a question about the class of a class file, or why it has none.
-pub fn class(alloc: Global, question: ClassQuestion, bytes: &[u8]) -> io::Result<String> {
-    match read_class(alloc, bytes) {
-        Ok(class) => {
-            let answer = class_answer(alloc, question, &class);
-            drop(class);
-            answer
-        }
-        Err(fault) => said(alloc, &fault),
-    }
-}
 
 // `the same bytes` where a class is written as these, or why it is not written.
 fn written_as(alloc: Global, class: &Class, bytes: &[u8]) -> io::Result<String> {

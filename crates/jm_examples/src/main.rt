@@ -7,12 +7,8 @@
 //! data, and prints what each prints and how it ends. It does the jobs of the tables that tables.txt
 //! lists and answers the rows of those in answers/, and prints how many rows of each are as they should
 //! be, and those that are not. Four workers share the machine of two printing threads, whose journal is
-//! run again. Workers run the programs with threads, and their records are replayed. Last it does each kind of work that the scripts in bench/ time, at a small size.
-//!
-//! With words it makes turns through the lock instead (`turns SEATS TURNS FILES`, for `bench/shared`), makes a run
-//! in which memory may be refused (`retried COPIERS CELLS SCHEDULE FILES`, for `bench/refused-allocations`) or with a
-//! collection between every two events (`moments CELLS SCHEDULE FILES`, for `bench/stress`), or does works of these sizes
-//! (`WHICH SIZE ..`).
+//! run again. Workers run the programs with threads, and their records are replayed. Last it shows what the serial
+//! collector leaves, case by case.
 #![tactic(auto)]
 
 mod again;
@@ -21,7 +17,6 @@ mod asked;
 mod assembled;
 mod changes;
 mod class_files;
-mod class_lines;
 mod codes;
 mod columns;
 mod conversation;
@@ -31,25 +26,19 @@ mod explanations;
 mod job_rows;
 mod jobs;
 mod journals;
-mod moments;
 mod notation;
 mod outcomes;
 mod plain_rows;
 mod pools;
 mod programs;
 mod recorded;
-mod retried;
 mod row;
-mod runs;
-mod schedules;
 mod shared_run;
 mod tables;
 mod text_again;
 mod tokens;
 mod told;
-mod turns;
 mod values;
-mod views;
 mod workers;
 mod works;
 
@@ -60,33 +49,21 @@ use jm_class_reader::read_class;
 use jm_class_writer::write_class;
 use jm_jasmin::assemble;
 use jm_program::Class;
-use moments::print_moments;
 use programs::{print_programs, print_runs, print_stressed_runs};
 use recorded::print_recorded;
-use retried::print_retried;
 use row::row_of;
 use shared_run::print_workers;
 use std::rt::Files;
 use std::sync::Wait;
 use std::thread::Threads;
-use std::{env, fs, io};
+use std::{fs, io};
 use tables::{print_answers, print_copied, print_stressed, print_tables};
 use text_again::text_again;
-use turns::print_turns;
-use works::{print_small_works, print_works};
+use works::print_collector;
 
 fn main(rt: HostRuntime) -> anyhow::Result<()> {
-    let words: Vec<String> = env::args(&rt)?.skip(1).collect(rt.alloc())?;
-    match words.split_first() {
-        None => {
-            print_all(&rt, &rt)?;
-            print_small_works(&rt, &rt)
-        }
-        Some((word, turns)) if word.as_str() == "turns" => Ok(print_turns(&rt, &rt, turns)?),
-        Some((word, run)) if word.as_str() == "retried" => print_retried(&rt, &rt, run),
-        Some((word, run)) if word.as_str() == "moments" => print_moments(&rt, &rt, run),
-        Some(_) => print_works(&rt, &rt, &words),
-    }
+    print_all(&rt, &rt)?;
+    print_collector(&rt)
 }
 
 // Does all that is among the data.

@@ -9,6 +9,7 @@ use Rattle.std.proofs.lemmas.List.Elements.{All-append, All-from_get_or, All-hea
 use Rattle.std.proofs.lemmas.List.Quantifiers.{position-Some}
 use Rattle.std.proofs.lemmas.List.Sums.{prefix_len_passes}
 use Rattle.std.proofs.KnownBytes.{Consumes-nil, Consumes-trans}
+use Rattle.jm_program.proofs.Truths.{not_true}
 use Rattle.jm_execute.specs.Lines.{IsWithinLine, MovesLine, led_by, lines_in}
 use Rattle.jm_execute.specs.LineReading.{ReadsLine, ReadsMore}
 use Rattle.jm_execute.specs.Written.{HasRead, ReadingBroke, Reads, Watch}
@@ -42,10 +43,6 @@ at_feed bytes i h =
       sym (take-append-drop i bytes) ∙ ap (λ rest. take i bytes ++ rest) (drop_more bytes i 0 within ∙ ap (λ b. b ∷ drop (i + 1) bytes) (feed (get_or bytes i 0) there.1)),
     )
 
-not_of_true : (b : Bool) → not b ≡ true → b ≡ false
-not_of_true true h = cc
-not_of_true false h = refl
-
 none_where_past : (a n : ℕ) → cond (ltb a n) (Some a) None ≡ None → n ≤ a
 none_where_past a n h = grind (arith, h)
 
@@ -53,7 +50,7 @@ none_where_past a n h = grind (arith, h)
 pub without_feed : (bytes : List ℕ) → position is_feed bytes ≡ None → IsWithinLine bytes
 without_feed bytes h =
     let past = none_where_past (position_or_len is_feed bytes) (length bytes) h in
-    All-from_get_or (λ byte. byte ≢ 10) bytes 0 (λ k l. no_feed (get_or bytes k 0) (not_of_true _ (prefix_len_passes (λ b. not (is_feed b)) bytes k 0 (omega (arith, past, l)))))
+    All-from_get_or (λ byte. byte ≢ 10) bytes 0 (λ k l. no_feed (get_or bytes k 0) (not_true _ (prefix_len_passes (λ b. not (is_feed b)) bytes k 0 (omega (arith, past, l)))))
 
 -- ---- bytes that are moved
 

@@ -1,5 +1,5 @@
 -- The receipts of several steps of one thread.
-use Rattle.std.proofs.Common.{◌≡◌, ℕ, zero, suc, ◌+◌, ◌-◌, ◌≤◌, ◌<◌, List, [], ◌∷◌, ◌++◌, refl, sym, ap, subst, ◌∙◌, length, replicate, map, append_assoc}
+use Rattle.std.proofs.Common.{◌≡◌, ℕ, ◌+◌, ◌-◌, ◌≤◌, ◌<◌, List, [], ◌∷◌, ◌++◌, refl, sym, ap, subst, ◌∙◌, length, replicate, map, append_assoc}
 use Rattle.std.proofs.Common.{append-nil, arith}
 use Rattle.std.proofs.lemmas.List.{map-append, replicate-append-replicate}
 use Rattle.jm_machine.specs.ManySteps.{EndsBy, EndsFor, made_of_steps, other_replies, replies_of_steps, steps_of}
@@ -17,6 +17,7 @@ use Rattle.jm_shared.specs.ManyTurns.{entries_of_turns, receipts_from, receipts_
 use Rattle.jm_shared.specs.declared.entry.Entry.{Entry}
 use Rattle.jm_shared.specs.declared.entry.Receipt.{Receipt}
 use Rattle.jm_shared.specs.declared.entry.Receipts.{Receipts}
+use Rattle.jm_shared.proofs.Turns.{events_replicate as alike_events, replies_replicate as alike_replies, events_told, replies_told}
 use Rattle.jm_execute.specs.Standings.{Answer}
 use Rattle.jm_execute.specs.Turns.{AreReplies, Records, RecordsPart, events_in, replies_in, world_by}
 use Rattle.jm_execute.proofs.Turns.{many_replies, recorded_then}
@@ -31,21 +32,13 @@ events_from : (number : ℕ) (es : List Entry) → events_in (receipts_from numb
 events_from number [] = refl
 events_from number (e ∷ es) = ap (λ (xs : List Event). e.event ∷ xs) (events_from (number + 1) es)
 
-alike_events : (n : ℕ) (e : Entry) → events_of (replicate n e) ≡ replicate n e.event
-alike_events zero e = refl
-alike_events (suc n) e = ap (λ (xs : List Event). e.event ∷ xs) (alike_events n e)
-
-other_events : (seat : ℕ) (event : Event) (rs : List Reply) → events_of (map (entry_of seat event) rs) ≡ replicate (length rs) event
-other_events seat event [] = refl
-other_events seat event (r ∷ rs) = ap (λ (xs : List Event). event ∷ xs) (other_events seat event rs)
-
 pub turns_events : (t : Receipts) → events_in (receipts_of_turns t) ≡ steps_of t.thread (made_of_steps t.steps)
 turns_events t =
     let alike = replicate t.steps.alike (entry_of t.seat (Step t.thread) t.steps.reply) in
     let others = other_replies t.steps.end in
     events_from t.number (entries_of_turns t)
     ∙ map-append (λ (e : Entry). e.event) alike (map (entry_of t.seat (Step t.thread)) others)
-    ∙ (λ i. alike_events t.steps.alike (entry_of t.seat (Step t.thread) t.steps.reply) i ++ other_events t.seat (Step t.thread) others i)
+    ∙ (λ i. alike_events t.steps.alike (entry_of t.seat (Step t.thread) t.steps.reply) i ++ events_told t.seat (Step t.thread) others i)
     ∙ replicate-append-replicate t.steps.alike (length others) (Step t.thread)
 
 -- so are those of the entries
@@ -64,21 +57,13 @@ replies_from_entries : (number : ℕ) (es : List Entry) → replies_in (receipts
 replies_from_entries number [] = refl
 replies_from_entries number (e ∷ es) = ap (λ (xs : List Reply). reply_of e ∷ xs) (replies_from_entries (number + 1) es)
 
-alike_replies : (n : ℕ) (e : Entry) → map reply_of (replicate n e) ≡ replicate n (reply_of e)
-alike_replies zero e = refl
-alike_replies (suc n) e = ap (λ (xs : List Reply). reply_of e ∷ xs) (alike_replies n e)
-
-other_entries : (seat : ℕ) (event : Event) (rs : List Reply) → map reply_of (map (entry_of seat event) rs) ≡ rs
-other_entries seat event [] = refl
-other_entries seat event (r ∷ rs) = ap (λ (xs : List Reply). r ∷ xs) (other_entries seat event rs)
-
 turns_replies : (t : Receipts) → replies_in (receipts_of_turns t) ≡ replies_of_steps t.steps
 turns_replies t =
     let alike = replicate t.steps.alike (entry_of t.seat (Step t.thread) t.steps.reply) in
     let others = other_replies t.steps.end in
     replies_from_entries t.number (entries_of_turns t)
     ∙ map-append reply_of alike (map (entry_of t.seat (Step t.thread)) others)
-    ∙ (λ i. alike_replies t.steps.alike (entry_of t.seat (Step t.thread) t.steps.reply) i ++ other_entries t.seat (Step t.thread) others i)
+    ∙ (λ i. alike_replies t.steps.alike (entry_of t.seat (Step t.thread) t.steps.reply) i ++ replies_told t.seat (Step t.thread) others i)
 
 turns_replied : (old new : List Receipt) (t : Receipts) → new ≡ old ++ receipts_of_turns t
     → replies_in new ≡ replies_in old ++ replies_of_steps t.steps

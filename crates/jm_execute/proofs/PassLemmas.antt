@@ -1,13 +1,14 @@
 -- The threads that a pass lists, and whose turn it is among them.
 use Rattle.std.proofs.Common.{◌≡◌, ◌≢◌, ℕ, zero, suc, ◌+◌, ◌-◌, ◌≤◌, ◌<◌, List, [], ◌∷◌, ◌++◌, Option, Some, None, Result, Ok, Err, Bool, true, false, refl, sym, ap, subst, ◌∙◌, length, arith, inl, inr, ◌⊎◌}
-use Rattle.std.specs.Prelude.{OnOk, slice_get, nat_le}
-use Rattle.std.proofs.lemmas.Bool.{leb-true, leb-false, cases_lt}
+use Rattle.std.specs.Prelude.{OnOk, slice_get}
+use Rattle.std.proofs.lemmas.Bool.{cases_lt}
 use Rattle.std.proofs.lemmas.Option.{slice_get_past}
 use Rattle.jm_machine.specs.Threads.{is_live, is_live_thread}
 use Rattle.jm_world.specs.RoundRobin.{Turn, live_from, next_turn}
-use Rattle.jm_world.specs.World.{World, Thread, is_running, live_among}
+use Rattle.jm_world.specs.World.{World, live_among}
 use Rattle.jm_execute.specs.Beginnings.{HasOneThread}
 use Rattle.jm_debug.specs.Kept.{OthersStay, has_stopped}
+use Rattle.jm_debug.proofs.LiveTurns.{nothing_between, found_nowhere, first_live}
 use Rattle.jm_execute.specs.Passes.{AllLive, Follows, HasTurn, Knows, Lists, NoneLive, following}
 use Rattle.jm_execute.specs.declared.pass.Pass.{Pass}
 
@@ -17,9 +18,6 @@ on_ok (Ok x) P Q f p = f p
 on_ok (Err e) P Q f p = p
 
 -- ---- where no thread is live
-
-nothing_between : (w : World) (low : ℕ) → NoneLive w low low
-nothing_between w low = λ k above below. absurd (omega arith)
 
 none_both : (w : World) (low middle high : ℕ) → NoneLive w low middle → NoneLive w middle high → NoneLive w low high
 none_both w low middle high first second = λ k above below. elim (cases_lt k middle) [ inl before ↦ first k above before | inr behind ↦ second k behind below ]
@@ -78,48 +76,6 @@ lists_later w v n low high (m ∷ ns) stay within away l =
 
 -- ---- the model's search
 
--- where the first is passed over
-passed_over : (from number : ℕ) (t : Thread) (ts : List Thread) → (from ≤ number → is_running t.ending ≡ false) → live_from from number (t ∷ ts) ≡ live_from from (number + 1) ts
-passed_over from number t ts ended = by (nat_le from number) refl
-  where
-    by : (b : Bool) → nat_le from number ≡ b
-        → (elim b as (λ _. Option ℕ) [ false ↦ live_from from (number + 1) ts | true ↦ elim (is_running t.ending) as (λ _. Option ℕ) [ true ↦ Some number | false ↦ live_from from (number + 1) ts ] ])
-        ≡ live_from from (number + 1) ts
-    by false e = refl
-    by true e = ap (λ r. elim r as (λ _. Option ℕ) [ true ↦ Some number | false ↦ live_from from (number + 1) ts ]) (ended (leb-true from number e))
-
-taken_first : (from number : ℕ) (t : Thread) (ts : List Thread) → from ≤ number → is_running t.ending ≡ true → live_from from number (t ∷ ts) ≡ Some number
-taken_first from number t ts within live = by (nat_le from number) refl
-  where
-    by : (b : Bool) → nat_le from number ≡ b
-        → (elim b as (λ _. Option ℕ) [ false ↦ live_from from (number + 1) ts | true ↦ elim (is_running t.ending) as (λ _. Option ℕ) [ true ↦ Some number | false ↦ live_from from (number + 1) ts ] ])
-        ≡ Some number
-    by false e = let below = leb-false from number e in absurd (omega arith)
-    by true e = ap (λ r. elim r as (λ _. Option ℕ) [ true ↦ Some number | false ↦ live_from from (number + 1) ts ]) live
-
-found_at : (ts : List Thread) (from number i : ℕ) → from ≤ number + i → is_live_thread (slice_get ts i) ≡ true → ((j : ℕ) → from ≤ number + j → j < i → is_live_thread (slice_get ts j) ≡ false)
-    → live_from from number ts ≡ Some (number + i)
-found_at [] from number i within live none = cc
-found_at (t ∷ ts) from number zero within live none =
-    let same : number ≡ number + 0 = omega arith in
-    taken_first from number t ts (omega arith) live ∙ ap Some same
-found_at (t ∷ ts) from number (suc i) within live none =
-    let same : number + 1 + i ≡ number + suc i = omega arith in
-    passed_over from number t ts (λ h. none zero (omega arith) (omega arith))
-    ∙ found_at ts from (number + 1) i (omega arith) live (λ j above below. none (suc j) (omega arith) (omega arith))
-    ∙ ap Some same
-
-found_nowhere : (ts : List Thread) (from number : ℕ) → ((j : ℕ) → from ≤ number + j → is_live_thread (slice_get ts j) ≡ false) → live_from from number ts ≡ None
-found_nowhere [] from number none = refl
-found_nowhere (t ∷ ts) from number none =
-    passed_over from number t ts (λ h. none zero (omega arith)) ∙ found_nowhere ts from (number + 1) (λ j above. none (suc j) (omega arith))
-
-pub first_live_is : (w : World) (low n : ℕ) → low ≤ n → is_live w n ≡ true → NoneLive w low n → live_from low 1 w.threads ≡ Some n
-first_live_is w low zero within live none = cc
-first_live_is w low (suc i) within live none =
-    let same : 1 + i ≡ suc i = omega arith in
-    found_at w.threads low 1 i (omega arith) live (λ j above below. none (suc j) (omega arith) (omega arith)) ∙ ap Some same
-
 pub no_live_is : (w : World) (low : ℕ) → NoneLive w low (length w.threads + 1) → live_from low 1 w.threads ≡ None
 no_live_is w low none = found_nowhere w.threads low 1 (λ j above. by j above (cases_lt j (length w.threads)))
   where
@@ -143,13 +99,13 @@ abbrev anew : Option ℕ → Option Turn
 anew found = elim found as (λ _. Option Turn) [ None ↦ None | Some n ↦ Some (record { thread = n; moved = false }) ]
 
 pub turn_goes_on : (w : World) (from n : ℕ) (moved : Bool) → from ≤ n → is_live w n ≡ true → NoneLive w from n → next_turn w from moved ≡ Some (record { thread = n; moved = moved })
-turn_goes_on w from n moved within live none = ap (chosen w moved) (first_live_is w from n within live none)
+turn_goes_on w from n moved within live none = ap (chosen w moved) (first_live w from n within live none)
 
 pub no_turn_left : (w : World) (from : ℕ) → NoneLive w from (length w.threads + 1) → next_turn w from false ≡ None
 no_turn_left w from none = ap (chosen w false) (no_live_is w from none)
 
 pub turn_begins_anew : (w : World) (from n : ℕ) → NoneLive w from (length w.threads + 1) → 1 ≤ n → is_live w n ≡ true → NoneLive w 1 n → next_turn w from true ≡ Some (record { thread = n; moved = false })
-turn_begins_anew w from n past within live none = ap (chosen w true) (no_live_is w from past) ∙ ap anew (first_live_is w 1 n within live none)
+turn_begins_anew w from n past within live none = ap (chosen w true) (no_live_is w from past) ∙ ap anew (first_live w 1 n within live none)
 
 pub no_turn_anew : (w : World) (from : ℕ) → NoneLive w from (length w.threads + 1) → NoneLive w 1 (length w.threads + 1) → next_turn w from true ≡ None
 no_turn_anew w from past none = ap (chosen w true) (no_live_is w from past) ∙ ap anew (no_live_is w 1 none)

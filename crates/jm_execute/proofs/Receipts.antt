@@ -1,14 +1,13 @@
 -- The receipts of a worker that has its journal for itself, and the entries of the journal.
-use Rattle.std.proofs.Common.{◌≡◌, ◌==◌, ℕ, ◌+◌, ◌<◌, List, [], ◌∷◌, ◌++◌, append-nil, Result, Ok, Err, Option, Some, None, refl, sym, ap, subst, ◌∙◌, arith, map, Bool, true, false, eq-eqb, ne_eqb, ◌⊎◌, inl, inr}
+use Rattle.std.proofs.Common.{◌≡◌, ◌==◌, ℕ, ◌+◌, ◌<◌, List, [], ◌∷◌, ◌++◌, append-nil, Result, Ok, Err, Option, refl, sym, ap, subst, ◌∙◌, arith, map, Bool, true, false, eq-eqb, ne_eqb, ◌⊎◌, inl, inr}
 use Rattle.std.specs.Prelude.{MatchResult, OnOk, cond}
 use Rattle.std.specs.List.{All}
 use Rattle.std.proofs.lemmas.List.Elements.{All-head, All-tail}
-use Rattle.jm_world.specs.Run.{After, after, after_event, answered, replies_from, run_from}
+use Rattle.jm_world.specs.Run.{after, replies_from, run_from}
 use Rattle.jm_world.specs.World.{World}
 use Rattle.jm_world.specs.declared.event.Event.{Event}
 use Rattle.jm_world.specs.declared.event.Event.TheVariants.{Step, Minor, Full}
 use Rattle.jm_world.specs.declared.reply.ReplyKind.TheVariants as kind
-use Rattle.jm_world.specs.declared.stop.Stop.{Stop}
 use Rattle.jm_choice.specs.Choices.{RunEnds, all_made, cut_short, listed}
 use Rattle.jm_shared.specs.Legal.{IsLegal, events_of, receipt_of, reply_of, world_after}
 use Rattle.jm_shared.specs.Seats.{of_seat}
@@ -18,16 +17,9 @@ use Rattle.jm_heap.specs.declared.heap.Kind.{Kind}
 use Rattle.jm_execute.specs.Collecting.{IsCollection, IsOwnOrCollects, IsWoven, own_seat, with_collections, woven}
 use Rattle.jm_execute.specs.Turns.{AreReplies, Records, RecordsPart, events_in, replies_in, world_by}
 use Rattle.jm_execute.proofs.Woven.{woven_part}
+use Rattle.jm_machine.proofs.BetweenEvents.{still_after}
 
 -- ---- a collection changes no world, stopped or not
-
-still_after : (w : World) (e : Event) → after_event w e ≡ answered kind.Done w → (after w e).world ≡ w
-unfolding after
-still_after w e is = by w.stop
-  where
-    by : (x : Option Stop) → (elim x as (λ _. After) [ Some s ↦ answered kind.Stopped w | None ↦ after_event w e ]).world ≡ w
-    by None = ap (λ (a : After). a.world) is
-    by (Some s) = refl
 
 still : (w : World) (e : Event) → IsCollection e → (after w e).world ≡ w
 still w (Step thread) none = absurd none

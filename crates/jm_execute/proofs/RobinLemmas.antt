@@ -2,7 +2,6 @@
 use Rattle.std.proofs.Common.{◌≡◌, ◌≢◌, ℕ, zero, suc, ◌+◌, ◌-◌, ◌<◌, ◌==◌, List, [], ◌∷◌, ◌++◌, Option, Some, None, Bool, true, false, refl, sym, ap, ap₂, subst, ◌∙◌, append_assoc, arith}
 use Rattle.std.specs.Prelude.{nat_lt}
 use Rattle.std.proofs.Math.Dec.{eqb-suc-zero}
-use Rattle.std.proofs.lemmas.Bool.{ltb-true, ltb-false}
 use Rattle.jm_world.specs.RoundRobin.{Turn, is_blocked, is_stopped, left_for, next_turn, robin, robin_from, turn_in}
 use Rattle.jm_world.specs.Run.{After, after}
 use Rattle.jm_world.specs.World.{World}
@@ -15,13 +14,14 @@ use Rattle.jm_machine.specs.Threads.{is_live}
 use Rattle.jm_shared.specs.declared.entry.Receipt.{Receipt}
 use Rattle.jm_debug.specs.Kept.{ended_in, has_stopped}
 use Rattle.jm_execute.specs.Passes.{Follows, HasTurn, Knows, following, turn_of}
-use Rattle.jm_execute.specs.Standings.{from_after, from_of, left_after, left_of, robin_at, standing_after, standing_behind, standing_by}
+use Rattle.jm_execute.specs.Standings.{from_after, from_of, left_of, robin_at, standing_after, standing_behind, standing_by}
 use Rattle.jm_execute.specs.Turns.{RecordsPart, events_in, world_by}
 use Rattle.jm_execute.specs.declared.pass.Pass.{Pass}
 use Rattle.jm_execute.specs.declared.pass.Turn as pass
 use Rattle.jm_execute.specs.declared.round_robin.Standing.{Standing}
 use Rattle.jm_debug.proofs.KeptThreads.{stepped, told}
 use Rattle.jm_execute.proofs.PassLemmas.{first_lives}
+use Rattle.jm_due.proofs.Rounds.{left_standing}
 
 -- ---- whose turn it is
 
@@ -57,27 +57,6 @@ made_by steps quantum w from left o = elim o as (λ _. List Event) [
         ]
       ]
 ]
-
-left_standing : (steps quantum : ℕ) (v : World) (n left : ℕ)
-    → (elim (nat_lt 1 left) as (λ _. List Event) [ true ↦ robin_from steps quantum v n (left - 1) true | false ↦ robin_from steps quantum v (n + 1) quantum true ])
-    ≡ robin_from steps quantum v (from_after n (left - 1)) (left_after quantum (left - 1)) true
-left_standing steps quantum v n left = by (nat_lt 1 left) refl
-  where
-    by : (b : Bool) → nat_lt 1 left ≡ b
-        → (elim b as (λ _. List Event) [ true ↦ robin_from steps quantum v n (left - 1) true | false ↦ robin_from steps quantum v (n + 1) quantum true ])
-        ≡ robin_from steps quantum v (from_after n (left - 1)) (left_after quantum (left - 1)) true
-    by true e =
-        let many : 1 < left = ltb-true 1 left e in
-        let some : left - 1 ≡ suc (left - 2) = omega arith in
-        let from : from_after n (left - 1) ≡ n = ap (from_after n) some in
-        let same : left_after quantum (left - 1) ≡ left - 1 = ap (left_after quantum) some ∙ sym some in
-        ap₂ (λ (a b : ℕ). robin_from steps quantum v a b true) (sym from) (sym same)
-    by false e =
-        let few = ltb-false 1 left e in
-        let none : left - 1 ≡ 0 = omega arith in
-        let from : from_after n (left - 1) ≡ n + 1 = ap (from_after n) none in
-        let same : left_after quantum (left - 1) ≡ quantum = ap (left_after quantum) none in
-        ap₂ (λ (a b : ℕ). robin_from steps quantum v a b true) (sym from) (sym same)
 
 then_standing : (steps quantum : ℕ) (v : World) (turn : pass.Turn) (left : ℕ) (blocked : Bool)
     → followed steps quantum v turn.thread turn.moved left blocked ≡ robin_at steps quantum v (standing_by blocked turn left)

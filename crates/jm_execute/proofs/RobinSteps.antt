@@ -13,6 +13,7 @@ use Rattle.jm_world.specs.World.{World}
 use Rattle.jm_world.specs.declared.event.Event.{Event}
 use Rattle.jm_world.specs.declared.event.Event.TheVariants.{Step}
 use Rattle.jm_world.specs.declared.reply.Reply.{Reply}
+use Rattle.jm_world.proofs.RunsOn.{run_append}
 use Rattle.jm_shared.specs.declared.entry.Receipt.{Receipt}
 use Rattle.jm_execute.specs.Passes.{IsAlone, Knows, following}
 use Rattle.jm_execute.specs.Standings.{Answer, IsTurn, LeadsTo, Makes, from_of, left_in, robin_at, standing_after, standing_behind, turn_behind}
@@ -23,7 +24,7 @@ use Rattle.jm_execute.specs.declared.round_robin.Made.{Made}
 use Rattle.jm_execute.specs.declared.round_robin.Standing.{Standing}
 use Rattle.jm_execute.proofs.DoneEvents.{AllDone, answer_done, done_events, turn_follows}
 use Rattle.jm_execute.proofs.RobinLemmas.{event_made, from_behind}
-use Rattle.jm_execute.proofs.Turns.{run_append, world_ran}
+use Rattle.jm_execute.proofs.Turns.{world_ran}
 
 -- one step more
 one_step_more : (k n : ℕ) (es : List Event) → steps_of n k ++ Step n ∷ es ≡ steps_of n (k + 1) ++ es

@@ -15,6 +15,7 @@ use Rattle.jm_debug.specs.declared.fault.DebugFault.TheVariants.{NoSuch}
 use Rattle.jm_debug.specs.declared.place.Place.{Place}
 use Rattle.jm_debug.specs.declared.turn.Turn.{Turn}
 use Rattle.jm_debug.specs.declared.turn.Turn.TheVariants as turn
+use Rattle.jm_debug.proofs.Continues.{opened}
 
 -- where it refuses, the next session is this one
 abbrev Stays : Session → Shown → Type 0
@@ -57,10 +58,6 @@ abbrev on_turn : ℕ → Bool → ℕ → Session → Turn → Shown
 on_turn left first blocked s turn.Ended = says (codes "ended") s
 on_turn left first blocked s turn.Blocked = says (codes "blocked") s
 on_turn left first blocked s (turn.Of n) = on_break left blocked s n (break_before s first n)
-
-opened : (s : Session) (first : Bool) (blocked left : ℕ) → continue_from (suc left) first blocked s ≡ on_turn left first blocked s (turn_of s blocked)
-unfolding continue_from
-opened s first blocked left = refl
 
 -- a continue that has so many events left refuses nothing
 abbrev AlwaysAnswers : ℕ → Type 0

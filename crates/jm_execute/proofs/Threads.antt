@@ -1,12 +1,11 @@
 -- The threads of a world, one thread more.
 use Rattle.std.proofs.Common.{◌≡◌, ℕ, zero, suc, ◌+◌, ◌<◌, List, [], ◌∷◌, ◌++◌, refl, sym, ap, ◌∙◌, take, length, arith, add-one, append_assoc, append-nil, slice_get, Bool, true, false, is_some, ◌||◌, ◌≢◌, codes}
 use Rattle.std.specs.Fmt.{decimal}
+use Rattle.std.proofs.lemmas.Bool.{or_left, or_right}
 use Rattle.jm_world.specs.World.{World, Thread, thread_at}
+use Rattle.jm_world.proofs.RunsOn.{thread_after}
 use Rattle.jm_machine.specs.Threads.{class_of_ending, class_ended_by}
 use Rattle.jm_execute.specs.Reports.{thread_line, thread_lines, any_ended_by, live_line}
-
-thread_after : (w : World) (k : ℕ) → thread_at w (k + 1) ≡ slice_get w.threads k
-thread_after w k = ap (thread_at w) (add-one k)
 
 lines_more_from : (start : ℕ) (ts : List Thread) (k : ℕ) → k < length ts → thread_lines start (take (suc k) ts) ≡ thread_lines start (take k ts) ++ thread_line (start + k) (class_ended_by (slice_get ts k))
 lines_more_from start [] k h = absurd (omega arith)
@@ -31,13 +30,6 @@ or_more false x y f h = f h
 or_false : (b : Bool) → b ≡ false → (b || false) ≡ false
 or_false true h = h
 or_false false h = h
-
-or_left : (b x : Bool) → b ≡ true → (b || x) ≡ true
-or_left b x h = ap (λ c. c || x) h
-
-or_right : (b x : Bool) → x ≡ true → (b || x) ≡ true
-or_right true x h = refl
-or_right false x h = h
 
 any_more_from : (ts : List Thread) (k : ℕ) → k < length ts → is_some (class_ended_by (slice_get ts k)) ≡ false → any_ended_by (take k ts) ≡ false → any_ended_by (take (suc k) ts) ≡ false
 any_more_from [] k h one none = absurd (omega arith)

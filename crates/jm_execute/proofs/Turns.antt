@@ -5,6 +5,7 @@ use Rattle.jm_world.specs.Run.{after, replies_from, run_from}
 use Rattle.jm_world.specs.World.{World}
 use Rattle.jm_world.specs.declared.event.Event.{Event}
 use Rattle.jm_world.specs.declared.reply.Reply.{Reply}
+use Rattle.jm_world.proofs.RunsOn.{run_append}
 use Rattle.jm_shared.specs.declared.entry.Receipt.{Receipt}
 use Rattle.jm_execute.specs.Turns.{AreReplies, Records, RecordsPart, events_in, replies_in, world_by}
 
@@ -45,10 +46,6 @@ split_replies first (x ∷ rs) events replies are =
 pub many_replies : (first : World) (old new : List Receipt) (events : List Event) (replies : List Reply) → Records old new events → replies_in new ≡ replies_in old ++ replies → AreReplies first new
     → AreReplies first old × (replies ≡ replies_from (world_by first old) events)
 many_replies first old new events replies records more are = split_replies first old events replies (sym more ∙ are ∙ ap (replies_from first) records)
-
-pub run_append : (w : World) (es fs : List Event) → run_from w (es ++ fs) ≡ run_from (run_from w es) fs
-run_append w [] fs = refl
-run_append w (e ∷ es) fs = run_append (after w e).world es fs
 
 pub world_ran : (first : World) (old new : List Receipt) (events : List Event) → Records old new events → world_by first new ≡ run_from (world_by first old) events
 world_ran first old new events records = ap (run_from first) records ∙ run_append first (events_in old) events

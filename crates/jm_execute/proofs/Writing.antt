@@ -1,12 +1,12 @@
 -- What stands in a writer after several writes.
-use Rattle.std.proofs.Common.{◌≡◌, ℕ, ◌<◌, List, [], ◌++◌, inl, inr, refl, sym, ap, subst, ◌∙◌, append_assoc, append-nil, take, drop, take-append-drop, length, ◌-◌, arith, Option, Some, None}
-use Rattle.std.proofs.lemmas.Grind.{common_steps}
+use Rattle.std.proofs.Common.{◌≡◌, ℕ, ◌<◌, List, [], ◌++◌, inl, inr, refl, sym, ap, subst, ◌∙◌, append_assoc, append-nil, take, drop, take-append-drop, length, ◌-◌, Option, Some, None}
 use Rattle.std.proofs.KnownBytes.{Appends-nil, Appends-trans}
 use Rattle.std.proofs.Output.{writes_in_calls_nil, writes_in_calls_single, writes_in_calls_append}
 use Rattle.std.specs.Io.KnownBytes.{Appends, Keeps}
 use Rattle.jm_execute.specs.CallEnds.{took, refused}
 use Rattle.jm_execute.specs.Written.{Watch, Words, AllWritten, Broken, BreaksOff, LinesWritten, Unflushed}
 use Rattle.std.specs.Prelude.{true}
+use Rattle.jm_jasmin_lex.proofs.SignsOfText.{rest_whole}
 
 -- what kept its bytes wrote none
 pub kept_none : (a b : Option (List ℕ)) → Keeps a b → Appends a b []
@@ -92,12 +92,9 @@ module _ {W : Type 0} (says : Words W) where
     same = q.same ∙ p.same;
   }
 
-pub all_left : (xs : List ℕ) (n : ℕ) → take (length xs - n) (drop n xs) ≡ drop n xs
-all_left xs n = grind (arith, common_steps)
-
 pub split_more : (text done rest : List ℕ) (n : ℕ) → text ≡ done ++ rest → text ≡ (done ++ take n rest) ++ take (length rest - n) (drop n rest)
 split_more text done rest n whole =
     whole
     ∙ ap (λ t. done ++ t) (sym (take-append-drop n rest))
     ∙ sym (append_assoc done (take n rest) (drop n rest))
-    ∙ ap (λ t. (done ++ take n rest) ++ t) (sym (all_left rest n))
+    ∙ ap (λ t. (done ++ take n rest) ++ t) (sym (rest_whole rest n))

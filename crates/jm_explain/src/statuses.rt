@@ -33,7 +33,7 @@ static STATUSES: [Entry; 10] = [
         name: "status",
         meaning: "a Java thread was ended by an exception that nothing caught",
         example: "`jm: thread 1 ended by java/lang/ArithmeticException`, for a division by zero.",
-        advice: "Catch the exception, or mend what throws it. `jm debug` with the same files shows the program at any event before it.",
+        advice: "Catch the exception, or mend what throws it. `jm why` with the same files tells where it was thrown and what was found there; `jm debug` shows the program at any event before it.",
     },
     Entry {
         number: 4,
@@ -68,7 +68,7 @@ static STATUSES: [Entry; 10] = [
         name: "status",
         meaning: "a Java thread had not ended when the last event was made",
         example: "`jm run --steps 8 sum.class` ends with `jm: 1 threads not ended`, since the program takes nine events.",
-        advice: "Allow more events by `--steps`, up to 10000000, or lengthen the schedule. Threads that wait for each other never end: `jm debug` shows where each stands, and its command `monitors` who holds what.",
+        advice: "Allow more events by `--steps`, up to 10000000, or lengthen the schedule. Threads that wait for each other never end: `jm why` tells where each stands and who waits for whom, and `jm debug` shows the program at any event.",
     },
     Entry {
         number: 9,

@@ -3,6 +3,7 @@ use Rattle.std.proofs.Common.{◌≡◌, ◌≢◌, ◌⊎◌, ℕ, zero, suc, �
 use Rattle.std.proofs.lemmas.List.{take_more}
 use Rattle.jm_world.specs.World.{World, Thread, live_among, thread_at}
 use Rattle.jm_world.specs.declared.stop.Stop.{Stop}
+use Rattle.jm_world.proofs.RunsOn.{thread_after}
 use Rattle.jm_machine.specs.Threads.{class_of_ending, class_ended_by}
 use Rattle.jm_explore.specs.Outcomes.{End, Thrown, end_of, end_with, found_of, how_ended, how_live, told_end, thrown_by, thrown_from, thrown_of}
 use Rattle.jm_explore.specs.Searches.{Has, founds}
@@ -40,9 +41,6 @@ end_whole w cut h output thrown e not_cut f g = end_other w h output thrown not_
 
 -- ---- the threads that exceptions have ended
 
-thrown_after : (w : World) (k : ℕ) → thread_at w (k + 1) ≡ slice_get w.threads k
-thrown_after w k = ap (thread_at w) (add-one k)
-
 thrown_more_from : (start : ℕ) (ts : List Thread) (k : ℕ) → k < length ts → thrown_from start (take (suc k) ts) ≡ thrown_from start (take k ts) ++ thrown_by (start + k) (class_ended_by (slice_get ts k))
 thrown_more_from start [] k h = absurd (omega arith)
 thrown_more_from start (t ∷ ts) zero h = append-nil (thrown_by start (class_of_ending t.ending)) ∙ ap (λ n. thrown_by n (class_of_ending t.ending)) (omega arith)
@@ -57,7 +55,7 @@ thrown_more w k h =
     ap (λ n. thrown_from 1 (take n w.threads)) (add-one k)
     ∙ thrown_more_from 1 w.threads k h
     ∙ ap (λ n. thrown_from 1 (take k w.threads) ++ thrown_by n (class_ended_by (slice_get w.threads k))) (omega arith)
-    ∙ ap (λ t. thrown_from 1 (take k w.threads) ++ thrown_by (k + 1) (class_ended_by t)) (sym (thrown_after w k))
+    ∙ ap (λ t. thrown_from 1 (take k w.threads) ++ thrown_by (k + 1) (class_ended_by t)) (sym (thread_after w k))
 
 map_push : (es : List EndedBy) (e : EndedBy) → map thrown_of (es ++ e ∷ []) ≡ map thrown_of es ++ thrown_of e ∷ []
 map_push [] e = refl

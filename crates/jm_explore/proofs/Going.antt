@@ -2,6 +2,7 @@
 use Rattle.std.proofs.Common.{◌≡◌, ◌≢◌, ◌⊎◌, ℕ, zero, suc, ◌≤◌, ◌<◌, Bool, true, false, Option, Some, None, is_some, length, nat_eq, refl, sym, ap, subst, ◌∙◌, arith, true≢false, inl, inr}
 use Rattle.std.proofs.lemmas.Bool.{false≢true}
 use Rattle.std.proofs.lemmas.Option.{slice_get_past}
+use Rattle.jm_program.proofs.Numbers.{found_itself}
 use Rattle.jm_world.specs.World.{World, Thread, is_running, thread_at}
 use Rattle.jm_world.specs.Next.{Next, goes, stops, blocks}
 use Rattle.jm_world.specs.Stepping.{step_thread}
@@ -61,12 +62,12 @@ nobody_goes w = opened w 0 w.stop refl ∙ by w.stop
 
 -- ---- an event that does not go leaves the world
 
-stays_step : (w : World) (n : Next) → is_going (after_step w n).reply.kind ≡ false → (after_step w n).world ≡ w
+pub stays_step : (w : World) (n : Next) → is_going (after_step w n).reply.kind ≡ false → (after_step w n).world ≡ w
 stays_step w (goes v) h = absurd (true≢false h)
 stays_step w (stops s) h = absurd (true≢false h)
 stays_step w blocks h = refl
 
-stays_running : (w : World) (t : ℕ) (th : Thread) (b : Bool) → is_going (elim b as (λ _. After) [ true ↦ after_step w (step_thread w t th) | false ↦ answered kind.Ended w ]).reply.kind ≡ false
+pub stays_running : (w : World) (t : ℕ) (th : Thread) (b : Bool) → is_going (elim b as (λ _. After) [ true ↦ after_step w (step_thread w t th) | false ↦ answered kind.Ended w ]).reply.kind ≡ false
     → (elim b as (λ _. After) [ true ↦ after_step w (step_thread w t th) | false ↦ answered kind.Ended w ]).world ≡ w
 stays_running w t th true h = stays_step w (step_thread w t th) h
 stays_running w t th false h = refl
@@ -76,7 +77,7 @@ stays_of w t (Some s) o h = refl
 stays_of w t None None h = refl
 stays_of w t None (Some th) h = stays_running w t th (is_running th.ending) h
 
-after_is : (w : World) (t : ℕ) → after w (Step t) ≡ after_of w t w.stop (thread_at w t)
+pub after_is : (w : World) (t : ℕ) → after w (Step t) ≡ after_of w t w.stop (thread_at w t)
 unfolding after
 after_is w t = by w.stop
   where
@@ -109,11 +110,8 @@ went_if false w t m is same = subst (MatchesWorld m) (same refl) is
 
 -- ---- switches
 
-same_number : (t : ℕ) → nat_eq t t ≡ true
-same_number t = grind arith
-
 pub other_same : (t : ℕ) → other_than t t ≡ 0
-other_same t = by (nat_eq t t) (same_number t)
+other_same t = by (nat_eq t t) (found_itself t)
   where
     by : (a : Bool) → a ≡ true → elim a as (λ _. ℕ) [ true ↦ 0 | false ↦ 1 ] ≡ 0
     by true h = refl

@@ -1,6 +1,7 @@
 -- Branches that are added for live threads.
-use Rattle.std.proofs.Common.{◌≡◌, ◌≢◌, ◌⊎◌, ℕ, ◌+◌, ◌≤◌, ◌<◌, List, [], ◌∷◌, ◌++◌, true, false, Bool, Option, Some, None, ◌-◌, length, refl, sym, ap, subst, ◌∙◌, inl, inr, append_assoc, append-nil, arith, take, true≢false, zero, suc, nat_lt}
+use Rattle.std.proofs.Common.{◌≡◌, ◌≢◌, ◌⊎◌, ℕ, ◌+◌, ◌≤◌, ◌<◌, List, [], ◌∷◌, ◌++◌, true, false, Bool, Option, Some, None, ◌-◌, length, refl, sym, ap, subst, ◌∙◌, inl, inr, append_assoc, append-nil, arith, take, true≢false, zero, suc}
 use Rattle.std.proofs.Math.Seq.{take-append_seam}
+use Rattle.jm_program.proofs.Numbers.{found_less, found_no_less}
 use Rattle.jm_world.specs.World.{World}
 use Rattle.jm_world.specs.Run.{after}
 use Rattle.jm_world.specs.declared.event.Event.TheVariants.{Step}
@@ -149,12 +150,6 @@ leaves_into w cost left behind t old first new e l = subst (λ bs. Leaves w cost
 pub truncated : (old added new newer : List Branch) (n : ℕ) → new ≡ old ++ added → n ≡ length old → newer ≡ take n new → newer ≡ old
 truncated old added new newer n e size cut = cut ∙ ap (λ k. take k new) size ∙ ap (take (length old)) e ∙ take-append_seam old added
 
-lt_true : (a b : ℕ) → a < b → nat_lt a b ≡ true
-lt_true a b h = grind (arith, h)
-
-lt_false : (a b : ℕ) → b ≤ a → nat_lt a b ≡ false
-lt_false a b h = grind (arith, h)
-
 module _ {H : Type 0} where
   pub goes_on_true : (b : Bool) (w : World) (t left behind : ℕ) (old new : List Branch) (m : MachineView H) → b ≡ true → GoesOn b w t left behind old new m → GoesOn true w t left behind old new m
   goes_on_true b w t left behind old new m e is = subst (λ x. GoesOn x w t left behind old new m) e is
@@ -187,14 +182,14 @@ module _ {H : Type 0} where
   within_slice w slice turn last left behind old new m o e f a =
       let cost : Bool → ℕ → ℕ = λ b t. elim b as (λ _. ℕ) [ true ↦ switch_within w turn.thread t | false ↦ switch_behind (next_of w turn.thread) t ] in
       let by_last : Option Turn → ℕ → ℕ = λ l. switch w slice l in
-      advances_as w (switch_within w turn.thread) (switch w slice last) left behind old new m o (ap by_last e ∙ ap cost (lt_true turn.events slice f)) a
+      advances_as w (switch_within w turn.thread) (switch w slice last) left behind old new m o (ap by_last e ∙ ap cost (found_less turn.events slice f)) a
 
   pub behind_slice : (w : World) (slice : ℕ) (turn : Turn) (last : Option Turn) (left behind : ℕ) (old new : List Branch) (m : MachineView H) (o : Option ℕ) → last ≡ Some turn → slice ≤ turn.events
       → Advances w (switch_behind (next_of w turn.thread)) left behind old new m o → Advances w (switch w slice last) left behind old new m o
   behind_slice w slice turn last left behind old new m o e f a =
       let cost : Bool → ℕ → ℕ = λ b t. elim b as (λ _. ℕ) [ true ↦ switch_within w turn.thread t | false ↦ switch_behind (next_of w turn.thread) t ] in
       let by_last : Option Turn → ℕ → ℕ = λ l. switch w slice l in
-      advances_as w (switch_behind (next_of w turn.thread)) (switch w slice last) left behind old new m o (ap by_last e ∙ ap cost (lt_false turn.events slice f)) a
+      advances_as w (switch_behind (next_of w turn.thread)) (switch w slice last) left behind old new m o (ap by_last e ∙ ap cost (found_no_less turn.events slice f)) a
 
   pub first_event : (w : World) (slice : ℕ) (last : Option Turn) (left behind : ℕ) (old new : List Branch) (m : MachineView H) (o : Option ℕ) → last ≡ None
       → Advances w (λ _. 0) left behind old new m o → Advances w (switch w slice last) left behind old new m o

@@ -1,5 +1,7 @@
 -- Schedules, one event after the other.
 use Rattle.std.proofs.Common.{◌≡◌, ℕ, ◌+◌, ◌≤◌, Bool, true, false, ◌&&◌, List, [], ◌∷◌, ◌++◌, Option, Some, None, refl, sym, ap, ◌∙◌, arith}
+use Rattle.std.proofs.lemmas.Bool.{and_from}
+use Rattle.jm_program.proofs.Truths.{right_true, left_true}
 use Rattle.jm_world.specs.World.{World}
 use Rattle.jm_world.specs.Run.{after}
 use Rattle.jm_world.specs.declared.event.Event.TheVariants.{Step}
@@ -39,30 +41,15 @@ switches_more w slice p t =
     let one : switch (world_after w p) slice (turn_from slice None p) t + 0 ≡ switch (world_after w p) slice (turn_from slice None p) t = omega arith in
     switches_append w slice None p (t ∷ []) ∙ ap (λ n. switches w slice p + n) one
 
-and_right : (a b : Bool) → (a && b) ≡ true → b ≡ true
-and_right true b h = h
-and_right false b h = absurd (no h)
-  where
-    no : false ≡ true → ⊥
-    no e = grind (arith, e)
-
-and_left : (a b : Bool) → (a && b) ≡ true → a ≡ true
-and_left true b h = refl
-and_left false b h = h
-
-and_both : (a b : Bool) → a ≡ true → b ≡ true → (a && b) ≡ true
-and_both true b g h = h
-and_both false b g h = g
-
 -- the parts of a whole that goes
 pub go_start : (w : World) (p q : List ℕ) → all_go w (p ++ q) ≡ true → all_go w p ≡ true
-go_start w p q h = and_left (all_go w p) (all_go (world_after w p) q) (sym (go_append w p q) ∙ h)
+go_start w p q h = left_true (all_go w p) (all_go (world_after w p) q) (sym (go_append w p q) ∙ h)
 
 pub go_next : (w : World) (p : List ℕ) (t : ℕ) (q : List ℕ) → all_go w (p ++ t ∷ q) ≡ true → can_go (world_after w p) t ≡ true
-go_next w p t q h = and_left (can_go (world_after w p) t) (all_go (after (world_after w p) (Step t)).world q) (and_right (all_go w p) (all_go (world_after w p) (t ∷ q)) (sym (go_append w p (t ∷ q)) ∙ h))
+go_next w p t q h = left_true (can_go (world_after w p) t) (all_go (after (world_after w p) (Step t)).world q) (right_true (all_go w p) (all_go (world_after w p) (t ∷ q)) (sym (go_append w p (t ∷ q)) ∙ h))
 
 pub go_more : (w : World) (p : List ℕ) (t : ℕ) → all_go w p ≡ true → can_go (world_after w p) t ≡ true → all_go w (p ++ t ∷ []) ≡ true
-go_more w p t g h = go_append w p (t ∷ []) ∙ and_both (all_go w p) (all_go (world_after w p) (t ∷ [])) g (and_both (can_go (world_after w p) t) true h refl)
+go_more w p t g h = go_append w p (t ∷ []) ∙ and_from (all_go w p) (all_go (world_after w p) (t ∷ [])) g (and_from (can_go (world_after w p) t) true h refl)
 
 -- what is left for the next switch
 pub few_next : (w : World) (slice : ℕ) (p : List ℕ) (t : ℕ) (q : List ℕ) → switches w slice p + switch (world_after w p) slice (turn_from slice None p) t ≤ switches w slice (p ++ t ∷ q)

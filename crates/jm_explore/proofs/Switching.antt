@@ -3,10 +3,10 @@ use Rattle.std.proofs.Common.{◌≡◌, ℕ, suc, ◌+◌, ◌≤◌, Bool, tru
 use Rattle.std.proofs.lemmas.Bool.{false≢true}
 use Rattle.std.specs.List.{All, Contains, flat_map}
 use Rattle.std.proofs.lemmas.Option.{slice_get_within}
+use Rattle.jm_program.proofs.Truths.{right_true, left_true}
+use Rattle.jm_program.proofs.Numbers.{at_most}
 use Rattle.jm_world.specs.World.{World, Thread, thread_at, is_running}
-use Rattle.jm_world.specs.Next.{Next, goes, stops, blocks}
-use Rattle.jm_world.specs.Stepping.{step_thread}
-use Rattle.jm_world.specs.Run.{After, after, after_event, after_step, after_thread, answered, run_from}
+use Rattle.jm_world.specs.Run.{After, after, after_thread, answered, run_from}
 use Rattle.jm_world.specs.declared.event.Event.{Event}
 use Rattle.jm_world.specs.declared.event.Event.TheVariants.{Step, Minor, Full}
 use Rattle.jm_world.specs.declared.reply.ReplyKind.TheVariants as kind
@@ -14,6 +14,8 @@ use Rattle.jm_world.specs.declared.stop.Stop.{Stop}
 use Rattle.jm_explore.specs.Switches.{all_go, can_go, first_of, is_going, next_of, next_turn, or_else, other_than, switch, switch_behind, switch_within, switches_from, world_after, IsEnd, IsSchedule}
 use Rattle.jm_explore.specs.Schedulings.{ListsAll, ListsNoOther, MoreSwitches, NoneLeftOut, SameEnd, choices_from, going, schedules, schedules_from}
 use Rattle.jm_explore.specs.declared.turn.Turn.{Turn}
+use Rattle.jm_explore.proofs.Going.{stays_running, after_is, other_same}
+use Rattle.jm_machine.proofs.BetweenEvents.{still_after}
 
 no_some : (t : ℕ) → None ≡ Some t → ⊥
 no_some t e = false≢true (ap (λ (o : Option ℕ). is_some o) e)
@@ -37,24 +39,6 @@ opened w t = by w.stop
     by None = refl
     by (Some s) = refl
 
-after_is : (w : World) (t : ℕ) → after w (Step t) ≡ after_of w t w.stop (thread_at w t)
-unfolding after
-after_is w t = by w.stop
-  where
-    by : (x : Option Stop) → elim x as (λ _. After) [ Some s ↦ answered kind.Stopped w | None ↦ after_thread w t (thread_at w t) ] ≡ after_of w t x (thread_at w t)
-    by None = refl
-    by (Some s) = refl
-
-stays_step : (w : World) (n : Next) → is_going (after_step w n).reply.kind ≡ false → (after_step w n).world ≡ w
-stays_step w (goes v) h = absurd (true≢false h)
-stays_step w (stops s) h = absurd (true≢false h)
-stays_step w blocks h = refl
-
-stays_running : (w : World) (t : ℕ) (th : Thread) (b : Bool) → is_going (elim b as (λ _. After) [ true ↦ after_step w (step_thread w t th) | false ↦ answered kind.Ended w ]).reply.kind ≡ false
-    → (elim b as (λ _. After) [ true ↦ after_step w (step_thread w t th) | false ↦ answered kind.Ended w ]).world ≡ w
-stays_running w t th true h = stays_step w (step_thread w t th) h
-stays_running w t th false h = refl
-
 stays_of : (w : World) (t : ℕ) (s : Option Stop) (o : Option Thread) → goes_of w t s o ≡ false → (after_of w t s o).world ≡ w
 stays_of w t (Some s) o h = refl
 stays_of w t None None h = refl
@@ -63,14 +47,6 @@ stays_of w t None (Some th) h = stays_running w t th (is_running th.ending) h
 -- an event of a thread that cannot go leaves the world as it is
 pub stays : (w : World) (t : ℕ) → can_go w t ≡ false → (after w (Step t)).world ≡ w
 stays w t h = ap (λ (a : After). a.world) (after_is w t) ∙ stays_of w t w.stop (thread_at w t) (sym (opened w t) ∙ h)
-
-collects : (w : World) (e : Event) → after_event w e ≡ answered kind.Done w → (after w e).world ≡ w
-unfolding after
-collects w e is = by w.stop
-  where
-    by : (x : Option Stop) → (elim x as (λ _. After) [ Some s ↦ answered kind.Stopped w | None ↦ after_event w e ]).world ≡ w
-    by None = ap (λ (a : After). a.world) is
-    by (Some s) = refl
 
 same_step : (w : World) (t : ℕ) (es : List Event) (b : Bool) → can_go w t ≡ b
     → (run_from (after w (Step t)).world es ≡ world_after (after w (Step t)).world (going (after w (Step t)).world es)) × (all_go (after w (Step t)).world (going (after w (Step t)).world es) ≡ true)
@@ -82,8 +58,8 @@ same_step w t es false h went same = (ap (λ v. run_from v es) (stays w t h) ∙
 
 pub same_end : SameEnd
 same_end w [] = (refl, refl)
-same_end w (Minor ∷ es) = let rest = same_end w es in (ap (λ v. run_from v es) (collects w Minor refl) ∙ rest.0, rest.1)
-same_end w (Full ∷ es) = let rest = same_end w es in (ap (λ v. run_from v es) (collects w Full refl) ∙ rest.0, rest.1)
+same_end w (Minor ∷ es) = let rest = same_end w es in (ap (λ v. run_from v es) (still_after w Minor refl) ∙ rest.0, rest.1)
+same_end w (Full ∷ es) = let rest = same_end w es in (ap (λ v. run_from v es) (still_after w Full refl) ∙ rest.0, rest.1)
 same_end w (Step t ∷ es) = same_step w t es (can_go w t) refl (same_end (after w (Step t)).world es) (same_end w es)
 
 other_at_most_one : (n t : ℕ) → other_than n t ≤ 1
@@ -207,14 +183,6 @@ going_within w t h = by t w.stop (sym (opened w t) ∙ h)
     by zero (Some s) h = absurd (false≢true h)
     by (suc n) s h = (omega arith, (let low = within n (slice_get w.threads n) refl s h in omega (arith, low)))
 
-and_left : (a b : Bool) → (a && b) ≡ true → a ≡ true
-and_left true b h = refl
-and_left false b h = h
-
-and_right : (a b : Bool) → (a && b) ≡ true → b ≡ true
-and_right true b h = h
-and_right false b h = absurd (false≢true h)
-
 listed : (n : ℕ) (w : World) (slice : ℕ) (turn : Option Turn) (left : ℕ) (ts : List ℕ) → all_go w ts ≡ true → switches_from w slice turn ts ≤ left → length ts ≤ n → (length ts ≡ n) ⊎ IsEnd (world_after w ts) → IsIn ts (schedules_from n w slice turn left)
 listed zero w slice turn left [] go few within whole = inl refl
 listed zero w slice turn left (t ∷ ts) go few within whole = let bad : ⊥ = omega (arith, within) in absurd bad
@@ -226,9 +194,9 @@ listed (suc n) w slice turn left [] go few within whole = elim whole [
   ])) (sym (no_choice w slice turn left end 1 w.threads)) (inl refl)
 ]
 listed (suc n) w slice turn left (t ∷ ts) go few within whole =
-    let can = and_left (can_go w t) (all_go (after w (Step t)).world ts) go in
+    let can = left_true (can_go w t) (all_go (after w (Step t)).world ts) go in
     let place = going_within w t can in
-    let rest = listed n (after w (Step t)).world slice (Some (next_turn slice turn t)) (left - switch w slice turn t) ts (and_right (can_go w t) (all_go (after w (Step t)).world ts) go) (omega (arith, few)) (omega (arith, within))
+    let rest = listed n (after w (Step t)).world slice (Some (next_turn slice turn t)) (left - switch w slice turn t) ts (right_true (can_go w t) (all_go (after w (Step t)).world ts) go) (omega (arith, few)) (omega (arith, within))
     (elim whole [ inl e ↦ inl (omega (arith, e)) | inr end ↦ inr end ]) in
     by (choices_from w slice turn left 1 w.threads) (chosen w slice turn left t can (omega (arith, few)) 1 w.threads place.0 place.1) (in_map t ts (schedules_from n (after w (Step t)).world slice (Some (next_turn slice turn t)) (left - switch w slice turn t)) rest)
   where
@@ -268,9 +236,6 @@ record IsRest (w : World) (slice : ℕ) (turn : Option Turn) (left n : ℕ) (ts 
 abbrev IsChoice : World → ℕ → Option Turn → ℕ → ℕ → Type 0
 IsChoice w slice turn left t = (can_go w t ≡ true) × (switch w slice turn t ≤ left)
 
-le_from : (a b : ℕ) → nat_le a b ≡ true → a ≤ b
-le_from a b h = grind (arith, h)
-
 choices_go : (w : World) (slice : ℕ) (turn : Option Turn) (left n : ℕ) (ths : List Thread) → Each (IsChoice w slice turn left) (choices_from w slice turn left n ths)
 choices_go w slice turn left n [] = tt
 choices_go w slice turn left n (th ∷ ths) = by (can_go w n) (nat_le (switch w slice turn n) left) refl refl (choices_go w slice turn left (n + 1) ths)
@@ -281,17 +246,7 @@ choices_go w slice turn left n (th ∷ ths) = by (can_go w n) (nat_le (switch w 
     ])
     by false b e f rest = rest
     by true false e f rest = rest
-    by true true e f rest = ((e, le_from (switch w slice turn n) left f), rest)
-
-same_thread : (t : ℕ) → other_than t t ≡ 0
-same_thread t = by (nat_eq t t) (itself t)
-  where
-    itself : (t : ℕ) → nat_eq t t ≡ true
-    itself t = grind arith
-
-    by : (a : Bool) → a ≡ true → elim a as (λ _. ℕ) [ true ↦ 0 | false ↦ 1 ] ≡ 0
-    by true h = refl
-    by false h = absurd (false≢true h)
+    by true true e f rest = ((e, at_most (switch w slice turn n) left f), rest)
 
 -- the first that can go can go, and there is one where one can go
 pub first_goes : (w : World) (n count t : ℕ) → first_of w n count ≡ Some t → can_go w t ≡ true
@@ -349,7 +304,7 @@ no_more w slice turn left none t = by (can_go w t) refl
         opens s b e = ap (λ x. elim x as (λ _. ℕ) [ true ↦ other_than last s | false ↦ 0 ]) e
 
         then_what : (b : Bool) → can_go w last ≡ b → ⊥
-        then_what true goes_on = not_in last goes_on (is last ∙ opens last true goes_on ∙ same_thread last)
+        then_what true goes_on = not_in last goes_on (is last ∙ opens last true goes_on ∙ other_same last)
         then_what false stuck = not_in t can (is t ∙ opens t false stuck)
 
     behind : (last : ℕ) → ((s : ℕ) → switch w slice turn s ≡ switch_behind (next_of w last) s) → can_go w t ≡ true → ⊥
@@ -357,7 +312,7 @@ no_more w slice turn left none t = by (can_go w t) refl
       where
         then_what : (o : Option ℕ) → next_of w last ≡ o → ⊥
         then_what None e = next_is_there w last t can e
-        then_what (Some n) e = not_in n (next_goes w last n e) (is n ∙ ap (λ o. switch_behind o n) e ∙ same_thread n)
+        then_what (Some n) e = not_in n (next_goes w last n e) (is n ∙ ap (λ o. switch_behind o n) e ∙ other_same n)
 
     other : (l : Option Turn) → turn ≡ l → can_go w t ≡ true → ⊥
     other None e can = not_in t can (ap (λ x. switch w slice x t) e)

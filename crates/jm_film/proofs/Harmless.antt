@@ -20,10 +20,10 @@ no_bytes = All-nil IsNoLess
 one_more : (b : ℕ) (bs : List ℕ) → b ≢ 60 → IsHarmless bs → IsHarmless (b ∷ bs)
 one_more b bs h hs = All-cons IsNoLess b bs h hs
 
-both : (xs ys : List ℕ) → IsHarmless xs → IsHarmless ys → IsHarmless (xs ++ ys)
+pub both : (xs ys : List ℕ) → IsHarmless xs → IsHarmless ys → IsHarmless (xs ++ ys)
 both xs ys h k = All-append IsNoLess xs ys h k
 
-one : (b : ℕ) → b ≢ 60 → IsHarmless (b ∷ [])
+pub one : (b : ℕ) → b ≢ 60 → IsHarmless (b ∷ [])
 one b h = one_more b [] h no_bytes
 
 digit : (n : ℕ) (small : Bool) → nat_lt n 10 ≡ small → (if small then 48 + n else 55 + n) ≢ 60

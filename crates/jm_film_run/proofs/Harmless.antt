@@ -2,7 +2,6 @@
 use Rattle.std.proofs.Common.{◌≢◌, ℕ, List, [], ◌∷◌, ◌++◌, length, take, drop}
 use Rattle.std.specs.List.{flat_map}
 use Rattle.std.specs.Fmt.{decimal}
-use Rattle.std.proofs.lemmas.List.Elements.{All-nil, All-append}
 use Rattle.jm_program.specs.declared.class.ClassParts.{ClassParts}
 use Rattle.jm_world.specs.World.{World}
 use Rattle.jm_world.specs.Run.{run_from}
@@ -11,24 +10,17 @@ use Rattle.jm_film.specs.Escapes.{IsHarmless}
 use Rattle.jm_film.specs.Data.{row_text, view_text}
 use Rattle.jm_film.specs.Filming.{all_told}
 use Rattle.jm_film.specs.declared.row.Row.TheVariants as row
-use Rattle.jm_film.proofs.Harmless.{row_harmless, view_harmless, run_harmless}
+use Rattle.jm_film.proofs.Harmless.{row_harmless, view_harmless, run_harmless, both}
 use Rattle.jm_filming.specs.Shown.{view}
 use Rattle.jm_filming.specs.Runs.{FilmingView, begun, moments_from}
 use Rattle.jm_listing.specs.Listings.{class_rows, source_rows}
 use Rattle.jm_listing.specs.declared.source.Source.{Source}
-use Rattle.jm_listing.proofs.Harmless.{class_harmless, source_harmless}
+use Rattle.jm_listing.proofs.Harmless.{class_harmless, source_harmless, each}
 use Rattle.jm_film_run.specs.Shots.{end_row, end_word, shots, shots_behind, shots_from, waits_from}
 use Rattle.jm_film_run.specs.FilmPages.{still_rows, title_of}
 
 abbrev IsNoLess : ℕ → Type 0
 IsNoLess b = b ≢ 60
-
-both : (xs ys : List ℕ) → IsHarmless xs → IsHarmless ys → IsHarmless (xs ++ ys)
-both xs ys h k = All-append IsNoLess xs ys h k
-
-each : {A : Type 0} (f : A → List ℕ) → ((x : A) → IsHarmless (f x)) → (xs : List A) → IsHarmless (flat_map f xs)
-each f h [] = All-nil IsNoLess
-each f h (x ∷ xs) = both (f x) (flat_map f xs) (h x) (each f h xs)
 
 still : (program : List ClassParts) (sources : List Source) → IsHarmless (still_rows program sources)
 still program sources =

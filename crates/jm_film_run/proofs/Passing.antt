@@ -1,24 +1,18 @@
 -- Events that are made and not shown, and those that are left.
-use Rattle.std.proofs.Common.{◌≡◌, ℕ, zero, suc, ◌+◌, ◌≤◌, ◌<◌, List, [], ◌∷◌, ◌++◌, Some, length, take, drop, get_or, slice_get, refl, sym, ap, subst, ◌∙◌, append_assoc, append-nil, arith, add-one, inl, inr, ◌⊎◌}
+use Rattle.std.proofs.Common.{◌≡◌, ℕ, zero, suc, ◌+◌, ◌≤◌, ◌<◌, List, [], ◌∷◌, ◌++◌, length, take, drop, get_or, refl, sym, ap, subst, ◌∙◌, append_assoc, append-nil, arith, add-one, inl, inr, ◌⊎◌}
 use Rattle.std.proofs.Math.Seq.{drop-cons}
 use Rattle.std.proofs.lemmas.Bool.{cases_lt}
 use Rattle.std.proofs.lemmas.List.{drop_all, drop_at, take_all, take_at}
-use Rattle.std.proofs.lemmas.Option.{slice_get_within, get_or_from_slice_get}
 use Rattle.std.specs.Prelude.{slice_index_or}
 use Rattle.std.specs.Fmt.{decimal}
 use Rattle.jm_world.specs.World.{World}
 use Rattle.jm_world.specs.Run.{after, run_from}
 use Rattle.jm_world.specs.declared.event.Event.{Event}
+use Rattle.jm_world.proofs.RunsOn.{run_append}
 use Rattle.jm_film.specs.Data.{view_text}
 use Rattle.jm_filming.specs.Shown.{view}
 use Rattle.jm_filming.specs.Runs.{begun, waits_behind}
 use Rattle.jm_film_run.specs.Shots.{Reached, waits_from, shots, shots_behind, shots_from}
-
--- the first of those that are left
-pub next : {X : Type 0} (xs : List X) (i : ℕ) (x : X) → slice_get xs i ≡ Some x → drop i xs ≡ x ∷ drop (i + 1) xs
-next xs i x is =
-    let read : get_or xs i x ≡ x = get_or_from_slice_get xs i x x is in
-    drop-cons xs i x (slice_get_within xs i x is) ∙ rw (read, add-one) refl
 
 pub next_item : {X : Type 0} (xs : List X) (i : ℕ) (x : X) → i < length xs → x ≡ get_or xs i x → drop i xs ≡ x ∷ drop (i + 1) xs
 next_item xs i x within is =
@@ -27,10 +21,6 @@ next_item xs i x within is =
 
 pub next_at : {X : Type 0} (xs : List X) (i : ℕ) (d : X) → i < length xs → drop i xs ≡ slice_index_or xs i d ∷ drop (i + 1) xs
 next_at xs i d within = drop-cons xs i d within ∙ rw add-one refl
-
-pub run_behind : (w : World) (es fs : List Event) → run_from w (es ++ fs) ≡ run_from (run_from w es) fs
-run_behind w [] fs = refl
-run_behind w (e ∷ es) fs = run_behind (after w e).world es fs
 
 waits_behind_all : (w : World) (waiting : List ℕ) (es : List Event) (e : Event) → waits_from w waiting (es ++ e ∷ []) ≡ waits_behind (run_from w es) (waits_from w waiting es) e
 waits_behind_all w waiting [] e = refl
@@ -59,7 +49,7 @@ one_more w now es left rest e count waiting more is wait so_far = record {
   made = so_far.made ++ e ∷ [];
   whole = so_far.whole ∙ ap (λ ls. so_far.made ++ ls) is ∙ sym (append_assoc so_far.made (e ∷ []) rest);
   count_is = ap (λ n. n + 1) so_far.count_is ∙ sym (one_longer so_far.made e);
-  now_is = ap (λ v. (after v e).world) so_far.now_is ∙ sym (run_behind w so_far.made (e ∷ []));
+  now_is = ap (λ v. (after v e).world) so_far.now_is ∙ sym (run_append w so_far.made (e ∷ []));
   waits = wait ∙ ap (λ v. waits_behind v waiting e) so_far.now_is ∙ ap (λ ws. waits_behind (run_from w so_far.made) ws e) so_far.waits ∙ sym (waits_behind_all w [] so_far.made e);
 }
 
@@ -143,7 +133,7 @@ module _ (w : World) (es : List Event) (from : ℕ) (now : World) (left : List E
   world_is steps =
       ap (λ v. run_from v (take steps left)) (it.now_is ∙ ap (run_from w) (sym are_first))
       ∙ ap (λ ls. run_from (run_from w (take from es)) (take steps ls)) (sym are_left)
-      ∙ sym (run_behind w (take from es) (take steps (drop from es)))
+      ∙ sym (run_append w (take from es) (take steps (drop from es)))
       ∙ ap (run_from w) (take_both from steps es)
 
   -- the view behind them stands first

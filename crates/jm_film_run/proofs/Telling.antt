@@ -1,6 +1,6 @@
 -- What is written of the events that are due, one event more.
 use Rattle.std.proofs.Common.{◌≡◌, ℕ, suc, ◌+◌, ◌-◌, ◌<◌, List, [], ◌∷◌, ◌++◌, take, drop, sym, ap, ◌∙◌, append_assoc, arith}
-use Rattle.std.specs.Prelude.{codes, OnOk, Result, Ok, Err}
+use Rattle.std.specs.Prelude.{codes}
 use Rattle.std.proofs.lemmas.List.{drop_all, take_all}
 use Rattle.jm_world.specs.World.{World}
 use Rattle.jm_world.specs.Run.{after, run_from}
@@ -84,8 +84,3 @@ pub fault_total : (steps i : ℕ) (w : World) (f : FilmingView) (due rest : List
     → all ++ below ≡ done ++ (event_written w f e ++ (shots (steps - (i + 1)) (after w e).world (filming_behind w f e) rest ++ below))
 fault_total steps i w f due rest e all done below more is so_far =
     more_below all done (event_written w f e) (shots (steps - (i + 1)) (after w e).world (filming_behind w f e) rest) below (so_far ∙ ap (λ t. done ++ t) (shot steps i w f due rest e more is))
-
--- what holds anyway holds of an answer
-pub of_answer : {A E : Type 0} (P : Type 0) (r : Result A E) → P → OnOk r P
-of_answer P (Ok x) p = p
-of_answer P (Err e) p = tt

@@ -2,11 +2,11 @@
 use Rattle.std.proofs.Common.{◌≡◌, ℕ, ◌+◌, ◌≤◌, List, [], ◌∷◌, ◌++◌, length, drop, Some, refl, sym, ap, ◌∙◌, append_assoc, append-nil}
 use Rattle.std.specs.Prelude.{slice_get}
 use Rattle.std.proofs.lemmas.List.{drop_all}
+use Rattle.jm_program.proofs.Sequences.{first_left as next}
 use Rattle.jm_world.specs.World.{World}
 use Rattle.jm_world.specs.Run.{after, run_from}
 use Rattle.jm_world.specs.declared.event.Event.{Event}
 use Rattle.jm_film.specs.Filming.{all_told}
-use Rattle.jm_filming.proofs.Left.{next}
 use Rattle.jm_filming.specs.Runs.{FilmingView, moments_from, event_written, filming_behind}
 
 -- what is written of the events that are left

@@ -1,22 +1,16 @@
 -- The sections of what is left: of frames from the top one on, of threads, of other things.
-use Rattle.std.proofs.Common.{◌≡◌, ℕ, ◌+◌, ◌-◌, ◌<◌, ◌≤◌, List, [], ◌∷◌, ◌++◌, Some, length, drop, get_or, slice_get, refl, sym, ap, ◌∙◌, append_assoc, append-nil, arith, add-one, inl, inr}
+use Rattle.std.proofs.Common.{◌≡◌, ℕ, ◌+◌, ◌-◌, ◌<◌, ◌≤◌, List, [], ◌∷◌, ◌++◌, Some, length, drop, slice_get, refl, sym, ap, ◌∙◌, append_assoc, append-nil, arith}
 use Rattle.std.specs.Prelude.{map, Bool}
-use Rattle.std.proofs.Math.Seq.{drop-cons}
 use Rattle.std.proofs.lemmas.List.{drop_all, length-drop}
-use Rattle.std.proofs.lemmas.Option.{slice_get_within, slice_get_cases, get_or_from_slice_get}
+use Rattle.std.proofs.lemmas.Option.{slice_get_within}
 use Rattle.jm_program.specs.declared.class.ClassParts.{ClassParts}
+use Rattle.jm_program.proofs.Sequences.{first_left as next}
 use Rattle.jm_world.specs.Frames.{Frame}
 use Rattle.jm_world.specs.Objects.{Object}
-use Rattle.jm_world.specs.World.{World, Thread, thread_at}
+use Rattle.jm_world.specs.World.{Thread}
 use Rattle.jm_film.specs.Sections.{Part}
 use Rattle.jm_waits.specs.Blocked.{is_waiting}
 use Rattle.jm_filming.specs.Shown.{frame_sections, frames_sections, object_section, thread_sections, threads_sections}
-
--- the first of those that are left
-pub next : {X : Type 0} (xs : List X) (i : ℕ) (x : X) → slice_get xs i ≡ Some x → drop i xs ≡ x ∷ drop (i + 1) xs
-next xs i x is =
-    let read : get_or xs i x ≡ x = get_or_from_slice_get xs i x x is in
-    drop-cons xs i x (slice_get_within xs i x is) ∙ rw (read, add-one) refl
 
 pub frames_left : List ClassParts → ℕ → List Frame → ℕ → List Part
 frames_left program n frames depth = frames_sections program n (drop depth frames)
@@ -81,13 +75,6 @@ unfolding threads_left
 no_thread_left program waiting threads index before total past so_far =
     let none : drop index threads ≡ [] = drop_all index threads past in
     sym (append-nil before) ∙ rw none at so_far
-
--- the thread of an index, by its number
-pub a_thread : (w : World) (index : ℕ) → index < length w.threads → (t : Thread) × (slice_get w.threads index ≡ Some t) × (thread_at w (index + 1) ≡ Some t)
-a_thread w index within = elim (slice_get_cases w.threads index).1 as (λ _. (t : Thread) × (slice_get w.threads index ≡ Some t) × (thread_at w (index + 1) ≡ Some t)) [
-  | inl found ↦ (found.0, found.2, ap (thread_at w) (add-one index) ∙ found.2)
-  | inr past ↦ absurd (omega (arith, past.0))
-]
 
 -- ---- a section for each of some things
 

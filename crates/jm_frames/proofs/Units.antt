@@ -18,7 +18,7 @@ pub length_le_units_reverse : (s : List Value) → length s ≤ units (reverse s
 length_le_units_reverse s = omega (arith, length_le_units (reverse s), length-reverse s)
 
 -- one operand more is dropped
-dropped : (n : ℕ) (s : List Value) → drop 1 (drop n s) ≡ drop (suc n) s
+pub dropped : (n : ℕ) (s : List Value) → drop 1 (drop n s) ≡ drop (suc n) s
 dropped zero s = refl
 dropped (suc n) [] = refl
 dropped (suc n) (v ∷ s) = dropped n s

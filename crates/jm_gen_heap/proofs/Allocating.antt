@@ -12,6 +12,8 @@ use Rattle.jm_heap.specs.Collection.{IsAsBefore}
 use Rattle.jm_heap.specs.declared.class_id.ClassId.{ClassId}
 use Rattle.jm_heap.specs.declared.fault.HeapFault.{HeapFault}
 use Rattle.jm_heap.specs.declared.fault.HeapFault.TheVariants.{OutOfMemory, HeapFull, SerialsEnd}
+use Rattle.jm_heap.proofs.SweepingLemmas.{kept_same}
+use Rattle.jm_heap.proofs.CellLemmas.{cells_at}
 use Rattle.jm_blocks.specs.Objects.{Object}
 use Rattle.jm_copy.specs.Condemned.{objects_at}
 use Rattle.jm_gen_heap.specs.Generations.{Generations, all_cells, lying}
@@ -19,10 +21,10 @@ use Rattle.jm_gen_heap.specs.Residents.{content_of}
 use Rattle.jm_gen_heap.specs.Invariant.{AreGenerations}
 use Rattle.jm_gen_heap.specs.Steps.{with_tenured}
 use Rattle.jm_gen_heap.specs.Collections.{LeavesAllReached, WasOld}
-use Rattle.jm_gen_heap.proofs.ResidentCells.{cells_within, cells_covered, cells_alike, used_at_most}
+use Rattle.jm_gen_heap.proofs.ResidentCells.{cells_covered, cells_alike, used_at_most}
 use Rattle.jm_gen_heap.proofs.Making.{laned, shown, sound, reached_below}
 use Rattle.jm_gen_heap.proofs.Lanes.{lying_young, old_lies, young_lies}
-use Rattle.jm_gen_heap.proofs.Following.{kept_same, still_used}
+use Rattle.jm_gen_heap.proofs.Following.{still_used}
 use Rattle.jm_gen_heap.specs.Held.{IsPutNew}
 use Rattle.jm_gen_heap.specs.Allocating.{AllSurvived, Fits, HasAged, OldStay}
 use Rattle.jm_gen_heap.specs.Minor.{LeavesMinor}
@@ -54,7 +56,7 @@ pub fewer : (g h : Generations) → AreGenerations g → AreGenerations h → Is
 fewer g h v w before =
     let all = cells_covered (content_of h) ks (sound h w) (sound h w).serials (λ k a. a) in
     let same = cells_alike (object_at (content_of h)) (object_at (content_of g)) ks alike in
-    let within = cells_within (content_of g) ks (sound h w).serials in
+    let within = cells_at (content_of g) ks (sound h w).serials in
     let old = v.counted in
     let new = w.counted in
     omega (arith, all, same, within, old, new)

@@ -3,13 +3,13 @@ use Rattle.std.proofs.Common.{◌≡◌, ℕ, zero, suc, ◌+◌, ◌<◌, ◌�
 use Rattle.std.specs.Prelude.{map, slice_get, slice_set}
 use Rattle.std.proofs.lemmas.List.{length-map, take_all}
 use Rattle.std.proofs.lemmas.List.Sums.{sum_by-cons}
+use Rattle.jm_program.proofs.Sequences.{got_written, got_unwritten}
 use Rattle.jm_values.specs.Rename.{rename}
 use Rattle.jm_heap.specs.Cells.{class_size, cells_of_all, resident_cells}
 use Rattle.jm_blocks.specs.Objects.{Object}
 use Rattle.jm_blocks.specs.Cells.{object_cells, sizes_of, block_cells}
 use Rattle.jm_blocks.specs.Stores.{Blocks, objects_in, store_cells, IsEmpty}
 use Rattle.jm_blocks.proofs.Sizes.{at_least_two, sum_cons}
-use Rattle.jm_blocks.proofs.Placing.{get_set_other, get_set_same}
 use Rattle.jm_nursery.specs.Nurseries.{AreNurseries, lane_cells, young_cells}
 use Rattle.jm_gen_heap.specs.Generations.{Generations, stores_of, all_cells}
 use Rattle.jm_gen_heap.specs.Residents.{Placed, placed_in_block, placed_in_blocks, placed_in, serial_name, resident_of, content_of}
@@ -153,8 +153,8 @@ first_nursery stores young r e lane =
     let none = none_has stores zero x.0 e x.1 in
     record {
       nurseries = nurseries_set stores zero x.0 young r x.1 (lane ∙ sym numbered);
-      first = get_set_same stores zero young (omega (arith, r.many));
-      others = λ n s f. no_cells s (none_has stores (suc n) s e (sym (get_set_other stores zero (suc n) young (λ k. absurd (omega (arith, k)))) ∙ f));
+      first = got_written stores zero young (omega (arith, r.many));
+      others = λ n s f. no_cells s (none_has stores (suc n) s e (sym (got_unwritten stores zero (suc n) young (λ k. absurd (omega (arith, k)))) ∙ f));
       cells = (omega (arith, set, none, e));
     }
 

@@ -1,20 +1,16 @@
 -- One step after another: a collection, and what comes after it.
-use Rattle.std.proofs.Common.{◌≡◌, ◌≢◌, ℕ, ◌+◌, ◌<◌, ◌≤◌, ◌^◌, List, Some, refl, sym, ap, ◌∙◌, subst}
+use Rattle.std.proofs.Common.{◌≡◌, ◌≢◌, ℕ, ◌+◌, ◌<◌, ◌≤◌, ◌^◌, List, Some, sym, ap, ◌∙◌, subst}
 use Rattle.std.specs.Prelude.{map}
 use Rattle.jm_values.specs.Shape.{Among}
 use Rattle.jm_values.specs.Objects.{ObjectOf, refs_of, cells_of, size_by}
 use Rattle.jm_values.specs.Reach.{root, field, reached_cells}
-use Rattle.jm_values.specs.Content.{Content, IsSound, Kept, Made, AllResident, Reached, used_by, object_at, name_of, serial_at}
+use Rattle.jm_values.specs.Content.{Content, Kept, Made, Reached, used_by, object_at, name_of, serial_at}
 use Rattle.jm_values.proofs.Reaching.{reach_within}
 use Rattle.jm_values.proofs.Agreeing.{cells_agree}
 use Rattle.jm_heap.specs.Allocation.{MadeHere}
 use Rattle.jm_heap.specs.Cells.{class_size}
 use Rattle.jm_heap.specs.Collection.{IsAsBefore, IsAsBeforeMaking}
 use Rattle.jm_heap.specs.declared.class_id.ClassId.{ClassId}
-
--- nothing changed, which keeps all
-pub kept_same : (c : Content ClassId) (roots : List ℕ) → IsSound c → AllResident c roots → Kept c roots c roots
-kept_same c roots s r = record { limit = refl; sound = s; names = refl; resident = r; reached = λ k h. refl }
 
 module _ (old mid : Content ClassId) (roots moved : List ℕ) (g : Kept old roots mid moved) where
   abbrev InBoth : ℕ → Type 0

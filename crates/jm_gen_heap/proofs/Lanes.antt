@@ -2,10 +2,11 @@
 use Rattle.std.proofs.Common.{◌≡◌, ◌≢◌, ◌⊎◌, ℕ, ◌+◌, ◌-◌, List, [], ◌∷◌, Option, Some, None, refl, sym, ap, ◌∙◌, inl, inr, length, arith, length-append}
 use Rattle.std.specs.Prelude.{slice_get}
 use Rattle.std.proofs.lemmas.Bool.Decides.{eqb_tells}
+use Rattle.jm_program.proofs.Sequences.{got_last, got_before_last}
 use Rattle.jm_blocks.specs.Objects.{Object}
 use Rattle.jm_blocks.specs.Places.{lane_of}
 use Rattle.jm_blocks.specs.Stores.{Blocks, objects_in}
-use Rattle.jm_blocks.proofs.Placing.{lies_in, get_end, get_before_end}
+use Rattle.jm_blocks.proofs.Placing.{lies_in}
 use Rattle.jm_nursery.specs.Nurseries.{AreNurseries}
 use Rattle.jm_copy.specs.Condemned.{AreLanes, objects_at, object_of_store}
 use Rattle.jm_copy.proofs.Numbering.{lane_there}
@@ -38,21 +39,21 @@ module _ (g : Generations) (l : AreLaned g) where
     where
       by : (n : ℕ) (s : Blocks) → slice_get (stores_of g) n ≡ Some s → Told n (length g.nurseries) → s.lane ≡ n + 1
       by n s e (inl t) =
-          let end : Some s ≡ Some g.tenured = sym e ∙ ap (slice_get (stores_of g)) t.1 ∙ get_end g.nurseries g.tenured in
+          let end : Some s ≡ Some g.tenured = sym e ∙ ap (slice_get (stores_of g)) t.1 ∙ got_last g.nurseries g.tenured in
           let same : s ≡ g.tenured = cc in
           let lane : s.lane ≡ old_lane = ap (λ x. x.lane) same ∙ l.tenured in
           omega (arith, lane, t.1, l.nurseries.many)
-      by n s e (inr t) = l.nurseries.numbered n s (sym (get_before_end g.nurseries g.tenured n t.1) ∙ e)
+      by n s e (inr t) = l.nurseries.numbered n s (sym (got_before_last g.nurseries g.tenured n t.1) ∙ e)
 
   pub lying_young : (p : ℕ) → IsYoung p → lying g p ≡ objects_at g.nurseries p
   unfolding objects_at
-  lying_young p y = ap (λ s. object_of_store s p) (get_before_end g.nurseries g.tenured (lane_of p - 1) (λ e. omega (arith, e, l.nurseries.many, y.some, y.few)))
+  lying_young p y = ap (λ s. object_of_store s p) (got_before_last g.nurseries g.tenured (lane_of p - 1) (λ e. omega (arith, e, l.nurseries.many, y.some, y.few)))
 
   pub lying_old : (p : ℕ) → lane_of p ≡ old_lane → lying g p ≡ objects_in g.tenured p
   unfolding objects_at
   lying_old p e =
       let number : lane_of p - 1 ≡ length g.nurseries = omega (arith, e, l.nurseries.many) in
-      ap (λ n. object_of_store (slice_get (stores_of g) n) p) number ∙ ap (λ s. object_of_store s p) (get_end g.nurseries g.tenured)
+      ap (λ n. object_of_store (slice_get (stores_of g) n) p) number ∙ ap (λ s. object_of_store s p) (got_last g.nurseries g.tenured)
 
   pub lies_where : (p : ℕ) (a : Object) → lying g p ≡ Some a → LiesYoung g p a ⊎ LiesOld g p a
   lies_where p a e = by (eqb_tells (lane_of p) old_lane)

@@ -9,6 +9,7 @@ use Rattle.jm_heap.specs.Cells.{class_size, resident_cells}
 use Rattle.jm_heap.specs.Collection.{IsAsBefore}
 use Rattle.jm_heap.specs.declared.class_id.ClassId.{ClassId}
 use Rattle.jm_heap.proofs.SoundLemmas.{refs_renamed}
+use Rattle.jm_heap.proofs.CellLemmas.{cells_at}
 use Rattle.jm_values.proofs.Among.{among_mapped}
 use Rattle.jm_blocks.specs.Objects.{Object}
 use Rattle.jm_gen_heap.specs.Generations.{Generations, lying}
@@ -16,7 +17,7 @@ use Rattle.jm_gen_heap.specs.Residents.{named, content_of}
 use Rattle.jm_gen_heap.specs.Invariant.{AreGenerations, AreTold}
 use Rattle.jm_gen_heap.proofs.Showing.{Shows, shows, sound_content}
 use Rattle.jm_gen_heap.proofs.Reaching.{LiesAt}
-use Rattle.jm_gen_heap.proofs.ResidentCells.{cells_within, cells_covered, cells_alike}
+use Rattle.jm_gen_heap.proofs.ResidentCells.{cells_covered, cells_alike}
 use Rattle.jm_gen_heap.proofs.Lanes.{AreLaned, lanes}
 use Rattle.jm_gen_heap.proofs.Carrying.{Carries, IsCarried, IsAllCarried, kept, as_before}
 use Rattle.jm_gen_heap.proofs.Making.{shown}
@@ -79,7 +80,7 @@ module _ (g h : Generations) (v : AreGenerations g) (l : AreLaned h) (limit : h.
   fewer_cells =
       let all = cells_covered (content_of h) (serials_of (content_of h).residents) sound_after sound_after.serials (λ k a. a) in
       let same = cells_alike (object_at (content_of h)) (object_at (content_of g)) (serials_of (content_of h).residents) alike in
-      let most = cells_within (content_of g) (serials_of (content_of h).residents) sound_after.serials in
+      let most = cells_at (content_of g) (serials_of (content_of h).residents) sound_after.serials in
       omega (arith, all, same, most)
     where
       was : (k : ℕ) (x : Option (ObjectOf ClassId)) → object_at (content_of h) k ≡ x → Among k (serials_of (content_of h).residents) → cells_of class_size x ≡ cells_of class_size (object_at (content_of g) k)

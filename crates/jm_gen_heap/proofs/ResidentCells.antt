@@ -4,11 +4,12 @@ use Rattle.std.specs.Prelude.{map, nat_eq}
 use Rattle.std.proofs.lemmas.Bool.Decides.{eqb_tells}
 use Rattle.jm_values.specs.Shape.{Among}
 use Rattle.jm_values.specs.Objects.{ObjectOf, cells_of, size_by}
-use Rattle.jm_values.specs.Reach.{reached, cells, reached_cells, AllDistinct}
+use Rattle.jm_values.specs.Reach.{reached, cells, AllDistinct}
 use Rattle.jm_values.specs.Content.{Content, Resident, IsSound, Reached, used_by, object_in, object_at, name_of, serials_of}
 use Rattle.jm_values.proofs.Reaching.{reached_is_least}
 use Rattle.jm_heap.specs.Cells.{class_size, cells_of_all, resident_cells}
 use Rattle.jm_heap.specs.declared.class_id.ClassId.{ClassId}
+use Rattle.jm_heap.proofs.CellLemmas.{nothing_costs, used_is, cells_at}
 use Rattle.jm_gen_heap.proofs.Showing.{Told}
 
 -- objects among which one is set before all others
@@ -59,10 +60,6 @@ module _ (s : ℕ) (x : ObjectOf ClassId) (g : ℕ → Option (ObjectOf ClassId)
 abbrev nothing : ℕ → Option (ObjectOf ClassId)
 nothing k = None
 
-nothing_costs : (ks : List ℕ) → cells class_size nothing ks ≡ 0
-nothing_costs [] = refl
-nothing_costs (k ∷ ks) = let rest = nothing_costs ks in omega (arith, rest)
-
 no_object : (rs : List (Resident ClassId)) (k : ℕ) → (Among k (serials_of rs) → ⊥) → object_in rs k ≡ None
 no_object [] k n = refl
 no_object (r ∷ rs) k n = by (no_object rs k (λ a. n (inr a))) (eqb_tells k r.serial)
@@ -71,24 +68,12 @@ no_object (r ∷ rs) k n = by (no_object rs k (λ a. n (inr a))) (eqb_tells k r.
     by rest (inl t) = absurd (n (inl t.1))
     by rest (inr t) = ap (λ b. elim b as (λ _. Option (ObjectOf ClassId)) [ true ↦ Some r.object | false ↦ object_in rs k ]) t.0 ∙ rest
 
-within_list : (rs : List (Resident ClassId)) (ks : List ℕ) → AllDistinct ks → cells class_size (object_in rs) ks ≤ cells_of_all rs
-within_list [] ks d = let none = nothing_costs ks in omega (arith, none)
-within_list (r ∷ rs) ks d =
-    let rest = within_list rs ks d in
-    let most = cells_at_most r.serial r.object (object_in rs) ks d in
-    omega (arith, rest, most)
-
 covered_list : (rs : List (Resident ClassId)) (ks : List ℕ) → AllDistinct (serials_of rs) → AllDistinct ks → ((k : ℕ) → Among k (serials_of rs) → Among k ks) → cells_of_all rs ≡ cells class_size (object_in rs) ks
 covered_list [] ks a d h = sym (nothing_costs ks)
 covered_list (r ∷ rs) ks a d h =
     let rest = covered_list rs ks a.1 d (λ k m. h k (inr m)) in
     let one = cells_with r.serial r.object (object_in rs) (no_object rs r.serial a.0) ks d (h r.serial (inl refl)) in
     omega (arith, rest, one)
-
--- the cells of distinct serials are at most those of all residents
-pub cells_within : (c : Content ClassId) (ks : List ℕ) → AllDistinct ks → cells class_size (object_at c) ks ≤ resident_cells c
-unfolding resident_cells object_at
-cells_within c ks d = within_list c.residents ks d
 
 -- and where each resident's is among them they are those of all
 pub cells_covered : (c : Content ClassId) (ks : List ℕ) → IsSound c → AllDistinct ks → ((k : ℕ) → Among k (serials_of c.residents) → Among k ks) → resident_cells c ≡ cells class_size (object_at c) ks
@@ -107,10 +92,6 @@ cells_alike f g (k ∷ ks) h =
 abbrev pub reached_from : Content ClassId → List ℕ → List ℕ
 reached_from c roots = reached c.next (object_at c) (map (name_of c) roots)
 
-pub used_is : (c : Content ClassId) (roots : List ℕ) → used_by class_size c roots ≡ cells class_size (object_at c) (reached_from c roots)
-unfolding reached_cells
-used_is c roots = refl
-
 -- the list is of what is reached, each number once
 pub record IsLeast (c : Content ClassId) (roots : List ℕ) : Type 0 where
   pub only : (k : ℕ) → Among k (reached_from c roots) → Reached c roots k
@@ -124,7 +105,7 @@ least c roots below =
 
 -- what is reached takes at most the cells of all residents
 pub used_at_most : (c : Content ClassId) (roots : List ℕ) → ((k : ℕ) → Reached c roots k → k < c.next) → used_by class_size c roots ≤ resident_cells c
-used_at_most c roots below = rw (used_is c roots) (cells_within c (reached_from c roots) (least c roots below).distinct)
+used_at_most c roots below = rw (used_is c roots) (cells_at c (reached_from c roots) (least c roots below).distinct)
 
 -- where only what was reached is left, as it was, it takes the cells of that
 pub left_is_used : (old new : Content ClassId) (roots : List ℕ) → ((k : ℕ) → Reached old roots k → k < old.next) → IsSound new → ((k : ℕ) → Among k (serials_of new.residents) → Reached old roots k) → ((k : ℕ) → Reached old roots k → object_at new k ≡ object_at old k) → resident_cells new ≡ used_by class_size old roots

@@ -1,18 +1,16 @@
 -- The serials of all objects, and in another order.
-use Rattle.std.proofs.Common.{◌≡◌, ◌⊎◌, ℕ, zero, suc, ◌+◌, ◌<◌, ◌≤◌, List, [], ◌∷◌, ◌++◌, Some, None, true, false, refl, sym, ap, ◌∙◌, subst, inl, inr, length, take, arith, append_assoc, append-nil}
+use Rattle.std.proofs.Common.{◌≡◌, ◌⊎◌, ℕ, zero, suc, ◌+◌, ◌<◌, ◌≤◌, List, [], ◌∷◌, ◌++◌, Some, None, true, false, refl, sym, ap, ◌∙◌, length, take, arith, append_assoc, append-nil}
 use Rattle.std.specs.Prelude.{map, nat_eq, sum_by, slice_get}
 use Rattle.std.specs.Ordering.{nat_cmp}
 use Rattle.std.specs.List.{flat_map}
 use Rattle.std.specs.List.Sorted.{IsPermutation, IsSorted}
-use Rattle.std.proofs.lemmas.Bool.Decides.{eqb_tells}
 use Rattle.std.proofs.lemmas.List.{map-append}
-use Rattle.std.proofs.lemmas.List.Sums.{sum_by-cons}
 use Rattle.std.proofs.lemmas.List.Sorted.{sum_by-IsPermutation}
+use Rattle.jm_program.proofs.Sequences.{all_taken}
 use Rattle.jm_values.specs.Shape.{Among}
-use Rattle.jm_values.specs.Reach.{AllDistinct}
 use Rattle.jm_values.specs.Content.{serial_at, object_at, serials_of}
 use Rattle.jm_heap.specs.Residents.{AreResident}
-use Rattle.jm_heap.proofs.CellLemmas.{Told}
+use Rattle.jm_heap.proofs.ResidentLemmas.{times_among, among_times, times_distinct, distinct_times}
 use Rattle.jm_blocks.specs.Objects.{Object}
 use Rattle.jm_blocks.specs.Stores.{Blocks}
 use Rattle.jm_gen_heap.specs.Generations.{Generations, stores_of}
@@ -29,57 +27,6 @@ one_if k x = elim (nat_eq k x) as (λ _. ℕ) [ true ↦ 1 | false ↦ 0 ]
 
 abbrev times : ℕ → List ℕ → ℕ
 times k xs = sum_by (one_if k) xs
-
-one_here : (k x : ℕ) → nat_eq k x ≡ true → one_if k x ≡ 1
-one_here k x e = ap (λ b. elim b as (λ _. ℕ) [ true ↦ 1 | false ↦ 0 ]) e
-
-none_here : (k x : ℕ) → nat_eq k x ≡ false → one_if k x ≡ 0
-none_here k x e = ap (λ b. elim b as (λ _. ℕ) [ true ↦ 1 | false ↦ 0 ]) e
-
-times_among : (k : ℕ) (xs : List ℕ) → Among k xs → 1 ≤ times k xs
-times_among k [] a = absurd a
-times_among k (x ∷ xs) a = by (times_among k xs) (eqb_tells k x) a
-  where
-    by : (Among k xs → 1 ≤ times k xs) → Told k x → (k ≡ x) ⊎ Among k xs → 1 ≤ times k (x ∷ xs)
-    by later (inl t) h = let one = one_here k x t.0 in let total = sum_by-cons (one_if k) x xs in omega (arith, one, total)
-    by later (inr t) (inl h) = absurd (t.1 h)
-    by later (inr t) (inr h) = let total = sum_by-cons (one_if k) x xs in omega (arith, later h, total)
-
-among_times : (k : ℕ) (xs : List ℕ) → 1 ≤ times k xs → Among k xs
-among_times k [] h = absurd (omega (arith, h))
-among_times k (x ∷ xs) h = by (among_times k xs) (eqb_tells k x)
-  where
-    by : (1 ≤ times k xs → Among k xs) → Told k x → (k ≡ x) ⊎ Among k xs
-    by later (inl t) = inl t.1
-    by later (inr t) = let none = none_here k x t.0 in let total = sum_by-cons (one_if k) x xs in inr (later (omega (arith, none, total, h)))
-
-none_if_not_among : (k : ℕ) (xs : List ℕ) → (Among k xs → ⊥) → times k xs ≡ 0
-none_if_not_among k [] n = refl
-none_if_not_among k (x ∷ xs) n = by (none_if_not_among k xs (λ a. n (inr a))) (eqb_tells k x)
-  where
-    by : times k xs ≡ 0 → Told k x → times k (x ∷ xs) ≡ 0
-    by later (inl t) = absurd (n (inl t.1))
-    by later (inr t) = let none = none_here k x t.0 in let total = sum_by-cons (one_if k) x xs in omega (arith, none, total, later)
-
-times_distinct : (k : ℕ) (xs : List ℕ) → AllDistinct xs → times k xs ≤ 1
-times_distinct k [] d = omega arith
-times_distinct k (x ∷ xs) d = by (times_distinct k xs d.1) (eqb_tells k x)
-  where
-    by : times k xs ≤ 1 → Told k x → times k (x ∷ xs) ≤ 1
-    by later (inl t) =
-        let one = one_here k x t.0 in
-        let total = sum_by-cons (one_if k) x xs in
-        let none = none_if_not_among k xs (λ a. d.0 (subst (λ n. Among n xs) t.1 a)) in
-        omega (arith, one, total, none)
-    by later (inr t) = let none = none_here k x t.0 in let total = sum_by-cons (one_if k) x xs in omega (arith, none, total, later)
-
-distinct_times : (xs : List ℕ) → ((k : ℕ) → times k xs ≤ 1) → AllDistinct xs
-distinct_times [] h = tt
-distinct_times (x ∷ xs) h = (λ a. twice (times_among x xs a) (eqb_tells x x), distinct_times xs (λ k. let total = sum_by-cons (one_if k) x xs in let few = h k in omega (arith, total, few)))
-  where
-    twice : 1 ≤ times x xs → Told x x → ⊥
-    twice m (inl t) = let one = one_here x x t.0 in let total = sum_by-cons (one_if x) x xs in let few = h x in absurd (omega (arith, one, total, few, m))
-    twice m (inr t) = t.1 refl
 
 -- the serials of what is listed, in the order of the blocks
 abbrev serial_of_placed : Placed → ℕ
@@ -155,14 +102,8 @@ block_next os i o old mid new there m n =
     by (x ∷ os) zero e = let same : x ≡ o = cc in ap (λ y. y.serial ∷ []) same
     by (x ∷ os) (suc i) e = ap (λ ks. x.serial ∷ ks) (by os i e)
 
-take_all : {X : Type 0} (xs : List X) (n : ℕ) → length xs ≤ n → take n xs ≡ xs
-take_all [] zero h = refl
-take_all [] (suc n) h = refl
-take_all (x ∷ xs) zero h = absurd (omega arith)
-take_all (x ∷ xs) (suc n) h = ap (λ ys. x ∷ ys) (take_all xs n (omega arith))
-
 pub block_all : (os : List Object) (i : ℕ) (old mid : List ℕ) → length os ≤ i → length os ≤ 256 → mid ≡ old ++ block_serials (take i os) → mid ≡ old ++ block_serials (take 256 os)
-block_all os i old mid h few m = m ∙ ap (λ xs. old ++ block_serials xs) (take_all os i h ∙ sym (take_all os 256 few))
+block_all os i old mid h few m = m ∙ ap (λ xs. old ++ block_serials xs) (all_taken os i h ∙ sym (all_taken os 256 few))
 
 pub none_past : (os : List Object) (i : ℕ) → slice_get os i ≡ None → i < length os → ⊥
 none_past [] i e h = omega arith
@@ -190,4 +131,4 @@ blocks_next bs i os old mid new there m n =
     by (x ∷ bs) (suc i) e = ap (λ ks. of_block x ++ ks) (by bs i e) ∙ sym (append_assoc (of_block x) (blocks_to i bs) (of_block os))
 
 pub blocks_all : (bs : List (List Object)) (i : ℕ) (old mid : List ℕ) → length bs ≤ i → mid ≡ old ++ blocks_to i bs → mid ≡ old ++ flat_map (λ os. block_serials (take 256 os)) bs
-blocks_all bs i old mid h m = m ∙ ap (λ xs. old ++ flat_map of_block xs) (take_all bs i h)
+blocks_all bs i old mid h m = m ∙ ap (λ xs. old ++ flat_map of_block xs) (all_taken bs i h)

@@ -3,6 +3,7 @@ use Rattle.std.proofs.Common.{◌≡◌, ◌≢◌, ◌⊎◌, ℕ, List, Option
 use Rattle.std.specs.Prelude.{map, slice_set, unwrap_or}
 use Rattle.std.proofs.lemmas.Bool.Decides.{eqb_tells}
 use Rattle.std.proofs.lemmas.List.{length-map, length-set}
+use Rattle.jm_program.proofs.ParameterLoop.{options_agree}
 use Rattle.jm_values.specs.declared.value.Value.{Value}
 use Rattle.jm_values.specs.Shape.{Among}
 use Rattle.jm_values.specs.Rename.{rename, refs, value_shape, stack_shape}
@@ -23,11 +24,6 @@ use Rattle.jm_gen_heap.proofs.Reaching.{LiesAt, serial_is, resident_lies}
 use Rattle.jm_gen_heap.proofs.ResidentCells.{cells_covered, cells_alike, serial_listed}
 use Rattle.jm_gen_heap.proofs.Lanes.{AreLaned, lanes, lying_young, lying_old, young_lies, old_lies}
 use Rattle.jm_gen_heap.proofs.Making.{laned, shown, sound}
-
-same_option : {A : Type 0} (x y : Option A) → ((o : A) → x ≡ Some o → y ≡ Some o) → ((o : A) → y ≡ Some o → x ≡ Some o) → x ≡ y
-same_option (Some o) y f g = sym (f o refl)
-same_option None None f g = refl
-same_option None (Some o) f g = g o refl
 
 module _ (g h : Generations) (s : AreGenerations g) (p i : ℕ) (v : Value) (w : IsWritten g h p i v) (names : AllResident (content_of g) (refs v)) where
   abbrev c : Content ClassId
@@ -146,7 +142,7 @@ module _ (g h : Generations) (s : AreGenerations g) (p i : ℕ) (v : Value) (w :
       ∙ ap Some (written_object ∙ ap (λ (x : ObjectOf ClassId). record { type = x.type; values = slice_set x.values i (rename (name_of c) v) }) was)
 
   other_objects : (k j : ℕ) → serial_at c p ≡ Some k → j ≢ k → object_at d j ≡ object_at c j
-  other_objects k j e away = same_option (object_at d j) (object_at c j) (λ x f. was x (shown_after.only j x f)) (λ x f. is x ((shown g s).only j x f))
+  other_objects k j e away = options_agree (object_at d j) (object_at c j) (λ x f. was x (shown_after.only j x f)) (λ x f. is x ((shown g s).only j x f))
     where
       written_serial : w.object.serial ≡ k
       written_serial = let number : Some w.object.serial ≡ Some k = sym (serial_is (lying g) c (shown g s) p w.object w.lay) ∙ e in cc

@@ -1,5 +1,5 @@
 -- The content of generations, by place and by serial.
-use Rattle.std.proofs.Common.{◌≡◌, ◌≢◌, ◌⊎◌, ℕ, ◌<◌, List, [], ◌∷◌, Option, Some, None, Bool, true, false, refl, sym, ap, ◌∙◌, subst, inl, inr}
+use Rattle.std.proofs.Common.{◌≡◌, ◌≢◌, ◌⊎◌, ℕ, ◌<◌, List, [], ◌∷◌, Option, Some, None, true, false, refl, sym, ap, ◌∙◌, subst, inl, inr}
 use Rattle.std.specs.Prelude.{map, nat_eq, unwrap_or}
 use Rattle.std.proofs.lemmas.Bool.Decides.{eqb_tells}
 use Rattle.jm_values.specs.Shape.{Among}
@@ -8,7 +8,7 @@ use Rattle.jm_values.specs.Objects.{ObjectOf}
 use Rattle.jm_values.specs.Reach.{AllDistinct}
 use Rattle.jm_values.specs.Content.{Content, IsSound, serial_in, object_in, serials_of, places_of, serial_at, object_at, name_of}
 use Rattle.jm_heap.specs.declared.class_id.ClassId.{ClassId}
-use Rattle.jm_heap.proofs.ContentLemmas.{rename_all_same}
+use Rattle.jm_heap.proofs.ContentLemmas.{rename_all_same, choose_true, choose_false}
 use Rattle.jm_blocks.specs.Objects.{Object}
 use Rattle.jm_copy.specs.Condemned.{AreLanes}
 use Rattle.jm_gen_heap.specs.Generations.{Generations, stores_of, lying}
@@ -18,14 +18,6 @@ use Rattle.jm_gen_heap.proofs.Listing.{At, places, listed_lies, lies_listed, dis
 
 abbrev pub Told : ℕ → ℕ → Type 0
 Told a b = ((nat_eq a b ≡ true) × (a ≡ b)) ⊎ ((nat_eq a b ≡ false) × (a ≢ b))
-
-choose_true : {A : Type 0} (b : Bool) (x y : A) → b ≡ true → (elim b as (λ _. A) [ true ↦ x | false ↦ y ]) ≡ x
-choose_true true x y e = refl
-choose_true false x y e = cc
-
-choose_false : {A : Type 0} (b : Bool) (x y : A) → b ≡ false → (elim b as (λ _. A) [ true ↦ x | false ↦ y ]) ≡ y
-choose_false true x y e = cc
-choose_false false x y e = refl
 
 -- an object under names that agree on its references
 pub named_same : (f g : ℕ → ℕ) (o : Object) → ((p : ℕ) → Among p (stack_shape.refs o.values) → f p ≡ g p) → named f o ≡ named g o

@@ -6,12 +6,13 @@ use Rattle.std.proofs.lemmas.Bool.Decides.{eqb_tells}
 use Rattle.std.proofs.lemmas.List.{length-set}
 use Rattle.std.proofs.lemmas.List.Sums.{sum_by-set}
 use Rattle.std.proofs.lemmas.Option.{slice_get_within, get_or_from_slice_get}
+use Rattle.jm_program.proofs.Sequences.{got_written, got_unwritten}
 use Rattle.jm_values.specs.declared.value.Value.{Value}
 use Rattle.jm_blocks.specs.Objects.{Object, with_value}
 use Rattle.jm_blocks.specs.Cells.{object_cells}
 use Rattle.jm_blocks.specs.Places.{lane_of}
 use Rattle.jm_blocks.specs.Stores.{Blocks, objects_in, store_cells, store_with, Changed, IsSet}
-use Rattle.jm_blocks.proofs.Placing.{lies_in, get_set_same, get_set_other}
+use Rattle.jm_blocks.proofs.Placing.{lies_in}
 use Rattle.jm_nursery.specs.Nurseries.{Young, AreNurseries, IsMade, lane_cells, young_cells, nursery_at}
 use Rattle.jm_barrier.specs.Remembered.{noted}
 use Rattle.jm_copy.specs.Condemned.{objects_at, object_of_store}
@@ -59,9 +60,9 @@ nurseries_set stores n s t r e h = record {
 }
   where
     by : (k : ℕ) (x : Blocks) → slice_get (slice_set stores n t) k ≡ Some x → Told k n → x.lane ≡ k + 1
-    by k x f (inr d) = r.numbered k x (sym (get_set_other stores n k t d.1) ∙ f)
+    by k x f (inr d) = r.numbered k x (sym (got_unwritten stores n k t d.1) ∙ f)
     by k x f (inl d) =
-        let here : Some t ≡ Some x = sym (get_set_same stores n t (slice_get_within stores n s e)) ∙ ap (slice_get (slice_set stores n t)) (sym d.1) ∙ f in
+        let here : Some t ≡ Some x = sym (got_written stores n t (slice_get_within stores n s e)) ∙ ap (slice_get (slice_set stores n t)) (sym d.1) ∙ f in
         let same : x ≡ t = cc in
         ap (λ y. y.lane) same ∙ h ∙ r.numbered n s e ∙ ap (λ m. m + 1) (sym d.1)
 
@@ -88,11 +89,11 @@ module _ (g : Generations) (l : AreLaned g) (p : ℕ) (o : Object) (next n : ℕ
 
   read_new : (q : ℕ) → lane_of q ≡ s.lane → objects_at (slice_set g.nurseries n t) q ≡ objects_in t q
   unfolding objects_at
-  read_new q f = ap (λ k. object_of_store (slice_get (slice_set g.nurseries n t) k) q) (at_number q f) ∙ ap (λ x. object_of_store x q) (get_set_same g.nurseries n t (slice_get_within g.nurseries n s e))
+  read_new q f = ap (λ k. object_of_store (slice_get (slice_set g.nurseries n t) k) q) (at_number q f) ∙ ap (λ x. object_of_store x q) (got_written g.nurseries n t (slice_get_within g.nurseries n s e))
 
   read_other : (q : ℕ) → IsYoung q → lane_of q ≢ s.lane → objects_at (slice_set g.nurseries n t) q ≡ objects_at g.nurseries q
   unfolding objects_at
-  read_other q y f = ap (λ x. object_of_store x q) (get_set_other g.nurseries n (lane_of q - 1) t (λ k. f (let number = l.nurseries.numbered n s e in omega (arith, k, number, y.some))))
+  read_other q y f = ap (λ x. object_of_store x q) (got_unwritten g.nurseries n (lane_of q - 1) t (λ k. f (let number = l.nurseries.numbered n s e in omega (arith, k, number, y.some))))
 
   young_same : (q : ℕ) → q ≢ p → IsYoung q → objects_at (slice_set g.nurseries n t) q ≡ objects_at g.nurseries q
   young_same q away y = by (eqb_tells (lane_of q) s.lane)

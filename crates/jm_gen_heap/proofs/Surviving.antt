@@ -1,6 +1,7 @@
 -- The survivors lie in the first nursery or among the old objects.
 use Rattle.std.proofs.Common.{◌≡◌, ◌≢◌, ℕ, zero, suc, ◌-◌, List, [], ◌∷◌, Option, Some, None, Bool, true, false, cond, refl, sym, ap, ◌∙◌, inl, inr, arith, eq-eqb, ◌||◌}
 use Rattle.std.specs.Prelude.{slice_get, nat_eq}
+use Rattle.jm_program.proofs.Numbers.{found_unequal}
 use Rattle.jm_values.specs.declared.value.Value.{Value}
 use Rattle.jm_values.specs.declared.value.Value.TheVariants.{Int, Long, Null, Ref}
 use Rattle.jm_values.specs.Shape.{Among}
@@ -11,7 +12,6 @@ use Rattle.jm_blocks.proofs.Placing.{elsewhere}
 use Rattle.jm_copy.specs.Condemned.{objects_at, object_of_store}
 use Rattle.jm_copy.specs.Collected.{survivors, fresh}
 use Rattle.jm_copy.specs.Pointing.{points_to}
-use Rattle.jm_copy.proofs.Making.{unequal}
 use Rattle.jm_gen_heap.specs.Collections.{AreSurvivors}
 
 -- nurseries that have the survivors have them in the first
@@ -39,7 +39,7 @@ survivors_young young before tenured p e = ap (λ b. cond b (objects_in young p)
 
 pub survivors_old : (young before tenured : Blocks) (p : ℕ) → lane_of p ≢ young.lane → survivors young before tenured p ≡ fresh (objects_in before p) (objects_in tenured p)
 unfolding survivors
-survivors_old young before tenured p n = ap (λ b. cond b (objects_in young p) (fresh (objects_in before p) (objects_in tenured p))) (unequal (lane_of p) young.lane n)
+survivors_old young before tenured p n = ap (λ b. cond b (objects_in young p) (fresh (objects_in before p) (objects_in tenured p))) (found_unequal (lane_of p) young.lane n)
 
 -- values of which one names a place of a lane point there
 pub pointing : (lane q : ℕ) (vs : List Value) → Among q (stack_shape.refs vs) → lane_of q ≡ lane → points_to lane vs ≡ true

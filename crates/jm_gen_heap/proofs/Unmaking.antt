@@ -3,13 +3,14 @@ use Rattle.std.proofs.Common.{◌≡◌, ℕ, zero, suc, ◌+◌, ◌-◌, ◌�
 use Rattle.std.specs.Prelude.{slice_get, slice_set}
 use Rattle.std.proofs.lemmas.Bool.Decides.{eqb_tells}
 use Rattle.std.proofs.lemmas.Option.{slice_get_within}
+use Rattle.jm_program.proofs.Sequences.{got_written}
 use Rattle.jm_values.specs.Objects.{ObjectOf}
 use Rattle.jm_heap.specs.declared.class_id.ClassId.{ClassId}
 use Rattle.jm_blocks.specs.Objects.{Object}
 use Rattle.jm_blocks.specs.Cells.{object_cells}
 use Rattle.jm_blocks.specs.Places.{lane_of}
 use Rattle.jm_blocks.specs.Stores.{Blocks, objects_in, HasObject, IsLast}
-use Rattle.jm_blocks.proofs.Placing.{lies_in, get_set_same}
+use Rattle.jm_blocks.proofs.Placing.{lies_in}
 use Rattle.jm_nursery.specs.Nurseries.{Young, IsMade, IsUnmade, young_cells}
 use Rattle.jm_nursery.proofs.Making.{in_nursery}
 use Rattle.jm_copy.specs.Condemned.{objects_at}
@@ -65,7 +66,7 @@ module _ (g k : Generations) (v : AreGenerations g) (w : AreGenerations k) (p n 
     same = let both : Some o ≡ Some b.put.object = sym here ∙ put_there u.store u.store_is in cc
 
     after_is : slice_get (slice_set k.nurseries n u.after) n ≡ Some u.after
-    after_is = get_set_same k.nurseries n u.after (slice_get_within k.nurseries n u.store u.store_is)
+    after_is = got_written k.nurseries n u.after (slice_get_within k.nurseries n u.store u.store_is)
 
     less_laned : AreLaned less
     less_laned = record { nurseries = nurseries_set k.nurseries n u.store u.after w.nurseries u.store_is u.lane; tenured = w.tenured }

@@ -75,12 +75,12 @@ module _ (s : ℕ) (x : ObjectOf ClassId) (g : ℕ → Option (ObjectOf ClassId)
 abbrev nothing : ℕ → Option (ObjectOf ClassId)
 nothing k = None
 
-nothing_costs : (ks : List ℕ) → cells class_size nothing ks ≡ 0
+pub nothing_costs : (ks : List ℕ) → cells class_size nothing ks ≡ 0
 nothing_costs [] = refl
 nothing_costs (k ∷ ks) = let rest = nothing_costs ks in omega (arith, rest)
 
 -- the cells of distinct numbers are at most those of all residents
-cells_within : (rs : List (Resident ClassId)) (ks : List ℕ) → AllDistinct ks → cells class_size (object_in rs) ks ≤ cells_of_all rs
+pub cells_within : (rs : List (Resident ClassId)) (ks : List ℕ) → AllDistinct ks → cells class_size (object_in rs) ks ≤ cells_of_all rs
 cells_within [] ks d = let none = nothing_costs ks in omega (arith, none)
 cells_within (r ∷ rs) ks d =
     let rest = cells_within rs ks d in
@@ -135,11 +135,11 @@ cells_alike f g (k ∷ ks) h =
 abbrev pub reached_from : Content ClassId → List ℕ → List ℕ
 reached_from c roots = reached c.next (object_at c) (map (name_of c) roots)
 
-used_is : (c : Content ClassId) (roots : List ℕ) → used_by class_size c roots ≡ cells class_size (object_at c) (reached_from c roots)
+pub used_is : (c : Content ClassId) (roots : List ℕ) → used_by class_size c roots ≡ cells class_size (object_at c) (reached_from c roots)
 unfolding reached_cells
 used_is c roots = refl
 
-cells_at : (c : Content ClassId) (ks : List ℕ) → AllDistinct ks → cells class_size (object_at c) ks ≤ resident_cells c
+pub cells_at : (c : Content ClassId) (ks : List ℕ) → AllDistinct ks → cells class_size (object_at c) ks ≤ resident_cells c
 unfolding resident_cells object_at
 cells_at c ks d = cells_within c.residents ks d
 

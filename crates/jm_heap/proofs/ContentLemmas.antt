@@ -3,6 +3,7 @@ use Rattle.std.proofs.Common.{◌≡◌, ◌≢◌, ◌⊎◌, ℕ, zero, suc, �
 use Rattle.std.specs.Prelude.{map, slice_get, nat_eq, unwrap_or}
 use Rattle.std.proofs.lemmas.Bool.Decides.{eqb_tells}
 use Rattle.std.proofs.lemmas.List.Sums.{sum_by-cons}
+use Rattle.jm_program.proofs.Numbers.{found_unequal, found_equal}
 use Rattle.jm_values.specs.declared.value.Value.{Value}
 use Rattle.jm_values.specs.declared.value.Value.TheVariants.{Int, Long, Null, Ref}
 use Rattle.jm_values.specs.Rename.{rename, refs, stack_shape}
@@ -16,34 +17,20 @@ use Rattle.jm_heap.specs.Slots.{AreSound, object_in, object_of, serial_of, name_
 use Rattle.jm_heap.specs.declared.class_id.ClassId.{ClassId}
 use Rattle.jm_heap.proofs.SlotLemmas.{slot_at}
 
-choose_true : {A : Type 0} (b : Bool) (x y : A) → b ≡ true → (elim b as (λ _. A) [ true ↦ x | false ↦ y ]) ≡ x
+pub choose_true : {A : Type 0} (b : Bool) (x y : A) → b ≡ true → (elim b as (λ _. A) [ true ↦ x | false ↦ y ]) ≡ x
 choose_true true x y e = refl
 choose_true false x y e = cc
 
-choose_false : {A : Type 0} (b : Bool) (x y : A) → b ≡ false → (elim b as (λ _. A) [ true ↦ x | false ↦ y ]) ≡ y
+pub choose_false : {A : Type 0} (b : Bool) (x y : A) → b ≡ false → (elim b as (λ _. A) [ true ↦ x | false ↦ y ]) ≡ y
 choose_false true x y e = cc
 choose_false false x y e = refl
-
-same_number : (a b : ℕ) → a ≡ b → nat_eq a b ≡ true
-same_number a b e = by (eqb_tells a b)
-  where
-    by : ((nat_eq a b ≡ true) × (a ≡ b)) ⊎ ((nat_eq a b ≡ false) × (a ≢ b)) → nat_eq a b ≡ true
-    by (inl t) = t.0
-    by (inr t) = absurd (t.1 e)
-
-other_number : (a b : ℕ) → a ≢ b → nat_eq a b ≡ false
-other_number a b n = by (eqb_tells a b)
-  where
-    by : ((nat_eq a b ≡ true) × (a ≡ b)) ⊎ ((nat_eq a b ≡ false) × (a ≢ b)) → nat_eq a b ≡ false
-    by (inl t) = absurd (n t.1)
-    by (inr t) = t.0
 
 -- no place of an earlier slot
 too_low : (name : ℕ → ℕ) (i : ℕ) (slots : List Slot) (p : ℕ) → p ≤ i → serial_in (residents_from name i slots) p ≡ None
 too_low name i [] p h = refl
 too_low name i (None ∷ slots) p h = too_low name (suc i) slots p (omega arith)
 too_low name i (Some o ∷ slots) p h =
-    choose_false (nat_eq p (suc i)) (Some o.serial) (serial_in (residents_from name (suc i) slots) p) (other_number p (suc i) (λ e. omega arith))
+    choose_false (nat_eq p (suc i)) (Some o.serial) (serial_in (residents_from name (suc i) slots) p) (found_unequal p (suc i) (λ e. omega arith))
     ∙ too_low name (suc i) slots p (omega arith)
 
 serial_from : (name : ℕ → ℕ) (i : ℕ) (slots : List Slot) (k q : ℕ) → q ≡ suc (i + k) → serial_in (residents_from name i slots) q ≡ serial_of (object_of (slice_get slots k))
@@ -51,9 +38,9 @@ serial_from name i [] k q e = refl
 serial_from name i (None ∷ slots) zero q e = too_low name (suc i) slots q (omega arith)
 serial_from name i (None ∷ slots) (suc k) q e = serial_from name (suc i) slots k q (omega arith)
 serial_from name i (Some o ∷ slots) zero q e =
-    choose_true (nat_eq q (suc i)) (Some o.serial) (serial_in (residents_from name (suc i) slots) q) (same_number q (suc i) (omega arith))
+    choose_true (nat_eq q (suc i)) (Some o.serial) (serial_in (residents_from name (suc i) slots) q) (found_equal q (suc i) (omega arith))
 serial_from name i (Some o ∷ slots) (suc k) q e =
-    choose_false (nat_eq q (suc i)) (Some o.serial) (serial_in (residents_from name (suc i) slots) q) (other_number q (suc i) (λ h. omega arith))
+    choose_false (nat_eq q (suc i)) (Some o.serial) (serial_in (residents_from name (suc i) slots) q) (found_unequal q (suc i) (λ h. omega arith))
     ∙ serial_from name (suc i) slots k q (omega arith)
 
 -- a place has the serial of what lies in its slot
@@ -77,10 +64,10 @@ object_from name i (None ∷ slots) zero o h e = cc
 object_from name i (None ∷ slots) (suc k) o h e = object_from name (suc i) slots k o (tail_apart None slots h) e
 object_from name i (Some a ∷ slots) zero o h e =
     let same : a ≡ o = cc in
-    choose_true (nat_eq o.serial a.serial) (Some (named_object name a)) (content.object_in (residents_from name (suc i) slots) o.serial) (same_number o.serial a.serial (ap (λ x. x.serial) (sym same)))
+    choose_true (nat_eq o.serial a.serial) (Some (named_object name a)) (content.object_in (residents_from name (suc i) slots) o.serial) (found_equal o.serial a.serial (ap (λ x. x.serial) (sym same)))
     ∙ ap (λ x. Some (named_object name x)) same
 object_from name i (Some a ∷ slots) (suc k) o h e =
-    choose_false (nat_eq o.serial a.serial) (Some (named_object name a)) (content.object_in (residents_from name (suc i) slots) o.serial) (other_number o.serial a.serial (λ s. let same : zero ≡ suc k = h zero (suc k) a o refl e (sym s) in omega arith))
+    choose_false (nat_eq o.serial a.serial) (Some (named_object name a)) (content.object_in (residents_from name (suc i) slots) o.serial) (found_unequal o.serial a.serial (λ s. let same : zero ≡ suc k = h zero (suc k) a o refl e (sym s) in omega arith))
     ∙ object_from name (suc i) slots k o (tail_apart (Some a) slots h) e
 
 -- where an object comes from

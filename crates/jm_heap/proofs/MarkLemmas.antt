@@ -5,6 +5,7 @@ use Rattle.std.proofs.lemmas.Bool.Decides.{eqb_tells}
 use Rattle.std.proofs.lemmas.List.Sums.{sum_by-set}
 use Rattle.std.proofs.lemmas.List.{length-set}
 use Rattle.std.proofs.lemmas.Option.{get_or_from_slice_get, slice_get_within, slice_get-get_or}
+use Rattle.jm_program.proofs.Sequences.{many_falses, got_written, got_unwritten, all_taken, none_left}
 use Rattle.jm_values.specs.declared.value.Value.{Value}
 use Rattle.jm_values.specs.Rename.{stack_shape, refs}
 use Rattle.jm_values.specs.Shape.{Among}
@@ -14,7 +15,6 @@ use Rattle.jm_values.specs.Reach.{Reach, root, field}
 use Rattle.jm_values.proofs.Reaching.{reach_within}
 use Rattle.jm_heap.specs.Marks.{MarkedAll, AreReached, IsClosed, plain_object, objects_of, unmarked}
 use Rattle.jm_heap.specs.Slots.{object_in, object_of, values_of, is_marked, Object, Slot}
-use Rattle.jm_heap.proofs.SlotLemmas.{get_set_same, get_set_other}
 
 pub marked_none : (m : List Bool) (s : List ℕ) → MarkedAll [] m s m s
 marked_none m s = record { all = λ q a. absurd a; keeps = λ q h. h; stays = λ q a. a; new_marks = λ q h. inl h; new_pending = λ q a. inl a; count = refl; many = refl }
@@ -70,11 +70,11 @@ marked_already m s p i r e w x t =
     marked_already_at m s p (subst (λ n. is_marked m n ≡ true) (sym e) (ap (λ o. unwrap_or o false) (read_mark m i true r (omega arith) x t)))
 
 mark_set_same : (m : List Bool) (i : ℕ) → i < length m → is_marked (slice_set m i true) (suc i) ≡ true
-mark_set_same m i h = ap (λ o. unwrap_or o false) (get_set_same m i true h)
+mark_set_same m i h = ap (λ o. unwrap_or o false) (got_written m i true h)
 
 mark_set_other : (m : List Bool) (i q : ℕ) → q ≢ suc i → is_marked (slice_set m i true) q ≡ is_marked m q
 mark_set_other m i zero h = refl
-mark_set_other m i (suc j) h = ap (λ o. unwrap_or o false) (get_set_other m i j true (λ e. h (ap suc e)))
+mark_set_other m i (suc j) h = ap (λ o. unwrap_or o false) (got_unwritten m i j true (λ e. h (ap suc e)))
 
 marked_now_at : (m : List Bool) (s : List ℕ) (i : ℕ) → i < length m → slice_get m i ≡ Some false → MarkedAll (suc i ∷ []) m s (slice_set m i true) (s ++ suc i ∷ [])
 marked_now_at m s i w e = record {
@@ -115,24 +115,10 @@ take_suc (y ∷ xs) (suc i) x h e = ap (λ zs. y ∷ zs) (take_suc xs i x (omega
 pub take_one_more : {X : Type 0} (xs : List X) (i : ℕ) (x : X) → i < length xs → x ≡ get_or xs i x → take (i + 1) xs ≡ take i xs ++ x ∷ []
 take_one_more xs i x h e = let one : i + 1 ≡ suc i = omega arith in ap (λ n. take n xs) one ∙ take_suc xs i x h e
 
-pub take_whole : {X : Type 0} (xs : List X) (n : ℕ) → length xs ≤ n → take n xs ≡ xs
-take_whole [] zero h = refl
-take_whole [] (suc n) h = refl
-take_whole (x ∷ xs) zero h = absurd (omega arith)
-take_whole (x ∷ xs) (suc n) h = ap (λ zs. x ∷ zs) (take_whole xs n (omega arith))
-
 pub among_at : (xs : List ℕ) (i : ℕ) (x : ℕ) → i < length xs → x ≡ get_or xs i x → Among x xs
 among_at [] i x h e = absurd (omega arith)
 among_at (y ∷ xs) zero x h e = inl e
 among_at (y ∷ xs) (suc i) x h e = inr (among_at xs i x (omega arith) e)
-
-pub refs_append : (us vs : List Value) → stack_shape.refs (us ++ vs) ≡ stack_shape.refs us ++ stack_shape.refs vs
-refs_append [] vs = refl
-refs_append (v ∷ us) vs = ap (λ l. refs v ++ l) (refs_append us vs) ∙ sym (assoc (refs v) (stack_shape.refs us) (stack_shape.refs vs))
-  where
-    assoc : (a b c : List ℕ) → (a ++ b) ++ c ≡ a ++ (b ++ c)
-    assoc [] b c = refl
-    assoc (x ∷ a) b c = ap (λ l. x ∷ l) (assoc a b c)
 
 pub refs_one : (v : Value) → stack_shape.refs (v ∷ []) ≡ refs v
 refs_one v = nothing (refs v)
@@ -160,10 +146,6 @@ none_marked n zero h = cc
 none_marked zero (suc i) h = cc
 none_marked (suc n) (suc zero) h = cc
 none_marked (suc n) (suc (suc i)) h = none_marked n (suc i) h
-
-pub many_marks : (n : ℕ) → length (replicate n false) ≡ n
-many_marks zero = refl
-many_marks (suc n) = ap suc (many_marks n)
 
 -- the roots have been marked, where nothing was
 pub first_frontier : (slots : List Slot) (roots : List ℕ) (a b : List Bool) (t : List ℕ) → length a ≡ length slots → ((q : ℕ) → is_marked a q ≡ true → ⊥) → MarkedAll roots a [] b t → Frontier slots roots b t
@@ -254,7 +236,3 @@ refs_within slots p closed q a = by (object_in slots p) refl a
     by : (o : Option Object) → object_in slots p ≡ o → Among q (refs_of (plain_object o)) → q ≤ length slots
     by None e h = absurd h
     by (Some o) e h = within_slots slots q (closed p o e q h)
-
-pub nothing_left : (xs : List ℕ) → length xs ≡ 0 → xs ≡ []
-nothing_left [] e = refl
-nothing_left (x ∷ xs) e = absurd (omega arith)

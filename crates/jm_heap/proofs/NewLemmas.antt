@@ -6,6 +6,7 @@ use Rattle.jm_program.specs.declared.instruction.operation.OperandType.TheVarian
 use Rattle.jm_values.specs.declared.value.Value.{Value}
 use Rattle.jm_values.specs.Rename.{refs, stack_shape}
 use Rattle.jm_values.specs.Objects.{copies, size_by, default_of}
+use Rattle.jm_values.proofs.ArraysOfArrays.{copies_many}
 use Rattle.jm_heap.specs.Cells.{class_size}
 use Rattle.jm_heap.specs.NewObject.{new_object, operand_of_component}
 use Rattle.jm_heap.specs.declared.class_id.ClassId.{ClassId}
@@ -13,10 +14,6 @@ use Rattle.jm_heap.specs.declared.class_id.ClassId.TheVariants as kind
 use Rattle.jm_heap.specs.declared.shape.Shape.{Shape}
 use Rattle.jm_heap.specs.declared.shape.Shape.TheVariants.{Instance, Array}
 use Rattle.jm_heap.proofs.SizeLaws.{fields_within}
-
-pub many_copies : (n : ℕ) (v : Value) → length (copies n v) ≡ n
-many_copies zero v = refl
-many_copies (suc n) v = ap suc (many_copies n v)
 
 pub copies_are : (n : ℕ) (v : Value) → replicate n v ≡ copies n v
 copies_are zero v = refl
@@ -47,13 +44,13 @@ type_is (Array component count) = refl
 pub as_many : (s : Shape) → length (new_object s).values ≡ value_count s
 unfolding new_object
 as_many (Instance class fields) = many_fields fields.now
-as_many (Array component count) = many_copies count (default_of (operand_of_component component))
+as_many (Array component count) = copies_many count (default_of (operand_of_component component))
 
 -- an object of few cells has few values, as an array by its count
 pub few_values : (s : Shape) → array_count s < 2 ^ 32 → size_by class_size (new_object s) < 2 ^ 32 → length (new_object s).values < 2 ^ 32
 unfolding new_object
 few_values (Instance class fields) few small = let within = fields_within class (length (map default_of fields.now)) in omega (arith, within, small)
-few_values (Array component count) few small = let many = many_copies count (default_of (operand_of_component component)) in omega (arith, many, few)
+few_values (Array component count) few small = let many = copies_many count (default_of (operand_of_component component)) in omega (arith, many, few)
 
 -- a default value names nothing
 default_refs : (t : OperandType) → refs (default_of t) ≡ []

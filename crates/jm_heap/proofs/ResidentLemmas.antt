@@ -25,13 +25,13 @@ one_if k x = elim (nat_eq k x) as (λ _. ℕ) [ true ↦ 1 | false ↦ 0 ]
 abbrev times : ℕ → List ℕ → ℕ
 times k xs = sum_by (one_if k) xs
 
-one_here : (k x : ℕ) → nat_eq k x ≡ true → one_if k x ≡ 1
+pub one_here : (k x : ℕ) → nat_eq k x ≡ true → one_if k x ≡ 1
 one_here k x e = ap (λ b. elim b as (λ _. ℕ) [ true ↦ 1 | false ↦ 0 ]) e
 
-none_here : (k x : ℕ) → nat_eq k x ≡ false → one_if k x ≡ 0
+pub none_here : (k x : ℕ) → nat_eq k x ≡ false → one_if k x ≡ 0
 none_here k x e = ap (λ b. elim b as (λ _. ℕ) [ true ↦ 1 | false ↦ 0 ]) e
 
-times_among : (k : ℕ) (xs : List ℕ) → Among k xs → 1 ≤ times k xs
+pub times_among : (k : ℕ) (xs : List ℕ) → Among k xs → 1 ≤ times k xs
 times_among k [] a = absurd a
 times_among k (x ∷ xs) a = by (times_among k xs) (eqb_tells k x) a
   where
@@ -40,7 +40,7 @@ times_among k (x ∷ xs) a = by (times_among k xs) (eqb_tells k x) a
     by later (inr t) (inl h) = absurd (t.1 h)
     by later (inr t) (inr h) = let total = sum_by-cons (one_if k) x xs in omega (arith, later h, total)
 
-among_times : (k : ℕ) (xs : List ℕ) → 1 ≤ times k xs → Among k xs
+pub among_times : (k : ℕ) (xs : List ℕ) → 1 ≤ times k xs → Among k xs
 among_times k [] h = absurd (omega (arith, h))
 among_times k (x ∷ xs) h = by (among_times k xs) (eqb_tells k x)
   where
@@ -48,7 +48,7 @@ among_times k (x ∷ xs) h = by (among_times k xs) (eqb_tells k x)
     by later (inl t) = inl t.1
     by later (inr t) = let none = none_here k x t.0 in let total = sum_by-cons (one_if k) x xs in inr (later (omega (arith, none, total, h)))
 
-none_if_not_among : (k : ℕ) (xs : List ℕ) → (Among k xs → ⊥) → times k xs ≡ 0
+pub none_if_not_among : (k : ℕ) (xs : List ℕ) → (Among k xs → ⊥) → times k xs ≡ 0
 none_if_not_among k [] n = refl
 none_if_not_among k (x ∷ xs) n = by (none_if_not_among k xs (λ a. n (inr a))) (eqb_tells k x)
   where
@@ -56,7 +56,7 @@ none_if_not_among k (x ∷ xs) n = by (none_if_not_among k xs (λ a. n (inr a)))
     by later (inl t) = absurd (n (inl t.1))
     by later (inr t) = let none = none_here k x t.0 in let total = sum_by-cons (one_if k) x xs in omega (arith, none, total, later)
 
-times_distinct : (k : ℕ) (xs : List ℕ) → AllDistinct xs → times k xs ≤ 1
+pub times_distinct : (k : ℕ) (xs : List ℕ) → AllDistinct xs → times k xs ≤ 1
 times_distinct k [] d = omega arith
 times_distinct k (x ∷ xs) d = by (times_distinct k xs d.1) (eqb_tells k x)
   where
@@ -68,7 +68,7 @@ times_distinct k (x ∷ xs) d = by (times_distinct k xs d.1) (eqb_tells k x)
         omega (arith, one, total, none)
     by later (inr t) = let none = none_here k x t.0 in let total = sum_by-cons (one_if k) x xs in omega (arith, none, total, later)
 
-distinct_times : (xs : List ℕ) → ((k : ℕ) → times k xs ≤ 1) → AllDistinct xs
+pub distinct_times : (xs : List ℕ) → ((k : ℕ) → times k xs ≤ 1) → AllDistinct xs
 distinct_times [] h = tt
 distinct_times (x ∷ xs) h = (λ a. twice (times_among x xs a) (eqb_tells x x), distinct_times xs (λ k. let total = sum_by-cons (one_if k) x xs in let few = h k in omega (arith, total, few)))
   where

@@ -4,6 +4,7 @@ use Rattle.std.specs.Prelude.{map, sum_by}
 use Rattle.std.proofs.lemmas.List.{length-map, map_push, take-map}
 use Rattle.std.proofs.lemmas.List.Elements.{All-push}
 use Rattle.std.proofs.lemmas.List.Sums.{sum_by_push, sum_by-take-le}
+use Rattle.jm_program.proofs.Sequences.{all_taken}
 use Rattle.jm_values.specs.Objects.{ObjectOf, size_by}
 use Rattle.jm_values.specs.Rename.{stack_shape}
 use Rattle.jm_heap.specs.Cells.{class_size}
@@ -12,7 +13,7 @@ use Rattle.jm_heap.specs.Slots.{Slot}
 use Rattle.jm_heap.specs.Stored.{numbered, numbered_from, AreTaken}
 use Rattle.jm_heap.specs.declared.class_id.ClassId.{ClassId}
 use Rattle.jm_heap.specs.declared.shape.Shape.{Shape}
-use Rattle.jm_heap.proofs.MarkLemmas.{take_one_more, take_whole}
+use Rattle.jm_heap.proofs.MarkLemmas.{take_one_more}
 use Rattle.jm_heap.proofs.NewLemmas.{new_refs}
 
 -- the objects of the first shapes
@@ -20,7 +21,7 @@ abbrev pub made_of : ℕ → List Shape → List (ObjectOf ClassId)
 made_of n shapes = map new_object (take n shapes)
 
 pub all_made_of : (n : ℕ) (shapes : List Shape) → length shapes ≤ n → made_of n shapes ≡ map new_object shapes
-all_made_of n shapes h = ap (λ l. map new_object l) (take_whole shapes n h)
+all_made_of n shapes h = ap (λ l. map new_object l) (all_taken shapes n h)
 
 numbered_push : (k : ℕ) (os : List (ObjectOf ClassId)) (o : ObjectOf ClassId) (j : ℕ) → j ≡ k + length os → numbered_from k (os ++ o ∷ []) ≡ numbered_from k os ++ Some (numbered j o) ∷ []
 numbered_push k [] o j e = ap (λ n. Some (numbered n o) ∷ []) (omega (arith, e))

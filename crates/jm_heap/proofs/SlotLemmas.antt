@@ -4,32 +4,11 @@ use Rattle.std.specs.Prelude.{slice_get, slice_set, slice_index_or}
 use Rattle.std.proofs.lemmas.List.Sums.{sum_by-set, sum_by_push}
 use Rattle.std.proofs.lemmas.List.{append_assoc, length-set}
 use Rattle.std.proofs.lemmas.Option.{get_or_from_slice_get, slice_get_within, slice_get-get_or}
+use Rattle.jm_program.proofs.Sequences.{got_last, got_written, got_unwritten, got_before_last}
 use Rattle.jm_values.specs.declared.value.Value.{Value}
 use Rattle.jm_heap.specs.Cells.{class_size}
 use Rattle.jm_heap.specs.Slots.{object_in, object_of, object_cells, slot_cells, slots_cells, set_value, with_value, Object, Slot}
 use Rattle.jm_heap.specs.Stored.{AreTaken, Stored, StoredAll, Written}
-
-pub get_set_same : {X : Type 0} (xs : List X) (i : ℕ) (x : X) → i < length xs → slice_get (slice_set xs i x) i ≡ Some x
-get_set_same [] i x h = absurd (omega arith)
-get_set_same (y ∷ xs) zero x h = refl
-get_set_same (y ∷ xs) (suc i) x h = get_set_same xs i x (omega arith)
-
-pub get_set_other : {X : Type 0} (xs : List X) (i j : ℕ) (x : X) → j ≢ i → slice_get (slice_set xs i x) j ≡ slice_get xs j
-get_set_other [] i j x h = refl
-get_set_other (y ∷ xs) zero zero x h = absurd (h refl)
-get_set_other (y ∷ xs) zero (suc j) x h = refl
-get_set_other (y ∷ xs) (suc i) zero x h = refl
-get_set_other (y ∷ xs) (suc i) (suc j) x h = get_set_other xs i j x (λ e. h (ap suc e))
-
-pub get_end : {X : Type 0} (xs : List X) (x : X) → slice_get (xs ++ x ∷ []) (length xs) ≡ Some x
-get_end [] x = refl
-get_end (y ∷ xs) x = get_end xs x
-
-pub get_before_end : {X : Type 0} (xs : List X) (x : X) (j : ℕ) → j ≢ length xs → slice_get (xs ++ x ∷ []) j ≡ slice_get xs j
-get_before_end [] x zero h = absurd (h refl)
-get_before_end [] x (suc j) h = refl
-get_before_end (y ∷ xs) x zero h = refl
-get_before_end (y ∷ xs) x (suc j) h = get_before_end xs x j (λ e. h (ap suc e))
 
 pub get_past : {X : Type 0} (xs : List X) → slice_get xs (length xs) ≡ None
 get_past [] = refl
@@ -38,11 +17,11 @@ get_past (y ∷ xs) = get_past xs
 -- the objects at other places stay
 pub others_set : (slots : List Slot) (m : ℕ) (s : Slot) (q : ℕ) → q ≢ suc m → object_in (slice_set slots m s) q ≡ object_in slots q
 others_set slots m s zero h = refl
-others_set slots m s (suc j) h = ap object_of (get_set_other slots m j s (λ e. h (ap suc e)))
+others_set slots m s (suc j) h = ap object_of (got_unwritten slots m j s (λ e. h (ap suc e)))
 
 pub others_push : (slots : List Slot) (s : Slot) (q : ℕ) → q ≢ suc (length slots) → object_in (slots ++ s ∷ []) q ≡ object_in slots q
 others_push slots s zero h = refl
-others_push slots s (suc j) h = ap object_of (get_before_end slots s j (λ e. h (ap suc e)))
+others_push slots s (suc j) h = ap object_of (got_before_last slots s j (λ e. h (ap suc e)))
 
 -- cells at a write
 pub cells_set : (slots : List Slot) (m : ℕ) (s t : Slot) → slice_get slots m ≡ Some s → slots_cells (slice_set slots m t) + slot_cells s ≡ slots_cells slots + slot_cells t
@@ -62,7 +41,7 @@ slot_at slots m a e = by (slice_get slots m) e
 written_at : (slots : List Slot) (m i : ℕ) (v : Value) (o : Object) → slice_get slots m ≡ Some (Some o) → Written slots (slice_set slots m (Some (set_value o i v))) (suc m) i v
 written_at slots m i v o e = record {
   others = λ q h. others_set slots m (Some new) q h;
-  written = λ a h k. let same : o ≡ a = one a h in (new, ap object_of (get_set_same slots m (Some new) (slice_get_within slots m (Some o) e)), record { serial = ap (λ x. x.serial) same; class = ap (λ x. x.class) same; values = ap (λ x. slice_set x.values i v) same });
+  written = λ a h k. let same : o ≡ a = one a h in (new, ap object_of (got_written slots m (Some new) (slice_get_within slots m (Some o) e)), record { serial = ap (λ x. x.serial) same; class = ap (λ x. x.class) same; values = ap (λ x. slice_set x.values i v) same });
   cells = let total : slots_cells (slice_set slots m (Some new)) + object_cells o ≡ slots_cells slots + object_cells new = cells_set slots m (Some o) (Some new) e in
       let many : class_size o.class (length (slice_set o.values i v)) ≡ class_size o.class (length o.values) = ap (class_size o.class) (length-set o.values i v) in
       omega (arith, total, many);
@@ -95,7 +74,7 @@ pub stored_in_free : (slots : List Slot) (p m : ℕ) (o : Object) → p ≡ suc 
 stored_in_free slots p m o e found few =
     subst (λ q. Stored slots (slice_set slots m (Some o)) q o) (sym e) (record {
       fresh = ap object_of found;
-      stored = ap object_of (get_set_same slots m (Some o) (slice_get_within slots m None found));
+      stored = ap object_of (got_written slots m (Some o) (slice_get_within slots m None found));
       others = λ q h. others_set slots m (Some o) q h;
       cells = let total : slots_cells (slice_set slots m (Some o)) + 0 ≡ slots_cells slots + object_cells o = cells_set slots m None (Some o) found in omega (arith, total);
       few = let same : length (slice_set slots m (Some o)) ≡ length slots = length-set slots m (Some o) in omega (arith, same, few);
@@ -105,7 +84,7 @@ pub stored_at_end : (slots : List Slot) (p : ℕ) (o : Object) → p ≡ suc (le
 stored_at_end slots p o e few =
     subst (λ q. Stored slots (slots ++ Some o ∷ []) q o) (sym e) (record {
       fresh = ap object_of (get_past slots);
-      stored = ap object_of (get_end slots (Some o));
+      stored = ap object_of (got_last slots (Some o));
       others = λ q h. others_push slots (Some o) q h;
       cells = sum_by_push slot_cells slots (Some o);
       few = let many : length (slots ++ Some o ∷ []) ≡ suc (length slots) = longer slots in omega (arith, many, few);

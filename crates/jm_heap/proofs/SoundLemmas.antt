@@ -9,6 +9,7 @@ use Rattle.jm_values.specs.Reach.{AllDistinct, Reach, root, field}
 use Rattle.jm_values.specs.Objects.{refs_of}
 use Rattle.jm_values.specs.Content.{Content, IsSound, AllResident, Reached, serial_at, object_at, name_of}
 use Rattle.jm_values.proofs.Reaching.{reach_within}
+use Rattle.jm_values.proofs.Among.{among_map}
 use Rattle.jm_heap.specs.Marks.{objects_of, plain_object}
 use Rattle.jm_heap.specs.Slots.{AreSound, object_in, object_of, serial_of, name_in, named_object, content_of, Object, Slot}
 use Rattle.jm_heap.specs.declared.class_id.ClassId.{ClassId}
@@ -57,11 +58,6 @@ refs_renamed f (Int n ∷ vs) = refs_renamed f vs
 refs_renamed f (Long n ∷ vs) = refs_renamed f vs
 refs_renamed f (Null ∷ vs) = refs_renamed f vs
 refs_renamed f (Ref p ∷ vs) = ap (λ l. f p ∷ l) (refs_renamed f vs)
-
-pub among_map : (f : ℕ → ℕ) (p : ℕ) (ps : List ℕ) → Among p ps → Among (f p) (map f ps)
-among_map f p [] a = absurd a
-among_map f p (q ∷ ps) (inl e) = inl (ap f e)
-among_map f p (q ∷ ps) (inr a) = inr (among_map f p ps a)
 
 pub among_of_map : (f : ℕ → ℕ) (k : ℕ) (ps : List ℕ) → Among k (map f ps) → (p : ℕ) × Among p ps × (f p ≡ k)
 among_of_map f k [] a = absurd a

@@ -1,13 +1,14 @@
 -- What one call does after another, and what a call that throws has done.
-use Rattle.std.proofs.Common.{◌≡◌, ℕ, zero, suc, ◌+◌, ◌-◌, ◌^◌, List, [], ◌∷◌, Option, Some, None, Bool, true, false, drop, length}
+use Rattle.std.proofs.Common.{◌≡◌, ℕ, ◌+◌, ◌-◌, ◌^◌, List, [], ◌∷◌, Option, Some, None, Bool, true, false, drop, length}
 use Rattle.std.proofs.Common.{refl, sym, ap, ◌∙◌, subst, arith}
 use Rattle.std.specs.Prelude.{slice_get, slice_set, nat_lt, nat_le, Ok, Err}
+use Rattle.jm_program.proofs.Sequences.{written_twice}
 use Rattle.jm_values.specs.Content.{Content}
 use Rattle.jm_values.proofs.Lists.{set_there}
 use Rattle.jm_world.specs.Frames.{Frame}
 use Rattle.jm_world.specs.Here.{with_frames}
 use Rattle.jm_world.specs.Matches.{Parts, Matches}
-use Rattle.jm_world.specs.Next.{Next, goes, stops, blocks, make, throw, exception}
+use Rattle.jm_world.specs.Next.{Next, goes, stops, make, throw, exception}
 use Rattle.jm_world.specs.Objects.{Object, size}
 use Rattle.jm_world.specs.Throwing.{unwound, unwound_anew}
 use Rattle.jm_world.specs.Types.{instance_of}
@@ -28,18 +29,7 @@ use Rattle.jm_interp.specs.At.{parts_at, OnThread, OnFrames, Does}
 use Rattle.jm_interp.specs.Ending.{unwound_to}
 use Rattle.jm_interp.proofs.OnThread.{Leads, model, thread_there, does}
 use Rattle.jm_interp.proofs.Thrown.{SeenAs, seen_as}
-
--- the last of two writes to an index stays
-pub set_twice : {A : Type 0} (xs : List A) (i : ℕ) (x y : A) → slice_set (slice_set xs i x) i y ≡ slice_set xs i y
-set_twice [] i x y = refl
-set_twice (z ∷ xs) zero x y = refl
-set_twice (z ∷ xs) (suc i) x y = ap (λ l. z ∷ l) (set_twice xs i x y)
-
--- what is done leads to a world, whatever the one before
-done_from : (new : Parts ClassId) (v w : World) (next : Next) → Ended (Ok Done) new v next → Ended (Ok Done) new w next
-done_from new v w (goes to) e = e
-done_from new v w (stops why) e = absurd e
-done_from new v w blocks e = absurd e
+use Rattle.jm_interp.proofs.Entered.{as_done}
 
 -- after a call that leads from each world of the state to another, in which the thread is such a one
 module _ {H : Type 0} {content : H → Content ClassId} {at : At} {old mid : State H} {fs : List StackFrame} {p : Option ℕ} (h : OnThread content at old fs p)
@@ -53,7 +43,7 @@ module _ {H : Type 0} {content : H → Content ClassId} {at : At} {old mid : Sta
       → Does content at mid (Ok Done) new second → Does content at old (Ok Done) new rule
   then_does {new} {rule} {second} is done = does h done.runs (λ w m.
       subst (Ended (Ok Done) (parts_at content at new) w) (sym (is w m))
-      (done_from (parts_at content at new) (to w) w (second (to w) (at.index + 1) (x w)) (done.ends (to w) (x w) (matches w m) (there w m))))
+      (as_done (parts_at content at new) (to w) w (second (to w) (at.index + 1) (x w)) (done.ends (to w) (x w) (matches w m) (there w m))))
 
 -- making an object, by whether the limit and the numbers allow it
 choose : World → Object → (World → ℕ → Next) → Bool → Bool → Next
@@ -133,14 +123,14 @@ module _ {H : Type 0} {content : H → Content ClassId} {at : At} {old mid : Sta
         let below = drop 1 (model h.on).frames in
         (made_in w m).makes (λ made k. goes (with_thread made (at.index + 1) (record (model h.on) { frames = below; pending = Some k })))
         ∙ sym (ap (λ ts. goes (record (with_object w (exception class)) { threads = ts }))
-        (set_twice w.threads (at.index + 1 - 1) (thread_in h w) (record (model h.on) { frames = below; pending = Some (length w.heap) })))) dropped
+        (written_twice w.threads (at.index + 1 - 1) (thread_in h w) (record (model h.on) { frames = below; pending = Some (length w.heap) })))) dropped
 
     -- or the class has failed, and the frame is dropped
     again : (w : World) (k : ℕ) (gs : List Frame) → unwound w (at.index + 1) (model h.on) gs k (instance_of class)
         ≡ unwound_to (thrown_in h w k) (at.index + 1) (with_new h (model h.on) k) gs (ended_by class)
-    again w k [] = sym (ap (λ ts. goes (record w { threads = ts })) (set_twice w.threads (at.index + 1 - 1) (with_new h (model h.on) k)
+    again w k [] = sym (ap (λ ts. goes (record w { threads = ts })) (written_twice w.threads (at.index + 1 - 1) (with_new h (model h.on) k)
         (record { object = (model h.on).object; frames = []; pending = None; ending = ended_by class })))
-    again w k (g ∷ gs) = sym (ap (λ ts. goes (record w { threads = ts })) (set_twice w.threads (at.index + 1 - 1) (with_new h (model h.on) k)
+    again w k (g ∷ gs) = sym (ap (λ ts. goes (record w { threads = ts })) (written_twice w.threads (at.index + 1 - 1) (with_new h (model h.on) k)
         (record { object = (model h.on).object; frames = g ∷ gs; pending = Some k; ending = (model h.on).ending })))
 
     pub failed_anew : {new : State H} {failed : List ℕ} {ends : world.Ending} → ends ≡ ended_by class

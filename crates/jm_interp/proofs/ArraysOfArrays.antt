@@ -1,5 +1,5 @@
 -- multianewarray: what its row comes to, where the machine stands.
-use Rattle.std.proofs.Common.{◌≡◌, ℕ, zero, suc, ◌+◌, ◌-◌, ◌<◌, ◌≤◌, List, [], ◌∷◌, ◌++◌, Option, Some, None, Bool, true, false}
+use Rattle.std.proofs.Common.{◌≡◌, ℕ, zero, suc, ◌+◌, ◌-◌, ◌<◌, ◌≤◌, List, [], ◌∷◌, ◌++◌, Option, Some, None, true, false}
 use Rattle.std.proofs.Common.{refl, sym, ap, ◌∙◌, subst, length, drop, get_or, reverse, append_assoc, arith}
 use Rattle.std.proofs.lemmas.List.{append-nil, reverse-append}
 use Rattle.std.specs.Prelude.{Result, Ok, Err, ℤ, map, nat_le, nat_lt, slice_get, slice_index_or, ◌&&◌}
@@ -13,6 +13,7 @@ use Rattle.jm_program.specs.declared.descriptor.FieldType.{FieldType}
 use Rattle.jm_program.specs.declared.instruction.operation.TypeOp.TheVariants.{NewArrays}
 use Rattle.jm_program.specs.declared.reference.ClassRef.{ClassRef}
 use Rattle.jm_program.specs.declared.reference.ClassRef.TheVariants as class_ref
+use Rattle.jm_program.proofs.Truths.{both_true as both}
 use Rattle.jm_builtins.specs.Numbers as built_in
 use Rattle.jm_builtins.specs.declared.built_in_class.BuiltInClass.TheVariants.{NegativeArraySizeException}
 use Rattle.jm_values.specs.Activation.{units}
@@ -55,6 +56,8 @@ use Rattle.jm_interp.proofs.ArrayRows.{by_index, length_tested, named_element}
 use Rattle.jm_interp.proofs.Here.{place, row_is}
 use Rattle.jm_interp.proofs.OnThread.{Leads, read}
 use Rattle.jm_interp.proofs.OnTop.{by, int_is, int_off, operands, step_is, is_refused, goes_by}
+use Rattle.jm_interp.proofs.ReceiverRows.{below_there}
+use Rattle.jm_frames.proofs.Units.{dropped}
 
 -- the model's counts are those on top of the stack
 drop_one : (d : ℕ) (s : List Value) → drop d (drop 1 s) ≡ drop (suc d) s
@@ -104,17 +107,6 @@ counts_named f (suc d) counts (Ref p ∷ s) = refl
 add_one : (n : ℕ) → n + 1 ≡ suc n
 add_one n = omega arith
 
--- one more from the top
-first_behind : (d : ℕ) (s : List Value) → slice_get (drop d s) 0 ≡ slice_get s d
-first_behind zero s = refl
-first_behind (suc d) [] = refl
-first_behind (suc d) (v ∷ s) = first_behind d s
-
-drop_more : (d : ℕ) (s : List Value) → drop 1 (drop d s) ≡ drop (suc d) s
-drop_more zero s = refl
-drop_more (suc d) [] = refl
-drop_more (suc d) (v ∷ s) = drop_more d s
-
 module _ (most depth left : ℕ) (items : List ℤ) (s : List Value) (all : depth + left ≡ most) (more : depth < most)
     (so : counts_of most [] s ≡ counts_of left (reverse items) (drop depth s)) where
   abbrev next_int : Result ℤ Refusal → ℕ → Result (List ℤ) Refusal
@@ -124,7 +116,7 @@ module _ (most depth left : ℕ) (items : List ℤ) (s : List Value) (all : dept
   with_next l is =
       so
       ∙ ap (λ n. counts_of n (reverse items) (drop depth s)) is
-      ∙ ap (λ x. next_int (int_of x) l) (first_behind depth s)
+      ∙ ap (λ x. next_int (int_of x) l) (below_there depth s)
 
   its_left : (l : ℕ) × (left ≡ suc l)
   its_left = by left refl
@@ -151,7 +143,7 @@ module _ (most depth left : ℕ) (items : List ℤ) (s : List Value) (all : dept
             omega (arith, all, l.1),
             with_next l.0 l.1
                 ∙ ap (λ x. next_int x l.0) e
-                ∙ ap (λ z. counts_of l.0 (n ∷ reverse items) z) (drop_more depth s)
+                ∙ ap (λ z. counts_of l.0 (n ∷ reverse items) z) (dropped depth s)
                 ∙ ap (λ k. counts_of l.0 (n ∷ reverse items) (drop k s)) (sym (add_one depth))
                 ∙ ap (λ z. counts_of l.0 z (drop (depth + 1) s)) (sym (reverse-append items (n ∷ [])) ∙ ap reverse (sym put)),
           )
@@ -199,12 +191,6 @@ module _ {H : Type 0} {content : H → Content ClassId} {at : At} {old : State H
       let off = (counts_many n [] h.frame.activation.stack ns (is h.frame h.below _ (read h.on got))).1 in
       let fit = fits h.frame h.below _ (read h.on got) some in
       omega (arith, off, fit, some)
-
--- an instruction that fits has dimensions, as many as its type or fewer
-both : (a b : Bool) → (a && b) ≡ true → (a ≡ true) × (b ≡ true)
-both true true e = (refl, refl)
-both true false e = cc
-both false b e = cc
 
 dimensions_fit : (class : ClassRef) (d : ℕ) → type_op_fits (NewArrays d) class ≡ true → (0 < d) × (d ≤ (type_of_ref class).dimensions)
 dimensions_fit (class_ref.Class name) d e = let no = (both (class_ref_fits (class_ref.Class name)) false e).1 in cc

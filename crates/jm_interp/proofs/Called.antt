@@ -6,6 +6,7 @@ use Rattle.std.proofs.lemmas.Grind.{flat_map-append}
 use Rattle.std.proofs.lemmas.Option.{get_or_from_slice_get}
 use Rattle.std.proofs.lemmas.List.{length-map, map-append, take-map, reverse-append}
 use Rattle.jm_program.specs.declared.code.Code.{Code}
+use Rattle.jm_program.proofs.Numbers.{found_less as less, found_no_less}
 use Rattle.jm_frames.specs.FrameView.{FrameView, with_stack}
 use Rattle.jm_values.specs.Content.{Content, name_of}
 use Rattle.jm_values.specs.Rename.{rename, refs, value_shape, locals_shape, stack_shape, rename_activation, refs_activation}
@@ -40,7 +41,6 @@ use Rattle.jm_interp.specs.Calls.{IsCalled, IsOperand, calls_with, callee_with}
 use Rattle.jm_interp.specs.Locking.{OnlyMonitors}
 use Rattle.jm_interp.specs.Standing.{Stands, running}
 use Rattle.jm_interp.proofs.Here.{place, top_held, with_other, part_with}
-use Rattle.jm_interp.proofs.Initialized.{less, not_less}
 use Rattle.jm_interp.proofs.OnThread as thread
 use Rattle.jm_interp.proofs.OnThread.{Leads, model, with_thread_at, read, does_as, part_here, runs_with, same_matches}
 use Rattle.jm_interp.proofs.Entered.{IsNotMade, enters, then_made, then_not, then_stands}
@@ -71,7 +71,7 @@ arguments_renamed f (v ∷ vs) =
     map-append (option_map (rename f)) (argument_locals v) (locals_of vs)
     ∙ (λ i. argument_renamed f v i ++ arguments_renamed f vs i)
 
-unset_renamed : (f : ℕ → ℕ) (n : ℕ) → locals_shape.rename f (unset n) ≡ unset n
+pub unset_renamed : (f : ℕ → ℕ) (n : ℕ) → locals_shape.rename f (unset n) ≡ unset n
 unset_renamed f zero = refl
 unset_renamed f (suc n) = ap (λ xs. None ∷ xs) (unset_renamed f n)
 
@@ -317,7 +317,7 @@ module _ {H : Type 0} {content : H → Content ClassId} {at : At} {number : ℕ}
     too_deep many named done = does_as h.on (λ w m. m) (λ w m.
         let frames = calling (place h w) (drop count (map (rename (name_of (content old.heap))) h.frame.activation.stack)) in
         let deep : 512 ≤ length frames = let a = depth w in omega arith in
-        ap (by_depth w) (not_less (length frames) 512 deep) ∙ ap (throw w (at.index + 1) (model h.on)) (sym named)) done
+        ap (by_depth w) (found_no_less (length frames) 512 deep) ∙ ap (throw w (at.index + 1) (model h.on)) (sym named)) done
 
     -- few enough, and there is room for one more
     module _ (few : n < 512) {t : held.Thread} (stays : Stands t (Method h.frame ∷ h.below) (running h.on.object None)) where

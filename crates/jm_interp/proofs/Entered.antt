@@ -100,7 +100,7 @@ not_made result m w number o go not done = elim (entering_if w number o) [
 ]
 
 -- what is done leads to a world, whatever the one before
-as_done : (m : Parts ClassId) (v w : World) (next : Next) → Ended (Ok Done) m v next → Ended (Ok Done) m w next
+pub as_done : (m : Parts ClassId) (v w : World) (next : Next) → Ended (Ok Done) m v next → Ended (Ok Done) m w next
 as_done m v w (goes to) e = e
 as_done m v w (stops why) e = absurd e
 as_done m v w blocks e = absurd e

@@ -3,13 +3,14 @@
 use Rattle.std.proofs.Common.{◌≡◌, ℕ, zero, suc, ◌+◌, ◌<◌, ◌⊎◌, inl, inr, List, [], ◌∷◌, ◌++◌, Option, Some, None, Bool, true, false, refl, sym, ap, ◌∙◌, subst}
 use Rattle.std.proofs.Common.{length, arith}
 use Rattle.std.proofs.lemmas.List.{length-map, length-append}
-use Rattle.std.specs.Cmp.Lexicographic.{bytes_decides}
 use Rattle.std.specs.Prelude.{map, not, ◌&&◌, ◌||◌, is_some, nat_eq, option_map, option_to_list, slice_get, unwrap_or}
 use Rattle.std.specs.List.{AllByRecursion, list_all}
 use Rattle.jm_program.specs.Flags.{is_interface, is_static}
 use Rattle.jm_program.specs.Names.{same_text}
 use Rattle.jm_program.specs.declared.class.ClassParts.{ClassParts}
 use Rattle.jm_program.specs.declared.flags.AccessFlags.{AccessFlags}
+use Rattle.jm_program.proofs.Truths.{both_true as both, not_true, implied, right_false}
+use Rattle.jm_program.proofs.Texts.{text_is}
 use Rattle.jm_builtins.specs.List.{the_builtins}
 use Rattle.jm_builtins.specs.declared.built_in.BuiltIn.{BuiltIn}
 use Rattle.jm_values.proofs.Lists.{get_there}
@@ -20,6 +21,7 @@ use Rattle.jm_world.specs.Loads.{Loads, refusal, wrong_kind, first_of_all, same_
 use Rattle.jm_world.specs.Loads.{superclass_of_kind, superclass_refusal, interface_of_kind, parents_refusal}
 use Rattle.jm_world.specs.Objects.{instance_fields, place_of_field}
 use Rattle.jm_world.proofs.FoundAgain.{class_name_is}
+use Rattle.jm_world.proofs.Refusing.{not_refused, first_none, second_none}
 use Rattle.jm_tables.specs.Layouts.{StandsInChain, slot_at, static_fields}
 use Rattle.jm_tables.specs.Numbering.{name_of}
 use Rattle.jm_tables.specs.declared.layout.FieldSlot.TheVariants.{Instance, Static}
@@ -28,15 +30,11 @@ use Rattle.jm_linked.specs.Links.{LinkedView, IsLinked, IsFieldOf, class_name_of
 use Rattle.jm_linked.specs.Tables.{all_names}
 use Rattle.jm_linked.specs.declared.instruction.MemberNumber.{MemberNumber}
 use Rattle.jm_linked.proofs.BuiltIns.{built_in_class}
-use Rattle.jm_linked.proofs.Classes.{first_none, second_none, not_so, left_false, right_false}
+use Rattle.jm_linked.proofs.Classes.{left_false}
 use Rattle.jm_linked.proofs.HeldTypes.{named_at, same_as}
 use Rattle.jm_linked.proofs.Names.{found_numbered}
 use Rattle.jm_interp.specs.FieldRows.{has_fields_of}
 use Rattle.jm_interp.proofs.Unwound.{named_numbered, names_class}
-
-both : (a b : Bool) → (a && b) ≡ true → (a ≡ true) × (b ≡ true)
-both true b e = (refl, e)
-both false b e = cc
 
 -- the name is that of an interface, or that of a class that is none
 abbrev IsKind : List ClassParts → Bool → List ℕ → Type 0
@@ -70,13 +68,6 @@ same_is : (a b : Bool) → same_bool a b ≡ true → b ≡ a
 same_is true b e = e
 same_is false true e = cc
 same_is false false e = refl
-
-implied : (a b : Bool) → (not a || b) ≡ true → a ≡ true → b ≡ true
-implied true b e h = e
-implied false b e h = cc
-
-pub text_is : (a b : List ℕ) → same_text a b ≡ true → a ≡ b
-text_is a b e = (bytes_decides a b).0 e
 
 pub has_own_name : (program : List ClassParts) (name : List ℕ) (c : ClassParts) → class_named program name ≡ Some c → same_text c.name name ≡ true
 unfolding class_named
@@ -170,7 +161,7 @@ module _ (program : List ClassParts) (loads : Loads program) where
       by : (o : Option ClassParts) → class_named program u ≡ o → superclass_of_kind c u o ≡ None → ExtendsWell program c.flags u
       by None q g = cc
       by (Some d) q g =
-          let none = not_so (is_interface d.flags || is_sealed u || is_strange_interface c u) (wrong_kind u) g in
+          let none = not_refused (is_interface d.flags || is_sealed u || is_strange_interface c u) (wrong_kind u) g in
           let kind = left_false (is_interface d.flags) (is_sealed u) (left_false (is_interface d.flags || is_sealed u) (is_strange_interface c u) none) in
           let plain = right_false (is_interface d.flags || is_sealed u) (is_strange_interface c u) none in
           ((d, q, kind), λ i. text_is u object_class (strange (is_interface c.flags) (same_text u object_class) plain i))
@@ -191,7 +182,7 @@ module _ (program : List ClassParts) (loads : Loads program) where
     where
       by : (o : Option ClassParts) → class_named program x ≡ o → interface_of_kind x o ≡ None → IsKind program true x
       by None q g = cc
-      by (Some d) q g = (d, q, flip (is_interface d.flags) (not_so (not (is_interface d.flags)) (wrong_kind x) g))
+      by (Some d) q g = (d, q, flip (is_interface d.flags) (not_refused (not (is_interface d.flags)) (wrong_kind x) g))
         where
           flip : (b : Bool) → not b ≡ false → b ≡ true
           flip true h = refl
@@ -398,10 +389,6 @@ module _ (program : List ClassParts) (loads : Loads program) where
 either_true : (a b : Bool) → (a || b) ≡ true → (a ≡ true) ⊎ (b ≡ true)
 either_true true b e = inl refl
 either_true false b e = inr e
-
-not_true : (b : Bool) → not b ≡ true → b ≡ false
-not_true true e = cc
-not_true false e = refl
 
 -- a class of a number, and another that declares fields and methods
 module _ (l : LinkedView) (is : IsLinked l) (class : ℕ) (within : class < length the_builtins + length l.program) (number : ℕ) (declaring : ClassParts)

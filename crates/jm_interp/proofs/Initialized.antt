@@ -1,13 +1,12 @@
 -- Stages of initialization beside the model's.
 use Rattle.std.proofs.Common.{◌≡◌, ℕ, ◌+◌, ◌-◌, ◌<◌, ◌≤◌, List, [], ◌∷◌, Option, Some, None, Bool, true, false, refl, sym, ap, ◌∙◌, subst}
 use Rattle.std.proofs.Common.{inl, inr, ◌⊎◌, length, drop, arith, length-set}
-use Rattle.std.specs.Prelude.{map, slice_get, slice_set, nat_eq, nat_lt, codes, Result, Err}
+use Rattle.std.specs.Prelude.{map, slice_get, slice_set, codes, Result, Err}
 use Rattle.std.specs.List.{AllByRecursion}
 use Rattle.jm_program.specs.declared.class.ClassParts.{ClassParts}
 use Rattle.jm_program.specs.declared.code.Code.{Code}
-use Rattle.std.proofs.lemmas.Bool.{eq-eqb}
+use Rattle.jm_program.proofs.Numbers.{found_less as less, found_no_less, found_equal as alike, found_unequal as differ}
 use Rattle.std.proofs.lemmas.List.{length-map}
-use Rattle.std.proofs.lemmas.Bool.Decides.{eqb_tells, nat_tests}
 use Rattle.jm_values.specs.Shape.{Among}
 use Rattle.jm_values.specs.declared.fault.TagFault.TheVariants.{WrongKind}
 use Rattle.jm_values.proofs.Among.{among_split}
@@ -81,26 +80,6 @@ has_class l is class lt =
 pub staged_runs : {l : LinkedView} {class : ℕ} {s s' : Stage} {below : List StackFrame} {o : OwnObject}
     → PartRuns l (Initialization class s ∷ below) (running o None) → PartRuns l (Initialization class s' ∷ below) (running o None)
 staged_runs {class = class} {s = s} q = with_top {f = Initialization class s} q.runs.frames.0 q
-
-differ : (a b : ℕ) → (a ≡ b → ⊥) → nat_eq a b ≡ false
-differ a b n = elim (eqb_tells a b) [ inl t ↦ absurd (n t.1) | inr t ↦ t.0 ]
-
-alike : (a b : ℕ) → a ≡ b → nat_eq a b ≡ true
-alike a b e = eq-eqb a b e
-
-pub less : (a b : ℕ) → a < b → nat_lt a b ≡ true
-less a b lt = by (nat_lt a b) refl
-  where
-    by : (t : Bool) → nat_lt a b ≡ t → nat_lt a b ≡ true
-    by true e = e
-    by false e = absurd (grind (arith, nat_tests, e))
-
-pub not_less : (a b : ℕ) → b ≤ a → nat_lt a b ≡ false
-not_less a b le = by (nat_lt a b) refl
-  where
-    by : (t : Bool) → nat_lt a b ≡ t → nat_lt a b ≡ false
-    by false e = e
-    by true e = absurd (grind (arith, nat_tests, e))
 
 -- the top frame of a thread is dropped
 pub leaves : {H : Type 0} {content : H → Content ClassId} {at : At} {old : State H} {fs : List StackFrame} {p : Option ℕ} (h : OnThread content at old fs p)
@@ -363,7 +342,7 @@ module _ {H : Type 0} {content : H → Content ClassId} {at : At} {old : State H
     unfolding by_depth
     too_deep many named done = does_as h (λ w m. m) (λ w m.
         let deep : 512 ≤ length (initialization_frame called later ∷ lower) = let a = depth in omega arith in
-        ap (by_depth w) (not_less (length (initialization_frame called later ∷ lower)) 512 deep)
+        ap (by_depth w) (found_no_less (length (initialization_frame called later ∷ lower)) 512 deep)
         ∙ ap (throw w (at.index + 1) (model h)) (sym named)) done
 
     -- one that holds no place

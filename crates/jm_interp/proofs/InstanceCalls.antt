@@ -10,6 +10,7 @@ use Rattle.jm_program.specs.Flags.{is_abstract, is_static, is_synchronized}
 use Rattle.jm_program.specs.declared.class.Method.{Method as Declared}
 use Rattle.jm_program.specs.declared.code.Code.{Code}
 use Rattle.jm_program.specs.declared.descriptor.FieldType.{FieldType}
+use Rattle.jm_program.proofs.Truths.{both_true as both}
 use Rattle.jm_values.specs.Content.{Content, name_of}
 use Rattle.jm_values.specs.Rename.{rename, value_shape}
 use Rattle.jm_values.specs.Shape.{Among}
@@ -33,7 +34,7 @@ use Rattle.jm_interp.specs.Calls.{HasParameters, IsCalled, IsOperand, MayCall, c
 use Rattle.jm_interp.specs.Invoking.{HasReceiver, IsCoded, IsInstanceMethod, StepCalls, calls_found}
 use Rattle.jm_interp.proofs.Here.{place}
 use Rattle.jm_interp.proofs.OnThread.{does_as, model, thread_there}
-use Rattle.jm_interp.proofs.StaticCalls.{arguments_fit, body, both, links, reversed_slots, same_got, same_method, slots_fit}
+use Rattle.jm_interp.proofs.StaticCalls.{arguments_fit, body, links, reversed_slots, same_got, same_method, slots_fit}
 
 -- one operand more: the one below is the first
 taken_next : (n : ℕ) (s : List Value) (v : Value) → slice_get s n ≡ Some v → take (suc n) s ≡ take n s ++ v ∷ []

@@ -1,5 +1,5 @@
 -- What a program that loads says of an instruction at which a frame stands (JVMS 4.9, 5.4.3).
-use Rattle.std.proofs.Common.{◌≡◌, ℕ, zero, suc, List, [], ◌∷◌, Option, Some, None, Bool, true, false, refl, sym, ap, ◌∙◌, subst}
+use Rattle.std.proofs.Common.{◌≡◌, ℕ, List, [], ◌∷◌, Option, Some, None, sym, ◌∙◌, subst}
 use Rattle.std.specs.Prelude.{slice_get, not, ◌&&◌}
 use Rattle.jm_program.specs.Flags.{is_static}
 use Rattle.jm_program.specs.Names.{same_text}
@@ -22,19 +22,14 @@ use Rattle.jm_world.specs.Loading.{main_in}
 use Rattle.jm_world.specs.Loads.{found_method_refusal, init_refusal, is_static_call, method_refusal, named_class_refusal}
 use Rattle.jm_world.specs.Resolution.{resolve_method}
 use Rattle.jm_world.specs.Loads.{found_field_refusal, field_refusal, instruction_refusal, catch_refusal, method_code_refusal}
+use Rattle.jm_world.proofs.Comparing.{same_flag}
+use Rattle.jm_world.proofs.Refusing.{not_refused, first_none, second_none, none_of_all}
 use Rattle.jm_heap.specs.declared.class_id.ClassId.{ClassId}
-use Rattle.jm_linked.proofs.Classes.{first_none, second_none, not_so}
 use Rattle.jm_state.specs.declared.state.State.{State}
 use Rattle.jm_interp.specs.declared.at.At.{At}
 use Rattle.jm_interp.specs.At.{StandsOn}
 use Rattle.jm_interp.proofs.Fetching.{links, fetched}
 use Rattle.jm_interp.proofs.OnThread.{part_here}
-
--- one of a list that is refused nothing
-one_passes : {A : Type 0} (check : A → Option Refusal) (xs : List A) (k : ℕ) (x : A) → first_of_all check xs ≡ None → slice_get xs k ≡ Some x → check x ≡ None
-one_passes check [] k x e at = cc
-one_passes check (y ∷ ys) zero x e at = let same : y ≡ x = cc in ap check (sym same) ∙ first_none (check y) (first_of_all check ys) e
-one_passes check (y ∷ ys) (suc k) x e at = one_passes check ys k x (second_none (check y) (first_of_all check ys) e) at
 
 classes_pass : (program : List ClassParts) → Loads program
     → first_of_all (λ (c : ClassParts). first_of_all (method_code_refusal program) c.methods) program ≡ None
@@ -72,16 +67,10 @@ instruction_loads {at = at} h =
     let m = links l linked v.method found.0 found.1 in
     let there : slice_get m.code.instructions v.activation.at ≡ Some h.instruction =
     sym (fetched l linked v.method found.0 found.1 v.activation.at) ∙ h.is_there in
-    let class = one_passes (λ (c : ClassParts). first_of_all (method_code_refusal l.program) c.methods) l.program found.0.class m.class
+    let class = none_of_all (λ (c : ClassParts). first_of_all (method_code_refusal l.program) c.methods) l.program found.0.class m.class
     (classes_pass l.program linked.loads) m.class_is in
-    let method = one_passes (method_code_refusal l.program) m.class.methods found.0.member m.method class m.method_is in
-    one_passes (instruction_refusal l.program) m.code.instructions v.activation.at h.instruction (code_passes l.program m.method m.code m.code_is method) there
-
-same_so : (a b : Bool) → not (same_bool a b) ≡ false → a ≡ b
-same_so true true e = refl
-same_so true false e = cc
-same_so false true e = cc
-same_so false false e = refl
+    let method = none_of_all (method_code_refusal l.program) m.class.methods found.0.member m.method class m.method_is in
+    none_of_all (instruction_refusal l.program) m.code.instructions v.activation.at h.instruction (code_passes l.program m.method m.code m.code_is method) there
 
 -- a field is static just where it is used so
 pub static_use : (program : List ClassParts) (op : FieldOp) (f : FieldRef) (found : FoundField) → resolved_field program f f.class ≡ Some found
@@ -91,8 +80,8 @@ static_use program op f found is e =
     let other = when (not (same_bool (is_static found.field.flags) (is_static_use op))) (wrong_kind f.name) in
     let stored = when (is_stored op && same_text found.class.name system_class) (wrong_kind f.name) in
     let kept : or_else other stored ≡ None = subst (λ o. found_field_refusal op f.name o ≡ None) is refused in
-    same_so (is_static found.field.flags) (is_static_use op)
-    (not_so (not (same_bool (is_static found.field.flags) (is_static_use op))) (wrong_kind f.name) (first_none other stored kept))
+    same_flag (is_static found.field.flags) (is_static_use op)
+    (not_refused (not (same_bool (is_static found.field.flags) (is_static_use op))) (wrong_kind f.name) (first_none other stored kept))
 
 -- a method is static just where it is called so
 pub static_call : (program : List ClassParts) (op : InvokeOp) (m : MethodRef) (class : List ℕ) (found : FoundMethod)
@@ -102,6 +91,6 @@ static_call program op m class found is e =
     let found_refused = found_method_refusal op m.name (resolve_method program class m.name m.descriptor) in
     let refused = second_none (init_refusal op m.name) found_refused
     (second_none (named_class_refusal op class (class_named program class)) (or_else (init_refusal op m.name) found_refused) e) in
-    same_so (is_static found.method.flags) (is_static_call op)
-    (not_so (not (same_bool (is_static found.method.flags) (is_static_call op))) (wrong_kind m.name)
+    same_flag (is_static found.method.flags) (is_static_call op)
+    (not_refused (not (same_bool (is_static found.method.flags) (is_static_call op))) (wrong_kind m.name)
     (subst (λ o. found_method_refusal op m.name o ≡ None) is refused))

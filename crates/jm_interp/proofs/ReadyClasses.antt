@@ -3,8 +3,9 @@ use Rattle.std.proofs.Common.{◌≡◌, ℕ, ◌+◌, ◌-◌, ◌<◌, ◌≤�
 use Rattle.std.proofs.Common.{inl, inr, length, arith}
 use Rattle.std.proofs.lemmas.Option.{get_or_from_slice_get}
 use Rattle.std.proofs.lemmas.List.{length-map}
-use Rattle.std.specs.Prelude.{map, slice_get, slice_index_or, vec_len, is_some, unwrap_or, codes, Result, Ok, Err}
+use Rattle.std.specs.Prelude.{map, slice_get, slice_index_or, vec_len, is_some, codes, Result, Ok, Err}
 use Rattle.jm_program.specs.declared.class.ClassParts.{ClassParts}
+use Rattle.jm_program.proofs.Numbers.{found_less as less, found_no_less}
 use Rattle.jm_builtins.specs.List.{the_builtins}
 use Rattle.jm_builtins.specs.Numbers.{built_in_names}
 use Rattle.jm_values.specs.Content.{Content, name_of}
@@ -20,6 +21,7 @@ use Rattle.jm_heap.specs.declared.class_id.ClassId.{ClassId}
 use Rattle.jm_linked.specs.Links.{NamesClass, class_names, class_name_of}
 use Rattle.jm_linked.proofs.BuiltIns.{others}
 use Rattle.jm_linked.proofs.SystemOut.{not_listed}
+use Rattle.jm_linked.proofs.Classes.{class_name_is}
 use Rattle.jm_state.specs.Parts.{parts, frame_part, program_class_name, name_in_program}
 use Rattle.jm_state.specs.declared.halt.Halt.{Halt}
 use Rattle.jm_state.specs.declared.halt.Halt.TheVariants.{OutOfMemory}
@@ -33,7 +35,7 @@ use Rattle.jm_interp.specs.At.{InMethod, Does, Steps, in_method}
 use Rattle.jm_interp.specs.Readiness.{Readiness, begins}
 use Rattle.jm_interp.specs.Standing.{Stands, running}
 use Rattle.jm_interp.proofs.Here.{place}
-use Rattle.jm_interp.proofs.Initialized.{class_within, state_here, less, not_less}
+use Rattle.jm_interp.proofs.Initialized.{class_within, state_here}
 use Rattle.jm_interp.proofs.OnThread as thread
 use Rattle.jm_interp.proofs.OnThread.{Leads, model, lower, read, does_as, held_frames, part_here, runs_with, same_matches, with_thread_at}
 use Rattle.jm_interp.proofs.Superclasses.{get_past, known}
@@ -59,10 +61,6 @@ pub own_known : (program : List ClassParts) (n k : ℕ) (name : List ℕ) → Na
 unfolding program_class_name
 own_known program n k name named e =
     own_name program k name (sym (get_past built_in_names (map (λ (c : ClassParts). c.name) program) n k e) ∙ named)
-
-pub class_named_so : (program : List ClassParts) (n : ℕ) (name : List ℕ) → NamesClass program n name → class_name_of program n ≡ name
-unfolding class_name_of
-class_named_so program n name named = ap (λ o. unwrap_or o []) named
 
 module _ {H : Type 0} {content : H → Content ClassId} {at : At} {old : State H} (h : InMethod content at old) {class : ℕ} where
   -- a built-in class is done
@@ -127,7 +125,7 @@ module _ {H : Type 0} {content : H → Content ClassId} {at : At} {old : State H
       unfolding by_depth
       too_deep deep error done = does_as h.on (λ w m. m) (λ w m.
           let there : 512 ≤ length all = let a = depth in omega arith in
-          ap (by_depth w) (not_less (length all) 512 there) ∙ ap (throw w (at.index + 1) (model h.on)) (sym error)) done
+          ap (by_depth w) (found_no_less (length all) 512 there) ∙ ap (throw w (at.index + 1) (model h.on)) (sym error)) done
 
       pub begun : {t : held.Thread} → n < 512 → Stands t (Initialization number stage.Begin ∷ Method h.frame ∷ h.below) (running h.on.object None)
           → Does content at old (Ok step_end.Done) (with_thread_at old at.index t) (in_method (begins name))
@@ -138,7 +136,7 @@ module _ {H : Type 0} {content : H → Content ClassId} {at : At} {old : State H
           let own = own_there named.0 named.1 in
           let fs = Initialization number stage.Begin ∷ Method h.frame ∷ h.below in
           let same : name ≡ program_class_name at.linked.now.program number =
-          class_named_so at.linked.now.program class named.0 named.1 ∙ sym own.1 in
+          class_name_is at.linked.now.program class named.0 named.1 ∙ sym own.1 in
           thread.goes h.on stands (with_more {g = Initialization number stage.Begin} own.0 (omega arith) (part_here h.on))
           (λ q z. elim (part_refs at.linked.now fs None q z) [ inl y ↦ absurd y | inr y ↦ held_frames h.on q y ]) (λ w m.
           ap (by_depth w) (less (length all) 512 (omega arith))
@@ -170,7 +168,7 @@ module _ {H : Type 0} {content : H → Content ClassId} {at : At} {old : State H
   unfolding by_ready
   begins_first rest e is done = does_as h.on (λ w m. m) (λ w m.
       is w m ∙ ap (by_ready w (rest w)) (told.is w name m named ∙ e)
-      ∙ ap (λ x. begins x (place h w)) (sym (class_named_so at.linked.now.program class name named))) done
+      ∙ ap (λ x. begins x (place h w)) (sym (class_name_is at.linked.now.program class name named))) done
 
   -- what begin_initialization asks of it
   pub is_own : ready ≡ false → (x : List ℕ) × NamesClass at.linked.now.program class x × (length the_builtins ≤ class)

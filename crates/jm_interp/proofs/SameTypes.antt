@@ -1,21 +1,19 @@
 -- A class is below itself, so an object can be held by a variable of its own class (JVMS 6.5 instanceof).
-use Rattle.std.proofs.Common.{◌≡◌, ℕ, suc, ◌+◌, List, Bool, true, false, sym, ap, ◌∙◌, subst, [], length, arith}
+use Rattle.std.proofs.Common.{◌≡◌, ℕ, ◌+◌, List, Bool, true, false, sym, ap, ◌∙◌, subst, [], length}
 use Rattle.std.specs.Prelude.{unwrap_or}
 use Rattle.jm_program.specs.declared.class.ClassParts.{ClassParts}
 use Rattle.jm_program.specs.declared.descriptor.ElementType.TheVariants as type
 use Rattle.jm_program.specs.declared.descriptor.FieldType.{FieldType}
-use Rattle.jm_world.specs.Classes.{class_named, height}
+use Rattle.jm_program.proofs.Texts.{text_itself}
+use Rattle.jm_world.specs.Classes.{class_named}
 use Rattle.jm_world.specs.Hierarchy.{dimensions_assignable, holds_of_any, is_assignable, is_below, is_subclass, parents}
 use Rattle.jm_world.specs.Types.{type_of_object}
 use Rattle.jm_heap.specs.declared.class_id.ClassId.{ClassId}
-use Rattle.jm_linked.proofs.Classes.{same_self}
 use Rattle.jm_linked.specs.Links.{NamesElement, NamesType, class_name_of}
 use Rattle.jm_linked.specs.declared.instruction.LinkedType.{LinkedType}
+use Rattle.jm_linked.proofs.SystemOut.{taller}
 use Rattle.jm_state.specs.Parts.{named_type}
 use Rattle.jm_interp.specs.TypeChecks.{IsExactly}
-
-pub taller : (program : List ClassParts) → height program ≡ suc (length program + 28)
-taller program = omega arith
 
 pub below_itself : (program : List ClassParts) (name : List ℕ) → is_subclass program name name ≡ true
 unfolding is_subclass
@@ -25,7 +23,7 @@ below_itself program name =
     ∙ ap (λ b. elim b as (λ _. Bool) [
       | true ↦ true
       | false ↦ holds_of_any (λ parent. is_below n program parent name) (parents (class_named program name))
-    ]) (same_self name)
+    ]) (text_itself name)
 
 -- the type of the mark is the type itself
 pub held_by_itself : (program : List ClassParts) {id : ClassId} {to : LinkedType} → IsExactly id to → (t : FieldType) → NamesType program to t

@@ -7,6 +7,7 @@ use Rattle.jm_program.specs.declared.descriptor.ElementType.TheVariants.{Class}
 use Rattle.jm_program.specs.declared.instruction.operation.InvokeOp.{InvokeOp}
 use Rattle.jm_program.specs.declared.instruction.operation.InvokeOp.TheVariants.{Virtual, Special, Static, Interface}
 use Rattle.jm_program.specs.declared.instruction.symbolic.Instr.TheVariants as instr
+use Rattle.jm_program.proofs.Texts.{text_is}
 use Rattle.jm_builtins.specs.List.{print_stream}
 use Rattle.jm_values.specs.declared.value.Value.{Value}
 use Rattle.jm_values.specs.declared.fault.TagFault.TheVariants.{WrongKind}
@@ -28,8 +29,7 @@ use Rattle.jm_linked.specs.declared.instruction.PrintMethod.{PrintMethod}
 use Rattle.jm_linked.specs.declared.instruction.PrintMethod.TheVariants.{Print, Println, EndLine}
 use Rattle.jm_linked.proofs.BuiltIns.{built_in_class}
 use Rattle.jm_linked.proofs.PrintStreams.{no_stream, print_ref}
-use Rattle.jm_interp.proofs.FieldPlaces.{text_is}
-use Rattle.jm_interp.proofs.SameTypes.{taller}
+use Rattle.jm_linked.proofs.SystemOut.{taller}
 
 -- a print stream's class is the first of its chain, and declares the method
 abbrev chain_of : ℕ → List ClassParts → Option ClassParts → List ClassParts

@@ -9,10 +9,12 @@ use Rattle.std.proofs.lemmas.Bool.Decides.{nat_tests}
 use Rattle.std.specs.List.{AllByRecursion, list_any}
 use Rattle.std.proofs.lemmas.Grind.{flat_map-append}
 use Rattle.std.proofs.lemmas.List.{map-append}
+use Rattle.jm_program.proofs.Sequences.{got_front}
 use Rattle.jm_values.specs.Content.{Content, name_of, serial_at}
 use Rattle.jm_values.specs.Shape.{Among, list_shape}
 use Rattle.jm_values.proofs.Among.{among_left, among_right, among_split}
 use Rattle.jm_values.proofs.SoundContents.{name_is}
+use Rattle.jm_values.proofs.Lists.{each_and_more}
 use Rattle.jm_world.specs.BuiltInMethods.{is_object_of, was_started, new_thread, with_new_thread}
 use Rattle.jm_world.specs.Loading.{first_statics}
 use Rattle.jm_world.specs.Matches.{Matches}
@@ -40,20 +42,10 @@ use Rattle.jm_interp.proofs.Locked.{reached}
 use Rattle.jm_interp.proofs.OnThread.{model, thread_there}
 use Rattle.jm_interp.proofs.Threads.{held_is, part_is}
 
--- lists with one more
-got_front : {A : Type 0} (xs ys : List A) (i : ℕ) (x : A) → slice_get xs i ≡ Some x → slice_get (xs ++ ys) i ≡ Some x
-got_front [] ys i x e = cc
-got_front (z ∷ xs) ys zero x e = e
-got_front (z ∷ xs) ys (suc i) x e = got_front xs ys i x e
-
 pub set_front : {A : Type 0} (xs ys : List A) (i : ℕ) (x y : A) → slice_get xs i ≡ Some x → slice_set (xs ++ ys) i y ≡ slice_set xs i y ++ ys
 set_front [] ys i x y e = cc
 set_front (z ∷ xs) ys zero x y e = refl
 set_front (z ∷ xs) ys (suc i) x y e = ap (λ l. z ∷ l) (set_front xs ys i x y e)
-
-all_more : {A : Type 0} (P : A → Type 0) (xs : List A) (x : A) → AllByRecursion P xs → P x → AllByRecursion P (xs ++ x ∷ [])
-all_more P [] x all p = (p, tt)
-all_more P (z ∷ xs) x all p = (all.0, all_more P xs x all.1 p)
 
 live_more : (ts : List Thread) (t : Thread) → is_running t.ending ≡ true → live_among (ts ++ t ∷ []) ≡ live_among ts + 1
 live_more [] t live = ap (λ (b : Bool). elim b as (λ _. ℕ) [ true ↦ 0 + 1 | false ↦ 0 ]) live
@@ -125,7 +117,7 @@ module _ {H : Type 0} (content : H → Content ClassId) (l : LinkedView) {old ne
   added_runs r =
       subst (λ v. IsRunnable l v) (sym view_is) (record {
         threads = subst (AllByRecursion (ThreadRuns l)) (sym (map-append held_thread old.threads.items (added.thread ∷ [])))
-            (all_more (ThreadRuns l) (map held_thread old.threads.items) (held_thread added.thread) r.threads
+            (each_and_more (ThreadRuns l) (map held_thread old.threads.items) (held_thread added.thread) r.threads
             (subst (ThreadRuns l) (sym (held_is added.is_new)) (record { frames = (tt, tt); few = omega arith })));
         live = added.live ∙ ap (λ n. n + 1) r.live
             ∙ sym (ap live_among listed ∙ live_more (map (thread_part l) old.threads.items) (part_of l (Entry ∷ []) rest) refl);

@@ -5,13 +5,13 @@ use Rattle.std.specs.Prelude.{map, slice_get, slice_index_or, is_some, SomeIff, 
 use Rattle.std.proofs.lemmas.List.{length-map}
 use Rattle.jm_program.specs.Names.{same_text}
 use Rattle.jm_program.specs.declared.class.ClassParts.{ClassParts}
+use Rattle.jm_program.proofs.Texts.{text_itself}
 use Rattle.jm_builtins.specs.List.{the_builtins}
 use Rattle.jm_builtins.specs.Numbers.{built_in_names}
 use Rattle.jm_builtins.specs.declared.built_in.BuiltIn.{BuiltIn}
 use Rattle.jm_world.specs.Classes.{as_class, built_in_named}
 use Rattle.jm_linked.specs.Links.{class_numbered}
 use Rattle.jm_linked.specs.Tables.{all_names, IsSuperclass}
-use Rattle.jm_linked.proofs.Classes.{same_self}
 use Rattle.jm_state.specs.Parts.{program_class_name, name_in_program}
 use Rattle.jm_interp.specs.Initializing.{IsOwnSuperclass}
 
@@ -48,7 +48,7 @@ pub known : (bs : List BuiltIn) (rest : List (List ℕ)) (n : ℕ) → n < lengt
     → is_some (built_in_named bs (slice_index_or (map (λ (b : BuiltIn). b.name) bs ++ rest) n [])) ≡ true
 known [] rest n lt = absurd (omega arith)
 known (b ∷ bs) rest zero lt =
-    ap (λ t. is_some (elim t as (λ _. Option ClassParts) [ true ↦ Some (as_class b) | false ↦ built_in_named bs b.name ])) (same_self b.name)
+    ap (λ t. is_some (elim t as (λ _. Option ClassParts) [ true ↦ Some (as_class b) | false ↦ built_in_named bs b.name ])) (text_itself b.name)
 known (b ∷ bs) rest (suc n) lt =
     let name = slice_index_or (map (λ (b : BuiltIn). b.name) bs ++ rest) n [] in
     by (same_text b.name name) (known bs rest n (omega arith))

@@ -38,7 +38,8 @@ use Rattle.jm_jasmin.specs.InstructionForms.InstructionLine.{named, branch, bran
 use Rattle.jm_jasmin.specs.MethodForms.{BodyLine, BodyLines}
 use Rattle.jm_jasmin.specs.MethodForms.BodyLine.{stack, locals, source_line, catch, catch_all, throws, var, label, instruction}
 use Rattle.jm_jasmin.specs.MethodForms.BodyLines.{ends, and_line, and_switch}
-use Rattle.jm_jasmin.proofs.WordForms.{Says, opens, begins_says, stops, goes_on_with}
+use Rattle.jm_jasmin.proofs.Steps.{stops}
+use Rattle.jm_jasmin.proofs.WordForms.{Says, opens, begins_says, goes_on_with}
 use Rattle.jm_jasmin.proofs.InstructionForms.{label_in, labels_in, pairs_in, in_line}
 use Rattle.jm_jasmin.proofs.MethodForms.{in_that_line, item_read, switch_goes_on, switch_read}
 use Rattle.jm_jasmin.proofs.MnemonicForms.{label_text, mnemonic_text}

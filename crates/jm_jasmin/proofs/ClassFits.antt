@@ -1,14 +1,14 @@
 -- The class that is read from lines keeps the rules of a class.
-use Rattle.std.proofs.Common.{◌≡◌, ℕ, Bool, true, false, not, ◌&&◌, nat_le, List, Option, Some, None, Ok, refl, subst, length}
+use Rattle.std.proofs.Common.{◌≡◌, ℕ, Bool, true, not, ◌&&◌, nat_le, List, Option, Some, None, Ok, subst, length}
 use Rattle.std.specs.Prelude.{codes}
 use Rattle.std.specs.List.{list_all}
+use Rattle.std.proofs.lemmas.Bool.{and_from, not_from_false}
 use Rattle.jm_bytes.specs.Laws.{and_then_ok, same_Ok}
 use Rattle.jm_program.specs.Flags.{is_abstract, is_static, is_native, is_interface, is_synchronized}
 use Rattle.jm_program.specs.Names.{is_method_name}
 use Rattle.jm_program.specs.Descriptors.{is_method_type, is_kept_method_type}
 use Rattle.jm_program.specs.Fits.{Fits, is_finalizer, is_class_initializer, method_slots, body_fits, method_fits, field_fits}
 use Rattle.jm_program.specs.Codes.{code_fits}
-use Rattle.jm_program.proofs.DescriptorLaws.{and_true}
 use Rattle.jm_program.specs.declared.class.Field.{Field}
 use Rattle.jm_program.specs.declared.class.Method.{Method}
 use Rattle.jm_program.specs.declared.code.Code.{Code}
@@ -35,10 +35,6 @@ body_kept in_interface m None declared kept = abstract_kept m kept declared.1
 body_kept in_interface m (Some code) declared kept =
     code_by (is_abstract m.flags) in_interface (is_class_initializer m) (code_fits (method_slots m) code) kept.0 (kept_of in_interface m declared.2).2 kept.1
 
-not_false : (b : Bool) → b ≡ false → not b ≡ true
-not_false true h = absurd cc
-not_false false h = refl
-
 method_rules : (in_interface : Bool) (m : Method) (o : Option Code) → Declares in_interface m → CodeKept m o → method_fits in_interface (with_code m o) ≡ true
 method_rules in_interface m o declared code =
     let n = declared.0 in
@@ -50,14 +46,14 @@ method_rules in_interface m o declared code =
     let native : Bool = not (is_native m.flags) in
     let alone : Bool = not (is_static m.flags && is_synchronized m.flags) in
     let other : Bool = not (is_finalizer m) in
-    and_true (name && type && known && few && native && alone && other) (body_fits in_interface m o)
-    (and_true (name && type && known && few && native && alone) other
-    (and_true (name && type && known && few && native) alone
-    (and_true (name && type && known && few) native
-    (and_true (name && type && known) few (and_true (name && type) known (and_true name type n.1 n.2.0) n.2.1) n.2.2)
-    (not_false (is_native m.flags) n.0))
-    (not_false (is_static m.flags && is_synchronized m.flags) kept.0))
-    (not_false (is_finalizer m) kept.1))
+    and_from (name && type && known && few && native && alone && other) (body_fits in_interface m o)
+    (and_from (name && type && known && few && native && alone) other
+    (and_from (name && type && known && few && native) alone
+    (and_from (name && type && known && few) native
+    (and_from (name && type && known) few (and_from (name && type) known (and_from name type n.1 n.2.0) n.2.1) n.2.2)
+    (not_from_false (is_native m.flags) n.0))
+    (not_from_false (is_static m.flags && is_synchronized m.flags) kept.0))
+    (not_from_false (is_finalizer m) kept.1))
     (body_kept in_interface m o declared code)
 
 body_rules : (in_interface : Bool) (line : ℕ) (m : Method) (ts : List TokenParts) (p : Method × List TokenParts) → Declares in_interface m → method_body line m ts ≡ Ok p → method_fits in_interface p.0 ≡ true

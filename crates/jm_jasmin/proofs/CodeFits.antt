@@ -2,7 +2,7 @@
 use Rattle.std.proofs.Common.{◌≡◌, ℕ, suc, ◌+◌, ◌≤◌, Bool, true, false, ◌&&◌, ◌||◌, nat_lt, nat_le, List, [], ◌∷◌, ◌++◌, Option, Some, None, Result, Ok, Err, refl, subst, sym, ap, arith, length, length-append}
 use Rattle.std.specs.Prelude.{ℤ, pos, ◌+ℤ◌, int_le, if◌then◌else◌}
 use Rattle.std.specs.List.{list_all, flat_map}
-use Rattle.std.proofs.lemmas.Bool.{le-leb}
+use Rattle.std.proofs.lemmas.Bool.{le-leb, and_from}
 use Rattle.jm_bytes.specs.Reading.{and_then, each}
 use Rattle.jm_bytes.specs.Laws.{and_then_ok, same_Ok}
 use Rattle.jm_program.specs.Flags.{is_abstract}
@@ -10,7 +10,6 @@ use Rattle.jm_program.specs.Texts.{utf16_of}
 use Rattle.jm_program.specs.Fits.{method_slots}
 use Rattle.jm_program.specs.Instructions.{has_high, is_above, keys_rise, instr_fits}
 use Rattle.jm_program.specs.Codes.{catch_type_fits, handler_fits, line_fits, code_fits}
-use Rattle.jm_program.proofs.DescriptorLaws.{both_true, and_true}
 use Rattle.jm_program.specs.declared.class.Method.{Method}
 use Rattle.jm_program.specs.declared.code.Code.{Code}
 use Rattle.jm_program.specs.declared.code.Handler.{Handler}
@@ -21,6 +20,7 @@ use Rattle.jm_program.specs.declared.instruction.plain.SwitchPair.{SwitchPair}
 use Rattle.jm_program.specs.declared.instruction.plain.Plain.TheVariants as plain
 use Rattle.jm_program.specs.declared.instruction.symbolic.Instr.{Instr}
 use Rattle.jm_program.specs.declared.instruction.symbolic.Instr.TheVariants as instr
+use Rattle.jm_program.proofs.Truths.{all_pass, both_true}
 use Rattle.jm_class_format.specs.Symbols.{or_else}
 use Rattle.jm_jasmin_ops.specs.Label.{LabelParts}
 use Rattle.jm_jasmin_ops.specs.Fitting.{KeepsRules, pairs_rise}
@@ -69,7 +69,7 @@ targets_kept v count (l ∷ ls) ns h =
     let b = and_then_ok (each (target v count) ls) _ ns a.2 in
     let rest = targets_kept v count ls b.0 b.1 in
     subst (λ (xs : List ℕ). (list_all (λ (n : ℕ). nat_lt n count) xs ≡ true) × (length (l ∷ ls) ≡ length xs)) (same_Ok {F = AsmFault} (a.0 ∷ b.0) ns b.2)
-    (and_true (nat_lt a.0 count) (list_all (λ (n : ℕ). nat_lt n count) b.0) (target_kept v count l a.0 a.1) rest.0, ap suc rest.1)
+    (and_from (nat_lt a.0 count) (list_all (λ (n : ℕ). nat_lt n count) b.0) (target_kept v count l a.0 a.1) rest.0, ap suc rest.1)
 
 table_kept : (v : Values) (count : ℕ) (t : LabelledTable) (i : Instr) → KeepsRules (labelled.TableSwitch t) → table_of v count t ≡ Ok i → instr_fits count i ≡ true
 unfolding table_of
@@ -79,9 +79,9 @@ table_kept v count t i keeps h =
     let made : TableSwitch = record { low = t.low; targets = a.0; default = b.0 } in
     let targets = targets_kept v count t.targets a.0 a.1 in
     let high : has_high made ≡ true = subst (λ (n : ℕ). (nat_lt 0 n && int_le (t.low +ℤ pos n) (pos 2147483648)) ≡ true) targets.1 keeps in
-    let all : (has_high made && list_all (λ (n : ℕ). nat_lt n count) a.0) ≡ true = and_true (has_high made) (list_all (λ (n : ℕ). nat_lt n count) a.0) high targets.0 in
+    let all : (has_high made && list_all (λ (n : ℕ). nat_lt n count) a.0) ≡ true = and_from (has_high made) (list_all (λ (n : ℕ). nat_lt n count) a.0) high targets.0 in
     subst (λ (x : Instr). instr_fits count x ≡ true) (same_Ok {F = AsmFault} (instr.Plain (plain.TableSwitch made)) i b.2)
-    (and_true (has_high made && list_all (λ (n : ℕ). nat_lt n count) a.0) (nat_lt b.0 count) all (target_kept v count t.default b.0 b.1))
+    (and_from (has_high made && list_all (λ (n : ℕ). nat_lt n count) a.0) (nat_lt b.0 count) all (target_kept v count t.default b.0 b.1))
 
 abbrev PairsKept : ℕ → Option ℤ → List SwitchPair → Type 0
 PairsKept count previous qs = (keys_rise previous qs ≡ true) × (list_all (λ (q : SwitchPair). nat_lt q.target count) qs ≡ true)
@@ -97,7 +97,7 @@ pairs_kept v count previous (p ∷ ps) qs rise h =
     let is : q ≡ a.0 = same_Ok {F = AsmFault} q a.0 t.2 in
     let above = both_true (is_above previous p.key) (pairs_rise (Some p.key) ps) rise in
     let rest = pairs_kept v count (Some p.key) ps b.0 above.1 b.1 in
-    let whole : PairsKept count previous (q ∷ b.0) = (and_true (is_above previous p.key) (keys_rise (Some p.key) b.0) above.0 rest.0, and_true (nat_lt t.0 count) (list_all (λ (q : SwitchPair). nat_lt q.target count) b.0) (target_kept v count p.target t.0 t.1) rest.1) in
+    let whole : PairsKept count previous (q ∷ b.0) = (and_from (is_above previous p.key) (keys_rise (Some p.key) b.0) above.0 rest.0, and_from (nat_lt t.0 count) (list_all (λ (q : SwitchPair). nat_lt q.target count) b.0) (target_kept v count p.target t.0 t.1) rest.1) in
     subst (PairsKept count previous) (same_Ok {F = AsmFault} (a.0 ∷ b.0) qs b.2) (subst (λ (x : SwitchPair). PairsKept count previous (x ∷ b.0)) is whole)
 
 lookup_kept : (v : Values) (count : ℕ) (l : LabelledLookup) (i : Instr) → KeepsRules (labelled.LookupSwitch l) → lookup_of v count l ≡ Ok i → instr_fits count i ≡ true
@@ -107,9 +107,9 @@ lookup_kept v count l i keeps h =
     let b = and_then_ok (target v count l.default) _ i a.2 in
     let made : LookupSwitch = record { pairs = a.0; default = b.0 } in
     let pairs = pairs_kept v count None l.pairs a.0 keeps a.1 in
-    let all = and_true (keys_rise None a.0) (list_all (λ (q : SwitchPair). nat_lt q.target count) a.0) pairs.0 pairs.1 in
+    let all = and_from (keys_rise None a.0) (list_all (λ (q : SwitchPair). nat_lt q.target count) a.0) pairs.0 pairs.1 in
     subst (λ (x : Instr). instr_fits count x ≡ true) (same_Ok {F = AsmFault} (instr.Plain (plain.LookupSwitch made)) i b.2)
-    (and_true (keys_rise None a.0 && list_all (λ (q : SwitchPair). nat_lt q.target count) a.0) (nat_lt b.0 count) all (target_kept v count l.default b.0 b.1))
+    (and_from (keys_rise None a.0 && list_all (λ (q : SwitchPair). nat_lt q.target count) a.0) (nat_lt b.0 count) all (target_kept v count l.default b.0 b.1))
 
 instruction_kept : (v : Values) (count : ℕ) (l : LabelledInstr) (i : Instr) → KeepsRules l → instruction_of v count l ≡ Ok i → instr_fits count i ≡ true
 unfolding instruction_of
@@ -151,7 +151,7 @@ handler_kept v count row x most caught some h =
     let rises : nat_lt a.0 b.0 ≡ true = or_first (nat_lt a.0 b.0) (nat_le count a.0) (inside a.0 count start.1) (between_is (nat_lt a.0 b.0 || nat_le count a.0) row.line range) in
     let held : nat_le b.0 count ≡ true = le-leb b.0 count (most row.end b.0 end) in
     subst (λ (y : Handler). handler_fits count y ≡ true) (same_Ok {F = AsmFault} made x c.2)
-    (and_true (nat_lt a.0 b.0 && nat_le b.0 count && nat_lt c.0 count) (catch_type_fits row.catch_type) (and_true (nat_lt a.0 b.0 && nat_le b.0 count) (nat_lt c.0 count) (and_true (nat_lt a.0 b.0) (nat_le b.0 count) rises held) target.1) caught)
+    (and_from (nat_lt a.0 b.0 && nat_le b.0 count && nat_lt c.0 count) (catch_type_fits row.catch_type) (and_from (nat_lt a.0 b.0 && nat_le b.0 count) (nat_lt c.0 count) (and_from (nat_lt a.0 b.0) (nat_le b.0 count) rises held) target.1) caught)
 
 -- ---- parts
 
@@ -163,7 +163,7 @@ abbrev FitsFor : ℕ → Item → Part → Type 0
 FitsFor count i p = PartFits count p × (length (instruction_in p) ≡ instruction_here i)
 
 line_by : (b : Bool) (count : ℕ) (entry : LineNumber) → nat_lt entry.start count ≡ b → FitsFor count (item.Line entry) (if b then part.Line entry else part.Nothing)
-line_by true count entry is = ((refl, refl, and_true (nat_lt entry.start count) true is refl), refl)
+line_by true count entry is = ((refl, refl, and_from (nat_lt entry.start count) true is refl), refl)
 line_by false count entry is = ((refl, refl, refl), refl)
 
 nothing_fits : (count : ℕ) (i : Item) (p : Part) → instruction_here i ≡ 0 → ◌≡◌ {A = Result Part AsmFault} (Ok part.Nothing) (Ok p) → FitsFor count i p
@@ -173,22 +173,16 @@ part_kept : (v : Values) (count : ℕ) (i : Item) (p : Part) → AtMost count v 
 unfolding part_of
 part_kept v count (item.Instruction l) p most keeps some h =
     let a = and_then_ok (instruction_of v count l) _ p h in
-    subst (FitsFor count (item.Instruction l)) (same_Ok {F = AsmFault} (part.Instruction a.0) p a.2) ((and_true (instr_fits count a.0) true (instruction_kept v count l a.0 keeps a.1) refl, refl, refl), refl)
+    subst (FitsFor count (item.Instruction l)) (same_Ok {F = AsmFault} (part.Instruction a.0) p a.2) ((and_from (instr_fits count a.0) true (instruction_kept v count l a.0 keeps a.1) refl, refl, refl), refl)
 part_kept v count (item.Catch row) p most keeps some h =
     let a = and_then_ok (handler_of v count row) _ p h in
-    subst (FitsFor count (item.Catch row)) (same_Ok {F = AsmFault} (part.Handler a.0) p a.2) ((refl, and_true (handler_fits count a.0) true (handler_kept v count row a.0 most keeps some a.1) refl, refl), refl)
+    subst (FitsFor count (item.Catch row)) (same_Ok {F = AsmFault} (part.Handler a.0) p a.2) ((refl, and_from (handler_fits count a.0) true (handler_kept v count row a.0 most keeps some a.1) refl, refl), refl)
 part_kept v count (item.Line entry) p most keeps some h =
     subst (FitsFor count (item.Line entry)) (same_Ok {F = AsmFault} (if nat_lt entry.start count then part.Line entry else part.Nothing) p h) (line_by (nat_lt entry.start count) count entry refl)
 part_kept v count (item.StackLimit n) p most keeps some h = nothing_fits count (item.StackLimit n) p refl h
 part_kept v count (item.LocalsLimit n) p most keeps some h = nothing_fits count (item.LocalsLimit n) p refl h
 part_kept v count (item.Label name value) p most keeps some h = nothing_fits count (item.Label name value) p refl h
 part_kept v count item.Dropped p most keeps some h = nothing_fits count item.Dropped p refl h
-
-all_both : {A : Type 0} (ok : A → Bool) (xs ys : List A) → list_all ok xs ≡ true → list_all ok ys ≡ true → list_all ok (xs ++ ys) ≡ true
-all_both ok [] ys h k = k
-all_both ok (x ∷ xs) ys h k =
-    let p = both_true (ok x) (list_all ok xs) h in
-    and_true (ok x) (list_all ok (xs ++ ys)) p.0 (all_both ok xs ys p.1 k)
 
 abbrev PartsFit : ℕ → List Item → List Part → Type 0
 PartsFit count items ps =
@@ -210,7 +204,7 @@ parts_kept v count (i ∷ items) ps most keep some h =
     let rest = parts_kept v count items b.0 most keep.1 ranges.1 b.1 in
     let long : length (instruction_in a.0 ++ flat_map instruction_in b.0) ≡ instruction_count items + instruction_here i = omega (arith, length-append (instruction_in a.0) (flat_map instruction_in b.0), one.1, rest.3) in
     subst (PartsFit count (i ∷ items)) (same_Ok {F = AsmFault} (a.0 ∷ b.0) ps b.2)
-    (all_both (instr_fits count) (instruction_in a.0) (flat_map instruction_in b.0) one.0.0 rest.0, all_both (handler_fits count) (handler_in a.0) (flat_map handler_in b.0) one.0.1 rest.1, all_both (line_fits count) (line_in a.0) (flat_map line_in b.0) one.0.2 rest.2, long)
+    (all_pass (instr_fits count) (instruction_in a.0) (flat_map instruction_in b.0) one.0.0 rest.0, all_pass (handler_fits count) (handler_in a.0) (flat_map handler_in b.0) one.0.1 rest.1, all_pass (line_fits count) (line_in a.0) (flat_map line_in b.0) one.0.2 rest.2, long)
 
 -- ---- the code
 
@@ -254,8 +248,8 @@ code_kept m line end_line items o keeps h =
     let fits : is_abstract m.flags ≡ false → code_fits slots code ≡ true = λ concrete.
     let large = or_held (is_abstract m.flags) (nat_le slots locals) concrete held.0 in
     let one = or_held (is_abstract m.flags) (nat_lt 0 count) concrete some.0 in
-    let rules : Rules count = and_true (nat_le slots locals && nat_lt 0 count && list_all (instr_fits count) is && list_all (handler_fits count) hs) (list_all (line_fits count) ls)
-    (and_true (nat_le slots locals && nat_lt 0 count && list_all (instr_fits count) is) (list_all (handler_fits count) hs)
-    (and_true (nat_le slots locals && nat_lt 0 count) (list_all (instr_fits count) is) (and_true (nat_le slots locals) (nat_lt 0 count) large one) parts.0) parts.1) parts.2 in
+    let rules : Rules count = and_from (nat_le slots locals && nat_lt 0 count && list_all (instr_fits count) is && list_all (handler_fits count) hs) (list_all (line_fits count) ls)
+    (and_from (nat_le slots locals && nat_lt 0 count && list_all (instr_fits count) is) (list_all (handler_fits count) hs)
+    (and_from (nat_le slots locals && nat_lt 0 count) (list_all (instr_fits count) is) (and_from (nat_le slots locals) (nat_lt 0 count) large one) parts.0) parts.1) parts.2 in
     subst Rules (sym parts.3) rules in
     code_by (is_abstract m.flags) m code o refl fits d.2

@@ -2,8 +2,7 @@
 use Rattle.std.proofs.Common.{◌≡◌, ℕ, suc, ◌+◌, ◌-◌, ◌*◌, ◌<◌, ◌≤◌, Bool, true, false, List, ◌∷◌, length, get_or, drop, Some, None, sym, ap, ◌∙◌, refl, add-one, arith, length-drop, drop-cons}
 use Rattle.std.specs.Prelude.{nat_le, nat_lt, ◌&&◌, if◌then◌else◌}
 use Rattle.std.proofs.lemmas.List.{nil_from_length}
-use Rattle.std.proofs.lemmas.Bool.{lt-ltb, le-ltb, le-leb, lt-leb}
-use Rattle.jm_program.proofs.DescriptorLaws.{and_true}
+use Rattle.std.proofs.lemmas.Bool.{lt-ltb, le-ltb, le-leb, lt-leb, and_from}
 use Rattle.jm_jasmin.specs.Header.{digits_from}
 
 abbrev pub is_next_digit : ℕ → ℕ → Bool
@@ -17,7 +16,7 @@ at_digit value us i u lt is =
 
 pub digits_next : (value : ℕ) (us : List ℕ) (i u : ℕ) → i < length us → u ≡ get_or us i 0 → 48 ≤ u → u ≤ 57 → value * 10 + (u - 48) ≤ 65535 → digits_from value (drop i us) ≡ digits_from (value * 10 + (u - 48)) (drop (i + 1) us)
 digits_next value us i u lt is low high fits =
-    let test : is_next_digit value u ≡ true = and_true (nat_le 48 u && nat_le u 57) (nat_lt (value * 10 + (u - 48)) 65536) (and_true (nat_le 48 u) (nat_le u 57) (le-leb 48 u low) (le-leb u 57 high)) (lt-ltb (value * 10 + (u - 48)) 65536 (omega (arith, fits))) in
+    let test : is_next_digit value u ≡ true = and_from (nat_le 48 u && nat_le u 57) (nat_lt (value * 10 + (u - 48)) 65536) (and_from (nat_le 48 u) (nat_le u 57) (le-leb 48 u low) (le-leb u 57 high)) (lt-ltb (value * 10 + (u - 48)) 65536 (omega (arith, fits))) in
     at_digit value us i u lt is ∙ ap (λ (b : Bool). if b then digits_from (value * 10 + (u - 48)) (drop (i + 1) us) else None) test
 
 wrong_digit : (value : ℕ) (us : List ℕ) (i u : ℕ) → i < length us → u ≡ get_or us i 0 → is_next_digit value u ≡ false → digits_from value (drop i us) ≡ None

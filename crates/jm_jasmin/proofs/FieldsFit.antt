@@ -3,12 +3,12 @@ use Rattle.std.proofs.Common.{◌≡◌, ℕ, ◌-◌, ◌+◌, ◌==◌, Bool, 
 use Rattle.std.specs.Prelude.{ℤ, pos, negsuc, int_le, if◌then◌else◌, codes, slice_get}
 use Rattle.std.specs.List.{list_all}
 use Rattle.std.proofs.lemmas.Option.{same_Some}
+use Rattle.std.proofs.lemmas.Bool.{and_from}
 use Rattle.jm_bytes.specs.Laws.{and_then_ok, same_Ok, fault_as_ok}
 use Rattle.jm_program.specs.Flags.{is_static}
 use Rattle.jm_program.specs.Names.{is_unqualified, same_text}
 use Rattle.jm_program.specs.References.{type_fits}
 use Rattle.jm_program.specs.Fits.{constant_is_of, field_constant_fits, field_fits}
-use Rattle.jm_program.proofs.DescriptorLaws.{and_true}
 use Rattle.jm_program.specs.declared.class.Field.{Field}
 use Rattle.jm_program.specs.declared.constant.Constant.{Constant}
 use Rattle.jm_program.specs.declared.constant.Constant.TheVariants as constant
@@ -117,7 +117,7 @@ value_kept f line index v h =
     let k = at_is (value_kind f.descriptor) (slice_get line index) g.0 s.1 in
     let d = if_some one (kind_of_element f.descriptor.element) k.0 k.1 in
     let fits : constant_is_of g.0 f.descriptor.element ≡ true = element_kept f.descriptor.element k.0 g.0 d.1 k.2 in
-    subst (λ (x : Option Constant). field_constant_fits f.flags f.descriptor x ≡ true) g.2 (and_true (static && one) (constant_is_of g.0 f.descriptor.element) (and_true static one s.0 d.0) fits)
+    subst (λ (x : Option Constant). field_constant_fits f.flags f.descriptor x ≡ true) g.2 (and_from (static && one) (constant_is_of g.0 f.descriptor.element) (and_from static one s.0 d.0) fits)
 
 -- ---- the line
 
@@ -142,7 +142,7 @@ with_constant : (f g : Field) → Plain f → g.name ≡ f.name → g.descriptor
 with_constant f g p name type h =
     let n : is_unqualified g.name ≡ true = subst (λ (x : List ℕ). is_unqualified x ≡ true) (sym name) p.0 in
     let t : type_fits g.descriptor ≡ true = subst (λ (x : FieldType). type_fits x ≡ true) (sym type) p.1 in
-    and_true (is_unqualified g.name && type_fits g.descriptor) (field_constant_fits g.flags g.descriptor g.constant) (and_true (is_unqualified g.name) (type_fits g.descriptor) n t) h
+    and_from (is_unqualified g.name && type_fits g.descriptor) (field_constant_fits g.flags g.descriptor g.constant) (and_from (is_unqualified g.name) (type_fits g.descriptor) n t) h
 
 without_kept : (line : List TokenParts) (f : Field) → field_without_value line ≡ Ok f → field_fits f ≡ true
 unfolding field_without_value

@@ -6,12 +6,12 @@ use Rattle.jm_bytes.specs.Reading.{and_then, fault_as}
 use Rattle.jm_program.specs.Texts.{utf16_of}
 use Rattle.jm_program.specs.Descriptors.{argument_slots}
 use Rattle.jm_program.specs.Instructions.{has_dimensions}
-use Rattle.jm_program.proofs.DescriptorLaws.{both_true}
 use Rattle.jm_program.specs.declared.reference.ClassRef.{ClassRef}
 use Rattle.jm_program.specs.declared.reference.ClassRef.TheVariants as class_ref_is
 use Rattle.jm_program.specs.declared.reference.MethodRef.{MethodRef}
 use Rattle.jm_program.specs.declared.instruction.operation.InvokeOp.{InvokeOp}
 use Rattle.jm_program.specs.declared.instruction.symbolic.Instr.{Instr}
+use Rattle.jm_program.proofs.Truths.{both_true}
 use Rattle.jm_class_format.specs.Instructions.{natural}
 use Rattle.jm_class_format.specs.declared.read_fault.ReadFault.{ReadFault}
 use Rattle.jm_class_format.specs.declared.opcode.Opcode.{Opcode}

@@ -12,7 +12,7 @@ or_none : {A : Type 0} (o : Option A) → or_else None o ≡ or_else o None
 or_none None = refl
 or_none (Some x) = refl
 
-or_assoc : {A : Type 0} (o p q : Option A) → or_else (or_else o p) q ≡ or_else o (or_else p q)
+pub or_assoc : {A : Type 0} (o p q : Option A) → or_else (or_else o p) q ≡ or_else o (or_else p q)
 or_assoc None p q = refl
 or_assoc (Some x) p q = refl
 

@@ -1,7 +1,7 @@
 -- The lines of a method are read as their forms say.
 use Rattle.std.proofs.Common.{◌≡◌, ℕ, suc, ◌+◌, ◌-◌, ◌<◌, ◌==◌, Bool, true, false, List, [], ◌∷◌, ◌++◌, length, drop, Some, None, Result, Ok, refl}
 use Rattle.std.proofs.Common.{ap, ◌∙◌, arith, one-add, length-append}
-use Rattle.std.specs.Prelude.{codes, nat_lt, nat_le, slice_get, position, ◌&&◌}
+use Rattle.std.specs.Prelude.{codes, nat_le, slice_get, position, ◌&&◌}
 use Rattle.std.specs.List.{list_all, position_or_len}
 use Rattle.std.proofs.Math.Numerals.{add-one}
 use Rattle.std.proofs.Math.Seq.{take-append_seam, drop-append_seam}
@@ -9,7 +9,8 @@ use Rattle.jm_program.specs.Texts.{utf16_of}
 use Rattle.jm_program.specs.Names.{same_text}
 use Rattle.jm_program.specs.declared.class.Method.{Method}
 use Rattle.jm_program.specs.declared.descriptor.MethodDescriptor.{MethodDescriptor}
-use Rattle.jm_program.proofs.DescriptorLaws.{both_true}
+use Rattle.jm_program.proofs.Numbers.{found_less as less}
+use Rattle.jm_program.proofs.Truths.{both_true, and_false}
 use Rattle.jm_class_format.specs.declared.opcode.Opcode.{Opcode}
 use Rattle.jm_class_format.specs.declared.opcode.Opcode.TheVariants as opcode
 use Rattle.jm_class_format.specs.Members.{own_receiver}
@@ -49,9 +50,6 @@ ahead [] types h = refl
 ahead (u ∷ name) types h =
     let p = both_true (no_parenthesis u) (list_all no_parenthesis name) h in
     rw (p.0, ahead name types p.1, one-add) refl
-
-less : (a b : ℕ) → a < b → nat_lt a b ≡ true
-less a b lt = at_least (suc a) b lt
 
 parenthesis_at : (name types : List ℕ) → list_all no_parenthesis name ≡ true → position (λ (u : ℕ). u == 40) (name ++ 40 ∷ types) ≡ Some (length name)
 parenthesis_at name types h =
@@ -150,10 +148,6 @@ front_says : (l : Line) (lines : List Line) (us : List TokenParts) → Says (l �
     → (number : ℕ) × (at : ℕ → ℕ) × ((first_line us).0 ≡ standing number at l)
 front_says l lines us (line number at w ws {rest = rest} apart says) =
     (number, at, ap (λ (p : List TokenParts × List TokenParts). p.0) (first_says number at w ws rest apart))
-
-and_false : (b : Bool) → (b && false) ≡ false
-and_false true = refl
-and_false false = refl
 
 no_label : (number : ℕ) (at : ℕ → ℕ) (text : List ℕ) (ws : Line) → ends_with_colon text ≡ false → is_label_line (standing number at (bare text ∷ ws)) ≡ false
 unfolding is_label_line

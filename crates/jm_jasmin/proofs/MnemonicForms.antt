@@ -1,13 +1,14 @@
 -- Neither a label's line nor an instruction's begins with a directive, and no mnemonic ends with a colon.
-use Rattle.std.proofs.Common.{◌≡◌, ℕ, Bool, true, false, not, List, [], ◌∷◌, Option, Some, None, refl, ap, sym, subst, eqb-true, is_some}
-use Rattle.std.specs.Prelude.{codes, nat_eq, if◌then◌else◌}
+use Rattle.std.proofs.Common.{◌≡◌, ℕ, Bool, true, false, not, List, [], ◌∷◌, Option, Some, None, refl, ap, sym, subst, is_some}
+use Rattle.std.specs.Prelude.{codes, if◌then◌else◌}
 use Rattle.std.specs.List.{list_all}
-use Rattle.jm_program.proofs.DescriptorLaws.{both_true}
 use Rattle.jm_program.specs.Names.{same_text}
 use Rattle.jm_program.specs.Mnemonics.{operand_letter, integral_letter, index_digit, small_int_digit, small_long_digit, stack_mnemonic, arithmetic_name}
 use Rattle.jm_program.specs.Mnemonics.{shift_name, bitwise_name, conversion_mnemonic, comparison_name, equality_name, null_mnemonic, branch_mnemonic}
 use Rattle.jm_program.specs.Mnemonics.{array_letter, array_line, return_mnemonic, monitor_mnemonic, field_mnemonic, invoke_mnemonic, type_mnemonic}
 use Rattle.jm_program.specs.JasminInstructions.{simple_line}
+use Rattle.jm_program.proofs.Truths.{both_true, not_true}
+use Rattle.jm_program.proofs.Texts.{text_is}
 use Rattle.jm_class_format.specs.Mnemonics.{left_out_mnemonic}
 use Rattle.jm_class_format.specs.Opcodes.{constants, loads, stores, stack, math, conversions, comparisons, control, references, extended}
 use Rattle.jm_class_format.specs.Symbols.{or_else}
@@ -15,22 +16,12 @@ use Rattle.jm_class_format.specs.declared.opcode.Opcode.{Opcode}
 use Rattle.jm_jasmin_ops.specs.Mnemonics.{mnemonic, in_rows, opcode_named}
 use Rattle.jm_jasmin.specs.Items.{ends_with_colon}
 
-same_is : (a b : List ℕ) → same_text a b ≡ true → a ≡ b
-same_is [] [] h = refl
-same_is [] (y ∷ b) h = absurd cc
-same_is (x ∷ a) [] h = absurd cc
-same_is (x ∷ a) (y ∷ b) h =
-    let p = both_true (nat_eq x y) (same_text a b) h in
-    let head : x ≡ y = eqb-true x y p.0 in
-    let tail : a ≡ b = same_is a b p.1 in
-    cc
-
 -- two texts of which one passes a test and the other does not
 pub other_text : (test : List ℕ → Bool) (a b : List ℕ) → test a ≡ true → test b ≡ false → same_text a b ≡ false
 other_text test a b h k = by (same_text a b) refl
   where
     by : (same : Bool) → same_text a b ≡ same → same ≡ false
-    by true e = let same : test a ≡ test b = ap test (same_is a b e) in absurd cc
+    by true e = let same : test a ≡ test b = ap test (text_is a b e) in absurd cc
     by false e = refl
 
 -- no directive of a body, nor of its end
@@ -91,10 +82,6 @@ unfolding opcode_named in_rows mnemonic left_out_mnemonic simple_line operand_le
     stores stack math conversions comparisons control references extended
 no_colons = (refl, refl, refl, refl, refl, refl, refl, refl, refl, refl)
 
-not_true : (b : Bool) → not b ≡ true → b ≡ false
-not_true true h = absurd cc
-not_true false h = refl
-
 by_row : (b : Bool) (x op : Opcode) (rest : Option Opcode) (Q : Type 0) → (if b then Some x else rest) ≡ Some op → (b ≡ true → Q) → (rest ≡ Some op → Q) → Q
 by_row true x op rest Q h here others = here refl
 by_row false x op rest Q h here others = others h
@@ -105,7 +92,7 @@ in_rows_no_colon [] text op are h = absurd cc
 in_rows_no_colon (row ∷ rows) text op are h =
     let p = both_true (no_colon row) (list_all no_colon rows) are in
     by_row (same_text (mnemonic row.1) text) row.1 op (in_rows rows text) (ends_with_colon text ≡ false) h
-    (λ same. subst (λ (w : List ℕ). ends_with_colon w ≡ false) (same_is (mnemonic row.1) text same) (not_true (ends_with_colon (mnemonic row.1)) p.0))
+    (λ same. subst (λ (w : List ℕ). ends_with_colon w ≡ false) (text_is (mnemonic row.1) text same) (not_true (ends_with_colon (mnemonic row.1)) p.0))
     (λ there. in_rows_no_colon rows text op p.1 there)
 
 by_group : (Q : Type 0) (o p : Option Opcode) (op : Opcode) → (o ≡ Some op → Q) → (p ≡ Some op → Q) → or_else o p ≡ Some op → Q
@@ -117,7 +104,7 @@ unfolding opcode_named
 mnemonic_no_colon text op h =
     let Q : Type 0 = ends_with_colon text ≡ false in
     by_row (same_text text (codes "invokenonvirtual")) _ op _ Q h
-    (λ same. subst (λ (w : List ℕ). ends_with_colon w ≡ false) (sym (same_is text (codes "invokenonvirtual") same)) refl)
+    (λ same. subst (λ (w : List ℕ). ends_with_colon w ≡ false) (sym (text_is text (codes "invokenonvirtual") same)) refl)
     (by_group Q (in_rows constants text) _ op (in_rows_no_colon constants text op no_colons.0)
     (by_group Q (in_rows loads text) _ op (in_rows_no_colon loads text op no_colons.1)
     (by_group Q (in_rows stores text) _ op (in_rows_no_colon stores text op no_colons.2)

@@ -2,9 +2,10 @@
 use Rattle.std.proofs.Common.{◌≡◌, ℕ, zero, suc, Bool, true, false, List, [], ◌∷◌, ◌++◌, Option, Some, None, Result, Ok, Err, refl, subst}
 use Rattle.std.specs.Prelude.{if◌then◌else◌}
 use Rattle.std.specs.List.{list_all}
+use Rattle.std.proofs.lemmas.Bool.{and_from}
+use Rattle.jm_program.proofs.Truths.{both_true}
 use Rattle.jm_bytes.specs.Reading.{and_then}
 use Rattle.jm_bytes.specs.Laws.{and_then_ok, same_Ok}
-use Rattle.jm_program.proofs.DescriptorLaws.{both_true, and_true}
 use Rattle.jm_jasmin_lex.specs.Token.{TokenParts}
 use Rattle.jm_jasmin_lex.specs.Lines.{first_line}
 use Rattle.jm_jasmin_ops.specs.declared.fault.AsmFault.{AsmFault}
@@ -63,10 +64,10 @@ taken_keeps {S} P goes_on f step (suc n) s ts p h e =
     (λ k. subst (λ (q : S × List TokenParts). P q.0) (same_Ok {F = AsmFault} here p k) h)
 
 pub all_more : {A : Type 0} (ok : A → Bool) (xs : List A) (x : A) → list_all ok xs ≡ true → ok x ≡ true → list_all ok (xs ++ x ∷ []) ≡ true
-all_more ok [] x h k = and_true (ok x) true k refl
+all_more ok [] x h k = and_from (ok x) true k refl
 all_more ok (y ∷ xs) x h k =
     let p = both_true (ok y) (list_all ok xs) h in
-    and_true (ok y) (list_all ok (xs ++ x ∷ [])) p.0 (all_more ok xs x p.1 k)
+    and_from (ok y) (list_all ok (xs ++ x ∷ [])) p.0 (all_more ok xs x p.1 k)
 
 more_keeps : {A : Type 0} (ok : A → Bool) (read : Reading A) → ((ts : List TokenParts) (p : A × List TokenParts) → read ts ≡ Ok p → ok p.0 ≡ true)
     → (xs : List A) (ts : List TokenParts) (p : List A × List TokenParts) → list_all ok xs ≡ true → one_more read xs ts ≡ Ok p → list_all ok p.0 ≡ true

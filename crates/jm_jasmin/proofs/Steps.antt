@@ -1,8 +1,13 @@
 -- Lines that are taken on: what comes of the state so far and the tokens that are left, at the i-th of count.
-use Rattle.std.proofs.Common.{◌≡◌, ℕ, zero, suc, ◌+◌, ◌-◌, ◌<◌, ◌≤◌, Bool, true, false, List, [], ◌∷◌, ◌++◌, Ok, Err, refl, arith}
+use Rattle.std.proofs.Common.{◌≡◌, ℕ, suc, ◌+◌, ◌-◌, ◌<◌, ◌≤◌, Bool, true, false, List, [], ◌∷◌, ◌++◌, Ok, Err, refl, arith, zero}
 use Rattle.jm_jasmin_lex.specs.Token.{TokenParts}
 use Rattle.jm_jasmin_ops.specs.declared.fault.AsmFault.{AsmFault}
 use Rattle.jm_jasmin.specs.Lines.{Reading, taken_on, one_more}
+
+pub stops : {S : Type 0} (goes_on : List TokenParts → Bool) (f : S → Reading S) (s : S) (n : ℕ) (ts : List TokenParts) → goes_on ts ≡ false → taken_on goes_on f n s ts ≡ Ok (s, ts)
+unfolding taken_on
+stops goes_on f s zero ts off = refl
+stops goes_on f s (suc n) ts off = rw off refl
 
 pub step_next : {S : Type 0} (goes_on : List TokenParts → Bool) (f : S → Reading S) (s : S) (count i : ℕ) (ts : List TokenParts) (t : S) (rest : List TokenParts) → i < count → goes_on ts ≡ true → f s ts ≡ Ok (t, rest)
     → taken_on goes_on f (count - i) s ts ≡ taken_on goes_on f (count - (i + 1)) t rest
@@ -17,11 +22,6 @@ unfolding taken_on
 step_fault goes_on f s count i ts e lt on h =
     let k : count - i ≡ suc (count - (i + 1)) = omega arith in
     rw (k, on, h) refl
-
-stops : {S : Type 0} (goes_on : List TokenParts → Bool) (f : S → Reading S) (s : S) (n : ℕ) (ts : List TokenParts) → goes_on ts ≡ false → taken_on goes_on f n s ts ≡ Ok (s, ts)
-unfolding taken_on
-stops goes_on f s zero ts off = refl
-stops goes_on f s (suc n) ts off = rw off refl
 
 pub step_stop : {S : Type 0} (goes_on : List TokenParts → Bool) (f : S → Reading S) (s : S) (count i : ℕ) (ts : List TokenParts) → goes_on ts ≡ false → taken_on goes_on f (count - i) s ts ≡ Ok (s, ts)
 step_stop goes_on f s count i ts off = stops goes_on f s (count - i) ts off

@@ -1,17 +1,17 @@
 -- The class that a text's lines spell is the one that the text denotes.
-use Rattle.std.proofs.Common.{◌≡◌, ℕ, zero, suc, ◌+◌, ◌<◌, ◌==◌, Bool, true, false, List, [], ◌∷◌, ◌++◌, length, Option, Some, None, Ok, refl, sym}
+use Rattle.std.proofs.Common.{◌≡◌, ℕ, zero, suc, ◌+◌, ◌<◌, ◌==◌, Bool, true, false, List, [], ◌∷◌, ◌++◌, length, None, Ok, refl, sym}
 use Rattle.std.proofs.Common.{◌∙◌, arith, subst, eqb-true}
 use Rattle.std.specs.Prelude.{if◌then◌else◌}
 use Rattle.std.proofs.Math.Dec.{eqb-zero-suc}
 use Rattle.jm_bytes.specs.Laws.{same_Ok}
 use Rattle.jm_program.specs.declared.class.ClassParts.{ClassParts}
-use Rattle.jm_jasmin_lex.specs.Token.{TokenParts, LexedParts}
+use Rattle.jm_jasmin_lex.specs.Token.{TokenParts}
 use Rattle.jm_jasmin_lex.specs.Signs.{signs}
-use Rattle.jm_jasmin_lex.specs.Tokens.{lexed_of, all_or_bad, tokens_of}
+use Rattle.jm_jasmin_lex.specs.Tokens.{lexed_of, tokens_of}
 use Rattle.jm_jasmin_lex.specs.Grammar.{Lie}
 use Rattle.jm_jasmin_lex.specs.Grammar.Lie.{nothing as no_sign, blank, line_end, semicolon, in_comment, token}
 use Rattle.jm_jasmin_lex.specs.declared.place.Sign.{Sign}
-use Rattle.jm_jasmin_lex.proofs.TokensLie.{tokens_lie}
+use Rattle.jm_jasmin_lex.proofs.TokensLie.{tokens_lie, all_read}
 use Rattle.jm_jasmin_ops.specs.declared.fault.AsmFault.{AsmFault}
 use Rattle.jm_jasmin.specs.Text.{end_of_text, with_end, class_of, read_lexed, denoted}
 use Rattle.jm_jasmin.specs.WordForms.{Line, word_of, joined, lines_said}
@@ -71,15 +71,6 @@ tokens_say (t ∷ []) h = alone_says t [] (end_of_text ∷ []) h.0 nothing
 tokens_say (t ∷ u ∷ us) h = front_says t u (us ++ end_of_text ∷ []) (lines_said (u ∷ us)) (u.line == t.line) refl h.0 (tokens_say (u ∷ us) h.1)
 
 -- ---- a text
-
-all_by : (tokens ts : List TokenParts) (bad : Option ℕ) → all_or_bad (record { tokens = tokens; bad_line = bad }) ≡ Ok ts → (bad ≡ None) × (tokens ≡ ts)
-unfolding all_or_bad
-all_by tokens ts None h = (refl, cc)
-all_by tokens ts (Some number) h = absurd cc
-
-all_read : (l : LexedParts) (ts : List TokenParts) → all_or_bad l ≡ Ok ts → (l.bad_line ≡ None) × (l.tokens ≡ ts)
-unfolding all_or_bad
-all_read l ts h = all_by l.tokens ts l.bad_line h
 
 whole_read : (ts : List TokenParts) (c : ClassParts) → class_of (ts ++ end_of_text ∷ []) ≡ Ok c → read_lexed ts None ≡ Ok c
 unfolding with_end

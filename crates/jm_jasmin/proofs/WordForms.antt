@@ -16,6 +16,7 @@ use Rattle.jm_jasmin.specs.Text.{end_of_text}
 use Rattle.jm_jasmin.specs.WordForms.{Word, Line}
 use Rattle.jm_jasmin.specs.Each.{EachOf}
 use Rattle.jm_jasmin.specs.Each.EachOf.{none, more}
+use Rattle.jm_jasmin.proofs.Steps.{more_next, stops}
 
 -- ---- where the words stand
 
@@ -112,24 +113,11 @@ pub optional_absent : {A : Type 0} (directive : List ℕ) (f : List TokenParts �
 unfolding optional
 optional_absent directive f lines us says off = rw (begins_says directive lines us says ∙ off) refl
 
--- ---- lines that are taken on
-
-pub stops : {S : Type 0} (goes_on : List TokenParts → Bool) (f : S → Reading S) (s : S) (n : ℕ) (us : List TokenParts) → goes_on us ≡ false
-    → taken_on goes_on f n s us ≡ Ok (s, us)
-unfolding taken_on
-stops goes_on f s zero us off = refl
-stops goes_on f s (suc n) us off = rw off refl
-
 pub goes_on_with : {S : Type 0} (goes_on : List TokenParts → Bool) (f : S → Reading S) (s t : S) (n : ℕ) (us rest : List TokenParts) → goes_on us ≡ true
     → f s us ≡ Ok (t, rest)
     → taken_on goes_on f (suc n) s us ≡ taken_on goes_on f n t rest
 unfolding taken_on
 goes_on_with goes_on f s t n us rest on h = rw (on, h) refl
-
-with_one : {A : Type 0} (read : Reading A) (xs : List A) (us : List TokenParts) (x : A) (rest : List TokenParts) → read us ≡ Ok (x, rest)
-    → one_more read xs us ≡ Ok (xs ++ x ∷ [], rest)
-unfolding one_more
-with_one read xs us x rest h = rw h refl
 
 module _ {A : Type 0} (P : List Line → A → Type 0) (directive : List ℕ) (read : Reading A)
     (opening : (ls behind : List Line) (x : A) → P ls x → opens directive (ls ++ behind) ≡ true)
@@ -148,7 +136,7 @@ module _ {A : Type 0} (P : List Line → A → Type 0) (directive : List ℕ) (r
       let i = each_read others ys q behind off n g.0 (xs ++ x ∷ []) (omega (arith, g.3)) g.2 in
       let on : begins directive us ≡ true = begins_says directive (ls ++ (others ++ behind)) us here ∙ opening ls (others ++ behind) x p in (
         i.0,
-        goes_on_with (begins directive) (one_more read) xs (xs ++ x ∷ []) n us g.0 on (with_one read xs us x g.0 g.1) ∙ i.1 ∙ ap
+        goes_on_with (begins directive) (one_more read) xs (xs ++ x ∷ []) n us g.0 on (more_next read xs us x g.0 g.1) ∙ i.1 ∙ ap
             (λ (l : List A). Ok (l, i.0)) (append_assoc xs (x ∷ []) ys),
         i.2,
       )

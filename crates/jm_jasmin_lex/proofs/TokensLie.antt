@@ -227,12 +227,12 @@ unfolding signs
 good_signs text [] at line place = good_line_end text place at line [] (good_end text (at + 1) (line + 1))
 good_signs text (b ∷ bytes) at line place = good_sign text (sign_of b bytes) (signs bytes) at line (λ next after. good_signs text bytes (at + 1) after next) place
 
-all_by : (tokens ts : List TokenParts) (bad : Option ℕ) → all_or_bad (record { tokens = tokens; bad_line = bad }) ≡ Ok ts → (bad ≡ None) × (tokens ≡ ts)
+pub all_by : (tokens ts : List TokenParts) (bad : Option ℕ) → all_or_bad (record { tokens = tokens; bad_line = bad }) ≡ Ok ts → (bad ≡ None) × (tokens ≡ ts)
 unfolding all_or_bad
 all_by tokens ts None h = (refl, cc)
 all_by tokens ts (Some line) h = absurd (cc)
 
-all_read : (l : LexedParts) (ts : List TokenParts) → all_or_bad l ≡ Ok ts → (l.bad_line ≡ None) × (l.tokens ≡ ts)
+pub all_read : (l : LexedParts) (ts : List TokenParts) → all_or_bad l ≡ Ok ts → (l.bad_line ≡ None) × (l.tokens ≡ ts)
 unfolding all_or_bad
 all_read l ts h = all_by l.tokens ts l.bad_line h
 

@@ -3,13 +3,13 @@ use Rattle.std.proofs.Common.{◌≡◌, ℕ, ◌+◌, Bool, true, false, ◌&&�
 use Rattle.std.specs.Option.{ok_or}
 use Rattle.jm_class_format.specs.Instructions.{natural}
 use Rattle.std.specs.Prelude.{if◌then◌else◌, take, drop, position}
+use Rattle.std.proofs.lemmas.Bool.{and_from}
 use Rattle.jm_bytes.specs.Reading.{and_then, fault_as}
 use Rattle.jm_bytes.specs.Laws.{and_then_ok, same_Ok, fault_as_ok}
 use Rattle.jm_program.specs.Names.{is_class_name, is_unqualified}
 use Rattle.jm_program.specs.Descriptors.{argument_slots}
 use Rattle.jm_program.specs.References.{type_fits, class_ref_fits, field_ref_fits, method_ref_fits}
 use Rattle.jm_program.specs.Instructions.{has_dimensions, type_op_fits, instr_fits}
-use Rattle.jm_program.proofs.DescriptorLaws.{and_true, both_true}
 use Rattle.jm_program.specs.declared.descriptor.FieldType.{FieldType}
 use Rattle.jm_program.specs.declared.reference.ClassRef.{ClassRef}
 use Rattle.jm_program.specs.declared.reference.FieldRef.{FieldRef}
@@ -22,6 +22,7 @@ use Rattle.jm_program.specs.declared.instruction.operation.TypeOp.TheVariants as
 use Rattle.jm_program.specs.declared.instruction.plain.Plain.TheVariants as plain
 use Rattle.jm_program.specs.declared.instruction.symbolic.Instr.{Instr}
 use Rattle.jm_program.specs.declared.instruction.symbolic.Instr.TheVariants as instr
+use Rattle.jm_program.proofs.Truths.{both_true}
 use Rattle.jm_class_format.specs.declared.opcode.Opcode.{Opcode}
 use Rattle.jm_class_format.specs.declared.opcode.Opcode.TheVariants as opcode
 use Rattle.jm_class_format.specs.declared.read_fault.ReadFault.{ReadFault}
@@ -110,8 +111,8 @@ field_kept named t f fits h =
     let a = and_then_ok (symbol field_type_of t) make f h in
     let b = symbol_is field_type_of t a.0 a.1 in
     let made : FieldRef = record { class = named.0; name = named.1; descriptor = a.0 } in
-    let names = and_true (class_ref_fits named.0) (is_unqualified named.1) fits.0 fits.1 in
-    let all = and_true (class_ref_fits named.0 && is_unqualified named.1) (type_fits a.0) names (field_type_kept b.0 a.0 b.1).0 in
+    let names = and_from (class_ref_fits named.0) (is_unqualified named.1) fits.0 fits.1 in
+    let all = and_from (class_ref_fits named.0 && is_unqualified named.1) (type_fits a.0) names (field_type_kept b.0 a.0 b.1).0 in
     subst (λ (x : FieldRef). field_ref_fits x ≡ true) (same_Ok {F = AsmFault} made f a.2) all
 
 method_at_kept : (line : ℕ) (op : InvokeOp) (us : List ℕ) (at : Option ℕ) (m : MethodRef) → method_at line op us at ≡ Ok m → method_ref_fits op m ≡ true
@@ -194,7 +195,7 @@ named_fits count line opcode.NewArrays words i h =
     let q = two_is line (class_ref (type.NewArrays 1)) arrays words i h in
     let p = made (dimensions q.1 q.2) (λ d. instr.Type (type.NewArrays d) q.1) i q.4 in
     let class = (both_true (class_ref_fits q.1) (has_dimensions q.1 1) (type_kept (type.NewArrays 1) q.0 q.1 q.3)).0 in
-    fits_as count _ i p.2 (and_true (class_ref_fits q.1) (has_dimensions q.1 p.0) class (dimensions_kept q.1 q.2 p.0 p.1))
+    fits_as count _ i p.2 (and_from (class_ref_fits q.1) (has_dimensions q.1 p.0) class (dimensions_kept q.1 q.2 p.0 p.1))
 named_fits count line (opcode.LeftOut op) words i h = absurd cc
 named_fits count line (opcode.Branch op) words i h = absurd cc
 named_fits count line (opcode.BranchWide op) words i h = absurd cc

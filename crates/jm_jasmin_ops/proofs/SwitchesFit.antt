@@ -3,9 +3,10 @@ use Rattle.std.proofs.Common.{◌≡◌, ℕ, suc, ◌+◌, ◌-◌, Bool, true,
 use Rattle.std.specs.Prelude.{ℤ, pos, negsuc, ◌+ℤ◌, int_le, int_lt, if◌then◌else◌, slice_get}
 use Rattle.std.specs.Option.{option_map}
 use Rattle.std.proofs.lemmas.Int.{ints}
+use Rattle.std.proofs.lemmas.Bool.{and_from}
 use Rattle.jm_bytes.specs.Laws.{and_then_ok, same_Ok}
 use Rattle.jm_program.specs.Instructions.{is_above}
-use Rattle.jm_program.proofs.DescriptorLaws.{and_true, both_true}
+use Rattle.jm_program.proofs.Truths.{both_true}
 use Rattle.jm_jasmin_lex.specs.Token.{TokenParts}
 use Rattle.jm_jasmin_ops.specs.Label.{LabelParts}
 use Rattle.jm_jasmin_ops.specs.Operands.{integer, within, ranged, signed_int}
@@ -61,7 +62,7 @@ some_by true low targets l t is fits h = absurd cc
 some_by false low targets l t is fits h =
     let made : LabelledTable = record { low = low; targets = targets; default = l } in
     let some : nat_lt 0 (length targets) ≡ true = grind (arith) in
-    subst (λ (x : LabelledTable). table_fits x ≡ true) (same_Ok {F = AsmFault} made t h) (and_true (nat_lt 0 (length targets)) (int_le (low +ℤ pos (length targets)) (pos 2147483648)) some fits)
+    subst (λ (x : LabelledTable). table_fits x ≡ true) (same_Ok {F = AsmFault} made t h) (and_from (nat_lt 0 (length targets)) (int_le (low +ℤ pos (length targets)) (pos 2147483648)) some fits)
 
 abbrev StepFits : ℤ → TableStep → Type 0
 StepFits low (table.More more) = Within low (length more)
@@ -113,10 +114,10 @@ last_of [] = refl
 last_of (p ∷ ps) = last_is p ps
 
 rise_more : (previous : Option ℤ) (ps : List LabelledPair) (p : LabelledPair) → pairs_rise previous ps ≡ true → is_above (last_or previous ps) p.key ≡ true → pairs_rise previous (ps ++ p ∷ []) ≡ true
-rise_more previous [] p rise above = and_true (is_above previous p.key) true above refl
+rise_more previous [] p rise above = and_from (is_above previous p.key) true above refl
 rise_more previous (q ∷ qs) p rise above =
     let a = both_true (is_above previous q.key) (pairs_rise (Some q.key) qs) rise in
-    and_true (is_above previous q.key) (pairs_rise (Some q.key) (qs ++ p ∷ [])) a.0 (rise_more (Some q.key) qs p a.1 above)
+    and_from (is_above previous q.key) (pairs_rise (Some q.key) (qs ++ p ∷ [])) a.0 (rise_more (Some q.key) qs p a.1 above)
 
 pair_by : (b : Bool) (ps more : List LabelledPair) (n : ℤ) (l : LabelParts) → is_above (last_key ps) n ≡ b → pairs_rise None ps ≡ true
     → ◌≡◌ {A = Result (List LabelledPair) AsmFault} (if b then Ok (ps ++ (record { key = n; target = l }) ∷ []) else Err (fault.BadCount l.line)) (Ok more) → pairs_rise None more ≡ true

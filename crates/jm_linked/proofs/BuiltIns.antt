@@ -5,25 +5,11 @@ use Rattle.std.specs.List.{AllByRecursion}
 use Rattle.std.specs.Cmp.Lexicographic as texts
 use Rattle.jm_program.specs.Names.{same_text}
 use Rattle.jm_program.specs.declared.class.ClassParts.{ClassParts}
+use Rattle.jm_program.proofs.Truths.{right_false as neither}
 use Rattle.jm_builtins.specs.List.{the_builtins}
 use Rattle.jm_world.specs.Classes.{built_in_named, class_among, class_named}
-use Rattle.jm_world.specs.Loads.{Refusal, Loads, refusal, duplicates, is_named_among, or_else, when}
-
-first_none : (a b : Option Refusal) → or_else a b ≡ None → a ≡ None
-first_none None b e = refl
-first_none (Some r) b e = cc
-
-second_none : (a b : Option Refusal) → or_else a b ≡ None → b ≡ None
-second_none None b e = e
-second_none (Some r) b e = cc
-
-not_so : (b : Bool) (r : Refusal) → when b r ≡ None → b ≡ false
-not_so true r e = cc
-not_so false r e = refl
-
-neither : (a b : Bool) → (a || b) ≡ false → b ≡ false
-neither true b e = cc
-neither false b e = e
+use Rattle.jm_world.specs.Loads.{Loads, refusal, duplicates, is_named_among}
+use Rattle.jm_world.proofs.Refusing.{not_refused, first_none, second_none}
 
 not_built_in : (seen : List ClassParts) (name : List ℕ) → is_named_among seen name ≡ false → is_some (built_in_named the_builtins name) ≡ false
 not_built_in [] name e = e
@@ -31,7 +17,7 @@ not_built_in (c ∷ cs) name e = not_built_in cs name (neither (same_text c.name
 
 no_built_ins : (seen cs : List ClassParts) → duplicates seen cs ≡ None → AllByRecursion (λ c. is_some (built_in_named the_builtins c.name) ≡ false) cs
 no_built_ins seen [] e = tt
-no_built_ins seen (c ∷ cs) e = (not_built_in seen c.name (not_so _ _ (first_none _ _ e)), no_built_ins (c ∷ seen) cs (second_none _ _ e))
+no_built_ins seen (c ∷ cs) e = (not_built_in seen c.name (not_refused _ _ (first_none _ _ e)), no_built_ins (c ∷ seen) cs (second_none _ _ e))
 
 -- no class of the program has the name
 abbrev pub AreOthers : List ℕ → List ClassParts → Type 0

@@ -1,35 +1,23 @@
 -- The classes of a linked program.
 use Rattle.std.proofs.Common.{◌≡◌, ℕ, zero, suc, List, [], ◌∷◌, Option, Some, None, Bool, true, false, refl, ap, ◌∙◌, subst}
-use Rattle.std.specs.Prelude.{slice_get, slice_set, ◌||◌}
+use Rattle.std.specs.Prelude.{slice_get, slice_set, ◌||◌, unwrap_or}
 use Rattle.std.specs.Cmp.Lexicographic as texts
 use Rattle.jm_program.specs.Names.{same_text}
 use Rattle.jm_program.specs.declared.class.ClassParts.{ClassParts}
+use Rattle.jm_program.proofs.Texts.{text_itself}
+use Rattle.jm_program.proofs.Truths.{right_false}
 use Rattle.jm_world.specs.Classes.{class_among, class_named}
-use Rattle.jm_world.specs.Loads.{Loads, Refusal, refusal, duplicates, is_named_among, or_else, when, duplicate_class}
+use Rattle.jm_world.specs.Loads.{Loads, refusal, duplicates, is_named_among, when, duplicate_class}
 use Rattle.jm_world.specs.World.{Progress, state_in, set_state_in}
 use Rattle.jm_world.specs.declared.class_state.ClassState.{ClassState}
+use Rattle.jm_world.proofs.Refusing.{not_refused, first_none, second_none}
+use Rattle.jm_linked.specs.Links.{NamesClass, class_name_of}
 use Rattle.jm_linked.specs.Named.{named_states}
 use Rattle.jm_linked.proofs.BuiltIns.{AreOthers}
-
-pub first_none : (a b : Option Refusal) → or_else a b ≡ None → a ≡ None
-first_none None b e = refl
-first_none (Some r) b e = cc
-
-pub second_none : (a b : Option Refusal) → or_else a b ≡ None → b ≡ None
-second_none None b e = e
-second_none (Some r) b e = cc
-
-pub not_so : (b : Bool) (r : Refusal) → when b r ≡ None → b ≡ false
-not_so true r e = cc
-not_so false r e = refl
 
 pub left_false : (a b : Bool) → (a || b) ≡ false → a ≡ false
 left_false true b e = cc
 left_false false b e = refl
-
-pub right_false : (a b : Bool) → (a || b) ≡ false → b ≡ false
-right_false true b e = cc
-right_false false b e = e
 
 others_of : (name : List ℕ) (seen : List ClassParts) → is_named_among seen name ≡ false → AreOthers name seen
 others_of name [] e = tt
@@ -45,16 +33,13 @@ fresh seen [] k d e at = cc
 fresh seen (c ∷ cs) zero d e at =
     let s : c ≡ d = cc in
     subst (λ (x : ClassParts). AreOthers x.name seen) s
-    (others_of c.name seen (not_so (is_named_among seen c.name) (duplicate_class c.name)
+    (others_of c.name seen (not_refused (is_named_among seen c.name) (duplicate_class c.name)
     (first_none (when (is_named_among seen c.name) (duplicate_class c.name)) (duplicates (c ∷ seen) cs) e)))
 fresh seen (c ∷ cs) (suc k) d e at = (fresh (c ∷ seen) cs k d
     (second_none (when (is_named_among seen c.name) (duplicate_class c.name)) (duplicates (c ∷ seen) cs) e) at).1
 
 after : (seen : List ClassParts) (c : ClassParts) (cs : List ClassParts) → duplicates seen (c ∷ cs) ≡ None → duplicates (c ∷ seen) cs ≡ None
 after seen c cs e = second_none (when (is_named_among seen c.name) (duplicate_class c.name)) (duplicates (c ∷ seen) cs) e
-
-pub same_self : (x : List ℕ) → same_text x x ≡ true
-same_self x = (texts.bytes_decides x x).1 refl
 
 -- the state of the class of a number
 state_found : (seen cs : List ClassParts) (ss : List ClassState) (k : ℕ) (d : ClassParts) (s : ClassState) → duplicates seen cs ≡ None → slice_get cs k ≡
@@ -65,7 +50,7 @@ state_found seen (c ∷ cs) (t ∷ ss) zero d s e at there =
     let x : c ≡ d = cc in
     let y : t ≡ s = cc in
     ap (λ (z : ClassParts). elim (same_text z.name d.name) as (λ _. ClassState) [ true ↦ t | false ↦ state_in (named_states cs ss) d.name ]) x
-    ∙ ap (λ b. elim b as (λ _. ClassState) [ true ↦ t | false ↦ state_in (named_states cs ss) d.name ]) (same_self d.name)
+    ∙ ap (λ b. elim b as (λ _. ClassState) [ true ↦ t | false ↦ state_in (named_states cs ss) d.name ]) (text_itself d.name)
     ∙ y
 state_found seen (c ∷ cs) (t ∷ ss) (suc k) d s e at there =
     ap (λ b. elim b as (λ _. ClassState) [ true ↦ t | false ↦ state_in (named_states cs ss) d.name ]) (fresh (c ∷ seen) cs k d (after seen c cs e) at).0
@@ -81,7 +66,7 @@ state_set seen (c ∷ cs) (t ∷ ss) zero d s e at =
     let both : List Progress = record { class = c.name; state = s } ∷ rest in
     ap (λ (z : ClassParts). elim (same_text z.name d.name) as (λ _. List Progress)
     [ true ↦ both | false ↦ record { class = c.name; state = t } ∷ set_state_in rest d.name s ]) x
-    ∙ ap (λ b. elim b as (λ _. List Progress) [ true ↦ both | false ↦ record { class = c.name; state = t } ∷ set_state_in rest d.name s ]) (same_self d.name)
+    ∙ ap (λ b. elim b as (λ _. List Progress) [ true ↦ both | false ↦ record { class = c.name; state = t } ∷ set_state_in rest d.name s ]) (text_itself d.name)
 state_set seen (c ∷ cs) (t ∷ ss) (suc k) d s e at =
     let rest = named_states cs ss in
     ap (λ b. elim b as (λ _. List Progress) [
@@ -96,7 +81,7 @@ class_found seen [] k d e at = cc
 class_found seen (c ∷ cs) zero d e at =
     let x : c ≡ d = cc in
     ap (λ (z : ClassParts). elim (same_text z.name d.name) as (λ _. Option ClassParts) [ true ↦ Some z | false ↦ class_among cs d.name ]) x
-    ∙ ap (λ b. elim b as (λ _. Option ClassParts) [ true ↦ Some d | false ↦ class_among cs d.name ]) (same_self d.name)
+    ∙ ap (λ b. elim b as (λ _. Option ClassParts) [ true ↦ Some d | false ↦ class_among cs d.name ]) (text_itself d.name)
 class_found seen (c ∷ cs) (suc k) d e at =
     ap (λ b. elim b as (λ _. Option ClassParts) [ true ↦ Some c | false ↦ class_among cs d.name ]) (fresh (c ∷ seen) cs k d (after seen c cs e) at).0
     ∙ class_found (c ∷ seen) cs k d (after seen c cs e) at
@@ -116,3 +101,8 @@ states_set program loads ss k d s at = state_set [] program ss k d s (distinct p
 pub class_is : (program : List ClassParts) → Loads program → (k : ℕ) (d : ClassParts) → slice_get program k ≡ Some d → class_named program d.name ≡ Some d
 unfolding class_named
 class_is program loads k d at = class_found [] program k d (distinct program loads) at
+
+-- the name of a class by its number
+pub class_name_is : (program : List ClassParts) (n : ℕ) (name : List ℕ) → NamesClass program n name → class_name_of program n ≡ name
+unfolding class_name_of
+class_name_is program n name named = ap (λ o. unwrap_or o []) named

@@ -4,6 +4,7 @@ use Rattle.std.proofs.Common.{Option, Some, None, length, take, ◌⊎◌, inl, 
 use Rattle.std.proofs.lemmas.Option.{slice_get-map}
 use Rattle.std.specs.Prelude.{is_some, map, option_map, slice_get, slice_index_or}
 use Rattle.std.specs.List.{list_all}
+use Rattle.std.proofs.lemmas.List.{append_assoc}
 use Rattle.jm_program.specs.declared.class.ClassParts.{ClassParts}
 use Rattle.jm_program.specs.declared.class.Method.{Method}
 use Rattle.jm_program.specs.declared.code.Code.{Code}
@@ -20,10 +21,6 @@ use Rattle.jm_linked.specs.Tables.{all_names}
 use Rattle.jm_linked.specs.declared.method.LinkedMethod.{LinkedMethod}
 use Rattle.jm_linked.specs.declared.method.Selected.{Selected}
 use Rattle.jm_linked.specs.declared.method.Selected.TheVariants.{Nothing, WithoutCode, Coded}
-
-append_assoc : {A : Type 0} (xs ys zs : List A) → (xs ++ ys) ++ zs ≡ xs ++ (ys ++ zs)
-append_assoc [] ys zs = refl
-append_assoc (x ∷ xs) ys zs = ap (λ l. x ∷ l) (append_assoc xs ys zs)
 
 -- the methods of classes, one after the other
 pub methods_both : (xs ys : List ClassParts) → methods_in (xs ++ ys) ≡ methods_in xs ++ methods_in ys

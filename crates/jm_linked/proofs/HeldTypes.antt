@@ -16,7 +16,7 @@ use Rattle.jm_linked.specs.Links.{LinkedView, IsLinked, NamesClass, class_names}
 use Rattle.jm_linked.specs.Tables.{all_names}
 use Rattle.jm_linked.proofs.Names.{are_names}
 
-at_is : (xs : List (List ℕ)) (n : ℕ) (x : List ℕ) → slice_get xs n ≡ Some x → (slice_index_or xs n [] ≡ x) × (n < length xs)
+pub at_is : (xs : List (List ℕ)) (n : ℕ) (x : List ℕ) → slice_get xs n ≡ Some x → (slice_index_or xs n [] ≡ x) × (n < length xs)
 at_is [] n x e = cc
 at_is (y ∷ ys) zero x e = let same : y ≡ x = cc in (same, omega arith)
 at_is (y ∷ ys) (suc n) x e = let rest = at_is ys n x e in let within = rest.1 in (rest.0, omega (arith, within))

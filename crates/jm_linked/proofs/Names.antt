@@ -6,16 +6,20 @@ use Rattle.std.specs.List.{AllByRecursion}
 use Rattle.std.specs.Cmp.Lexicographic as texts
 use Rattle.jm_program.specs.Names.{same_text}
 use Rattle.jm_program.specs.declared.class.ClassParts.{ClassParts}
+use Rattle.jm_program.proofs.Texts.{text_itself}
+use Rattle.jm_program.proofs.Truths.{both_true as both, not_true, right_false}
+use Rattle.jm_program.proofs.Numbers.{found_unequal as unlike}
 use Rattle.jm_builtins.specs.List.{the_builtins}
 use Rattle.jm_builtins.specs.Numbers.{built_in_names}
 use Rattle.jm_builtins.specs.declared.built_in.BuiltIn.{BuiltIn}
 use Rattle.jm_world.specs.Classes.{as_class, built_in_named, class_named}
 use Rattle.jm_world.specs.Loads.{Loads, duplicates, duplicate_class, is_named_among, when}
+use Rattle.jm_world.proofs.Refusing.{not_refused, first_none, second_none}
 use Rattle.jm_tables.specs.Numbering.{AreNames, name_of}
 use Rattle.jm_linked.specs.Links.{class_numbered}
 use Rattle.jm_linked.specs.Tables.{all_names}
 use Rattle.jm_linked.proofs.BuiltIns.{built_in_class}
-use Rattle.jm_linked.proofs.Classes.{class_is, distinct, first_none, second_none, not_so, left_false, right_false, same_self}
+use Rattle.jm_linked.proofs.Classes.{class_is, distinct, left_false}
 
 -- a text is none of those
 abbrev Others : List ℕ → List (List ℕ) → Type 0
@@ -33,14 +37,6 @@ is_other x (y ∷ ys) = not (same_text x y) && is_other x ys
 are_apart : List (List ℕ) → Bool
 are_apart [] = true
 are_apart (x ∷ xs) = is_other x xs && are_apart xs
-
-both : (a b : Bool) → (a && b) ≡ true → (a ≡ true) × (b ≡ true)
-both true b e = (refl, e)
-both false b e = cc
-
-not_true : (b : Bool) → not b ≡ true → b ≡ false
-not_true true e = cc
-not_true false e = refl
 
 others_are : (x : List ℕ) (xs : List (List ℕ)) → is_other x xs ≡ true → Others x xs
 unfolding is_other
@@ -63,20 +59,13 @@ other_way x y e = by (same_text y x) refl
     by false t = t
     by true t =
         let is : y ≡ x = texts.same_text y x (sym t) in
-        let bad : true ≡ false = sym (same_self x) ∙ ap (same_text x) (sym is) ∙ e in
+        let bad : true ≡ false = sym (text_itself x) ∙ ap (same_text x) (sym is) ∙ e in
         cc
 
 none_at : (x : List ℕ) (xs : List (List ℕ)) (n : ℕ) → Others x xs → n < length xs → same_text x (slice_index_or xs n []) ≡ false
 none_at x [] n o l = absurd (omega arith)
 none_at x (y ∷ ys) zero o l = o.0
 none_at x (y ∷ ys) (suc n) o l = none_at x ys n o.1 (omega arith)
-
-unlike : (a b : ℕ) → (a ≡ b → ⊥) → nat_eq a b ≡ false
-unlike a b h = by (nat_eq a b) refl
-  where
-    by : (t : Bool) → nat_eq a b ≡ t → nat_eq a b ≡ false
-    by false is = is
-    by true is = absurd (h (eqb-true a b is))
 
 eq_suc : (a b : ℕ) → nat_eq a b ≡ nat_eq (suc a) (suc b)
 eq_suc a b = by (nat_eq a b) refl
@@ -88,7 +77,7 @@ eq_suc a b = by (nat_eq a b) refl
 apart_at : (xs : List (List ℕ)) (a b : ℕ) → Apart xs → a < length xs → b < length xs → same_text (slice_index_or xs a []) (slice_index_or xs b []) ≡ nat_eq
     a b
 apart_at [] a b o l m = absurd (omega arith)
-apart_at (x ∷ xs) zero zero o l m = same_self x ∙ sym (eq-eqb 0 0 refl)
+apart_at (x ∷ xs) zero zero o l m = text_itself x ∙ sym (eq-eqb 0 0 refl)
 apart_at (x ∷ xs) zero (suc b) o l m = none_at x xs b o.0 (omega arith) ∙ sym (unlike 0 (suc b) (λ same. omega (arith, same)))
 apart_at (x ∷ xs) (suc a) zero o l m = other_way x (slice_index_or xs a []) (none_at x xs a o.0 (omega arith)) ∙ sym
     (unlike (suc a) 0 (λ same. omega (arith, same)))
@@ -107,7 +96,7 @@ after_one : (x : List ℕ) (seen cs : List ClassParts) → ((name : List ℕ) �
     → duplicates seen cs ≡ None → Others x (map (λ c. c.name) cs)
 after_one x seen [] h e = tt
 after_one x seen (c ∷ cs) h e =
-    let first = not_so (is_named_among seen c.name) (duplicate_class c.name)
+    let first = not_refused (is_named_among seen c.name) (duplicate_class c.name)
     (first_none (when (is_named_among seen c.name) (duplicate_class c.name)) (duplicates (c ∷ seen) cs) e) in
     let rest = second_none (when (is_named_among seen c.name) (duplicate_class c.name)) (duplicates (c ∷ seen) cs) e in
     (h c.name first, after_one x (c ∷ seen) cs (λ name g. h name (right_false (same_text c.name name) (is_named_among seen name) g)) rest)
@@ -170,7 +159,7 @@ built_in_at [] n b o at = cc
 built_in_at (d ∷ bs) zero b o at =
     let same : d ≡ b = cc in
     ap (λ (x : BuiltIn). elim (same_text x.name b.name) as (λ _. Option ClassParts) [ true ↦ Some (as_class x) | false ↦ built_in_named bs b.name ]) same
-    ∙ ap (λ t. elim t as (λ _. Option ClassParts) [ true ↦ Some (as_class b) | false ↦ built_in_named bs b.name ]) (same_self b.name)
+    ∙ ap (λ t. elim t as (λ _. Option ClassParts) [ true ↦ Some (as_class b) | false ↦ built_in_named bs b.name ]) (text_itself b.name)
 built_in_at (d ∷ bs) (suc n) b o at =
     ap (λ t. elim t as (λ _. Option ClassParts) [ true ↦ Some (as_class d) | false ↦ built_in_named bs b.name ]) (other_at d.name bs n b o.0 at)
     ∙ built_in_at bs n b o.1 at

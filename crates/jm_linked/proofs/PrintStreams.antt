@@ -15,22 +15,24 @@ use Rattle.jm_program.specs.declared.descriptor.FieldType.{FieldType}
 use Rattle.jm_program.specs.declared.descriptor.MethodDescriptor.{MethodDescriptor}
 use Rattle.jm_program.specs.declared.reference.ClassRef.TheVariants as named
 use Rattle.jm_program.specs.declared.reference.MethodRef.{MethodRef}
+use Rattle.jm_program.proofs.Truths.{right_true, left_true, not_true}
 use Rattle.jm_builtins.specs.declared.built_in.BuiltIn.{BuiltIn}
 use Rattle.jm_builtins.specs.List.{the_builtins, print_stream}
 use Rattle.jm_world.specs.Types.{same_type, same_types, same_result, same_element, same_method_type}
 use Rattle.jm_world.specs.Classes.{class_named, class_among, built_in_named, height, as_class, print_stream_class, string_class, system_class, object_class}
 use Rattle.jm_world.specs.Hierarchy.{chain, up_from, is_subclass, is_below, holds_of_any, parents}
 use Rattle.jm_world.specs.Resolution.{select, instance_along}
-use Rattle.jm_world.specs.Loads.{Refusal, Loads, refusal, or_else, when, first_of_all, wrong_kind, is_sealed, is_strange_interface}
+use Rattle.jm_world.specs.Loads.{Loads, refusal, first_of_all, wrong_kind, is_sealed, is_strange_interface}
 use Rattle.jm_world.specs.Loads.{superclass_of_kind, superclass_refusal, interface_of_kind, parents_refusal}
+use Rattle.jm_world.proofs.Refusing.{both_none, not_refused}
 use Rattle.jm_linked.specs.PrintStreams.{is_class_called, is_print, print_name, print_type, printed_type}
 use Rattle.jm_linked.specs.Links.{class_name_of}
 use Rattle.jm_linked.specs.declared.instruction.Printed.{Printed}
 use Rattle.jm_linked.specs.declared.instruction.Printed.TheVariants as printed
 use Rattle.jm_linked.specs.declared.instruction.PrintMethod.{PrintMethod}
 use Rattle.jm_linked.specs.declared.instruction.PrintMethod.TheVariants.{Print, Println, EndLine}
-use Rattle.std.proofs.lemmas.Bool.{eqb-true}
-use Rattle.jm_linked.proofs.SystemOut.{left_true, right_true, class_is}
+use Rattle.std.proofs.lemmas.Bool.{eqb-true, not_from_false, or_parts}
+use Rattle.jm_linked.proofs.SystemOut.{class_is, taller}
 use Rattle.jm_linked.proofs.BuiltIns.{AreOthers, others, built_in_class}
 
 -- the type of a print by its parts
@@ -98,7 +100,7 @@ none_is : (ts : List FieldType) → same_types ts [] ≡ true → ts ≡ []
 none_is [] h = refl
 none_is (t ∷ ts) h = cc
 
-void_is : (r : Option FieldType) → same_result r None ≡ true → r ≡ None
+pub void_is : (r : Option FieldType) → same_result r None ≡ true → r ≡ None
 void_is None h = refl
 void_is (Some t) h = cc
 
@@ -138,9 +140,6 @@ ref_is m p h =
 pub stream_is : (program : List ClassParts) → Loads program → class_named program print_stream_class ≡ Some (as_class print_stream)
 stream_is program loads = built_in_class program loads print_stream_class refl
 
-taller : (program : List ClassParts) → height program ≡ suc (length program + 28)
-taller program = omega arith
-
 -- its classes from it up
 chain_of : (n : ℕ) (program : List ClassParts) → Option ClassParts → List ClassParts
 chain_of n program o = elim o [ None ↦ [] | Some c ↦ elim c.superclass [ None ↦ c ∷ [] | Some s ↦ c ∷ up_from n program s ] ]
@@ -167,13 +166,6 @@ is_other name = not (same_text name print_stream_class)
 other_parents : List BuiltIn → Bool
 other_parents bs = list_all (λ b. list_all is_other (parents (Some (as_class b)))) bs
 
-not_true : (b : Bool) → not b ≡ true → b ≡ false
-not_true true e = cc
-not_true false e = refl
-
-not_false : (b : Bool) → b ≡ false → not b ≡ true
-not_false b e = ap not e
-
 built_in_parents : (bs : List BuiltIn) (name : List ℕ) → other_parents bs ≡ true → list_all is_other (parents (built_in_named bs name)) ≡ true
 unfolding other_parents
 built_in_parents [] name e = refl
@@ -195,19 +187,6 @@ all_append (x ∷ xs) ys e f =
     ap (λ b. b && list_all is_other (xs ++ ys)) (left_true (is_other x) (list_all is_other xs) e)
     ∙ all_append xs ys (right_true (is_other x) (list_all is_other xs) e) f
 
--- no class of a program that loads extends it, since it is sealed, or implements it, since it is no interface
-refused_none : (a b : Option Refusal) → or_else a b ≡ None → (a ≡ None) × (b ≡ None)
-refused_none None b e = (refl, e)
-refused_none (Some r) b e = cc
-
-not_when : (b : Bool) (r : Refusal) → when b r ≡ None → b ≡ false
-not_when true r e = cc
-not_when false r e = refl
-
-neither_so : (a b : Bool) → (a || b) ≡ false → (a ≡ false) × (b ≡ false)
-neither_so true b e = cc
-neither_so false b e = (refl, e)
-
 super_other : (program : List ClassParts) (c : ClassParts) (o : Option (List ℕ)) → superclass_refusal program c o ≡ None
     → list_all is_other (option_to_list o) ≡ true
 unfolding is_other
@@ -217,9 +196,9 @@ super_other program c (Some name) e = by (class_named program name) e
     by : (o : Option ClassParts) → superclass_of_kind c name o ≡ None → list_all is_other (option_to_list (Some name)) ≡ true
     by None g = cc
     by (Some above) g =
-        let left = (neither_so (is_interface above.flags || is_sealed name) (is_strange_interface c name) (not_when _ (wrong_kind name) g)).0 in
-        let sealed = (neither_so (is_interface above.flags) (is_sealed name) left).1 in
-        let other = (neither_so (same_text name string_class || same_text name system_class) (same_text name print_stream_class) sealed).1 in
+        let left = (or_parts (is_interface above.flags || is_sealed name) (is_strange_interface c name) (not_refused _ (wrong_kind name) g)).0 in
+        let sealed = (or_parts (is_interface above.flags) (is_sealed name) left).1 in
+        let other = (or_parts (same_text name string_class || same_text name system_class) (same_text name print_stream_class) sealed).1 in
         ap (λ b. not b && true) other
 
 interface_other : (program : List ClassParts) → Loads program → (name : List ℕ) → interface_of_kind name (class_named program name) ≡ None
@@ -239,21 +218,21 @@ interfaces_other : (program : List ClassParts) → Loads program → (names : Li
     → first_of_all (λ name. interface_of_kind name (class_named program name)) names ≡ None → list_all is_other names ≡ true
 interfaces_other program loads [] e = refl
 interfaces_other program loads (x ∷ xs) e =
-    let parts = refused_none (interface_of_kind x (class_named program x)) (first_of_all (λ name. interface_of_kind name (class_named program name)) xs) e in
+    let parts = both_none (interface_of_kind x (class_named program x)) (first_of_all (λ name. interface_of_kind name (class_named program name)) xs) e in
     ap (λ b. b && list_all is_other xs) (interface_other program loads x parts.0) ∙ interfaces_other program loads xs parts.1
 
 parents_other : (program : List ClassParts) → Loads program → (c : ClassParts) → parents_refusal program c ≡ None → list_all is_other (parents (Some c)) ≡
     true
 parents_other program loads c e =
     let parts =
-    refused_none (superclass_refusal program c c.superclass) (first_of_all (λ name. interface_of_kind name (class_named program name)) c.interfaces) e in
+    both_none (superclass_refusal program c c.superclass) (first_of_all (λ name. interface_of_kind name (class_named program name)) c.interfaces) e in
     all_append (option_to_list c.superclass) c.interfaces (super_other program c c.superclass parts.0) (interfaces_other program loads c.interfaces parts.1)
 
 class_parents : (program : List ClassParts) → Loads program → (cs : List ClassParts) (name : List ℕ) → first_of_all (parents_refusal program) cs ≡ None
     → list_all is_other (parents (class_among cs name)) ≡ true
 class_parents program loads [] name e = built_in_parents the_builtins name the_parents
 class_parents program loads (c ∷ cs) name e =
-    let parts = refused_none (parents_refusal program c) (first_of_all (parents_refusal program) cs) e in
+    let parts = both_none (parents_refusal program c) (first_of_all (parents_refusal program) cs) e in
     by (same_text c.name name) (parents_other program loads c parts.0) (class_parents program loads cs name parts.1)
   where
     by : (b : Bool) → list_all is_other (parents (Some c)) ≡ true → list_all is_other (parents (class_among cs name)) ≡ true
@@ -263,7 +242,7 @@ class_parents program loads (c ∷ cs) name e =
 
 no_parents_refused : (program : List ClassParts) → Loads program → first_of_all (parents_refusal program) program ≡ None
 unfolding refusal
-no_parents_refused program loads = (refused_none _ _ (refused_none _ _ (refused_none _ _ loads).1).1).0
+no_parents_refused program loads = (both_none _ _ (both_none _ _ (both_none _ _ loads).1).1).0
 
 none_holds : (test : List ℕ → Bool) → ((x : List ℕ) → same_text x print_stream_class ≡ false → test x ≡ false) → (xs : List (List ℕ)) → list_all is_other
     xs ≡ true → holds_of_any test xs ≡ false
@@ -296,7 +275,7 @@ no_stream program loads name e = not_below (height program) program loads name e
 others_are : (program : List ClassParts) → AreOthers print_stream_class program → list_all is_other (map (λ (c : ClassParts). c.name) program) ≡ true
 unfolding is_other
 others_are [] h = refl
-others_are (c ∷ cs) h = ap (λ b. b && list_all is_other (map (λ (d : ClassParts). d.name) cs)) (not_false (same_text c.name print_stream_class) h.0) ∙
+others_are (c ∷ cs) h = ap (λ b. b && list_all is_other (map (λ (d : ClassParts). d.name) cs)) (not_from_false (same_text c.name print_stream_class) h.0) ∙
     others_are cs h.1
 
 test_at : (xs : List (List ℕ)) (n : ℕ) → list_all is_other xs ≡ true → is_other (unwrap_or (slice_get xs n) []) ≡ true

@@ -1,5 +1,5 @@
 -- getstatic of System.out in the model.
-use Rattle.std.proofs.Common.{◌≡◌, ℕ, suc, ◌+◌, List, [], ◌∷◌, Option, Some, None, Bool, true, false, refl, sym, ap, ◌∙◌, length, arith}
+use Rattle.std.proofs.Common.{◌≡◌, ℕ, ◌+◌, List, [], ◌∷◌, Option, Some, None, true, false, refl, sym, ap, ◌∙◌, length, suc, arith}
 use Rattle.std.specs.Prelude.{codes, ◌&&◌, nat_eq}
 use Rattle.std.specs.Cmp.Lexicographic as texts
 use Rattle.std.proofs.lemmas.Bool.{eqb-true}
@@ -12,10 +12,11 @@ use Rattle.jm_program.specs.declared.instruction.operation.FieldOp.TheVariants.{
 use Rattle.jm_program.specs.declared.reference.ClassRef.{ClassRef}
 use Rattle.jm_program.specs.declared.reference.ClassRef.TheVariants as named
 use Rattle.jm_program.specs.declared.reference.FieldRef.{FieldRef}
+use Rattle.jm_program.proofs.Truths.{right_true, left_true}
 use Rattle.jm_builtins.specs.List.{system}
 use Rattle.jm_values.specs.declared.value.Value.{Value}
 use Rattle.jm_world.specs.Types.{class_type, same_type, same_element}
-use Rattle.jm_world.specs.Classes.{FoundField, class_named, field_in, height, as_class, system_class, print_stream_class}
+use Rattle.jm_world.specs.Classes.{FoundField, class_named, field_in, as_class, system_class, print_stream_class, height}
 use Rattle.jm_world.specs.Resolution.{resolve_field, field_from, nameable, first_found, interfaces_first}
 use Rattle.jm_world.specs.Fields.{name_of_field, row_field, get_static}
 use Rattle.jm_world.specs.Here.{Here, push, is_ready, when_initialized, push_frame, all_frames}
@@ -31,14 +32,6 @@ use Rattle.jm_values.specs.declared.fault.TagFault.TheVariants.{WrongKind}
 use Rattle.jm_linked.specs.PrintStreams.{is_class_called, is_system_out}
 use Rattle.jm_linked.specs.Named.{named_states}
 use Rattle.jm_linked.proofs.BuiltIns.{AreOthers, built_in_class}
-
-pub left_true : (a b : Bool) → (a && b) ≡ true → a ≡ true
-left_true true b e = refl
-left_true false b e = cc
-
-pub right_true : (a b : Bool) → (a && b) ≡ true → b ≡ true
-right_true true b e = e
-right_true false b e = cc
 
 -- a type that is a class's is that type
 element_is : (e : ElementType) (name : List ℕ) → same_element e (Class name) ≡ true → e ≡ Class name
@@ -82,7 +75,7 @@ field_of n program o = elim o [
   ]
 ]
 
-taller : (program : List ClassParts) → height program ≡ suc (length program + 28)
+pub taller : (program : List ClassParts) → height program ≡ suc (length program + 28)
 taller program = omega arith
 
 pub out_resolves : (program : List ClassParts) → Loads program → (found : FoundField) ×

@@ -5,6 +5,7 @@ use Rattle.std.specs.Cmp.Lexicographic as std_text
 use Rattle.std.proofs.lemmas.Cmp.{nat_list_eq_equiv}
 use Rattle.jm_program.specs.Names.{same_text}
 use Rattle.jm_program.specs.declared.class.ClassParts.{ClassParts}
+use Rattle.jm_program.proofs.Texts.{text_is}
 use Rattle.jm_builtins.specs.declared.built_in.BuiltIn.{BuiltIn}
 use Rattle.jm_builtins.specs.List.{the_builtins}
 use Rattle.jm_world.specs.Classes.{as_class, built_in_named, class_among, class_named, height}
@@ -39,9 +40,6 @@ among_has_name (k ∷ ks) name c e = by (among_has_name ks name c) (same_text k.
 pub has_name : (program : List ClassParts) (name : List ℕ) (c : ClassParts) → class_named program name ≡ Some c → same_text c.name name ≡ true
 unfolding class_named
 has_name program name c e = among_has_name program name c e
-
-pub text_is : (a b : List ℕ) → same_text a b ≡ true → a ≡ b
-text_is a b e = std_text.same_text a b (sym e)
 
 -- a class of the program is found by its name
 pub named_there : (cs : List ClassParts) (i : ℕ) (c : ClassParts) → i < length cs → c ≡ get_or cs i c → is_some (class_among cs c.name) ≡ true

@@ -1,6 +1,5 @@
 -- What is found, by numbers.
 use Rattle.std.proofs.Common.{◌≡◌, ℕ, zero, suc, List, [], Option, Some, None, refl, sym, ap, subst, ◌∙◌}
-use Rattle.std.specs.Prelude.{unwrap_or}
 use Rattle.jm_program.specs.declared.class.ClassParts.{ClassParts}
 use Rattle.jm_program.specs.declared.class.Field.{Field}
 use Rattle.jm_program.specs.declared.descriptor.FieldType.{FieldType}
@@ -9,17 +8,13 @@ use Rattle.jm_world.specs.Classes.{FoundField, FoundMethod, class_named, field_i
 use Rattle.jm_world.specs.Resolution.{field_from, first_found, interfaces_first, nameable, resolve_field, resolve_method}
 use Rattle.jm_world.proofs.CalledMethods.{first_got, resolved_got}
 use Rattle.jm_linked.specs.Links.{NamesClass, class_name_of}
+use Rattle.jm_linked.proofs.Classes.{class_name_is}
 use Rattle.jm_linker.specs.FoundNumbers.{FindsField, FindsMethod}
 use Rattle.jm_linker.specs.NumberedClasses.{HasClass}
 use Rattle.jm_linker.specs.declared.references.FoundMember.{FoundMember}
 
--- the name of a class by its number
-pub names_class : (program : List ClassParts) (n : ℕ) (name : List ℕ) → NamesClass program n name → class_name_of program n ≡ name
-unfolding class_name_of
-names_class program n name e = ap (λ o. unwrap_or o []) e
-
 pub names_itself : (program : List ClassParts) (n : ℕ) (name : List ℕ) → NamesClass program n name → NamesClass program n (class_name_of program n)
-names_itself program n name e = e ∙ ap Some (sym (names_class program n name e))
+names_itself program n name e = e ∙ ap Some (sym (class_name_is program n name e))
 
 -- a member that is found is of a class that the program has
 field_got : (n : ℕ) (program : List ClassParts) (name : List ℕ) (t : FieldType) (class : List ℕ) (found : FoundField)

@@ -7,10 +7,12 @@ use Rattle.jm_values.proofs.Lists.{get_map, get_there}
 use Rattle.std.specs.Prelude.{map, option_map, option_to_list, slice_get, slice_index_or, IfSome}
 use Rattle.std.specs.List.{All}
 use Rattle.jm_program.specs.declared.class.ClassParts.{ClassParts}
+use Rattle.jm_program.proofs.Sequences.{each_and_last}
 use Rattle.jm_world.specs.Classes.{as_class, class_named, height}
 use Rattle.jm_builtins.specs.List.{the_builtins}
 use Rattle.jm_world.specs.Hierarchy.{parents}
 use Rattle.jm_world.specs.Loads.{Loads, Refusal, duplicates, duplicate_fields, duplicate_members, duplicate_methods, first_of_all, or_else, refusal}
+use Rattle.jm_world.proofs.Refusing.{both_none, none_of_all}
 use Rattle.jm_tables.specs.Tables.{IsCellOf}
 use Rattle.jm_tables.specs.Hierarchies.{AreHeirs, IsHeir, own_cell}
 use Rattle.jm_tables.specs.Layouts.{AreFields, DeclaresFields, classes_of}
@@ -20,17 +22,11 @@ use Rattle.jm_tables.specs.declared.inheritance.Declared.{Declared}
 use Rattle.jm_linked.specs.Links.{class_names, class_numbered}
 use Rattle.jm_linked.specs.Tables.{AreSuperclasses, all_names}
 use Rattle.jm_linked.proofs.Names.{are_names, name_numbered, found_numbered}
+use Rattle.jm_linked.proofs.HeldTypes.{at_is}
 use Rattle.jm_linker.specs.BuiltInClasses.{built_in_classes}
 use Rattle.jm_linker.specs.Inherited.{IsClass, AreClasses, IsItsFields, AreTheirFields, first_of}
 use Rattle.jm_linker.specs.NumberedClasses.{AreNumbers, IsNumberOf}
 use Rattle.jm_linker.proofs.ClassLaws.{built_ins_once}
-use Rattle.jm_linker.proofs.MainLaws.{none_at}
-use Rattle.jm_linker.proofs.Reasons.{neither_refuses}
-
-at_is : (xs : List (List ℕ)) (n : ℕ) (x : List ℕ) → slice_get xs n ≡ Some x → (slice_index_or xs n [] ≡ x) × (n < length xs)
-at_is [] n x e = cc
-at_is (y ∷ ys) zero x e = let same : y ≡ x = cc in (same, omega arith)
-at_is (y ∷ ys) (suc n) x e = let rest = at_is ys n x e in let within = rest.1 in (rest.0, omega (arith, within))
 
 named_at : (program : List ClassParts) (n : ℕ) (name : List ℕ) → slice_get (class_names program) n ≡ Some name
     → (name_of (all_names program) n ≡ name) × (n < length (all_names program))
@@ -53,19 +49,11 @@ more_numbers program ns names n name are is =
       within = All-push (λ k. k < length (all_names program)) ns n are.within at.1;
     }
 
--- one more of a list of which each keeps a rule of its place
-pub each_more : {A : Type 0} (P : ℕ → A → Type 0) (xs : List A) (x : A) → ((n : ℕ) (y : A) → slice_get xs n ≡ Some y → P n y) → P (length xs) x
-    → (n : ℕ) (y : A) → slice_get (xs ++ x ∷ []) n ≡ Some y → P n y
-each_more P [] x h here zero y e = let same : x ≡ y = cc in subst (λ z. P zero z) same here
-each_more P [] x h here (suc n) y e = cc
-each_more P (z ∷ zs) x h here zero y e = h zero y e
-each_more P (z ∷ zs) x h here (suc n) y e = each_more (λ k. P (suc k)) zs x (λ k. h (suc k)) here n y e
-
 pub class_more : (program : List ClassParts) (n : ℕ) (ds : List Declared) (d : Declared) → AreClasses program n ds → IsClass program n d
     → AreClasses program (n + 1) (ds ++ d ∷ [])
 class_more program n ds d are is = record {
   length = let many = are.length in length-append ds (d ∷ []) ∙ ap (λ k. k + 1) many;
-  each = each_more (IsClass program) ds d are.each (subst (λ k. IsClass program k d) (sym are.length) is);
+  each = each_and_last (IsClass program) ds d are.each (subst (λ k. IsClass program k d) (sym are.length) is);
 }
 
 -- the heirs of a program that loads
@@ -104,7 +92,7 @@ top_within bound (Some name) (n ∷ ns) h = h 0 n (omega arith)
 none_of_both : {A : Type 0} (check : A → Option Refusal) (xs ys : List A) → first_of_all check xs ≡ None → first_of_all check ys ≡ None → first_of_all check (xs ++ ys) ≡ None
 none_of_both check [] ys e g = g
 none_of_both check (x ∷ xs) ys e g =
-    let parts = neither_refuses (check x) (first_of_all check xs) e in
+    let parts = both_none (check x) (first_of_all check xs) e in
     ap (λ o. or_else o (first_of_all check (xs ++ ys))) parts.0 ∙ none_of_both check xs ys parts.1 g
 
 -- no member stands twice in a class of a program that loads
@@ -112,10 +100,10 @@ pub once_numbered : (program : List ClassParts) → Loads program → (n : ℕ) 
     → (duplicate_fields [] c.fields ≡ None) × (duplicate_methods [] c.methods ≡ None)
 unfolding refusal built_in_classes
 once_numbered program loads n c at =
-    let members = (neither_refuses (duplicates [] program) _ loads).1 in
-    let own = (neither_refuses (first_of_all duplicate_members program) _ members).0 in
+    let members = (both_none (duplicates [] program) _ loads).1 in
+    let own = (both_none (first_of_all duplicate_members program) _ members).0 in
     let all = none_of_both duplicate_members built_in_classes program built_ins_once own in
-    neither_refuses (duplicate_fields [] c.fields) (duplicate_methods [] c.methods) (none_at duplicate_members (built_in_classes ++ program) n c all at)
+    both_none (duplicate_fields [] c.fields) (duplicate_methods [] c.methods) (none_of_all duplicate_members (built_in_classes ++ program) n c all at)
 
 pub are_fields : (program : List ClassParts) (hs : List Declared) (ds : List DeclaredFields) → Loads program → AreClasses program (height program) hs
     → AreTheirFields program hs (length hs) ds → AreFields program (all_names program) ds
@@ -172,7 +160,7 @@ pub fields_more : (program : List ClassParts) (hs : List Declared) (n : ℕ) (ds
     → IsItsFields program hs n d → AreTheirFields program hs (n + 1) (ds ++ d ∷ [])
 fields_more program hs n ds d are is = record {
   length = let many = are.length in length-append ds (d ∷ []) ∙ ap (λ k. k + 1) many;
-  each = each_more (IsItsFields program hs) ds d are.each (subst (λ k. IsItsFields program hs k d) (sym are.length) is);
+  each = each_and_last (IsItsFields program hs) ds d are.each (subst (λ k. IsItsFields program hs k d) (sym are.length) is);
 }
 
 pub got : (ds : List Declared) (k : ℕ) (d : Declared) → k < length ds → slice_get ds k ≡ Some (slice_index_or ds k d)

@@ -23,3 +23,8 @@ pub mod SelectedLaws
 pub mod ConstantLaws
 pub mod InitializerLaws
 pub mod FindingLaws
+pub mod PlacedLaws
+pub mod AboveLaws
+pub mod OrderLaws
+pub mod OrderedSoFar
+pub mod SuperOrders

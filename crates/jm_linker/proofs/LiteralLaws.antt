@@ -9,11 +9,11 @@ use Rattle.jm_program.specs.declared.class.Field.{Field}
 use Rattle.jm_program.specs.declared.class.Method.{Method}
 use Rattle.jm_program.specs.declared.code.Code.{Code}
 use Rattle.jm_program.specs.declared.instruction.symbolic.Instr.{Instr}
+use Rattle.jm_program.proofs.Texts.{text_itself, text_is}
 use Rattle.jm_world.specs.Loading.{distinct_after, has_text, literal_texts, texts_of_class, texts_of_field, texts_of_instruction, texts_of_method}
 use Rattle.jm_tables.specs.Texts.{number_of_text}
 use Rattle.jm_tables.proofs.TextLaws.{there_by_number}
 use Rattle.jm_linker.specs.Literals.{AreLiterals}
-use Rattle.jm_linker.proofs.CycleLaws.{text_is}
 
 has_first : (xs ys : List (List ℕ)) (text : List ℕ) → has_text text xs ≡ true → has_text text (xs ++ ys) ≡ true
 has_first [] ys text e = cc
@@ -95,14 +95,10 @@ pub instruction_literals : (program : List ClassParts) (instructions : List Inst
 unfolding AreLiterals
 instruction_literals program instructions n i all at = λ text has. all text (has_part texts_of_instruction instructions n i text at has)
 
--- a literal has a number
-same_itself : (text : List ℕ) → same_text text text ≡ true
-same_itself text = (texts.bytes_decides text text).1 refl
-
 pub has_number : (program : List ClassParts) (text : List ℕ) → AreLiterals program (text ∷ []) → number_of_text (literal_texts program) text ≡ None → ⊥
 unfolding AreLiterals
 has_number program text are none =
-    let has : has_text text (text ∷ []) ≡ true = ap (λ t. elim t as (λ _. Bool) [ true ↦ true | false ↦ false ]) (same_itself text) in
+    let has : has_text text (text ∷ []) ≡ true = ap (λ t. elim t as (λ _. Bool) [ true ↦ true | false ↦ false ]) (text_itself text) in
     let there : has_text text (literal_texts program) ≡ true = are text has in
     let not : has_text text (literal_texts program) ≡ false = there_by_number (literal_texts program) text ∙ ap is_some none in
     let bad : true ≡ false = sym there ∙ not in cc

@@ -4,7 +4,7 @@ use Rattle.std.proofs.Common.{take, refl, sym, ap, subst, ◌∙◌, codes, arit
 use Rattle.std.specs.Prelude.{slice_get, is_some, map}
 use Rattle.std.specs.List.{AllByRecursion, list_all}
 use Rattle.std.proofs.lemmas.Cmp.{nat_list_eq_equiv}
-use Rattle.std.proofs.lemmas.List.{drop_more}
+use Rattle.std.proofs.lemmas.List.{drop_more, append-nil, append_assoc}
 use Rattle.std.proofs.lemmas.Option.{slice_get_read}
 use Rattle.jm_program.specs.Names.{same_text}
 use Rattle.jm_program.specs.Flags.{is_interface, is_static}
@@ -15,11 +15,14 @@ use Rattle.jm_program.specs.declared.class.ClassParts.{ClassParts}
 use Rattle.jm_program.specs.declared.class.Method.{Method}
 use Rattle.jm_program.specs.declared.code.Code.{Code}
 use Rattle.jm_program.specs.declared.descriptor.MethodDescriptor.{MethodDescriptor}
+use Rattle.jm_program.proofs.Sequences.{got_front}
+use Rattle.jm_program.proofs.Truths.{both_true as both, passed_at}
 use Rattle.jm_world.specs.Types.{same_method_type}
 use Rattle.jm_world.specs.Classes.{FoundMethod, method_in, method_of_class, method_named, name_of_method}
 use Rattle.jm_world.specs.Loading.{literal_texts, main_type, main_in}
-use Rattle.jm_world.specs.Loads.{Loads, Refusal, refusal, is_main, when, first_of_all, duplicates, duplicate_members, duplicate_member}
+use Rattle.jm_world.specs.Loads.{Loads, refusal, is_main, first_of_all, duplicates, duplicate_members, duplicate_member}
 use Rattle.jm_world.specs.Loads.{duplicate_fields, duplicate_methods}
+use Rattle.jm_world.proofs.Refusing.{both_none, not_refused, none_of_all}
 use Rattle.jm_linker.specs.MainMethod.{is_main_method}
 use Rattle.jm_linked.specs.Links.{LinkedView, MethodLinks, IsLinked, coded_among, coded_from, place_of}
 use Rattle.jm_linked.specs.declared.method.LinkedMethod.{LinkedMethod}
@@ -28,9 +31,8 @@ use Rattle.jm_linked.proofs.Coded.{placed, placed_name}
 use Rattle.jm_linked.specs.declared.tables.Tables.{Tables}
 use Rattle.jm_linked.specs.Tables.{AreTables}
 use Rattle.jm_linker.specs.LinkedMethods.{LinksAlone, NumbersMain}
-use Rattle.jm_linker.proofs.NumberedLaws.{got_first}
-use Rattle.jm_linker.proofs.Reasons.{neither_refuses}
 use Rattle.jm_linker.proofs.TableLaws.{same_method_type_equiv}
+use Rattle.jm_values.proofs.Lists.{each_at}
 
 -- the method at a place is the first of a name and a type, after others that are not
 pub method_here : (name : List ℕ) (t : MethodDescriptor) (ms : List Method) (i : ℕ) (m : Method) → i < length ms → m ≡ get_or ms i m
@@ -46,31 +48,13 @@ pub main_here : (ms : List Method) (i : ℕ) (m : Method) → i < length ms → 
     → method_in ms (codes "main") main_type ≡ method_in (drop i ms) (codes "main") main_type → method_in ms (codes "main") main_type ≡ slice_get ms i
 main_here ms i m l is main e = method_here (codes "main") main_type ms i m l is main e
 
-both : (a b : Bool) → (a && b) ≡ true → (a ≡ true) × (b ≡ true)
-both true b e = (refl, e)
-both false b e = cc
-
--- the instructions of a method of a class fit
-all_get : {A : Type 0} (p : A → Bool) (xs : List A) (i : ℕ) (x : A) → list_all p xs ≡ true → slice_get xs i ≡ Some x → p x ≡ true
-all_get p [] i x e at = cc
-all_get p (y ∷ ys) zero x e at = ap p (same at) ∙ (both (p y) (list_all p ys) e).0
-  where
-    same : Some y ≡ Some x → x ≡ y
-    same g = cc
-all_get p (y ∷ ys) (suc i) x e at = all_get p ys i x (both (p y) (list_all p ys) e).1 at
-
 instructions_fit : (c : ClassParts) (i : ℕ) (m : Method) (code : Code) → Fits c → slice_get c.methods i ≡ Some m → m.code ≡ Some code → list_all (instr_fits (length code.instructions)) code.instructions ≡ true
 instructions_fit c i m code fits at is =
-    let method : method_fits (is_interface c.flags) m ≡ true = all_get (method_fits (is_interface c.flags)) c.methods i m fits.methods at in
+    let method : method_fits (is_interface c.flags) m ≡ true = passed_at (method_fits (is_interface c.flags)) c.methods i m fits.methods at in
     let body : body_fits (is_interface c.flags) m m.code ≡ true = (both _ _ method).1 in
     let of_code : body_fits (is_interface c.flags) m (Some code) ≡ true = sym (ap (body_fits (is_interface c.flags) m) is) ∙ body in
     let good : code_fits (method_slots m) code ≡ true = (both _ _ of_code).1 in
     (both _ _ (both _ _ (both _ _ good).0).0).1
-
--- a method of a class that loads is found by its name and type
-not_so : (b : Bool) (r : Refusal) → when b r ≡ None → b ≡ false
-not_so true r e = cc
-not_so false r e = refl
 
 passed_over : (b : Bool) (x : Method) (o : Option Method) → is_some (elim b as (λ _. Option Method) [ true ↦ Some x | false ↦ o ]) ≡ false
     → (b ≡ false) × (is_some o ≡ false)
@@ -82,11 +66,11 @@ new_method : (seen ms : List Method) (k : ℕ) (m : Method) → duplicate_method
 new_method seen [] k m e at = cc
 new_method seen (x ∷ xs) zero m e at =
     let same : x ≡ m = cc in
-    subst (λ (y : Method). is_some (method_in seen y.name y.descriptor) ≡ false) same (not_so (is_some (method_in seen x.name x.descriptor))
-    (duplicate_member x.name) (neither_refuses _ _ e).0)
+    subst (λ (y : Method). is_some (method_in seen y.name y.descriptor) ≡ false) same (not_refused (is_some (method_in seen x.name x.descriptor))
+    (duplicate_member x.name) (both_none _ _ e).0)
 new_method seen (x ∷ xs) (suc k) m e at =
     (passed_over (same_text x.name m.name && same_method_type x.descriptor m.descriptor) x (method_in seen m.name m.descriptor)
-    (new_method (x ∷ seen) xs k m (neither_refuses _ _ e).1 at)).1
+    (new_method (x ∷ seen) xs k m (both_none _ _ e).1 at)).1
 
 pub same_itself : (m : Method) → (same_text m.name m.name && same_method_type m.descriptor m.descriptor) ≡ true
 same_itself m = ap (λ b. b && same_method_type m.descriptor m.descriptor) (nat_list_eq_equiv.refl m.name) ∙ same_method_type_equiv.refl m.descriptor
@@ -99,7 +83,7 @@ method_again seen (x ∷ xs) zero m e at =
     subst (λ (y : Method). method_in (x ∷ xs) y.name y.descriptor ≡ Some y) same
     (ap (λ b. elim b as (λ _. Option Method) [ true ↦ Some x | false ↦ method_in xs x.name x.descriptor ]) (same_itself x))
 method_again seen (x ∷ xs) (suc k) m e at =
-    let rest = (neither_refuses _ _ e).1 in
+    let rest = (both_none _ _ e).1 in
     let other = (passed_over (same_text x.name m.name && same_method_type x.descriptor m.descriptor) x (method_in seen m.name m.descriptor) (new_method
     (x ∷ seen) xs k m rest at)).0 in
     ap (λ b. elim b as (λ _. Option Method) [ true ↦ Some x | false ↦ method_in xs m.name m.descriptor ]) other ∙ method_again (x ∷ seen) xs k m rest at
@@ -110,21 +94,16 @@ pub none_before : (seen ms : List Method) (k : ℕ) (m : Method) → duplicate_m
 none_before seen [] k m e at = cc
 none_before seen (x ∷ xs) zero m e at = refl
 none_before seen (x ∷ xs) (suc k) m e at =
-    let rest = (neither_refuses _ _ e).1 in
+    let rest = (both_none _ _ e).1 in
     let other = (passed_over (same_text x.name m.name && same_method_type x.descriptor m.descriptor) x (method_in seen m.name m.descriptor) (new_method
     (x ∷ seen) xs k m rest at)).0 in
     ap (λ b. elim b as (λ _. Option Method) [ true ↦ Some x | false ↦ method_in (take k xs) m.name m.descriptor ]) other ∙ none_before (x ∷ seen) xs k m rest at
 
-pub none_at : {A : Type 0} (check : A → Option Refusal) (xs : List A) (k : ℕ) (x : A) → first_of_all check xs ≡ None → slice_get xs k ≡ Some x → check x ≡ None
-none_at check [] k x e at = cc
-none_at check (y ∷ ys) zero x e at = let same : y ≡ x = cc in ap check (sym same) ∙ (neither_refuses (check y) (first_of_all check ys) e).0
-none_at check (y ∷ ys) (suc k) x e at = none_at check ys k x (neither_refuses (check y) (first_of_all check ys) e).1 at
-
 methods_once : (program : List ClassParts) → Loads program → (k : ℕ) (c : ClassParts) → slice_get program k ≡ Some c → duplicate_methods [] c.methods ≡ None
 unfolding refusal
 methods_once program loads k c at =
-    let members = (neither_refuses (first_of_all duplicate_members program) _ (neither_refuses (duplicates [] program) _ loads).1).0 in
-    (neither_refuses (duplicate_fields [] c.fields) (duplicate_methods [] c.methods) (none_at duplicate_members program k c members at)).1
+    let members = (both_none (first_of_all duplicate_members program) _ (both_none (duplicates [] program) _ loads).1).0 in
+    (both_none (duplicate_fields [] c.fields) (duplicate_methods [] c.methods) (none_of_all duplicate_members program k c members at)).1
 
 named_again : (program : List ClassParts) → Loads program → (k j : ℕ) (c : ClassParts) (m : Method) → slice_get program k ≡ Some c
     → slice_get c.methods j ≡ Some m
@@ -151,11 +130,6 @@ method_links l loads m a = record {
   handlers = a.links.handlers;
   catch_types = a.links.catch_types;
 }
-
-each_at : {A : Type 0} (P : A → Type 0) (xs : List A) (n : ℕ) (x : A) → AllByRecursion P xs → slice_get xs n ≡ Some x → P x
-each_at P [] n x a at = cc
-each_at P (y ∷ ys) zero x a at = let same : y ≡ x = cc in subst P same a.0
-each_at P (y ∷ ys) (suc n) x a at = each_at P ys n x a.1 at
 
 pub is_linked : (program : List ClassParts) (methods : List LinkedMethod) (literals : List (List ℕ)) (tables : Tables) (main : ℕ) → Loads program
     → map place_of methods ≡ coded_from 0 program → AllByRecursion (LinksAlone program) methods → literals ≡ literal_texts program
@@ -230,7 +204,7 @@ numbers_main (k ∷ ks) c ms i n first same loads main count =
       member = i;
       place = ap (slice_get (coded_from 0 (k ∷ ks))) count
           ∙ ap (λ xs. slice_get (coded_among 0 0 xs ++ coded_from 1 ks) (length (coded_among 0 0 (take i ms)))) (sym mine)
-          ∙ got_first (coded_among 0 0 ms) (coded_from 1 ks) (length (coded_among 0 0 (take i ms))) (0, i) (place ∙ ap (λ x. Some (0, x)) all);
+          ∙ got_front (coded_among 0 0 ms) (coded_from 1 ks) (length (coded_among 0 0 (take i ms))) (0, i) (place ∙ ap (λ x. Some (0, x)) all);
       class_is = refl;
       method_is = ap (λ xs. slice_get xs i) (sym mine) ∙ at;
     }
@@ -250,16 +224,8 @@ coded_more (x ∷ xs) k i m = by x.code (coded_more xs k (suc i) m ∙ ap (λ n.
     by None e = e
     by (Some c) e = ap (λ ps. (k, i) ∷ ps) e
 
-pub append_assoc : {A : Type 0} (xs ys zs : List A) → (xs ++ ys) ++ zs ≡ xs ++ (ys ++ zs)
-append_assoc [] ys zs = refl
-append_assoc (x ∷ xs) ys zs = ap (λ l. x ∷ l) (append_assoc xs ys zs)
-
-pub append_nil : {A : Type 0} (xs : List A) → xs ++ [] ≡ xs
-append_nil [] = refl
-append_nil (x ∷ xs) = ap (λ l. x ∷ l) (append_nil xs)
-
 pub classes_more : (cs : List ClassParts) (k : ℕ) (c : ClassParts) → coded_from k (cs ++ c ∷ []) ≡ coded_from k cs ++ coded_among (k + length cs) 0 c.methods
-classes_more [] k c = let all : k + 0 ≡ k = omega arith in append_nil (coded_among k 0 c.methods) ∙ ap (λ n. coded_among n 0 c.methods) (sym all)
+classes_more [] k c = let all : k + 0 ≡ k = omega arith in append-nil (coded_among k 0 c.methods) ∙ ap (λ n. coded_among n 0 c.methods) (sym all)
 classes_more (d ∷ ds) k c =
     let all : suc k + length ds ≡ k + length (d ∷ ds) = omega arith in
     ap (λ ps. coded_among k 0 d.methods ++ ps) (classes_more ds (suc k) c ∙ ap (λ n. coded_from (suc k) ds ++ coded_among n 0 c.methods) all)

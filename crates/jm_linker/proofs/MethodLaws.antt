@@ -3,7 +3,7 @@ use Rattle.std.proofs.Common.{◌≡◌, ℕ, ◌+◌, ◌<◌, true, false, Lis
 use Rattle.std.proofs.Common.{subst, ◌∙◌, arith}
 use Rattle.std.specs.Prelude.{is_some, slice_get, map}
 use Rattle.std.specs.List.{AllByRecursion}
-use Rattle.std.proofs.lemmas.List.{take_more, length-append, length-take-le}
+use Rattle.std.proofs.lemmas.List.{take_more, length-append, length-take-le, append-nil, append_assoc}
 use Rattle.std.proofs.lemmas.Option.{slice_get_read}
 use Rattle.jm_program.specs.Fits.{Fits}
 use Rattle.jm_program.specs.declared.class.ClassParts.{ClassParts}
@@ -12,15 +12,12 @@ use Rattle.jm_program.specs.declared.code.Code.{Code}
 use Rattle.jm_linked.specs.Links.{coded_among, coded_from, place_of}
 use Rattle.jm_linked.specs.declared.method.LinkedMethod.{LinkedMethod}
 use Rattle.jm_linker.specs.LinkedMethods.{LinksCode, LinksAlone}
-use Rattle.jm_linker.proofs.MainLaws.{append_assoc, append_nil, coded_more, classes_more}
+use Rattle.jm_linker.proofs.MainLaws.{coded_more, classes_more}
+use Rattle.jm_values.proofs.Lists.{each_and_more}
 
 pub map_more : {A B : Type 0} (f : A → B) (xs : List A) (x : A) → map f (xs ++ x ∷ []) ≡ map f xs ++ f x ∷ []
 map_more f [] x = refl
 map_more f (y ∷ ys) x = ap (λ l. f y ∷ l) (map_more f ys x)
-
-each_more : {A : Type 0} (P : A → Type 0) (xs : List A) (x : A) → AllByRecursion P xs → P x → AllByRecursion P (xs ++ x ∷ [])
-each_more P [] x a h = (h, tt)
-each_more P (y ∷ ys) x a h = (a.0, each_more P ys x a.1 h)
 
 -- the methods so far, and those with code among them
 coded_to : (ms : List Method) (i k : ℕ) (x : Method) → i < length ms → x ≡ get_or ms i x
@@ -54,7 +51,7 @@ counted_past ms i n x l is has e = by x.code refl has
   where
     by : (o : Option Code) → x.code ≡ o → is_some o ≡ false → n ≡ length (coded_among 0 0 (take (i + 1) ms))
     by None is' g = e ∙ sym (ap length (coded_to ms i 0 x l is ∙ ap (λ ps. coded_among 0 0 (take i ms) ++ ps) (none_coded 0 i x is')
-        ∙ append_nil (coded_among 0 0 (take i ms))))
+        ∙ append-nil (coded_among 0 0 (take i ms))))
     by (Some code) is' g = cc
 
 -- what is known of a class's methods so far
@@ -67,7 +64,7 @@ pub so_far_past : (program : List ClassParts) (k : ℕ) (ms : List Method) (i : 
 so_far_past program k ms i x old now l is none h = record {
   places = h.places
       ∙ ap (λ ps. map place_of old ++ ps)
-      (sym (coded_to ms i k x l is ∙ ap (λ ps. coded_among k 0 (take i ms) ++ ps) (none_coded k i x none) ∙ append_nil (coded_among k 0 (take i ms))));
+      (sym (coded_to ms i k x l is ∙ ap (λ ps. coded_among k 0 (take i ms) ++ ps) (none_coded k i x none) ∙ append-nil (coded_among k 0 (take i ms))));
   linked = h.linked;
 }
 
@@ -105,7 +102,7 @@ so_far_more program k c ms i n x code m old now next class fits same l is has nu
           ∙ ap (λ ps. ps ++ (k, i) ∷ []) h.places ∙ append_assoc (map place_of old) (coded_among k 0 (take i ms)) ((k, i) ∷ [])
           ∙ ap (λ ps. map place_of old ++ ps)
           (sym (coded_to ms i k x l is ∙ ap (λ ps. coded_among k 0 (take i ms) ++ ps) (one_coded k i x code has)));
-      linked = λ a. subst (AllByRecursion (LinksAlone program)) (sym pushed) (each_more (LinksAlone program) now m (h.linked a)
+      linked = λ a. subst (AllByRecursion (LinksAlone program)) (sym pushed) (each_and_more (LinksAlone program) now m (h.linked a)
           (alone program k n c x code m class fits at has links));
     }
 

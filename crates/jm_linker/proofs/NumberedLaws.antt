@@ -7,6 +7,7 @@ use Rattle.std.proofs.lemmas.Option.{slice_get-map}
 use Rattle.std.specs.Cmp.Lexicographic as texts
 use Rattle.jm_program.specs.Names.{same_text}
 use Rattle.jm_program.specs.declared.class.ClassParts.{ClassParts}
+use Rattle.jm_program.proofs.Sequences.{got_front}
 use Rattle.jm_builtins.specs.List.{the_builtins}
 use Rattle.jm_builtins.specs.declared.built_in.BuiltIn.{BuiltIn}
 use Rattle.jm_world.specs.Classes.{as_class, class_named}
@@ -19,12 +20,6 @@ use Rattle.jm_linker.proofs.Numbers.{by_number, by_no_number}
 
 abbrev members_class : Members → ClassParts
 members_class m = m.class.now
-
--- what stands in the first or the second part of a list
-pub got_first : {A : Type 0} (xs ys : List A) (n : ℕ) (x : A) → slice_get xs n ≡ Some x → slice_get (xs ++ ys) n ≡ Some x
-got_first [] ys n x e = cc
-got_first (z ∷ zs) ys zero x e = e
-got_first (z ∷ zs) ys (suc n) x e = got_first zs ys n x e
 
 got_second : {A : Type 0} (xs ys : List A) (n k : ℕ) (x : A) → n ≡ length xs + k → slice_get ys k ≡ Some x → slice_get (xs ++ ys) n ≡ Some x
 got_second [] ys n k x e at = let same : n ≡ k = omega arith in ap (slice_get ys) same ∙ at
@@ -149,8 +144,8 @@ of_built_ins program name n none e =
     record {
       class = i.class;
       found = by_no_number program name none ∙ i.found;
-      numbered = got_first built_in_classes program n i.class at;
-      named = got_first (map (λ (b : BuiltIn). b.name) the_builtins) (map (λ (c : ClassParts). c.name) program) n name
+      numbered = got_front built_in_classes program n i.class at;
+      named = got_front (map (λ (b : BuiltIn). b.name) the_builtins) (map (λ (c : ClassParts). c.name) program) n name
           (ap (λ ns. slice_get ns n) (sym built_in_names_are) ∙ named_at built_in_classes n i.class name at i.name_is);
     }
 
@@ -188,5 +183,5 @@ numbered_past program n k is at = past (map as_class the_builtins) n k is at
 pub numbered_built_in : (program : List ClassParts) (ms : List Members) (n : ℕ) (m : Members) → map members_class ms ≡ built_in_classes → slice_get ms n ≡ Some m
     → class_numbered program n ≡ Some m.class.now
 unfolding built_in_classes
-numbered_built_in program ms n m all at = got_first (map as_class the_builtins) program n m.class.now
+numbered_built_in program ms n m all at = got_front (map as_class the_builtins) program n m.class.now
     (ap (λ cs. slice_get cs n) (sym all) ∙ slice_get-map members_class ms n ∙ ap (option_map members_class) at)

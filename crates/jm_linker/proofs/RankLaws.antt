@@ -4,6 +4,8 @@ use Rattle.std.specs.Prelude.{map, option_to_list, slice_index_or}
 use Rattle.std.specs.List.{list_all}
 use Rattle.jm_program.specs.Names.{same_text}
 use Rattle.jm_program.specs.declared.class.ClassParts.{ClassParts}
+use Rattle.jm_program.proofs.Truths.{both_true as both}
+use Rattle.jm_program.proofs.Texts.{text_is}
 use Rattle.jm_world.specs.Classes.{class_among, class_named, height}
 use Rattle.jm_world.specs.Hierarchy.{parents, holds_of_any, is_below}
 use Rattle.jm_world.specs.Loads.{when, cycle, cycle_refusal}
@@ -11,12 +13,7 @@ use Rattle.jm_linker.specs.BuiltInClasses.{built_in_classes, class_in, number_fr
 use Rattle.jm_linker.specs.Ranks.{rank_at, rank_of, is_under, is_superclass_under, are_parents_under, is_over_parents, has_none_over}
 use Rattle.jm_linker.specs.declared.members.Members.{Members}
 use Rattle.jm_linker.proofs.ClassLaws.{built_in_found}
-use Rattle.jm_linker.proofs.CycleLaws.{has_name, text_is}
-
-both : (a b : Bool) → (a && b) ≡ true → (a ≡ true) × (b ≡ true)
-both true true e = (refl, refl)
-both true false e = cc
-both false b e = cc
+use Rattle.jm_linker.proofs.CycleLaws.{has_name}
 
 all_append : (f : List ℕ → Bool) (xs ys : List (List ℕ)) → list_all f xs ≡ true → list_all f ys ≡ true → list_all f (xs ++ ys) ≡ true
 all_append f [] ys e g = g

@@ -1,8 +1,9 @@
 -- The first of several reasons.
 use Rattle.std.proofs.Common.{◌≡◌, ℕ, ◌+◌, ◌<◌, Bool, true, false, not, List, [], Option, Some, None, Result, length, get_or, drop, refl, sym, ap, ◌∙◌, subst}
 use Rattle.std.proofs.lemmas.List.{drop_more}
-use Rattle.jm_world.specs.Loads.{Refusal, or_else, first_of_all, when, duplicates, duplicate_members, parents_refusal, cycle_refusal, is_main, no_main, refusal}
+use Rattle.jm_world.specs.Loads.{Refusal, or_else, first_of_all, when, duplicates, duplicate_members, parents_refusal, cycle_refusal, is_main, no_main, method_code_refusal, refusal}
 use Rattle.jm_world.specs.Loading.{main_in}
+use Rattle.jm_world.proofs.Refusing.{both_none}
 use Rattle.jm_program.specs.declared.class.ClassParts.{ClassParts}
 use Rattle.jm_linker.specs.declared.fault.LinkFault.{LinkFault}
 use Rattle.jm_linker.specs.declared.fault.LinkFault.TheVariants as fault
@@ -42,20 +43,27 @@ first_after check xs i x l is h e =
 pub memory_says : (f : LinkFault) (r : Option Refusal) → IsOutOfMemory f → SaysWhy f r
 memory_says f r e = subst (λ g. SaysWhy g r) (sym e) tt
 
-pub neither_refuses : (a b : Option Refusal) → or_else a b ≡ None → (a ≡ None) × (b ≡ None)
-neither_refuses None b e = (refl, e)
-neither_refuses (Some r) b e = cc
-
 -- a program that loads has a main
 pub has_main : (program : List ClassParts) → refusal program ≡ None → is_main (main_in program) ≡ true
 unfolding refusal
 has_main program e =
-    let members = (neither_refuses (duplicates [] program) _ e).1 in
-    let parents = (neither_refuses (first_of_all duplicate_members program) _ members).1 in
-    let cycles = (neither_refuses (first_of_all (parents_refusal program) program) _ parents).1 in
-    let main = (neither_refuses (first_of_all (cycle_refusal program) program) _ cycles).1 in
-    by (is_main (main_in program)) (neither_refuses (when (not (is_main (main_in program))) no_main) _ main).0
+    let members = (both_none (duplicates [] program) _ e).1 in
+    let parents = (both_none (first_of_all duplicate_members program) _ members).1 in
+    let cycles = (both_none (first_of_all (parents_refusal program) program) _ parents).1 in
+    let main = (both_none (first_of_all (cycle_refusal program) program) _ cycles).1 in
+    by (is_main (main_in program)) (both_none (when (not (is_main (main_in program))) no_main) _ main).0
   where
     by : (t : Bool) → when (not t) no_main ≡ None → t ≡ true
     by true g = refl
     by false g = cc
+
+-- a program loads where none of the reasons is one
+pub loads_where : (program : List ClassParts) → duplicates [] program ≡ None → first_of_all duplicate_members program ≡ None
+    → first_of_all (parents_refusal program) program ≡ None → first_of_all (cycle_refusal program) program ≡ None
+    → when (not (is_main (main_in program))) no_main ≡ None → first_of_all (λ (c : ClassParts). first_of_all (method_code_refusal program) c.methods) program ≡ None
+    → refusal program ≡ None
+unfolding refusal
+loads_where program a b c d e f = both a (both b (both c (both d (both e f))))
+  where
+    both : {x y : Option Refusal} → x ≡ None → y ≡ None → or_else x y ≡ None
+    both {x} {y} g h = ap (λ o. or_else o y) g ∙ h

@@ -3,6 +3,7 @@ use Rattle.std.proofs.Common.{◌≡◌, ℕ, ◌+◌, ◌<◌, Bool, true, fals
 use Rattle.std.specs.Prelude.{is_some}
 use Rattle.std.specs.List.{list_any}
 use Rattle.std.proofs.lemmas.List.{drop_more, take_more}
+use Rattle.std.proofs.lemmas.Bool.{or_left, or_right}
 use Rattle.jm_program.specs.Names.{same_text}
 use Rattle.jm_program.specs.declared.class.ClassParts.{ClassParts}
 use Rattle.jm_program.specs.declared.class.Field.{Field}
@@ -123,13 +124,6 @@ named_among (c ∷ cs) name = by (same_text c.name name) (named_among cs name)
 
 pub or_false : (a b : Bool) → a ≡ false → b ≡ false → (a || b) ≡ false
 or_false a b e f = rw (e, f) refl
-
-pub or_left : (a b : Bool) → a ≡ true → (a || b) ≡ true
-or_left a b e = rw e refl
-
-pub or_right : (a b : Bool) → b ≡ true → (a || b) ≡ true
-or_right true b e = refl
-or_right false b e = e
 
 pub classes_go_on : (xs : List ClassParts) (i : ℕ) (x : ClassParts) → i < length xs → x ≡ get_or xs i x → list_any (λ c. same_text c.name x.name) (take i xs) ≡ false → is_built_in_name x.name ≡ false → duplicates [] xs ≡ duplicates (take i xs) (drop i xs) → duplicates [] xs ≡ duplicates (take (i + 1) xs) (drop (i + 1) xs)
 classes_go_on xs i x l is none no_built_in h =

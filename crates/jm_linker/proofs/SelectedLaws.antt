@@ -9,6 +9,7 @@ use Rattle.std.specs.List.{All}
 use Rattle.jm_program.specs.declared.class.ClassParts.{ClassParts}
 use Rattle.jm_program.specs.declared.class.Method.{Method}
 use Rattle.jm_program.specs.declared.descriptor.MethodDescriptor.{MethodDescriptor}
+use Rattle.jm_program.proofs.Sequences.{each_and_last}
 use Rattle.jm_builtins.specs.List.{the_builtins}
 use Rattle.jm_world.specs.Classes.{FoundMethod, as_class, class_named, height}
 use Rattle.jm_world.specs.Hierarchy.{parents}
@@ -28,7 +29,7 @@ use Rattle.jm_linked.proofs.Names.{are_names, name_numbered, found_numbered}
 use Rattle.jm_linker.specs.FoundNumbers.{NumbersMethod}
 use Rattle.jm_linker.specs.Inherited.{AreClasses, first_of}
 use Rattle.jm_linker.specs.Selectors.{AreOwn, AreOwnCells, AreTheirMethods, IsItsMethods, StandFrom}
-use Rattle.jm_linker.proofs.InheritedLaws.{each_more, got, once_numbered, top_is}
+use Rattle.jm_linker.proofs.InheritedLaws.{got, once_numbered, top_is}
 use Rattle.jm_linker.proofs.MainLaws.{none_before}
 use Rattle.jm_linker.proofs.SelectorLaws.{first_alike, first_there, first_within, length_to, method_is_named, method_there, no_own, own_more, own_past}
 
@@ -103,7 +104,7 @@ pub methods_more : (program : List ClassParts) (hs : List Declared) (n : ℕ) (d
     → IsItsMethods program hs n d → AreTheirMethods program hs (n + 1) (ds ++ d ∷ [])
 methods_more program hs n ds d are is = record {
   length = let many = are.length in length-append ds (d ∷ []) ∙ ap (λ k. k + 1) many;
-  each = each_more (IsItsMethods program hs) ds d are.each (subst (λ k. IsItsMethods program hs k d) (sym are.length) is);
+  each = each_and_last (IsItsMethods program hs) ds d are.each (subst (λ k. IsItsMethods program hs k d) (sym are.length) is);
 }
 
 pub one_class_on : (program : List ClassParts) (n before more : ℕ) (c : ClassParts) → class_numbered program n ≡ Some c → before ≡ methods_before program n

@@ -2,7 +2,7 @@
 use Rattle.std.proofs.Common.{◌≡◌, ℕ, zero, suc, ◌+◌, ◌-◌, ◌<◌, ◌≤◌, Bool, true, false, ◌&&◌, cond, List, [], ◌∷◌, ◌++◌, Option, Some, None}
 use Rattle.std.proofs.Common.{length, get_or, take, drop, nat_eq, eq-eqb, eqb-true, refl, sym, ap, subst, ◌∙◌, arith}
 use Rattle.std.proofs.lemmas.Cmp.{nat_list_eq_equiv, on_equiv, and_equiv}
-use Rattle.std.proofs.lemmas.List.{take_more, length-append}
+use Rattle.std.proofs.lemmas.List.{take_more, length-append, append-nil, append_assoc}
 use Rattle.std.specs.Cmp.{IsEquivalence}
 use Rattle.std.specs.Prelude.{is_some, map, slice_get}
 use Rattle.std.specs.BTreeMap.{BTreeMap, get}
@@ -11,6 +11,7 @@ use Rattle.jm_program.specs.Names.{same_text}
 use Rattle.jm_program.specs.declared.class.ClassParts.{ClassParts}
 use Rattle.jm_program.specs.declared.class.Method.{Method}
 use Rattle.jm_program.specs.declared.descriptor.MethodDescriptor.{MethodDescriptor}
+use Rattle.jm_program.proofs.Sequences.{first_left, got_behind as behind, got_front as before_both}
 use Rattle.jm_world.specs.Classes.{FoundMethod, method_in}
 use Rattle.jm_world.specs.Resolution.{counts, instance_in}
 use Rattle.jm_world.specs.Types.{same_method_type}
@@ -25,7 +26,7 @@ use Rattle.jm_linker.specs.contracts.key.MethodKeyOrd.TheImpl as method_ord
 use Rattle.jm_linker.specs.declared.key.MethodKey.{MethodKey}
 use Rattle.jm_linker.specs.declared.selectors.ClassMethod.{ClassMethod}
 use Rattle.jm_linker.proofs.KeyLaws.{methods_tied}
-use Rattle.jm_linker.proofs.MainLaws.{append_assoc, append_nil, same_itself}
+use Rattle.jm_linker.proofs.MainLaws.{same_itself}
 use Rattle.jm_linker.proofs.MethodLaws.{map_more}
 use Rattle.jm_linker.proofs.TableLaws.{both_alike, first, first_none, method_in_alike, method_in_more, same_method_type_equiv}
 
@@ -185,16 +186,10 @@ pub methods_more : (c : ClassParts) (ms : List Method) (m : Method) → methods_
 methods_more c [] m = refl
 methods_more c (x ∷ xs) m = ap (λ l. record { class = c; method = x } ∷ l) (methods_more c xs m)
 
--- what is left from one on
-drop_at : {A : Type 0} (xs : List A) (i : ℕ) (x : A) → slice_get xs i ≡ Some x → drop i xs ≡ x ∷ drop (i + 1) xs
-drop_at [] i x e = cc
-drop_at (y ∷ ys) zero x e = let same : y ≡ x = cc in ap (λ z. z ∷ ys) same
-drop_at (y ∷ ys) (suc i) x e = let more : suc i + 1 ≡ suc (i + 1) = omega arith in drop_at ys i x e ∙ ap (λ k. x ∷ drop k (y ∷ ys)) (sym more)
-
 -- a method leads itself, and those that one after it leads which is alike
 pub leads_itself : (ms : List ClassMethod) (i : ℕ) → Leads ms i (i + 1)
 leads_itself ms i = λ x at name t.
-    ap (λ xs. first_named i (found_methods xs) name t) (drop_at ms i x at)
+    ap (λ xs. first_named i (found_methods xs) name t) (first_left ms i x at)
     ∙ by name t (same_text x.method.now.name name && same_method_type x.method.now.descriptor t)
   where
     by : (name : List ℕ) (t : MethodDescriptor) (b : Bool)
@@ -209,7 +204,7 @@ pub leads_more : (ms : List ClassMethod) (i next : ℕ) (y z : ClassMethod) → 
 leads_more ms i next y z there after alike h = λ x at name t.
     let both : Some y ≡ Some x = sym there ∙ at in
     let same : y ≡ x = cc in
-    ap (λ xs. first_named i (found_methods xs) name t) (drop_at ms i x at)
+    ap (λ xs. first_named i (found_methods xs) name t) (first_left ms i x at)
     ∙ ap (λ o. elim (same_text x.method.now.name name && same_method_type x.method.now.descriptor t) as (λ _. Option ℕ) [ true ↦ Some i | false ↦ o ])
     (h z after name t)
     ∙ by (same_text x.method.now.name name && same_method_type x.method.now.descriptor t)
@@ -249,14 +244,14 @@ pub classes_to : (bs cs : List ClassParts) (i : ℕ) (c : ClassParts) → i < le
 classes_to bs cs i c l is =
     let more : take (i + 1) cs ≡ take i cs ++ c ∷ [] = rw (take_more cs i c l, ← is) refl in
     ap (λ xs. methods_in (bs ++ xs)) more ∙ ap methods_in (sym (append_assoc bs (take i cs) (c ∷ []))) ∙ methods_both (bs ++ take i cs) (c ∷ [])
-    ∙ ap (λ xs. methods_in (bs ++ take i cs) ++ xs) (append_nil (methods_of c c.methods))
+    ∙ ap (λ xs. methods_in (bs ++ take i cs) ++ xs) (append-nil (methods_of c c.methods))
 
 pub members_to : {A : Type 0} (f : A → ClassParts) (xs : List A) (i : ℕ) (x : A) → i < length xs → x ≡ get_or xs i x
     → methods_in (map f (take (i + 1) xs)) ≡ methods_in (map f (take i xs)) ++ methods_of (f x) (f x).methods
 members_to f xs i x l is =
     let more : take (i + 1) xs ≡ take i xs ++ x ∷ [] = rw (take_more xs i x l, ← is) refl in
     ap (λ ys. methods_in (map f ys)) more ∙ ap methods_in (map_more f (take i xs) x) ∙ methods_both (map f (take i xs)) (f x ∷ [])
-    ∙ ap (λ ys. methods_in (map f (take i xs)) ++ ys) (append_nil (methods_of (f x) (f x).methods))
+    ∙ ap (λ ys. methods_in (map f (take i xs)) ++ ys) (append-nil (methods_of (f x) (f x).methods))
 
 -- where a method stands among those of its class, and among those of all
 method_of_class : (c : ClassParts) (ms : List Method) (j : ℕ) (m : Method) → slice_get ms j ≡ Some m
@@ -264,15 +259,6 @@ method_of_class : (c : ClassParts) (ms : List Method) (j : ℕ) (m : Method) →
 method_of_class c [] j m e = cc
 method_of_class c (x ∷ xs) zero m e = let same : x ≡ m = cc in ap (λ (y : Method). let f : FoundMethod = record { class = c; method = y } in Some f) same
 method_of_class c (x ∷ xs) (suc j) m e = method_of_class c xs j m e
-
-before_both : {A : Type 0} (xs ys : List A) (j : ℕ) (x : A) → slice_get xs j ≡ Some x → slice_get (xs ++ ys) j ≡ Some x
-before_both [] ys j x e = cc
-before_both (z ∷ zs) ys zero x e = e
-before_both (z ∷ zs) ys (suc j) x e = before_both zs ys j x e
-
-behind : {A : Type 0} (xs ys : List A) (j : ℕ) → slice_get (xs ++ ys) (length xs + j) ≡ slice_get ys j
-behind [] ys j = let none : 0 + j ≡ j = omega arith in ap (slice_get ys) none
-behind (z ∷ zs) ys j = let more : length (z ∷ zs) + j ≡ suc (length zs + j) = omega arith in ap (slice_get (z ∷ zs ++ ys)) more ∙ behind zs ys j
 
 pub method_there : (cs : List ClassParts) (n j : ℕ) (c : ClassParts) (m : Method) → slice_get cs n ≡ Some c → slice_get c.methods j ≡ Some m
     → slice_get (methods_in cs) (length (methods_in (take n cs)) + j) ≡ Some (record { class = c; method = m })
@@ -303,7 +289,7 @@ length_to [] n c e = cc
 length_to (x ∷ xs) zero c e =
     let same : x ≡ c = cc in
     let none : 0 + length c.methods ≡ length c.methods = omega arith in
-    ap length (append_nil (methods_of x x.methods)) ∙ method_count x x.methods ∙ ap (λ (d : ClassParts). length d.methods) same ∙ sym none
+    ap length (append-nil (methods_of x x.methods)) ∙ method_count x x.methods ∙ ap (λ (d : ClassParts). length d.methods) same ∙ sym none
 length_to (x ∷ xs) (suc n) c e =
     let more : suc n + 1 ≡ suc (n + 1) = omega arith in
     ap (λ k. length (methods_in (take k (x ∷ xs)))) more

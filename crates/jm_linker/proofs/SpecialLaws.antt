@@ -15,9 +15,11 @@ use Rattle.jm_world.specs.Classes.{FoundMethod, class_named, height, method_in}
 use Rattle.jm_world.specs.Here.{Here}
 use Rattle.jm_world.specs.Hierarchy.{chain, is_subclass, up_from}
 use Rattle.jm_world.specs.Invocation.{class_methods, found_special, superclass_of}
-use Rattle.jm_world.specs.Loads.{Refusal, found_method_refusal, init_refusal, method_refusal, named_class_refusal, same_bool, when, wrong_kind}
+use Rattle.jm_world.specs.Loads.{found_method_refusal, init_refusal, method_refusal, named_class_refusal, wrong_kind}
 use Rattle.jm_world.specs.Resolution.{counts, instance_along, instance_in, method_along, resolve_method, select_special}
 use Rattle.jm_world.proofs.CalledMethods.{resolved_got, up_named}
+use Rattle.jm_world.proofs.Comparing.{same_flag}
+use Rattle.jm_world.proofs.Refusing.{both_none, not_refused}
 use Rattle.jm_linked.specs.Links.{Calls, CallsFrom, IsMethodOf, LinksIn}
 use Rattle.jm_linked.specs.declared.instruction.InvokedMethod.{InvokedMethod}
 use Rattle.jm_linked.specs.declared.instruction.LinkedInstr.TheVariants as linked
@@ -29,7 +31,6 @@ use Rattle.jm_linker.specs.Specials.{IsInstance, NumbersCalled, called_from, sea
 use Rattle.jm_linker.specs.Walks.{above_any, first_along}
 use Rattle.jm_linker.proofs.CycleLaws.{below_found}
 use Rattle.jm_linker.proofs.FoundLaws.{along_passes, any_of_one, init_along}
-use Rattle.jm_linker.proofs.Reasons.{neither_refuses}
 
 -- where the search begins, by the superclass of the class in which the instruction stands
 abbrev begins : List ℕ → List ℕ → Bool → List ℕ
@@ -89,7 +90,7 @@ pub named_there : (program : List ClassParts) (m : MethodRef) (name : List ℕ) 
     → is_some (class_named program name) ≡ true
 named_there program m name class e =
     by (class_named program name)
-    (neither_refuses (named_class_refusal Special name (class_named program name)) _ (ap (method_refusal program Special m) (sym class) ∙ e)).0
+    (both_none (named_class_refusal Special name (class_named program name)) _ (ap (method_refusal program Special m) (sym class) ∙ e)).0
   where
     by : (o : Option ClassParts) → named_class_refusal Special name o ≡ None → is_some o ≡ true
     by None g = cc
@@ -176,27 +177,16 @@ instance_called program class m c x n e is numbered =
     by true g = refl
     by false g = cc
 
--- the method that the reference means is one of instances where the instruction loads
-same_so : (a b : Bool) → not (same_bool a b) ≡ false → a ≡ b
-same_so true true e = refl
-same_so true false e = cc
-same_so false true e = cc
-same_so false false e = refl
-
-not_when : (b : Bool) (r : Refusal) → when b r ≡ None → b ≡ false
-not_when true r e = cc
-not_when false r e = refl
-
 pub resolved_instance : (program : List ClassParts) (m : MethodRef) (n : InvokedMethod) → (invokes : Invokes program m n)
     → method_refusal program Special m m.class ≡ None → IsInstance program m invokes.method.found n.found
 resolved_instance program m n invokes e =
     let name = invokes.name in
     let found = invokes.method.found in
-    let reasons = neither_refuses (init_refusal Special m.name) (found_method_refusal Special m.name (resolve_method program name m.name m.descriptor))
-    (neither_refuses (named_class_refusal Special name (class_named program name)) _ (ap (method_refusal program Special m) (sym invokes.class) ∙ e)).1 in
+    let reasons = both_none (init_refusal Special m.name) (found_method_refusal Special m.name (resolve_method program name m.name m.descriptor))
+    (both_none (named_class_refusal Special name (class_named program name)) _ (ap (method_refusal program Special m) (sym invokes.class) ∙ e)).1 in
     record {
       declares = (resolved_got program name m.name m.descriptor found invokes.method.is).1;
-      instance = same_so (is_static found.method.flags) false (not_when _ (wrong_kind m.name)
+      instance = same_flag (is_static found.method.flags) false (not_refused _ (wrong_kind m.name)
           (subst (λ o. found_method_refusal Special m.name o ≡ None) invokes.method.is reasons.1));
       numbered = invokes.method.numbered;
     }

@@ -17,6 +17,7 @@ use Rattle.jm_program.specs.declared.descriptor.MethodDescriptor.{MethodDescript
 use Rattle.jm_program.specs.Descriptors.{base_letter}
 use Rattle.jm_program.specs.declared.descriptor.ElementType.{ElementType}
 use Rattle.jm_program.specs.declared.descriptor.ElementType.TheVariants.{Base, Class}
+use Rattle.jm_program.proofs.Truths.{both_true as both}
 use Rattle.jm_world.specs.Types.{same_element, same_type, same_types, same_result, same_method_type}
 use Rattle.jm_world.specs.Classes.{field_in, method_in}
 use Rattle.jm_linker.specs.Keys.{IsFieldKey, IsMethodKey}
@@ -85,10 +86,6 @@ same_types_equiv = lists_equiv same_type_equiv
 
 pub same_method_type_equiv : IsEquivalence same_method_type
 same_method_type_equiv = and_equiv (on_equiv (λ (t : MethodDescriptor). t.parameters) same_types_equiv) (on_equiv (λ (t : MethodDescriptor). t.return_type) same_result_equiv)
-
-both : (a b : Bool) → (a && b) ≡ true → (a ≡ true) × (b ≡ true)
-both true b e = (refl, e)
-both false b e = cc
 
 as_alike : {T : Type 0} {E : T → T → Bool} → IsEquivalence E → (a b c : T) → E b c ≡ true → E a b ≡ E a c
 as_alike o a b c e = o.symm a b ∙ o.congr b c a e ∙ o.symm c a

@@ -2,15 +2,12 @@
 use Rattle.std.proofs.Common.{◌≡◌, ◌≢◌, Bool, true, false, ◌&&◌, List, [], ◌∷◌, length, get_or, refl, sym, ◌∙◌, arith, eqb}
 use Rattle.std.proofs.lemmas.Bool.Decides.{nat_tests}
 use Rattle.jm_program.specs.declared.descriptor.FieldType.{FieldType}
+use Rattle.jm_program.proofs.Truths.{and_false}
 use Rattle.jm_world.specs.Types.{same_type, same_types}
 
 and_true : (b : Bool) → (b && true) ≡ b
 and_true true = refl
 and_true false = refl
-
-and_false : (b : Bool) → (b && false) ≡ false
-and_false true = refl
-and_false false = refl
 
 -- a list of one type, and of none
 pub same_types_one : (ts : List FieldType) (t d : FieldType) → same_types ts (t ∷ []) ≡ (eqb (length ts) 1 && same_type (get_or ts 0 d) t)

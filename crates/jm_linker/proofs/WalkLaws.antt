@@ -6,11 +6,11 @@ use Rattle.std.specs.Cmp.Lexicographic.{texts_ties}
 use Rattle.std.specs.Map.{lookup}
 use Rattle.std.specs.Ordering.{is_eq}
 use Rattle.jm_program.specs.declared.class.ClassParts.{ClassParts}
+use Rattle.jm_program.proofs.Texts.{text_is}
 use Rattle.jm_world.specs.Classes.{class_named, height}
 use Rattle.jm_world.specs.Hierarchy.{up_from, chain}
 use Rattle.jm_world.specs.Resolution.{first_found, interfaces_first}
 use Rattle.jm_linker.specs.declared.walk.Pending.{Pending}
-use Rattle.jm_linker.proofs.CycleLaws.{text_is}
 use Rattle.jm_linker.specs.Tables.{by_units}
 use Rattle.jm_linker.specs.Walks.{AllVain, Says, AllSay, above_from, above_any, or_found, found_pending, first_along}
 

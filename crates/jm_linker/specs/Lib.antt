@@ -11,6 +11,7 @@ pub mod Tables
 pub mod Ranks
 pub mod NumberedClasses
 pub mod Inherited
+pub mod Orders
 pub mod Selectors
 pub mod FoundNumbers
 pub mod LinkedMethods

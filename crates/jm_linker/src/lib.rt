@@ -21,6 +21,7 @@ mod main_method;
 mod members;
 mod name;
 mod number;
+mod order;
 mod parents;
 mod print_streams;
 mod ranks;

@@ -1,9 +1,9 @@
 // From classes to a linked program.
 
-ghost use Rattle.std.specs.Prelude.{◌≡◌, None, IfOk, MatchResult, map};
+ghost use Rattle.std.specs.Prelude.{◌≡◌, [], None, IfOk, MatchResult, map};
 ghost use Rattle.std.specs.List.{AllByRecursion};
 ghost use Rattle.jm_world.specs.Loading.{literal_texts};
-ghost use Rattle.jm_world.specs.Loads.{Loads, refusal, parents_refusal, first_of_all};
+ghost use Rattle.jm_world.specs.Loads.{refusal, duplicates, duplicate_members, parents_refusal, first_of_all};
 ghost use Rattle.jm_builtins.specs.List.{the_builtins};
 ghost use Rattle.jm_linked.specs.Links.{coded_from, place_of};
 ghost use Rattle.jm_linked.specs.Tables.{AreTables};
@@ -53,20 +53,20 @@ struct MethodsAndTables {
 // does not load, in the order in which the reasons are looked for.
 #[tactic(auto, using(crate::proofs::Reasons::first_says))]
 fn link_members<'a>(alloc: Global, classes: &Classes<'a>) -> Result<MethodsAndTables, LinkFault>
+    requires classes { duplicates [] classes.now.program.now ≡ None }
+    requires members { first_of_all duplicate_members classes.now.program.now ≡ None }
     ensures refusal { Answers result (after_members classes.now.program.now) }
     ensures places { IfOk result (λ made. map place_of made.methods.items ≡ coded_from 0 classes.now.program.now) }
     ensures linked { IfOk result (λ made. AllByRecursion (LinksAlone classes.now.program.now) made.methods.items) }
-    ensures tables { IfOk result (λ made. Loads classes.now.program.now → AreTables classes.now.program.now made.tables) }
+    ensures tables { IfOk result (λ made. AreTables classes.now.program.now made.tables) }
 {
     check_all_parents(alloc, classes)?;
     let ranks = check_cycles(alloc, classes)?;
     check_main(classes.program)?;
     let methods = link_classes(alloc, classes)?;
-    // none is not reached for a program that loads: all classes above others are there, and its ranks put
-    // each class after those right above it (neither is proved here)
     match tables_of(alloc, classes, &ranks) {
-        Ok(Some(tables)) => Ok(MethodsAndTables { methods, tables }),
-        Ok(None) | Err(_) => {
+        Ok(tables) => Ok(MethodsAndTables { methods, tables }),
+        Err(_) => {
             drop(methods);
             Err(LinkFault::OutOfMemory)
         }
@@ -86,7 +86,7 @@ fn link_methods(
     ensures places { IfOk result (λ parts. map place_of parts.methods.items ≡ coded_from 0 program.now) }
     ensures linked { IfOk result (λ parts. AllByRecursion (LinksAlone program.now) parts.methods.items) }
     ensures literals { IfOk result (λ parts. parts.literals.items ≡ literal_texts program.now) }
-    ensures tables { IfOk result (λ parts. Loads program.now → AreTables program.now parts.tables) }
+    ensures tables { IfOk result (λ parts. AreTables program.now parts.tables) }
 {
     let names = Names::of(alloc, program, built_ins)?;
     no_duplicate_classes(alloc, &names)?;

@@ -1,9 +1,10 @@
 // Which methods are selected for the objects of each class (JVMS 5.4.5, 6.5 invokevirtual).
 
-ghost use Rattle.std.specs.Prelude.{◌≡◌, ◌+◌, ◌-◌, ◌<◌, ◌^◌, false, IfOk, IfSome, IsTrue, Some, is_some, length, option_to_list};
+ghost use Rattle.std.specs.Prelude.{◌≡◌, ◌+◌, ◌-◌, ◌<◌, ◌^◌, false, IfOk, IsTrue, Some, is_some, length, option_to_list};
 ghost use Rattle.jm_world.specs.Classes.{height};
 ghost use Rattle.jm_world.specs.Loads.{Loads};
 ghost use Rattle.jm_world.specs.Resolution.{counts};
+ghost use Rattle.jm_tables.specs.Inheriting.{IsOrder};
 ghost use Rattle.jm_linked.specs.Methods.{selector_of};
 ghost use Rattle.jm_linked.specs.Tables.{AreSelected};
 ghost use Rattle.jm_linker.specs.Inherited.{AreClasses};
@@ -89,14 +90,15 @@ fn methods_of<'a>(
     alloc: Global,
     classes: &Classes<'a>,
     heirs: &[Declared],
-) -> Result<Option<Vec<Declared>>, AllocError>
-    ensures { IfOk result (λ found. IfSome found (λ methods. AreTheirMethods classes.now.program.now heirs.now (length heirs.now) methods.items)) }
+) -> Result<Vec<Declared>, AllocError>
+    requires { AreClasses classes.now.program.now (height classes.now.program.now) heirs.now }
+    ensures { IfOk result (λ methods. AreTheirMethods classes.now.program.now heirs.now (length heirs.now) methods.items) }
 {
     let mut methods = Vec::with_capacity(alloc, heirs.len())?;
     let mut before: usize = 0;
     for (number, heir) in heirs.iter().enumerate() {
         let Some(class) = classes.class_at(number) else {
-            return Ok(None);
+            unreachable!()
         };
         let above = list_of(alloc, superclass_number(class, heir))?;
         let own = own_methods(alloc, classes, before, class)?;
@@ -106,29 +108,29 @@ fn methods_of<'a>(
         };
         before = next;
     }
-    Ok(Some(methods))
+    Ok(methods)
 }
 
-/// The methods that are selected for an object of each class, made in an order in which each comes
-/// after those above it, or none where the order is not one; from the classes with the numbers of
-/// those right above them. The one error is that memory is refused.
+/// The methods that are selected for an object of each class, from the classes with the numbers of
+/// those right above them, made in an order of them. The error says that memory is refused, or that
+/// there are 2^32 methods.
 pub fn selected_of<'a>(
     alloc: Global,
     classes: &Classes<'a>,
     heirs: &[Declared],
     order: &[u32],
-) -> Result<Option<MethodTable>, AllocError>
-    ensures { IfOk result (λ found. IfSome found (λ selected. Loads classes.now.program.now
-        → AreClasses classes.now.program.now (height classes.now.program.now) heirs.now → AreSelected classes.now.program.now selected)) }
+) -> Result<MethodTable, AllocError>
+    requires loads { Loads classes.now.program.now }
+    requires heirs { AreClasses classes.now.program.now (height classes.now.program.now) heirs.now }
+    requires order { IsOrder heirs.now order.now }
+    ensures { IfOk result (λ selected. AreSelected classes.now.program.now selected) }
 {
     let Ok(selectors) = u32::try_from(classes.method_count()) else {
         return Err(AllocError);
     };
-    let Some(methods) = methods_of(alloc, classes, heirs)? else {
-        return Ok(None);
-    };
+    let methods = methods_of(alloc, classes, heirs)?;
     let Some(selected) = MethodTable::of(alloc, selectors, &methods, order)? else {
-        return Ok(None);
+        unreachable!()
     };
-    Ok(Some(selected))
+    Ok(selected)
 }

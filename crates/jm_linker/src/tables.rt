@@ -1,20 +1,23 @@
 // What a program's classes have by their numbers: which are above which, where their fields stand
 // and what these hold or begin with, and which methods are selected for them or initialize them.
 
-ghost use Rattle.std.specs.Prelude.{◌≡◌, ◌∷◌, [], IfOk, IfSome, Some, length, map, option_to_list};
+ghost use Rattle.std.specs.Prelude.{◌≡◌, ◌∷◌, [], IfOk, Some, length, map, option_to_list};
 ghost use Rattle.jm_world.specs.Hierarchy.{parents};
 ghost use Rattle.jm_world.specs.Loads.{Loads};
 ghost use Rattle.jm_world.specs.Classes.{height};
 ghost use Rattle.jm_tables.specs.Hierarchies.{own_cell};
+ghost use Rattle.jm_tables.specs.Inheriting.{IsOrder};
 ghost use Rattle.jm_tables.specs.declared.extent.DeclaredFields.{DeclaredFields as ModelFields};
 ghost use Rattle.jm_linked.specs.Tables.{AreTables};
 ghost use Rattle.jm_linker.specs.Inherited.{AreClasses, AreFieldTables, AreOwnTables, AreTheirFields, first_of};
 ghost use Rattle.jm_linker.specs.NumberedClasses.{AreNumbers};
+ghost use Rattle.jm_linker.specs.Orders.{AreThere};
 
 use crate::classes::Classes;
 use crate::codes::code_numbers;
 use crate::constants::constants_of;
 use crate::initializers::initializers_of;
+use crate::order::order_of;
 use crate::parents::superclass_of;
 use crate::selected::selected_of;
 use jm_linked::{LinkedConstant, Tables};
@@ -22,25 +25,26 @@ use jm_program::{AccessFlags, ClassParts, Name, Sequence};
 use jm_tables::{Cell, Declared, DeclaredFields, FieldKinds, Hierarchy, Layout};
 use std::alloc::{AllocError, Global};
 
-// The numbers of the classes of the names, or none where one is not there.
+// The numbers of the classes of the names.
 fn numbers_of<'a>(
     alloc: Global,
     classes: &Classes<'a>,
     names: &'a [Name],
-) -> Result<Option<Vec<u32>>, AllocError>
-    ensures { IfOk result (λ found. IfSome found (λ numbers. AreNumbers classes.now.program.now numbers.items names.now)) }
+) -> Result<Vec<u32>, AllocError>
+    requires { AreThere classes.now.program.now names.now }
+    ensures { IfOk result (λ numbers. AreNumbers classes.now.program.now numbers.items names.now) }
 {
     let mut numbers = Vec::new(alloc);
     for name in names {
         let Some(number) = classes.class_number(name) else {
-            return Ok(None);
+            unreachable!()
         };
         let Ok(number) = u32::try_from(number) else {
             return Err(AllocError);
         };
         numbers.push(number)?;
     }
-    Ok(Some(numbers))
+    Ok(numbers)
 }
 
 // The numbers of the classes right above one: of its superclass, and then of its superinterfaces.
@@ -48,17 +52,14 @@ fn above_of<'a>(
     alloc: Global,
     classes: &Classes<'a>,
     class: &'a ClassParts,
-) -> Result<Option<Vec<u32>>, AllocError>
-    ensures { IfOk result (λ found. IfSome found (λ above. AreNumbers classes.now.program.now above.items (parents (Some class.now)))) }
+) -> Result<Vec<u32>, AllocError>
+    requires { AreThere classes.now.program.now (parents (Some class.now)) }
+    ensures { IfOk result (λ above. AreNumbers classes.now.program.now above.items (parents (Some class.now))) }
 {
-    let Some(mut above) = numbers_of(alloc, classes, superclass_of(class))? else {
-        return Ok(None);
-    };
-    let Some(interfaces) = numbers_of(alloc, classes, class.interfaces.as_slice())? else {
-        return Ok(None);
-    };
+    let mut above = numbers_of(alloc, classes, superclass_of(class))?;
+    let interfaces = numbers_of(alloc, classes, class.interfaces.as_slice())?;
     above.extend_from_slice(&interfaces)?;
-    Ok(Some(above))
+    Ok(above)
 }
 
 fn own_cell(alloc: Global, column: u32) -> Result<Vec<Cell>, AllocError>
@@ -69,25 +70,26 @@ fn own_cell(alloc: Global, column: u32) -> Result<Vec<Cell>, AllocError>
     Ok(own)
 }
 
-// Each class with the numbers of those right above it, or none where one of them is not there.
-fn heirs_of<'a>(alloc: Global, classes: &Classes<'a>) -> Result<Option<Vec<Declared>>, AllocError>
-    ensures { IfOk result (λ found. IfSome found (λ heirs. AreClasses classes.now.program.now (height classes.now.program.now) heirs.items)) }
+// Each class, of which there are so many, with the numbers of those right above it.
+fn heirs_of<'a>(
+    alloc: Global,
+    classes: &Classes<'a>,
+    count: u32,
+) -> Result<Vec<Declared>, AllocError>
+    requires count { count ≡ height classes.now.program.now }
+    requires loads { Loads classes.now.program.now }
+    ensures { IfOk result (λ heirs. AreClasses classes.now.program.now (height classes.now.program.now) heirs.items) }
 {
-    let mut heirs = Vec::with_capacity(alloc, classes.height())?;
-    for number in 0..classes.height() {
-        let Ok(column) = u32::try_from(number) else {
-            return Err(AllocError);
+    let mut heirs = Vec::with_capacity(alloc, count as usize)?;
+    for number in 0..count {
+        let Some(class) = classes.class_at(number as usize) else {
+            unreachable!()
         };
-        let Some(class) = classes.class_at(number) else {
-            return Ok(None);
-        };
-        let Some(above) = above_of(alloc, classes, class)? else {
-            return Ok(None);
-        };
-        let own = own_cell(alloc, column)?;
+        let above = above_of(alloc, classes, class)?;
+        let own = own_cell(alloc, number)?;
         heirs.push(Declared { above, own })?;
     }
-    Ok(Some(heirs))
+    Ok(heirs)
 }
 
 /// The number of the superclass, which stands first among those right above a class.
@@ -105,20 +107,21 @@ fn fields_of<'a>(
     alloc: Global,
     classes: &Classes<'a>,
     heirs: &[Declared],
-) -> Result<Option<Vec<DeclaredFields<'a>>>, AllocError>
-    ensures { IfOk result (λ found. IfSome found (λ fields. AreTheirFields classes.now.program.now heirs.now (length heirs.now) fields.items)) }
+) -> Result<Vec<DeclaredFields<'a>>, AllocError>
+    requires { AreClasses classes.now.program.now (height classes.now.program.now) heirs.now }
+    ensures { IfOk result (λ fields. AreTheirFields classes.now.program.now heirs.now (length heirs.now) fields.items) }
 {
     let mut fields = Vec::with_capacity(alloc, heirs.len())?;
     for (number, heir) in heirs.iter().enumerate() {
         let Some(class) = classes.class_at(number) else {
-            return Ok(None);
+            unreachable!()
         };
         fields.push(DeclaredFields {
             superclass: superclass_number(class, heir),
             fields: class.fields.as_slice(),
         })?;
     }
-    Ok(Some(fields))
+    Ok(fields)
 }
 
 // The superclasses' numbers.
@@ -135,9 +138,10 @@ fn superclasses_in(
     Ok(numbers)
 }
 
-// When a class is placed: after those of lower ranks, which all of the program's classes have that
+// When a class is expected: after those of lower ranks, which all of the program's classes have that
 // are right above one. Of the built-in ones, each of which stands after its superclass, the
-// interfaces come right after Object.
+// interfaces come right after Object. What is expected is looked at by `order_of`, so nothing need be
+// known of it.
 #[derive(Clone, Copy)]
 struct Turn {
     rank: u32,
@@ -145,7 +149,7 @@ struct Turn {
     number: u32,
 }
 
-// When the built-in class of a number is placed.
+// When the built-in class of a number is expected.
 fn turn_of_built_in<'a>(classes: &Classes<'a>, number: usize, short: u32) -> Turn {
     let depth = match classes.class_at(number) {
         Some(class) if class.superclass.is_none() => 0,
@@ -159,7 +163,7 @@ fn turn_of_built_in<'a>(classes: &Classes<'a>, number: usize, short: u32) -> Tur
     }
 }
 
-// When each class is placed.
+// When each class is expected.
 fn turns_of<'a>(
     alloc: Global,
     classes: &Classes<'a>,
@@ -184,8 +188,8 @@ fn turns_of<'a>(
     Ok(turns)
 }
 
-// All classes in the order in which they are placed.
-fn order_of<'a>(
+// All classes in the order in which they are expected.
+fn expected_order<'a>(
     alloc: Global,
     classes: &Classes<'a>,
     ranks: &[u32],
@@ -207,32 +211,31 @@ struct FieldTables {
     superclasses: Sequence<Option<u32>>,
 }
 
-// The tables of the classes' fields and superclasses, or none where a class above one is not there or
-// comes after it in the order.
+// The tables of the classes' fields and superclasses, made in an order of them.
 fn field_tables<'a>(
     alloc: Global,
     classes: &Classes<'a>,
     heirs: &[Declared],
     order: &[u32],
-) -> Result<Option<FieldTables>, AllocError>
-    ensures { IfOk result (λ found. IfSome found (λ tables. Loads classes.now.program.now
-        → AreClasses classes.now.program.now (height classes.now.program.now) heirs.now → AreFieldTables classes.now.program.now tables)) }
+) -> Result<FieldTables, AllocError>
+    requires loads { Loads classes.now.program.now }
+    requires heirs { AreClasses classes.now.program.now (height classes.now.program.now) heirs.now }
+    requires order { IsOrder heirs.now order.now }
+    ensures { IfOk result (λ tables. AreFieldTables classes.now.program.now tables) }
 {
-    let Some(fields) = fields_of(alloc, classes, heirs)? else {
-        return Ok(None);
-    };
+    let fields = fields_of(alloc, classes, heirs)?;
     let Some(layout) = Layout::of(alloc, &fields, order)? else {
-        return Ok(None);
+        unreachable!()
     };
     let Some(kinds) = FieldKinds::of(alloc, &fields, order)? else {
-        return Ok(None);
+        unreachable!()
     };
     let superclasses = Sequence::new(superclasses_in(alloc, &fields)?);
-    Ok(Some(FieldTables {
+    Ok(FieldTables {
         layout,
         kinds,
         superclasses,
-    }))
+    })
 }
 
 // The tables of what the classes themselves declare.
@@ -256,27 +259,25 @@ fn own_tables<'a>(alloc: Global, classes: &Classes<'a>) -> Result<OwnTables, All
     })
 }
 
-// The tables of classes with the numbers of those right above them, in an order of them.
+// The tables of classes with the numbers of those right above them, made in an order of them.
 fn tables_in<'a>(
     alloc: Global,
     classes: &Classes<'a>,
     heirs: &[Declared],
     order: &[u32],
-) -> Result<Option<Tables>, AllocError>
-    requires { AreClasses classes.now.program.now (height classes.now.program.now) heirs.now }
-    ensures { IfOk result (λ found. IfSome found (λ tables. Loads classes.now.program.now → AreTables classes.now.program.now tables)) }
+) -> Result<Tables, AllocError>
+    requires loads { Loads classes.now.program.now }
+    requires heirs { AreClasses classes.now.program.now (height classes.now.program.now) heirs.now }
+    requires order { IsOrder heirs.now order.now }
+    ensures { IfOk result (λ tables. AreTables classes.now.program.now tables) }
 {
     let Some(hierarchy) = Hierarchy::of(alloc, heirs, order)? else {
-        return Ok(None);
+        unreachable!()
     };
-    let Some(of_fields) = field_tables(alloc, classes, heirs, order)? else {
-        return Ok(None);
-    };
-    let Some(selected) = selected_of(alloc, classes, heirs, order)? else {
-        return Ok(None);
-    };
+    let of_fields = field_tables(alloc, classes, heirs, order)?;
+    let selected = selected_of(alloc, classes, heirs, order)?;
     let own = own_tables(alloc, classes)?;
-    Ok(Some(Tables {
+    Ok(Tables {
         hierarchy,
         layout: of_fields.layout,
         kinds: of_fields.kinds,
@@ -285,23 +286,28 @@ fn tables_in<'a>(
         superclasses: of_fields.superclasses,
         initializers: own.initializers,
         constants: own.constants,
-    }))
+    })
 }
 
-/// What the classes of a program that loads have by their numbers, made in the order of the ranks;
-/// or none where a class above one is not there or has no lower rank. It takes 64 bytes for each
-/// digit of a class's number, to the base 16, 88 more for a class and 26 for a field, 32 for a static
-/// one.
+/// What the classes of a program that loads have by their numbers, made in the order of the ranks
+/// where these put each class behind those right above it. It takes 64 bytes for each digit of a
+/// class's number, to the base 16, 88 more for a class and 26 for a field, 32 for a static one.
+///
+/// The error says that memory is refused, or that there are 2^32 classes or methods, or fields of a
+/// class's instances.
 pub fn tables_of<'a>(
     alloc: Global,
     classes: &Classes<'a>,
     ranks: &[u32],
-) -> Result<Option<Tables>, AllocError>
-    ensures { IfOk result (λ found. IfSome found (λ tables. Loads classes.now.program.now → AreTables classes.now.program.now tables)) }
+) -> Result<Tables, AllocError>
+    requires { Loads classes.now.program.now }
+    ensures { IfOk result (λ tables. AreTables classes.now.program.now tables) }
 {
-    let Some(heirs) = heirs_of(alloc, classes)? else {
-        return Ok(None);
+    let Ok(count) = u32::try_from(classes.height()) else {
+        return Err(AllocError);
     };
-    let order = order_of(alloc, classes, ranks)?;
+    let heirs = heirs_of(alloc, classes, count)?;
+    let expected = expected_order(alloc, classes, ranks)?;
+    let order = order_of(alloc, &heirs, count, &expected)?;
     tables_in(alloc, classes, &heirs, &order)
 }

@@ -2,7 +2,7 @@
 use Rattle.std.proofs.Common.{◌≡◌, ◌≢◌, ℕ, List, [], ◌∷◌, ◌++◌, refl, arith}
 use Rattle.std.specs.Prelude.{Option, Some, None, Bool, true, false, nat_eq, if◌then◌else◌}
 use Rattle.std.specs.List.{flat_map}
-use Rattle.std.proofs.lemmas.List.Elements.{All-nil, All-cons, All-append}
+use Rattle.std.proofs.lemmas.List.Elements.{All-nil, All-cons}
 use Rattle.jm_program.specs.JasminUnits.{name_text}
 use Rattle.jm_program.specs.JasminInstructions.{instr_line}
 use Rattle.jm_program.specs.declared.class.ClassParts.{ClassParts}
@@ -11,20 +11,14 @@ use Rattle.jm_program.specs.declared.code.Code.{Code}
 use Rattle.jm_film.specs.Escapes.{IsHarmless, escaped}
 use Rattle.jm_film.specs.Data.{row_text}
 use Rattle.jm_film.specs.declared.row.Row.TheVariants as row
-use Rattle.jm_film.proofs.Harmless.{escaped_harmless, row_harmless}
+use Rattle.jm_film.proofs.Harmless.{escaped_harmless, row_harmless, both, one}
 use Rattle.jm_listing.specs.declared.source.Source.{Source}
 use Rattle.jm_listing.specs.Listings.{method_name, entry_text, entry_row, instruction_row, code_rows, rows_with, method_rows, class_rows, source_byte, source_lines, source_rows}
 
 abbrev IsNoLess : ℕ → Type 0
 IsNoLess b = b ≢ 60
 
-both : (xs ys : List ℕ) → IsHarmless xs → IsHarmless ys → IsHarmless (xs ++ ys)
-both xs ys h k = All-append IsNoLess xs ys h k
-
-one : (b : ℕ) → b ≢ 60 → IsHarmless (b ∷ [])
-one b h = All-cons IsNoLess b [] h (All-nil IsNoLess)
-
-each : {A : Type 0} (f : A → List ℕ) → ((x : A) → IsHarmless (f x)) → (xs : List A) → IsHarmless (flat_map f xs)
+pub each : {A : Type 0} (f : A → List ℕ) → ((x : A) → IsHarmless (f x)) → (xs : List A) → IsHarmless (flat_map f xs)
 each f h [] = All-nil IsNoLess
 each f h (x ∷ xs) = both (f x) (flat_map f xs) (h x) (each f h xs)
 

@@ -4,6 +4,7 @@ use Rattle.std.proofs.Common.{arith, length-append, append_assoc}
 use Rattle.std.specs.Prelude.{Result, Ok, Err, OnOk, pos, slice_get}
 use Rattle.std.proofs.lemmas.List.{length-map}
 use Rattle.jm_program.specs.declared.descriptor.BaseType.TheVariants as base
+use Rattle.jm_program.proofs.Sequences.{got_last}
 use Rattle.jm_builtins.specs.Numbers.{number_of}
 use Rattle.jm_builtins.specs.declared.built_in_class.BuiltInClass.TheVariants.{String}
 use Rattle.jm_values.specs.declared.value.Value.{Value}
@@ -11,13 +12,12 @@ use Rattle.jm_values.specs.declared.value.Value.TheVariants.{Int, Null, Ref}
 use Rattle.jm_values.specs.Objects.{ObjectOf, copies, size_by}
 use Rattle.jm_values.specs.Content.{Content, AllResident, HasValue, IsSet, name_of, serial_at, object_at}
 use Rattle.jm_values.proofs.SoundContents.{name_is}
+use Rattle.jm_values.proofs.ArraysOfArrays.{copies_many}
 use Rattle.jm_heap.specs.Cells.{class_size}
 use Rattle.jm_heap.specs.Packing.{Fits, kind_of}
 use Rattle.jm_heap.specs.declared.class_id.ClassId.{ClassId}
 use Rattle.jm_heap.specs.declared.class_id.ClassId.TheVariants.{Instance, Array}
 use Rattle.jm_heap.specs.declared.class_id.Element.TheVariants.{Base}
-use Rattle.jm_heap.proofs.NewLemmas.{many_copies}
-use Rattle.jm_heap.proofs.SlotLemmas.{get_end}
 use Rattle.jm_machine.specs.declared.fault.OutOfMemory.{OutOfMemory}
 use Rattle.jm_machine.specs.Start.{IsEmpty}
 use Rattle.jm_machine.specs.FirstObjects.{Holds, HasRoomFor, HasLast, Adds, Turns, cells_of_all, stream, arguments, char_array, blank_chars}
@@ -58,7 +58,7 @@ blank_of n = record { type = Array (record { dimensions = 0; element = Base base
 
 module _ (text : List ℕ) (n : ℕ) (long : n ≡ length text) where
   blank_size : size_by class_size (blank_of n) ≡ size_by class_size (char_array text)
-  blank_size = ap (class_size (char_array text).type) (many_copies n (Int (pos 0)) ∙ long ∙ sym (length-map text (λ u. Int (pos u))))
+  blank_size = ap (class_size (char_array text).type) (copies_many n (Int (pos 0)) ∙ long ∙ sym (length-map text (λ u. Int (pos u))))
 
   pub room_for_blank : (c : Content ClassId) (roots : List ℕ) → HasRoomFor c roots (char_array text ∷ []) → HasRoomFor c roots (blank_of n ∷ [])
   room_for_blank c roots = room_for_less c roots (char_array text ∷ []) (blank_of n ∷ []) (let same = blank_size in omega arith)
@@ -88,7 +88,7 @@ module _ (old mid : Content ClassId) (r0 r1 : List ℕ) (some : 0 < length r0) (
     pub field_there : (v : Value) × HasValue mid place 0 v
     field_there =
         let lies = made.places (length room.objects) place (string_at room.objects room.holds) in
-        let is = made.objects_are (length room.objects) blank_string (get_end room.objects blank_string) in
+        let is = made.objects_are (length room.objects) blank_string (got_last room.objects blank_string) in
         (Null, (length room.objects, blank_string, lies, is, refl))
 
     pub field_fits : (v : Value) (k : ℕ) (o : ObjectOf ClassId) → serial_at mid place ≡ Some k → object_at mid k ≡ Some o → Fits (kind_of o.type) v

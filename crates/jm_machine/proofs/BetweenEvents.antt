@@ -11,7 +11,7 @@ use Rattle.jm_heap.specs.declared.heap.Kind.TheVariants.{Minor, Full}
 use Rattle.jm_machine.specs.BetweenEvents.{collection_of, interleaved}
 
 -- a collection changes no world, stopped or not
-still_after : (w : World) (e : Event) → after_event w e ≡ answered kind.Done w → (after w e).world ≡ w
+pub still_after : (w : World) (e : Event) → after_event w e ≡ answered kind.Done w → (after w e).world ≡ w
 unfolding after
 still_after w e is = by w.stop
   where
@@ -47,7 +47,7 @@ one_more c es i d before mid now within is first second =
     second ∙ ap (λ xs. xs ++ get_or es i d ∷ []) (first ∙ ap (λ xs. xs ++ c ∷ []) is)
     ∙ before_more_suc c es i d within ∙ ap (λ n. before_each c (take n es)) (sym (add-one i))
 
-and_last : (c : Event) (es : List Event) → before_each c es ++ c ∷ [] ≡ interleaved c es
+pub and_last : (c : Event) (es : List Event) → before_each c es ++ c ∷ [] ≡ interleaved c es
 and_last c [] = refl
 and_last c (e ∷ es) = ap (λ xs. c ∷ e ∷ xs) (and_last c es)
 

@@ -4,6 +4,7 @@ use Rattle.std.proofs.Common.{length-append}
 use Rattle.std.specs.Prelude.{map, pos, slice_get, slice_set}
 use Rattle.std.proofs.lemmas.Option.{slice_get-get_or}
 use Rattle.jm_program.specs.declared.descriptor.BaseType.TheVariants as base
+use Rattle.jm_program.proofs.Sequences.{got_last}
 use Rattle.jm_values.specs.declared.value.Value.{Value}
 use Rattle.jm_values.specs.declared.value.Value.TheVariants.{Int}
 use Rattle.jm_values.specs.Objects.{ObjectOf, copies}
@@ -13,7 +14,6 @@ use Rattle.jm_heap.specs.declared.class_id.ClassId.TheVariants.{Array}
 use Rattle.jm_heap.specs.declared.class_id.Element.TheVariants.{Base}
 use Rattle.jm_heap.specs.Packing.{Fits, kind_of}
 use Rattle.jm_heap.specs.declared.storage.Storage.TheVariants as kind
-use Rattle.jm_heap.proofs.SlotLemmas.{get_end}
 use Rattle.jm_machine.specs.FirstObjects.{Holds, HasLast, Turns, blank_chars, char_array}
 use Rattle.jm_machine.proofs.Holding.{last_set, only_object}
 
@@ -79,7 +79,7 @@ module _ (old now : Content ClassId) (roots us : List ℕ) (p n many : ℕ) (l :
   element_there =
       let h = t.holds l.front l.holds in
       let lies = h.places (length l.front) p (last_at l.front l.holds) in
-      let is = h.objects_are (length l.front) (filled_chars us n) (get_end l.front (filled_chars us n)) in
+      let is = h.objects_are (length l.front) (filled_chars us n) (got_last l.front (filled_chars us n)) in
       (Int (pos 0), (length l.front, filled_chars us n, lies, is, next_is us n (get_or us n 0) here))
 
   pub element_fits : (v : Value) → Fits kind.Chars v → (k : ℕ) (o : ObjectOf ClassId) → serial_at now p ≡ Some k → object_at now k ≡ Some o

@@ -1,17 +1,13 @@
 -- Names of classes by number.
-use Rattle.std.proofs.Common.{◌≡◌, ℕ, zero, suc, ◌+◌, ◌-◌, ◌<◌, ◌≤◌, List, [], ◌∷◌, ◌++◌, Some, None, refl, sym, ap, ◌∙◌, subst, length, get_or, arith}
+use Rattle.std.proofs.Common.{◌≡◌, ℕ, zero, suc, ◌+◌, ◌-◌, ◌<◌, ◌≤◌, List, [], ◌∷◌, ◌++◌, Some, None, sym, ap, ◌∙◌, subst, length, get_or, arith}
 use Rattle.std.specs.Prelude.{map, slice_get, option_map, unwrap_or}
 use Rattle.std.proofs.lemmas.Option.{slice_get-map, slice_get-get_or, slice_get_past}
 use Rattle.std.proofs.lemmas.List.{length-map}
 use Rattle.jm_program.specs.declared.class.ClassParts.{ClassParts}
+use Rattle.jm_program.proofs.Sequences.{got_within}
 use Rattle.jm_builtins.specs.declared.built_in.BuiltIn.{BuiltIn}
 use Rattle.jm_builtins.specs.List.{the_builtins}
 use Rattle.jm_linked.specs.Links.{class_name_of}
-
-pub in_first : {A : Type 0} (xs ys : List A) (n : ℕ) → n < length xs → slice_get (xs ++ ys) n ≡ slice_get xs n
-in_first [] ys n l = absurd (omega arith)
-in_first (x ∷ xs) ys zero l = refl
-in_first (x ∷ xs) ys (suc n) l = in_first xs ys n (omega arith)
 
 pub in_second : {A : Type 0} (xs ys : List A) (n k : ℕ) → n ≡ length xs + k → slice_get (xs ++ ys) n ≡ slice_get ys k
 in_second [] ys n k e = let same : n ≡ k = omega arith in ap (slice_get ys) same
@@ -24,7 +20,7 @@ unfolding class_name_of
 built_in_name program bs n b e l g =
     let here : slice_get the_builtins n ≡ Some b = ap (λ (xs : List BuiltIn). slice_get xs n) (sym e) ∙ slice_get-get_or bs n b l ∙ ap Some (sym g) in
     let within : n < length (map (λ x. x.name) the_builtins) = subst (λ k. n < k) (ap length e ∙ sym (length-map the_builtins (λ (x : BuiltIn). x.name))) l in
-    sym (ap (λ o. unwrap_or o []) (in_first (map (λ (x : BuiltIn). x.name) the_builtins) (map (λ (x : ClassParts). x.name) program) n within ∙ slice_get-map (λ (x : BuiltIn). x.name) the_builtins n ∙ ap (option_map (λ (x : BuiltIn). x.name)) here))
+    sym (ap (λ o. unwrap_or o []) (got_within (map (λ (x : BuiltIn). x.name) the_builtins) (map (λ (x : ClassParts). x.name) program) n within ∙ slice_get-map (λ (x : BuiltIn). x.name) the_builtins n ∙ ap (option_map (λ (x : BuiltIn). x.name)) here))
 
 after_built_ins : (program : List ClassParts) (n k : ℕ) → n ≡ length the_builtins + k → class_name_of program n ≡ unwrap_or (option_map (λ (x : ClassParts). x.name) (slice_get program k)) []
 unfolding class_name_of

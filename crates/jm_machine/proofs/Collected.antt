@@ -1,10 +1,11 @@
 -- After a full collection exactly what the world reaches is resident.
-use Rattle.std.proofs.Common.{◌≡◌, ℕ, ◌<◌, List, [], ◌∷◌, Option, Some, None, refl, sym, ◌∙◌, subst, length, arith, zero, suc}
-use Rattle.std.specs.Prelude.{slice_get, option_map, Result, Ok, Err, OnOk}
+use Rattle.std.proofs.Common.{◌≡◌, ℕ, ◌<◌, [], ◌∷◌, Option, Some, None, refl, sym, ◌∙◌, subst}
+use Rattle.std.specs.Prelude.{option_map, Result, Ok, Err, OnOk}
 use Rattle.jm_values.specs.Content.{Content, object_at}
 use Rattle.jm_world.specs.Matches.{Matches, as_named}
 use Rattle.jm_world.specs.Objects.{Object}
 use Rattle.jm_values.specs.Objects.{ObjectOf}
+use Rattle.jm_values.proofs.Lists.{get_there as within}
 use Rattle.jm_world.specs.Types.{ObjectType}
 use Rattle.jm_world.specs.World.{World}
 use Rattle.jm_world.specs.declared.event.Event.{Event}
@@ -19,11 +20,6 @@ use Rattle.jm_state.specs.Reached.{LeavesReachable}
 use Rattle.jm_state.specs.Places.{places_of}
 use Rattle.jm_state.specs.View.{StateView}
 use Rattle.jm_machine.specs.Collected.{CollectsIn, HoldsReachable, LeavesAfter, Word}
-
-within : {A : Type 0} (xs : List A) (k : ℕ) → k < length xs → (x : A) × (slice_get xs k ≡ Some x)
-within [] k h = absurd (omega arith)
-within (x ∷ xs) zero h = (x, refl)
-within (x ∷ xs) (suc k) h = within xs k (omega arith)
 
 some_of : (named : ClassId → ObjectType) (x : Option (ObjectOf ClassId)) (y : Object) → option_map (as_named named) x ≡ Some y → (o : ObjectOf ClassId) × (x ≡ Some o)
 some_of named None y e = cc

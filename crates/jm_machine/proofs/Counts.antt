@@ -1,5 +1,5 @@
 -- Replies of equal events.
-use Rattle.std.proofs.Common.{◌≡◌, ℕ, zero, suc, ◌+◌, ◌∷◌, ◌++◌, Option, Some, None, Bool, true, false, refl, sym, ap, ◌∙◌, replicate, arith}
+use Rattle.std.proofs.Common.{◌≡◌, ℕ, zero, suc, ◌+◌, ◌∷◌, ◌++◌, Option, Some, None, Bool, true, false, refl, sym, ap, ◌∙◌, replicate}
 use Rattle.jm_world.specs.Next.{Next, goes, stops, blocks}
 use Rattle.jm_world.specs.Run.{After, after, after_event, after_step, after_thread, answered, reply, run_from, replies_from}
 use Rattle.jm_world.specs.Stepping.{step_thread}
@@ -9,6 +9,7 @@ use Rattle.jm_world.specs.declared.event.Event.TheVariants.{Step, Minor, Full}
 use Rattle.jm_world.specs.declared.reply.Reply.{Reply}
 use Rattle.jm_world.specs.declared.reply.ReplyKind.TheVariants as kind
 use Rattle.jm_world.specs.declared.stop.Stop.{Stop}
+use Rattle.jm_interp.proofs.MethodRuns.{run_more, replies_more}
 
 -- a reply has the counts of the world after
 pub record HasCounts (a : After) : Type 0 where
@@ -57,15 +58,3 @@ counts_after (suc n) w e r first all =
     let head : (after w e).reply ≡ r = cc in
     let rest : replicate n r ≡ replies_from (after w e).world (replicate n e) = cc in
     counts_after n (after w e).world e r (counts_next w e r first head) rest
-
--- so many events, and then others like them
-pub world_after : (w : World) (e : Event) (m n k : ℕ) → m ≡ n + k → run_from (run_from w (replicate n e)) (replicate k e) ≡ run_from w (replicate m e)
-world_after w e m zero k is = let same : k ≡ m = omega arith in ap (λ i. run_from w (replicate i e)) same
-world_after w e zero (suc n) k is = absurd (omega arith)
-world_after w e (suc m) (suc n) k is = world_after (after w e).world e m n k (omega arith)
-
-pub replies_after : (w : World) (e : Event) (m n k : ℕ) → m ≡ n + k
-    → replies_from w (replicate n e) ++ replies_from (run_from w (replicate n e)) (replicate k e) ≡ replies_from w (replicate m e)
-replies_after w e m zero k is = let same : k ≡ m = omega arith in ap (λ i. replies_from w (replicate i e)) same
-replies_after w e zero (suc n) k is = absurd (omega arith)
-replies_after w e (suc m) (suc n) k is = ap (λ rs. (after w e).reply ∷ rs) (replies_after (after w e).world e m n k (omega arith))

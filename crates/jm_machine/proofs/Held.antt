@@ -1,11 +1,11 @@
 -- Held monitors that are told one after the other.
 use Rattle.std.proofs.Common.{◌≡◌, ◌≢◌, ◌⊎◌, ℕ, List, [], ◌∷◌, ◌++◌, Option, Some, None, true, false, refl, sym, ap, ◌∙◌, subst, inl, inr, arith}
 use Rattle.std.proofs.Common.{append_assoc, append-nil}
-use Rattle.std.specs.Prelude.{map, nat_eq}
-use Rattle.std.proofs.lemmas.Bool.Decides.{eqb_tells}
+use Rattle.std.specs.Prelude.{map}
 use Rattle.std.proofs.lemmas.List.{map-append}
 use Rattle.std.specs.List.Sorted.{IsStrictlySortedBy}
 use Rattle.std.specs.Ordering.{nat_cmp}
+use Rattle.jm_program.proofs.Numbers.{found_itself, found_unequal}
 use Rattle.jm_values.specs.Shape.{Among, list_shape}
 use Rattle.jm_values.specs.Content.{Content, AllResident, serial_at, name_of}
 use Rattle.jm_values.proofs.SoundContents.{name_is}
@@ -53,21 +53,6 @@ next_is : (hs : List HeldMonitor) (p : ℕ) (rest : List ℕ) → places_of_held
 next_is [] p rest e = cc
 next_is (h ∷ hs) p rest e = record { held = h; after = hs; is = refl; place = cc; left = cc }
 
--- a serial that stands behind others that are less
-same_number : (a : ℕ) → nat_eq a a ≡ true
-same_number a = by (eqb_tells a a)
-  where
-    by : ((nat_eq a a ≡ true) × (a ≡ a)) ⊎ ((nat_eq a a ≡ false) × (a ≢ a)) → nat_eq a a ≡ true
-    by (inl t) = t.0
-    by (inr t) = absurd (t.1 refl)
-
-other_number : (a b : ℕ) → a ≢ b → nat_eq a b ≡ false
-other_number a b ne = by (eqb_tells a b)
-  where
-    by : ((nat_eq a b ≡ true) × (a ≡ b)) ⊎ ((nat_eq a b ≡ false) × (a ≢ b)) → nat_eq a b ≡ false
-    by (inl t) = absurd (ne t.1)
-    by (inr t) = t.0
-
 serial_among : (before after : List HeldMonitor) (h : HeldMonitor) → Among h.serial (map (λ (x : HeldMonitor). x.serial) (before ++ h ∷ after))
 serial_among [] after h = inl refl
 serial_among (x ∷ before) after h = inr (serial_among before after h)
@@ -75,11 +60,11 @@ serial_among (x ∷ before) after h = inr (serial_among before after h)
 found_in : (before after : List HeldMonitor) (h : HeldMonitor) → IsStrictlySortedBy nat_cmp (map (λ (x : HeldMonitor). x.serial) (before ++ h ∷ after))
     → held_in (before ++ h ∷ after) h.serial ≡ Some h
 unfolding IsStrictlySortedBy
-found_in [] after h sorted = ap (λ b. elim b as (λ _. Option HeldMonitor) [ true ↦ Some h | false ↦ held_in after h.serial ]) (same_number h.serial)
+found_in [] after h sorted = ap (λ b. elim b as (λ _. Option HeldMonitor) [ true ↦ Some h | false ↦ held_in after h.serial ]) (found_itself h.serial)
 found_in (x ∷ before) after h sorted =
     let low = all_above x.serial _ sorted.0 h.serial (serial_among before after h) in
     let other : x.serial ≢ h.serial = λ e. omega arith in
-    ap (λ b. elim b as (λ _. Option HeldMonitor) [ true ↦ Some x | false ↦ held_in (before ++ h ∷ after) h.serial ]) (other_number x.serial h.serial other)
+    ap (λ b. elim b as (λ _. Option HeldMonitor) [ true ↦ Some x | false ↦ held_in (before ++ h ∷ after) h.serial ]) (found_unequal x.serial h.serial other)
     ∙ found_in before after h sorted.1
 
 -- so is its name

@@ -4,6 +4,7 @@ use Rattle.std.proofs.Common.{◌∙◌, subst, inl, inr, length, arith, length-
 use Rattle.std.specs.Prelude.{map, nat_eq, slice_get, slice_set}
 use Rattle.std.proofs.lemmas.Bool.Decides.{eqb_tells}
 use Rattle.std.proofs.lemmas.List.{length-map}
+use Rattle.jm_program.proofs.Sequences.{got_last, got_before_last}
 use Rattle.jm_values.specs.Shape.{Among}
 use Rattle.jm_values.specs.Rename.{rename}
 use Rattle.jm_values.specs.declared.value.Value.{Value}
@@ -13,17 +14,16 @@ use Rattle.jm_values.specs.Content.{Content, Resident, places_of, serials_of, Is
 use Rattle.jm_values.specs.Content.{object_at, name_of}
 use Rattle.jm_values.proofs.Among.{among_map}
 use Rattle.jm_values.proofs.Lists.{get_there, got_within, get_map}
-use Rattle.jm_values.proofs.SoundContents.{name_is}
+use Rattle.jm_values.proofs.SoundContents.{name_is, object_below}
 use Rattle.jm_heap.specs.Cells.{class_size}
 use Rattle.jm_heap.specs.Allocation.{IsRefused}
 use Rattle.jm_heap.specs.declared.class_id.ClassId.{ClassId}
 use Rattle.jm_heap.specs.declared.class_id.ClassId.TheVariants.{Instance, Array}
 use Rattle.jm_heap.specs.declared.fault.HeapFault.{HeapFault}
 use Rattle.jm_heap.specs.declared.fault.HeapFault.TheVariants.{HeapFull, SerialsEnd}
-use Rattle.jm_heap.proofs.SlotLemmas.{get_end, get_before_end}
 use Rattle.jm_machine.specs.Start.{IsEmpty}
 use Rattle.jm_machine.specs.FirstObjects.{Holds, HasRoomFor, Adds, cells_of_all}
-use Rattle.jm_machine.proofs.WithinCells.{used_at_most, object_below}
+use Rattle.jm_machine.proofs.WithinCells.{used_at_most}
 
 -- where an element of a list is
 pub among_index : (p : ℕ) (ps : List ℕ) → Among p ps → (k : ℕ) × (slice_get ps k ≡ Some p)
@@ -154,18 +154,18 @@ module _ (old new : Content ClassId) (r0 r1 : List ℕ) (place : ℕ) (o : Objec
 
   places_more : (k p : ℕ) → k ≡ length r1 ⊎ k ≢ length r1 → slice_get (r1 ++ place ∷ []) k ≡ Some p → serial_at new p ≡ Some k
   places_more k p (inl at) e =
-      let last : Some place ≡ Some p = sym (get_end r1 place) ∙ ap (slice_get (r1 ++ place ∷ [])) (sym at) ∙ e in
+      let last : Some place ≡ Some p = sym (got_last r1 place) ∙ ap (slice_get (r1 ++ place ∷ [])) (sym at) ∙ e in
       let same : place ≡ p = cc in
       let number : old.next ≡ k = h.next ∙ sym as_many ∙ sym at in
       subst (λ q. serial_at new q ≡ Some k) same (m.placed ∙ ap Some number)
-  places_more k p (inr other) e = stays_at k p (sym (get_before_end r1 place k other) ∙ e)
+  places_more k p (inr other) e = stays_at k p (sym (got_before_last r1 place k other) ∙ e)
 
   objects_more : (k : ℕ) (x : ObjectOf ClassId) → k ≡ length objects ⊎ k ≢ length objects → slice_get (objects ++ o ∷ []) k ≡ Some x → object_at new k ≡ Some x
   objects_more k x (inl at) e =
-      let last : Some o ≡ Some x = sym (get_end objects o) ∙ ap (slice_get (objects ++ o ∷ [])) (sym at) ∙ e in
+      let last : Some o ≡ Some x = sym (got_last objects o) ∙ ap (slice_get (objects ++ o ∷ [])) (sym at) ∙ e in
       let number : old.next ≡ k = h.next ∙ sym at in
       subst (λ n. object_at new n ≡ Some o) number m.filled ∙ last
-  objects_more k x (inr other) e = stays k x (sym (get_before_end objects o k other) ∙ e)
+  objects_more k x (inr other) e = stays k x (sym (got_before_last objects o k other) ∙ e)
 
   pub one_more : Holds new (r1 ++ place ∷ []) (objects ++ o ∷ [])
   one_more = record {
@@ -194,11 +194,11 @@ module _ (old new : Content ClassId) (roots : List ℕ) (front : List (ObjectOf 
 
   changed_at : (k : ℕ) (x : ObjectOf ClassId) → k ≡ length front ⊎ k ≢ length front → slice_get (front ++ changed ∷ []) k ≡ Some x → object_at new k ≡ Some x
   changed_at k x (inl same) e =
-      let last : Some changed ≡ Some x = sym (get_end front changed) ∙ ap (slice_get (front ++ changed ∷ [])) (sym same) ∙ e in
-      let is = s.changed (length front) o number (h.objects_are (length front) o (get_end front o)) in
+      let last : Some changed ≡ Some x = sym (got_last front changed) ∙ ap (slice_get (front ++ changed ∷ [])) (sym same) ∙ e in
+      let is = s.changed (length front) o number (h.objects_are (length front) o (got_last front o)) in
       ap (object_at new) same ∙ is ∙ last
   changed_at k x (inr other) e =
-      s.others (length front) k number other ∙ h.objects_are k x (get_before_end front o k other ∙ sym (get_before_end front changed k other) ∙ e)
+      s.others (length front) k number other ∙ h.objects_are k x (got_before_last front o k other ∙ sym (got_before_last front changed k other) ∙ e)
 
   pub last_set : Holds new roots (front ++ changed ∷ [])
   last_set = record {

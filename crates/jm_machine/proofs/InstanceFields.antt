@@ -5,6 +5,7 @@ use Rattle.std.proofs.lemmas.List.{length-map}
 use Rattle.std.specs.Prelude.{IfSome, ◌==◌, map, option_map, slice_get, unwrap_or}
 use Rattle.jm_program.specs.declared.class.ClassParts.{ClassParts}
 use Rattle.jm_program.specs.declared.class.Field.{Field}
+use Rattle.jm_program.proofs.Sequences.{got_within}
 use Rattle.jm_builtins.specs.List.{the_builtins}
 use Rattle.jm_builtins.specs.Numbers.{built_in_names}
 use Rattle.jm_world.specs.Classes.{class_named, height}
@@ -20,7 +21,7 @@ use Rattle.jm_linked.proofs.Names.{found_numbered, name_numbered}
 use Rattle.jm_machine.specs.InstanceFields.{AreFieldsOf, not_static}
 use Rattle.jm_machine.specs.Seen.{fields_of_type}
 use Rattle.jm_machine.specs.declared.instance_fields.ClassFields.{ClassFields}
-use Rattle.jm_machine.proofs.ClassNumbers.{in_first, in_second}
+use Rattle.jm_machine.proofs.ClassNumbers.{in_second}
 
 -- a class's own fields, by name
 abbrev named : List ℕ → Field → FieldName
@@ -133,7 +134,7 @@ module _ (l : LinkedView) (is : IsLinked l) {class number left at above : ℕ} (
 
   further_up : number < above - count → slice_get (instance_fields l.program (name_of (all_names l.program) class)) number ≡ slice_get over number
   further_up before =
-      let all = sum in w.rest ∙ ap (λ xs. slice_get xs number) split ∙ in_first over own number (omega (arith, before, all))
+      let all = sum in w.rest ∙ ap (λ xs. slice_get xs number) split ∙ got_within over own number (omega (arith, before, all))
 
   pub none_above : s ≡ None → number < above - count → slice_get (instance_fields l.program (name_of (all_names l.program) class)) number ≡ None
   none_above e before = further_up before ∙ ap (λ x. slice_get (fields_above l.program (left - 1) x) number) e

@@ -2,9 +2,7 @@
 use Rattle.std.proofs.Common.{◌≡◌, ℕ, List, [], ◌∷◌, Option, Some, None, Bool, true, false, refl, sym, ap, ◌∙◌, subst}
 use Rattle.std.specs.Prelude.{◌&&◌, codes, nat_eq}
 use Rattle.std.specs.Cmp.Lexicographic.{same_text as text_told}
-use Rattle.std.proofs.lemmas.Cmp.{nat_list_eq_equiv}
 use Rattle.std.proofs.lemmas.Bool.{eqb-true}
-use Rattle.jm_program.proofs.DescriptorLaws.{both_true}
 use Rattle.jm_program.specs.Names.{same_text}
 use Rattle.jm_program.specs.declared.class.ClassParts.{ClassParts}
 use Rattle.jm_program.specs.declared.class.Method.{Method}
@@ -12,9 +10,12 @@ use Rattle.jm_program.specs.declared.descriptor.ElementType.{ElementType}
 use Rattle.jm_program.specs.declared.descriptor.ElementType.TheVariants.{Base, Class}
 use Rattle.jm_program.specs.declared.descriptor.FieldType.{FieldType}
 use Rattle.jm_program.specs.declared.descriptor.MethodDescriptor.{MethodDescriptor}
+use Rattle.jm_program.proofs.Texts.{text_itself}
+use Rattle.jm_program.proofs.Truths.{both_true}
 use Rattle.jm_world.specs.Types.{same_element, same_type, same_types, same_result, same_method_type}
 use Rattle.jm_world.specs.Classes.{FoundMethod, MethodName, name_of_method, method_named, class_named, class_among, method_in, method_of_class, string_class}
 use Rattle.jm_world.specs.Loading.{main_in, main_type, strings_type}
+use Rattle.jm_linked.proofs.PrintStreams.{void_is}
 
 element_is : (e : ElementType) → same_element e (Class string_class) ≡ true → e ≡ Class string_class
 element_is (Base b) h = cc
@@ -32,15 +33,11 @@ types_are [] h = cc
 types_are (t ∷ []) h = ap (λ x. x ∷ []) (type_is t (both_true (same_type t strings_type) true h).0)
 types_are (t ∷ u ∷ us) h = let p = both_true (same_type t strings_type) false h in cc
 
-result_is : (r : Option FieldType) → same_result r None ≡ true → r ≡ None
-result_is None h = refl
-result_is (Some t) h = cc
-
 main_type_is : (d : MethodDescriptor) → same_method_type d main_type ≡ true → d ≡ main_type
 main_type_is d h =
     let p = both_true (same_types d.parameters (strings_type ∷ [])) (same_result d.return_type None) h in
     let a : d.parameters ≡ strings_type ∷ [] = types_are d.parameters p.0 in
-    let b : d.return_type ≡ None = result_is d.return_type p.1 in
+    let b : d.return_type ≡ None = void_is d.return_type p.1 in
     λ i. record { parameters = a i; return_type = b i }
 
 -- the method that is found as main has main's name and type
@@ -56,13 +53,10 @@ found_named (x ∷ xs) m e = by (same_text x.name (codes "main") && same_method_
         subst (λ (y : Method). (y.name ≡ codes "main") × (y.descriptor ≡ main_type)) same (text_told x.name (codes "main") (sym p.0), main_type_is x.descriptor p.1)
     by false t e f = f e
 
-pub text_same : (name : List ℕ) → same_text name name ≡ true
-text_same name = nat_list_eq_equiv.refl name
-
 main_of_class : (c : ClassParts) (cs : List ClassParts) (m : MethodName) → m.class ≡ c.name → method_named (c ∷ cs) m ≡ method_in c.methods m.name m.descriptor
 unfolding class_named
 main_of_class c cs m e =
-    ap (λ b. method_of_class (elim b as (λ v. Option ClassParts) [ true ↦ Some c | false ↦ class_among cs m.class ]) m) (subst (λ x. same_text c.name x ≡ true) (sym e) (text_same c.name))
+    ap (λ b. method_of_class (elim b as (λ v. Option ClassParts) [ true ↦ Some c | false ↦ class_among cs m.class ]) m) (subst (λ x. same_text c.name x ≡ true) (sym e) (text_itself c.name))
 
 pub main_is : (program : List ClassParts) (found : FoundMethod) (m : Method) → main_in program ≡ Some found → method_named program (name_of_method found) ≡ Some m → found.method ≡ m
 main_is [] found m e n = cc

@@ -8,14 +8,15 @@ use Rattle.jm_world.specs.declared.reply.Reply.{Reply}
 use Rattle.jm_world.specs.declared.reply.ReplyKind.TheVariants.{Done}
 use Rattle.jm_interp.specs.PlainRuns.{MakesDone}
 use Rattle.jm_interp.specs.ThreadRuns.{MakesAlike, MakesOther}
+use Rattle.jm_interp.proofs.MethodRuns.{run_more, replies_more as replies_after}
 use Rattle.jm_machine.specs.View.{MachineView, MatchesWorld, machine_parts}
 use Rattle.jm_machine.specs.ManySteps.{AreSteps, steps_of}
 use Rattle.jm_machine.specs.declared.steps.StepsEnd.TheVariants.{AllMade, Other, OutOfMemory}
-use Rattle.jm_machine.proofs.Counts.{counts_after, world_after, replies_after}
+use Rattle.jm_machine.proofs.Counts.{counts_after}
 
 more_world : {H : Type 0} (w : World) (thread n : ℕ) (new : MachineView H) → MatchesWorld new (after (run_from w (steps_of thread n)) (Step thread)).world
     → MatchesWorld new (run_from w (steps_of thread (n + 1)))
-more_world w thread n new m = subst (MatchesWorld new) (world_after w (Step thread) (n + 1) n 1 refl) m
+more_world w thread n new m = subst (MatchesWorld new) (run_more w (Step thread) (n + 1) n 1 refl) m
 
 more_replies : (w : World) (thread n : ℕ) (r other : Reply) → replicate n r ≡ replies_from w (steps_of thread n)
     → other ≡ (after (run_from w (steps_of thread n)) (Step thread)).reply → replicate n r ++ other ∷ [] ≡ replies_from w (steps_of thread (n + 1))
@@ -70,7 +71,7 @@ module _ {H : Type 0} {w : World} {thread n : ℕ} {now : MachineView H} {r : Re
 
     pub more_alike : MakesAlike (machine_parts new) thread k (run_from w (steps_of thread n)) → AreAlike w thread new (n + k) r
     more_alike made = record {
-      world = subst (MatchesWorld new) (world_after w (Step thread) (n + k) n k refl) made.world;
+      world = subst (MatchesWorld new) (run_more w (Step thread) (n + k) n k refl) made.world;
       replies = replies_more made.replies;
       reply = a.reply;
     }
@@ -79,7 +80,7 @@ module _ {H : Type 0} {w : World} {thread n : ℕ} {now : MachineView H} {r : Re
     pub more_other : (other : Reply) → MakesOther (machine_parts new) thread k (run_from w (steps_of thread n))
         → ((v : World) → MatchesWorld new v → other ≡ reply Done v) → AreSteps w thread new (record { alike = n + k; reply = r; end = Other other })
     more_other other made is =
-        let joined = world_after w (Step thread) (n + k) n k refl in
+        let joined = run_more w (Step thread) (n + k) n k refl in
         record {
           world = more_world w thread (n + k) new (subst (λ v. MatchesWorld new (after v (Step thread)).world) joined made.world);
           replies = more_replies w thread (n + k) r other (replies_more made.alike)

@@ -1,8 +1,7 @@
 -- Marking goes on over lists of places, and keeps the place of each serial.
-use Rattle.std.proofs.Common.{◌≡◌, ◌≢◌, ◌⊎◌, ℕ, ◌+◌, List, [], ◌∷◌, ◌++◌, Some, Bool, true, false, cond, refl, sym, ap, ◌∙◌, subst, inl, inr, length}
+use Rattle.std.proofs.Common.{◌≡◌, ◌≢◌, ◌⊎◌, ℕ, ◌+◌, List, [], ◌∷◌, ◌++◌, Some, refl, sym, ap, ◌∙◌, subst, inl, inr, length}
 use Rattle.std.proofs.lemmas.List.{length-map}
-use Rattle.std.proofs.lemmas.Bool.Decides.{eqb_tells}
-use Rattle.std.specs.Prelude.{map, nat_eq, nat_lt}
+use Rattle.std.specs.Prelude.{map}
 use Rattle.std.specs.BTreeMap.{insert_entry}
 use Rattle.std.specs.BTreeSet.{insert_key}
 use Rattle.std.specs.List.Sorted.{IsStrictlySortedBy}
@@ -13,7 +12,7 @@ use Rattle.std.specs.declared.cmp.Ordering.TheVariants.{Less, Equal, Greater}
 use Rattle.jm_values.specs.Shape.{Among}
 use Rattle.jm_values.specs.Content.{Content, AllResident, serial_at, name_of}
 use Rattle.jm_values.specs.Marking.{MarkedAll}
-use Rattle.jm_values.proofs.Marking.{marked_now, marked_before}
+use Rattle.jm_values.proofs.Marking.{marked_now, marked_before, equal_keys}
 use Rattle.jm_values.proofs.SoundContents.{name_is}
 use Rattle.jm_machine.specs.Marked.{AreAt, Marks}
 
@@ -28,15 +27,6 @@ entry_keys (e ∷ es) k p = by (entry_keys es k p) (nat_cmp k e.0)
     by later Less = refl
     by later Equal = refl
     by later Greater = ap (λ ks. e.0 ∷ ks) later
-
-equal_keys : (x y : ℕ) → nat_cmp x y ≡ Equal → x ≡ y
-equal_keys x y e = by (nat_lt x y) (nat_eq x y) refl (eqb_tells x y) e
-  where
-    by : (b d : Bool) → nat_eq x y ≡ d → ((nat_eq x y ≡ true) × (x ≡ y)) ⊎ ((nat_eq x y ≡ false) × (x ≢ y)) → cond b Less (cond d Equal Greater) ≡ Equal → x ≡ y
-    by b d f (inl t) h = t.1
-    by true d f (inr t) h = cc
-    by false true f (inr t) h = cc
-    by false false f (inr t) h = cc
 
 module _ {T : Type 0} (c : Content T) where
   -- its place is that of its serial

@@ -9,18 +9,19 @@ use Rattle.jm_program.specs.declared.class.ClassParts.{ClassParts}
 use Rattle.jm_values.specs.Shape.{Among}
 use Rattle.jm_values.specs.Reach.{cells, AllDistinct}
 use Rattle.jm_values.specs.Objects.{ObjectOf, cells_of, size_by}
-use Rattle.jm_values.specs.Content.{Content, Resident, AllResident, object_in, object_at, name_of}
+use Rattle.jm_values.specs.Content.{Content, AllResident, object_at, name_of}
 use Rattle.jm_values.proofs.SoundContents.{name_is, object_of_place}
+use Rattle.jm_values.proofs.Marking.{keys_differ}
 use Rattle.jm_world.specs.Objects.{Object, size, size_of}
-use Rattle.jm_heap.specs.Cells.{class_size, cells_of_all, resident_cells}
+use Rattle.jm_heap.specs.Cells.{class_size, resident_cells}
 use Rattle.jm_heap.specs.declared.class_id.ClassId.{ClassId}
 use Rattle.jm_heap.specs.declared.class_id.ClassId.TheVariants.{Instance, Array}
+use Rattle.jm_heap.proofs.CellLemmas.{cells_at}
 use Rattle.jm_linked.specs.Links.{LinkedView}
 use Rattle.jm_state.specs.Parts.{named_type}
 use Rattle.jm_state.proofs.Sizes.{sizes_alike}
 use Rattle.jm_machine.specs.ReachedObjects.{AreInOrder, numbered_cells, view_of_objects}
 use Rattle.jm_machine.specs.Seen.{object_or_none, object_seen}
-use Rattle.jm_machine.proofs.ReachedObjects.{rising_differ}
 
 abbrev Told : ℕ → ℕ → Type 0
 Told a b = ((nat_eq a b ≡ true) × (a ≡ b)) ⊎ ((nat_eq a b ≡ false) × (a ≢ b))
@@ -60,21 +61,6 @@ module _ (s : ℕ) (x : ObjectOf ClassId) (g : ℕ → Option (ObjectOf ClassId)
 abbrev nothing : ℕ → Option (ObjectOf ClassId)
 nothing k = None
 
-nothing_costs : (ks : List ℕ) → cells class_size nothing ks ≡ 0
-nothing_costs [] = refl
-nothing_costs (k ∷ ks) = let rest = nothing_costs ks in omega (arith, rest)
-
-cells_within : (rs : List (Resident ClassId)) (ks : List ℕ) → AllDistinct ks → cells class_size (object_in rs) ks ≤ cells_of_all rs
-cells_within [] ks d = let none = nothing_costs ks in omega (arith, none)
-cells_within (r ∷ rs) ks d =
-    let rest = cells_within rs ks d in
-    let most = cells_at_most r.serial r.object (object_in rs) ks d in
-    omega (arith, rest, most)
-
-residents_most : (c : Content ClassId) (ks : List ℕ) → AllDistinct ks → cells class_size (object_at c) ks ≤ resident_cells c
-unfolding resident_cells object_at
-residents_most c ks d = cells_within c.residents ks d
-
 -- an object takes as many cells as the world says
 module _ (program : List ClassParts) where
   seen_size : (o : Option (ObjectOf ClassId)) (x : ObjectOf ClassId) → o ≡ Some x → size (object_or_none (named_type program) o) ≡ cells_of class_size o
@@ -103,7 +89,7 @@ module _ (l : LinkedView) (c : Content ClassId) where
       let most = sum_by_more_le place_cells ps i p within in
       let same = ap place_cells is in
       let all = places_cells ps a.resident in
-      let few = residents_most c (map (name_of c) ps) (rising_differ (map (name_of c) ps) a.rising) in
+      let few = cells_at c (map (name_of c) ps) (keys_differ (map (name_of c) ps) a.rising) in
       omega arith
 
   all_cells : (ps : List ℕ) → sum_by place_cells ps ≡ numbered_cells (view_of_objects l c ps).objects

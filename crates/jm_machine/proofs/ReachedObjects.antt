@@ -19,6 +19,7 @@ use Rattle.jm_values.specs.Objects.{cells_of}
 use Rattle.jm_values.specs.Content.{Content, serial_at, object_at, name_of}
 use Rattle.jm_values.proofs.Reaching.{among_from_test, not_among_from_test}
 use Rattle.jm_values.proofs.SoundContents.{name_is}
+use Rattle.jm_values.proofs.Marking.{keys_differ}
 use Rattle.jm_world.specs.Matches.{Matches}
 use Rattle.jm_world.specs.Objects.{Object, size, size_of}
 use Rattle.jm_world.specs.World.{World, reach, reach_cells}
@@ -49,11 +50,6 @@ pub all_above : (x : ℕ) (xs : List ℕ) → AllByRecursion (λ y. nat_cmp x y 
 all_above x [] all k a = absurd a
 all_above x (y ∷ xs) all k (inl e) = subst (λ n. x < n) (sym e) (is_below x y all.0)
 all_above x (y ∷ xs) all k (inr a) = all_above x xs all.1 k a
-
-pub rising_differ : (xs : List ℕ) → IsStrictlySortedBy nat_cmp xs → AllDistinct xs
-unfolding IsStrictlySortedBy
-rising_differ [] s = tt
-rising_differ (x ∷ xs) s = (λ a. let low = all_above x xs s.0 x a in omega arith, rising_differ xs s.1)
 
 -- ---- objects whose numbers rise
 
@@ -283,13 +279,13 @@ module _ (l : LinkedView) (c : Content ClassId) (v : StateView) (w : World) (m :
     distinct = (reach_is_least w m.bound).once
 
     counted : length names ≡ length (reach w)
-    counted = count_is names ∙ same_sum (λ n. 1) names (reach w) (rising_differ names a.rising) distinct a.same ∙ sym (count_is (reach w))
+    counted = count_is names ∙ same_sum (λ n. 1) names (reach w) (keys_differ names a.rising) distinct a.same ∙ sym (count_is (reach w))
 
     cells_told : numbered_cells (numbered object_of names) ≡ reach_cells w
     unfolding reach_cells reach reached_cells
     cells_told =
         sizes_are object_of (slice_get w.heap) names world_object
-        ∙ same_sum (λ k. cells_of size_of (slice_get w.heap k)) names (reach w) (rising_differ names a.rising) distinct a.same
+        ∙ same_sum (λ k. cells_of size_of (slice_get w.heap k)) names (reach w) (keys_differ names a.rising) distinct a.same
         ∙ sym (cells_are (slice_get w.heap) (reach w))
 
     pub tells_reached : (o : ObjectsView) → o ≡ view_of_objects l c ps → TellsReached w o

@@ -8,6 +8,7 @@ use Rattle.jm_values.specs.Rename.{stack_shape}
 use Rattle.jm_values.proofs.Among.{among_left, among_right}
 use Rattle.jm_values.specs.Content.{Content, IsSound, AllResident, serial_at, name_of}
 use Rattle.jm_values.specs.Content as content
+use Rattle.jm_values.proofs.Lists.{each_at, refs_in}
 use Rattle.jm_world.specs.Frames.{rename_frame, optional_number_shape}
 use Rattle.jm_world.specs.Matches.{Matches, as_named}
 use Rattle.jm_world.specs.Monitors.{monitor_in}
@@ -30,18 +31,12 @@ use Rattle.jm_machine.specs.Readers.{TellsObject, frame_at, pending_of}
 use Rattle.jm_machine.specs.Seen.{ObjectView, object_seen, statics_seen, view_of_object}
 use Rattle.jm_machine.specs.Threads.{thread_numbered, frame_below, frame_numbered, pending_in, pending_numbered}
 use Rattle.jm_machine.proofs.Events.{program_is, thread_is}
-use Rattle.jm_machine.proofs.Parted.{among_element}
 use Rattle.jm_machine.proofs.Told.{object, seen_is}
-
-all_at : {A : Type 0} (P : A → Type 0) (xs : List A) (i : ℕ) (x : A) → AllByRecursion P xs → slice_get xs i ≡ Some x → P x
-all_at P [] i x all e = cc
-all_at P (y ∷ xs) zero x all e = let h : y ≡ x = cc in subst P h all.0
-all_at P (y ∷ xs) (suc i) x all e = all_at P xs i x all.1 e
 
 -- what holds of all threads holds of that of a number
 thread_at_number : (P : HeldThread → Type 0) (ts : List held.Thread) (n : ℕ) (t : held.Thread) → AllByRecursion P (map held_thread ts) → thread_numbered ts n ≡ Some t → P (held_thread t)
 thread_at_number P ts zero t all e = cc
-thread_at_number P ts (suc n) t all e = all_at P (map held_thread ts) n (held_thread t) all (slice_get-map held_thread ts n ∙ ap (option_map held_thread) e)
+thread_at_number P ts (suc n) t all e = each_at P (map held_thread ts) n (held_thread t) all (slice_get-map held_thread ts n ∙ ap (option_map held_thread) e)
 
 -- the thread whose frame or pending exception it is
 frame_found : (o : Option held.Thread) (depth : ℕ) (x : StackFrame) → frame_below o depth ≡ Some x → (t : held.Thread) × (o ≡ Some t) × (slice_get (reverse t.frames.items) depth ≡ Some x)
@@ -55,12 +50,12 @@ pending_found (Some t) p e = (t, refl, e)
 pub frame_runs : (l : LinkedView) (v : StateView) → IsRunnable l v → (n depth : ℕ) (x : StackFrame) → frame_numbered v.threads n depth ≡ Some x → FrameRuns l x
 frame_runs l v runs n depth x e =
     let f = frame_found (thread_numbered v.threads n) depth x e in
-    all_at (FrameRuns l) (reverse f.0.frames.items) depth x (thread_at_number (ThreadRuns l) v.threads n f.0 runs.threads f.1).frames f.2
+    each_at (FrameRuns l) (reverse f.0.frames.items) depth x (thread_at_number (ThreadRuns l) v.threads n f.0 runs.threads f.1).frames f.2
 
 -- the places of a thread of a number
 thread_places_among : (ts : List held.Thread) (n : ℕ) (t : held.Thread) (p : ℕ) → thread_numbered ts n ≡ Some t → Among p (held_thread_shape.refs (held_thread t)) → Among p ((list_shape held_thread_shape).refs (map held_thread ts))
 thread_places_among ts zero t p e a = cc
-thread_places_among ts (suc n) t p e a = among_element held_thread_shape (map held_thread ts) n (held_thread t) p (slice_get-map held_thread ts n ∙ ap (option_map held_thread) e) a
+thread_places_among ts (suc n) t p e a = refs_in held_thread_shape (map held_thread ts) n (held_thread t) p (slice_get-map held_thread ts n ∙ ap (option_map held_thread) e) a
 
 -- held monitors whose objects have the serials as names are the model's
 same_monitors : (f : ℕ → ℕ) (hs : List HeldMonitor)
@@ -148,7 +143,7 @@ module _ (l : LinkedView) (c : Content ClassId) (v : StateView) (w : World) (m :
     pub frame_resident : (n depth : ℕ) (x : StackFrame) → frame_numbered v.threads n depth ≡ Some x → AllResident c (stack_frame_shape.refs x)
     frame_resident n depth x e =
         let f = frame_found (thread_numbered v.threads n) depth x e in
-        λ p a. thread_resident n f.0 f.1 p (among_right p (optional_number_shape.refs (live_object f.0.ending f.0.object)) _ (among_right p (optional_number_shape.refs f.0.pending) ((list_shape stack_frame_shape).refs (reverse f.0.frames.items)) (among_element stack_frame_shape (reverse f.0.frames.items) depth x p f.2 a)))
+        λ p a. thread_resident n f.0 f.1 p (among_right p (optional_number_shape.refs (live_object f.0.ending f.0.object)) _ (among_right p (optional_number_shape.refs f.0.pending) ((list_shape stack_frame_shape).refs (reverse f.0.frames.items)) (refs_in stack_frame_shape (reverse f.0.frames.items) depth x p f.2 a)))
 
     pub pending_resident : (n p : ℕ) → pending_numbered v.threads n ≡ Some p → (k : ℕ) × (serial_at c p ≡ Some k)
     pending_resident n p e =

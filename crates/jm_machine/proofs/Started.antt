@@ -37,15 +37,12 @@ use Rattle.jm_machine.proofs.Literals.{HasFirst, literals_refs, literals_are, al
 use Rattle.jm_machine.proofs.MainMethod.{main_is}
 use Rattle.jm_machine.proofs.StaticFields.{first_named, first_refs, first_length}
 use Rattle.jm_machine.specs.StaticFields.{static_values}
+use Rattle.jm_interp.proofs.Called.{unset_renamed}
 
 -- local variables that are not set have no references
 unset_refs : (n : ℕ) → locals_shape.refs (unset n) ≡ []
 unset_refs zero = refl
 unset_refs (suc n) = unset_refs n
-
-unset_renamed : (f : ℕ → ℕ) (n : ℕ) → locals_shape.rename f (unset n) ≡ unset n
-unset_renamed f zero = refl
-unset_renamed f (suc n) = ap (λ xs. None ∷ xs) (unset_renamed f n)
 
 -- the classes are not begun
 states_are : (program : List ClassParts)

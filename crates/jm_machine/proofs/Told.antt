@@ -1,10 +1,11 @@
 -- What readers tell beside what the world has.
-use Rattle.std.proofs.Common.{None, ◌≡◌, ℕ, zero, suc, ◌<◌, ◌≤◌, List, [], ◌∷◌, Option, Some, refl, sym, ap, ◌∙◌, subst, length, arith}
+use Rattle.std.proofs.Common.{None, ◌≡◌, ℕ, suc, ◌<◌, ◌≤◌, List, [], ◌∷◌, Option, Some, refl, sym, ap, ◌∙◌, subst, length, arith}
 use Rattle.std.specs.Prelude.{map, slice_get}
 use Rattle.std.proofs.lemmas.Option.{slice_get_within, slice_get_past}
 use Rattle.std.proofs.lemmas.List.{length-map}
 use Rattle.jm_program.specs.declared.class.ClassParts.{ClassParts}
 use Rattle.jm_program.specs.declared.class.Method.{Method}
+use Rattle.jm_program.proofs.Sequences.{got_past}
 use Rattle.jm_values.specs.Rename.{rename, refs, value_shape, stack_shape}
 use Rattle.jm_values.specs.declared.value.Value.{Value}
 use Rattle.jm_world.specs.Classes.{name_of_method, method_named}
@@ -22,9 +23,9 @@ use Rattle.jm_linked.specs.Named.{named_statics}
 use Rattle.jm_state.specs.Parts.{named_type, program_class_name, name_in_program}
 use Rattle.jm_values.proofs.Marking.{object_there}
 use Rattle.jm_values.proofs.SoundContents.{name_is}
+use Rattle.jm_values.proofs.Lists.{refs_in}
 use Rattle.jm_machine.specs.Seen.{ObjectView, field_seen, fields_of_type, object_or_none, object_seen, statics_seen, view_of_object, with_value}
 use Rattle.jm_machine.proofs.StaticFields.{static_read}
-use Rattle.jm_machine.proofs.Parted.{among_element}
 
 -- the method of a number
 module _ (l : LinkedView) (linked : IsLinked l) (n : ℕ) (m : LinkedMethod) (at : slice_get l.methods n ≡ Some m) where
@@ -99,20 +100,15 @@ statics_length l c vs e = length-map (named_statics (first_statics l.program) vs
 -- a static field that is read, by its number
 module _ (l : LinkedView) (c : Content ClassId) (vs : List Value) (i : ℕ) (v : Value) (g : slice_get vs i ≡ Some v) where
   pub static_resident : AllResident c (stack_shape.refs vs) → AllResident c (refs v)
-  static_resident all = λ p a. all p (among_element value_shape vs i v p g a)
+  static_resident all = λ p a. all p (refs_in value_shape vs i v p g a)
 
   pub static_is : (n : FieldName) → slice_get (map (λ (s : Static). s.field) (first_statics l.program)) i ≡ Some n
       → slice_get (statics_seen l c vs) i ≡ Some (record { field = n; value = rename (name_of c) v })
   static_is n e = static_read (name_of c) (first_statics l.program) vs i n v e g
 
-past_all : {A : Type 0} (xs : List A) (i : ℕ) → slice_get xs i ≡ None → length xs ≤ i
-past_all [] i e = omega arith
-past_all (x ∷ xs) zero e = cc
-past_all (x ∷ xs) (suc i) e = let rest = past_all xs i e in omega arith
-
 pub none_past : (l : LinkedView) (c : Content ClassId) (vs : List Value) (i : ℕ) → length vs ≡ length (first_statics l.program)
     → slice_get (map (λ (s : Static). s.field) (first_statics l.program)) i ≡ None → slice_get (statics_seen l c vs) i ≡ None
 none_past l c vs i long e =
-    let past = past_all (map (λ (s : Static). s.field) (first_statics l.program)) i e in
+    let past = got_past (map (λ (s : Static). s.field) (first_statics l.program)) i e in
     slice_get_past (statics_seen l c vs) i
     (omega (arith, past, long, length-map (first_statics l.program) (λ (s : Static). s.field), statics_length l c vs long))

@@ -7,6 +7,7 @@ use Rattle.jm_world.specs.declared.event.Event.TheVariants.{Step}
 use Rattle.jm_world.specs.declared.reply.Reply.{Reply}
 use Rattle.jm_linked.specs.Links.{LinkedView}
 use Rattle.jm_interp.specs.PlainRuns.{MakesDone}
+use Rattle.jm_interp.proofs.MethodRuns.{run_more}
 use Rattle.jm_machine.specs.CodePlaces.{AreFree, Stands, top_stands_at}
 use Rattle.jm_machine.specs.ManySteps.{AreSteps, steps_of}
 use Rattle.jm_machine.specs.UpToPlaces.{EndApart, EndAtPlace, StandApart}
@@ -14,7 +15,6 @@ use Rattle.jm_machine.specs.View.{MachineView, MatchesWorld, machine_parts}
 use Rattle.jm_machine.specs.declared.code_place.CodePlace.{CodePlace}
 use Rattle.jm_machine.specs.declared.steps.StepsEnd.TheVariants.{AllMade, Other, OutOfMemory}
 use Rattle.jm_machine.proofs.CodePlaces.{stands_apart, stands_there, stays_apart}
-use Rattle.jm_machine.proofs.Counts.{world_after}
 use Rattle.jm_machine.proofs.ManySteps.{AreAlike, all_made, done_alike, more_alike, one_alike, other_made, step_refused}
 
 -- so many steps were alike, and none of them began at a place
@@ -31,7 +31,7 @@ apart_after l places w thread n k before more = λ i below. by i below (cases_lt
     by i below (inl early) = before i early
     by i below (inr late) =
         let split : i ≡ n + (i - n) = omega arith in
-        subst (λ v. Stands l places false (top_stands_at v thread)) (world_after w (Step thread) i n (i - n) split) (more (i - n) (omega arith))
+        subst (λ v. Stands l places false (top_stands_at v thread)) (run_more w (Step thread) i n (i - n) split) (more (i - n) (omega arith))
 
 -- a run of so many steps, of which so many were free, begins apart from places; and so does one step behind it
 run_apart : {H : Type 0} (l : LinkedView) (places : List CodePlace) (v : World) (thread free run count : ℕ) (new : MachineView H)

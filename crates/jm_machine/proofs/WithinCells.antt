@@ -1,12 +1,11 @@
 -- What is reached takes at most the cells of all objects.
 use Rattle.std.proofs.Common.{◌≡◌, ◌≢◌, ◌⊎◌, ℕ, zero, suc, ◌+◌, ◌<◌, ◌≤◌, List, [], ◌∷◌, Option, Some, None, Bool, true, false, refl, sym, ap, ◌∙◌}
 use Rattle.std.proofs.Common.{inl, inr, arith}
-use Rattle.std.specs.Prelude.{map, nat_eq, slice_get}
-use Rattle.std.proofs.lemmas.Bool.Decides.{eqb_tells}
+use Rattle.std.specs.Prelude.{map, slice_get}
 use Rattle.jm_values.specs.Shape.{Among}
 use Rattle.jm_values.specs.Objects.{ObjectOf, refs_of, cells_of}
 use Rattle.jm_values.specs.Reach.{is_among, visit_all, visit, reached, cells, reached_cells, AllDistinct}
-use Rattle.jm_values.specs.Content.{Content, Resident, IsSound, used_by, serials_of, object_in, object_at, name_of}
+use Rattle.jm_values.specs.Content.{Content, used_by, object_at, name_of}
 use Rattle.jm_values.proofs.Reaching.{not_among_from_test}
 use Rattle.jm_heap.specs.Cells.{class_size}
 use Rattle.jm_heap.specs.declared.class_id.ClassId.{ClassId}
@@ -102,19 +101,3 @@ used_at_most c roots os h =
     let within = cells_within ks (map Some os) (reached_distinct (object_at c) c.next (map (name_of c) roots)) in
     let all = cells_some os in
     omega (arith, same, within, all)
-
-object_listed : {T : Type 0} (rs : List (Resident T)) (k : ℕ) (o : ObjectOf T) → object_in rs k ≡ Some o → Among k (serials_of rs)
-object_listed [] k o e = cc
-object_listed {T = T} (r ∷ rs) k o e = by (nat_eq k r.serial) refl (object_listed rs k o) (eqb_tells k r.serial) e
-  where
-    by : (b : Bool) → nat_eq k r.serial ≡ b → (object_in rs k ≡ Some o → Among k (serials_of rs))
-        → ((nat_eq k r.serial ≡ true) × (k ≡ r.serial)) ⊎ ((nat_eq k r.serial ≡ false) × (k ≢ r.serial))
-        → (elim b as (λ _. Option (ObjectOf T)) [ true ↦ Some r.object | false ↦ object_in rs k ]) ≡ Some o → (k ≡ r.serial) ⊎ Among k (serials_of rs)
-    by b f later (inl t) h = inl t.1
-    by true f later (inr t) h = absurd (t.1 (cc))
-    by false f later (inr t) h = inr (later h)
-
--- the serial of an object is below the next one
-pub object_below : {T : Type 0} (c : Content T) → IsSound c → (k : ℕ) (o : ObjectOf T) → object_at c k ≡ Some o → k < c.next
-unfolding object_at
-object_below c s k o e = s.below k (object_listed c.residents k o e)

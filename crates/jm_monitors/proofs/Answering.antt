@@ -1,8 +1,8 @@
 -- What the calls of a thread come to, by how the monitor is held.
-use Rattle.std.proofs.Common.{◌≡◌, ◌≢◌, ℕ, ◌+◌, ◌-◌, ◌^◌, ◌<◌, ◌≤◌, List, Option, Some, None, Bool, true, false, refl, sym, ap, ◌∙◌, subst, ◌⊎◌, inl, inr}
+use Rattle.std.proofs.Common.{◌≡◌, ◌≢◌, ℕ, ◌+◌, ◌-◌, ◌^◌, ◌<◌, ◌≤◌, List, Option, Some, None, Bool, true, false, refl, sym, ap, ◌∙◌, subst, ◌⊎◌}
 use Rattle.std.specs.Prelude.{nat_eq, nat_lt, option_map, Result, Ok, Err, OnErr}
 use Rattle.std.proofs.lemmas.Bool.{lt-ltb, le-ltb}
-use Rattle.std.proofs.lemmas.Bool.Decides.{eqb_tells}
+use Rattle.jm_program.proofs.Numbers.{found_unequal as other, found_equal as own}
 use Rattle.jm_world.specs.Monitors.{monitor_in, left_in}
 use Rattle.jm_monitors.specs.declared.entering.Entering.{Entering}
 use Rattle.jm_monitors.specs.declared.entering.Entering.TheVariants.{Entered, Blocked, CountEnds}
@@ -12,20 +12,6 @@ use Rattle.jm_monitors.proofs.InTheModel.{enters_as_the_model, leaves_as_the_mod
 pub on_err : {T E P : Type 0} (r : Result T E) → P → OnErr r P
 on_err (Ok x) p = tt
 on_err (Err e) p = p
-
-other : (a b : ℕ) → a ≢ b → nat_eq a b ≡ false
-other a b n = by (eqb_tells a b)
-  where
-    by : ((nat_eq a b ≡ true) × (a ≡ b)) ⊎ ((nat_eq a b ≡ false) × (a ≢ b)) → nat_eq a b ≡ false
-    by (inl s) = absurd (n s.1)
-    by (inr s) = s.0
-
-own : (a b : ℕ) → a ≡ b → nat_eq a b ≡ true
-own a b e = by (eqb_tells a b)
-  where
-    by : ((nat_eq a b ≡ true) × (a ≡ b)) ⊎ ((nat_eq a b ≡ false) × (a ≢ b)) → nat_eq a b ≡ true
-    by (inl s) = s.0
-    by (inr s) = absurd (s.1 e)
 
 -- entering one that a thread holds
 enters_held : (hs : List HeldMonitor) (k place thread : ℕ) (h : HeldMonitor) (b c : Bool) → Some h ≡ held_in hs k → nat_eq h.owner thread ≡ b → nat_lt (h.count + 1) (2 ^ 31) ≡ c

@@ -6,6 +6,7 @@ use Rattle.std.specs.Cmp.{unsigned_tied}
 use Rattle.std.specs.Map.{keys_of, lookup, set_value, remove_entry}
 use Rattle.std.specs.BTreeMap.{insert_entry, is_at}
 use Rattle.std.proofs.lemmas.Bool.Decides.{eqb_tells}
+use Rattle.jm_program.proofs.Numbers.{equal}
 use Rattle.jm_monitors.specs.HeldMonitors.{HeldMonitor, held_in, with_held, without_held, recounted_held}
 use Rattle.jm_monitors.specs.Entries.{held_at, held_of}
 use Rattle.jm_monitors.specs.declared.held.Held.{Held}
@@ -23,17 +24,10 @@ either_way k q = by (k == q) (nat_eq q k) (eqb_tells k q) (eqb_tells q k)
 stops_at : (k q : ℕ) → is_at (nat_cmp k) q ≡ nat_eq q k
 stops_at k q = unsigned_tied k q ∙ either_way k q
 
-same_serial : (q k : ℕ) → nat_eq q k ≡ true → q ≡ k
-same_serial q k e = by (nat_eq q k) e (eqb_tells q k)
-  where
-    by : (b : Bool) → b ≡ true → ((b ≡ true) × (q ≡ k)) ⊎ ((b ≡ false) × (q ≢ k)) → q ≡ k
-    by b h (inl s) = s.1
-    by b h (inr s) = absurd (let no : true ≡ false = sym h ∙ s.0 in cc)
-
 -- what a look-up finds is the monitor of the serial
 pub held_is_found : (es : List (ℕ × Held)) (k : ℕ) → held_in (held_of es) k ≡ option_map (held_at k) (lookup (is_at (nat_cmp k)) es)
 held_is_found [] k = refl
-held_is_found (e ∷ es) k = by (nat_eq e.0 k) (is_at (nat_cmp k) e.0) (stops_at k e.0) (same_serial e.0 k) (held_is_found es k)
+held_is_found (e ∷ es) k = by (nat_eq e.0 k) (is_at (nat_cmp k) e.0) (stops_at k e.0) (equal e.0 k) (held_is_found es k)
   where
     by : (b c : Bool) → c ≡ b → (b ≡ true → e.0 ≡ k) → held_in (held_of es) k ≡ option_map (held_at k) (lookup (is_at (nat_cmp k)) es)
         → (elim b as (λ _. Option HeldMonitor) [ true ↦ Some (held_at e.0 e.1) | false ↦ held_in (held_of es) k ]) ≡ option_map (held_at k) (cond c (Some e.1) (lookup (is_at (nat_cmp k)) es))

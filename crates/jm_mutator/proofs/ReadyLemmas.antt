@@ -6,6 +6,7 @@ use Rattle.jm_values.specs.Shape.{Among}
 use Rattle.jm_values.specs.Objects.{ObjectOf}
 use Rattle.jm_values.specs.Content.{Content, IsSound, AllResident, Kept, Made, MadeAll, IsSet, HasValue, serial_at, object_at}
 use Rattle.jm_values.proofs.SoundContents.{object_of_place}
+use Rattle.jm_values.proofs.Among.{among_or_last, index_among}
 use Rattle.jm_heap.proofs.MarkLemmas.{among_at}
 use Rattle.jm_heap.specs.Allocation.{MadeHere}
 use Rattle.jm_heap.specs.declared.class_id.ClassId.{ClassId}
@@ -13,11 +14,6 @@ use Rattle.jm_mutator.specs.Ready.{IsReady}
 
 pub none_ready : {T : Type 0} (c : Content T) → IsSound c → IsReady c []
 none_ready c s = record { sound = s; resident = λ p a. absurd a }
-
-pub among_read : (ps : List ℕ) (i p : ℕ) → slice_get ps i ≡ Some p → Among p ps
-among_read [] i p e = cc
-among_read (q ∷ ps) zero p e = inl (cc)
-among_read (q ∷ ps) (suc i) p e = inr (among_read ps i p e)
 
 -- the object at a place that is held
 pub object_held : {T : Type 0} (c : Content T) (ps : List ℕ) (p : ℕ) → IsReady c ps → Among p ps → (k : ℕ) × (o : ObjectOf T) × (serial_at c p ≡ Some k) × (object_at c k ≡ Some o)
@@ -39,18 +35,8 @@ value_held c ps p i n r a h w =
     let v = read_within t.1.values i (omega (arith, many, w)) in
     (v.0, (t.0, t.1, t.2, t.3, v.1))
 
-one_more : (q p : ℕ) (ps : List ℕ) → Among q (ps ++ p ∷ []) → Among q ps ⊎ (q ≡ p)
-one_more q p [] (inl e) = inr e
-one_more q p [] (inr a) = absurd a
-one_more q p (x ∷ ps) (inl e) = inl (inl e)
-one_more q p (x ∷ ps) (inr a) = by (one_more q p ps a)
-  where
-    by : Among q ps ⊎ (q ≡ p) → ((q ≡ x) ⊎ Among q ps) ⊎ (q ≡ p)
-    by (inl b) = inl (inr b)
-    by (inr e) = inr e
-
 pub held_with : {T : Type 0} (c : Content T) (ps : List ℕ) (p : ℕ) → IsReady c ps → (k : ℕ) × (serial_at c p ≡ Some k) → IsReady c (ps ++ p ∷ [])
-held_with c ps p r t = record { sound = r.sound; resident = λ q a. by q (one_more q p ps a) }
+held_with c ps p r t = record { sound = r.sound; resident = λ q a. by q (among_or_last q p ps a) }
   where
     by : (q : ℕ) → Among q ps ⊎ (q ≡ p) → (k : ℕ) × (serial_at c q ≡ Some k)
     by q (inl a) = r.resident q a
@@ -97,14 +83,9 @@ made_ready sizes old roots new moved pushed p o m e = rw e (held_with new moved 
 pub made_place : {T : Type 0} (sizes : T → ℕ → ℕ) (old : Content T) (roots : List ℕ) (new : Content T) (moved : List ℕ) (p : ℕ) (o : ObjectOf T) → Made sizes old roots new moved p o → IsReady new moved × AllResident new (p ∷ [])
 made_place sizes old roots new moved p o m = (kept_ready old new roots moved m.kept, placed_resident new p old.next m.placed)
 
-among_list : (ps : List ℕ) (q : ℕ) → Among q ps → (i : ℕ) × (slice_get ps i ≡ Some q)
-among_list [] q a = absurd a
-among_list (p ∷ ps) q (inl e) = (zero, subst (λ n. Some p ≡ Some n) (sym e) refl)
-among_list (p ∷ ps) q (inr a) = let t = among_list ps q a in (suc t.0, t.1)
-
 pub made_all_ready : {T : Type 0} (sizes : T → ℕ → ℕ) (old : Content T) (roots : List ℕ) (new : Content T) (moved places : List ℕ) (os : List (ObjectOf T)) → MadeAll sizes old roots new moved places os → IsReady new moved × AllResident new places
 made_all_ready sizes old roots new moved places os m =
-    (kept_ready old new roots moved m.kept, λ q a. let t = among_list places q a in (old.next + t.0, m.placed t.0 q t.1))
+    (kept_ready old new roots moved m.kept, λ q a. let t = index_among places q a in (old.next + t.0, m.placed t.0 q t.1))
 
 -- one more of the objects of a list, by how the code reads it
 pub held_next : {T : Type 0} (c : Content T) (ps places : List ℕ) (i p : ℕ) → IsReady c ps → AllResident c places → i < length places → p ≡ get_or places i p → IsReady c (ps ++ p ∷ [])

@@ -6,12 +6,12 @@ use Rattle.std.proofs.lemmas.Bool.Decides.{eqb_tells}
 use Rattle.std.proofs.lemmas.List.{length-set}
 use Rattle.std.proofs.lemmas.List.Sums.{sum_by-cons, sum_by_push}
 use Rattle.std.proofs.lemmas.Option.{slice_get_within, slice_get_read}
+use Rattle.jm_program.proofs.Sequences.{got_last, got_before_last, got_written, got_unwritten}
 use Rattle.jm_values.specs.declared.value.Value.{Value}
 use Rattle.jm_blocks.specs.Objects.{Object}
 use Rattle.jm_blocks.specs.Cells.{object_cells}
 use Rattle.jm_blocks.specs.Places.{lane_of, block_of, index_of}
 use Rattle.jm_blocks.specs.Stores.{Blocks, HasObject, IsLast, HasValue, IsSet, IsPopped, object_of_list, objects_in, store_cells, with_object, next_place, Bumped}
-use Rattle.jm_blocks.proofs.Placing.{get_set_same, get_set_other, get_end, get_before_end}
 use Rattle.jm_blocks.proofs.Counting.{cells_more}
 use Rattle.jm_nursery.specs.Nurseries.{Young, AreNurseries, IsYoung, IsMade, IsUnmade, IsWritten, HasYoungValue, nursery_at, lane_cells, young_cells}
 
@@ -38,9 +38,9 @@ nurseries_set lanes n s t r e h = record {
 }
   where
     by : (k : ℕ) (x : Blocks) → slice_get (slice_set lanes n t) k ≡ Some x → ((nat_eq k n ≡ true) × (k ≡ n)) ⊎ ((nat_eq k n ≡ false) × (k ≢ n)) → x.lane ≡ k + 1
-    by k x f (inr d) = r.numbered k x (sym (get_set_other lanes n k t d.1) ∙ f)
+    by k x f (inr d) = r.numbered k x (sym (got_unwritten lanes n k t d.1) ∙ f)
     by k x f (inl d) =
-        let here : Some t ≡ Some x = sym (get_set_same lanes n t (slice_get_within lanes n s e)) ∙ ap (slice_get (slice_set lanes n t)) (sym d.1) ∙ f in
+        let here : Some t ≡ Some x = sym (got_written lanes n t (slice_get_within lanes n s e)) ∙ ap (slice_get (slice_set lanes n t)) (sym d.1) ∙ f in
         let same : x ≡ t = cc in
         ap (λ y. y.lane) same ∙ h ∙ r.numbered n s e ∙ ap (λ m. m + 1) (sym d.1)
 
@@ -99,9 +99,9 @@ bare_more lanes more n b e = subst (λ ls. AreBare ls (n + 1)) (sym e) (record {
 })
   where
     by : (k : ℕ) (s : Blocks) → slice_get (lanes ++ record { lane = n + 1; lists = [] } ∷ []) k ≡ Some s → ((nat_eq k (length lanes) ≡ true) × (k ≡ length lanes)) ⊎ ((nat_eq k (length lanes) ≡ false) × (k ≢ length lanes)) → s.lane ≡ k + 1
-    by k s f (inr d) = b.numbered k s (sym (get_before_end lanes (record { lane = n + 1; lists = [] }) k d.1) ∙ f)
+    by k s f (inr d) = b.numbered k s (sym (got_before_last lanes (record { lane = n + 1; lists = [] }) k d.1) ∙ f)
     by k s f (inl d) =
-        let here : Some (record { lane = n + 1; lists = [] }) ≡ Some s = sym (get_end lanes (record { lane = n + 1; lists = [] })) ∙ ap (slice_get (lanes ++ record { lane = n + 1; lists = [] } ∷ [])) (sym d.1) ∙ f in
+        let here : Some (record { lane = n + 1; lists = [] }) ≡ Some s = sym (got_last lanes (record { lane = n + 1; lists = [] })) ∙ ap (slice_get (lanes ++ record { lane = n + 1; lists = [] } ∷ [])) (sym d.1) ∙ f in
         let same : s ≡ record { lane = n + 1; lists = [] } = cc in
         let lane : s.lane ≡ n + 1 = ap (λ y. y.lane) same in
         let many = b.many in

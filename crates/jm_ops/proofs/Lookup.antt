@@ -13,6 +13,7 @@ use Rattle.jm_program.specs.declared.instruction.plain.LookupSwitch.{LookupSwitc
 use Rattle.jm_program.specs.declared.instruction.plain.Plain.{Plain}
 use Rattle.jm_program.specs.declared.instruction.plain.Plain.TheVariants as plain
 use Rattle.jm_program.specs.declared.instruction.plain.SwitchPair.{SwitchPair}
+use Rattle.jm_program.proofs.Truths.{right_true, left_true}
 use Rattle.jm_ops.specs.SingleFrame.{IsOrdered}
 
 pub below_of : (a b : ℤ) → int_lt a b ≡ true → a <ℤ b
@@ -21,23 +22,15 @@ below_of a b e = lt_z_yes {a = a} {b = b} (subst T (sym e) tt)
 pub not_below_of : (a b : ℤ) → int_lt a b ≡ false → b ≤ℤ a
 not_below_of a b e = lt_z_no {a = a} {b = b} (subst (λ r. T (not r)) (sym e) tt)
 
-first_true : (a b : Bool) → (a && b) ≡ true → a ≡ true
-first_true true b e = refl
-first_true false b e = cc
-
-second_true : (a b : Bool) → (a && b) ≡ true → b ≡ true
-second_true true b e = e
-second_true false b e = absurd (cc)
-
 -- keys that rise from a key are above it
 head_below : (key : ℤ) (ps : List SwitchPair) (i : ℕ) (p : SwitchPair) → keys_rise (Some key) ps ≡ true → slice_get ps i ≡ Some p → key <ℤ p.key
 head_below key [] i p rise e = absurd (cc)
 head_below key (q ∷ ps) zero p rise e =
     let same : q ≡ p = cc in
-    subst (λ (r : SwitchPair). key <ℤ r.key) same (below_of key q.key (first_true (int_lt key q.key) (keys_rise (Some q.key) ps) rise))
+    subst (λ (r : SwitchPair). key <ℤ r.key) same (below_of key q.key (left_true (int_lt key q.key) (keys_rise (Some q.key) ps) rise))
 head_below key (q ∷ ps) (suc i) p rise e =
-    let here = below_of key q.key (first_true (int_lt key q.key) (keys_rise (Some q.key) ps) rise) in
-    let there = head_below q.key ps i p (second_true (int_lt key q.key) (keys_rise (Some q.key) ps) rise) e in
+    let here = below_of key q.key (left_true (int_lt key q.key) (keys_rise (Some q.key) ps) rise) in
+    let there = head_below q.key ps i p (right_true (int_lt key q.key) (keys_rise (Some q.key) ps) rise) e in
     omega (arith, ints, here, there)
 
 -- an earlier key is below a later one
@@ -47,9 +40,9 @@ rising above (r ∷ ps) zero zero p q rise less e f = absurd (omega arith)
 rising above (r ∷ ps) (suc i) zero p q rise less e f = absurd (omega arith)
 rising above (r ∷ ps) zero (suc j) p q rise less e f =
     let same : r ≡ p = cc in
-    subst (λ (s : SwitchPair). s.key <ℤ q.key) same (head_below r.key ps j q (second_true (is_above above r.key) (keys_rise (Some r.key) ps) rise) f)
+    subst (λ (s : SwitchPair). s.key <ℤ q.key) same (head_below r.key ps j q (right_true (is_above above r.key) (keys_rise (Some r.key) ps) rise) f)
 rising above (r ∷ ps) (suc i) (suc j) p q rise less e f =
-    rising (Some r.key) ps i j p q (second_true (is_above above r.key) (keys_rise (Some r.key) ps) rise) (omega arith) e f
+    rising (Some r.key) ps i j p q (right_true (is_above above r.key) (keys_rise (Some r.key) ps) rise) (omega arith) e f
 
 not_equal : (a b : ℤ) → a ≢ b → int_eq a b ≡ false
 not_equal a b h = pick (int_eq a b) refl
@@ -128,7 +121,7 @@ pub fits_rise : (count : ℕ) (lookup : LookupSwitch) → lookup_fits count look
 fits_rise count lookup e =
     let rise = keys_rise None lookup.pairs in
     let targets = list_all (λ (pair : SwitchPair). nat_lt pair.target count) lookup.pairs in
-    first_true rise targets (first_true (rise && targets) (nat_lt lookup.default count) e)
+    left_true rise targets (left_true (rise && targets) (nat_lt lookup.default count) e)
 
 pub fitting_is_ordered : (count : ℕ) (op : Plain) → plain_fits count op ≡ true → IsOrdered op
 fitting_is_ordered count (plain.LookupSwitch lookup) e = fits_rise count lookup e

@@ -5,13 +5,13 @@ use Rattle.std.specs.List.{Contains}
 use Rattle.std.proofs.lemmas.Bool.Decides.{eqb_tells}
 use Rattle.std.proofs.lemmas.List.{length-append}
 use Rattle.std.proofs.Math.Nat.{lt_of_mul-lt-mul_left, mod-add-div, mul-add}
+use Rattle.jm_program.proofs.Sequences.{got_last, got_before_last}
 use Rattle.jm_forward.specs.Hands.{TableView, all_known}
 use Rattle.jm_par_copy.specs.Copiers.{AllRooted, hands}
 use Rattle.jm_par_copy.specs.Seats.{AreNumbered}
 use Rattle.jm_par_copy.specs.declared.copier.Copier.{Copier}
 use Rattle.jm_par_copy.proofs.Listing.{contains_from, has_from, has_left, has_right}
 use Rattle.jm_blocks.specs.Stores.{Blocks}
-use Rattle.jm_blocks.proofs.Placing.{get_end, get_before_end}
 use Rattle.jm_copy.specs.Copying.{Forwarded}
 use Rattle.jm_copy.specs.Condemned.{objects_at}
 use Rattle.jm_copy.proofs.Steps.{forwarded_grows}
@@ -30,10 +30,10 @@ pub first_more : (stores : List Blocks) (roots : List ℕ) (known : List (ℕ ×
 first_more stores roots known x n places r place at new f j p q a b = by (eqb_tells j (length places))
   where
     by : ((nat_eq j (length places) ≡ true) × (j ≡ length places)) ⊎ ((nat_eq j (length places) ≡ false) × (j ≢ length places)) → Forwarded (objects_at stores) (Pairs stores known) p q
-    by (inr d) = f j p q a (sym (get_before_end places place j d.1) ∙ b)
+    by (inr d) = f j p q a (sym (got_before_last places place j d.1) ∙ b)
     by (inl d) =
         let from : Some r ≡ Some p = sym at ∙ ap (λ k. slice_get roots (x + n * k)) (sym d.1) ∙ a in
-        let to : Some place ≡ Some q = sym (get_end places place) ∙ ap (λ k. slice_get (places ++ place ∷ []) k) (sym d.1) ∙ b in
+        let to : Some place ≡ Some q = sym (got_last places place) ∙ ap (λ k. slice_get (places ++ place ∷ []) k) (sym d.1) ∙ b in
         let same_from : r ≡ p = cc in
         let same_to : place ≡ q = cc in
         subst (λ k. Forwarded (objects_at stores) (Pairs stores known) p k) same_to (subst (λ k. Forwarded (objects_at stores) (Pairs stores known) k place) same_from new)

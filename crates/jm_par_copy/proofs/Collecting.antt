@@ -2,6 +2,7 @@
 use Rattle.std.proofs.Common.{◌≡◌, ◌≢◌, ◌⊎◌, ℕ, zero, suc, ◌+◌, ◌≤◌, List, [], ◌∷◌, ◌++◌, length, Option, Some, None, true, false, cond, refl, sym, ap, ◌∙◌, inl, inr, subst, eq-eqb, arith}
 use Rattle.std.specs.Prelude.{drop, slice_get, nat_eq}
 use Rattle.std.proofs.lemmas.Bool.Decides.{eqb_tells}
+use Rattle.jm_program.proofs.Numbers.{found_unequal}
 use Rattle.jm_values.specs.Reach.{AllDistinct}
 use Rattle.jm_values.specs.Shape.{Among}
 use Rattle.jm_blocks.specs.Objects.{Object}
@@ -13,7 +14,6 @@ use Rattle.jm_copy.specs.Collected.{fresh, promoted_in, survivors}
 use Rattle.jm_copy.specs.Condemned.{objects_at}
 use Rattle.jm_copy.specs.Image.{IsImage}
 use Rattle.jm_copy.proofs.Images.{image_same}
-use Rattle.jm_copy.proofs.Making.{unequal}
 use Rattle.jm_par_copy.specs.Copiers.{AllFill, AreApartGiven, AreDifferent, AreInLanes, ArePlaced, AreSeated, IsPlaced, all_pieces, hands, parts}
 use Rattle.jm_par_copy.specs.Ending.{AllLoads, AreLoads, EndIsCollected, HeldIsLoads, new_if, new_of, stocks, stored}
 use Rattle.jm_par_copy.specs.Holding.{AreApartPieces, IsInOne}
@@ -169,7 +169,7 @@ end_is_collected stores roots new_roots words cs aside before young promoted ten
     promoted = λ n a e f.
         let here = came n a e f in
         let lane : lane_of n ≢ 1 = λ h. away n a here (h ∙ sym t.young_lane) in
-        (aged n a (sym (stocks_are n e) ∙ old_stock n a here)).0 ∙ ap (λ b. cond b 1 2) (unequal (lane_of n) 1 lane);
+        (aged n a (sym (stocks_are n e) ∙ old_stock n a here)).0 ∙ ap (λ b. cond b 1 2) (found_unequal (lane_of n) 1 lane);
     kept = λ n o e. t.old n ∙ both_left (objects_in before) (objects_in promoted) n o e;
     young_lane = t.young_lane;
     tenured_lane = t.tenured_lane;

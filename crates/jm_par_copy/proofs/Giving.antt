@@ -4,10 +4,12 @@ use Rattle.std.specs.Prelude.{slice_get, nat_eq, nat_lt, not, ◌&&◌, IfSome}
 use Rattle.std.proofs.lemmas.Bool.{eqb-true, lt-ltb}
 use Rattle.std.proofs.lemmas.Bool.Decides.{eqb_tells}
 use Rattle.std.proofs.lemmas.List.{length-set}
+use Rattle.jm_program.proofs.Sequences.{got_last, got_before_last}
+use Rattle.jm_program.proofs.Truths.{both_true}
 use Rattle.jm_blocks.specs.Objects.{Object}
 use Rattle.jm_blocks.specs.Places.{lane_of, block_of, index_of, place_at}
 use Rattle.jm_blocks.specs.Stores.{Blocks, objects_in, object_of_list}
-use Rattle.jm_blocks.proofs.Placing.{lies_in, parts, lane_put, block_put, index_put, at_place, get_end, get_before_end}
+use Rattle.jm_blocks.proofs.Placing.{lies_in, parts, lane_put, block_put, index_put, at_place}
 use Rattle.jm_forward.specs.declared.rule.Hand.{Hand}
 use Rattle.jm_copy.specs.Copying.{Copying}
 use Rattle.jm_copy.specs.Condemned.{objects_at}
@@ -48,11 +50,6 @@ pub record Splits (c d : Copies) (m : Marks) (x : Piece) : Type 0 where
   pub below : (n : ℕ) → is_above c.kept n ≡ false → objects_in d.tenured n ≡ objects_in c.tenured n
   pub past : IsMark c.tenured c.kept → (n : ℕ) → is_in x n ≡ true → lane_of n ≡ c.tenured.lane → IsBeyond c.kept (block_of n)
 
-and_true : (a b : Bool) → (a && b) ≡ true → (a ≡ true) × (b ≡ true)
-and_true true true e = (refl, refl)
-and_true true false e = cc
-and_true false b e = cc
-
 never : (i count : ℕ) → cond (nat_lt i 0) count 0 ≡ 0
 never i count = by (nat_lt i 0) refl
   where
@@ -63,9 +60,9 @@ never i count = by (nat_lt i 0) refl
 -- two blocks that have a place in common have all
 same_block : (x z : Piece) (p n : ℕ) → is_in x p ≡ true → is_in z p ≡ true → is_in x n ≡ true → is_in z n ≡ true
 same_block x z p n e f g =
-    let a = and_true (nat_eq (lane_of p) x.lane) (nat_eq (block_of p) x.number) e in
-    let b = and_true (nat_eq (lane_of p) z.lane) (nat_eq (block_of p) z.number) f in
-    let c = and_true (nat_eq (lane_of n) x.lane) (nat_eq (block_of n) x.number) g in
+    let a = both_true (nat_eq (lane_of p) x.lane) (nat_eq (block_of p) x.number) e in
+    let b = both_true (nat_eq (lane_of p) z.lane) (nat_eq (block_of p) z.number) f in
+    let c = both_true (nat_eq (lane_of n) x.lane) (nat_eq (block_of n) x.number) g in
     let lane : lane_of n ≡ z.lane = eqb-true _ _ c.0 ∙ sym (eqb-true _ _ a.0) ∙ eqb-true _ _ b.0 in
     let block : block_of n ≡ z.number = eqb-true _ _ c.1 ∙ sym (eqb-true _ _ a.1) ∙ eqb-true _ _ b.1 in
     ap (λ t. t && nat_eq (block_of n) z.number) (eq-eqb (lane_of n) z.lane lane) ∙ eq-eqb (block_of n) z.number block
@@ -189,7 +186,7 @@ module _ (stores : List Blocks) (roots : List ℕ) (base held_ : List (ℕ × �
 
 -- the block's places, and the others
 at_block : (s : Blocks) (b : ℕ) (os : List Object) (n : ℕ) → is_in (piece_of s b os 0) n ≡ true → (lane_of n ≡ s.lane) × (block_of n ≡ b)
-at_block s b os n e = let a = and_true (nat_eq (lane_of n) s.lane) (nat_eq (block_of n) b) e in (eqb-true _ _ a.0, eqb-true _ _ a.1)
+at_block s b os n e = let a = both_true (nat_eq (lane_of n) s.lane) (nat_eq (block_of n) b) e in (eqb-true _ _ a.0, eqb-true _ _ a.1)
 
 out_of : (s : Blocks) (b : ℕ) (os : List Object) (n : ℕ) → ((lane_of n ≡ s.lane) → (block_of n ≡ b) → ⊥) → is_in (piece_of s b os 0) n ≡ false
 out_of s b os n away = by (is_in (piece_of s b os 0) n) refl
@@ -429,9 +426,9 @@ apart_end [] x all p = ((λ i y e. cc), tt)
 apart_end (w ∷ xs) x all p = ((λ i y e. by i y e (eqb_tells i (length xs))), apart_end xs x (λ i y e. all (suc i) y e) p.1)
   where
     by : (i : ℕ) (y : Piece) → slice_get (xs ++ x ∷ []) i ≡ Some y → ((nat_eq i (length xs) ≡ true) × (i ≡ length xs)) ⊎ ((nat_eq i (length xs) ≡ false) × (i ≢ length xs)) → IsApart w y
-    by i y e (inr h) = p.0 i y (sym (get_before_end xs x i h.1) ∙ e)
+    by i y e (inr h) = p.0 i y (sym (got_before_last xs x i h.1) ∙ e)
     by i y e (inl h) =
-        let here : Some x ≡ Some y = sym (get_end xs x) ∙ ap (slice_get (xs ++ x ∷ [])) (sym h.1) ∙ e in
+        let here : Some x ≡ Some y = sym (got_last xs x) ∙ ap (slice_get (xs ++ x ∷ [])) (sym h.1) ∙ e in
         let is : x ≡ y = cc in
         subst (λ z. IsApart w z) is (all 0 w refl)
 
@@ -443,8 +440,8 @@ in_order : (xs : List Piece) (x : Piece) (i : ℕ) (y : Piece) → slice_get (xs
 in_order xs x i y e = by (eqb_tells i (length xs))
   where
     by : ((nat_eq i (length xs) ≡ true) × (i ≡ length xs)) ⊎ ((nat_eq i (length xs) ≡ false) × (i ≢ length xs)) → (j : ℕ) × (slice_get (x ∷ xs) j ≡ Some y)
-    by (inr h) = (suc i, sym (get_before_end xs x i h.1) ∙ e)
-    by (inl h) = (zero, sym (get_end xs x) ∙ ap (slice_get (xs ++ x ∷ [])) (sym h.1) ∙ e)
+    by (inr h) = (suc i, sym (got_before_last xs x i h.1) ∙ e)
+    by (inl h) = (zero, sym (got_last xs x) ∙ ap (slice_get (xs ++ x ∷ [])) (sym h.1) ∙ e)
 
 given_last : (h : Hand) (d : Copies) (x : Piece) (xs : List Piece) → AreGiven h d (x ∷ xs) → AreGiven h d (xs ++ x ∷ [])
 given_last h d x xs g = record {
@@ -457,8 +454,8 @@ given_last h d x xs g = record {
 holding_last : (stores : List Blocks) (roots : List ℕ) (base held_ : List (ℕ × ℕ)) (k : ℕ) (h : Hand) (d : Copies) (m : Marks) (x : Piece) (xs : List Piece) → AreApartPieces (xs ++ x ∷ []) → IsHolding stores roots base held_ k h d m (x ∷ xs) → IsHolding stores roots base held_ k h d m (xs ++ x ∷ [])
 holding_last stores roots base held_ k h d m x xs p f =
     let ys = xs ++ x ∷ [] in
-    let objects : held_objects (x ∷ xs) ≡ held_objects ys = λ t n. sym (front_objects ys (length xs) x p (get_end xs x) n ∙ ap (λ zs. both (objects_of x) (held_objects zs) n) (without_end xs x)) t in
-    let done : held_progress (x ∷ xs) ≡ held_progress ys = λ t n count. sym (front_progress ys (length xs) x p (get_end xs x) n count ∙ ap (λ zs. progress_of x (held_progress zs) n count) (without_end xs x)) t in
+    let objects : held_objects (x ∷ xs) ≡ held_objects ys = λ t n. sym (front_objects ys (length xs) x p (got_last xs x) n ∙ ap (λ zs. both (objects_of x) (held_objects zs) n) (without_end xs x)) t in
+    let done : held_progress (x ∷ xs) ≡ held_progress ys = λ t n count. sym (front_progress ys (length xs) x p (got_last xs x) n count ∙ ap (λ zs. progress_of x (held_progress zs) n count) (without_end xs x)) t in
     subst (λ q. IsScanning stores roots base held_ k (held_objects ys) q h d m) done (subst (λ r. IsScanning stores roots base held_ k r (held_progress (x ∷ xs)) h d m) objects f)
 
 one_last : (xs : List Piece) (x : Piece) (n : ℕ) → IsInOne (xs ++ x ∷ []) n → IsInOne xs n ⊎ (is_in x n ≡ true)
@@ -489,8 +486,8 @@ split_out c d m x xs mark s = record {
     where_from n (inl h) = inl h
     where_from n (inr t) =
         let w = s.some in
-        let a = and_true (nat_eq (lane_of w.0) x.lane) (nat_eq (block_of w.0) x.number) w.3 in
-        let b = and_true (nat_eq (lane_of n) x.lane) (nat_eq (block_of n) x.number) t in
+        let a = both_true (nat_eq (lane_of w.0) x.lane) (nat_eq (block_of w.0) x.number) w.3 in
+        let b = both_true (nat_eq (lane_of n) x.lane) (nat_eq (block_of n) x.number) t in
         inr (w.0, (w.1, w.2), eqb-true _ _ a.0 ∙ sym (eqb-true _ _ b.0), eqb-true _ _ a.1 ∙ sym (eqb-true _ _ b.1), s.past mark n t)
 
 out_refl : (c : Copies) (xs : List Piece) → GoesOut c c xs xs

@@ -2,6 +2,8 @@
 use Rattle.std.proofs.Common.{◌≡◌, ◌≢◌, ◌⊎◌, ℕ, suc, List, [], ◌∷◌, Option, Some, None, true, false, refl, sym, ap, ◌∙◌, subst, inl, inr}
 use Rattle.std.specs.Prelude.{nat_eq}
 use Rattle.std.proofs.lemmas.Bool.Decides.{eqb_tells}
+use Rattle.jm_program.proofs.Truths.{both_true}
+use Rattle.jm_program.proofs.Numbers.{equal}
 use Rattle.jm_blocks.specs.Objects.{Object}
 use Rattle.jm_blocks.specs.Places.{block_of, lane_of}
 use Rattle.jm_blocks.specs.Stores.{Blocks, objects_in}
@@ -16,7 +18,7 @@ use Rattle.jm_par_copy.specs.declared.piece.Piece.{Piece}
 use Rattle.jm_par_copy.specs.declared.copier.Copier.{Copier}
 use Rattle.jm_par_copy.proofs.Aside.{is_there}
 use Rattle.jm_par_copy.proofs.Beside.{apart_back, held_aside}
-use Rattle.jm_par_copy.proofs.Pieces.{both_true, equal, objects_elsewhere}
+use Rattle.jm_par_copy.proofs.Pieces.{objects_elsewhere}
 use Rattle.jm_par_copy.proofs.Sharing.{both_left, both_right}
 use Rattle.jm_par_copy.proofs.Stocks.{stored_old, stored_young}
 

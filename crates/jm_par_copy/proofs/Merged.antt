@@ -1,23 +1,27 @@
 -- The blocks of one store are put into another of the same lane.
-use Rattle.std.proofs.Common.{◌≡◌, ◌≢◌, ◌⊎◌, ℕ, zero, suc, ◌+◌, ◌<◌, ◌≤◌, List, [], ◌∷◌, Option, Some, None, Bool, true, false, not, cond, refl, sym, ap, ◌∙◌, subst, inl, inr, length, eq-eqb, arith}
+use Rattle.std.proofs.Common.{◌≡◌, ◌≢◌, ◌⊎◌, ℕ, ◌+◌, ◌<◌, ◌≤◌, List, [], ◌∷◌, Option, Some, None, Bool, true, false, not, cond, refl, sym, ap, ◌∙◌, subst, inl, inr, length, eq-eqb, arith}
 use Rattle.std.specs.Prelude.{slice_get, nat_eq, ◌&&◌}
 use Rattle.std.proofs.lemmas.Bool.{cases_lt}
 use Rattle.std.proofs.lemmas.Bool.Decides.{eqb_tells}
 use Rattle.std.proofs.lemmas.List.{length-set}
 use Rattle.std.proofs.lemmas.Option.{slice_get_within}
+use Rattle.jm_program.proofs.Sequences.{got_written, got_unwritten as get_set_other}
+use Rattle.jm_program.proofs.Truths.{both_true}
+use Rattle.jm_program.proofs.Numbers.{equal}
 use Rattle.jm_blocks.specs.Objects.{Object}
 use Rattle.jm_blocks.specs.Places.{lane_of, block_of, index_of, place_at}
 use Rattle.jm_blocks.specs.Stores.{Blocks, HasObject, IsLast, objects_in, object_of_list}
-use Rattle.jm_blocks.proofs.Placing.{LiesIn, at_place, lies_in, lane_put, block_put, index_put, get_set_same, get_set_other}
+use Rattle.jm_blocks.proofs.Placing.{LiesIn, at_place, lies_in, lane_put, block_put, index_put}
 use Rattle.jm_par_copy.specs.Merging.{AreBeside, GoesOver, IsLeft, IsMoved}
 use Rattle.jm_par_copy.specs.Moves.{piece_of, with_block}
 use Rattle.jm_par_copy.specs.Pieces.{is_in, objects_of}
 use Rattle.jm_par_copy.specs.Working.{both, or_else}
 use Rattle.jm_par_copy.specs.declared.piece.Piece.{Piece}
 use Rattle.jm_par_copy.proofs.Moves.{block_is_back, block_is_out}
-use Rattle.jm_par_copy.proofs.Pieces.{both_true, equal, object_here, objects_elsewhere, objects_in_it}
+use Rattle.jm_par_copy.proofs.Pieces.{object_here, objects_elsewhere, objects_in_it}
 use Rattle.jm_par_copy.proofs.Sharing.{both_left, both_right}
 use Rattle.jm_par_copy.proofs.Strides.{lane_below}
+use Rattle.jm_values.proofs.Lists.{get_there}
 
 pub moved_none : (from to : Blocks) → GoesOver from to → IsMoved from to from to
 moved_none from to h = record { from_lane = refl; to_lane = refl; many = refl; all = λ n. refl; over = h; kept = λ n o e. e }
@@ -83,11 +87,6 @@ both_is : (f g h k : ℕ → Option Object) (n : ℕ) → or_else (f n) (g n) �
 unfolding both
 both_is f g h k n e = e
 
-pub got_there : {X : Type 0} (xs : List X) (i : ℕ) → i < length xs → (x : X) × (slice_get xs i ≡ Some x)
-got_there [] i h = absurd (omega (arith, h))
-got_there (x ∷ xs) zero h = (x, refl)
-got_there (x ∷ xs) (suc i) h = got_there xs i (omega (arith, h))
-
 -- a block takes the place of that of its number in the second, whose objects it has
 module _ (from to : Blocks) (b : ℕ) (os : List Object) (lane : from.lane ≡ to.lane) (few : from.lane < 64) (over : GoesOver from to) (is : slice_get from.lists b ≡ Some os) (some : 0 < length os) (there : b < length to.lists) where
   abbrev from_now : Blocks
@@ -106,10 +105,10 @@ module _ (from to : Blocks) (b : ℕ) (os : List Object) (lane : from.lane ≡ t
   same = ap (λ l. let p : Piece = (record { lane = l; number = b; block = os; mark = 0 }) in p) (sym lane)
 
   zs : (zs : List Object) × (slice_get to.lists b ≡ Some zs)
-  zs = got_there to.lists b there
+  zs = get_there to.lists b there
 
   back : (n : ℕ) → objects_in to_now n ≡ both (objects_of x) (objects_in cut) n
-  back n = block_is_back cut b 0 os (get_set_same to.lists b [] there) n ∙ ap (λ p. both (objects_of p) (objects_in cut) n) same
+  back n = block_is_back cut b 0 os (got_written to.lists b [] there) n ∙ ap (λ p. both (objects_of p) (objects_in cut) n) same
 
   -- of the second what lies in the block is cut off
   cut_is : (n : ℕ) (t : Bool) → is_in x n ≡ t → objects_in cut n ≡ cond (not t) (objects_in to n) None
@@ -186,7 +185,7 @@ module _ (from to : Blocks) (b : ℕ) (os : List Object) (lane : from.lane ≡ t
   }
 
 pub left_one : (from : Blocks) (b : ℕ) (os : List Object) → slice_get from.lists b ≡ Some os → IsLeft from (with_block from b []) b
-left_one from b os e = record { here = get_set_same from.lists b [] (slice_get_within from.lists b os e); others = λ k h. get_set_other from.lists b k [] h }
+left_one from b os e = record { here = got_written from.lists b [] (slice_get_within from.lists b os e); others = λ k h. get_set_other from.lists b k [] h }
 
 pub left_empty : (from : Blocks) (b : ℕ) (os : List Object) → slice_get from.lists b ≡ Some os → length os ≡ 0 → IsLeft from from b
 left_empty from b [] e z = record { here = e; others = λ k h. refl }
@@ -259,7 +258,7 @@ empty_piece x n e = by (is_in x n) refl
 -- a moved block's number is free in its store
 pub piece_is_free : (x : Piece) (to mid : Blocks) → x.lane ≡ to.lane → x.lane < 64 → ((n : ℕ) (a : Object) → objects_of x n ≡ Some a → objects_in to n ≡ None) → mid.lane ≡ to.lane → ((n : ℕ) → objects_in mid n ≡ objects_in to n) → length x.block ≢ 0 → x.number < length mid.lists → slice_get mid.lists x.number ≡ Some []
 piece_is_free x to mid lane few free same_lane same some there =
-    let got = got_there mid.lists x.number there in
+    let got = get_there mid.lists x.number there in
     got.1 ∙ ap (λ zs. Some zs) (empty got.0 x.block got.1 refl)
   where
     empty : (zs os : List Object) → slice_get mid.lists x.number ≡ Some zs → x.block ≡ os → zs ≡ []

@@ -4,12 +4,15 @@ use Rattle.std.specs.Prelude.{nat_eq, nat_lt, slice_get, slice_set}
 use Rattle.std.proofs.lemmas.Bool.{lt-ltb, le-ltb, cases_lt}
 use Rattle.std.proofs.lemmas.Bool.Decides.{eqb_tells}
 use Rattle.std.proofs.lemmas.Option.{slice_get_within}
+use Rattle.jm_program.proofs.Sequences.{got_written, got_unwritten}
+use Rattle.jm_program.proofs.Truths.{both_true}
+use Rattle.jm_program.proofs.Numbers.{equal}
 use Rattle.jm_values.specs.declared.value.Value.{Value}
 use Rattle.jm_values.specs.declared.value.Value.TheVariants.{Ref}
 use Rattle.jm_blocks.specs.Objects.{Object, with_value}
 use Rattle.jm_blocks.specs.Places.{lane_of, block_of, index_of, place_at}
 use Rattle.jm_blocks.specs.Stores.{Blocks}
-use Rattle.jm_blocks.proofs.Placing.{parts, lane_put, block_put, index_put, get_set_same, get_set_other}
+use Rattle.jm_blocks.proofs.Placing.{parts, lane_put, block_put, index_put}
 use Rattle.jm_forward.specs.declared.rule.Hand.{Hand}
 use Rattle.jm_copy.specs.Image.{IsReached}
 use Rattle.jm_copy.specs.Copying.{ForwardedValue, IsFurther, IsReplaced, Progress}
@@ -24,18 +27,6 @@ use Rattle.jm_par_copy.specs.Pieces.{is_in, objects_of, progress_of, place_in, I
 use Rattle.jm_par_copy.specs.declared.piece.Piece.{Piece}
 use Rattle.jm_par_copy.proofs.Sharing.{both_left, both_right}
 use Rattle.jm_par_copy.proofs.Working.{both_same, working_at}
-
-pub both_true : (a b : Bool) → (a && b) ≡ true → (a ≡ true) × (b ≡ true)
-both_true true true e = (refl, refl)
-both_true true false e = cc
-both_true false b e = cc
-
-pub equal : (a b : ℕ) → nat_eq a b ≡ true → a ≡ b
-equal a b t = by (eqb_tells a b)
-  where
-    by : ((nat_eq a b ≡ true) × (a ≡ b)) ⊎ ((nat_eq a b ≡ false) × (a ≢ b)) → a ≡ b
-    by (inl h) = h.1
-    by (inr h) = let two : true ≡ false = sym t ∙ h.0 in cc
 
 -- the place of an object of the block
 pub in_here : (x : Piece) (i : ℕ) → x.lane < 64 → i < 256 → is_in x (place_in x i) ≡ true
@@ -68,13 +59,13 @@ piece_replaced x y i j a w lane few e is = subst (λ z. IsReplaced (objects_of x
     z = record { lane = x.lane; number = x.number; block = slice_set x.block i (with_value a j w); mark = x.mark }
 
     here : objects_of z (place_in x i) ≡ Some (with_value a j w)
-    here = object_here z i lane few ∙ get_set_same x.block i (with_value a j w) (slice_get_within x.block i a e)
+    here = object_here z i lane few ∙ got_written x.block i (with_value a j w) (slice_get_within x.block i a e)
 
     by : (q : ℕ) → q ≢ place_in x i → (b : Bool) → is_in x q ≡ b → objects_of z q ≡ objects_of x q
     by q ne false t = objects_elsewhere z q t ∙ sym (objects_elsewhere x q t)
     by q ne true t =
         let away : index_of q ≢ i = λ h. ne (in_is x q t ∙ ap (place_in x) h) in
-        objects_in_it z q t ∙ get_set_other x.block i (index_of q) (with_value a j w) away ∙ sym (objects_in_it x q t)
+        objects_in_it z q t ∙ got_unwritten x.block i (index_of q) (with_value a j w) away ∙ sym (objects_in_it x q t)
 
 module _ (stores : List Blocks) (roots : List ℕ) (base held : List (ℕ × ℕ)) (k : ℕ) where
   -- a value of an object that the copier was given is forwarded

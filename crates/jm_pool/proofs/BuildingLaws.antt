@@ -5,9 +5,10 @@ use Rattle.std.specs.Ordering.{int_eq}
 use Rattle.std.specs.Cmp.{signed_Decides}
 use Rattle.std.specs.Cmp.Lexicographic as texts
 use Rattle.std.proofs.lemmas.Bool.{eqb-true, leb-true}
-use Rattle.std.proofs.lemmas.List.{append-nil, length-append, get_or_append_left}
-use Rattle.std.proofs.lemmas.Option.{slice_get_within, slice_get-get_or, get_or_from_slice_get}
+use Rattle.std.proofs.lemmas.List.{append-nil, length-append}
+use Rattle.std.proofs.lemmas.Option.{slice_get_within, slice_get-get_or}
 use Rattle.std.proofs.Math.Seq.{get_or-append_seam}
+use Rattle.jm_program.proofs.Sequences.{got_front}
 use Rattle.jm_bytes.specs.Laws.{ok_pair_parts}
 use Rattle.jm_class_format.specs.PoolLookups.{entry_at}
 use Rattle.jm_class_format.specs.declared.constant_pool.Entry.{Entry}
@@ -47,11 +48,6 @@ entry_is c e h = absurd cc
 
 -- ---- entries keep their indexes
 
-pub slice_get_front : {A : Type 0} (xs ys : List A) (i : ℕ) (x : A) → slice_get xs i ≡ Some x → slice_get (xs ++ ys) i ≡ Some x
-slice_get_front {A} xs ys i x h =
-    let lt : i < length xs = slice_get_within xs i x h in
-    slice_get-get_or (xs ++ ys) i x (omega (arith, length-append xs ys)) ∙ ap (λ (y : A). Some y) (get_or_append_left xs ys x i lt ∙ get_or_from_slice_get xs i x x h)
-
 slice_get_seam : {A : Type 0} (xs ys : List A) (y : A) → slice_get (xs ++ y ∷ ys) (length xs) ≡ Some y
 slice_get_seam {A} xs ys y =
     slice_get-get_or (xs ++ y ∷ ys) (length xs) y (omega (arith, length-append xs (y ∷ ys))) ∙ ap (λ (z : A). Some z) (get_or-append_seam xs y ys y)
@@ -60,7 +56,7 @@ slice_get_seam {A} xs ys y =
 pub entry_at_front : (earlier rest : List Entry) (i : ℕ) (e : Entry) → entry_at earlier i ≡ Some e → entry_at (earlier ++ rest) i ≡ Some e
 unfolding entry_at
 entry_at_front earlier rest zero e h = absurd cc
-entry_at_front earlier rest (suc i) e h = slice_get_front earlier rest i e h
+entry_at_front earlier rest (suc i) e h = got_front earlier rest i e h
 
 pub entry_at_seam : (front rest : List Entry) (e : Entry) → entry_at (front ++ e ∷ rest) (length front + 1) ≡ Some e
 unfolding entry_at

@@ -1,6 +1,6 @@
 -- What is read from the front of a text has that text, and the text of a type is read.
 use Rattle.std.proofs.Common.{◌≡◌, ℕ, zero, suc, ◌+◌, ◌-◌, ◌<◌, ◌≤◌, Bool, true, false, not, cond, ◌&&◌, eqb, ltb, leb, List, [], ◌∷◌, ◌++◌, length, take, drop, get_or, replicate, Option, Some, None, refl, sym, ap, subst, ◌∙◌, append_assoc, arith, add-one, inl, inr}
-use Rattle.std.proofs.lemmas.Bool.{eqb-true, lt-ltb, ltb-true}
+use Rattle.std.proofs.lemmas.Bool.{eqb-true, lt-ltb, ltb-true, and_from}
 use Rattle.std.proofs.lemmas.List.{length-append}
 use Rattle.std.proofs.lemmas.Option.{some_pair_parts, same_Some}
 use Rattle.std.proofs.Math.Seq.{take-append_seam, drop-append-add}
@@ -15,6 +15,7 @@ use Rattle.jm_program.specs.declared.descriptor.BaseType.TheVariants as base
 use Rattle.jm_program.specs.declared.descriptor.ElementType.{ElementType}
 use Rattle.jm_program.specs.declared.descriptor.ElementType.TheVariants.{Base, Class}
 use Rattle.jm_program.specs.declared.descriptor.FieldType.{FieldType}
+use Rattle.jm_program.proofs.Truths.{both_true}
 
 -- one unit before the brackets that were found
 brackets_split_on : (u : ℕ) (units : List ℕ) (n : ℕ) (b : Bool) → eqb u 91 ≡ b → units ≡ replicate n 91 ++ drop n units
@@ -85,14 +86,6 @@ and_then_inverse (Some x) f y h = (x, refl, h)
 pub cond_inverse : {A : Type 0} (b : Bool) (o : Option A) (y : A) → cond b o None ≡ Some y → (b ≡ true) × (o ≡ Some y)
 cond_inverse true o y h = (refl, h)
 cond_inverse false o y h = cc
-
-pub both_true : (a b : Bool) → (a && b) ≡ true → (a ≡ true) × (b ≡ true)
-both_true true b h = (refl, h)
-both_true false b h = cc
-
-pub and_true : (a b : Bool) → a ≡ true → b ≡ true → (a && b) ≡ true
-and_true true b p q = q
-and_true false b p q = cc
 
 class_complete : (name rest : List ℕ) → is_name_shape name ≡ true → class_at (name ++ 59 ∷ rest) ≡ Some (Class name, rest)
 unfolding class_at
@@ -211,7 +204,7 @@ field_sound units t rest h =
     let split : units ≡ replicate n 91 ++ drop n units = brackets_split units in
     let whole : units ≡ replicate n 91 ++ element_text step.0.0 ++ rest =
     split ∙ ap (λ (us : List ℕ). replicate n 91 ++ us) element.0 ∙ sym (append_assoc (replicate n 91) (element_text step.0.0) step.0.1) ∙ ap (λ (r : List ℕ). replicate n 91 ++ element_text step.0.0 ++ r) found.1 in
-    let shape : (leb n 255 && is_element_shape step.0.0) ≡ true = and_true (leb n 255) (is_element_shape step.0.0) parts.0 element.1 in
+    let shape : (leb n 255 && is_element_shape step.0.0) ≡ true = and_from (leb n 255) (is_element_shape step.0.0) parts.0 element.1 in
     subst (λ (x : FieldType). (units ≡ field_text x ++ rest) × (is_field_shape x ≡ true)) found.0 (whole, shape)
 
 -- the parameters' text is read up to the ), whatever follows
@@ -250,7 +243,7 @@ parameters_sound_on most u units ps rest false is below h =
     let others = below step.0.1 next.0.0 same in
     let whole : u ∷ units ≡ flat_map field_text (step.0.0 ∷ next.0.0) ++ 41 ∷ rest =
     first.0 ∙ ap (λ (r : List ℕ). field_text step.0.0 ++ r) others.0 ∙ sym (append_assoc (field_text step.0.0) (flat_map field_text next.0.0) (41 ∷ rest)) in
-    let shape : list_all is_field_shape (step.0.0 ∷ next.0.0) ≡ true = and_true (is_field_shape step.0.0) (list_all is_field_shape next.0.0) first.1 others.1 in
+    let shape : list_all is_field_shape (step.0.0 ∷ next.0.0) ≡ true = and_from (is_field_shape step.0.0) (list_all is_field_shape next.0.0) first.1 others.1 in
     subst (λ (x : List FieldType). (u ∷ units ≡ flat_map field_text x ++ 41 ∷ rest) × (list_all is_field_shape x ≡ true)) found.0 (whole, shape)
 
 -- what is read as parameters has their text

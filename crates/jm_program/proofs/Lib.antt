@@ -5,3 +5,6 @@ pub mod NameShapes
 pub mod Parsing
 pub mod Texts
 pub mod JasminLaws
+pub mod Truths
+pub mod Numbers
+pub mod Sequences

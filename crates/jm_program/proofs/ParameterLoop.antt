@@ -26,7 +26,7 @@ parameters_more n m units ps rest le h =
     let few : length ps ≤ m = omega (arith, texts_long ps, long, length-append (flat_map field_text ps) (41 ∷ rest)) in
     subst (λ (us : List ℕ). parameters_at m us ≡ Some (ps, rest)) (sym found.0) (parameters_complete m ps rest few found.1)
 
-options_agree : {A : Type 0} (o p : Option A) → ((x : A) → o ≡ Some x → p ≡ Some x) → ((x : A) → p ≡ Some x → o ≡ Some x) → o ≡ p
+pub options_agree : {A : Type 0} (o p : Option A) → ((x : A) → o ≡ Some x → p ≡ Some x) → ((x : A) → p ≡ Some x → o ≡ Some x) → o ≡ p
 options_agree None None f g = refl
 options_agree None (Some x) f g = g x refl
 options_agree (Some x) p f g = sym (f x refl)

@@ -1,6 +1,6 @@
 -- A whole text is read as a descriptor exactly where it has its shape.
 use Rattle.std.proofs.Common.{◌≡◌, ℕ, zero, suc, ◌+◌, ◌<◌, ◌≤◌, Bool, true, false, not, cond, ◌&&◌, eqb, leb, List, [], ◌∷◌, ◌++◌, length, Option, Some, None, refl, sym, ap, subst, ◌∙◌, append_assoc, arith, IsTrue}
-use Rattle.std.proofs.lemmas.Bool.{eqb-true}
+use Rattle.std.proofs.lemmas.Bool.{eqb-true, and_from}
 use Rattle.std.proofs.lemmas.List.{length-append, append-nil, nil_from_length}
 use Rattle.std.proofs.lemmas.Option.{same_Some}
 use Rattle.std.specs.List.{list_all, flat_map, slice_split}
@@ -13,8 +13,9 @@ use Rattle.jm_program.specs.declared.descriptor.FieldType.{FieldType}
 use Rattle.jm_program.specs.declared.descriptor.MethodDescriptor.{MethodDescriptor}
 use Rattle.jm_program.specs.declared.descriptor.Descriptor.{Descriptor}
 use Rattle.jm_program.specs.declared.descriptor.Descriptor.TheVariants.{Field, Method}
-use Rattle.jm_program.proofs.DescriptorLaws.{and_then_inverse, cond_inverse, both_true, and_true, field_front, field_complete, field_sound, parameters_complete, parameters_sound}
+use Rattle.jm_program.proofs.DescriptorLaws.{and_then_inverse, cond_inverse, field_front, field_complete, field_sound, parameters_complete, parameters_sound}
 use Rattle.jm_program.proofs.ParameterLoop.{texts_long}
+use Rattle.jm_program.proofs.Truths.{both_true}
 
 field_whole_sound : (units : List ℕ) (t : FieldType) → whole_field units ≡ Some t → (units ≡ field_text t) × (is_field_shape t ≡ true)
 unfolding whole_field
@@ -75,7 +76,7 @@ method_sound units d h =
     let r = return_sound step.0.1 next.0 next.1 in
     let whole : 40 ∷ units ≡ method_text made = ap (λ (us : List ℕ). 40 ∷ us) (ps.0 ∙ ap (λ (us : List ℕ). flat_map field_text step.0.0 ++ 41 ∷ us) r.0) in
     let shape : is_method_shape made ≡ true =
-    and_true (list_all is_field_shape step.0.0 && is_return_shape next.0) (leb (argument_slots made) 255) (and_true (list_all is_field_shape step.0.0) (is_return_shape next.0) ps.1 r.1) parts.0 in
+    and_from (list_all is_field_shape step.0.0 && is_return_shape next.0) (leb (argument_slots made) 255) (and_from (list_all is_field_shape step.0.0) (is_return_shape next.0) ps.1 r.1) parts.0 in
     subst (λ (x : MethodDescriptor). (40 ∷ units ≡ method_text x) × (is_method_shape x ≡ true)) (same_Some made d parts.1) (whole, shape)
 
 method_complete : (d : MethodDescriptor) → is_method_shape d ≡ true → whole_method (flat_map field_text d.parameters ++ 41 ∷ return_text d.return_type) ≡ Some d

@@ -50,19 +50,19 @@ turned first es kept fs e m l w r is same =
 
 -- ---- several turns
 
-events_replicate : (n : ℕ) (e : Entry) → events_of (replicate n e) ≡ replicate n e.event
+pub events_replicate : (n : ℕ) (e : Entry) → events_of (replicate n e) ≡ replicate n e.event
 events_replicate zero e = refl
 events_replicate (suc n) e = ap (λ es. e.event ∷ es) (events_replicate n e)
 
-replies_replicate : (n : ℕ) (e : Entry) → map reply_of (replicate n e) ≡ replicate n (reply_of e)
+pub replies_replicate : (n : ℕ) (e : Entry) → map reply_of (replicate n e) ≡ replicate n (reply_of e)
 replies_replicate zero e = refl
 replies_replicate (suc n) e = ap (λ es. reply_of e ∷ es) (replies_replicate n e)
 
-events_told : (seat : ℕ) (event : Event) (rs : List Reply) → events_of (map (entry_of seat event) rs) ≡ replicate (length rs) event
+pub events_told : (seat : ℕ) (event : Event) (rs : List Reply) → events_of (map (entry_of seat event) rs) ≡ replicate (length rs) event
 events_told seat event [] = refl
 events_told seat event (r ∷ rs) = ap (λ es. event ∷ es) (events_told seat event rs)
 
-replies_told : (seat : ℕ) (event : Event) (rs : List Reply) → map reply_of (map (entry_of seat event) rs) ≡ rs
+pub replies_told : (seat : ℕ) (event : Event) (rs : List Reply) → map reply_of (map (entry_of seat event) rs) ≡ rs
 replies_told seat event [] = refl
 replies_told seat event (r ∷ rs) = ap (λ es. r ∷ es) (replies_told seat event rs)
 

@@ -3,13 +3,14 @@ use Rattle.std.proofs.Common.{◌≡◌, ℕ, suc, zero, ◌+◌, ◌-◌, ◌<�
 use Rattle.std.proofs.Common.{refl, sym, ap, ◌∙◌, subst, arith}
 use Rattle.std.proofs.Common.{length-append, append_assoc}
 use Rattle.std.specs.Prelude.{replicate, slice_set, slice_get}
+use Rattle.std.proofs.lemmas.List.{append-nil}
+use Rattle.jm_program.proofs.Sequences.{one_more_taken}
 use Rattle.jm_values.specs.Activation.{category}
 use Rattle.jm_values.specs.declared.value.Value.{Value}
 use Rattle.jm_values.specs.declared.value.Value.TheVariants.{Int, Long, Null, Ref}
 use Rattle.jm_world.specs.Invocation.{argument_locals, locals_of, unset, padded}
 use Rattle.jm_frames.specs.FrameView.{FrameView, with_locals_of}
 use Rattle.jm_state.specs.declared.arguments.Callee.{Callee}
-use Rattle.jm_state.proofs.Popping.{taken_next}
 
 put_at : {X : Type 0} (xs ys : List X) (x y : X) → slice_set (xs ++ x ∷ ys) (length xs) y ≡ xs ++ y ∷ ys
 put_at [] ys x y = refl
@@ -61,10 +62,6 @@ locals_both : (xs ys : List Value) → locals_of (xs ++ ys) ≡ locals_of xs ++ 
 locals_both [] ys = refl
 locals_both (x ∷ xs) ys = ap (λ l. argument_locals x ++ l) (locals_both xs ys) ∙ sym (append_assoc (argument_locals x) (locals_of xs) (locals_of ys))
 
-appended_none : {X : Type 0} (xs : List X) → xs ++ [] ≡ xs
-appended_none [] = refl
-appended_none (x ∷ xs) = ap (λ l. x ∷ l) (appended_none xs)
-
 -- a frame of the method with these local variables
 abbrev pub called : Callee → List (Option Value) → FrameView
 called c locals = record {
@@ -93,9 +90,9 @@ next_locals : (arguments : List Value) (i : ℕ) (v : Value) → slice_get argum
     → locals_of (take (i + 1) arguments) ≡ locals_of (take i arguments) ++ argument_locals v
 next_locals arguments i v e =
     ap (λ k. locals_of (take k arguments)) (let next : i + 1 ≡ suc i = omega arith in next)
-    ∙ ap locals_of (taken_next arguments i v e)
+    ∙ ap locals_of (one_more_taken arguments i v e)
     ∙ locals_both (take i arguments) (v ∷ [])
-    ∙ ap (λ l. locals_of (take i arguments) ++ l) (appended_none (argument_locals v))
+    ∙ ap (λ l. locals_of (take i arguments) ++ l) (append-nil (argument_locals v))
 
 -- what the first so many take is no more than what all take
 some_locals : (arguments : List Value) (i : ℕ) → length (locals_of (take i arguments)) ≤ length (locals_of arguments)

@@ -5,6 +5,7 @@ use Rattle.std.proofs.lemmas.List.{reverse-append, reverse-reverse, length-rever
 use Rattle.std.specs.Prelude.{map, slice_get, Result, Err}
 use Rattle.jm_program.specs.declared.descriptor.FieldType.{FieldType}
 use Rattle.jm_program.specs.declared.instruction.operation.OperandType.{OperandType}
+use Rattle.jm_program.proofs.Sequences.{one_more_taken}
 use Rattle.jm_values.specs.Steps.{is_of}
 use Rattle.jm_values.specs.declared.fault.TagFault.{TagFault}
 use Rattle.jm_values.specs.declared.fault.TagFault.TheVariants.{Underflow, WrongTag}
@@ -39,11 +40,6 @@ dropped_next [] i x e = cc
 dropped_next (y ∷ ys) zero x e = let same : y ≡ x = cc in ap (λ z. z ∷ ys) same
 dropped_next (y ∷ ys) (suc i) x e = dropped_next ys i x e
 
-pub taken_next : {X : Type 0} (xs : List X) (i : ℕ) (x : X) → slice_get xs i ≡ Some x → take (suc i) xs ≡ take i xs ++ x ∷ []
-taken_next [] i x e = cc
-taken_next (y ∷ ys) zero x e = let same : y ≡ x = cc in ap (λ z. z ∷ []) same
-taken_next (y ∷ ys) (suc i) x e = ap (λ l. y ∷ l) (taken_next ys i x e)
-
 there : {X : Type 0} (xs : List X) (i : ℕ) (x : X) → slice_get xs i ≡ Some x → suc i ≤ length xs
 there [] i x e = cc
 there (y ∷ ys) zero x e = omega arith
@@ -73,7 +69,7 @@ one_popped types s i t v p e f fits =
             | true ↦ popped (drop (suc i) types) (v ∷ on_top i s) (drop (suc i) s)
             | false ↦ Err WrongTag
           ]) fits
-          ∙ ap (λ l. popped (drop (suc i) types) l (drop (suc i) s)) (sym (ap reverse (taken_next s i v f) ∙ reverse-append (take i s) (v ∷ [])));
+          ∙ ap (λ l. popped (drop (suc i) types) l (drop (suc i) s)) (sym (ap reverse (one_more_taken s i v f) ∙ reverse-append (take i s) (v ∷ [])));
     })
 
 pub wrong_type : (types : List OperandType) (s : List Value) (i : ℕ) (t : OperandType) (v : Value) → Popped types s i

@@ -12,28 +12,27 @@ use Rattle.jm_program.specs.declared.class.Field.{Field}
 use Rattle.jm_program.specs.declared.descriptor.ElementType.{ElementType}
 use Rattle.jm_program.specs.declared.descriptor.ElementType.TheVariants.{Base, Class}
 use Rattle.jm_program.specs.declared.descriptor.FieldType.{FieldType}
+use Rattle.jm_program.proofs.Truths.{both_true as both}
+use Rattle.jm_program.proofs.Texts.{text_is}
 use Rattle.jm_world.specs.Classes.{FoundField}
 use Rattle.jm_world.specs.Fields.{name_of_field}
 use Rattle.jm_world.specs.Loads.{duplicate_fields}
 use Rattle.jm_world.specs.Objects.{FieldName, instance_fields, place_of_field, same_field}
 use Rattle.jm_world.specs.Types.{same_element, same_type}
+use Rattle.jm_world.proofs.Comparing.{type_itself}
 use Rattle.jm_tables.specs.declared.extent.DeclaredFields.{DeclaredFields}
 use Rattle.jm_tables.specs.declared.layout.FieldSlot.{FieldSlot}
 use Rattle.jm_tables.specs.declared.layout.FieldSlot.TheVariants.{Instance, Static}
 use Rattle.jm_tables.specs.Layouts.{AreFields, IsFieldNumber, IsLayout, LayoutView, StandsInChain, classes_of, slot_at, static_fields}
 use Rattle.jm_tables.specs.Numbering.{name_of}
 use Rattle.jm_tables.proofs.LayoutLaws.{class_at, class_within, there}
-use Rattle.jm_tables.proofs.PlaceLaws.{first_apart, further, rest_apart, same_type_refl, text_of_same}
-
-both : (a b : Bool) → (a && b) ≡ true → (a ≡ true) × (b ≡ true)
-both true b e = (refl, e)
-both false b e = cc
+use Rattle.jm_tables.proofs.PlaceLaws.{first_apart, further, rest_apart}
 
 element_alike : (z x y : ElementType) → same_element z x ≡ true → same_element z y ≡ true → same_element x y ≡ true
 element_alike (Base c) (Base a) (Base b) e h =
     eq-eqb (base_letter a) (base_letter b) (sym (eqb-true (base_letter c) (base_letter a) e) ∙ eqb-true (base_letter c) (base_letter b) h)
 element_alike (Class c) (Class a) (Class b) e h =
-    ap (same_text a) (sym (text_of_same c b h)) ∙ ap (λ x. same_text x c) (sym (text_of_same c a e)) ∙ nat_list_eq_equiv.refl c
+    ap (same_text a) (sym (text_is c b h)) ∙ ap (λ x. same_text x c) (sym (text_is c a e)) ∙ nat_list_eq_equiv.refl c
 element_alike (Base c) (Class a) y e h = cc
 element_alike (Class c) (Base a) y e h = cc
 element_alike (Base c) (Base a) (Class b) e h = cc
@@ -57,7 +56,7 @@ same_parts a b e = by (same_text a.name b.name) refl (same_text a.class b.class)
   where
     by : (p : Bool) → same_text a.name b.name ≡ p → (q : Bool) → same_text a.class b.class ≡ q
         → (elim p as (λ _. Bool) [ true ↦ elim q as (λ _. Bool) [ true ↦ same_type a.type b.type | false ↦ false ] | false ↦ false ]) ≡ true → IsSame a b
-    by true x true y h = record { name = text_of_same a.name b.name x; class = text_of_same a.class b.class y; type = h }
+    by true x true y h = record { name = text_is a.name b.name x; class = text_is a.class b.class y; type = h }
     by true x false y h = cc
     by false x q y h = cc
 
@@ -107,7 +106,7 @@ one_index seen (x ∷ fs) (suc i) zero f g none e h n t =
     let same : x ≡ g = (let some : Some x ≡ Some g = h in cc) in
     absurd (clash (same_text x.name f.name) (same_type x.descriptor f.descriptor)
     (ap (λ (y : Field). same_text y.name f.name) same ∙ ap (same_text g.name) n ∙ nat_list_eq_equiv.refl g.name)
-    (ap (λ (y : Field). same_type y.descriptor f.descriptor) same ∙ type_alike f.descriptor g.descriptor f.descriptor t (same_type_refl f.descriptor))
+    (ap (λ (y : Field). same_type y.descriptor f.descriptor) same ∙ type_alike f.descriptor g.descriptor f.descriptor t (type_itself f.descriptor))
     (first_apart seen fs x i f (rest_apart seen x fs none) e))
   where
     clash : (a b : Bool) → a ≡ true → b ≡ true → (a && b) ≡ false → ⊥

@@ -4,20 +4,12 @@ use Rattle.std.proofs.Common.{get_or, set, refl, sym, ◌∙◌, ap, subst, arit
 use Rattle.std.proofs.lemmas.Option.{slice_get_read, slice_get_within}
 use Rattle.std.proofs.Math.Seq.{take-append_seam}
 use Rattle.jm_program.specs.declared.instruction.operation.OperandType.{OperandType}
+use Rattle.jm_program.proofs.Sequences.{got_front, got_last, none_left}
 use Rattle.jm_tables.specs.declared.field_kinds.KindRow.{KindRow}
 use Rattle.jm_tables.specs.FieldKinds.{HasKinds, IsWhole, head_of}
 
 abbrev pub no_kinds : KindRow
 no_kinds = record { list = 0; length = 0 }
-
-got_left : {A : Type 0} (xs ys : List A) (i : ℕ) (x : A) → slice_get xs i ≡ Some x → slice_get (xs ++ ys) i ≡ Some x
-got_left [] ys i x e = cc
-got_left (y ∷ xs) ys zero x e = e
-got_left (y ∷ xs) ys (suc i) x e = got_left xs ys i x e
-
-got_last : {A : Type 0} (xs : List A) (x : A) → slice_get (xs ++ x ∷ []) (length xs) ≡ Some x
-got_last [] x = refl
-got_last (y ∷ xs) x = got_last xs x
 
 got_set : {A : Type 0} (xs : List A) (i : ℕ) (x : A) → i < length xs → slice_get (set xs i x) i ≡ Some x
 got_set [] i x h = absurd (omega (arith, h))
@@ -30,10 +22,6 @@ got_other (y ∷ xs) zero x zero h = absurd (h refl)
 got_other (y ∷ xs) zero x (suc j) h = refl
 got_other (y ∷ xs) (suc i) x zero h = refl
 got_other (y ∷ xs) (suc i) x (suc j) h = got_other xs i x j (λ e. h (ap suc e))
-
-none_more : {A : Type 0} (xs : List A) → length xs ≡ 0 → xs ≡ []
-none_more [] e = refl
-none_more (x ∷ xs) e = absurd (omega (arith, e))
 
 -- a row's kinds are at the head of its list
 pub head_is : (kinds more : List OperandType) → head_of (length kinds) (kinds ++ more) ≡ Some kinds
@@ -71,13 +59,13 @@ module _ (lists : List (Vec OperandType Global)) (row : KindRow) (kinds : List O
 
   pub whole_same : (list : Vec OperandType Global) → slice_get lists row.list ≡ Some list → length list.items ≡ row.length → IsWhole lists row.list kinds
   whole_same list is long =
-      let none : has.more ≡ [] = none_more has.more (omega (arith, ap length (the_list list is), length-append kinds has.more, has.many, long)) in
+      let none : has.more ≡ [] = none_left has.more (omega (arith, ap length (the_list list is), length-append kinds has.more, has.many, long)) in
       record { list = list; list_is = is; items = the_list list is ∙ ap (λ m. kinds ++ m) none ∙ append-nil kinds }
 
   pub kept_push : (list : Vec OperandType Global) → HasKinds (lists ++ list ∷ []) row kinds
   kept_push list = record {
     list = has.list;
-    list_is = got_left lists (list ∷ []) row.list has.list has.list_is;
+    list_is = got_front lists (list ∷ []) row.list has.list has.list_is;
     more = has.more;
     items = has.items;
     many = has.many;
@@ -108,7 +96,7 @@ module _ (lists : List (Vec OperandType Global)) (row : KindRow) (kinds : List O
           }
 
   pub over_none : (own : List OperandType) → length own ≡ 0 → HasKinds lists row (kinds ++ own)
-  over_none own none = subst (HasKinds lists row) (sym (ap (λ ks. kinds ++ ks) (none_more own none) ∙ append-nil kinds)) has
+  over_none own none = subst (HasKinds lists row) (sym (ap (λ ks. kinds ++ ks) (none_left own none) ∙ append-nil kinds)) has
 
 pub whole_push : (lists : List (Vec OperandType Global)) (list : Vec OperandType Global) (number : ℕ) (kinds : List OperandType) → number ≡ length lists
     → list.items ≡ kinds → IsWhole (lists ++ list ∷ []) number kinds

@@ -12,6 +12,7 @@ use Rattle.jm_program.specs.Names.{same_text}
 use Rattle.jm_program.specs.Flags.{is_static}
 use Rattle.jm_program.specs.declared.class.ClassParts.{ClassParts}
 use Rattle.jm_program.specs.declared.class.Field.{Field}
+use Rattle.jm_program.proofs.Texts.{text_is}
 use Rattle.jm_builtins.specs.List.{the_builtins}
 use Rattle.jm_world.specs.Classes.{FoundField, as_class, height}
 use Rattle.jm_world.specs.Fields.{name_of_field}
@@ -31,7 +32,7 @@ use Rattle.jm_tables.specs.Layouts.{size_at, slots_from, static_fields, statics_
 use Rattle.jm_tables.specs.Numbering.{name_of}
 use Rattle.jm_tables.proofs.ExtentLaws.{extent_more}
 use Rattle.jm_tables.proofs.ListedLaws.{listed_at, listed_found, slots_long}
-use Rattle.jm_tables.proofs.PlaceLaws.{text_of_same, fields_down, fields_are, as_many_names, place_right, place_up, AreOthers, not_in_others, named_field}
+use Rattle.jm_tables.proofs.PlaceLaws.{fields_down, fields_are, as_many_names, place_right, place_up, AreOthers, not_in_others, named_field}
 use Rattle.jm_tables.proofs.PlaceLaws.{own_place, static_names, static_place}
 use Rattle.jm_tables.proofs.SlotLaws.{slot_behind, slot_found, statics_counted}
 
@@ -186,7 +187,7 @@ module _ (program : List ClassParts) (names : List (List ℕ)) (classes : List D
       by k c at false e = refl
       by k c at true e =
           let long : length (drop k (rest n d.superclass)) ≡ suc (length (rest n d.superclass)) =
-          ap length (from k c d.superclass above at ∙ ap (up_from (suc n) program) (text_of_same c.name (name_of names class) e) ∙ up_one n class d is) in
+          ap length (from k c d.superclass above at ∙ ap (up_from (suc n) program) (text_is c.name (name_of names class) e) ∙ up_one n class d is) in
           absurd (omega (arith, long, short_drop k (rest n d.superclass)))
 
   -- the place of an instance field in the instances of its class

@@ -1,34 +1,22 @@
 -- Places among field names, by classes.
 use Rattle.std.proofs.Common.{◌≡◌, ℕ, zero, suc, ◌+◌, ◌<◌, ◌≤◌, List, [], ◌∷◌, ◌++◌, Option, Some, None, Bool, true, false, cond, ◌&&◌, length, take, drop}
 use Rattle.std.proofs.Common.{reverse, not}
-use Rattle.std.proofs.Common.{refl, sym, ◌∙◌, ap, subst, arith, slice_get, append_assoc, append-nil, length-append, nat_eq, eqb-true}
+use Rattle.std.proofs.Common.{refl, sym, ◌∙◌, ap, subst, arith, slice_get, append_assoc, append-nil, length-append}
 use Rattle.std.proofs.lemmas.List.{reverse-append}
 use Rattle.std.specs.Prelude.{is_some}
 use Rattle.std.specs.List.{filter, flat_map}
 use Rattle.std.proofs.lemmas.List.Concat.{flat_map-append}
-use Rattle.std.proofs.lemmas.Cmp.{nat_eq_equiv, nat_list_eq_equiv}
+use Rattle.std.proofs.lemmas.Cmp.{nat_list_eq_equiv}
 use Rattle.jm_program.specs.Names.{same_text}
-use Rattle.jm_program.specs.Descriptors.{base_letter}
 use Rattle.jm_program.specs.Flags.{is_static}
 use Rattle.jm_program.specs.declared.class.ClassParts.{ClassParts}
 use Rattle.jm_program.specs.declared.class.Field.{Field}
-use Rattle.jm_program.specs.declared.descriptor.ElementType.{ElementType}
-use Rattle.jm_program.specs.declared.descriptor.ElementType.TheVariants.{Base, Class}
-use Rattle.jm_program.specs.declared.descriptor.FieldType.{FieldType}
+use Rattle.jm_program.proofs.Texts.{text_is}
 use Rattle.jm_world.specs.Classes.{field_in}
 use Rattle.jm_world.specs.Loads.{Refusal, duplicate_member, duplicate_fields, or_else, when}
 use Rattle.jm_world.specs.Objects.{FieldName, field_names, own_instance_fields, same_field, place_of_field}
-use Rattle.jm_world.specs.Types.{same_element, same_type}
-
-pub text_of_same : (a b : List ℕ) → same_text a b ≡ true → a ≡ b
-text_of_same [] [] e = refl
-text_of_same [] (y ∷ ys) e = cc
-text_of_same (x ∷ xs) [] e = cc
-text_of_same (x ∷ xs) (y ∷ ys) e = by (λ h. text_of_same xs ys h) (nat_eq x y) refl e
-  where
-    by : (same_text xs ys ≡ true → xs ≡ ys) → (t : Bool) → nat_eq x y ≡ t → (t && same_text xs ys) ≡ true → x ∷ xs ≡ y ∷ ys
-    by rest true is h = let head = eqb-true x y is in let tail = rest h in cc
-    by rest false is h = cc
+use Rattle.jm_world.specs.Types.{same_type}
+use Rattle.jm_world.proofs.Comparing.{type_itself}
 
 -- the fields of classes from one up: those of the topmost first
 abbrev pub fields_down : List ClassParts → List FieldName
@@ -125,17 +113,6 @@ place_up cs zero g p e = e
 place_up [] (suc k) g p e = e
 place_up (c ∷ cs) (suc k) g p e = place_left (fields_down cs) (own_instance_fields c) g p (place_up cs k g p e)
 
-pub same_type_refl : (t : FieldType) → same_type t t ≡ true
-same_type_refl t = both (nat_eq t.dimensions t.dimensions) (same_element t.element t.element) (nat_eq_equiv.refl t.dimensions) (of t.element)
-  where
-    of : (e : ElementType) → same_element e e ≡ true
-    of (Base b) = nat_eq_equiv.refl (base_letter b)
-    of (Class n) = nat_list_eq_equiv.refl n
-
-    both : (a b : Bool) → a ≡ true → b ≡ true → (a && b) ≡ true
-    both true b e h = h
-    both false b e h = cc
-
 -- no field of the name and type is among the earlier ones
 apart_from : (seen fs : List Field) (i : ℕ) (f : Field) → duplicate_fields seen fs ≡ None → slice_get fs i ≡ Some f
     → is_some (field_in seen f.name f.descriptor) ≡ false
@@ -189,7 +166,7 @@ own_place test c seen (g ∷ fs) zero f none e t =
     ∙ ap (λ b. place_of_field (field_names c (cond b (f ∷ filter test fs) (filter test fs))) (named_field c f)) t
     ∙ by (same_text f.name f.name) (same_text c.name c.name) (same_type f.descriptor f.descriptor) (nat_list_eq_equiv.refl f.name)
     (nat_list_eq_equiv.refl c.name)
-    (same_type_refl f.descriptor)
+    (type_itself f.descriptor)
   where
     by : (p q r : Bool) → p ≡ true → q ≡ true → r ≡ true
         → (elim (elim p as (λ _. Bool) [ true ↦ elim q as (λ _. Bool) [ true ↦ r | false ↦ false ] | false ↦ false ]) as (λ _. Option ℕ)

@@ -12,18 +12,9 @@ use Rattle.std.proofs.lemmas.Cmp.{nat_list_eq_equiv}
 use Rattle.std.proofs.lemmas.List.{take_more}
 use Rattle.std.proofs.lemmas.List.Concat.{flat_map-append}
 use Rattle.jm_program.specs.Names.{same_text}
+use Rattle.jm_program.proofs.Texts.{text_is}
 use Rattle.jm_world.specs.Loading.{has_text, distinct_after}
 use Rattle.jm_tables.specs.Texts.{number_of_text, with_text, with_texts, by_units, HasNumbers}
-
-text_of_same : (a b : List ℕ) → same_text a b ≡ true → a ≡ b
-text_of_same [] [] e = refl
-text_of_same [] (y ∷ ys) e = cc
-text_of_same (x ∷ xs) [] e = cc
-text_of_same (x ∷ xs) (y ∷ ys) e = by (λ h. text_of_same xs ys h) (nat_eq x y) refl e
-  where
-    by : (same_text xs ys ≡ true → xs ≡ ys) → (t : Bool) → nat_eq x y ≡ t → (t && same_text xs ys) ≡ true → x ∷ xs ≡ y ∷ ys
-    by rest true is h = let head = eqb-true x y is in let tail = rest h in cc
-    by rest false is h = cc
 
 abbrev next : Option ℕ → Option ℕ
 next o = elim o as (λ _. Option ℕ) [ None ↦ None | Some n ↦ Some (n + 1) ]
@@ -93,7 +84,7 @@ numbers_more ts new t key n old now same at more absent updates h = λ q.
     by : (q : Bor (List ℕ)) (b : Bool) → same_text t q.now ≡ b
         → get by_units now q ≡ first (number_of_text ts q.now) (cond (same_text t q.now) (Some (length ts)) None)
     by q true e =
-        let none : number_of_text ts q.now ≡ None = ap (number_of_text ts) (sym (text_of_same t q.now e)) ∙ absent_here in
+        let none : number_of_text ts q.now ≡ None = ap (number_of_text ts) (sym (text_is t q.now e)) ∙ absent_here in
         updates q ∙ ap (λ b. cond b (Some n) (get by_units old q)) (tied q ∙ e) ∙ ap Some at
         ∙ sym (ap (λ b. first (number_of_text ts q.now) (cond b (Some (length ts)) None)) e ∙ ap (λ o. first o (Some (length ts))) none)
     by q false e =
@@ -158,7 +149,7 @@ text_at (x ∷ ts) t n e = by (λ k h. text_at ts t k h) (same_text x t) refl e
     by : ((k : ℕ) → number_of_text ts t ≡ Some k → slice_get ts k ≡ Some t) → (b : Bool) → same_text x t ≡ b
         → (elim b as (λ _. Option ℕ) [ true ↦ Some 0 | false ↦ next (number_of_text ts t) ]) ≡ Some n → slice_get (x ∷ ts) n ≡ Some t
     by later true is h = let zero_is : 0 ≡ n = (let same : Some 0 ≡ Some n = h in cc) in
-        ap (slice_get (x ∷ ts)) (sym zero_is) ∙ ap Some (text_of_same x t is)
+        ap (slice_get (x ∷ ts)) (sym zero_is) ∙ ap Some (text_is x t is)
     by later false is h = at (number_of_text ts t) refl h
       where
         at : (o : Option ℕ) → number_of_text ts t ≡ o → next o ≡ Some n → slice_get (x ∷ ts) n ≡ Some t
@@ -213,7 +204,7 @@ one_number ts a b s t apart x y = by (same_text s t) refl (nat_eq a b) refl
     by true e true h = refl
     by false e false h = refl
     by true e false h =
-        let same : Some a ≡ Some b = sym (apart a s x) ∙ ap (number_of_text ts) (text_of_same s t e) ∙ apart b t y in
+        let same : Some a ≡ Some b = sym (apart a s x) ∙ ap (number_of_text ts) (text_is s t e) ∙ apart b t y in
         let equal : a ≡ b = cc in let yes = eq-eqb a b equal in cc
     by false e true h =
         let same : Some s ≡ Some t = sym x ∙ ap (slice_get ts) (eqb-true a b h) ∙ y in

@@ -3,5 +3,5 @@
 pub mod gate;
 mod gated;
 mod going_on;
-mod objects;
+pub mod objects;
 mod seats;

@@ -4,12 +4,12 @@
 //!
 //! `bytes` writes and reads numbers, `pools` lets pools grow, `frames` and `values` call what those have,
 //! `command_lines` reads command lines, `built_in_classes` and `faults` print what no row comes to.
-//! `disassembly` gives classes a text. `calls` hands arguments over, `claims` runs one to sixteen copiers,
-//! `copiers` lets gates look at collections by two and counts what many small ones leave, `heap` puts each
-//! kind of heap through the cases of `jm_mutator`, `machine` makes events over the heap that `jm run` has,
-//! and reads the machine after each, `jobs` does jobs over readers and writers in memory. A machine is owned
-//! by functions that are generic in its heap: to let go of one of a known heap is proved anew in this crate,
-//! part by part.
+//! `disassembly` gives classes a text. `calls` hands arguments over, `claims` lets one to sixteen copiers
+//! claim the same objects, `copiers` lets gates look at collections by two and counts what many small ones
+//! leave, `heap` puts each kind of heap through the cases of `jm_mutator`, `machine` makes events over the
+//! heap that `jm run` has, and reads the machine after each, `jobs` does jobs over readers and writers in
+//! memory. A machine is owned by functions that are generic in its heap: to let go of one of a known heap is
+//! proved anew in this crate, part by part.
 #![tactic(auto)]
 
 #[cfg(test)]

@@ -1,6 +1,6 @@
 -- The lines of a run, one event more.
 use Rattle.std.proofs.Common.{◌≡◌, ℕ, ◌+◌, ◌-◌, List, [], ◌∷◌, ◌++◌, Bool, refl, sym, ap, ◌∙◌, append_assoc, append-nil}
-use Rattle.std.specs.Prelude.{if◌then◌else◌, Result, Ok, Err, OnOk}
+use Rattle.std.specs.Prelude.{if◌then◌else◌, Err}
 use Rattle.jm_page.specs.Writing.{Puts}
 use Rattle.jm_page.specs.declared.writer.PageFault.{PageFault}
 use Rattle.jm_page.proofs.Pieces.{put_text, put_short, put_then}
@@ -43,8 +43,3 @@ module _ {W : Type 0} (wrote broke : W → List ℕ → W → Type 0) (more : (a
   fault_told A B fault a b c done text rest total whole before put =
       put_text wrote broke {A = B} (Err fault) a c (done ++ (text ++ rest)) total (sym whole)
       (put_then wrote broke more behind {A = B} (Err fault) a b c done (text ++ rest) before (put_short wrote broke A B fault b c text rest put))
-
--- what is so whatever was answered
-pub of_answer : {A E : Type 0} (P : Type 0) (r : Result A E) → P → OnOk r P
-of_answer P (Ok a) p = p
-of_answer P (Err e) p = tt

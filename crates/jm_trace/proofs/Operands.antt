@@ -1,16 +1,8 @@
 -- Texts that are written one after the other.
-use Rattle.std.proofs.Common.{◌≡◌, ℕ, ◌+◌, ◌<◌, ◌≤◌, List, [], ◌∷◌, ◌++◌, Option, Some, None, length, drop, get_or, slice_get, refl, sym, ap, ◌∙◌, append_assoc, append-nil, add-one, arith}
-use Rattle.std.proofs.Math.Seq.{drop-cons}
+use Rattle.std.proofs.Common.{◌≡◌, ℕ, ◌+◌, ◌<◌, ◌≤◌, List, [], ◌∷◌, ◌++◌, Option, Some, None, length, drop, slice_get, refl, sym, ap, ◌∙◌, append_assoc, append-nil, arith}
 use Rattle.std.proofs.lemmas.List.{drop_all}
-use Rattle.std.proofs.lemmas.Option.{slice_get_within, get_or_from_slice_get}
-use Rattle.jm_debug.proofs.Written.{past_end}
+use Rattle.jm_program.proofs.Sequences.{got_past, first_left as next}
 use Rattle.jm_trace.specs.Doings.{texts_from, texts_of}
-
--- the first of those that are left
-pub next : {A : Type 0} (xs : List A) (i : ℕ) (x : A) → slice_get xs i ≡ Some x → drop i xs ≡ x ∷ drop (i + 1) xs
-next xs i x is =
-    let read : get_or xs i x ≡ x = get_or_from_slice_get xs i x x is in
-    drop-cons xs i x (slice_get_within xs i x is) ∙ rw (read, add-one) refl
 
 -- the texts of things from an index on
 unfoldable pub rest_of : {A : Type 0} → (ℕ → A → List ℕ) → List A → ℕ → List ℕ
@@ -45,7 +37,7 @@ none_read text_at xs i before after total past grown so_far =
 pub one_read : {A : Type 0} (text_at : ℕ → A → List ℕ) (xs : List A) (i : ℕ) (read : Option A) (before after total : List ℕ) → read ≡ slice_get xs i
     → after ≡ before ++ texts_of text_at i read → before ++ rest_of text_at xs i ≡ total → after ++ rest_of text_at xs (i + 1) ≡ total
 one_read text_at xs i (Some x) before after total is grown so_far = one_more text_at xs i x before after total (sym is) grown so_far
-one_read text_at xs i None before after total is grown so_far = none_read text_at xs i before after total (past_end xs i (sym is)) grown so_far
+one_read text_at xs i None before after total is grown so_far = none_read text_at xs i before after total (got_past xs i (sym is)) grown so_far
 
 pub no_more : {A : Type 0} (text_at : ℕ → A → List ℕ) (xs : List A) (i : ℕ) (before total : List ℕ) → length xs ≤ i
     → before ++ rest_of text_at xs i ≡ total → before ≡ total

@@ -1,6 +1,6 @@
 -- Numbers of a list, and names on it.
-use Rattle.std.proofs.Common.{◌≡◌, ◌⊎◌, ℕ, List, [], ◌∷◌, ◌++◌, refl, sym, ap, ◌∙◌, inl, inr}
-use Rattle.std.specs.Prelude.{map}
+use Rattle.std.proofs.Common.{◌≡◌, ◌⊎◌, ℕ, zero, suc, List, [], ◌∷◌, ◌++◌, Option, Some, refl, sym, ap, ◌∙◌, inl, inr}
+use Rattle.std.specs.Prelude.{map, slice_get}
 use Rattle.jm_values.specs.Shape.{Among, AgreeOn}
 
 pub among_left : (n : ℕ) (a b : List ℕ) → Among n a → Among n (a ++ b)
@@ -32,3 +32,20 @@ pub same_names : (f g : ℕ → ℕ) (ns : List ℕ) → map f ns ≡ map g ns �
 same_names f g [] e p a = absurd a
 same_names f g (n ∷ ns) e p (inl i) = let h : f n ≡ g n = cc in ap f i ∙ h ∙ ap g (sym i)
 same_names f g (n ∷ ns) e p (inr a) = let t : map f ns ≡ map g ns = cc in same_names f g ns t p a
+
+-- a number of a list has an index, and what an index has is one of the list
+pub among_read : (ns : List ℕ) (i n : ℕ) → slice_get ns i ≡ Some n → Among n ns
+among_read [] i n e = cc
+among_read (m ∷ ns) zero n e = inl (cc)
+among_read (m ∷ ns) (suc i) n e = inr (among_read ns i n e)
+
+pub index_among : (ns : List ℕ) (n : ℕ) → Among n ns → (i : ℕ) × (slice_get ns i ≡ Some n)
+index_among [] n h = absurd h
+index_among (x ∷ ns) n (inl e) = (0, ap (λ y. Some y) (sym e))
+index_among (x ∷ ns) n (inr h) = let at = index_among ns n h in (suc at.0, at.1)
+
+pub among_or_last : (n m : ℕ) (ns : List ℕ) → Among n (ns ++ m ∷ []) → Among n ns ⊎ (n ≡ m)
+among_or_last n m [] (inl e) = inr e
+among_or_last n m [] (inr h) = absurd h
+among_or_last n m (x ∷ ns) (inl e) = inl (inl e)
+among_or_last n m (x ∷ ns) (inr h) = elim (among_or_last n m ns h) [ inl a ↦ inl (inr a) | inr e ↦ inr e ]

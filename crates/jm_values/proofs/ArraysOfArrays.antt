@@ -10,6 +10,7 @@ use Rattle.jm_values.specs.declared.value.Value.{Value}
 use Rattle.jm_values.specs.declared.value.Value.TheVariants.{Ref}
 use Rattle.jm_values.specs.Objects.{ObjectOf, copies, size_by}
 use Rattle.jm_values.specs.ArraysOfArrays.{Dimension, new_of, tree_arrays, refs_from, each_from, tree, new_tree}
+use Rattle.jm_values.proofs.Lists.{each_of_both}
 
 -- how many there are
 pub each_many : {A : Type 0} (n : ℕ) (made : ℕ → List A) (size first apart : ℕ) → ((k : ℕ) → length (made k) ≡ size) → length (each_from n made first apart) ≡ n * size
@@ -71,11 +72,6 @@ new_tree_retyped f (d ∷ []) = refl
 new_tree_retyped f (d ∷ e ∷ ds) =
     ap (λ l. new_of (retyped_dimension f d) ∷ l) (map_each (retyped f) d.count (λ k. new_tree (e ∷ ds)) (λ k. new_tree (map (retyped_dimension f) (e ∷ ds))) 0 0 (λ k. new_tree_retyped f (e ∷ ds)))
 
--- lists in which each element holds
-append_hold : {A : Type 0} (P : A → Type 0) (xs ys : List A) → AllByRecursion P xs → AllByRecursion P ys → AllByRecursion P (xs ++ ys)
-append_hold P [] ys a b = b
-append_hold P (x ∷ xs) ys a b = (a.0, append_hold P xs ys a.1 b)
-
 copies_hold : (P : Value → Type 0) (n : ℕ) (v : Value) → P v → AllByRecursion P (copies n v)
 copies_hold P zero v h = tt
 copies_hold P (suc n) v h = (h, copies_hold P n v h)
@@ -88,7 +84,7 @@ refs_hold P (suc n) first apart one h =
 each_hold : {A : Type 0} (P : A → Type 0) (n : ℕ) (made : ℕ → List A) (first apart : ℕ) → ((k : ℕ) → first ≤ k → k + apart ≤ first + n * apart → AllByRecursion P (made k)) → AllByRecursion P (each_from n made first apart)
 each_hold P zero made first apart h = tt
 each_hold P (suc n) made first apart h =
-    append_hold P (made first) (each_from n made (first + apart) apart)
+    each_of_both P (made first) (each_from n made (first + apart) apart)
     (h first (omega arith) (omega (arith, suc-mul n apart)))
     (each_hold P n made (first + apart) apart (λ k l b. h k (omega (arith, l)) (omega (arith, b, suc-mul n apart))))
 

@@ -160,3 +160,11 @@ pub set_same : {A : Type 0} (xs : List A) (i : ℕ) (x : A) → slice_get xs i �
 set_same [] i x e = refl
 set_same (y ∷ xs) zero x e = let f : y ≡ x = cc in ap (λ z. z ∷ xs) (sym f)
 set_same (y ∷ xs) (suc i) x e = ap (λ z. y ∷ z) (set_same xs i x e)
+
+pub each_and_more : {A : Type 0} (P : A → Type 0) (xs : List A) (x : A) → AllByRecursion P xs → P x → AllByRecursion P (xs ++ x ∷ [])
+each_and_more P [] x a h = (h, tt)
+each_and_more P (y ∷ ys) x a h = (a.0, each_and_more P ys x a.1 h)
+
+pub each_of_both : {A : Type 0} (P : A → Type 0) (xs ys : List A) → AllByRecursion P xs → AllByRecursion P ys → AllByRecursion P (xs ++ ys)
+each_of_both P [] ys a b = b
+each_of_both P (x ∷ xs) ys a b = (a.0, each_of_both P xs ys a.1 b)

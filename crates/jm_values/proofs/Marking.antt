@@ -11,6 +11,7 @@ use Rattle.std.specs.declared.cmp.Ordering.TheVariants.{Less, Equal, Greater}
 use Rattle.std.proofs.lemmas.Bool.Decides.{eqb_tells}
 use Rattle.std.proofs.lemmas.List.{length_push, append-nil, take_all, take_more, map-append}
 use Rattle.std.proofs.lemmas.Bool.{ltb-true}
+use Rattle.jm_program.proofs.Sequences.{one_more_taken}
 use Rattle.jm_values.specs.Shape.{Among}
 use Rattle.jm_values.specs.Rename.{rename, refs, stack_shape}
 use Rattle.jm_values.specs.declared.value.Value.{Value}
@@ -25,7 +26,7 @@ use Rattle.jm_values.proofs.Reaching.{reach_within, few_below}
 use Rattle.jm_values.proofs.SoundContents.{serial_below, object_of_place, name_is}
 
 -- a key that is inserted
-equal_keys : (x y : ℕ) → nat_cmp x y ≡ Equal → x ≡ y
+pub equal_keys : (x y : ℕ) → nat_cmp x y ≡ Equal → x ≡ y
 equal_keys x y e = by (nat_lt x y) (nat_eq x y) refl (eqb_tells x y) e
   where
     by : (b d : Bool) → nat_eq x y ≡ d → ((nat_eq x y ≡ true) × (x ≡ y)) ⊎ ((nat_eq x y ≡ false) × (x ≢ y)) → cond b Less (cond d Equal Greater) ≡ Equal → x ≡ y
@@ -81,7 +82,7 @@ apart_from x [] all a = a
 apart_from x (y ∷ xs) all (inl e) = less_is_below x y all.0 e
 apart_from x (y ∷ xs) all (inr a) = apart_from x xs all.1 a
 
-keys_differ : (xs : List ℕ) → IsStrictlySortedBy nat_cmp xs → AllDistinct xs
+pub keys_differ : (xs : List ℕ) → IsStrictlySortedBy nat_cmp xs → AllDistinct xs
 unfolding IsStrictlySortedBy
 keys_differ [] s = tt
 keys_differ (x ∷ xs) s = (apart_from x xs s.0, keys_differ xs s.1)
@@ -95,11 +96,6 @@ among_at (y ∷ xs) (suc i) x h e = inr (among_at xs i x (omega arith) e)
 names_more : (f : ℕ → ℕ) (xs : List ℕ) (i x : ℕ) → i < length xs → x ≡ get_or xs i x → map f (take (i + 1) xs) ≡ map f (take i xs) ++ f x ∷ []
 names_more f xs i x h e =
     ap (map f) (take_more xs i x h) ∙ map-append f (take i xs) (get_or xs i x ∷ []) ∙ ap (λ y. map f (take i xs) ++ f y ∷ []) (sym e)
-
-take_one_more : {A : Type 0} (xs : List A) (i : ℕ) (x : A) → slice_get xs i ≡ Some x → take (suc i) xs ≡ take i xs ++ x ∷ []
-take_one_more [] i x e = cc
-take_one_more (y ∷ xs) zero x e = let h : y ≡ x = cc in ap (λ z. z ∷ []) h
-take_one_more (y ∷ xs) (suc i) x e = ap (λ l. y ∷ l) (take_one_more xs i x e)
 
 module _ {T : Type 0} (c : Content T) where
   -- what holds between two looks: each serial that has been seen is reached, and its object was
@@ -283,7 +279,7 @@ refs_renamed f (Long n) = refl
 refs_renamed f Null = refl
 refs_renamed f (Ref p) = refl
 
-refs_append : (us vs : List Value) → stack_shape.refs (us ++ vs) ≡ stack_shape.refs us ++ stack_shape.refs vs
+pub refs_append : (us vs : List Value) → stack_shape.refs (us ++ vs) ≡ stack_shape.refs us ++ stack_shape.refs vs
 refs_append [] vs = refl
 refs_append (u ∷ us) vs = ap (λ l. refs u ++ l) (refs_append us vs) ∙ sym (append_assoc (refs u) (stack_shape.refs us) (stack_shape.refs vs))
 
@@ -314,7 +310,7 @@ module _ {T : Type 0} (c : Content T) (p : ℕ) where
       let here : slice_get vs i ≡ Some (rename (name_of c) v) = ap (λ o. slice_get (values_in o) i) same ∙ has.4 in
       let more : first_names (i + 1) ≡ first_names i ++ map (name_of c) (refs v) =
       ap first_names (add-one i)
-      ∙ ap stack_shape.refs (take_one_more vs i (rename (name_of c) v) here)
+      ∙ ap stack_shape.refs (one_more_taken vs i (rename (name_of c) v) here)
       ∙ refs_append (take i vs) (rename (name_of c) v ∷ [])
       ∙ ap (λ l. first_names i ++ l) (append-nil (refs (rename (name_of c) v)) ∙ refs_renamed (name_of c) v) in
       subst (λ ks. MarkedAll c ks a s d u) (sym more) (marked_more f g)

@@ -1,12 +1,13 @@
 -- Values and activations keep to the laws of shapes.
 use Rattle.std.proofs.Common.{◌≡◌, ℕ, List, [], ◌∷◌, ◌++◌, Option, length, refl, sym, ap, inl, arith}
 use Rattle.std.specs.Prelude.{map}
+use Rattle.jm_program.proofs.Sequences.{none_left}
 use Rattle.jm_values.specs.Shape.{IsShape, IsPart, option_shape, pair_shape}
 use Rattle.jm_values.specs.Rename.{value_shape, stack_shape, locals_shape, activation_shape, holders, with_holders}
 use Rattle.jm_values.specs.Activation.{Activation}
 use Rattle.jm_values.specs.declared.value.Value.{Value}
 use Rattle.jm_values.specs.declared.value.Value.TheVariants.{Ref}
-use Rattle.jm_values.proofs.Shapes.{option_is_shape, list_is_shape, pair_is_shape, part_is_shape, length_zero}
+use Rattle.jm_values.proofs.Shapes.{option_is_shape, list_is_shape, pair_is_shape, part_is_shape}
 
 pub value_is_shape : IsShape Value value_shape
 value_is_shape (Ref p) = record {
@@ -31,7 +32,7 @@ value_is_shape v = record {
   composes = λ f g. refl;
   agrees = λ f g e. refl;
   renamed = λ f. refl;
-  refilled = λ ns rest e. sym (length_zero ns e);
+  refilled = λ ns rest e. sym (none_left ns e);
   moved = λ f g ns rest e. refl;
 }
 

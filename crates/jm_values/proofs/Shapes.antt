@@ -4,6 +4,7 @@ use Rattle.std.specs.Prelude.{map}
 use Rattle.std.proofs.lemmas.List.{append-nil, map-append, length-map, take-append-drop, take-map, length-take-le}
 use Rattle.std.specs.List.{drop-map}
 use Rattle.std.proofs.Math.Seq.{drop-append_seam, take-append_seam}
+use Rattle.jm_program.proofs.Sequences.{none_left as length_zero}
 use Rattle.jm_values.specs.Shape.{Shape, ShapeLaws, IsShape, IsPart, plain_shape, option_shape, list_shape, pair_shape, part_shape}
 use Rattle.jm_values.proofs.Among.{among_left, among_right}
 
@@ -11,10 +12,6 @@ use Rattle.jm_values.proofs.Among.{among_left, among_right}
 none_left : (f : ℕ → ℕ) (ns : List ℕ) → map f ns ≡ [] → ns ≡ []
 none_left f [] e = refl
 none_left f (n ∷ ns) e = cc
-
-pub length_zero : (ns : List ℕ) → length ns ≡ 0 → ns ≡ []
-length_zero [] e = refl
-length_zero (n ∷ ns) e = absurd (omega arith)
 
 pub plain_is_shape : {A : Type 0} → IsShape A (plain_shape A)
 plain_is_shape x = record {

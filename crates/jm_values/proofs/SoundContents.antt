@@ -1,18 +1,11 @@
 -- What a sound content has at each place.
 use Rattle.std.proofs.Common.{◌≡◌, ◌≢◌, ◌⊎◌, ℕ, ◌<◌, List, [], ◌∷◌, Option, Some, Bool, true, false, refl, sym, ap, ◌∙◌, subst, inl, inr}
 use Rattle.std.specs.Prelude.{nat_eq, unwrap_or}
-use Rattle.std.proofs.lemmas.Bool.Decides.{eqb_tells}
+use Rattle.jm_program.proofs.Numbers.{equal, found_equal}
 use Rattle.jm_values.specs.Shape.{Among, IsOneToOne}
 use Rattle.jm_values.specs.Reach.{AllDistinct}
 use Rattle.jm_values.specs.Objects.{ObjectOf}
 use Rattle.jm_values.specs.Content.{Content, Resident, IsSound, AllResident, serials_of, serial_in, object_in, serial_at, object_at, name_of}
-
-equal_numbers : (a b : ℕ) → nat_eq a b ≡ true → a ≡ b
-equal_numbers a b e = by (eqb_tells a b)
-  where
-    by : ((nat_eq a b ≡ true) × (a ≡ b)) ⊎ ((nat_eq a b ≡ false) × (a ≢ b)) → a ≡ b
-    by (inl t) = t.1
-    by (inr t) = cc
 
 serial_listed : {T : Type 0} (rs : List (Resident T)) (p k : ℕ) → serial_in rs p ≡ Some k → Among k (serials_of rs)
 serial_listed [] p k e = cc
@@ -30,17 +23,10 @@ one_place (r ∷ rs) p q k d e f = by (one_place rs p q k d.1) (nat_eq p r.place
     twice n g h = let same : k ≡ r.serial = cc in d.0 (subst (λ j. Among j (serials_of rs)) same (serial_listed rs n k h))
 
     by : (serial_in rs p ≡ Some k → serial_in rs q ≡ Some k → p ≡ q) → (a : Bool) → nat_eq p r.place ≡ a → (b : Bool) → nat_eq q r.place ≡ b → (elim a as (λ _. Option ℕ) [ true ↦ Some r.serial | false ↦ serial_in rs p ]) ≡ Some k → (elim b as (λ _. Option ℕ) [ true ↦ Some r.serial | false ↦ serial_in rs q ]) ≡ Some k → p ≡ q
-    by later true at_p true at_q g h = equal_numbers p r.place at_p ∙ sym (equal_numbers q r.place at_q)
+    by later true at_p true at_q g h = equal p r.place at_p ∙ sym (equal q r.place at_q)
     by later true at_p false at_q g h = absurd (twice q g h)
     by later false at_p true at_q g h = absurd (twice p h g)
     by later false at_p false at_q g h = later g h
-
-same_number : (a b : ℕ) → a ≡ b → nat_eq a b ≡ true
-same_number a b e = by (eqb_tells a b)
-  where
-    by : ((nat_eq a b ≡ true) × (a ≡ b)) ⊎ ((nat_eq a b ≡ false) × (a ≢ b)) → nat_eq a b ≡ true
-    by (inl t) = t.0
-    by (inr t) = absurd (t.1 e)
 
 some_object : {T : Type 0} (rs : List (Resident T)) (p k : ℕ) → serial_in rs p ≡ Some k → (o : ObjectOf T) × (object_in rs k ≡ Some o)
 some_object [] p k e = cc
@@ -48,7 +34,7 @@ some_object {T = T} (r ∷ rs) p k e = by (some_object rs p k) (nat_eq p r.place
   where
     by : (serial_in rs p ≡ Some k → (o : ObjectOf T) × (object_in rs k ≡ Some o)) → (a : Bool) → (elim a as (λ _. Option ℕ) [ true ↦ Some r.serial | false ↦ serial_in rs p ]) ≡ Some k → (b : Bool) → nat_eq k r.serial ≡ b → (o : ObjectOf T) × ((elim b as (λ _. Option (ObjectOf T)) [ true ↦ Some r.object | false ↦ object_in rs k ]) ≡ Some o)
     by later a h true n = (r.object, refl)
-    by later true h false n = let same : k ≡ r.serial = cc in let is = same_number k r.serial same in cc
+    by later true h false n = let same : k ≡ r.serial = cc in let is = found_equal k r.serial same in cc
     by later false h false n = later h
 
 -- no two places have one serial
@@ -61,13 +47,13 @@ pub serial_below : {T : Type 0} (c : Content T) → IsSound c → (p k : ℕ) �
 unfolding serial_at
 serial_below c s p k e = s.below k (serial_listed c.residents p k e)
 
-object_listed : {T : Type 0} (rs : List (Resident T)) (k : ℕ) (o : ObjectOf T) → object_in rs k ≡ Some o → Among k (serials_of rs)
+pub object_listed : {T : Type 0} (rs : List (Resident T)) (k : ℕ) (o : ObjectOf T) → object_in rs k ≡ Some o → Among k (serials_of rs)
 object_listed [] k o e = cc
 object_listed {T = T} (r ∷ rs) k o e = by (nat_eq k r.serial) refl (object_listed rs k o) e
   where
     by : (b : Bool) → nat_eq k r.serial ≡ b → (object_in rs k ≡ Some o → Among k (serials_of rs))
         → (elim b as (λ _. Option (ObjectOf T)) [ true ↦ Some r.object | false ↦ object_in rs k ]) ≡ Some o → (k ≡ r.serial) ⊎ Among k (serials_of rs)
-    by true same later h = inl (equal_numbers k r.serial same)
+    by true same later h = inl (equal k r.serial same)
     by false same later h = inr (later h)
 
 -- the serial of an object is below the next one

@@ -4,6 +4,7 @@ use Rattle.std.specs.Prelude.{ℤ, slice_get, slice_set, nat_eq}
 use Rattle.std.proofs.lemmas.Bool.{eqb-true, eqb-false}
 use Rattle.std.proofs.lemmas.List.{length-set}
 use Rattle.std.proofs.lemmas.Option.{slice_get_within}
+use Rattle.jm_program.proofs.Sequences.{got_written, got_unwritten as get_set_other}
 use Rattle.jm_values.specs.WellFormed.{LongsAreWhole}
 use Rattle.jm_values.specs.LoadsAndStores.{stored, without_long_before, without_second, unset_long}
 use Rattle.jm_values.specs.declared.value.Value.{Value}
@@ -16,25 +17,13 @@ by_equal {P} m n equal apart = pick (nat_eq m n) refl
     pick true e = equal (eqb-true m n e)
     pick false e = apart (eqb-false m n e)
 
-get_set_same : {A : Type 0} (l : List A) (i : ℕ) (x : A) → i < length l → slice_get (slice_set l i x) i ≡ Some x
-get_set_same [] i x h = absurd (omega arith)
-get_set_same (y ∷ l) zero x h = refl
-get_set_same (y ∷ l) (suc i) x h = get_set_same l i x (omega arith)
-
-get_set_other : {A : Type 0} (l : List A) (i j : ℕ) (x : A) → j ≢ i → slice_get (slice_set l i x) j ≡ slice_get l j
-get_set_other [] i j x h = refl
-get_set_other (y ∷ l) zero zero x h = absurd (h refl)
-get_set_other (y ∷ l) zero (suc j) x h = refl
-get_set_other (y ∷ l) (suc i) zero x h = refl
-get_set_other (y ∷ l) (suc i) (suc j) x h = get_set_other l i j x (λ e. h (ap suc e))
-
 -- what is read where something was set, if anything is
 get_set_at : {A : Type 0} (l : List A) (i j : ℕ) (x y : A) → j ≡ i → slice_get (slice_set l i x) j ≡ Some y → y ≡ x
 get_set_at l i j x y same e =
     let here : slice_get (slice_set l i x) i ≡ Some y = ap (slice_get (slice_set l i x)) (sym same) ∙ e in
     let within : i < length (slice_set l i x) = slice_get_within (slice_set l i x) i y here in
     let inside : i < length l = omega (arith, within, length-set l i x) in
-    let read = get_set_same l i x inside in
+    let read = got_written l i x inside in
     let both : Some y ≡ Some x = sym here ∙ read in
     cc
 
@@ -50,7 +39,7 @@ unset_whole locals n whole m k e = by_equal m n at_n elsewhere
         let second = whole m k (sym (get_set_other locals n m None other) ∙ e) in
         by_equal (suc m) n
         (λ same. let within : suc m < length locals = slice_get_within locals (suc m) None second in
-        ap (λ i. slice_get (slice_set locals n None) i) same ∙ get_set_same locals n None (subst (λ i. i < length locals) same within))
+        ap (λ i. slice_get (slice_set locals n None) i) same ∙ got_written locals n None (subst (λ i. i < length locals) same within))
         (λ apart. get_set_other locals n (suc m) None apart ∙ second)
 
 -- a value is set where no long lies before it, and a long only before a variable that is not set
@@ -126,7 +115,7 @@ stored_whole (Long k) n locals there whole =
     none_before n locals m j same (sym (get_set_other freed (n + 1) m None apart) ∙ h))
     (λ j e. let next : suc n ≡ n + 1 = omega arith in
     let inside : n + 1 < length freed = omega (arith, there k refl, before_length n locals) in
-    ap (slice_get (slice_set freed (n + 1) None)) next ∙ get_set_same freed (n + 1) None inside)
+    ap (slice_get (slice_set freed (n + 1) None)) next ∙ got_written freed (n + 1) None inside)
 stored_whole (Int k) n locals there whole = set_whole (without_long_before n locals) n (Int k) (before_whole n locals whole) (none_before n locals) (λ j e. cc)
 stored_whole Null n locals there whole = set_whole (without_long_before n locals) n Null (before_whole n locals whole) (none_before n locals) (λ j e. cc)
 stored_whole (Ref p) n locals there whole = set_whole (without_long_before n locals) n (Ref p) (before_whole n locals whole) (none_before n locals) (λ j e. cc)

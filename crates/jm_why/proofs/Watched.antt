@@ -14,6 +14,3 @@ one_made w end due rest e is so_far = so_far ∙ ap (run_from w) is
 
 pub none_kept : (w : World) (k total : KeptView) (due : List Event) → due ≡ [] → total ≡ kept_from w k due → k ≡ total
 none_kept w k total due none so_far = sym (so_far ∙ ap (kept_from w k) none)
-
-pub none_made : (w end : World) (due : List Event) → due ≡ [] → end ≡ run_from w due → w ≡ end
-none_made w end due none so_far = sym (so_far ∙ ap (run_from w) none)

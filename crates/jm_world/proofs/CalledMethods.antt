@@ -11,6 +11,7 @@ use Rattle.jm_program.specs.declared.class.ClassParts.{ClassParts}
 use Rattle.jm_program.specs.declared.class.Method.{Method}
 use Rattle.jm_program.specs.declared.code.Code.{Code}
 use Rattle.jm_program.specs.declared.descriptor.MethodDescriptor.{MethodDescriptor}
+use Rattle.jm_program.proofs.Truths.{both_true}
 use Rattle.jm_builtins.specs.declared.built_in.BuiltIn.{BuiltIn}
 use Rattle.jm_builtins.specs.List.{the_builtins}
 use Rattle.jm_world.specs.Types.{same_method_type}
@@ -19,11 +20,6 @@ use Rattle.jm_world.specs.Hierarchy.{up_from, chain}
 use Rattle.jm_world.specs.Resolution.{first_found, interfaces_first, method_along, method_from, resolved_among, resolve_method}
 use Rattle.jm_world.specs.Initialization.{initializer_type, is_initializer, initializer_in, initializer_of}
 use Rattle.jm_world.specs.NamesOfRuns.{IsThere, InitializerHasCode}
-
-pub both_true : (a b : Bool) → (a && b) ≡ true → (a ≡ true) × (b ≡ true)
-both_true true true e = (refl, refl)
-both_true true false e = cc
-both_true false b e = cc
 
 pub first_got : {A : Type 0} (find : List ℕ → Option A) (xs : List (List ℕ)) (a : A) → first_found find xs ≡ Some a → (x : List ℕ) × (find x ≡ Some a)
 first_got {A} find [] a e = cc

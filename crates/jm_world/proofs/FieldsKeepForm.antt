@@ -17,11 +17,13 @@ use Rattle.jm_program.specs.declared.instruction.operation.OperandType.{OperandT
 use Rattle.jm_program.specs.declared.instruction.operation.OperandType.TheVariants as operand
 use Rattle.jm_program.specs.declared.instruction.operation.TypeOp.{TypeOp}
 use Rattle.jm_program.specs.declared.instruction.operation.TypeOp.TheVariants.{NewArray, NewArrays, CheckCast, InstanceOf}
+use Rattle.jm_program.proofs.Sequences.{length_written}
 use Rattle.jm_values.specs.declared.value.Value.{Value}
 use Rattle.jm_values.specs.declared.value.Value.TheVariants.{Int, Long, Null, Ref}
 use Rattle.jm_values.specs.Objects.{default_of, copies}
 use Rattle.jm_values.specs.ArraysOfArrays.{Dimension, tree}
 use Rattle.jm_values.proofs.ArraysOfArrays.{tree_many, tree_values}
+use Rattle.jm_values.proofs.Lists.{each_at, each_set}
 use Rattle.jm_world.specs.Types.{ObjectType, instance_of, array_of, operand_of, default_value, narrow, type_of_ref, primitive_type}
 use Rattle.jm_world.specs.Objects.{Object, FieldName, instance_fields, new_instance, new_array, same_field}
 use Rattle.jm_world.specs.World.{World, Literal, Static, literal_in, static_in, set_static_in}
@@ -33,7 +35,6 @@ use Rattle.jm_world.specs.Arrays.{operand_of_kind, serves, when_serves, with_ind
 use Rattle.jm_world.specs.ArraysOfArrays.{with_lengths, element_type, dimensions_of, push_all_new, new_arrays_of}
 use Rattle.jm_world.specs.TypeChecks.{row_new, is_instance, check_cast, instance_test, row_type}
 use Rattle.jm_world.specs.WellFormed.{ValueBelow, ValuesBelow, NumberBelow, ThreadFits, MonitorFits, IsWellFormed}
-use Rattle.jm_world.proofs.Fitting.{each_set, each_got, length_set}
 use Rattle.jm_world.proofs.KeepingForm.{Fine, if_fine, option_fine, StandsHere, go_on_in_fine, go_on_fine, throws_fine, push_fine, push_new_fine, push_all_new_fine, with_counts_fine, with_lengths_fine, with_operand_fine, with_int_fine, with_reference_fine, with_object_fine, when_initialized_fine}
 
 -- literals
@@ -93,7 +94,7 @@ put_static_fine here h f = with_operand_fine (length here.world.heap) (operand_o
 
 -- objects with another value
 pub with_value_at_fits : (w : World) (k : ℕ) (o : Object) (i : ℕ) (v : Value) → IsWellFormed w → ValuesBelow (length w.heap) o.values → ValueBelow (length w.heap) v → IsWellFormed (with_value_at w k o i v)
-with_value_at_fits w k o i v f b c = let same : length w.heap ≡ length (with_value_at w k o i v).heap = sym (length_set w.heap k changed) in record {
+with_value_at_fits w k o i v f b c = let same : length w.heap ≡ length (with_value_at w k o i v).heap = sym (length_written w.heap k changed) in record {
   objects = subst (λ n. AllByRecursion (λ x. ValuesBelow n x.values) (slice_set w.heap k changed)) same (each_set (λ x. ValuesBelow (length w.heap) x.values) w.heap k changed f.objects (each_set (ValueBelow (length w.heap)) o.values i v b c));
   literals = subst (λ n. AllByRecursion (λ l. l.string < n) w.literals) same f.literals;
   statics = subst (λ n. AllByRecursion (λ s. ValueBelow n s.value) w.statics) same f.statics;
@@ -106,7 +107,7 @@ with_value_at_fits w k o i v f b c = let same : length w.heap ≡ length (with_v
     changed = record { type = o.type; values = slice_set o.values i v }
 
 pub with_value_at_length : (w : World) (k : ℕ) (o : Object) (i : ℕ) (v : Value) → length (with_value_at w k o i v).heap ≡ length w.heap
-with_value_at_length w k o i v = length_set w.heap k (record { type = o.type; values = slice_set o.values i v })
+with_value_at_length w k o i v = length_written w.heap k (record { type = o.type; values = slice_set o.values i v })
 
 -- a value is put into an object, and the instruction is done
 put_fine : (here : Here) (h : StandsHere here) (k : ℕ) (o : Object) (i : ℕ) (v : Value) (s : List Value) → ValuesBelow (length here.world.heap) o.values → ValueBelow (length here.world.heap) v → ValuesBelow (length here.world.heap) s → Fine (go_on_in here (with_value_at here.world k o i v) s)
@@ -121,7 +122,7 @@ pushed_fine here h vs i s b c = by (slice_get vs i) refl
   where
     by : (o : Option Value) → slice_get vs i ≡ o → Fine (pushed here o s)
     by None e = tt
-    by (Some v) e = push_fine here h v s (each_got (ValueBelow (length here.world.heap)) vs i v b e) c
+    by (Some v) e = push_fine here h v s (each_at (ValueBelow (length here.world.heap)) vs i v b e) c
 
 get_field_fine : (here : Here) (h : StandsHere here) (f : FieldName) → Fine (get_field here f)
 get_field_fine here h f = with_reference_fine (length here.world.heap) here.frame.stack (λ r s. with_object here r (λ k o. with_place here o f (λ i. pushed here (slice_get o.values i) s))) h.stack
@@ -167,7 +168,7 @@ store_fine here h k = with_operand_fine (length here.world.heap) (operand_of_kin
     (λ r s d e. with_object_fine here h r (λ p o. when_serves k o (with_index here n o (λ i. store_in here p o o.type v i s))) d
     (λ p o q l g. if_fine (serves k o.type) _ _ (λ t. with_index_fine here h n o (λ i. store_in here p o o.type v i s) (λ i. store_in_fine here h p o o.type v i s g a e)) (λ t. tt)))))
 
-default_below : (n : ℕ) (o : OperandType) → ValueBelow n (default_of o)
+pub default_below : (n : ℕ) (o : OperandType) → ValueBelow n (default_of o)
 default_below n operand.Int = tt
 default_below n operand.Long = tt
 default_below n operand.Reference = tt

@@ -1,13 +1,15 @@
 -- What keeps references below the number of objects: lists, and worlds with a part changed.
-use Rattle.std.proofs.Common.{◌≡◌, ℕ, zero, suc, ◌+◌, ◌-◌, ◌<◌, ◌≤◌, List, [], ◌∷◌, ◌++◌, Option, Some, None, refl, sym, ap, subst, inl, inr, ◌⊎◌, length, arith, length-append}
-use Rattle.std.specs.Prelude.{slice_get, slice_set}
+use Rattle.std.proofs.Common.{◌≡◌, ℕ, ◌+◌, ◌-◌, ◌<◌, ◌≤◌, List, [], ◌∷◌, ◌++◌, Option, Some, None, refl, sym, subst, inl, inr, ◌⊎◌, length, arith, length-append}
+use Rattle.std.specs.Prelude.{slice_set}
 use Rattle.std.specs.List.{AllByRecursion}
+use Rattle.jm_program.proofs.Sequences.{length_written}
 use Rattle.jm_values.specs.Shape.{Among, option_shape}
 use Rattle.jm_values.specs.Activation.{Activation}
 use Rattle.jm_values.specs.Rename.{value_shape, stack_shape, locals_shape, refs_activation}
 use Rattle.jm_values.specs.declared.value.Value.{Value}
 use Rattle.jm_values.specs.declared.value.Value.TheVariants.{Int, Long, Null, Ref}
-use Rattle.jm_values.proofs.Among.{among_left, among_right}
+use Rattle.jm_values.proofs.Among.{among_left, among_right, among_split}
+use Rattle.jm_values.proofs.Lists.{each_at, each_of_both, each_set}
 use Rattle.jm_world.specs.Objects.{Object}
 use Rattle.jm_world.specs.Frames.{Frame, method_frame, initialization_frame, entry_frame}
 use Rattle.jm_world.specs.World.{World, Thread, Monitor, with_thread}
@@ -18,25 +20,6 @@ use Rattle.jm_world.specs.WellFormed.{ValueBelow, ValuesBelow, LocalBelow, Local
 pub each_more : {A : Type 0} {P Q : A → Type 0} → ((x : A) → P x → Q x) → (xs : List A) → AllByRecursion P xs → AllByRecursion Q xs
 each_more f [] a = tt
 each_more f (x ∷ xs) a = (f x a.0, each_more f xs a.1)
-
-pub each_append : {A : Type 0} (P : A → Type 0) (xs ys : List A) → AllByRecursion P xs → AllByRecursion P ys → AllByRecursion P (xs ++ ys)
-each_append P [] ys a b = b
-each_append P (x ∷ xs) ys a b = (a.0, each_append P xs ys a.1 b)
-
-pub each_set : {A : Type 0} (P : A → Type 0) (xs : List A) (i : ℕ) (x : A) → AllByRecursion P xs → P x → AllByRecursion P (slice_set xs i x)
-each_set P [] i x a p = tt
-each_set P (y ∷ ys) zero x a p = (p, a.1)
-each_set P (y ∷ ys) (suc i) x a p = (a.0, each_set P ys i x a.1 p)
-
-pub each_got : {A : Type 0} (P : A → Type 0) (xs : List A) (i : ℕ) (x : A) → AllByRecursion P xs → slice_get xs i ≡ Some x → P x
-each_got P [] i x a e = cc
-each_got P (y ∷ ys) zero x a e = let same : y ≡ x = cc in subst P same a.0
-each_got P (y ∷ ys) (suc i) x a e = each_got P ys i x a.1 e
-
-pub length_set : {A : Type 0} (xs : List A) (i : ℕ) (x : A) → length (slice_set xs i x) ≡ length xs
-length_set [] i x = refl
-length_set (y ∷ ys) zero x = refl
-length_set (y ∷ ys) (suc i) x = ap suc (length_set ys i x)
 
 -- more objects
 pub value_more : (n m : ℕ) → n ≤ m → (v : Value) → ValueBelow n v → ValueBelow m v
@@ -92,18 +75,9 @@ among_value k (Int i) n b a = absurd a
 among_value k (Long i) n b a = absurd a
 among_value k Null n b a = absurd a
 
-pub among_append : (k : ℕ) (xs ys : List ℕ) → Among k (xs ++ ys) → Among k xs ⊎ Among k ys
-among_append k [] ys a = inr a
-among_append k (x ∷ xs) ys (inl e) = inl (inl e)
-among_append k (x ∷ xs) ys (inr a) = by (among_append k xs ys a)
-  where
-    by : Among k xs ⊎ Among k ys → ((k ≡ x) ⊎ Among k xs) ⊎ Among k ys
-    by (inl b) = inl (inr b)
-    by (inr b) = inr b
-
 pub among_values : (k n : ℕ) (vs : List Value) → ValuesBelow n vs → Among k (stack_shape.refs vs) → k < n
 among_values k n [] b a = absurd a
-among_values k n (v ∷ vs) b a = by (among_append k (value_shape.refs v) (stack_shape.refs vs) a) (among_values k n vs b.1)
+among_values k n (v ∷ vs) b a = by (among_split k (value_shape.refs v) (stack_shape.refs vs) a) (among_values k n vs b.1)
   where
     by : Among k (value_shape.refs v) ⊎ Among k (stack_shape.refs vs) → (Among k (stack_shape.refs vs) → k < n) → k < n
     by (inl c) ih = among_value k v n b.0 c
@@ -115,14 +89,14 @@ among_local k (Some v) n b a = among_value k v n b a
 
 pub among_locals : (k n : ℕ) (vs : List (Option Value)) → LocalsBelow n vs → Among k (locals_shape.refs vs) → k < n
 among_locals k n [] b a = absurd a
-among_locals k n (v ∷ vs) b a = by (among_append k ((option_shape value_shape).refs v) (locals_shape.refs vs) a) (among_locals k n vs b.1)
+among_locals k n (v ∷ vs) b a = by (among_split k ((option_shape value_shape).refs v) (locals_shape.refs vs) a) (among_locals k n vs b.1)
   where
     by : Among k ((option_shape value_shape).refs v) ⊎ Among k (locals_shape.refs vs) → (Among k (locals_shape.refs vs) → k < n) → k < n
     by (inl c) ih = among_local k v n b.0 c
     by (inr c) ih = ih c
 
 pub among_activation : (k n : ℕ) (a : Activation) → LocalsBelow n a.locals → ValuesBelow n a.stack → Among k (refs_activation a) → k < n
-among_activation k n a ls vs m = by (among_append k (locals_shape.refs a.locals) (stack_shape.refs a.stack) m)
+among_activation k n a ls vs m = by (among_split k (locals_shape.refs a.locals) (stack_shape.refs a.stack) m)
   where
     by : Among k (locals_shape.refs a.locals) ⊎ Among k (stack_shape.refs a.stack) → k < n
     by (inl c) = among_locals k n a.locals ls c
@@ -152,7 +126,7 @@ with_thread_fits w number t f g = record {
   objects = f.objects;
   literals = f.literals;
   statics = f.statics;
-  monitors = each_more (monitor_more (length w.heap) (length w.heap) (length w.threads) (length (slice_set w.threads (number - 1) t)) (omega arith) (omega (arith, length_set w.threads (number - 1) t))) w.monitors f.monitors;
+  monitors = each_more (monitor_more (length w.heap) (length w.heap) (length w.threads) (length (slice_set w.threads (number - 1) t)) (omega arith) (omega (arith, length_written w.threads (number - 1) t))) w.monitors f.monitors;
   once = f.once;
   threads = each_set (ThreadFits (length w.heap)) w.threads (number - 1) t f.threads g;
 }
@@ -170,7 +144,7 @@ with_objects_fits w os f g =
     let m : ℕ = length (w.heap ++ os) in
     let l : length w.heap ≤ length (w.heap ++ os) = longer w os in
     record {
-      objects = each_append (λ x. ValuesBelow m x.values) w.heap os (each_more (λ x b. values_more n m l x.values b) w.heap f.objects) g;
+      objects = each_of_both (λ x. ValuesBelow m x.values) w.heap os (each_more (λ x b. values_more n m l x.values b) w.heap f.objects) g;
       literals = each_more (λ x b. omega (arith, l, b)) w.literals f.literals;
       statics = each_more (λ x b. value_more n m l x.value b) w.statics f.statics;
       monitors = each_more (monitor_more n m (length w.threads) (length w.threads) l (omega arith)) w.monitors f.monitors;

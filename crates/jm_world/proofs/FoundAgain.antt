@@ -1,9 +1,8 @@
 -- A method that was found is found again by the name by which a frame keeps it.
-use Rattle.std.proofs.Common.{◌≡◌, ◌≢◌, ℕ, List, [], ◌∷◌, Option, Some, None, Bool, true, false, refl, sym, ap, ◌∙◌, subst, inl, inr, ◌⊎◌}
+use Rattle.std.proofs.Common.{◌≡◌, ◌≢◌, ℕ, List, [], ◌∷◌, Option, Some, None, Bool, true, false, refl, sym, ap, ◌∙◌, subst, ◌⊎◌}
 use Rattle.std.specs.Prelude.{◌&&◌, nat_eq, codes}
 use Rattle.std.specs.List.{AllByRecursion}
 use Rattle.std.specs.Cmp.Lexicographic.{bytes_decides}
-use Rattle.std.proofs.lemmas.Bool.Decides.{eqb_tells}
 use Rattle.jm_program.specs.Names.{same_text, is_init}
 use Rattle.jm_program.specs.Descriptors.{base_letter}
 use Rattle.jm_program.specs.declared.class.ClassParts.{ClassParts}
@@ -15,6 +14,8 @@ use Rattle.jm_program.specs.declared.descriptor.ElementType.TheVariants.{Base, C
 use Rattle.jm_program.specs.declared.descriptor.FieldType.{FieldType}
 use Rattle.jm_program.specs.declared.descriptor.MethodDescriptor.{MethodDescriptor}
 use Rattle.jm_program.specs.declared.reference.MethodRef.{MethodRef}
+use Rattle.jm_program.proofs.Truths.{both_true}
+use Rattle.jm_program.proofs.Numbers.{equal}
 use Rattle.jm_builtins.specs.declared.built_in.BuiltIn.{BuiltIn}
 use Rattle.jm_builtins.specs.List.{the_builtins}
 use Rattle.jm_world.specs.Types.{same_element, same_type, same_types, same_result, same_method_type}
@@ -26,15 +27,7 @@ use Rattle.jm_world.specs.Invocation.{class_methods, special_class, found_specia
 use Rattle.jm_world.specs.Initialization.{initializer_type, is_initializer, initializer_in, initializer_of}
 use Rattle.jm_world.specs.Loading.{main_type, main_in}
 use Rattle.jm_world.specs.NamesOfRuns.{IsThere, HasBody}
-use Rattle.jm_world.proofs.CalledMethods.{both_true, IsNamed, Declares, up_named, taken, along_got, resolved_got, found_name}
-
--- types that are the same are equal
-pub nat_is : (a b : ℕ) → nat_eq a b ≡ true → a ≡ b
-nat_is a b e = by (eqb_tells a b)
-  where
-    by : ((nat_eq a b ≡ true) × (a ≡ b)) ⊎ ((nat_eq a b ≡ false) × (a ≢ b)) → a ≡ b
-    by (inl t) = t.1
-    by (inr t) = cc
+use Rattle.jm_world.proofs.CalledMethods.{IsNamed, Declares, up_named, taken, along_got, resolved_got, found_name}
 
 abbrev base_of : ℕ → BaseType
 base_of n = elim (nat_eq n 66) [
@@ -62,7 +55,7 @@ base_back base.Short = refl
 base_back base.Boolean = refl
 
 element_is : (a b : ElementType) → same_element a b ≡ true → a ≡ b
-element_is (Base a) (Base b) e = ap Base (sym (base_back a) ∙ ap base_of (nat_is (base_letter a) (base_letter b) e) ∙ base_back b)
+element_is (Base a) (Base b) e = ap Base (sym (base_back a) ∙ ap base_of (equal (base_letter a) (base_letter b) e) ∙ base_back b)
 element_is (Class m) (Class n) e = ap Class ((bytes_decides m n).0 e)
 element_is (Base a) (Class n) e = cc
 element_is (Class m) (Base b) e = cc
@@ -70,7 +63,7 @@ element_is (Class m) (Base b) e = cc
 pub type_is : (a b : FieldType) → same_type a b ≡ true → a ≡ b
 type_is a b e =
     let parts : (nat_eq a.dimensions b.dimensions ≡ true) × (same_element a.element b.element ≡ true) = both_true (nat_eq a.dimensions b.dimensions) (same_element a.element b.element) e in
-    ap (λ n. let x : FieldType = record { dimensions = n; element = a.element } in x) (nat_is a.dimensions b.dimensions parts.0)
+    ap (λ n. let x : FieldType = record { dimensions = n; element = a.element } in x) (equal a.dimensions b.dimensions parts.0)
     ∙ ap (λ t. let x : FieldType = record { dimensions = b.dimensions; element = t } in x) (element_is a.element b.element parts.1)
 
 pub types_are : (as' bs : List FieldType) → same_types as' bs ≡ true → as' ≡ bs

@@ -19,6 +19,7 @@ use Rattle.jm_values.specs.Activation.{units}
 use Rattle.jm_values.specs.declared.value.Value.{Value}
 use Rattle.jm_values.specs.declared.value.Value.TheVariants.{Int, Long, Null, Ref}
 use Rattle.jm_values.specs.declared.fault.TagFault.TheVariants.{WrongKind}
+use Rattle.jm_values.proofs.Lists.{each_at, each_of_both}
 use Rattle.jm_world.specs.Types.{ObjectType, instance_of, array_of, operand_of, narrow}
 use Rattle.jm_world.specs.Classes.{FoundMethod, MethodName, name_of_method, print_stream_class, string_class, thread_class}
 use Rattle.jm_world.specs.Resolution.{resolve_method, select}
@@ -32,7 +33,7 @@ use Rattle.jm_world.specs.BuiltInMethods.{with_chars, chars_in, chars_of_type, w
 use Rattle.jm_world.specs.Invocation.{argument_locals, locals_of, unset, padded, activation_of, monitor_of, calling, call_code, call_instance, call_found, class_of, is_of_class, with_receiver, invoke_virtual, invoke_interface, invoke_special, found_special, call_static, invoke_found, row_invoke_of, row_invoke}
 use Rattle.jm_world.specs.Returns.{ended, with_result, returned_to, return_from, same_operand, return_value, return_nothing, pop_and_return, row_return}
 use Rattle.jm_world.specs.WellFormed.{ValueBelow, ValuesBelow, LocalBelow, LocalsBelow, NumberBelow, FramesBelow, ThreadFits, IsWellFormed}
-use Rattle.jm_world.proofs.Fitting.{each_more, each_append, each_got, monitor_more, with_thread_fits}
+use Rattle.jm_world.proofs.Fitting.{each_more, monitor_more, with_thread_fits}
 use Rattle.jm_world.proofs.KeepingForm.{Fine, if_fine, option_fine, StandsHere, with_frames_fits, go_on_in_fine, go_on_fine, throws_fine, push_fine, with_operand_fine, with_reference_fine, with_arguments_fine, with_object_fine, with_depth_fine, when_initialized_fine, with_monitors, enter_if_fine, leave_if_fine}
 use Rattle.jm_world.proofs.FieldsKeepForm.{narrow_below}
 
@@ -58,7 +59,7 @@ char_at_fine here h chars (Int (pos i) ∷ vs) s b c = by (slice_get chars i) re
   where
     by : (o : Option Value) → slice_get chars i ≡ o → Fine (elim o [ Some v ↦ push here v s | None ↦ throws here (codes "java/lang/StringIndexOutOfBoundsException") ])
     by None e = throws_fine here h (codes "java/lang/StringIndexOutOfBoundsException")
-    by (Some v) e = push_fine here h v s (each_got (ValueBelow (length here.world.heap)) chars i v b e) c
+    by (Some v) e = push_fine here h v s (each_at (ValueBelow (length here.world.heap)) chars i v b e) c
 char_at_fine here h chars (Int (negsuc i) ∷ vs) s b c = throws_fine here h _
 char_at_fine here h chars (Long i ∷ vs) s b c = throws_fine here h _
 char_at_fine here h chars (Null ∷ vs) s b c = throws_fine here h _
@@ -74,7 +75,7 @@ chars_in_below w f (Ref k ∷ vs) chars e = by (slice_get w.heap k) refl e
   where
     by : (o : Option Object) → slice_get w.heap k ≡ o → (elim o as (λ _. Option (List Value)) [ None ↦ None | Some x ↦ Some x.values ]) ≡ Some chars → ValuesBelow (length w.heap) chars
     by None d h = cc
-    by (Some x) d h = let same : x.values ≡ chars = cc in subst (ValuesBelow (length w.heap)) same (each_got (λ y. ValuesBelow (length w.heap) y.values) w.heap k x f.objects d)
+    by (Some x) d h = let same : x.values ≡ chars = cc in subst (ValuesBelow (length w.heap)) same (each_at (λ y. ValuesBelow (length w.heap) y.values) w.heap k x f.objects d)
 
 chars_of_type_below : (w : World) (f : IsWellFormed w) (o : Object) (type : ObjectType) (chars : List Value) → chars_of_type w o type ≡ Some chars → ValuesBelow (length w.heap) chars
 chars_of_type_below w f o (array_of component) chars e = cc
@@ -98,7 +99,7 @@ start_fine here h k s b c = if_fine (was_started k here.world.threads) _ _ (λ e
       statics = f.statics;
       monitors = each_more (monitor_more (length w.heap) (length w.heap) (length w.threads) (length (w.threads ++ new_thread k ∷ [])) (omega arith) (omega (arith, length-append w.threads (new_thread k ∷ [])))) w.monitors f.monitors;
       once = f.once;
-      threads = each_append (ThreadFits (length w.heap)) w.threads (new_thread k ∷ []) f.threads (record { object = l; pending = tt; frames = (tt, tt); ended = λ e. cc }, tt);
+      threads = each_of_both (ThreadFits (length w.heap)) w.threads (new_thread k ∷ []) f.threads (record { object = l; pending = tt; frames = (tt, tt); ended = λ e. cc }, tt);
     }
 
 built_in_fine : (here : Here) (h : StandsHere here) (m : MethodName) (k : ℕ) (vs s : List Value) → k < length here.world.heap → ValuesBelow (length here.world.heap) s → Fine (row_built_in here m k vs s)
@@ -121,14 +122,14 @@ argument_below n (Ref k) b = (b, tt)
 
 arguments_below : (n : ℕ) (vs : List Value) → ValuesBelow n vs → LocalsBelow n (locals_of vs)
 arguments_below n [] b = tt
-arguments_below n (v ∷ vs) b = each_append (LocalBelow n) (argument_locals v) (locals_of vs) (argument_below n v b.0) (arguments_below n vs b.1)
+arguments_below n (v ∷ vs) b = each_of_both (LocalBelow n) (argument_locals v) (locals_of vs) (argument_below n v b.0) (arguments_below n vs b.1)
 
 unset_below : (n count : ℕ) → LocalsBelow n (unset count)
 unset_below n zero = tt
 unset_below n (suc count) = (tt, unset_below n count)
 
 pub locals_below : (n count : ℕ) (vs : List Value) → ValuesBelow n vs → LocalsBelow n (padded count (locals_of vs))
-locals_below n count vs b = each_append (LocalBelow n) (locals_of vs) (unset (count - length (locals_of vs))) (arguments_below n vs b) (unset_below n (count - length (locals_of vs)))
+locals_below n count vs b = each_of_both (LocalBelow n) (locals_of vs) (unset (count - length (locals_of vs))) (arguments_below n vs b) (unset_below n (count - length (locals_of vs)))
 
 pub monitor_below : (n : ℕ) (m : Method) (k : ℕ) → k < n → NumberBelow n (monitor_of m k)
 monitor_below n m k b = by (is_synchronized m.flags)

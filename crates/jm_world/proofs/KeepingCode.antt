@@ -39,6 +39,7 @@ use Rattle.jm_values.specs.Steps.{is_of}
 use Rattle.jm_values.specs.declared.value.Value.{Value}
 use Rattle.jm_values.specs.declared.value.Value.TheVariants.{Int, Long, Null, Ref}
 use Rattle.jm_values.specs.declared.fault.TagFault.TheVariants.{WrongKind}
+use Rattle.jm_values.proofs.Lists.{each_at, each_of_both, each_set}
 use Rattle.jm_world.specs.Types.{ObjectType, instance_of, array_of, operand_of, narrow, type_of_ref, primitive_type}
 use Rattle.jm_world.specs.Classes.{FoundMethod, MethodName, name_of_method, class_named, method_named, string_class, print_stream_class, thread_class, throwable_class, error_class}
 use Rattle.jm_world.specs.Resolution.{resolve_method, select}
@@ -71,7 +72,7 @@ use Rattle.jm_world.specs.declared.event.Event.{Event}
 use Rattle.jm_world.specs.declared.event.Event.TheVariants.{Step, Minor, Full}
 use Rattle.jm_world.specs.declared.stop.Stop.{Stop}
 use Rattle.jm_world.specs.Loading.{main_in, first_thread, loaded_world}
-use Rattle.jm_world.proofs.Fitting.{each_append, each_got, each_set, grown}
+use Rattle.jm_world.proofs.Fitting.{grown}
 use Rattle.jm_world.proofs.FoundAgain.{CallRuns, resolved, selected, specially, initially, mainly}
 use Rattle.jm_world.proofs.KeepingForm.{with_monitors}
 
@@ -104,7 +105,7 @@ top here h a = each_set (λ t. FramesHaveCode here.world.program t.frames) here.
 
 its_code : (w : World) (number : ℕ) (t : Thread) → ThreadsHaveCode w → thread_at w number ≡ Some t → FramesHaveCode w.program t.frames
 its_code w zero t f e = cc
-its_code w (suc n) t f e = each_got (λ t. FramesHaveCode w.program t.frames) w.threads n t f e
+its_code w (suc n) t f e = each_at (λ t. FramesHaveCode w.program t.frames) w.threads n t f e
 
 -- the words of the rows
 make_runs : (v : World) (o : Object) (go : World → ℕ → Next) → Runs (go (grown v o) (length v.heap)) → Runs (make v o go)
@@ -189,7 +190,7 @@ leave_if_runs w number (Some k) x go f g = leave_runs w number k x go f g
 
 start_runs : (here : Here) (h : RunsHere here) (k : ℕ) (s : List Value) → Runs (start_thread here k s)
 start_runs here h k s = if_runs (was_started k here.world.threads) _ _ (throws_runs here h (codes "java/lang/IllegalThreadStateException"))
-    (each_append (λ t. FramesHaveCode here.world.program t.frames) (topped here here.world (moved_on here.frame s)).threads (new_thread k ∷ []) (top here h (moved_on here.frame s)) (tt, tt))
+    (each_of_both (λ t. FramesHaveCode here.world.program t.frames) (topped here here.world (moved_on here.frame s)).threads (new_thread k ∷ []) (top here h (moved_on here.frame s)) (tt, tt))
 
 -- constants and fields
 constant_runs : (here : Here) (h : RunsHere here) (c : Constant) → Runs (row_constant here c)

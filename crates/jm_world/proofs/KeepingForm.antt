@@ -20,9 +20,10 @@ use Rattle.jm_world.specs.Here.{Here, with_frames, moved_on, go_on_in, go_on, th
 use Rattle.jm_world.specs.ArraysOfArrays.{with_counts, with_lengths, first_made, push_all_new}
 use Rattle.jm_world.specs.Monitors.{monitor_in, without_monitor, recounted, with_monitor, entered, enter, enter_if, left_in, leave, leave_if}
 use Rattle.jm_values.specs.Reach.{AllDistinct}
+use Rattle.jm_values.proofs.Lists.{each_at}
 use Rattle.jm_world.specs.WellFormed.{ValueBelow, ValuesBelow, LocalsBelow, NumberBelow, FrameBelow, FramesBelow, ThreadFits, MonitorFits, IsWellFormed}
 use Rattle.jm_world.specs.declared.stage.Stage.TheVariants.{Begin}
-use Rattle.jm_world.proofs.Fitting.{each_got, values_more, locals_more, number_more, frames_more, thread_more, with_thread_fits, with_objects_longer, with_objects_fits, grown, grown_longer, grown_fits}
+use Rattle.jm_world.proofs.Fitting.{values_more, locals_more, number_more, frames_more, thread_more, with_thread_fits, with_objects_longer, with_objects_fits, grown, grown_longer, grown_fits}
 
 -- what comes of a step is well formed
 abbrev pub Fine : Next → Type 0
@@ -152,7 +153,7 @@ with_arguments_fine n (t ∷ ts) popped s go p b f = with_operand_fine n (operan
 
 pub with_object_fine : (here : Here) (h : StandsHere here) (r : Option ℕ) (go : ℕ → Object → Next) → NumberBelow (length here.world.heap) r → ((k : ℕ) (o : Object) → slice_get here.world.heap k ≡ Some o → k < length here.world.heap → ValuesBelow (length here.world.heap) o.values → Fine (go k o)) → Fine (with_object here r go)
 with_object_fine here h None go b f = throws_fine here h (codes "java/lang/NullPointerException")
-with_object_fine here h (Some k) go b f = option_fine (slice_get here.world.heap k) _ _ (λ e. tt) (λ o e. f k o e b (each_got (λ x. ValuesBelow (length here.world.heap) x.values) here.world.heap k o h.stands.world.objects e))
+with_object_fine here h (Some k) go b f = option_fine (slice_get here.world.heap k) _ _ (λ e. tt) (λ o e. f k o e b (each_at (λ x. ValuesBelow (length here.world.heap) x.values) here.world.heap k o h.stands.world.objects e))
 
 -- frames
 pub with_depth_fine : (w : World) (number : ℕ) (t : Thread) (fs : List Frame) (row : Next) → Stands w number t → Fine row → Fine (with_depth w number t fs row)

@@ -11,6 +11,7 @@ use Rattle.jm_values.specs.Steps.{is_of}
 use Rattle.jm_values.specs.WellFormed.{IsWellFormed}
 use Rattle.jm_values.specs.declared.value.Value.{Value}
 use Rattle.jm_values.specs.declared.value.Value.TheVariants.{Int, Long, Null, Ref}
+use Rattle.jm_values.proofs.Lists.{each_at, each_set}
 use Rattle.jm_world.specs.Types.{operand_of}
 use Rattle.jm_world.specs.Objects.{Object, size, cells_of_all}
 use Rattle.jm_world.specs.Frames.{Frame, method_frame, initialization_frame}
@@ -22,7 +23,7 @@ use Rattle.jm_world.specs.Monitors.{monitor_in, recounted, with_monitor, entered
 use Rattle.jm_world.specs.FramesOfRuns.{FramesStand, ThreadStands, Initialize, Initializes, ThreadsStand}
 use Rattle.jm_world.specs.declared.class_state.ClassState.TheVariants.{InProgress}
 use Rattle.jm_world.specs.declared.stage.Stage.TheVariants.{Begin}
-use Rattle.jm_world.proofs.Fitting.{each_got, each_set, grown}
+use Rattle.jm_world.proofs.Fitting.{grown}
 use Rattle.jm_world.proofs.KeepingForm.{with_monitors}
 
 -- what comes of a step has frames that stand
@@ -72,7 +73,7 @@ pub record StepsIn (w : World) (number : ℕ) (t : Thread) : Type 0 where
 
 pub its_frames : (w : World) (number : ℕ) (t : Thread) → ThreadsStand w → thread_at w number ≡ Some t → ThreadStands t
 its_frames w zero t f e = cc
-its_frames w (suc n) t f e = each_got ThreadStands w.threads n t f.threads e
+its_frames w (suc n) t f e = each_at ThreadStands w.threads n t f.threads e
 
 -- a class in progress is initialized by the thread itself, or by another as before
 abbrev pub OwnedAfter : World → World → ℕ → Thread → Type 0

@@ -24,3 +24,6 @@ pub mod Live
 pub mod Pushing
 pub mod Stages
 pub mod Runs
+pub mod Refusing
+pub mod Comparing
+pub mod RunsOn

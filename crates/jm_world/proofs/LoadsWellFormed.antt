@@ -5,12 +5,11 @@ use Rattle.std.specs.List.{AllByRecursion, filter, flat_map}
 use Rattle.jm_program.specs.Flags.{is_static}
 use Rattle.jm_program.specs.declared.class.ClassParts.{ClassParts}
 use Rattle.jm_program.specs.declared.code.Code.{Code}
-use Rattle.jm_program.specs.declared.instruction.operation.OperandType.{OperandType}
 use Rattle.jm_program.specs.declared.instruction.operation.OperandType.TheVariants as operand
 use Rattle.jm_values.specs.Shape.{Among}
 use Rattle.jm_values.specs.Rename.{refs_activation}
 use Rattle.jm_values.specs.declared.value.Value.TheVariants.{Int, Ref}
-use Rattle.jm_values.specs.Objects.{default_of, refs_of}
+use Rattle.jm_values.specs.Objects.{refs_of}
 use Rattle.jm_world.specs.Types.{operand_of, default_value}
 use Rattle.jm_world.specs.Classes.{FoundMethod}
 use Rattle.jm_world.specs.Objects.{Object, FieldName, field_names}
@@ -21,10 +20,13 @@ use Rattle.jm_world.specs.Run.{after, run_from}
 use Rattle.jm_world.specs.Reaching.{IsBounded}
 use Rattle.jm_world.specs.WellFormed.{ValueBelow, ValuesBelow, NumberBelow, FrameBelow, FramesBelow, ThreadFits, MonitorFits, IsWellFormed, RunsAreWellFormed}
 use Rattle.jm_world.specs.declared.event.Event.{Event}
-use Rattle.jm_world.proofs.Fitting.{each_append, each_got, among_value, among_values, among_activation, among_append}
+use Rattle.jm_world.proofs.Fitting.{among_value, among_values, among_activation}
 use Rattle.jm_values.proofs.Reaching.{reach_within}
+use Rattle.jm_values.proofs.Lists.{each_at, each_of_both}
+use Rattle.jm_values.proofs.Among.{among_split}
 use Rattle.jm_world.proofs.InvocationKeepsForm.{locals_below}
 use Rattle.jm_world.proofs.StepsKeepForm.{events_keep_form}
+use Rattle.jm_world.proofs.FieldsKeepForm.{default_below}
 
 -- the first objects
 ints_below : (n : ℕ) (units : List ℕ) → ValuesBelow n (map (λ u. Int (pos u)) units)
@@ -43,19 +45,13 @@ literals_below : (n k : ℕ) (ts : List (List ℕ)) → k + (length ts + length 
 literals_below n k [] l = tt
 literals_below n k (t ∷ ts) l = (omega (arith, l), literals_below n (k + 2) ts (omega (arith, l)))
 
--- statics
-default_below : (n : ℕ) (o : OperandType) → ValueBelow n (default_of o)
-default_below n operand.Int = tt
-default_below n operand.Long = tt
-default_below n operand.Reference = tt
-
 defaults_below : (n : ℕ) (fs : List FieldName) → AllByRecursion {X = Static} (λ s. ValueBelow n s.value) (map (λ f. record { field = f; value = default_value f.type }) fs)
 defaults_below n [] = tt
 defaults_below n (f ∷ fs) = (default_below n (operand_of f.type), defaults_below n fs)
 
 statics_below : (n : ℕ) (cs : List ClassParts) → AllByRecursion (λ s. ValueBelow n s.value) (flat_map statics_of_class cs)
 statics_below n [] = tt
-statics_below n (c ∷ cs) = each_append (λ s. ValueBelow n s.value) (statics_of_class c) (flat_map statics_of_class cs) (defaults_below n (field_names c (filter (λ f. is_static f.flags) c.fields))) (statics_below n cs)
+statics_below n (c ∷ cs) = each_of_both (λ s. ValueBelow n s.value) (statics_of_class c) (flat_map statics_of_class cs) (defaults_below n (field_names c (filter (λ f. is_static f.flags) c.fields))) (statics_below n cs)
 
 -- the first thread
 frames_below : (n : ℕ) (found : FoundMethod) → 2 ≤ n → FramesBelow n (first_frames found)
@@ -96,7 +92,7 @@ run_fits w (e ∷ es) f = run_fits (after w e).world es (events_keep_form w e f)
 -- what a well-formed world reaches has objects
 among_all : {A : Type 0} (P : A → Type 0) (refs : A → List ℕ) (n : ℕ) → ((x : A) → P x → (k : ℕ) → Among k (refs x) → k < n) → (xs : List A) → AllByRecursion P xs → (k : ℕ) → Among k (flat_map refs xs) → k < n
 among_all P refs n f [] a k m = absurd m
-among_all P refs n f (x ∷ xs) a k m = by (among_append k (refs x) (flat_map refs xs) m) (among_all P refs n f xs a.1 k)
+among_all P refs n f (x ∷ xs) a k m = by (among_split k (refs x) (flat_map refs xs) m) (among_all P refs n f xs a.1 k)
   where
     by : Among k (refs x) ⊎ Among k (flat_map refs xs) → (Among k (flat_map refs xs) → k < n) → k < n
     by (inl c) ih = f x a.0 k c
@@ -110,7 +106,7 @@ among_number n k (Some j) b (inr m) = absurd m
 among_frame : (n : ℕ) (f : Frame) → FrameBelow n f → (k : ℕ) → Among k (refs_frame f) → k < n
 among_frame n (initialization_frame class stage) b k m = absurd m
 among_frame n entry_frame b k m = absurd m
-among_frame n (method_frame name a o) b k m = by (among_append k (refs_activation a) (optional_number_shape.refs o) m)
+among_frame n (method_frame name a o) b k m = by (among_split k (refs_activation a) (optional_number_shape.refs o) m)
   where
     by : Among k (refs_activation a) ⊎ Among k (optional_number_shape.refs o) → k < n
     by (inl c) = among_activation k n a b.0 b.1 c
@@ -122,7 +118,7 @@ among_object n k returned o b m = absurd m
 among_object n k (ended_by class) o b m = absurd m
 
 among_thread : (n : ℕ) (t : Thread) → ThreadFits n t → (k : ℕ) → Among k (refs_thread t) → k < n
-among_thread n t f k m = by (among_append k (object_refs t.ending t.object) (held_shape.refs (t.pending, t.frames)) m)
+among_thread n t f k m = by (among_split k (object_refs t.ending t.object) (held_shape.refs (t.pending, t.frames)) m)
   where
     held : Among k (optional_number_shape.refs t.pending) ⊎ Among k (frames_shape.refs t.frames) → k < n
     held (inl c) = among_number n k t.pending f.pending c
@@ -130,13 +126,13 @@ among_thread n t f k m = by (among_append k (object_refs t.ending t.object) (hel
 
     by : Among k (object_refs t.ending t.object) ⊎ Among k (held_shape.refs (t.pending, t.frames)) → k < n
     by (inl c) = among_object n k t.ending t.object f.object c
-    by (inr c) = held (among_append k (optional_number_shape.refs t.pending) (frames_shape.refs t.frames) c)
+    by (inr c) = held (among_split k (optional_number_shape.refs t.pending) (frames_shape.refs t.frames) c)
 
 among_static : (n : ℕ) (s : Static) → ValueBelow n s.value → (k : ℕ) → Among k (refs_static s) → k < n
 among_static n s b k m = among_value k s.value n b m
 
 pub among_roots : (w : World) → IsWellFormed w → (k : ℕ) → Among k (roots w) → k < length w.heap
-among_roots w f k m = by (among_append k ((flat_map refs_thread w.threads ++ flat_map refs_static w.statics) ++ flat_map refs_monitor w.monitors) (flat_map refs_literal w.literals) m)
+among_roots w f k m = by (among_split k ((flat_map refs_thread w.threads ++ flat_map refs_static w.statics) ++ flat_map refs_monitor w.monitors) (flat_map refs_literal w.literals) m)
   where
     n : ℕ
     n = length w.heap
@@ -154,16 +150,16 @@ among_roots w f k m = by (among_append k ((flat_map refs_thread w.threads ++ fla
     first (inr c) = among_all (λ s. ValueBelow (length w.heap) s.value) refs_static (length w.heap) (among_static (length w.heap)) w.statics f.statics k c
 
     second : Among k (flat_map refs_thread w.threads ++ flat_map refs_static w.statics) ⊎ Among k (flat_map refs_monitor w.monitors) → k < length w.heap
-    second (inl c) = first (among_append k (flat_map refs_thread w.threads) (flat_map refs_static w.statics) c)
+    second (inl c) = first (among_split k (flat_map refs_thread w.threads) (flat_map refs_static w.statics) c)
     second (inr c) = among_all (MonitorFits (length w.heap) (length w.threads)) refs_monitor (length w.heap) monitor w.monitors f.monitors k c
 
     by : Among k ((flat_map refs_thread w.threads ++ flat_map refs_static w.statics) ++ flat_map refs_monitor w.monitors) ⊎ Among k (flat_map refs_literal w.literals) → k < length w.heap
-    by (inl c) = second (among_append k (flat_map refs_thread w.threads ++ flat_map refs_static w.statics) (flat_map refs_monitor w.monitors) c)
+    by (inl c) = second (among_split k (flat_map refs_thread w.threads ++ flat_map refs_static w.statics) (flat_map refs_monitor w.monitors) c)
     by (inr c) = among_all (λ l. l.string < length w.heap) refs_literal (length w.heap) literal w.literals f.literals k c
 
 object_below : (w : World) → IsWellFormed w → (j : ℕ) (o : Option Object) → slice_get w.heap j ≡ o → (k : ℕ) → Among k (refs_of o) → k < length w.heap
 object_below w f j None e k m = absurd m
-object_below w f j (Some o) e k m = among_values k (length w.heap) o.values (each_got (λ x. ValuesBelow (length w.heap) x.values) w.heap j o f.objects e) m
+object_below w f j (Some o) e k m = among_values k (length w.heap) o.values (each_at (λ x. ValuesBelow (length w.heap) x.values) w.heap j o f.objects e) m
 
 pub bounded : (w : World) → IsWellFormed w → IsBounded w
 bounded w f k r = reach_within (λ j. j < length w.heap) (among_roots w f) (λ j i b m. object_below w f j (slice_get w.heap j) refl i m) k r

@@ -4,6 +4,7 @@ use Rattle.std.specs.Prelude.{map, slice_get, sum_by, nat_lt, nat_le}
 use Rattle.std.proofs.lemmas.Bool.Decides.{nat_tests}
 use Rattle.std.proofs.lemmas.Bool.{le-ltb}
 use Rattle.std.proofs.lemmas.List.Sums.{sum_by-cons}
+use Rattle.jm_program.proofs.Sequences.{put_beside}
 use Rattle.jm_values.specs.ArraysOfArrays.{Dimension, tree}
 use Rattle.jm_values.specs.Objects.{ObjectOf, size_by}
 use Rattle.jm_values.specs.declared.value.Value.TheVariants.{Ref}
@@ -53,10 +54,6 @@ one_more : (xs : List Object) (y : Object) → length (xs ++ y ∷ []) ≡ lengt
 one_more [] y = refl
 one_more (x ∷ xs) y = let more = one_more xs y in omega (arith, more)
 
-one_by_one : (xs : List Object) (y : Object) (ys : List Object) → (xs ++ y ∷ []) ++ ys ≡ xs ++ y ∷ ys
-one_by_one [] y ys = refl
-one_by_one (x ∷ xs) y ys = ap (λ l. x ∷ l) (one_by_one xs y ys)
-
 get_all : (xs ys : List Object) → map (slice_get (xs ++ ys)) (numbers_from (length xs) ys) ≡ map Some ys
 get_all xs [] = refl
 get_all xs (y ∷ ys) =
@@ -67,7 +64,7 @@ get_all xs (y ∷ ys) =
     after l n = map (slice_get l) (numbers_from n ys) ≡ map Some ys
 
     rest : after ((xs ++ y ∷ []) ++ ys) (length (xs ++ y ∷ [])) → after (xs ++ y ∷ ys) (length xs + 1)
-    rest h = subst (λ l. after l (length xs + 1)) (one_by_one xs y ys) (subst (after ((xs ++ y ∷ []) ++ ys)) (one_more xs y) h)
+    rest h = subst (λ l. after l (length xs + 1)) (put_beside xs y ys) (subst (after ((xs ++ y ∷ []) ++ ys)) (one_more xs y) h)
 
 pub objects_are_numbered : ObjectsAreNumbered
 objects_are_numbered w os = record { new = get_all w.heap os; old = get_before w.heap os }

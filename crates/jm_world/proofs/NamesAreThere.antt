@@ -1,13 +1,10 @@
 -- In every world of a program that loads, what is named is there.
 use Rattle.std.proofs.Common.{◌≡◌, ℕ, zero, suc, ◌+◌, List, [], ◌∷◌, ◌++◌, Option, Some, None, Bool, true, false, ◌≢◌, refl, sym, ap, ◌∙◌, subst, inl, inr, ◌⊎◌}
-use Rattle.std.specs.Prelude.{map, nat_eq, not, is_some, ◌&&◌, ◌||◌, cond}
+use Rattle.std.specs.Prelude.{map, not, is_some, ◌&&◌, ◌||◌, cond}
 use Rattle.std.specs.List.{AllByRecursion, filter, flat_map, list_all}
-use Rattle.std.specs.Cmp.Lexicographic.{bytes_decides}
-use Rattle.std.proofs.lemmas.Bool.Decides.{eqb_tells}
 use Rattle.jm_program.specs.Names.{same_text}
 use Rattle.jm_program.specs.Flags.{is_static}
 use Rattle.jm_program.specs.Fits.{Fits}
-use Rattle.jm_program.specs.Descriptors.{base_letter}
 use Rattle.jm_program.specs.declared.class.ClassParts.{ClassParts}
 use Rattle.jm_program.specs.declared.class.Field.{Field}
 use Rattle.jm_program.specs.declared.class.Method.{Method}
@@ -27,11 +24,13 @@ use Rattle.jm_program.specs.declared.instruction.symbolic.Instr.TheVariants as i
 use Rattle.jm_program.specs.declared.instruction.operation.FieldOp.{FieldOp}
 use Rattle.jm_program.specs.declared.instruction.operation.FieldOp.TheVariants.{GetStatic, PutStatic, GetField, PutField}
 use Rattle.jm_program.specs.declared.instruction.operation.InvokeOp.{InvokeOp}
+use Rattle.jm_program.proofs.Texts.{text_itself}
+use Rattle.jm_program.proofs.Truths.{both_true, implied}
 use Rattle.jm_values.specs.declared.value.Value.{Value}
 use Rattle.jm_values.specs.declared.value.Value.TheVariants.{Ref}
 use Rattle.jm_builtins.specs.declared.built_in.BuiltIn.{BuiltIn}
 use Rattle.jm_builtins.specs.List.{the_builtins}
-use Rattle.jm_world.specs.Types.{same_element, same_type, default_value}
+use Rattle.jm_world.specs.Types.{same_type, default_value}
 use Rattle.jm_world.specs.Classes.{FoundField, FoundMethod, as_class, built_in_named, class_among, class_named, field_in, height, string_class, system_class}
 use Rattle.jm_world.specs.Resolution.{first_found, nameable, interfaces_first, field_from, resolve_field, resolve_method}
 use Rattle.jm_world.specs.Objects.{FieldName, field_names, same_field}
@@ -43,28 +42,15 @@ use Rattle.jm_world.specs.Run.{run_from}
 use Rattle.jm_world.specs.NamesOfRuns.{fields_of, SameNames, IsThere, ElementIsThere, ClassIsThere, StaticIsThere, FieldIsThere, IsOfUse, MethodIsThere, LiteralIsThere, Finds, CatchIsThere, CodeFinds, ClassFinds, RunsHaveWhatIsNamed}
 use Rattle.jm_world.proofs.Fitting.{each_more}
 use Rattle.jm_world.proofs.KeepingNames.{run_keeps}
-use Rattle.jm_world.proofs.CalledMethods.{both_true, first_got, static_code, initializer_code}
-
--- no reason
-both_none : (a b : Option Refusal) → or_else a b ≡ None → (a ≡ None) × (b ≡ None)
-both_none None b e = (refl, e)
-both_none (Some r) b e = cc
+use Rattle.jm_world.proofs.CalledMethods.{first_got, static_code, initializer_code}
+use Rattle.jm_world.proofs.Comparing.{type_itself, same_flag}
+use Rattle.jm_world.proofs.Refusing.{both_none, not_refused}
 
 all_none : {A : Type 0} (check : A → Option Refusal) (xs : List A) → first_of_all check xs ≡ None → AllByRecursion (λ x. check x ≡ None) xs
 all_none check [] e = tt
 all_none check (x ∷ xs) e =
     let both : (check x ≡ None) × (first_of_all check xs ≡ None) = both_none (check x) (first_of_all check xs) e in
     (both.0, all_none check xs both.1)
-
-not_so : (b : Bool) (r : Refusal) → when b r ≡ None → b ≡ false
-not_so true r e = cc
-not_so false r e = refl
-
-same_so : (a b : Bool) → not (same_bool a b) ≡ false → a ≡ b
-same_so true true e = refl
-same_so true false e = cc
-same_so false true e = cc
-same_so false false e = refl
 
 is_there : {A : Type 0} (o : Option A) (r : Refusal) → when (not (is_some o)) r ≡ None → IsThere o
 is_there None r e = cc
@@ -89,12 +75,9 @@ each_two : {A : Type 0} {P Q R : A → Type 0} → ((x : A) → P x → Q x → 
 each_two f [] a b = tt
 each_two f (x ∷ xs) a b = (f x a.0 b.0, each_two f xs a.1 b.1)
 
-text_self : (x : List ℕ) → same_text x x ≡ true
-text_self x = (bytes_decides x x).1 refl
-
 -- literals: each text of the program is one of the distinct texts, and each of those has its String
 has_first : (t : List ℕ) (ts : List (List ℕ)) → has_text t (t ∷ ts) ≡ true
-has_first t ts = by (same_text t t) (text_self t)
+has_first t ts = by (same_text t t) (text_itself t)
   where
     by : (b : Bool) → b ≡ true → (elim b as (λ _. Bool) [ true ↦ true | false ↦ has_text t ts ]) ≡ true
     by true e = refl
@@ -155,31 +138,11 @@ literals_there program = each_more one (flat_map texts_of_class program) (all_di
     one x (inl e) = cc
     one x (inr e) = literal_got 2 (literal_texts program) x e
 
--- statics: those of a class, and those of the classes
-nat_self : (n : ℕ) → nat_eq n n ≡ true
-nat_self n = by (eqb_tells n n)
-  where
-    by : ((nat_eq n n ≡ true) × (n ≡ n)) ⊎ ((nat_eq n n ≡ false) × (n ≢ n)) → nat_eq n n ≡ true
-    by (inl q) = q.0
-    by (inr q) = absurd (q.1 refl)
-
-element_self : (e : ElementType) → same_element e e ≡ true
-element_self (Base b) = nat_self (base_letter b)
-element_self (Class name) = text_self name
-
-type_self : (t : FieldType) → same_type t t ≡ true
-type_self t = by (nat_eq t.dimensions t.dimensions) (nat_self t.dimensions) (same_element t.element t.element) (element_self t.element)
-  where
-    by : (a : Bool) → a ≡ true → (b : Bool) → b ≡ true → (a && b) ≡ true
-    by true d true e = refl
-    by true d false e = cc
-    by false d b e = cc
-
 field_self : (f : FieldName) → same_field f f ≡ true
-field_self f = by (same_text f.name f.name) (text_self f.name) (same_text f.class f.class) (text_self f.class)
+field_self f = by (same_text f.name f.name) (text_itself f.name) (same_text f.class f.class) (text_itself f.class)
   where
     by : (a : Bool) → a ≡ true → (b : Bool) → b ≡ true → (elim a as (λ _. Bool) [ true ↦ elim b [ true ↦ same_type f.type f.type | false ↦ false ] | false ↦ false ]) ≡ true
-    by true d true e = type_self f.type
+    by true d true e = type_itself f.type
     by true d false e = cc
     by false d b e = cc
 
@@ -294,10 +257,6 @@ field_passes test (g ∷ gs) name t f a e = by (same_text g.name name && same_ty
     by true both h ih = let same : g ≡ f = cc in subst (λ z. test z ≡ true) same both.0
     by false both h ih = ih both.1 h
 
-out_of : (a b : Bool) → (not a || b) ≡ true → a ≡ true → b ≡ true
-out_of true b e s = e
-out_of false b e s = cc
-
 -- where a field is found
 abbrev FoundIn : List ClassParts → List ℕ → FieldType → FoundField → Type 0
 FoundIn program name t found = (k : List ℕ) × (class_named program k ≡ Some found.class) × (field_in (nameable found.class) name t ≡ Some found.field)
@@ -336,7 +295,7 @@ class_static program name t k c f q r s = by (class_statics program k c (name_in
     by : IsThere (static_in (flat_map statics_of_class program) (name_in c f)) ⊎ (built_in_named the_builtins k ≡ Some c) → IsThere (static_in (first_statics program) (name_in c f))
     by (inl i) = static_later (record { field = out_field; value = Ref 0 }) (flat_map statics_of_class program) (name_in c f) i
     by (inr b) = static_first (record { field = out_field; value = Ref 0 }) (flat_map statics_of_class program) (name_in c f)
-        (out_of (is_static f.flags) (same_field out_field (name_in c f)) (field_passes (is_out c) (nameable c) name t f (built_in_out the_builtins k c out_alone b) r) s)
+        (implied (is_static f.flags) (same_field out_field (name_in c f)) (field_passes (is_out c) (nameable c) name t f (built_in_out the_builtins k c out_alone b) r) s)
 
 resolved_static : (program : List ClassParts) (class name : List ℕ) (t : FieldType) (found : FoundField) → resolve_field program class name t ≡ Some found → is_static found.field.flags ≡ true → IsThere (static_in (first_statics program) (name_of_field found))
 unfolding resolve_field
@@ -378,7 +337,7 @@ field_found w s op f (named.Class class) e = by (resolve_field w.program class f
     by (Some found) q h =
         let first : when (not (same_bool (is_static found.field.flags) (is_static_use op))) (wrong_kind f.name) ≡ None =
         (both_none (when (not (same_bool (is_static found.field.flags) (is_static_use op))) (wrong_kind f.name)) (when (is_stored op && same_text found.class.name system_class) (wrong_kind f.name)) h).0 in
-        let same : is_static found.field.flags ≡ is_static_use op = same_so (is_static found.field.flags) (is_static_use op) (not_so (not (same_bool (is_static found.field.flags) (is_static_use op))) (wrong_kind f.name) first) in
+        let same : is_static found.field.flags ≡ is_static_use op = same_flag (is_static found.field.flags) (is_static_use op) (not_refused (not (same_bool (is_static found.field.flags) (is_static_use op))) (wrong_kind f.name) first) in
         of_use w op found (λ u. static_same (first_statics w.program) w.statics (name_of_field found) s (resolved_static w.program class f.name f.descriptor found q (same ∙ u)))
 
 named_found : (op : InvokeOp) (class : List ℕ) (o : Option ClassParts) → named_class_refusal op class o ≡ None → IsThere o
@@ -388,7 +347,7 @@ named_found op class (Some c) e = tt
 use_found : (program : List ClassParts) → AllByRecursion Fits program → (op : InvokeOp) (class : List ℕ) (m : MethodRef) (o : Option FoundMethod) → resolve_method program class m.name m.descriptor ≡ o → found_method_refusal op m.name o ≡ None → IsOfUse op o
 use_found program fits op class m None q e = cc
 use_found program fits op class m (Some found) q e =
-    let same : is_static found.method.flags ≡ is_static_call op = same_so (is_static found.method.flags) (is_static_call op) (not_so (not (same_bool (is_static found.method.flags) (is_static_call op))) (wrong_kind m.name) e) in
+    let same : is_static found.method.flags ≡ is_static_call op = same_flag (is_static found.method.flags) (is_static_call op) (not_refused (not (same_bool (is_static found.method.flags) (is_static_call op))) (wrong_kind m.name) e) in
     (same, λ u. static_code program class m.name m.descriptor found fits q (same ∙ u))
 
 method_found : (w : World) → AllByRecursion Fits w.program → (op : InvokeOp) (m : MethodRef) (c : ClassRef) → method_refusal w.program op m c ≡ None → MethodIsThere w op m c

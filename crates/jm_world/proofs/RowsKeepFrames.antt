@@ -39,6 +39,7 @@ use Rattle.jm_values.specs.declared.value.Value.{Value}
 use Rattle.jm_values.specs.declared.value.Value.TheVariants.{Int, Long, Null, Ref}
 use Rattle.jm_values.specs.declared.fault.TagFault.TheVariants.{WrongKind}
 use Rattle.jm_values.proofs.KeepsForm.{plain_keeps}
+use Rattle.jm_values.proofs.Lists.{each_of_both}
 use Rattle.jm_world.specs.Types.{ObjectType, instance_of, array_of, operand_of, narrow, type_of_ref, primitive_type}
 use Rattle.jm_world.specs.Classes.{FoundMethod, MethodName, name_of_method, string_class, print_stream_class, thread_class, throwable_class}
 use Rattle.jm_world.specs.Resolution.{resolve_method, select}
@@ -60,7 +61,6 @@ use Rattle.jm_world.specs.Returns.{with_result, returned_to, return_from, same_o
 use Rattle.jm_world.specs.Throwing.{is_kind_of, row_throw}
 use Rattle.jm_world.specs.Stepping.{from_outcome, row_monitor, row, instruction_at}
 use Rattle.jm_world.specs.FramesOfRuns.{FramesStand, ThreadStands, Initialize, Initializes, ThreadsStand}
-use Rattle.jm_world.proofs.Fitting.{each_append}
 use Rattle.jm_world.proofs.KeepingForm.{with_monitors}
 use Rattle.jm_world.proofs.KeepingFrames.{Framed, if_framed, option_framed, StepsIn, its_frames, kept, StepsHere, topped_stands, go_on_in_framed, go_on_framed, throws_framed, push_framed, push_new_framed, push_all_new_framed, with_counts_framed, with_lengths_framed, with_operand_framed, with_int_framed, with_reference_framed, with_arguments_framed, with_object_framed, with_depth_framed, with_frames_stand, when_initialized_framed, enter_framed, enter_if_framed, leave_framed, leave_if_framed}
 use Rattle.std.proofs.lemmas.Bool.{leb-true}
@@ -215,7 +215,7 @@ got_append P (x ∷ xs) ys (suc i) n p = got_append P xs ys i n p
 
 started : (w : World) (k : ℕ) → ThreadsStand w → ThreadsStand (with_new_thread w (new_thread k))
 started w k f = record {
-  threads = each_append ThreadStands w.threads (new_thread k ∷ []) f.threads ((refl, omega arith), tt);
+  threads = each_of_both ThreadStands w.threads (new_thread k ∷ []) f.threads ((refl, omega arith), tt);
   owners = λ class owner p. by class owner (f.owners class owner p);
 }
   where

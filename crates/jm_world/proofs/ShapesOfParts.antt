@@ -1,9 +1,10 @@
 -- Frames, threads, statics, monitors and literals keep to the laws of shapes.
 use Rattle.std.proofs.Common.{◌≡◌, ℕ, List, [], ◌∷◌, ◌++◌, Option, length, refl, sym, ap, ◌∙◌, subst, inl, arith}
 use Rattle.std.specs.Prelude.{map}
+use Rattle.jm_program.proofs.Sequences.{none_left}
 use Rattle.jm_values.specs.Shape.{Shape, IsShape, ShapeLaws, AgreeOn, pair_shape}
 use Rattle.jm_values.specs.Rename.{value_shape, activation_shape}
-use Rattle.jm_values.proofs.Shapes.{option_is_shape, list_is_shape, pair_is_shape, length_zero}
+use Rattle.jm_values.proofs.Shapes.{option_is_shape, list_is_shape, pair_is_shape}
 use Rattle.jm_values.proofs.Renaming.{value_is_shape, activation_is_shape}
 use Rattle.jm_world.specs.Frames.{Frame, method_frame, initialization_frame, entry_frame, number_shape, optional_number_shape, method_part_shape, frame_shape, frames_shape, refilled_method}
 use Rattle.jm_world.specs.World.{Ending, running, returned, ended_by, Thread, Static, Monitor, Literal, held_shape}
@@ -53,7 +54,7 @@ plain_laws s x named listed filled = record {
   composes = λ f g. ap (s.rename f) (named g) ∙ named f ∙ sym (named (λ p. f (g p)));
   agrees = λ f g e. named f ∙ sym (named g);
   renamed = λ f. ap s.refs (named f) ∙ listed ∙ ap (map f) (sym listed);
-  refilled = λ ns rest e. ap s.refs (filled (ns ++ rest)) ∙ listed ∙ sym (length_zero ns (e ∙ ap length listed));
+  refilled = λ ns rest e. ap s.refs (filled (ns ++ rest)) ∙ listed ∙ sym (none_left ns (e ∙ ap length listed));
   moved = λ f g ns rest e. ap (s.rename g) (filled (ns ++ rest)) ∙ named g ∙ sym (named f);
 }
 

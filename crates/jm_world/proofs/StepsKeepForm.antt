@@ -26,6 +26,7 @@ use Rattle.jm_values.specs.declared.fault.TagFault.TheVariants.{WrongKind}
 use Rattle.jm_values.proofs.Among.{among_left, among_right}
 use Rattle.jm_values.proofs.NaturalRows.{plain_natural}
 use Rattle.jm_values.proofs.NoNewReferences.{brings_none}
+use Rattle.jm_values.proofs.Lists.{each_at}
 use Rattle.jm_world.specs.Types.{ObjectType, instance_of, narrow}
 use Rattle.jm_world.specs.Classes.{FoundMethod, MethodName, class_named, method_named, name_of_method, throwable_class, error_class}
 use Rattle.jm_world.specs.Resolution.{select}
@@ -49,7 +50,7 @@ use Rattle.jm_world.specs.declared.stage.Stage.TheVariants.{Begin, Superclass, I
 use Rattle.jm_world.specs.declared.event.Event.{Event}
 use Rattle.jm_world.specs.declared.event.Event.TheVariants.{Step, Minor, Full}
 use Rattle.jm_world.specs.declared.stop.Stop.{Stop}
-use Rattle.jm_world.proofs.Fitting.{each_got, among_activation, values_from, locals_from, number_more, frames_more, with_thread_fits, grown, grown_longer, grown_fits}
+use Rattle.jm_world.proofs.Fitting.{among_activation, values_from, locals_from, number_more, frames_more, with_thread_fits, grown, grown_longer, grown_fits}
 use Rattle.jm_world.proofs.KeepingForm.{Fine, if_fine, option_fine, Stands, StandsHere, make_fine, throw_fine, throws_fine, with_frames_fits, go_on_in_fine, with_reference_fine, with_object_fine, push_frame_fine, with_monitors, enter_fine, enter_if_fine, leave_fine, leave_if_fine}
 use Rattle.jm_world.proofs.FieldsKeepForm.{literal_got, static_set, narrow_below, statics_fit, constant_fine, field_fine, array_fine, new_fine, type_fine}
 use Rattle.jm_world.proofs.InvocationKeepsForm.{locals_below, monitor_below, invoke_fine, return_fine, ended_fine}
@@ -264,7 +265,7 @@ after_thread_fits w number (Some t) e f = by (is_running t.ending) refl
   where
     fits : (n : ℕ) → thread_at w n ≡ Some t → ThreadFits (length w.heap) t
     fits zero d = cc
-    fits (suc n) d = each_got (ThreadFits (length w.heap)) w.threads n t f.threads d
+    fits (suc n) d = each_at (ThreadFits (length w.heap)) w.threads n t f.threads d
 
     by : (b : Bool) → is_running t.ending ≡ b → IsWellFormed (elim b as (λ _. After) [ true ↦ after_step w (step_thread w number t) | false ↦ answered kind.Ended w ]).world
     by true d = after_step_fits w (step_thread w number t) f (step_thread_fine w number t (record { world = f; thread = fits number e; running = d; low = (made_below w number t e).0; high = (made_below w number t e).1 }))

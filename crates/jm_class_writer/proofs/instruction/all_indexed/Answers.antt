@@ -3,7 +3,7 @@ use Rattle.std.specs.List.{list_all}
 use Rattle.std.proofs.lemmas.Result.{err_from_is_err_and}
 use Rattle.std.proofs.lemmas.List.Elements.{All-pop}
 use Rattle.std.proofs.lemmas.List.Folds.{list_all-append}
-use Rattle.jm_program.proofs.DescriptorLaws.{and_true}
+use Rattle.std.proofs.lemmas.Bool.{and_from}
 use Rattle.jm_class_format.specs.declared.instruction.IndexedInstr.{IndexedInstr}
 use Rattle.jm_encode.specs.Encoding.{has_bytes}
 use Rattle.jm_encode.specs.Ranges.{InRange}
@@ -27,7 +27,7 @@ loop-instruction-preserved c = record {
   bytes =
       ap (list_all has_bytes) c.in_ok-push.ensures.items
       ∙ list_all-append has_bytes c.loop-instruction.all.items (c.in_ok-instr.instr ∷ [])
-      ∙ and_true (list_all has_bytes c.loop-instruction.all.items) (list_all has_bytes (c.in_ok-instr.instr ∷ [])) c.loop-instruction.invariant.bytes (and_true (has_bytes c.in_ok-instr.instr) true c.in_ok-instr.ensures.bytes refl);
+      ∙ and_from (list_all has_bytes c.loop-instruction.all.items) (list_all has_bytes (c.in_ok-instr.instr ∷ [])) c.loop-instruction.invariant.bytes (and_from (has_bytes c.in_ok-instr.instr) true c.in_ok-instr.ensures.bytes refl);
   count = omega (arith, ap length c.in_ok-push.ensures.items, length-append c.loop-instruction.all.items (c.in_ok-instr.instr ∷ []), c.loop-instruction.invariant.count);
   range = λ all.
       let known = All-pop InRange c.push.new.self.items c.loop-instruction.all.items (Some c.in_ok-instr.instr) c.in_ok-push.ensures.items all in

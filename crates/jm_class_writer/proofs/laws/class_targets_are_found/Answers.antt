@@ -3,7 +3,7 @@ use Rattle.std.specs.Prelude.{◌&&◌, nat_le, nat_lt}
 use Rattle.std.specs.List.{list_all}
 use Rattle.jm_program.specs.Instructions.{instr_fits}
 use Rattle.jm_program.specs.Codes.{handler_fits, line_fits}
-use Rattle.jm_program.proofs.DescriptorLaws.{both_true}
+use Rattle.jm_program.proofs.Truths.{both_true}
 use Rattle.jm_class_writer.proofs.TargetLaws.{no_bad_target}
 use Rattle.jm_class_writer.proofs.PlaceLaws.{places_found}
 use Rattle.jm_class_writer.proofs.laws.class_targets_are_found.Goals as goal

@@ -1,47 +1,88 @@
-use Rattle.std.proofs.Common.{◌≡◌, arith, subst, length, ◌∙◌}
-use Rattle.jm_copy.specs.Copies.{IsCopying}
-use Rattle.jm_copy.specs.Marks.{at}
-use Rattle.jm_copy.proofs.Making.{extends_refl, extends_more}
-use Rattle.jm_copy.proofs.Plain.{plain_copying}
+use Rattle.std.proofs.Common.{◌≡◌, Option, Some, None, false, ◌<◌, arith, ap, refl, sym, subst, length, take, ◌∙◌}
+use Rattle.std.proofs.Math.Seq.{take-length}
+use Rattle.std.proofs.lemmas.List.{length-set}
+use Rattle.std.proofs.lemmas.Option.{slice_get_within}
+use Rattle.jm_values.specs.declared.value.Value.TheVariants.{Ref}
+use Rattle.jm_blocks.specs.Objects.{with_value}
+use Rattle.jm_copy.specs.Pointing.{names_lane, points_to}
+use Rattle.jm_copy.specs.declared.copies.Named.{Named}
+use Rattle.jm_copy.proofs.Making.{extends_refl, extends_more, others_more}
+use Rattle.jm_copy.proofs.Scanning.{Reaches, UpTo, reaches, reaches_more, rest, rest_less}
 use Rattle.jm_copy.proofs.scan.scan_object.Goals as goal
 
-pub loop-number-init : goal.loop-number-init
-loop-number-init c = record { copying = λ done h. h; there = (c.requires.there.0, c.requires.there.1, c.in-Some.ensures c.requires.there.0 c.requires.there.1); extends = extends_refl c.args.from.stores.now c.args.to.now }
-
-pub forward_value-requires-clause-copying : goal.forward_value-requires-clause-copying
-forward_value-requires-clause-copying c = (c.requires.copying.0, c.loop-number.invariant.copying c.requires.copying.0 c.requires.copying.1)
-
-pub forward_value-requires-clause-there : goal.forward_value-requires-clause-there
-forward_value-requires-clause-there c = let there = c.loop-number.invariant.there in (there.0, there.1, omega (arith, there.2, c.loop-number-test.true))
-
-pub loop-number-preserved : goal.loop-number-preserved
-loop-number-preserved c =
-    let there = c.loop-number.invariant.there in
-    let next = c.in_ok-forward_value.ensures.there there.0 there.1 in
+pub loop-next-init : goal.loop-next-init
+loop-next-init c =
+    let there = c.requires.there in
     record {
-      copying = λ done h. c.in_ok-forward_value.ensures.copying done (c.loop-number.invariant.copying done h);
-      there = (next.0, next.1, next.2 ∙ there.2);
-      extends = extends_more c.args.from.stores.now c.args.to.now c.loop-number.to c.forward_value.new.to c.loop-number.invariant.extends c.forward_value.ensures.extends;
+      there = (there.0, there.1, reaches c.args.from.stores.now c.args.from.roots.now c.args.to.now c.args.to.now c.args.place c.args.to.now.young.lane false there.0 0 c.named_from-next.result there.1 (omega arith) (record { copying = λ done h. h; points_is = refl }) (c.named_from-next.ensures there.0 there.1));
+      passed = λ m n h below apart. refl;
+      extends = extends_refl c.args.from.stores.now c.args.to.now;
     }
 
-pub returns-in_err-forward_value-clause-extends : goal.returns-in_err-forward_value-clause-extends
-returns-in_err-forward_value-clause-extends c = extends_more c.args.from.stores.now c.args.to.now c.loop-number.to c.forward_value.new.to c.loop-number.invariant.extends c.forward_value.ensures.extends
+pub forward_named-requires-clause-copying : goal.forward_named-requires-clause-copying
+forward_named-requires-clause-copying c =
+    let there = c.loop-next.invariant.there in
+    let at = subst (λ r. Reaches c.args.from.stores.now c.args.from.roots.now c.args.to.now c.loop-next.to c.args.place c.args.to.now.young.lane c.loop-next.points there.0 r) c.in-Some.is there.2 in
+    (c.requires.copying.0, at.0.copying c.requires.copying.0 c.requires.copying.1)
+
+pub forward_named-requires-clause-there : goal.forward_named-requires-clause-there
+forward_named-requires-clause-there c =
+    let there = c.loop-next.invariant.there in
+    let at = subst (λ r. Reaches c.args.from.stores.now c.args.from.roots.now c.args.to.now c.loop-next.to c.args.place c.args.to.now.young.lane c.loop-next.points there.0 r) c.in-Some.is there.2 in
+    (there.0, there.1, at.1.here, at.1.fits)
+
+pub named_after-next-requires : goal.named_after-next-requires
+named_after-next-requires c =
+    let there = c.loop-next.invariant.there in
+    let at = subst (λ r. Reaches c.args.from.stores.now c.args.from.roots.now c.args.to.now c.loop-next.to c.args.place c.args.to.now.young.lane c.loop-next.points there.0 r) c.in-Some.is there.2 in
+    let next = c.in_ok-names.ensures.names there.0 there.1 in
+    let many = length-set there.0.values c.in-Some.named.number next.0 in
+    let inside = slice_get_within there.0.values c.in-Some.named.number (Ref c.in-Some.named.place) at.1.here in
+    (with_value there.0 c.in-Some.named.number next.0, next.1, omega (arith, many, inside), at.1.count ∙ sym many)
+
+pub loop-next-preserved : goal.loop-next-preserved
+loop-next-preserved c =
+    let there = c.loop-next.invariant.there in
+    let stays = c.loop-next.invariant.extends.stays in
+    let at = subst (λ r. Reaches c.args.from.stores.now c.args.from.roots.now c.args.to.now c.loop-next.to c.args.place c.args.to.now.young.lane c.loop-next.points there.0 r) c.in-Some.is there.2 in
+    let next = c.in_ok-names.ensures.names there.0 there.1 in
+    let names = next.2 ∙ ap (λ l. names_lane l next.0) stays.young_lane in
+    let after = with_value there.0 c.in-Some.named.number next.0 in
+    let on = reaches_more c.args.from.stores.now c.args.from.roots.now c.args.to.now c.loop-next.to c.forward_named.new.to c.args.place c.args.to.now.young.lane c.loop-next.points c.in_ok-names.names there.0 next.0 c.in-Some.named c.named_after-next.result at next.1 names c.in_ok-names.ensures.copying (c.named_after-next.ensures after next.1) in
+    record {
+      there = (after, next.1, subst (λ b. Reaches c.args.from.stores.now c.args.from.roots.now c.args.to.now c.forward_named.new.to c.args.place c.args.to.now.young.lane b after c.named_after-next.result) (sym c.either-points.ensures) on);
+      passed = others_more c.args.to.now c.loop-next.to c.forward_named.new.to c.args.place stays c.loop-next.invariant.passed c.in_ok-names.ensures.passed;
+      extends = extends_more c.args.from.stores.now c.args.to.now c.loop-next.to c.forward_named.new.to c.loop-next.invariant.extends c.forward_named.ensures.extends;
+    }
+
+pub loop-next-smaller : goal.loop-next-smaller
+loop-next-smaller c =
+    let there = c.loop-next.invariant.there in
+    let at = subst (λ r. Reaches c.args.from.stores.now c.args.from.roots.now c.args.to.now c.loop-next.to c.args.place c.args.to.now.young.lane c.loop-next.points there.0 r) c.in-Some.is there.2 in
+    let next = c.in_ok-names.ensures.names there.0 there.1 in
+    let less = rest_less there.0 c.in-Some.named next.0 c.named_after-next.result at.1 (c.named_after-next.ensures (with_value there.0 c.in-Some.named.number next.0) next.1) in
+    let was = ap rest c.in-Some.is in
+    omega (arith, less, was)
+
+pub returns-in_err-names-clause-extends : goal.returns-in_err-names-clause-extends
+returns-in_err-names-clause-extends c = extends_more c.args.from.stores.now c.args.to.now c.loop-next.to c.forward_named.new.to c.loop-next.invariant.extends c.forward_named.ensures.extends
 
 pub returns-clause-copying : goal.returns-clause-copying
 returns-clause-copying c done h =
-    let there = c.loop-number.invariant.there in
-    let all : c.loop-number.number ≡ length there.0.values = omega (arith, there.2, c.loop-number-test.false, c.loop-number.auto.number-end) in
-    (there.0, there.1, subst (λ k. IsCopying c.args.from.stores.now c.args.from.roots.now c.loop-number.to (at done c.args.place k)) all (c.loop-number.invariant.copying done h))
+    let there = c.loop-next.invariant.there in
+    let at = subst (λ r. Reaches c.args.from.stores.now c.args.from.roots.now c.args.to.now c.loop-next.to c.args.place c.args.to.now.young.lane c.loop-next.points there.0 r) c.in_default.is there.2 in
+    (there.0, there.1, at.copying done h)
+
+pub returns-clause-points : goal.returns-clause-points
+returns-clause-points c a e =
+    let there = c.loop-next.invariant.there in
+    let at = subst (λ r. Reaches c.args.from.stores.now c.args.from.roots.now c.args.to.now c.loop-next.to c.args.place c.args.to.now.young.lane c.loop-next.points there.0 r) c.in_default.is there.2 in
+    let both : Some there.0 ≡ Some a = sym there.1 ∙ e in
+    let same : there.0 ≡ a = cc in
+    at.points_is ∙ ap (points_to c.args.to.now.young.lane) (take-length there.0.values) ∙ ap (λ x. points_to c.args.to.now.young.lane x.values) same
+
+pub returns-clause-passed : goal.returns-clause-passed
+returns-clause-passed c = c.loop-next.invariant.passed
 
 pub returns-clause-extends : goal.returns-clause-extends
-returns-clause-extends c = c.loop-number.invariant.extends
-
--- nothing in it is a reference
-pub returns-in_default-clause-copying : goal.returns-in_default-clause-copying
-returns-in_default-clause-copying c done copying =
-    let there = c.requires.there in
-    let plain = c.in_default.ensures there.0 there.1 in
-    (there.0, there.1, plain_copying c.args.from.stores.now c.args.from.roots.now c.args.to.now done c.args.place there.0 there.1 plain (length there.0.values) (omega arith) copying)
-
-pub returns-in_default-clause-extends : goal.returns-in_default-clause-extends
-returns-in_default-clause-extends c = extends_refl c.args.from.stores.now c.args.to.now
+returns-clause-extends c = c.loop-next.invariant.extends

@@ -1,5 +1,3 @@
-use Rattle.std.proofs.Common.{subst}
-use Rattle.jm_copy.specs.Pointing.{ListsAbove}
 use Rattle.jm_copy.specs.Marks.{progress, first_marks}
 use Rattle.jm_copy.proofs.Making.{stays_more}
 use Rattle.jm_copy.proofs.Whole.{fresh_copying, first_stays, copied_out}
@@ -13,20 +11,14 @@ scan-requires-clause-copying c = first_stays c.args.from.stores.now c.args.from.
 
 pub returns-clause-ok : goal.returns-clause-ok
 returns-clause-ok c =
-    let scanned = c.in_ok-scan.ensures.copying in
-    copied_out c.args.from.stores.now c.args.from.roots.now c.forward_roots.new.to c.scan.new.to c.in_ok-roots.roots.items c.in_ok-remembered.remembered.items scanned.0 scanned.1 scanned.2 c.in_ok-roots.ensures.forwarded.0 c.in_ok-roots.ensures.forwarded.1 c.scan.ensures.extends.known (subst (λ l. ListsAbove l c.scan.new.to.tenured c.scan.new.to.kept c.in_ok-remembered.remembered.items) c.lane.ensures.value c.in_ok-remembered.ensures)
+    let scanned = c.in_ok-remembered.ensures.copying in
+    copied_out c.args.from.stores.now c.args.from.roots.now c.forward_roots.new.to c.scan.new.to c.in_ok-roots.roots.items c.in_ok-remembered.remembered.items scanned.0 scanned.1 scanned.2 c.in_ok-roots.ensures.forwarded.0 c.in_ok-roots.ensures.forwarded.1 c.scan.ensures.extends.known c.in_ok-remembered.ensures.listed
 
 pub returns-clause-stays : goal.returns-clause-stays
 returns-clause-stays c = stays_more c.args.to.now c.forward_roots.new.to c.scan.new.to c.forward_roots.ensures.extends.stays c.scan.ensures.extends.stays
 
-pub returns-in_err-scan-clause-stays : goal.returns-in_err-scan-clause-stays
-returns-in_err-scan-clause-stays c = stays_more c.args.to.now c.forward_roots.new.to c.scan.new.to c.forward_roots.ensures.extends.stays c.scan.ensures.extends.stays
+pub returns-in_err-remembered-clause-stays : goal.returns-in_err-remembered-clause-stays
+returns-in_err-remembered-clause-stays c = stays_more c.args.to.now c.forward_roots.new.to c.scan.new.to c.forward_roots.ensures.extends.stays c.scan.ensures.extends.stays
 
 pub returns-in_err-roots-clause-stays : goal.returns-in_err-roots-clause-stays
 returns-in_err-roots-clause-stays c = c.forward_roots.ensures.extends.stays
-
-pub pointers-requires : goal.pointers-requires
-pointers-requires c = c.in_ok-scan.ensures.copying.1.kept
-
-pub returns-in_err-remembered-clause-stays : goal.returns-in_err-remembered-clause-stays
-returns-in_err-remembered-clause-stays c = stays_more c.args.to.now c.forward_roots.new.to c.scan.new.to c.forward_roots.ensures.extends.stays c.scan.ensures.extends.stays

@@ -4,8 +4,9 @@ use Rattle.std.proofs.lemmas.List.{length-append}
 use Rattle.std.proofs.lemmas.Option.{slice_get_read}
 use Rattle.jm_blocks.specs.Stores.{Blocks}
 use Rattle.jm_copy.specs.Numbers.{before, lane_count, lane_counts, AreStarts}
-use Rattle.jm_copy.proofs.Numbering.{before_more, get_map, numbers_more}
+use Rattle.jm_copy.proofs.Numbering.{before_more, numbers_more}
 use Rattle.jm_copy.proofs.starts.number_all.Goals as goal
+use Rattle.jm_values.proofs.Lists.{get_map}
 
 pub loop-store-preserved : goal.loop-store-preserved
 loop-store-preserved c =

@@ -1,7 +1,8 @@
 -- Each turn writes the line of an object.
 use Rattle.std.proofs.Common.{◌≤◌, ◌++◌, length, sym, ap, ◌∙◌, arith}
+use Rattle.jm_program.proofs.Sequences.{got_past}
 use Rattle.jm_debug.specs.Views.{numbered_lines, object_text}
-use Rattle.jm_debug.proofs.Written.{all_left, one_line, one_more, no_more, past_end}
+use Rattle.jm_debug.proofs.Written.{all_left, one_line, one_more, no_more}
 use Rattle.jm_debug.proofs.reached_objects.write_objects.Goals as goal
 
 pub loop-index-init : goal.loop-index-init
@@ -10,7 +11,7 @@ loop-index-init g c = ap (λ t. c.args.out.now.bytes.items ++ t) (all_left numbe
 pub returns-in_default : goal.returns-in_default
 returns-in_default g c =
     let os = c.args.objects.now.objects in
-    no_more numbered_lines os c.loop-index.index _ _ (past_end os c.loop-index.index c.in_default.ensures.object) c.loop-index.invariant
+    no_more numbered_lines os c.loop-index.index _ _ (got_past os c.loop-index.index c.in_default.ensures.object) c.loop-index.invariant
 
 pub loop-index-preserved : goal.loop-index-preserved
 loop-index-preserved g c =

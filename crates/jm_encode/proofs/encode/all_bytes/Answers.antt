@@ -1,10 +1,10 @@
 use Rattle.std.proofs.Common.{length, take, sym, ap, ◌∙◌, arith}
 use Rattle.std.proofs.lemmas.Result.{err_from_is_err_and}
 use Rattle.std.proofs.lemmas.List.Elements.{All-more, All-same, at_read}
+use Rattle.std.proofs.lemmas.List.{take_all}
 use Rattle.jm_bytes.proofs.Loops.{with_front_all-nil}
 use Rattle.jm_encode.specs.Encoding.{placed_from, texts, placed_text}
 use Rattle.jm_encode.specs.Ranges.{InRange}
-use Rattle.jm_encode.proofs.Appending.{take_whole}
 use Rattle.jm_encode.proofs.Codes.{starts_length}
 use Rattle.jm_encode.proofs.CodeLoop.{code_next, code_fault, code_done, code_room}
 use Rattle.jm_encode.proofs.encode.all_bytes.Goals as goal
@@ -34,4 +34,4 @@ pub returns-clause-given : goal.returns-clause-given
 returns-clause-given c = sym c.loop-i.invariant.so_far ∙ code_done c.args.starts.now c.args.instructions.now c.loop-i.out.items c.loop-i.i c.loop-i-test.false
 
 pub returns-clause-range : goal.returns-clause-range
-returns-clause-range c = All-same InRange c.args.instructions.now (take c.loop-i.i c.args.instructions.now) (sym (take_whole c.loop-i.i c.args.instructions.now c.loop-i-test.false)) c.loop-i.invariant.range
+returns-clause-range c = All-same InRange c.args.instructions.now (take c.loop-i.i c.args.instructions.now) (sym (take_all c.loop-i.i c.args.instructions.now c.loop-i-test.false)) c.loop-i.invariant.range

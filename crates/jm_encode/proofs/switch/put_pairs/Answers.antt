@@ -1,9 +1,10 @@
 use Rattle.std.proofs.Common.{refl, sym, ◌∙◌, pos, take}
 use Rattle.std.proofs.lemmas.Result.{err_from_is_err_and}
 use Rattle.std.proofs.lemmas.List.Elements.{All-more, All-same}
+use Rattle.std.proofs.lemmas.List.{take_all}
 use Rattle.jm_encode.specs.Encoding.{pair_text}
 use Rattle.jm_encode.specs.Ranges.{PairInRange}
-use Rattle.jm_encode.proofs.Appending.{texts_next, texts_fault, take_whole}
+use Rattle.jm_encode.proofs.Appending.{texts_next, texts_fault}
 use Rattle.jm_encode.proofs.switch.put_pairs.Goals as goal
 
 pub returns-in_err-put_pair-clause-given : goal.returns-in_err-put_pair-clause-given
@@ -19,4 +20,4 @@ loop-pair-preserved c =
     }
 
 pub returns-clause-range : goal.returns-clause-range
-returns-clause-range c = All-same PairInRange c.args.pairs.now (take c.loop-pair.pair-index c.args.pairs.now) (sym (take_whole c.loop-pair.pair-index c.args.pairs.now c.loop-pair-test.false)) c.loop-pair.invariant.range
+returns-clause-range c = All-same PairInRange c.args.pairs.now (take c.loop-pair.pair-index c.args.pairs.now) (sym (take_all c.loop-pair.pair-index c.args.pairs.now c.loop-pair-test.false)) c.loop-pair.invariant.range

@@ -2,8 +2,8 @@
 use Rattle.std.proofs.Common.{◌≡◌, ◌<◌, ◌≤◌, None, Some, length, arith}
 use Rattle.std.specs.Prelude.{slice_get}
 use Rattle.std.proofs.lemmas.Option.{slice_get_within}
+use Rattle.jm_program.proofs.Sequences.{got_past}
 use Rattle.jm_machine.specs.Readers.{model_frame}
-use Rattle.jm_debug.proofs.Written.{past_end}
 use Rattle.jm_filming.proofs.frames.frames_of.Goals as goal
 
 pub loop-depth-init : goal.loop-depth-init
@@ -18,6 +18,6 @@ loop-depth-preserved g c = λ w t m is.
 pub returns-in_default : goal.returns-in_default
 returns-in_default g c = λ w t m is.
     let none : slice_get t.frames c.loop-depth.depth ≡ None = rw is at (c.in_default.ensures.frame w m) in
-    let past : length t.frames ≤ c.loop-depth.depth = past_end t.frames c.loop-depth.depth none in
+    let past : length t.frames ≤ c.loop-depth.depth = got_past t.frames c.loop-depth.depth none in
     let read : c.loop-depth.depth ≤ length t.frames = c.loop-depth.invariant w t m is in
     omega (arith, past, read)

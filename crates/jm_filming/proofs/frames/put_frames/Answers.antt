@@ -1,8 +1,8 @@
 -- Each turn puts the sections of a frame.
 use Rattle.std.proofs.Common.{◌≡◌, ◌≤◌, ◌++◌, None, Some, length, ap, arith}
 use Rattle.std.specs.Prelude.{slice_get}
+use Rattle.jm_program.proofs.Sequences.{got_past}
 use Rattle.jm_machine.specs.Readers.{model_frame}
-use Rattle.jm_debug.proofs.Written.{past_end}
 use Rattle.jm_filming.proofs.Left.{all_frames, one_more_frame, no_frame_left}
 use Rattle.jm_filming.proofs.frames.put_frames.Goals as goal
 
@@ -12,7 +12,7 @@ loop-depth-init g c = λ w t m is. ap (λ ps. c.args.view.now.items ++ ps) (all_
 pub returns-in_default : goal.returns-in_default
 returns-in_default g c = λ w t m is.
     let none : slice_get t.frames c.loop-depth.depth ≡ None = rw is at (c.in_default.ensures.frame w m) in
-    no_frame_left w.program c.args.thread t.frames c.loop-depth.depth _ _ (past_end t.frames c.loop-depth.depth none) (c.loop-depth.invariant w t m is)
+    no_frame_left w.program c.args.thread t.frames c.loop-depth.depth _ _ (got_past t.frames c.loop-depth.depth none) (c.loop-depth.invariant w t m is)
 
 pub loop-depth-preserved : goal.loop-depth-preserved
 loop-depth-preserved g c = λ w t m is.

@@ -1,6 +1,6 @@
 -- Each turn puts an object.
 use Rattle.std.proofs.Common.{◌≤◌, length, refl, arith}
-use Rattle.jm_debug.proofs.Written.{past_end}
+use Rattle.jm_program.proofs.Sequences.{got_past}
 use Rattle.jm_filming.specs.Shown.{object_section}
 use Rattle.jm_filming.proofs.Left.{one_more_object, none_left_of}
 use Rattle.jm_filming.proofs.objects.put_objects.Goals as goal
@@ -11,7 +11,7 @@ loop-index-init g c = refl
 pub returns-in_default : goal.returns-in_default
 returns-in_default g c =
     let os = c.args.objects.now.objects in
-    none_left_of (object_section c.args.objects.now.program) os c.loop-index.index _ _ (past_end os c.loop-index.index c.in_default.ensures.object) c.loop-index.invariant
+    none_left_of (object_section c.args.objects.now.program) os c.loop-index.index _ _ (got_past os c.loop-index.index c.in_default.ensures.object) c.loop-index.invariant
 
 pub loop-index-preserved : goal.loop-index-preserved
 loop-index-preserved g c =

@@ -1,7 +1,8 @@
 -- Each turn puts the sections of a thread.
 use Rattle.std.proofs.Common.{◌<◌, ◌≤◌, ◌++◌, length, ap, arith}
-use Rattle.jm_filming.proofs.Left.{all_threads, one_more_thread, no_thread_left, a_thread}
+use Rattle.jm_filming.proofs.Left.{all_threads, one_more_thread, no_thread_left}
 use Rattle.jm_filming.proofs.threads.put_threads.Goals as goal
+use Rattle.jm_world.proofs.RunsOn.{a_thread}
 
 pub loop-index-init : goal.loop-index-init
 loop-index-init g c = λ w m. ap (λ ps. c.args.view.now.items ++ ps) (all_threads w.program c.args.waiting.now w.threads)

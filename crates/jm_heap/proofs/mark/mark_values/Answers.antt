@@ -1,6 +1,7 @@
 use Rattle.std.proofs.Common.{◌≡◌, ◌+◌, ◌≤◌, ◌∷◌, ◌++◌, ◌∙◌, [], ap, arith, take, length}
 use Rattle.jm_values.specs.Rename.{stack_shape, refs}
-use Rattle.jm_heap.proofs.MarkLemmas.{marked_more, take_one_more, refs_append, refs_one, refs_at}
+use Rattle.jm_values.proofs.Marking.{refs_append}
+use Rattle.jm_heap.proofs.MarkLemmas.{marked_more, take_one_more, refs_one, refs_at}
 use Rattle.jm_heap.proofs.mark.mark_values.Goals as goal
 
 pub mark_value-requires : goal.mark_value-requires

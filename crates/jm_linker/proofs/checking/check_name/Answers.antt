@@ -1,8 +1,9 @@
 -- A class before, a built-in one, or none.
 use Rattle.std.proofs.Common.{ap, sym, subst, take, ◌∙◌}
+use Rattle.std.proofs.lemmas.Bool.{or_left, or_right}
 use Rattle.jm_world.specs.Loads.{duplicate_class, when}
 use Rattle.jm_linker.specs.Answers.{SaysWhy}
-use Rattle.jm_linker.proofs.Seen.{named_among, or_false, or_left, or_right}
+use Rattle.jm_linker.proofs.Seen.{named_among, or_false}
 use Rattle.jm_linker.proofs.checking.check_name.Goals as goal
 use Rattle.jm_linker.proofs.checking.check_name.Goals.{then-stands_before-via-then-stands_before, then-stands_before-via-else-stands_before+then-is_built_in}
 

@@ -1,5 +1,5 @@
 -- One reason after the other.
-use Rattle.std.proofs.Common.{◌≡◌, List, [], None, Result, Err, subst}
+use Rattle.std.proofs.Common.{◌≡◌, List, [], None, Result, Ok, Err, ap, subst, ◌∙◌}
 use Rattle.jm_program.specs.declared.class.ClassParts.{ClassParts}
 use Rattle.jm_world.specs.Loads.{first_of_all, duplicates, duplicate_members, refusal}
 use Rattle.jm_linker.specs.Answers.{Answers}
@@ -19,3 +19,15 @@ returns-in-Err-clause-refusal c =
     let r : Result (Unit {0}) LinkFault = Err c.in-Err.fault in
     subst (λ p. Answers r (refusal p)) c.in_ok-names.ensures
     (decided _ _ r c.in_ok-classes.ensures.program c.in-Err.ensures.refusal c.in_ok-no_duplicate_classes.ensures c.in_ok-classes.ensures.refusal)
+
+pub returns-in-Ok-clause-refusal : goal.returns-in-Ok-clause-refusal
+returns-in-Ok-clause-refusal c =
+    let r : Result (Unit {0}) LinkFault = Ok tt in
+    subst (λ p. Answers r (refusal p)) c.in_ok-names.ensures
+    (decided _ _ r c.in_ok-classes.ensures.program c.in-Ok.ensures.refusal c.in_ok-no_duplicate_classes.ensures c.in_ok-classes.ensures.refusal)
+
+pub link_members-requires-clause-classes : goal.link_members-requires-clause-classes
+link_members-requires-clause-classes c = ap (duplicates []) c.in_ok-classes.ensures.program ∙ c.in_ok-no_duplicate_classes.ensures
+
+pub link_members-requires-clause-members : goal.link_members-requires-clause-members
+link_members-requires-clause-members c = ap (first_of_all duplicate_members) c.in_ok-classes.ensures.program ∙ c.in_ok-classes.ensures.refusal

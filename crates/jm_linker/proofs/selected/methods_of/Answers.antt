@@ -1,7 +1,10 @@
 -- The methods of one more class.
 use Rattle.std.proofs.Common.{◌≡◌, ◌+◌, length, refl, sym, ap, subst, ◌∙◌, arith}
 use Rattle.std.proofs.lemmas.Option.{slice_get_read}
-use Rattle.std.specs.Prelude.{option_to_list}
+use Rattle.std.specs.Prelude.{is_some, option_to_list}
+use Rattle.jm_values.proofs.Lists.{get_there}
+use Rattle.jm_linked.specs.Links.{class_numbered}
+use Rattle.jm_linker.proofs.AboveLaws.{not_none}
 use Rattle.jm_linker.specs.Selectors.{AreTheirMethods}
 use Rattle.jm_linker.proofs.SelectedLaws.{methods_more, no_methods, none_so_far, one_class_on, they_stand}
 use Rattle.jm_linker.proofs.selected.methods_of.Goals as goal
@@ -16,6 +19,13 @@ loop-number-init c = (
 pub own_methods-requires : goal.own_methods-requires
 own_methods-requires c =
     they_stand c.args.classes.now.program.now c.loop-number.number c.loop-number.before c.in-Some.class.now (sym c.in-Some.ensures) c.loop-number.invariant.0
+
+pub unreachable-requires : goal.unreachable-requires
+unreachable-requires c =
+    let number = c.loop-number.number in
+    let heir = get_there c.args.heirs.now number (omega arith) in
+    let class = c.requires.each number heir.0 heir.1 in
+    not_none (class_numbered c.args.classes.now.program.now number) (ap is_some class.numbered) (sym c.in_default.ensures)
 
 pub loop-number-preserved : goal.loop-number-preserved
 loop-number-preserved c =

@@ -1,16 +1,16 @@
 -- One more method of the class.
 use Rattle.std.proofs.Common.{◌++◌, ◌∷◌, [], take, sym, ap, ◌∙◌, arith}
+use Rattle.std.proofs.lemmas.List.{append-nil, append_assoc}
 use Rattle.jm_world.specs.Classes.{FoundMethod}
 use Rattle.jm_linked.specs.Methods.{methods_of}
 use Rattle.jm_linker.specs.Selectors.{found_methods}
 use Rattle.jm_linker.specs.declared.selectors.ClassMethod.{ClassMethod}
-use Rattle.jm_linker.proofs.MainLaws.{append_assoc, append_nil}
 use Rattle.jm_linker.proofs.MethodLaws.{map_more}
 use Rattle.jm_linker.proofs.SelectorLaws.{methods_to}
 use Rattle.jm_linker.proofs.selectors.push_methods.Goals as goal
 
 pub loop-method-init : goal.loop-method-init
-loop-method-init c = sym (append_nil (found_methods c.args.all.now.items))
+loop-method-init c = sym (append-nil (found_methods c.args.all.now.items))
 
 pub loop-method-preserved : goal.loop-method-preserved
 loop-method-preserved c =

@@ -1,9 +1,20 @@
 -- The fields of one more class.
-use Rattle.std.proofs.Common.{◌+◌, length, refl, sym, subst, arith}
+use Rattle.std.proofs.Common.{◌+◌, length, refl, sym, ap, subst, arith}
 use Rattle.std.proofs.lemmas.Option.{slice_get_read}
+use Rattle.std.specs.Prelude.{is_some}
+use Rattle.jm_values.proofs.Lists.{get_there}
+use Rattle.jm_linked.specs.Links.{class_numbered}
+use Rattle.jm_linker.proofs.AboveLaws.{not_none}
 use Rattle.jm_linker.specs.Inherited.{AreTheirFields}
 use Rattle.jm_linker.proofs.InheritedLaws.{fields_more}
 use Rattle.jm_linker.proofs.tables.fields_of.Goals as goal
+
+pub unreachable-requires : goal.unreachable-requires
+unreachable-requires c =
+    let number = c.loop-number.number in
+    let heir = get_there c.args.heirs.now number (omega arith) in
+    let class = c.requires.each number heir.0 heir.1 in
+    not_none (class_numbered c.args.classes.now.program.now number) (ap is_some class.numbered) (sym c.in_default.ensures)
 
 pub loop-number-preserved : goal.loop-number-preserved
 loop-number-preserved c =

@@ -1,12 +1,30 @@
--- The classes that were gathered are those of the program.
-use Rattle.std.proofs.Common.{sym, subst}
-use Rattle.std.specs.Prelude.{IfSome}
+-- The classes that were gathered are those of the program, and are ordered.
+use Rattle.std.proofs.Common.{List, length, sym, ap, subst, ◌∙◌}
+use Rattle.jm_tables.specs.Inheriting.{IsOrder}
+use Rattle.jm_tables.specs.declared.inheritance.Declared.{Declared}
 use Rattle.jm_world.specs.Classes.{height}
 use Rattle.jm_linker.specs.Inherited.{AreClasses}
+use Rattle.jm_linker.specs.Orders.{CanBeOrdered}
+use Rattle.jm_linker.proofs.OrderLaws.{can_be_ordered}
 use Rattle.jm_linker.proofs.tables.tables_of.Goals as goal
 
-pub tables_in-requires : goal.tables_in-requires
-tables_in-requires c =
+pub heirs_of-requires-clause-count : goal.heirs_of-requires-clause-count
+heirs_of-requires-clause-count c = c.in-Ok.ensures.1 ∙ c.height.ensures
+
+pub order_of-requires-clause-count : goal.order_of-requires-clause-count
+order_of-requires-clause-count c = c.in-Ok.ensures.1 ∙ c.height.ensures ∙ sym c.in_ok-heirs.ensures.length ∙ sym (ap length c.deref.ensures.value)
+
+pub order_of-requires-clause-ordered : goal.order_of-requires-clause-ordered
+order_of-requires-clause-ordered c =
+    subst CanBeOrdered (sym c.deref.ensures.value)
+    (can_be_ordered c.args.classes.now.program.now c.requires c.in_ok-heirs.heirs.items c.in_ok-heirs.ensures)
+
+pub tables_in-requires-clause-heirs : goal.tables_in-requires-clause-heirs
+tables_in-requires-clause-heirs c =
     let program = c.args.classes.now.program.now in
-    let are = subst (λ o. IfSome o (λ heirs. AreClasses program (height program) heirs.items)) c.in-Some.is c.in_ok-heirs.ensures in
-    subst (AreClasses program (height program)) (sym c.deref.ensures.value) are
+    subst (AreClasses program (height program)) (sym c.deref-3.ensures.value) c.in_ok-heirs.ensures
+
+pub tables_in-requires-clause-order : goal.tables_in-requires-clause-order
+tables_in-requires-clause-order c =
+    subst (IsOrder c.deref-3.result.now) (sym c.deref-4.ensures.value)
+    (subst (λ (heirs : List Declared). IsOrder heirs c.in_ok-order.order.items) (c.deref.ensures.value ∙ sym c.deref-3.ensures.value) c.in_ok-order.ensures)

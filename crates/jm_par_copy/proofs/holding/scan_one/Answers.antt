@@ -1,6 +1,6 @@
 use Rattle.std.proofs.Common.{◌≡◌, ◌∙◌, arith, refl, sym, subst, length, Some}
 use Rattle.std.proofs.lemmas.Option.{slice_get_read}
-use Rattle.jm_blocks.proofs.Placing.{get_set_same, get_set_other}
+use Rattle.jm_program.proofs.Sequences.{got_written, got_unwritten}
 use Rattle.jm_par_copy.specs.declared.piece.Piece.{Piece}
 use Rattle.jm_par_copy.specs.Holding.{held_objects, held_progress}
 use Rattle.jm_par_copy.specs.Working.{scan_progress}
@@ -38,12 +38,12 @@ returns-clause-holding g c base held k f =
 
 pub returns-clause-end : goal.returns-clause-end
 returns-clause-end g c x e =
-    let here : Some c.scan_piece.new.piece ≡ Some x = sym (get_set_same c.args.given.now.items c.args.number c.scan_piece.new.piece c.requires.there) ∙ e in
+    let here : Some c.scan_piece.new.piece ≡ Some x = sym (got_written c.args.given.now.items c.args.number c.scan_piece.new.piece c.requires.there) ∙ e in
     let same : c.scan_piece.new.piece ≡ x = cc in
     subst (λ (y : Piece). y.mark ≡ length y.block) same c.in_ok-scan_piece.ensures.end
 
 pub returns-clause-others : goal.returns-clause-others
-returns-clause-others g c i h = get_set_other c.args.given.now.items c.args.number i c.scan_piece.new.piece h
+returns-clause-others g c i h = got_unwritten c.args.given.now.items c.args.number i c.scan_piece.new.piece h
 
 pub returns-in_err-scan_piece-clause-others : goal.returns-in_err-scan_piece-clause-others
-returns-in_err-scan_piece-clause-others g c i h = get_set_other c.args.given.now.items c.args.number i c.scan_piece.new.piece h
+returns-in_err-scan_piece-clause-others g c i h = got_unwritten c.args.given.now.items c.args.number i c.scan_piece.new.piece h

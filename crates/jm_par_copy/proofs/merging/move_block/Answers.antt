@@ -1,14 +1,14 @@
 use Rattle.std.proofs.Common.{◌≡◌, ◌<◌, [], ◌∙◌, arith, ap, sym, subst, length}
 use Rattle.std.proofs.lemmas.List.{length-set}
 use Rattle.std.specs.Prelude.{slice_get}
+use Rattle.jm_program.proofs.Sequences.{got_written}
 use Rattle.jm_blocks.specs.Stores.{Blocks}
-use Rattle.jm_blocks.proofs.Placing.{get_set_same}
 use Rattle.jm_par_copy.specs.Merging.{IsLeft}
 use Rattle.jm_par_copy.proofs.Merged.{left_one, moved_block}
 use Rattle.jm_par_copy.proofs.merging.move_block.Goals as goal
 
 pub put-requires : goal.put-requires
-put-requires c = ap (λ (s : Blocks). slice_get s.lists c.args.number) c.take-first.ensures.left ∙ get_set_same c.args.to.now.lists c.args.number [] c.requires.opened
+put-requires c = ap (λ (s : Blocks). slice_get s.lists c.args.number) c.take-first.ensures.left ∙ got_written c.args.to.now.lists c.args.number [] c.requires.opened
 
 pub returns-clause-moved : goal.returns-clause-moved
 returns-clause-moved c =

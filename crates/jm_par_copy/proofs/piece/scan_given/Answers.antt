@@ -1,7 +1,6 @@
 use Rattle.std.proofs.Common.{◌≡◌, ◌+◌, ◌∙◌, ap, arith, refl, sym, subst, length, Some}
 use Rattle.std.specs.Prelude.{slice_get}
 use Rattle.jm_copy.specs.Marks.{at}
-use Rattle.jm_copy.proofs.Listed.{some_at}
 use Rattle.jm_copy.proofs.Making.{stays_refl, stays_more}
 use Rattle.jm_par_copy.specs.Pieces.{IsGiven, objects_of, place_in, progress_of}
 use Rattle.jm_par_copy.specs.Working.{both}
@@ -12,11 +11,12 @@ use Rattle.jm_par_copy.proofs.Pieces.{marked, object_here, given_starts, given_p
 use Rattle.jm_par_copy.proofs.Strides.{goes_on, goes_refl}
 use Rattle.jm_par_copy.proofs.Working.{wins_stay, wins_more}
 use Rattle.jm_par_copy.proofs.piece.scan_given.Goals as goal
+use Rattle.jm_values.proofs.Lists.{get_there}
 
 pub loop-number-init : goal.loop-number-init
 loop-number-init g c =
     let x = c.args.piece.now in
-    let a = some_at x.block x.mark c.requires.there in
+    let a = get_there x.block x.mark c.requires.there in
     record {
       working = λ base held k rest done w. w;
       there = (a.0, a.1, c.in-Some.ensures a.0 a.1);
@@ -39,7 +39,7 @@ forward_given-requires-clause-working g c =
     let w = c.requires.working in
     let x = c.args.piece.now in
     let y = c.loop-number.piece in
-    let a = some_at x.block x.mark c.requires.there in
+    let a = get_there x.block x.mark c.requires.there in
     let stores = c.args.from.stores.now in
     let roots = c.args.from.roots.now in
     let next = progress_of (marked x x.block (x.mark + 1)) w.4 in
@@ -52,7 +52,7 @@ returns-clause-working g c base held k rest done f =
     let x = c.args.piece.now in
     let y = c.loop-number.piece in
     let os = y.block in
-    let a = some_at x.block x.mark c.requires.there in
+    let a = get_there x.block x.mark c.requires.there in
     let b = c.loop-number.invariant.there in
     let stores = c.args.from.stores.now in
     let roots = c.args.from.roots.now in
@@ -108,7 +108,7 @@ pub returns-in_default-clause-working : goal.returns-in_default-clause-working
 returns-in_default-clause-working g c base held k rest done f =
     let x = c.args.piece.now in
     let os = x.block in
-    let a = some_at os x.mark c.requires.there in
+    let a = get_there os x.mark c.requires.there in
     let stores = c.args.from.stores.now in
     let roots = c.args.from.roots.now in
     let h = c.args.seat.now.hand in

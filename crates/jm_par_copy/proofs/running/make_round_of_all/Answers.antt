@@ -1,7 +1,7 @@
 use Rattle.std.proofs.Common.{rules, sym, subst, arith}
+use Rattle.jm_program.proofs.Sequences.{put_back}
 use Rattle.jm_par_copy.specs.Round.{AreReady, AreRound}
 use Rattle.jm_par_copy.proofs.Ends.{round_many}
-use Rattle.jm_par_copy.proofs.Listing.{put_back}
 use Rattle.jm_par_copy.proofs.running.make_round_of_all.Goals as goal
 
 pub make_rounds-requires-clause-ready : goal.make_rounds-requires-clause-ready

@@ -3,8 +3,8 @@ use Rattle.std.specs.Prelude.{slice_get}
 use Rattle.jm_heap.specs.Elements.{elements}
 use Rattle.jm_blocks.specs.Objects.{Object, object_of}
 use Rattle.jm_par_copy.proofs.Begun.{IsBeginning, all_copied, next_room, one_copied}
-use Rattle.jm_par_copy.proofs.Merged.{got_there}
 use Rattle.jm_par_copy.proofs.seating.copy_block.Goals as goal
+use Rattle.jm_values.proofs.Lists.{get_there}
 
 pub loop-index-init : goal.loop-index-init
 loop-index-init c =
@@ -18,7 +18,7 @@ pub object_at-requires : goal.object_at-requires
 object_at-requires c =
     let test = c.loop-index-test.true in
     let len = c.len-index-end.ensures.value in
-    got_there c.args.block.now c.loop-index.index (omega (arith, test, len))
+    get_there c.args.block.now c.loop-index.index (omega (arith, test, len))
 
 pub bump-requires-clause-room : goal.bump-requires-clause-room
 bump-requires-clause-room c =

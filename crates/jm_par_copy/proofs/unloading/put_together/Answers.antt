@@ -1,9 +1,9 @@
 use Rattle.std.proofs.Common.{◌≡◌, List, ◌∙◌, arith, sym, ap, subst}
+use Rattle.jm_program.proofs.Sequences.{put_back}
 use Rattle.jm_blocks.specs.Stores.{Blocks}
 use Rattle.jm_par_copy.specs.Ending.{AllLoads, IsLoaded, seats_in, stocks}
 use Rattle.jm_par_copy.specs.declared.copier.Copier.{Copier}
 use Rattle.jm_par_copy.proofs.Crew.{same_many}
-use Rattle.jm_par_copy.proofs.Listing.{put_back}
 use Rattle.jm_par_copy.proofs.Loads.{loaded_alone, none_stored}
 use Rattle.jm_par_copy.proofs.unloading.put_together.Goals as goal
 

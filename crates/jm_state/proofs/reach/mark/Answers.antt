@@ -1,6 +1,6 @@
 use Rattle.std.proofs.Common.{arith}
+use Rattle.jm_program.proofs.Sequences.{none_left}
 use Rattle.jm_values.proofs.Marking.{last_ready, first_frontier, next_frontier, frontier_is_reach, less_is_left}
-use Rattle.jm_values.proofs.Shapes.{length_zero}
 use Rattle.jm_state.proofs.reach.mark.Goals as goal
 
 pub loop-place-init : goal.loop-place-init
@@ -21,6 +21,6 @@ loop-place-smaller g c =
 
 pub returns : goal.returns
 returns g c =
-    let none = length_zero c.loop-place.pending.items (omega (arith, c.in_default.ensures.cases.0, c.loop-place.pending.ok.0)) in
+    let none = none_left c.loop-place.pending.items (omega (arith, c.in_default.ensures.cases.0, c.loop-place.pending.ok.0)) in
     let here = rw none at c.loop-place.invariant in
     frontier_is_reach here

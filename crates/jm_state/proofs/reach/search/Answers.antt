@@ -1,6 +1,6 @@
 use Rattle.std.proofs.Common.{◌≡◌, ◌≢◌, ◌∙◌, Some, sym, arith, subst}
+use Rattle.jm_program.proofs.Sequences.{none_left}
 use Rattle.jm_values.proofs.Marking.{last_ready, first_frontier, next_frontier, first_ahead, next_ahead, not_reached, less_is_left}
-use Rattle.jm_values.proofs.Shapes.{length_zero}
 use Rattle.jm_values.proofs.SoundContents.{name_is}
 use Rattle.jm_values.specs.Content.{Reached, name_of, serial_at}
 use Rattle.jm_state.proofs.reach.search.Goals as goal
@@ -38,6 +38,6 @@ loop-place-smaller g c =
 
 pub returns : goal.returns
 returns g c =
-    let none = length_zero c.loop-place.pending.items (omega (arith, c.in_default.ensures.cases.0, c.loop-place.pending.ok.0)) in
+    let none = none_left c.loop-place.pending.items (omega (arith, c.in_default.ensures.cases.0, c.loop-place.pending.ok.0)) in
     let here = rw none at c.loop-place.invariant in
     not_reached here.0 here.1

@@ -2,8 +2,8 @@
 use Rattle.std.proofs.Common.{◌≡◌, ◌<◌, ◌≤◌, ◌++◌, length, ap, arith}
 use Rattle.jm_trace.proofs.Operands.{all_left, one_more, no_more}
 use Rattle.jm_why.specs.Answers.{ended_thread}
-use Rattle.jm_why.proofs.Threads.{a_thread}
 use Rattle.jm_why.proofs.answer.write_ends.Goals as goal
+use Rattle.jm_world.proofs.RunsOn.{a_thread}
 
 pub loop-index-init : goal.loop-index-init
 loop-index-init g c = λ w m. ap (λ t. c.args.out.now.bytes.items ++ t) (all_left (ended_thread c.args.throws.now) w.threads)

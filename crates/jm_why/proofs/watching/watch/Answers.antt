@@ -3,8 +3,9 @@ use Rattle.std.proofs.Common.{◌≡◌, ◌∷◌, refl, sym, ap, subst}
 use Rattle.jm_world.specs.Run.{after}
 use Rattle.jm_machine.specs.View.{MatchesWorld}
 use Rattle.jm_why.specs.Kept.{kept_from}
-use Rattle.jm_why.proofs.Watched.{one_kept, one_made, none_kept, none_made}
+use Rattle.jm_why.proofs.Watched.{one_kept, one_made, none_kept}
 use Rattle.jm_why.proofs.watching.watch.Goals as goal
+use Rattle.jm_trace.proofs.Lines.{none_made}
 
 pub loop-made-init : goal.loop-made-init
 loop-made-init g c = λ w m. (w, m, ap (λ k. kept_from w k (g.S.EventsDue.due c.args.events.now w)) (sym c.nothing-kept.ensures), refl)

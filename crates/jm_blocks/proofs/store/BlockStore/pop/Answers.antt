@@ -3,9 +3,9 @@ use Rattle.std.specs.Prelude.{Some, slice_get, slice_set, get_or}
 use Rattle.std.proofs.Math.Seq.{take-length}
 use Rattle.std.proofs.lemmas.List.{length-set, length-take-le}
 use Rattle.std.proofs.lemmas.Option.{slice_get_within}
+use Rattle.jm_program.proofs.Sequences.{got_written}
 use Rattle.jm_blocks.specs.Objects.{Object}
 use Rattle.jm_blocks.specs.Stores.{Blocks, HasObject, IsLast, IsLastBlock, IsPopped, Bumped, store_cells}
-use Rattle.jm_blocks.proofs.Placing.{get_set_same}
 use Rattle.jm_blocks.proofs.Walking.{nothing_there}
 use Rattle.jm_blocks.proofs.Cutting.{cut_read, cut_cells, cut_bumped, popped_whole}
 use Rattle.jm_blocks.proofs.Sizes.{at_least_two, few_where_room}
@@ -57,7 +57,7 @@ empty_is : (c : goal.After-truncate-2) → c.len.result ≡ 0 → slice_get (sli
 empty_is c e =
     let many = ends c in
     let set = length-set c.truncate.new.self.items c.in-Some.last c.pop.new.self in
-    get_set_same c.truncate.new.self.items c.in-Some.last c.pop.new.self (omega (arith, many, set)) ∙ ap (λ x. Some x) (nothing c.pop.new.self (omega (arith, c.len.ensures.value, e)))
+    got_written c.truncate.new.self.items c.in-Some.last c.pop.new.self (omega (arith, many, set)) ∙ ap (λ x. Some x) (nothing c.pop.new.self (omega (arith, c.len.ensures.value, e)))
   where
     nothing : (os : List Object) → length os ≡ 0 → os ≡ []
     nothing [] h = refl

@@ -2,8 +2,9 @@ use Rattle.std.proofs.Common.{◌≡◌, ◌+◌, ◌<◌, ◌∷◌, ◌++◌, 
 use Rattle.std.specs.Prelude.{slice_index}
 use Rattle.std.proofs.lemmas.List.{length-append}
 use Rattle.jm_copy.specs.Numbers.{before, block_counts, list_length}
-use Rattle.jm_copy.proofs.Numbering.{before_more, get_map, starts_more}
+use Rattle.jm_copy.proofs.Numbering.{before_more, starts_more}
 use Rattle.jm_copy.proofs.starts.Starts.of.Goals as goal
+use Rattle.jm_values.proofs.Lists.{get_map}
 
 pub loop-number-preserved : goal.loop-number-preserved
 loop-number-preserved c =

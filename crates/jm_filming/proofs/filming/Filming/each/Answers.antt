@@ -1,8 +1,8 @@
 -- Each turn makes and writes an event.
 use Rattle.std.proofs.Common.{◌≤◌, length, refl, subst, arith}
+use Rattle.jm_program.proofs.Sequences.{got_past}
 use Rattle.jm_world.specs.Run.{after}
 use Rattle.jm_machine.specs.View.{MatchesWorld}
-use Rattle.jm_debug.proofs.Written.{past_end}
 use Rattle.jm_filming.proofs.EventsTold.{one_more_told, one_more_made, all_are_told, all_are_made}
 use Rattle.jm_filming.proofs.filming.Filming.each.Goals as goal
 
@@ -25,7 +25,7 @@ loop-index-preserved g c = λ w m.
 pub returns-in_default : goal.returns-in_default
 returns-in_default g c = λ w m.
     let so_far = c.loop-index.invariant w m in
-    let past = past_end c.args.events.now c.loop-index.index c.in_default.ensures in (
+    let past = got_past c.args.events.now c.loop-index.index c.in_default.ensures in (
       all_are_told so_far.0 _ c.args.events.now c.loop-index.index _ _ past so_far.2,
       subst (MatchesWorld c.loop-index.machine) (all_are_made so_far.0 _ c.args.events.now c.loop-index.index past so_far.3) so_far.1,
     )

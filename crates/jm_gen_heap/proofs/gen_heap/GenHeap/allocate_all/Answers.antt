@@ -5,13 +5,13 @@ use Rattle.jm_values.specs.Content.{Kept, MadeAll}
 use Rattle.jm_heap.specs.Cells.{class_size}
 use Rattle.jm_heap.specs.NewObject.{new_object}
 use Rattle.jm_heap.specs.Allocation.{AllPlaces, AreRefused, AreRefusedHere}
+use Rattle.jm_heap.proofs.SweepingLemmas.{kept_same}
 use Rattle.jm_nursery.specs.Nurseries.{nursery_at}
 use Rattle.jm_gen_heap.specs.Residents.{content_of}
 use Rattle.jm_gen_heap.specs.Invariant.{AreGenerations}
 use Rattle.jm_gen_heap.specs.Allocating.{HasSurvived, OldStay}
 use Rattle.jm_gen_heap.specs.Several.{AreAllPut, IsAlike}
 use Rattle.jm_gen_heap.proofs.Making.{sound}
-use Rattle.jm_gen_heap.proofs.Following.{kept_same}
 use Rattle.jm_gen_heap.proofs.Allocating.{limit_of}
 use Rattle.jm_gen_heap.proofs.Alike.{alike_content}
 use Rattle.jm_gen_heap.proofs.Several.{all_after, all_made, all_refused, lies_new, new_age, tried_before, tried_stays}

@@ -1,9 +1,9 @@
 use Rattle.std.proofs.Common.{sym, subst}
 use Rattle.jm_values.specs.Content.{AllResident, Kept}
 use Rattle.jm_gen_heap.specs.Residents.{content_of}
-use Rattle.jm_gen_heap.proofs.Following.{kept_same}
 use Rattle.jm_gen_heap.proofs.Making.{sound}
 use Rattle.jm_gen_heap.proofs.gen_heap.GenHeap.make_ready.Goals as goal
+use Rattle.jm_heap.proofs.SweepingLemmas.{kept_same}
 
 pub returns-then-is_within_quota-clause-kept : goal.returns-then-is_within_quota-clause-kept
 returns-then-is_within_quota-clause-kept g c =

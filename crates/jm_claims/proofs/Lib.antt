@@ -1,2 +1,0 @@
-pub mod AfterClaims
-pub mod Copiers

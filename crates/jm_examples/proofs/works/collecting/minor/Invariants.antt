@@ -1,5 +1,0 @@
-use Rattle.std.proofs.Common.{◌≡◌}
-use Rattle.jm_examples.proofs.works.collecting.minor.Given as goal
-
-abbrev pub invariant-loop : goal.invariant-loop
-invariant-loop l = (l.spaces.young.lane ≡ 1) × (l.spaces.tenured.lane ≡ 2)

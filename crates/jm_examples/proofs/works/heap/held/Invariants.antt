@@ -1,5 +1,0 @@
-use Rattle.jm_mutator.specs.Ready.{IsReady}
-use Rattle.jm_examples.proofs.works.heap.held.Given as goal
-
-abbrev pub invariant-loop : goal.invariant-loop
-invariant-loop g l = IsReady (g.H.Heap.content l.mutator.heap) l.mutator.registers

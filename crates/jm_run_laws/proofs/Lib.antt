@@ -1,0 +1,13 @@
+pub mod PlainStays
+pub mod LoadedCode
+pub mod Arguments
+pub mod CalledCode
+pub mod Law
+pub mod RowsKept
+pub mod EventsKept
+pub mod LocalsKept
+pub mod CodeKept
+pub mod BuiltInFields
+pub mod ObjectsKept
+pub mod ThrownKept
+pub mod StoresOwn
