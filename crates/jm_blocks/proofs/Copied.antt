@@ -5,15 +5,12 @@ use Rattle.jm_values.specs.declared.value.Value.{Value}
 use Rattle.jm_heap.specs.Packing.{Lists, list_of, with_list}
 use Rattle.jm_blocks.specs.Objects.{Object, aged}
 use Rattle.jm_blocks.specs.Cells.{object_cells, has_room}
-use Rattle.jm_blocks.specs.Entries.{Entry}
+use Rattle.jm_blocks.specs.Entries.{Entry, copied}
 use Rattle.jm_blocks.specs.Spelled.{spelled, entry_cells, entry_kind, entry_object, IsBlock}
 use Rattle.jm_blocks.proofs.Spelling.{entry_within, part_length, spelled_more}
 use Rattle.jm_blocks.proofs.Sizes.{block_more, entry_size}
 
--- its entry, and its values where they lie
-abbrev pub copied : Entry → ℕ → ℕ → Entry
-copied e age start = record { header = record { serial = e.header.serial; class = e.header.class; age = age }; start = start; length = e.length }
-
+-- its values where they lie
 abbrev pub values_of : Lists → Entry → List Value
 values_of l e = take e.length (drop e.start (list_of (entry_kind e) l))
 

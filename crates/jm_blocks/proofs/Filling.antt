@@ -6,8 +6,9 @@ use Rattle.jm_blocks.specs.Objects.{Object}
 use Rattle.jm_blocks.specs.Cells.{object_cells, sizes_of, has_room}
 use Rattle.jm_blocks.specs.Places.{place_at}
 use Rattle.jm_blocks.specs.Stores.{Blocks, Bumped, with_object, objects_of, last_of, list_has_room, last_has_room, next_place}
-use Rattle.jm_blocks.proofs.Sizes.{at_least_two, few_where_room}
+use Rattle.jm_blocks.proofs.Sizes.{few_where_room}
 use Rattle.jm_blocks.proofs.Placing.{bumped_last, bumped_new}
+use Rattle.jm_heap.proofs.SizeLaws.{at_least_two}
 
 -- the last of two or more is the last of the rest
 pub last_step : (b c : List Object) (bs : List (List Object)) → last_of (b ∷ c ∷ bs) ≡ last_of (c ∷ bs)

@@ -6,3 +6,7 @@ pub record Entry : Type 0 where
   pub header : Header
   pub start : ℕ
   pub length : ℕ
+
+-- the entry of a copy, of that age, whose values begin elsewhere
+abbrev pub copied : Entry → ℕ → ℕ → Entry
+copied e age start = record { header = record { serial = e.header.serial; class = e.header.class; age = age }; start = start; length = e.length }

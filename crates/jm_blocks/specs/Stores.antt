@@ -57,6 +57,10 @@ pub record IsAfter (s : Blocks) (p next : ℕ) : Type 0 where
   pub there : HasObject s next
   pub least : (q : ℕ) → HasObject s q → p < q → next ≤ q
 
+-- the object at a place is the last one of its block
+abbrev pub EndsBlock : Blocks → ℕ → Type 0
+EndsBlock s p = (os : List Object) → slice_get s.lists (block_of p) ≡ Some os → length os ≤ index_of p + 1
+
 -- the blocks with an object more: in the last one, or in one of its own where it has no room there
 abbrev pub with_object : List (List Object) → Object → List (List Object)
 with_object [] o = (o ∷ []) ∷ []

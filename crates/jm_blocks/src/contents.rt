@@ -10,6 +10,9 @@ ghost use Rattle.jm_heap.specs.Elements.{elements, element_kind};
 ghost use Rattle.jm_heap.specs.Packing.{Fits, kind_of};
 ghost use Rattle.jm_heap.specs.declared.storage.Storage.TheVariants as kind;
 ghost use Rattle.jm_blocks.specs.Cells.{object_cells, sizes_of, block_cells, has_room, HoldsItsCells};
+ghost use Rattle.jm_blocks.specs.Entries.{copied};
+ghost use Rattle.std.specs.Prelude.{vec_len};
+ghost use Rattle.std.specs.Vec.{vec_capacity};
 
 use crate::entry::Entry;
 use crate::header::Header;
@@ -27,18 +30,30 @@ const CELLS: u64 = 512;
 const SHARED: u64 = 256;
 
 /// Room is made at once for so many objects that are like the first one, at most: others may be larger.
-const LIKE: u64 = 64;
+const LIKE: u64 = 128;
 
 // How many objects of so many cells a block has room made for at once.
 fn room_for(cells: u64) -> usize
     requires { 2 ≤ cells }
-    ensures { result ≤ 64 }
+    ensures { result ≤ 128 }
 {
     let objects = CELLS / cells;
     if objects > LIKE {
         return LIKE as usize;
     }
     objects as usize
+}
+
+// Puts an entry at the end, as that of a copy: it is copied whole, and two of its parts are changed where it lies then.
+#[inline(always)]
+fn push_entry(entries: &mut Vec<Entry>, entry: &Entry, age: u8, start: u32)
+    requires { vec_len entries.old < vec_capacity entries.old }
+    ensures { entries.new.items ≡ entries.old.items ++ copied entry.now age start ∷ [] }
+{
+    let count = entries.len();
+    entries.push_reserved(*entry);
+    let last = &mut entries[count];
+    last.become_copy(age, start);
 }
 
 /// The objects of a block: their entries, and their values packed.
@@ -217,11 +232,11 @@ impl Contents {
             .values
             .push_from(entry.kind(), &from.values, entry.start(), entry.length())?;
         self.cells += entry.cells();
-        self.entries.push_reserved(entry.copied(age, start as u32));
+        push_entry(&mut self.entries, entry, age, start as u32);
         Ok(())
     }
 
-    /// Makes room for objects like this one of some block, as many as fit or 64. A growth that is refused
+    /// Makes room for objects like this one of some block, as many as fit or 128. A growth that is refused
     /// changes nothing either.
     pub(crate) fn reserve_like(&mut self, from: &Contents, index: usize) -> Result<(), AllocError>
         requires { (o : Object) × (slice_get from.now index ≡ Some o) }

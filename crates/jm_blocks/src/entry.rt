@@ -3,7 +3,7 @@
 ghost use Rattle.std.proofs.Common.{ap, sym};
 ghost use Rattle.std.specs.Prelude.{◌≡◌, ◌<◌, ◌^◌};
 ghost use Rattle.jm_heap.specs.Packing.{kind_of};
-ghost use Rattle.jm_blocks.specs.Entries.{Entry};
+ghost use Rattle.jm_blocks.specs.Entries.{Entry, copied};
 ghost use Rattle.jm_blocks.specs.Spelled.{entry_cells};
 
 use crate::header::Header;
@@ -61,15 +61,13 @@ impl Entry {
         }
     }
 
-    /// The entry of a copy of that age, whose values begin elsewhere.
+    /// Makes it the entry of a copy of that age, whose values begin elsewhere.
     #[inline(always)]
-    pub(crate) fn copied(&self, age: u8, start: u32) -> Entry
-        ensures { result ≡ record { header = record { serial = self.now.header.serial; class = self.now.header.class; age = age }; start = start; length = self.now.length } }
+    pub(crate) fn become_copy(&mut self, age: u8, start: u32)
+        ensures { self.new ≡ copied self.old age start }
     {
-        let mut copy = *self;
-        copy.age = age;
-        copy.start = start;
-        copy
+        self.age = age;
+        self.start = start;
     }
 
     /// How many collections the object has survived.

@@ -1,17 +1,17 @@
 // The values of a block, packed.
 
-ghost use Rattle.std.specs.Prelude.{pos, ◌≡◌, ◌+◌, ◌<◌, ◌≤◌, ◌^◌, ◌++◌, IfOk, OnOk, OnErr, IfSome, Some};
+ghost use Rattle.std.specs.Prelude.{pos, ◌≡◌, ◌+◌, ◌<◌, ◌≤◌, ◌^◌, ◌++◌, ◌∷◌, [], IfOk, OnOk, OnErr, IfSome, Some};
 ghost use Rattle.std.specs.Prelude.{take, drop, length, map, replicate, slice_get, slice_set};
 ghost use Rattle.jm_values.specs.Objects.{default_of};
 ghost use Rattle.jm_values.specs.declared.value.Value.{Value};
-ghost use Rattle.jm_values.specs.declared.value.Value.TheVariants.{Int, Long, Null};
+ghost use Rattle.jm_values.specs.declared.value.Value.TheVariants.{Int, Long, Null, Ref};
 ghost use Rattle.jm_heap.specs.Packing.{char_value, Fits, list_of, no_lists, with_list, reference};
 ghost use Rattle.jm_heap.specs.Elements.{elements, element_kind, with_elements};
 ghost use Rattle.jm_heap.specs.declared.storage.Storage.TheVariants as kind;
 
 use jm_heap::{Elements, Lies, Reference, Storage};
 use jm_program::OperandType;
-use jm_values::Value;
+use jm_values::{Place, Value};
 use std::alloc::{AllocError, Global};
 use std::marker::Model;
 
@@ -30,13 +30,30 @@ fn push_copies<T: Copy>(items: &mut Vec<T>, item: T, count: usize) -> Result<(),
     Ok(())
 }
 
-// Items at the end; a few of them one by one, which takes less than a call that copies them. A growth
-// that is refused changes nothing.
+// Two items at the end. A growth that is refused changes nothing.
+#[inline(always)]
+fn append_two<T: Copy>(items: &mut Vec<T>, first: T, second: T) -> Result<(), AllocError>
+    ensures ok { OnOk result (items.new.items ≡ items.old.items ++ first ∷ second ∷ []) }
+    ensures err { OnErr result (items.new.items ≡ items.old.items) }
+{
+    if items.capacity() - items.len() < 2 {
+        items.reserve(2)?;
+    }
+    items.push_reserved(first);
+    items.push_reserved(second);
+    Ok(())
+}
+
+// Items at the end; a few of them one by one, which takes less than a call that copies them, and two without a loop.
+// A growth that is refused changes nothing.
 #[inline(always)]
 fn append<T: Copy>(items: &mut Vec<T>, more: &[T]) -> Result<(), AllocError>
     ensures ok { OnOk result (items.new.items ≡ items.old.items ++ more.now) }
     ensures err { OnErr result (items.new.items ≡ items.old.items) }
 {
+    if let [first, second] = more {
+        return append_two(items, *first, *second);
+    }
     if more.len() > FEW {
         return items.extend_from_slice(more);
     }
@@ -261,13 +278,29 @@ impl Packed {
         }
     }
 
-    /// Changes one value.
+    // Changes one value to a reference, which lies in one of two lists.
+    #[inline(always)]
+    fn set_reference(&mut self, kind: Storage, at: usize, place: Place)
+        requires there { at < length (list_of kind self.old) }
+        requires fits { Fits kind (Ref place) }
+        ensures { self.new ≡ with_list kind (slice_set (list_of kind self.old) at (Ref place)) self.old }
+    {
+        match kind {
+            Storage::Fields => set_in(&mut self.fields, at, Value::Ref(place)),
+            _ => set_in(&mut self.references, at, Value::Ref(place)),
+        }
+    }
+
+    /// Changes one value. What is known to be a reference, as it is to a collector, is not looked for in all lists.
     #[inline(always)]
     pub(crate) fn set(&mut self, kind: Storage, at: usize, value: Value)
         requires there { at < length (list_of kind self.old) }
         requires fits { Fits kind value }
         ensures { self.new ≡ with_list kind (slice_set (list_of kind self.old) at value) self.old }
     {
+        if let Value::Ref(place) = value {
+            return self.set_reference(kind, at, place);
+        }
         match kind {
             Storage::Fields => set_in(&mut self.fields, at, value),
             Storage::References => set_in(&mut self.references, at, value),

@@ -8,7 +8,7 @@ ghost use Rattle.jm_heap.specs.Elements.{elements, element_kind};
 ghost use Rattle.jm_heap.specs.Packing.{Fits, kind_of};
 ghost use Rattle.jm_heap.specs.declared.storage.Storage.TheVariants as kind;
 ghost use Rattle.jm_blocks.specs.Places.{place_at, lane_of};
-ghost use Rattle.jm_blocks.specs.Stores.{Blocks, objects_in, HasObject, HasValue, Bumped, IsSet, IsPopped, IsAfter, IsFirst, IsFirstBlock, IsLast, IsLastBlock, IsEmpty, NoneFrom};
+ghost use Rattle.jm_blocks.specs.Stores.{Blocks, objects_in, HasObject, HasValue, Bumped, IsSet, IsPopped, IsAfter, IsFirst, IsFirstBlock, IsLast, IsLastBlock, IsEmpty, EndsBlock, NoneFrom};
 ghost use Rattle.jm_blocks.specs.Stores.{last_has_room, store_with, next_place, store_cells};
 
 use crate::block::Block;
@@ -139,10 +139,19 @@ impl BlockStore {
     pub fn find(&self, place: Place) -> Option<(&Block, usize)>
         ensures { MatchOption result (objects_in self.now place ≡ None) (λ r. (o : Object) × (objects_in self.now place ≡ Some o) × (slice_get r.0.now r.1 ≡ Some o)) }
     {
-        let position = Position::of(place);
-        if position.lane != self.lane {
+        if Position::of(place).lane != self.lane {
             return None;
         }
+        self.find_here(place)
+    }
+
+    /// The same at a place of the store's lane.
+    #[inline]
+    pub fn find_here(&self, place: Place) -> Option<(&Block, usize)>
+        requires { lane_of place ≡ self.now.lane }
+        ensures { MatchOption result (objects_in self.now place ≡ None) (λ r. (o : Object) × (objects_in self.now place ≡ Some o) × (slice_get r.0.now r.1 ≡ Some o)) }
+    {
+        let position = Position::of(place);
         if position.block >= self.blocks.len() {
             return None;
         }
@@ -429,18 +438,30 @@ impl BlockStore {
         Some(self.place_in(block, objects - 1))
     }
 
+    /// The place of the object after the one at a place in its block, if there is one.
+    #[inline(always)]
+    pub fn beside(&self, place: Place) -> Option<Place>
+        requires { HasObject self.now place }
+        ensures { MatchOption result (EndsBlock self.now place) (λ p. IsAfter self.now place p) }
+    {
+        let position = Position::of(place);
+        let block = &self.blocks[position.block];
+        if position.index + 1 < block.len() {
+            return Some(Place::new(place.number() + 1));
+        }
+        None
+    }
+
     /// The place of the first object above the one at a place.
     #[inline]
     pub fn after(&self, place: Place) -> Option<Place>
         requires { HasObject self.now place }
         ensures { MatchOption result (IsLast self.now place) (λ p. IsAfter self.now place p) }
     {
-        let position = Position::of(place);
-        let block = &self.blocks[position.block];
-        if position.index + 1 < block.len() {
-            return Some(self.place_in(position.block, position.index + 1));
+        if let Some(next) = self.beside(place) {
+            return Some(next);
         }
-        let Some(later) = self.first_block(position.block + 1) else {
+        let Some(later) = self.first_block(Position::of(place).block + 1) else {
             return None;
         };
         Some(self.place_in(later, 0))

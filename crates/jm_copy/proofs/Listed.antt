@@ -1,12 +1,11 @@
 -- Elements of lists by their numbers, and references among values.
-use Rattle.std.proofs.Common.{◌≡◌, ℕ, zero, suc, ◌<◌, List, [], ◌∷◌, Some, refl, sym, ap, ◌∙◌, inl, inr, length, arith}
+use Rattle.std.proofs.Common.{◌≡◌, ℕ, zero, suc, List, [], ◌∷◌, Some, refl, sym, ap, ◌∙◌, inl, inr, length, arith}
 use Rattle.std.specs.Prelude.{slice_get, map}
 use Rattle.jm_values.specs.Shape.{Among}
 use Rattle.jm_values.specs.Rename.{refs, stack_shape}
 use Rattle.jm_values.specs.declared.value.Value.{Value}
 use Rattle.jm_values.specs.declared.value.Value.TheVariants.{Int, Long, Null, Ref}
-use Rattle.jm_values.proofs.Among.{among_left, among_right, among_read, index_among}
-use Rattle.jm_values.proofs.Lists.{get_there}
+use Rattle.jm_values.proofs.Among.{among_left, among_right}
 
 pub mapped_at : {X Y : Type 0} (f : X → Y) (xs : List X) (i : ℕ) (y : Y) → slice_get (map f xs) i ≡ Some y → (x : X) × (slice_get xs i ≡ Some x) × (y ≡ f x)
 mapped_at f [] i y e = cc

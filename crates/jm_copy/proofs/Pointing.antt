@@ -12,7 +12,7 @@ use Rattle.jm_blocks.specs.Places.{lane_of}
 use Rattle.jm_blocks.specs.Stores.{Blocks, objects_in, HasObject}
 use Rattle.jm_values.specs.declared.value.Value.{Value}
 use Rattle.jm_blocks.proofs.Placing.{lies_in}
-use Rattle.jm_copy.specs.Copies.{is_above, made, HasMade, IsMark, Stays}
+use Rattle.jm_copy.specs.Copies.{is_above, made, IsMark, Stays}
 use Rattle.jm_copy.specs.Marks.{passed, IsPassed, IsNext, IsNextOf, OthersStay}
 use Rattle.jm_copy.specs.Pointing.{names_lane, points_to, IsListed, ListsAbove}
 use Rattle.jm_copy.specs.declared.copies.Copies.{Copies}

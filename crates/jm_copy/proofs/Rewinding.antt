@@ -2,9 +2,9 @@
 use Rattle.std.proofs.Common.{◌≡◌, ℕ, ◌<◌, ◌≤◌, Option, Some, None, true, false, refl, sym, ap, ◌∙◌, length, arith}
 use Rattle.jm_blocks.specs.Objects.{Object}
 use Rattle.jm_blocks.specs.Stores.{Blocks, objects_in, IsLast, IsPopped, Bumped, store_cells}
-use Rattle.jm_blocks.proofs.Sizes.{at_least_two}
 use Rattle.jm_copy.specs.Copies.{is_above, IsMark}
 use Rattle.jm_copy.proofs.Making.{is_over, not_above}
+use Rattle.jm_heap.proofs.SizeLaws.{at_least_two}
 
 -- a mark below it is a mark without it, and what is not above the mark is as it was
 pub popped_mark : (s t : Blocks) (o : Object) (p : ℕ) (mark : Option ℕ) → Bumped t s p o → is_above mark p ≡ true → IsMark s mark → IsMark t mark

@@ -1,9 +1,10 @@
 -- What is passed over in the scan of an object: values that are no references.
 use Rattle.std.proofs.Common.{◌≡◌, ◌≢◌, ◌⊎◌, ℕ, zero, suc, ◌+◌, ◌-◌, ◌<◌, ◌≤◌, List, Option, Some, None, Bool, true, false, refl, sym, ap, ◌∙◌, subst, inl, inr, length, take, arith}
-use Rattle.std.specs.Prelude.{slice_get, slice_set, ◌||◌}
+use Rattle.std.specs.Prelude.{slice_get, slice_set, ◌||◌, IfSome}
 use Rattle.std.proofs.lemmas.Bool.{cases_lt}
 use Rattle.std.proofs.lemmas.List.{length-set}
 use Rattle.std.proofs.lemmas.Option.{slice_get_within}
+use Rattle.jm_program.proofs.Sequences.{got_unwritten}
 use Rattle.jm_heap.specs.Elements.{is_plain}
 use Rattle.jm_heap.specs.Packing.{Fits, kind_of}
 use Rattle.jm_heap.specs.declared.storage.Storage.{Storage as Kind}
@@ -17,7 +18,7 @@ use Rattle.jm_copy.specs.Condemned.{objects_at}
 use Rattle.jm_copy.specs.Copies.{IsCopying, made}
 use Rattle.jm_copy.specs.Copying.{ForwardedValue, Moves, Progress}
 use Rattle.jm_copy.specs.Marks.{at, ForwardsValue}
-use Rattle.jm_copy.specs.Naming.{NoneNamed, NamesNext}
+use Rattle.jm_copy.specs.Naming.{IsEnded, NoneNamed, NamesNext}
 use Rattle.jm_copy.specs.Pointing.{names_lane, points_to}
 use Rattle.jm_copy.specs.Words.{moved}
 use Rattle.jm_copy.specs.declared.copies.Copies.{Copies}
@@ -48,10 +49,22 @@ none_more vs k j v none e other i p from below h = by (cases_lt i j)
         let same : v ≡ Ref p = cc in
         other p same
 
+-- or one value less from which on there is none
+pub none_less : (vs : List Value) (k j : ℕ) (v : Value) → NoneNamed vs (k + 1) j → slice_get vs k ≡ Some v → ((p : ℕ) → v ≢ Ref p) → NoneNamed vs k j
+none_less vs k j v none e other i p from below h = by (cases_lt k i)
+  where
+    by : (k < i) ⊎ (i ≤ k) → ⊥
+    by (inl lt) = none i p (omega (arith, lt)) below h
+    by (inr le) =
+        let at : k ≡ i = omega (arith, from, le) in
+        let both : Some v ≡ Some (Ref p) = sym e ∙ ap (slice_get vs) at ∙ h in
+        let same : v ≡ Ref p = cc in
+        other p same
+
 -- how much is left from one reference on
 pub rest : Option Named → ℕ
 rest None = 0
-rest (Some r) = suc (r.count - r.number)
+rest (Some r) = suc (r.end - r.number)
 
 step : (k i : ℕ) → k ≤ suc i → (suc i ≡ k) ⊎ (k ≤ i)
 step k i h = by (cases_lt i k)
@@ -114,8 +127,18 @@ pub record UpTo (stores : List Blocks) (roots : List ℕ) (b c : Copies) (p lane
 
 pub record IsHere (a : Object) (r : Named) : Type 0 where
   pub here : slice_get a.values r.number ≡ Some (Ref r.place)
-  pub count : r.count ≡ length a.values
-  pub fits : (p : ℕ) → Fits (kind_of a.class) (Ref p)
+  pub ended : IsEnded a.values (kind_of a.class) r.number r.end
+
+-- one value changed, the references end where they did
+pub ended_set : (vs : List Value) (kind : Kind) (k end : ℕ) (v : Value) → IsEnded vs kind k end → IsEnded (slice_set vs k v) kind k end
+ended_set vs kind k end v e =
+    let many = length-set vs k v in
+    record {
+      inside = e.inside;
+      within = omega (arith, many, e.within);
+      none = λ i p from below h. e.none i p from (omega (arith, many, below)) (sym (got_unwritten vs k i v (let more = e.inside in omega (arith, from, more))) ∙ h);
+      fits = e.fits;
+    }
 
 -- as far as the next reference, or to its end
 abbrev pub Reaches : List Blocks → List ℕ → Copies → Copies → ℕ → ℕ → Bool → Object → Option Named → Type 0
@@ -134,7 +157,7 @@ module _ (stores : List Blocks) (roots : List ℕ) (b c : Copies) (p lane : ℕ)
           copying = λ done h. skipped_copying stores roots c done p a there k r.number named.from_on (omega (arith, inside)) named.before (u.copying done h);
           points_is = u.points_is ∙ skipped_points lane a.values k r.number named.from_on (omega (arith, inside)) named.before;
         },
-        record { here = named.here; count = named.count; fits = named.fits },
+        record { here = named.here; ended = named.ended },
       )
 
 -- a reference more is forwarded
@@ -148,11 +171,9 @@ reaches_more stores roots b c d p lane points names a v r next u there named for
     }) after
 
 -- and less is left
-pub rest_less : (a : Object) (r : Named) (v : Value) (next : Option Named) → IsHere a r → NamesNext (with_value a r.number v) (r.number + 1) next → rest next < rest (Some r)
+pub rest_less : (a : Object) (r : Named) (v : Value) (next : Option Named) → IsHere a r → NamesNext (with_value a r.number v) (r.number + 1) next → IfSome next (λ q. q.end ≡ r.end) → rest next < rest (Some r)
 unfolding rest
-rest_less a r v None h n = let less : 0 < suc (r.count - r.number) = omega arith in less
-rest_less a r v (Some q) h n =
-    let inside = slice_get_within (slice_set a.values r.number v) q.number (Ref q.place) n.here in
-    let many = length-set a.values r.number v in
-    let less : suc (q.count - q.number) < suc (r.count - r.number) = omega (arith, inside, many, n.from_on, n.count, h.count) in
+rest_less a r v None h n e = let less : 0 < suc (r.end - r.number) = omega arith in less
+rest_less a r v (Some q) h n e =
+    let less : suc (q.end - q.number) < suc (r.end - r.number) = omega (arith, n.from_on, n.ended.inside, h.ended.inside, e) in
     less

@@ -29,6 +29,10 @@ first_marks c = record { young = None; tenured = c.kept }
 abbrev pub passed : ℕ → Marks → ℕ → Marks
 passed lane m s = if nat_eq (lane_of s) lane then record { young = Some s; tenured = m.tenured } else record { young = m.young; tenured = Some s }
 
+-- the mark of the store that an object is in
+abbrev pub mark_of : ℕ → Marks → ℕ → Option ℕ
+mark_of lane m n = if nat_eq (lane_of n) lane then m.young else m.tenured
+
 -- the marks are places of objects, and the old one is not below the kept
 pub record AreMarks (c : Copies) (m : Marks) : Type 0 where
   pub young : IsMark c.young m.young

@@ -11,13 +11,19 @@ use Rattle.jm_copy.specs.declared.copies.Named.{Named}
 abbrev pub NoneNamed : List Value → ℕ → ℕ → Type 0
 NoneNamed vs k j = (i p : ℕ) → k ≤ i → i < j → slice_get vs i ≢ Some (Ref p)
 
--- the first one from a number on, which lies as a reference does, and how many values there are
+-- behind one value there may be more references, below a number that ends them; they lie as a reference does
+pub record IsEnded (vs : List Value) (kind : Kind) (k end : ℕ) : Type 0 where
+  pub inside : k < end
+  pub within : end ≤ length vs
+  pub none : NoneNamed vs end (length vs)
+  pub fits : (p : ℕ) → Fits kind (Ref p)
+
+-- the first one from a number on
 pub record IsNamed (vs : List Value) (kind : Kind) (k : ℕ) (r : Named) : Type 0 where
   pub from_on : k ≤ r.number
   pub here : slice_get vs r.number ≡ Some (Ref r.place)
   pub before : NoneNamed vs k r.number
-  pub count : r.count ≡ length vs
-  pub fits : (p : ℕ) → Fits kind (Ref p)
+  pub ended : IsEnded vs kind r.number r.end
 
 abbrev pub NamesFirst : List Value → Kind → ℕ → Option Named → Type 0
 NamesFirst vs kind k None = NoneNamed vs k (length vs)

@@ -1,15 +1,15 @@
 // What a collection has made so far.
 
-ghost use Rattle.std.specs.Prelude.{◌≡◌, ◌≢◌, ◌+◌, ◌<◌, ◌^◌, ℕ, [], length, slice_get, Some, MatchOption, IfOk, OnErr, nat_eq};
+ghost use Rattle.std.specs.Prelude.{◌≡◌, ◌≢◌, ◌+◌, ◌<◌, ◌≤◌, ◌^◌, ℕ, [], length, slice_get, Some, MatchOption, IfOk, IfSome, OnErr, nat_eq};
 ghost use Rattle.jm_values.specs.Rename.{stack_shape};
 ghost use Rattle.jm_values.specs.declared.value.Value.TheVariants.{Ref};
 ghost use Rattle.jm_heap.specs.Elements.{elements, element_kind};
 ghost use Rattle.jm_heap.specs.Packing.{Fits, kind_of};
 ghost use Rattle.jm_blocks.specs.Objects.{Object, aged, with_value};
 ghost use Rattle.jm_blocks.specs.Places.{lane_of};
-ghost use Rattle.jm_blocks.specs.Stores.{objects_in};
+ghost use Rattle.jm_blocks.specs.Stores.{objects_in, EndsBlock, IsAfter};
 ghost use Rattle.jm_copy.specs.Copying.{IsReplaced, raw_copy};
-ghost use Rattle.jm_copy.specs.Naming.{NamesFirst, NamesNext};
+ghost use Rattle.jm_copy.specs.Naming.{IsEnded, NamesFirst, NamesNext, NoneNamed};
 ghost use Rattle.jm_copy.specs.Copies.{HasMade, IsPut, IsPutIn, Stays, made, store_of};
 
 use crate::words::Words;
@@ -46,12 +46,13 @@ fn push(
     Ok(place)
 }
 
-/// A reference among the values of an object: which value it is, what it names, and how many values there are.
+/// A reference among the values of an object: which value it is, what it names, and the end of the references, from which
+/// on no value is one.
 #[derive(Clone, Copy)]
 pub struct Named {
     pub number: usize,
     pub place: Place,
-    pub count: usize,
+    pub end: usize,
 }
 
 // The place that a value names, if it is a reference.
@@ -67,22 +68,34 @@ fn named_by(value: Value) -> Option<Place>
     }
 }
 
-// The first reference among values from a number on.
+// The end of the references among values: behind the last one.
 #[inline(always)]
-fn named_from(values: Elements<'_>, first: usize) -> Option<Named>
-    ensures { NamesFirst (elements values.entry) (element_kind values.entry) first result }
+fn end_of(values: Elements<'_>) -> usize
+    ensures within { result ≤ length (elements values.entry) }
+    ensures none { NoneNamed (elements values.entry) result (length (elements values.entry)) }
 {
-    if values.is_plain() {
-        return None;
+    let mut end = values.len();
+    while end > 0 {
+        if let Some(_place) = named_by(values.get(end - 1)) {
+            return end;
+        }
+        end -= 1;
     }
-    let count = values.len();
-    for number in first..count {
+    end
+}
+
+// The first reference among values from a number on, where their end is known.
+#[inline(always)]
+fn named_below(values: Elements<'_>, first: usize, end: usize) -> Option<Named>
+    requires within { end ≤ length (elements values) }
+    requires none { NoneNamed (elements values) end (length (elements values)) }
+    requires fits { (p : ℕ) → Fits (element_kind values) (Ref p) }
+    ensures names { NamesFirst (elements values.entry) (element_kind values.entry) first result }
+    ensures end { IfSome result (λ r. r.end ≡ end) }
+{
+    for number in first..end {
         if let Some(place) = named_by(values.get(number)) {
-            return Some(Named {
-                number,
-                place,
-                count,
-            });
+            return Some(Named { number, place, end });
         }
     }
     None
@@ -147,28 +160,43 @@ impl Copies {
         }
     }
 
-    /// The first reference among the values of a new object from a number on.
+    /// The new object that lies after one in its block, if there is one.
     #[inline(always)]
-    pub fn named_from(&self, place: Place, first: usize) -> Option<Named>
+    pub fn beside(&self, place: Place) -> Option<Place>
         requires { HasMade self.now place }
-        ensures { (a : Object) → made self.now place ≡ Some a → NamesNext a first result }
+        ensures { MatchOption result (EndsBlock (store_of self.now place) place) (λ p. IsAfter (store_of self.now place) place p) }
     {
-        let (_, values) = self.store(place).object_at(place);
-        named_from(values, first)
+        self.store(place).beside(place)
     }
 
-    /// The first reference of a new object, of so many values, after one: where that is its last value nothing is
-    /// looked up.
+    /// The first reference among the values of a new object.
     #[inline(always)]
-    pub fn named_after(&self, place: Place, number: usize, count: usize) -> Option<Named>
-        requires { (a : Object) × (made self.now place ≡ Some a) × (number < length a.values) × (count ≡ length a.values) }
-        ensures { (a : Object) → made self.now place ≡ Some a → NamesNext a (number + 1) result }
+    pub fn named_first(&self, place: Place) -> Option<Named>
+        requires { HasMade self.now place }
+        ensures { (a : Object) → made self.now place ≡ Some a → NamesNext a 0 result }
     {
-        let first = number + 1;
-        if first >= count {
+        let (_, values) = self.store(place).object_at(place);
+        if values.is_plain() {
             return None;
         }
-        self.named_from(place, first)
+        let end = end_of(values);
+        named_below(values, 0, end)
+    }
+
+    /// The first reference of a new object after one, where the end of its references is known: where that comes next
+    /// nothing is looked up.
+    #[inline(always)]
+    pub fn named_after(&self, place: Place, number: usize, end: usize) -> Option<Named>
+        requires { (a : Object) × (made self.now place ≡ Some a) × IsEnded a.values (kind_of a.class) number end }
+        ensures names { (a : Object) → made self.now place ≡ Some a → NamesNext a (number + 1) result }
+        ensures end { IfSome result (λ r. r.end ≡ end) }
+    {
+        let first = number + 1;
+        if first >= end {
+            return None;
+        }
+        let (_, values) = self.store(place).object_at(place);
+        named_below(values, first, end)
     }
 
     /// Changes one value of a new object.

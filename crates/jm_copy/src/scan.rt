@@ -6,7 +6,7 @@ ghost use Rattle.jm_blocks.specs.Places.{lane_of};
 ghost use Rattle.jm_copy.specs.Copying.{IsScanned, Progress};
 ghost use Rattle.jm_copy.specs.Copies.{Extends, HasMade, IsCopying, IsMark, IsSource, made};
 ghost use Rattle.jm_copy.specs.Pointing.{ListsAbove, points_to};
-ghost use Rattle.jm_copy.specs.Marks.{OthersStay, ScansObject, at, passed, progress, first_marks, AllPassed, AreMarks, IsNext, IsNextOf, IsPassed};
+ghost use Rattle.jm_copy.specs.Marks.{OthersStay, ScansObject, at, mark_of, passed, progress, first_marks, AllPassed, AreMarks, IsNext, IsNextOf, IsPassed};
 
 use crate::copies::Copies;
 use crate::forward::forward_named;
@@ -45,22 +45,43 @@ pub fn next(to: &Copies, marks: &Marks) -> Option<Place>
     next_of(&to.tenured, &marks.tenured)
 }
 
+// A new object that is not scanned, after one was: the next one of its block, where there is one.
+#[inline(always)]
+fn next_after(to: &Copies, marks: &Marks, place: Place) -> Option<Place>
+    requires marks { AreMarks to.now marks.now }
+    requires apart { to.now.tenured.lane ≢ to.now.young.lane }
+    requires there { HasMade to.now place }
+    requires passed { mark_of to.now.young.lane marks.now place ≡ Some place }
+    ensures { MatchOption result (AllPassed to.now marks.now) (λ p. IsNext to.now marks.now p) }
+{
+    if let Some(beside) = to.beside(place) {
+        return Some(beside);
+    }
+    next(to, marks)
+}
+
+// Changes the marks where they lie, after an object was scanned.
+#[inline(always)]
+fn pass_on(to: &Copies, marks: &mut Marks, place: Place)
+    ensures value { marks.new ≡ passed to.now.young.lane marks.old place }
+    ensures below { place < 2 ^ 63 }
+{
+    let _number = place.number();
+    if Position::of(place).lane == to.young.lane() {
+        marks.young = Some(place);
+        return;
+    }
+    marks.tenured = Some(place);
+}
+
 /// The marks after an object was scanned.
 pub fn pass(to: &Copies, marks: &Marks, place: Place) -> Marks
     ensures value { result ≡ passed to.now.young.lane marks.now place }
     ensures below { place < 2 ^ 63 }
 {
-    let _number = place.number();
-    if Position::of(place).lane == to.young.lane() {
-        return Marks {
-            young: Some(place),
-            tenured: marks.tenured,
-        };
-    }
-    Marks {
-        young: marks.young,
-        tenured: Some(place),
-    }
+    let mut passed = *marks;
+    pass_on(to, &mut passed, place);
+    passed
 }
 
 // Whether one of two facts holds.
@@ -72,7 +93,7 @@ fn either(one: bool, other: bool) -> bool
 }
 
 // Forwards each reference of one new object, and answers whether one of them names a young one afterwards.
-#[inline(never)]
+#[inline(always)]
 fn scan_object(
     alloc: Global,
     from: Source<'_>,
@@ -88,11 +109,11 @@ fn scan_object(
     ensures extends { Extends from.entry.stores.now to.old to.new }
 {
     let mut points = false;
-    let mut next = to.named_from(place, 0);
+    let mut next = to.named_first(place);
     while let Some(named) = next {
         let names = forward_named(alloc, from, to, place, named.number, named.place)?;
         points = either(points, names);
-        next = to.named_after(place, named.number, named.count);
+        next = to.named_after(place, named.number, named.end);
     }
     Ok(points)
 }
@@ -127,10 +148,12 @@ pub fn scan(alloc: Global, from: Source<'_>, to: &mut Copies) -> Result<Vec<Plac
         tenured: to.kept,
     };
     let mut pointing = Vec::new(alloc);
-    while let Some(place) = next(to, &marks) {
+    let mut first = next(to, &marks);
+    while let Some(place) = first {
         let points = scan_object(alloc, from, to, place)?;
         note(to, place, points, &mut pointing)?;
-        marks = pass(to, &marks, place);
+        pass_on(to, &mut marks, place);
+        first = next_after(to, &marks, place);
     }
     Ok(pointing)
 }

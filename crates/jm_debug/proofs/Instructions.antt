@@ -1,8 +1,7 @@
 -- The method of a place, among those of a class and of a program.
-use Rattle.std.proofs.Common.{◌≡◌, ℕ, ◌+◌, ◌<◌, ◌≤◌, List, [], ◌∷◌, Bool, true, false, ◌&&◌, Option, Some, None, length, drop, get_or, refl, ap, ◌∙◌, add-one}
+use Rattle.std.proofs.Common.{◌≡◌, ℕ, ◌+◌, ◌<◌, ◌≤◌, List, [], ◌∷◌, Bool, true, false, ◌&&◌, Option, Some, None, length, drop, get_or, refl, ap, ◌∙◌}
 use Rattle.std.specs.Prelude.{nat_lt}
 use Rattle.std.specs.List.{list_all}
-use Rattle.std.proofs.Math.Seq.{drop-cons}
 use Rattle.std.proofs.lemmas.List.{drop_all}
 use Rattle.jm_program.specs.Names.{same_text}
 use Rattle.jm_program.specs.declared.class.ClassParts.{ClassParts}
@@ -16,10 +15,7 @@ use Rattle.jm_world.specs.Types.{same_method_type}
 use Rattle.jm_world.specs.Classes.{MethodName, as_class, built_in_named, class_among, class_named, method_in, method_of_class}
 use Rattle.jm_debug.specs.Session.{has_instruction, is_place_of}
 use Rattle.jm_debug.specs.declared.place.Place.{Place}
-
--- the one of an index is the first of what is left
-first_left : {A : Type 0} (xs : List A) (i : ℕ) (x : A) → i < length xs → x ≡ get_or xs i x → drop i xs ≡ x ∷ drop (i + 1) xs
-first_left xs i x within is = drop-cons xs i x within ∙ rw (← is, add-one) refl
+use Rattle.jm_values.proofs.Lists.{first_left}
 
 -- ---- methods of a class
 

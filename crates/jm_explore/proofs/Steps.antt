@@ -16,6 +16,7 @@ use Rattle.jm_explore.specs.declared.branch.Branch.{Branch}
 use Rattle.jm_explore.specs.declared.turn.Turn.{Turn}
 use Rattle.jm_explore.proofs.Lists.{each_append, each_as, each_pop, has_as, has_at, has_left, has_pop, has_right}
 use Rattle.jm_explore.proofs.Paths.{few_next, go_more, go_next, go_start, switches_more, turn_append, world_more}
+use Rattle.jm_values.proofs.Lists.{length_end as length_more}
 
 -- ---- the events of a branch
 
@@ -35,9 +36,6 @@ shorter path n b low = ap (λ xs. xs ++ b.thread ∷ []) (take_take b.behind n p
 
 at_end : (path : List ℕ) (t : ℕ) (b : Branch) → b.behind ≡ length path → events_to (path ++ t ∷ []) b ≡ path ++ b.thread ∷ []
 at_end path t b e = ap (λ n. take n (path ++ t ∷ []) ++ b.thread ∷ []) e ∙ ap (λ xs. xs ++ b.thread ∷ []) (take-append_seam path (t ∷ []))
-
-length_more : (path : List ℕ) (t : ℕ) → length (path ++ t ∷ []) ≡ length path + 1
-length_more path t = length-append path (t ∷ [])
 
 module _ (w : World) (slice most steps : ℕ) where
   branch_longer : (path : List ℕ) (t : ℕ) (b : Branch) → IsBranch w slice most steps path b → IsBranch w slice most steps (path ++ t ∷ []) b

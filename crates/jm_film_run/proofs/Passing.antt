@@ -1,5 +1,5 @@
 -- Events that are made and not shown, and those that are left.
-use Rattle.std.proofs.Common.{◌≡◌, ℕ, zero, suc, ◌+◌, ◌≤◌, ◌<◌, List, [], ◌∷◌, ◌++◌, length, take, drop, get_or, refl, sym, ap, subst, ◌∙◌, append_assoc, append-nil, arith, add-one, inl, inr, ◌⊎◌}
+use Rattle.std.proofs.Common.{◌≡◌, ℕ, zero, suc, ◌+◌, ◌≤◌, ◌<◌, List, [], ◌∷◌, ◌++◌, length, take, drop, refl, sym, ap, subst, ◌∙◌, append_assoc, append-nil, arith, add-one, inl, inr, ◌⊎◌}
 use Rattle.std.proofs.Math.Seq.{drop-cons}
 use Rattle.std.proofs.lemmas.Bool.{cases_lt}
 use Rattle.std.proofs.lemmas.List.{drop_all, drop_at, take_all, take_at}
@@ -13,11 +13,6 @@ use Rattle.jm_film.specs.Data.{view_text}
 use Rattle.jm_filming.specs.Shown.{view}
 use Rattle.jm_filming.specs.Runs.{begun, waits_behind}
 use Rattle.jm_film_run.specs.Shots.{Reached, waits_from, shots, shots_behind, shots_from}
-
-pub next_item : {X : Type 0} (xs : List X) (i : ℕ) (x : X) → i < length xs → x ≡ get_or xs i x → drop i xs ≡ x ∷ drop (i + 1) xs
-next_item xs i x within is =
-    let read : get_or xs i x ≡ x = sym is in
-    drop-cons xs i x within ∙ rw (read, add-one) refl
 
 pub next_at : {X : Type 0} (xs : List X) (i : ℕ) (d : X) → i < length xs → drop i xs ≡ slice_index_or xs i d ∷ drop (i + 1) xs
 next_at xs i d within = drop-cons xs i d within ∙ rw add-one refl

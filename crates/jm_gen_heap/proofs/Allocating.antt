@@ -19,8 +19,8 @@ use Rattle.jm_copy.specs.Condemned.{objects_at}
 use Rattle.jm_gen_heap.specs.Generations.{Generations, all_cells, lying}
 use Rattle.jm_gen_heap.specs.Residents.{content_of}
 use Rattle.jm_gen_heap.specs.Invariant.{AreGenerations}
-use Rattle.jm_gen_heap.specs.Steps.{with_tenured}
 use Rattle.jm_gen_heap.specs.Collections.{LeavesAllReached, WasOld}
+use Rattle.jm_gen_heap.proofs.Refusing.{remembered_content}
 use Rattle.jm_gen_heap.proofs.ResidentCells.{cells_covered, cells_alike, used_at_most}
 use Rattle.jm_gen_heap.proofs.Making.{laned, shown, sound, reached_below}
 use Rattle.jm_gen_heap.proofs.Lanes.{lying_young, old_lies, young_lies}
@@ -40,23 +40,18 @@ next_of g = refl
 -- serials are at their end, and there is room
 pub at_end : (g : Generations) → AreGenerations g → (n : ℕ) → all_cells g + n ≤ g.limit → 2 ^ 63 ≤ g.next → (roots : List ℕ) → AllResident (content_of g) roots → (used_by class_size (content_of g) roots + n ≤ (content_of g).limit) × (2 ^ 63 ≤ (content_of g).next)
 at_end g v n room end roots r =
-    let used = used_at_most (content_of g) roots (reached_below g v roots r) in
+    let used = used_at_most (content_of g) roots (reached_below v roots r) in
     let counted = v.counted in
     let limit = limit_of g in
     let next = next_of g in
     (omega (arith, used, counted, room, limit), omega (arith, end, next))
 
--- the content has nothing of what is remembered
-same_contents : (g : Generations) (places : List ℕ) → content_of (with_tenured g g.tenured places) ≡ content_of g
-unfolding content_of
-same_contents g places = refl
-
 -- what is left as it was takes no more cells
 pub fewer : (g h : Generations) → AreGenerations g → AreGenerations h → IsAsBefore (content_of g) (content_of h) → all_cells h ≤ all_cells g
 fewer g h v w before =
-    let all = cells_covered (content_of h) ks (sound h w) (sound h w).serials (λ k a. a) in
+    let all = cells_covered (content_of h) ks (sound w) (sound w).serials (λ k a. a) in
     let same = cells_alike (object_at (content_of h)) (object_at (content_of g)) ks alike in
-    let within = cells_at (content_of g) ks (sound h w).serials in
+    let within = cells_at (content_of g) ks (sound w).serials in
     let old = v.counted in
     let new = w.counted in
     omega (arith, all, same, within, old, new)
@@ -66,8 +61,8 @@ fewer g h v w before =
 
     alike : (k : ℕ) → Among k ks → cells_of class_size (object_at (content_of h) k) ≡ cells_of class_size (object_at (content_of g) k)
     alike k a =
-        let r = (shown h w).listed k a in
-        let here = ap (object_at (content_of h)) (sym r.3) ∙ (shown h w).objects r.0 r.1 r.2 in
+        let r = (shown w).listed k a in
+        let here = ap (object_at (content_of h)) (sym r.3) ∙ (shown w).objects r.0 r.1 r.2 in
         ap (cells_of class_size) (here ∙ sym (before k _ here))
 
 -- what a minor collection leaves
@@ -76,41 +71,41 @@ pub record IsLeft (g h : Generations) (roots moved : List ℕ) : Type 0 where
   pub next : (content_of h).next ≡ (content_of g).next
   pub as_before : IsAsBefore (content_of g) (content_of h)
 
-pub minor_left : (g h : Generations) (roots moved : List ℕ) → LeavesMinor g h roots moved → IsLeft g h roots moved
-minor_left g h roots moved m =
-    let same = same_contents g m.remembered in
+pub minor_left : {g h : Generations} {roots moved : List ℕ} → LeavesMinor g h roots moved → IsLeft g h roots moved
+minor_left {g = g} {h = h} {roots = roots} {moved = moved} m =
+    let same = remembered_content g m.remembered in
     record {
       kept = subst (λ k. Kept k roots (content_of h) moved) same m.leaves.kept;
       next = m.leaves.next ∙ ap (λ k. k.next) same;
       as_before = subst (λ k. IsAsBefore k (content_of h)) same m.leaves.as_before;
     }
 
-pub minor_stays : (g h : Generations) (roots moved : List ℕ) (n : ℕ) → LeavesMinor g h roots moved → OldStay g h n
-minor_stays g h roots moved n m fits k old =
-    m.leaves.stays k (inl (record { place = old.place; object = old.object; lies = old.lies; serial = old.serial })) ∙ ap (λ x. object_at x k) (same_contents g m.remembered)
+pub minor_stays : {g h : Generations} {roots moved : List ℕ} → LeavesMinor g h roots moved → (n : ℕ) → OldStay g h n
+minor_stays {g = g} m n fits k old =
+    m.leaves.stays k (inl (record { place = old.place; object = old.object; lies = old.lies; serial = old.serial })) ∙ ap (λ x. object_at x k) (remembered_content g m.remembered)
 
-pub full_left : (g h : Generations) (roots moved : List ℕ) → LeavesAllReached g h roots moved → IsLeft g h roots moved
-full_left g h roots moved l = record { kept = l.kept; next = l.next; as_before = l.as_before }
+pub full_left : {g h : Generations} {roots moved : List ℕ} → LeavesAllReached g h roots moved → IsLeft g h roots moved
+full_left l = record { kept = l.kept; next = l.next; as_before = l.as_before }
 
 -- a refused collection leaves all as it was
 pub same_left : (g h : Generations) (roots moved : List ℕ) → AreGenerations g → AllResident (content_of g) roots → content_of h ≡ content_of g → moved ≡ roots → IsLeft g h roots moved
 same_left g h roots moved v r e f = record {
-  kept = subst (λ x. Kept (content_of g) roots x moved) (sym e) (subst (λ x. Kept (content_of g) roots (content_of g) x) (sym f) (kept_same (content_of g) roots (sound g v) r));
+  kept = subst (λ x. Kept (content_of g) roots x moved) (sym e) (subst (λ x. Kept (content_of g) roots (content_of g) x) (sym f) (kept_same (content_of g) roots (sound v) r));
   next = ap (λ x. x.next) e;
   as_before = λ k o there. ap (λ x. object_at x k) (sym e) ∙ there;
 }
 
 -- an object fits still after a minor collection
-pub minor_fits : (g h : Generations) (roots moved : List ℕ) (n : ℕ) → AreGenerations g → AreGenerations h → LeavesMinor g h roots moved → Fits g n → Fits h n
-minor_fits g h roots moved n v w m fits =
-    let left = minor_left g h roots moved m in
+pub minor_fits : {g h : Generations} {roots moved : List ℕ} → AreGenerations g → AreGenerations h → LeavesMinor g h roots moved → (n : ℕ) → Fits g n → Fits h n
+minor_fits {g = g} {h = h} v w m n fits =
+    let left = minor_left m in
     let cells = fewer g h v w left.as_before in
     let limit : h.limit ≡ g.limit = sym (limit_of h) ∙ left.kept.limit ∙ limit_of g in
     omega (arith, cells, limit, fits)
 
 -- full means that what is reached and the object pass the limit
-pub full_passes : (g h : Generations) (roots moved : List ℕ) (n : ℕ) → LeavesAllReached g h roots moved → (Fits h n → ⊥) → (content_of g).limit < used_by class_size (content_of g) roots + n
-full_passes g h roots moved n l none =
+pub full_passes : {g h : Generations} {roots moved : List ℕ} → LeavesAllReached g h roots moved → (n : ℕ) → (Fits h n → ⊥) → (content_of g).limit < used_by class_size (content_of g) roots + n
+full_passes {g = g} {h = h} l n none =
     let counted = l.generations.counted in
     let cells = l.cells in
     let limit : h.limit ≡ (content_of g).limit = sym (limit_of h) ∙ l.kept.limit in
@@ -126,24 +121,24 @@ refused_here old mid roots moved o OutOfMemory k next h = tt
 refused_here old mid roots moved o HeapFull k next h = absurd h
 refused_here old mid roots moved o SerialsEnd k next h =
     let at = h moved k.resident in
-    let used = still_used old mid roots moved k next in
+    let used = still_used k next in
     let limit = k.limit in
     (omega (arith, at.0, used, limit), omega (arith, at.1, next))
 
 -- after a minor collection, whether it was refused or not
 pub minor_tried : {T E : Type 0} (r : Result T E) (g h : Generations) (roots moved : List ℕ) → AreGenerations g → AllResident (content_of g) roots → OnOk r (LeavesMinor g h roots moved) → OnErr r (content_of h ≡ content_of g) → OnErr r (moved ≡ roots) → IsLeft g h roots moved
-minor_tried (Ok x) g h roots moved v r m e f = minor_left g h roots moved m
+minor_tried (Ok x) g h roots moved v r m e f = minor_left m
 minor_tried (Err x) g h roots moved v r m e f = same_left g h roots moved v r e f
 
 pub full_tried : {T E : Type 0} (r : Result T E) (g h : Generations) (roots moved : List ℕ) → AreGenerations g → AllResident (content_of g) roots → OnOk r (LeavesAllReached g h roots moved) → OnErr r (h ≡ g) → OnErr r (moved ≡ roots) → IsLeft g h roots moved
-full_tried (Ok x) g h roots moved v r m e f = full_left g h roots moved m
+full_tried (Ok x) g h roots moved v r m e f = full_left m
 full_tried (Err x) g h roots moved v r m e f = same_left g h roots moved v r (ap content_of e) f
 
 -- an old object is resident
 pub object_was : (g : Generations) → AreGenerations g → (k : ℕ) → WasOld g k → (x : ObjectOf ClassId) × (object_at (content_of g) k ≡ Some x)
 object_was g v k old =
-    let lies = (old_lies g (laned g v) old.place old.object old.lies).1 in
-    (_, ap (object_at (content_of g)) (sym old.serial) ∙ (shown g v).objects old.place old.object lies)
+    let lies = (old_lies (laned v) old.place old.object old.lies).1 in
+    (_, ap (object_at (content_of g)) (sym old.serial) ∙ (shown v).objects old.place old.object lies)
 
 -- old objects stay when one more is made, or none is
 pub stays_made : {E : Type 0} (r : Result ℕ E) (g mid h : Generations) (n : ℕ) (x : ObjectOf ClassId) → OldStay g mid n → AreGenerations g → IfOk r (λ p. MadeHere (content_of mid) (content_of h) p x) → OnErr r (h ≡ mid) → OldStay g h n
@@ -163,10 +158,10 @@ aged_made (Ok p) g mid h n x v w next all put = λ past q a there apart. by q a 
   where
     by : (q : ℕ) (a : Object) → objects_at h.nurseries q ≡ Some a → a.serial ≢ g.next → ((nat_eq q p ≡ true) × (q ≡ p)) ⊎ ((nat_eq q p ≡ false) × (q ≢ p)) → a.age ≡ 1
     by q a there apart (inl same) =
-        let lies = (young_lies h (laned h w) q a there).1 in
+        let lies = (young_lies (laned w) q a there).1 in
         let both : Some a ≡ Some put.object = sym lies ∙ ap (lying h) same.1 ∙ put.put.here in
         let is : a ≡ put.object = cc in
         absurd (apart (ap (λ y. y.serial) is ∙ put.fresh.serial ∙ sym (next_of mid) ∙ next ∙ next_of g))
     by q a there apart (inr other) =
-        let lies = young_lies h (laned h w) q a there in
-        all q a (sym (lying_young mid (laned mid v) q lies.0) ∙ sym (put.put.others q other.1) ∙ lies.1)
+        let lies = young_lies (laned w) q a there in
+        all q a (sym (lying_young (laned v) q lies.0) ∙ sym (put.put.others q other.1) ∙ lies.1)

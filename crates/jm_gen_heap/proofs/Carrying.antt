@@ -37,9 +37,9 @@ IsAllCarried g m S = (n : ℕ) (a : Object) → g n ≡ Some a → (p : ℕ) × 
 renamed_twice : (f m : ℕ → ℕ) (vs : List Value) → map (rename f) (map (rename m) vs) ≡ map (rename (λ q. f (m q))) vs
 renamed_twice f m vs = (stack_is_shape vs).composes f m
 
-module _ (f g : ℕ → Option Object) (c d : Content ClassId) (s : Shows f c) (t : Shows g d) (m : ℕ → ℕ) (S : ℕ → Type 0) (w : Carries f g m S) where
+module _ {f g : ℕ → Option Object} {c d : Content ClassId} (s : Shows f c) (t : Shows g d) {m : ℕ → ℕ} {S : ℕ → Type 0} (w : Carries f g m S) where
   pub name_carried : (p : ℕ) → S p → name_of d (m p) ≡ name_of c p
-  name_carried p h = let x = w.there p h in name_is g d t (m p) x.new x.new_is ∙ x.serial ∙ sym (name_is f c s p x.old x.old_is)
+  name_carried p h = let x = w.there p h in name_is t (m p) x.new x.new_is ∙ x.serial ∙ sym (name_is s p x.old x.old_is)
 
   object_carried : (p : ℕ) → S p → (x : IsCarried f g m p) → named (name_of d) x.new ≡ named (name_of c) x.old
   object_carried p h x =
@@ -72,7 +72,7 @@ module _ (f g : ℕ → Option Object) (c d : Content ClassId) (s : Shows f c) (
     limit = limit;
     sound = sound;
     names = names_carried roots h;
-    resident = lying_resident g d t (map m roots) moved;
+    resident = lying_resident t (map m roots) moved;
     reached = same;
   }
     where
@@ -83,9 +83,9 @@ module _ (f g : ℕ → Option Object) (c d : Content ClassId) (s : Shows f c) (
           (x.new, ap g r.2 ∙ x.new_is)
 
       same : (k : ℕ) → Reached c roots k → object_at d k ≡ object_at c k
-      same k r = by (reached_lies f c s S roots h w.over old_lies k r)
+      same k r = by (reached_lies s S roots h w.over old_lies k r)
         where
-          by : LiesWith f c s S k → object_at d k ≡ object_at c k
+          by : LiesWith s S k → object_at d k ≡ object_at c k
           by x = subst (λ n. object_at d n ≡ object_at c n) x.serial (carried_same x.place x.object x.has x.lies)
 
   -- and where nothing else is there, all is as before

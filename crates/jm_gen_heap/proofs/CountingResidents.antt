@@ -6,16 +6,18 @@ use Rattle.std.proofs.lemmas.List.Sums.{sum_by-cons}
 use Rattle.jm_program.proofs.Sequences.{got_written, got_unwritten}
 use Rattle.jm_values.specs.Rename.{rename}
 use Rattle.jm_heap.specs.Cells.{class_size, cells_of_all, resident_cells}
+use Rattle.jm_heap.proofs.SizeLaws.{at_least_two}
 use Rattle.jm_blocks.specs.Objects.{Object}
 use Rattle.jm_blocks.specs.Cells.{object_cells, sizes_of, block_cells}
 use Rattle.jm_blocks.specs.Stores.{Blocks, objects_in, store_cells, IsEmpty}
-use Rattle.jm_blocks.proofs.Sizes.{at_least_two, sum_cons}
+use Rattle.jm_blocks.proofs.Sizes.{sum_cons}
 use Rattle.jm_nursery.specs.Nurseries.{AreNurseries, lane_cells, young_cells}
+use Rattle.jm_nursery.proofs.Making.{nurseries_set}
 use Rattle.jm_gen_heap.specs.Generations.{Generations, stores_of, all_cells}
 use Rattle.jm_gen_heap.specs.Residents.{Placed, placed_in_block, placed_in_blocks, placed_in, serial_name, resident_of, content_of}
 use Rattle.jm_gen_heap.specs.Collections.{AreSurvivors, IsWhole}
 use Rattle.jm_gen_heap.proofs.Listing.{At, of_store}
-use Rattle.jm_gen_heap.proofs.Storing.{young_set, nurseries_set}
+use Rattle.jm_gen_heap.proofs.Storing.{young_set}
 
 abbrev placed_cells : List Placed → ℕ
 placed_cells [] = 0
@@ -104,9 +106,9 @@ first_whole (s ∷ stores) young e cells w =
     omega (arith, here, both, most, cells)
 
 -- after a collection the cells of the residents are those that the stores count
-pub counted : (g : Generations) (young : Blocks) → AreSurvivors young g.nurseries → IsWhole young → IsWhole g.tenured → resident_cells (content_of g) ≡ all_cells g
+pub counted : (g : Generations) {young : Blocks} → AreSurvivors young g.nurseries → IsWhole young → IsWhole g.tenured → resident_cells (content_of g) ≡ all_cells g
 unfolding resident_cells content_of
-counted g young s w v =
+counted g {young = young} s w v =
     let all = resident_placed (serial_name g) (placed_in (stores_of g)) in
     let both = placed_append g.nurseries g.tenured in
     let first = first_whole g.nurseries young s.first s.cells w in

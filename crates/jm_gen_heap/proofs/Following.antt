@@ -12,7 +12,7 @@ use Rattle.jm_heap.specs.Cells.{class_size}
 use Rattle.jm_heap.specs.Collection.{IsAsBefore, IsAsBeforeMaking}
 use Rattle.jm_heap.specs.declared.class_id.ClassId.{ClassId}
 
-module _ (old mid : Content ClassId) (roots moved : List ℕ) (g : Kept old roots mid moved) where
+module _ {old mid : Content ClassId} {roots moved : List ℕ} (g : Kept old roots mid moved) where
   abbrev InBoth : ℕ → Type 0
   InBoth k = Reached old roots k × Reached mid moved k
 

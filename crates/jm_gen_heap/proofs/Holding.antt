@@ -5,14 +5,14 @@ use Rattle.jm_values.specs.Shape.{Among}
 use Rattle.jm_values.specs.Rename.{refs}
 use Rattle.jm_values.specs.declared.value.Value.{Value}
 use Rattle.jm_values.specs.declared.value.Value.TheVariants.{Int, Long, Null, Ref}
-use Rattle.jm_values.specs.Content.{AllResident, Resident}
+use Rattle.jm_values.specs.Content.{AllResident, HasValue, Resident}
 use Rattle.jm_values.proofs.Among.{among_left, among_right, among_split}
 use Rattle.jm_heap.specs.Cells.{resident_cells, cells_of_all}
 use Rattle.jm_heap.specs.declared.class_id.ClassId.{ClassId}
+use Rattle.jm_heap.proofs.SizeLaws.{at_least_two}
 use Rattle.jm_blocks.specs.Objects.{Object}
 use Rattle.jm_blocks.specs.Places.{lane_of}
 use Rattle.jm_blocks.specs.Stores.{Blocks, objects_in, store_cells}
-use Rattle.jm_blocks.proofs.Sizes.{at_least_two}
 use Rattle.jm_barrier.specs.Remembered.{noted}
 use Rattle.jm_nursery.specs.Nurseries.{Young, AreNurseries, HasYoungValue, nursery_at, young_cells, lane_cells}
 use Rattle.jm_nursery.specs.Nurseries as nursery
@@ -26,15 +26,16 @@ use Rattle.jm_gen_heap.proofs.Lanes.{AreLaned, LiesYoung, LiesOld, lies_where, l
 use Rattle.jm_gen_heap.proofs.Making.{laned}
 use Rattle.jm_gen_heap.proofs.Storing.{in_lane, no_nursery, young_set, nursery_set, old_written}
 use Rattle.jm_gen_heap.proofs.Setting.{written_keeps}
+use Rattle.jm_gen_heap.proofs.Reading.{value_there}
 use Rattle.jm_gen_heap.proofs.Starting.{started}
 use Rattle.jm_gen_heap.specs.Pointers.{Noted, all_of, names_young}
 use Rattle.jm_gen_heap.specs.Held.{AreHeld, IsSetOld, held}
 use Rattle.jm_gen_heap.proofs.Noting.{is_noted}
 
 -- the store of the lane of a place has what lies there
-pub store_young : (g : Generations) → AreLaned g → (p n : ℕ) (s : Blocks) (o : Object) → nursery_at p ≡ Some n → slice_get g.nurseries n ≡ Some s → lying g p ≡ Some o → objects_in s p ≡ Some o
+pub store_young : {g : Generations} → AreLaned g → (p n : ℕ) (s : Blocks) (o : Object) → nursery_at p ≡ Some n → slice_get g.nurseries n ≡ Some s → lying g p ≡ Some o → objects_in s p ≡ Some o
 unfolding objects_at
-store_young g l p n s o at there e = by (lies_where g l p o e)
+store_young {g = g} l p n s o at there e = by (lies_where l p o e)
   where
     number : lane_of p - 1 ≡ n
     number = let lane = (in_lane p n at).0 in omega (arith, lane)
@@ -44,20 +45,20 @@ store_young g l p n s o at there e = by (lies_where g l p o e)
     by (inr x) = absurd (not_both p (in_lane p n at).1 x.lane)
 
 -- in a nursery, or in the old store, by the lane
-pub young_lane : (g : Generations) → AreLaned g → (p : ℕ) (o : Object) → lane_of p ≢ old_lane → lying g p ≡ Some o → IsYoung p
-young_lane g l p o away e = by (lies_where g l p o e)
+pub young_lane : {g : Generations} → AreLaned g → (p : ℕ) (o : Object) → lane_of p ≢ old_lane → lying g p ≡ Some o → IsYoung p
+young_lane {g = g} l p o away e = by (lies_where l p o e)
   where
     by : LiesYoung g p o ⊎ LiesOld g p o → IsYoung p
     by (inl y) = y.young
     by (inr x) = absurd (away x.lane)
 
-pub in_young : (g : Generations) → AreLaned g → (p : ℕ) (o : Object) → lane_of p ≢ old_lane → lying g p ≡ Some o → nursery_at p ≡ Some (lane_of p - 1)
-in_young g l p o away e =
-    let y = young_lane g l p o away e in
+pub in_young : {g : Generations} → AreLaned g → (p : ℕ) (o : Object) → lane_of p ≢ old_lane → lying g p ≡ Some o → nursery_at p ≡ Some (lane_of p - 1)
+in_young l p o away e =
+    let y = young_lane l p o away e in
     in_nursery p (lane_of p - 1) (omega (arith, y.some)) (omega (arith, y.some, y.few))
 
-pub store_old : (g : Generations) → AreLaned g → (p : ℕ) (o : Object) → lane_of p ≡ old_lane → lying g p ≡ Some o → objects_in g.tenured p ≡ Some o
-store_old g l p o lane e = sym (lying_old g l p lane) ∙ e
+pub store_old : {g : Generations} → AreLaned g → (p : ℕ) (o : Object) → lane_of p ≡ old_lane → lying g p ≡ Some o → objects_in g.tenured p ≡ Some o
+store_old l p o lane e = sym (lying_old l p lane) ∙ e
 
 pub number_within : (p n : ℕ) → nursery_at p ≡ Some n → n < 16
 number_within p n at = let lane = (in_lane p n at).0 in let few = (in_lane p n at).1.few in omega (arith, lane, few)
@@ -107,16 +108,21 @@ roots_all xs ys k h i = let same : k ≡ length ys = omega arith in ap (λ n. ta
     none (y ∷ ys) = none ys
 
 -- a value is there
-pub young_has : (g : Generations) → AreLaned g → (p n i : ℕ) (o : Object) → nursery_at p ≡ Some n → lying g p ≡ Some o → i < length o.values → HasYoungValue g.nurseries p i
-young_has g l p n i o at e h =
+pub young_has : {g : Generations} → AreLaned g → (p n i : ℕ) (o : Object) → nursery_at p ≡ Some n → lying g p ≡ Some o → i < length o.values → HasYoungValue g.nurseries p i
+young_has {g = g} l p n i o at e h =
     let lane = (in_lane p n at).0 in
     let number : lane_of p - 1 ≡ n = omega (arith, lane) in
     let s = nursery_there g.nurseries l.nurseries n (number_within p n at) in
-    (s.0, ap (slice_get g.nurseries) number ∙ s.1, (o, store_young g l p n s.0 o at s.1 e, h))
+    (s.0, ap (slice_get g.nurseries) number ∙ s.1, (o, store_young l p n s.0 o at s.1 e, h))
+
+-- an object with a value of this number lies there
+pub written_there : {limit next cells : ℕ} {young : Young} {tenured : Blocks} {pointers : Noted} {g : Generations} → AreHeld limit next young tenured cells pointers → held limit next young tenured pointers ≡ g → (p i : ℕ) → (v : Value) × HasValue (content_of g) p i v → (o : Object) × (lying (held limit next young tenured pointers) p ≡ Some o) × (i < length o.values)
+written_there {limit = limit} {next = next} {young = young} {tenured = tenured} {pointers = pointers} a e p i h =
+    value_there (held limit next young tenured pointers) a.keeps p i h.0 (subst (λ (x : Generations). HasValue (content_of x) p i h.0) (sym e) h.1)
 
 -- one value of a young object is another
-pub young_written : (limit next cells : ℕ) (young new : Young) (tenured : Blocks) (pointers : Noted) → AreHeld limit next young tenured cells pointers → (p n i : ℕ) (x : Value) (o : Object) → nursery_at p ≡ Some n → lying (held limit next young tenured pointers) p ≡ Some o → AllResident (content_of (held limit next young tenured pointers)) (refs x) → nursery.IsWritten young new p i x → AreHeld limit next new tenured cells pointers × IsWritten (held limit next young tenured pointers) (held limit next new tenured pointers) p i x
-young_written limit next cells young new tenured pointers a p n i x o at e names w = (record { small = a.small; same = ap (λ y. y.limit) w.lanes ∙ a.same; counted = a.counted; keeps = written_keeps g h v p i x after names }, after)
+pub young_written : {limit next cells : ℕ} {young new : Young} {tenured : Blocks} {pointers : Noted} {p n i : ℕ} {x : Value} {o : Object} → AreHeld limit next young tenured cells pointers → nursery_at p ≡ Some n → lying (held limit next young tenured pointers) p ≡ Some o → AllResident (content_of (held limit next young tenured pointers)) (refs x) → nursery.IsWritten young new p i x → AreHeld limit next new tenured cells pointers × IsWritten (held limit next young tenured pointers) (held limit next new tenured pointers) p i x
+young_written {limit = limit} {next = next} {young = young} {new = new} {tenured = tenured} {pointers = pointers} {p = p} {n = n} {i = i} {x = x} {o = o} a at e names w = (record { small = a.small; same = ap (λ y. y.limit) w.lanes ∙ a.same; counted = a.counted; keeps = written_keeps v after names }, after)
   where
     g : Generations
     g = held limit next young tenured pointers
@@ -131,7 +137,7 @@ young_written limit next cells young new tenured pointers a p n i x o at e names
     number = let lane = (in_lane p n at).0 in omega (arith, lane)
 
     lies : objects_in w.store p ≡ Some o
-    lies = store_young g (laned g v) p n w.store o at (sym (ap (slice_get young.lanes) number) ∙ w.store_is) e
+    lies = store_young (laned v) p n w.store o at (sym (ap (slice_get young.lanes) number) ∙ w.store_is) e
 
     cells_same : store_cells w.after.lists ≡ store_cells w.store.lists
     cells_same =
@@ -140,7 +146,7 @@ young_written limit next cells young new tenured pointers a p n i x o at e names
         omega (arith, set, all)
 
     after : IsWritten g h p i x
-    after = subst (λ lanes. IsWritten g (record { limit = limit; next = next; nurseries = lanes; tenured = tenured; remembered = all_of pointers }) p i x) (sym (ap (λ y. y.lanes) w.lanes)) (nursery_set g v (lane_of p - 1) w.store w.after p i x o w.store_is w.lane lies w.set cells_same)
+    after = subst (λ lanes. IsWritten g (record { limit = limit; next = next; nurseries = lanes; tenured = tenured; remembered = all_of pointers }) p i x) (sym (ap (λ y. y.lanes) w.lanes)) (nursery_set v (lane_of p - 1) w.after i x w.store_is w.lane lies w.set cells_same)
 
 -- a value names no young one, or one
 no_young : (x : Value) → names_young x ≡ false → (q : ℕ) → Among q (refs x) → IsYoung q → ⊥
@@ -155,11 +161,11 @@ no_young (Long n) e q k y = k
 no_young Null e q k y = k
 
 -- one value of an old object is another, whatever comes of the note
-pub old_tried : {T E : Type 0} (r : Result T E) (limit next cells : ℕ) (young : Young) (tenured new : Blocks) (pointers after : Noted) → AreHeld limit next young tenured cells pointers → (p i : ℕ) (x : Value) (o : Object) → objects_in tenured p ≡ Some o → AllResident (content_of (held limit next young tenured pointers)) (refs x) → OnOk r (IsSetOld tenured new pointers after p i x) → OnErr r ((new ≡ tenured) × (after ≡ pointers)) → AreHeld limit next young new cells after × OnOk r (IsWritten (held limit next young tenured pointers) (held limit next young new after) p i x) × OnErr r (held limit next young new after ≡ held limit next young tenured pointers)
-old_tried (Err f) limit next cells young tenured new pointers after a p i x o e names ok err =
+pub old_tried : {T E : Type 0} (r : Result T E) {limit next cells : ℕ} {young : Young} {tenured : Blocks} (new : Blocks) {pointers : Noted} (after : Noted) → AreHeld limit next young tenured cells pointers → (p i : ℕ) (x : Value) {o : Object} → objects_in tenured p ≡ Some o → AllResident (content_of (held limit next young tenured pointers)) (refs x) → OnOk r (IsSetOld tenured new pointers after p i x) → OnErr r ((new ≡ tenured) × (after ≡ pointers)) → AreHeld limit next young new cells after × OnOk r (IsWritten (held limit next young tenured pointers) (held limit next young new after) p i x) × OnErr r (held limit next young new after ≡ held limit next young tenured pointers)
+old_tried (Err f) {limit = limit} {next = next} {cells = cells} {young = young} {tenured = tenured} new {pointers = pointers} after a p i x e names ok err =
     (subst (λ t. AreHeld limit next young t cells after) (sym err.0) (subst (λ n. AreHeld limit next young tenured cells n) (sym err.1) a), tt, ap (λ t. held limit next young t after) err.0 ∙ ap (λ n. held limit next young tenured n) err.1)
-old_tried (Ok y) limit next cells young tenured new pointers after a p i x o e names s err =
-    (record { small = a.small; same = a.same; counted = a.counted ∙ sym s.cells; keeps = written_keeps g h a.keeps p i x w names }, w, tt)
+old_tried (Ok y) {limit = limit} {next = next} {cells = cells} {young = young} {tenured = tenured} new {pointers = pointers} after a p i x {o = o} e names s err =
+    (record { small = a.small; same = a.same; counted = a.counted ∙ sym s.cells; keeps = written_keeps a.keeps w names }, w, tt)
   where
     g : Generations
     g = held limit next young tenured pointers
@@ -168,10 +174,10 @@ old_tried (Ok y) limit next cells young tenured new pointers after a p i x o e n
     h = held limit next young new after
 
     place : lane_of p ≡ old_lane
-    place = (old_lies g (laned g a.keeps) p o e).0
+    place = (old_lies (laned a.keeps) p o e).0
 
     w : IsWritten g h p i x
-    w = old_written g a.keeps new p i x o s.lane e s.set s.cells (all_of after) (by (names_young x) refl)
+    w = old_written a.keeps new i x s.lane e s.set s.cells (all_of after) (by (names_young x) refl)
       where
         by : (b : Bool) → names_young x ≡ b → IsNoted g (with_tenured g new (all_of after)) p x
         by false f = subst (λ n. IsNoted g (with_tenured g new (all_of n)) p x) (sym (s.same f)) (record { covers = λ at q m y. absurd (no_young x f q m y); keeps = λ q k. k; only = λ q k. inl k })

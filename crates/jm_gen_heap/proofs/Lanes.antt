@@ -30,7 +30,7 @@ pub record LiesOld (g : Generations) (p : ℕ) (a : Object) : Type 0 where
 pub nursery_lanes : (stores : List Blocks) → AreNurseries stores → AreLanes stores
 nursery_lanes stores n = record { many = omega (arith, n.many); numbered = n.numbered }
 
-module _ (g : Generations) (l : AreLaned g) where
+module _ {g : Generations} (l : AreLaned g) where
   pub lanes : AreLanes (stores_of g)
   lanes = record {
     many = omega (arith, length-append g.nurseries (g.tenured ∷ []), l.nurseries.many);
@@ -83,14 +83,14 @@ pub not_both : (p : ℕ) → IsYoung p → lane_of p ≡ old_lane → ⊥
 not_both p y e = omega (arith, e, y.few)
 
 -- generations that have the same in each lane
-pub same_lying : (g h : Generations) → AreLaned g → AreLaned h → (p : ℕ) → (IsYoung p → objects_at h.nurseries p ≡ objects_at g.nurseries p) → (lane_of p ≡ old_lane → objects_in h.tenured p ≡ objects_in g.tenured p) → lying h p ≡ lying g p
-same_lying g h l m p young old = by (lying g p) refl (lying h p) refl
+pub same_lying : {g h : Generations} → AreLaned g → AreLaned h → (p : ℕ) → (IsYoung p → objects_at h.nurseries p ≡ objects_at g.nurseries p) → (lane_of p ≡ old_lane → objects_in h.tenured p ≡ objects_in g.tenured p) → lying h p ≡ lying g p
+same_lying {g = g} {h = h} l m p young old = by (lying g p) refl (lying h p) refl
   where
     in_young : IsYoung p → lying h p ≡ lying g p
-    in_young y = lying_young h m p y ∙ young y ∙ sym (lying_young g l p y)
+    in_young y = lying_young m p y ∙ young y ∙ sym (lying_young l p y)
 
     in_old : lane_of p ≡ old_lane → lying h p ≡ lying g p
-    in_old e = lying_old h m p e ∙ old e ∙ sym (lying_old g l p e)
+    in_old e = lying_old m p e ∙ old e ∙ sym (lying_old l p e)
 
     of_old : {a : Object} → LiesYoung g p a ⊎ LiesOld g p a → lying h p ≡ lying g p
     of_old (inl x) = in_young x.young
@@ -101,6 +101,6 @@ same_lying g h l m p young old = by (lying g p) refl (lying h p) refl
     of_new (inr x) = in_old x.lane
 
     by : (x : Option Object) → lying g p ≡ x → (y : Option Object) → lying h p ≡ y → lying h p ≡ lying g p
-    by (Some a) e y f = of_old (lies_where g l p a e)
-    by None e (Some b) f = of_new (lies_where h m p b f)
+    by (Some a) e y f = of_old (lies_where l p a e)
+    by None e (Some b) f = of_new (lies_where m p b f)
     by None e None f = f ∙ sym e

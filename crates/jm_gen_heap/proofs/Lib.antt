@@ -26,6 +26,7 @@ pub mod Following
 pub mod Reading
 pub mod Starting
 pub mod Keeping
+pub mod Unmoved
 pub mod Refusing
 pub mod Alike
 pub mod Unmaking

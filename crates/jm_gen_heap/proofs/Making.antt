@@ -1,6 +1,5 @@
 -- An object is put into a nursery.
 use Rattle.std.proofs.Common.{◌≡◌, ◌≢◌, ◌⊎◌, ℕ, ◌+◌, ◌<◌, ◌≤◌, ◌^◌, List, [], ◌∷◌, Some, None, refl, sym, ap, ◌∙◌, subst, inl, inr, arith}
-use Rattle.std.specs.Prelude.{map}
 use Rattle.std.proofs.lemmas.Bool.Decides.{eqb_tells}
 use Rattle.jm_values.specs.declared.value.Value.{Value}
 use Rattle.jm_values.specs.Shape.{Among}
@@ -25,26 +24,23 @@ use Rattle.jm_gen_heap.proofs.Reaching.{LiesAt, at_place, serial_is, resident_li
 use Rattle.jm_gen_heap.proofs.ResidentCells.{cells_covered, cells_alike, used_at_most, serial_listed}
 use Rattle.jm_gen_heap.proofs.Lanes.{AreLaned, lanes, lying_young, young_lies}
 use Rattle.jm_gen_heap.proofs.Carrying.{Carries, kept, carried_same}
+use Rattle.jm_program.proofs.Texts.{map_same as unnamed_map}
 
-pub laned : (g : Generations) → AreGenerations g → AreLaned g
-laned g v = record { nurseries = v.nurseries; tenured = v.tenured }
+pub laned : {g : Generations} → AreGenerations g → AreLaned g
+laned v = record { nurseries = v.nurseries; tenured = v.tenured }
 
-pub shown : (g : Generations) → AreGenerations g → Shows (lying g) (content_of g)
-shown g v = shows g (lanes g (laned g v)) v.told
+pub shown : {g : Generations} → AreGenerations g → Shows (lying g) (content_of g)
+shown {g = g} v = shows g (lanes (laned v)) v.told
 
-pub sound : (g : Generations) → AreGenerations g → IsSound (content_of g)
-sound g v = sound_content g (lanes g (laned g v)) v.told
+pub sound : {g : Generations} → AreGenerations g → IsSound (content_of g)
+sound {g = g} v = sound_content g (lanes (laned v)) v.told
 
 -- what is reached has a serial below the next one
-pub reached_below : (g : Generations) → AreGenerations g → (roots : List ℕ) → AllResident (content_of g) roots → (k : ℕ) → Reached (content_of g) roots k → k < (content_of g).next
+pub reached_below : {g : Generations} → AreGenerations g → (roots : List ℕ) → AllResident (content_of g) roots → (k : ℕ) → Reached (content_of g) roots k → k < (content_of g).next
 unfolding content_of
-reached_below g v roots r k h =
-    let x = reached_lies (lying g) (content_of g) (shown g v) (LiesAt (lying g)) roots (resident_lies (lying g) (content_of g) (shown g v) roots r) (λ p q a s e m. v.told.closed p q a e m) (λ p s. s) k h in
+reached_below {g = g} v roots r k h =
+    let x = reached_lies (shown v) (LiesAt (lying g)) roots (resident_lies (shown v) roots r) (λ p q a s e m. v.told.closed p q a e m) (λ p s. s) k h in
     subst (λ n. n < g.next) x.serial (v.told.below x.place x.object x.lies)
-
-pub unnamed_map : (ps : List ℕ) → map (λ p. p) ps ≡ ps
-unnamed_map [] = refl
-unnamed_map (p ∷ ps) = ap (λ l. p ∷ l) (unnamed_map ps)
 
 none_among : (q : ℕ) (l : List ℕ) → l ≡ [] → Among q l → ⊥
 none_among q l e a = subst (Among q) e a
@@ -55,7 +51,7 @@ plain_named f o e =
     let laws = stack_is_shape o.values in
     ap (λ (vs : List Value). record { type = o.class; values = vs }) (laws.agrees f (λ p. p) (λ p a. absurd (none_among p (stack_shape.refs o.values) e a)) ∙ laws.keeps)
 
-module _ (g h : Generations) (v : AreGenerations g) (p : ℕ) (o : Object) (w : IsPut g h p o) (n : IsNew g o) where
+module _ {g h : Generations} (v : AreGenerations g) {p : ℕ} {o : Object} (w : IsPut g h p o) (n : IsNew g o) where
   abbrev c : Content ClassId
   c = content_of g
 
@@ -104,10 +100,10 @@ module _ (g h : Generations) (v : AreGenerations g) (p : ℕ) (o : Object) (w : 
       closed q r a (inr x) m = let y = v.told.closed q r a x.1 m in (y.0, still r y.0 y.1)
 
   shown_after : Shows (lying h) d
-  shown_after = shows h (lanes h laned_after) told_after
+  shown_after = shows h (lanes laned_after) told_after
 
   sound_after : IsSound d
-  sound_after = sound_content h (lanes h laned_after) told_after
+  sound_after = sound_content h (lanes laned_after) told_after
 
   carries : Carries (lying g) (lying h) (λ q. q) (LiesAt (lying g))
   carries = record {
@@ -129,8 +125,8 @@ module _ (g h : Generations) (v : AreGenerations g) (p : ℕ) (o : Object) (w : 
 
   object_same : (k : ℕ) (x : ObjectOf ClassId) → object_at c k ≡ Some x → object_at d k ≡ Some x
   object_same k x e =
-      let r = (shown g v).only k x e in
-      subst (λ j. object_at d j ≡ object_at c j) r.3 (carried_same (lying g) (lying h) c d (shown g v) shown_after (λ q. q) (LiesAt (lying g)) carries r.0 r.1 (r.1, r.2) r.2) ∙ e
+      let r = (shown v).only k x e in
+      subst (λ j. object_at d j ≡ object_at c j) r.3 (carried_same (shown v) shown_after carries r.0 r.1 (r.1, r.2) r.2) ∙ e
 
   filled : object_at d c.next ≡ Some (bare o)
   filled = ap (object_at d) next_is ∙ shown_after.objects p o w.here ∙ ap Some (plain_named (name_of d) o n.plain)
@@ -143,24 +139,24 @@ module _ (g h : Generations) (v : AreGenerations g) (p : ℕ) (o : Object) (w : 
       by : (q : ℕ) (a : Object) → a.serial ≡ k → WasOrIs q a → object_at c k ≡ Some x
       by q a s (inl t) = absurd (away (sym s ∙ ap (λ z. z.serial) t.1 ∙ sym next_is))
       by q a s (inr t) =
-          sym (subst (λ j. object_at d j ≡ object_at c j) s (carried_same (lying g) (lying h) c d (shown g v) shown_after (λ r. r) (LiesAt (lying g)) carries q a (a, t.1) t.1)) ∙ e
+          sym (subst (λ j. object_at d j ≡ object_at c j) s (carried_same (shown v) shown_after carries q a (a, t.1) t.1)) ∙ e
 
   -- the cells of the residents grow by those of the object
   more_cells : resident_cells d ≡ resident_cells c + object_cells o
   more_cells =
-      let all = cells_covered d (c.next ∷ serials_of c.residents) sound_after (fresh_serial, (sound g v).serials) cover in
-      let before = cells_covered c (serials_of c.residents) (sound g v) (sound g v).serials (λ k a. a) in
+      let all = cells_covered d (c.next ∷ serials_of c.residents) sound_after (fresh_serial, (sound v).serials) cover in
+      let before = cells_covered c (serials_of c.residents) (sound v) (sound v).serials (λ k a. a) in
       let alike = cells_alike (object_at d) (object_at c) (serials_of c.residents) same in
       let one : cells_of class_size (object_at d c.next) ≡ object_cells o = ap (cells_of class_size) filled in
       omega (arith, all, before, alike, one)
     where
       fresh_serial : Among c.next (serials_of c.residents) → ⊥
-      fresh_serial a = let low = (sound g v).below c.next a in omega (arith, low)
+      fresh_serial a = let low = (sound v).below c.next a in omega (arith, low)
 
       same : (k : ℕ) → Among k (serials_of c.residents) → cells_of class_size (object_at d k) ≡ cells_of class_size (object_at c k)
       same k a =
-          let r = (shown g v).listed k a in
-          let was : object_at c k ≡ Some (named (name_of c) r.1) = ap (object_at c) (sym r.3) ∙ (shown g v).objects r.0 r.1 r.2 in
+          let r = (shown v).listed k a in
+          let was : object_at c k ≡ Some (named (name_of c) r.1) = ap (object_at c) (sym r.3) ∙ (shown v).objects r.0 r.1 r.2 in
           ap (cells_of class_size) (object_same k (named (name_of c) r.1) was ∙ sym was)
 
       cover : (k : ℕ) → Among k (serials_of d.residents) → Among k (c.next ∷ serials_of c.residents)
@@ -168,17 +164,17 @@ module _ (g h : Generations) (v : AreGenerations g) (p : ℕ) (o : Object) (w : 
         where
           by : (q : ℕ) (b : Object) → b.serial ≡ k → WasOrIs q b → Among k (c.next ∷ serials_of c.residents)
           by q b s (inl t) = inl (sym s ∙ ap (λ z. z.serial) t.1 ∙ sym next_is)
-          by q b s (inr t) = inr (serial_listed c k (named (name_of c) b) (ap (object_at c) (sym s) ∙ (shown g v).objects q b t.1))
+          by q b s (inr t) = inr (serial_listed c k (named (name_of c) b) (ap (object_at c) (sym s) ∙ (shown v).objects q b t.1))
 
   aged_after : AreAged h
   aged_after = record {
-    young = λ q a e. let y = young_lies h laned_after q a e in young q a (was q a y.1) y.0;
+    young = λ q a e. let y = young_lies laned_after q a e in young q a (was q a y.1) y.0;
     old = λ q a e. v.aged.old q a (ap (λ t. objects_in t q) (sym w.tenured) ∙ e);
   }
     where
       young : (q : ℕ) (a : Object) → WasOrIs q a → IsYoung q → a.age ≤ 1
       young q a (inl t) y = let age : a.age ≡ 0 = ap (λ z. z.age) t.1 ∙ n.age in omega (arith, age)
-      young q a (inr t) y = v.aged.young q a (sym (lying_young g (laned g v) q y) ∙ t.1)
+      young q a (inr t) y = v.aged.young q a (sym (lying_young (laned v) q y) ∙ t.1)
 
   remembered_after : AreRemembered h
   remembered_after = record {
@@ -207,14 +203,14 @@ module _ (g h : Generations) (v : AreGenerations g) (p : ℕ) (o : Object) (w : 
   pub put_made : MadeHere c d p (bare o)
   put_made = record {
     made = λ roots r. record {
-      kept = subst (λ l. Kept c roots d l) (unnamed_map roots) (kept (lying g) (lying h) c d (shown g v) shown_after (λ q. q) (LiesAt (lying g)) carries roots (resident_lies (lying g) c (shown g v) roots r) limit_same sound_after);
+      kept = subst (λ l. Kept c roots d l) (unnamed_map roots) (kept (shown v) shown_after carries roots (resident_lies (shown v) roots r) limit_same sound_after);
       next = next_more;
-      placed = serial_is (lying h) d shown_after p o w.here ∙ ap Some (sym next_is);
+      placed = serial_is shown_after p o w.here ∙ ap Some (sym next_is);
       filled = filled;
-      fits = (let used = used_at_most c roots (reached_below g v roots r) in omega (arith, used, v.counted, w.cells, w.within, room));
+      fits = (let used = used_at_most c roots (reached_below v roots r) in omega (arith, used, v.counted, w.cells, w.within, room));
       lasts = subst (λ k. k < 2 ^ 63) (sym n.serial ∙ sym next_is) n.lasts;
     };
-    places = λ q k e. let x = at_place (lying g) c (shown g v) q k e in serial_is (lying h) d shown_after q x.0 (still q x.0 x.1) ∙ ap Some x.2;
+    places = λ q k e. let x = at_place (shown v) q k e in serial_is shown_after q x.0 (still q x.0 x.1) ∙ ap Some x.2;
     objects = object_same;
     as_before = as_before;
     cells = more_cells;

@@ -22,7 +22,16 @@ use Rattle.jm_gen_heap.proofs.Lanes.{AreLaned, lanes}
 use Rattle.jm_gen_heap.proofs.Carrying.{Carries, IsCarried, IsAllCarried, kept, as_before}
 use Rattle.jm_gen_heap.proofs.Making.{shown}
 
-module _ (g h : Generations) (v : AreGenerations g) (l : AreLaned h) (limit : h.limit ≡ g.limit) (next : h.next ≡ g.next) (m : ℕ → ℕ) (S : ℕ → Type 0) (w : Carries (lying g) (lying h) m S) (all : IsAllCarried (lying h) m S) where
+-- what survives of generations lies in others, and nothing else does
+pub record Survives (g h : Generations) (m : ℕ → ℕ) (S : ℕ → Type 0) : Type 0 where
+  pub keeps : AreGenerations g
+  pub laned : AreLaned h
+  pub limit : h.limit ≡ g.limit
+  pub next : h.next ≡ g.next
+  pub carries : Carries (lying g) (lying h) m S
+  pub all : IsAllCarried (lying h) m S
+
+module _ {g h : Generations} {m : ℕ → ℕ} {S : ℕ → Type 0} (s : Survives g h m S) where
   -- where an object comes from
   pub record From (n : ℕ) (a : Object) : Type 0 where
     pub place : ℕ
@@ -33,8 +42,8 @@ module _ (g h : Generations) (v : AreGenerations g) (l : AreLaned h) (limit : h.
 
   pub from : (n : ℕ) (a : Object) → lying h n ≡ Some a → From n a
   from n a e =
-      let r = all n a e in
-      let x = w.there r.0 r.1 in
+      let r = s.all n a e in
+      let x = s.carries.there r.0 r.1 in
       let both : Some x.new ≡ Some a = sym x.new_is ∙ ap (lying h) r.2 ∙ e in
       record { place = r.0; has = r.1; moved = r.2; carried = x; same = cc }
 
@@ -43,8 +52,8 @@ module _ (g h : Generations) (v : AreGenerations g) (l : AreLaned h) (limit : h.
 
   pub told_after : AreTold h
   told_after = record {
-    apart = λ p q a b e f s. let x = from p a e in let y = from q b f in sym x.moved ∙ ap m (v.told.apart x.place y.place x.carried.old y.carried.old x.carried.old_is y.carried.old_is (sym (serial_from p a x) ∙ s ∙ serial_from q b y)) ∙ y.moved;
-    below = λ p a e. let x = from p a e in let low = v.told.below x.place x.carried.old x.carried.old_is in let serial = serial_from p a x in omega (arith, low, serial, next);
+    apart = λ p q a b e f same. let x = from p a e in let y = from q b f in sym x.moved ∙ ap m (s.keeps.told.apart x.place y.place x.carried.old y.carried.old x.carried.old_is y.carried.old_is (sym (serial_from p a x) ∙ same ∙ serial_from q b y)) ∙ y.moved;
+    below = λ p a e. let x = from p a e in let low = s.keeps.told.below x.place x.carried.old x.carried.old_is in let serial = serial_from p a x in omega (arith, low, serial, s.next);
     closed = λ p q a e r. closed p q a (from p a e) r;
   }
     where
@@ -52,28 +61,28 @@ module _ (g h : Generations) (v : AreGenerations g) (l : AreLaned h) (limit : h.
       closed p q a x r =
           let here : Among q (stack_shape.refs x.carried.new.values) = subst (λ y. Among q (stack_shape.refs y.values)) (sym x.same) r in
           let mapped = among_mapped m q (stack_shape.refs x.carried.old.values) (subst (Among q) (ap stack_shape.refs x.carried.values ∙ refs_renamed m x.carried.old.values) here) in
-          let y = w.there mapped.0 (w.over x.place mapped.0 x.carried.old x.has x.carried.old_is mapped.1) in
+          let y = s.carries.there mapped.0 (s.carries.over x.place mapped.0 x.carried.old x.has x.carried.old_is mapped.1) in
           (y.new, ap (lying h) mapped.2 ∙ y.new_is)
 
   pub shown_after : Shows (lying h) (content_of h)
-  shown_after = shows h (lanes h l) told_after
+  shown_after = shows h (lanes s.laned) told_after
 
   pub sound_after : IsSound (content_of h)
-  sound_after = sound_content h (lanes h l) told_after
+  sound_after = sound_content h (lanes s.laned) told_after
 
   limit_same : (content_of h).limit ≡ (content_of g).limit
   unfolding content_of
-  limit_same = limit
+  limit_same = s.limit
 
   pub next_same : (content_of h).next ≡ (content_of g).next
   unfolding content_of
-  next_same = next
+  next_same = s.next
 
   pub kept_after : (roots : List ℕ) → ((p : ℕ) → Among p roots → S p) → Kept (content_of g) roots (content_of h) (map m roots)
-  kept_after roots r = kept (lying g) (lying h) (content_of g) (content_of h) (shown g v) shown_after m S w roots r limit_same sound_after
+  kept_after roots r = kept (shown s.keeps) shown_after s.carries roots r limit_same sound_after
 
   pub before_after : IsAsBefore (content_of g) (content_of h)
-  before_after = as_before (lying g) (lying h) (content_of g) (content_of h) (shown g v) shown_after m S w all
+  before_after = as_before (shown s.keeps) shown_after s.carries s.all
 
   -- the residents take no more cells
   pub fewer_cells : resident_cells (content_of h) ≤ resident_cells (content_of g)

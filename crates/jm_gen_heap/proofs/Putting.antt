@@ -94,8 +94,8 @@ pub record IsPutTo (old new : Blocks) (p first next k : ℕ) (places : List ℕ)
   pub lane : new.lane ≡ old.lane
 
 -- and one value more, a reference or another
-pub put_ref : (old mid new : Blocks) (p first next k : ℕ) (places : List ℕ) (r n : ℕ) (o : Object) → IsPutTo old mid p first next k places → objects_in old p ≡ Some o → slice_get o.values k ≡ Some (Ref r) → slice_get places next ≡ Some n → IsSet mid new p k (Ref n) → new.lane ≡ mid.lane → IsPutTo old new p first (next + 1) (k + 1) places
-put_ref old mid new p first next k places r n o i e there read set lane = subst (λ m. IsPutTo old new p first (next + 1) m places) (sym (add-one k)) (record {
+pub put_ref : {old mid new : Blocks} {p first next k : ℕ} {places : List ℕ} {r n : ℕ} {o : Object} → IsPutTo old mid p first next k places → objects_in old p ≡ Some o → slice_get o.values k ≡ Some (Ref r) → slice_get places next ≡ Some n → IsSet mid new p k (Ref n) → new.lane ≡ mid.lane → IsPutTo old new p first (next + 1) (k + 1) places
+put_ref {old = old} {mid = mid} {new = new} {p = p} {first = first} {next = next} {k = k} {places = places} {r = r} {n = n} {o = o} i e there read set lane = subst (λ m. IsPutTo old new p first (next + 1) m places) (sym (add-one k)) (record {
   come = λ x f. let same : x ≡ o = cc in
       let before = i.come o e in
       let count = ap length (refs_next k o.values (Ref r) there) in
@@ -114,8 +114,8 @@ put_ref old mid new p first next k places r n o i e there read set lane = subst 
     changed : Changed mid new p (with_value (with_values o (partly (drop first places) k o.values)) k (Ref n))
     changed = set (with_values o (partly (drop first places) k o.values)) (i.here o e)
 
-pub put_plain : (old new : Blocks) (p first next k : ℕ) (places : List ℕ) (v : Value) (o : Object) → IsPutTo old new p first next k places → objects_in old p ≡ Some o → slice_get o.values k ≡ Some v → refs v ≡ [] → ((ms : List ℕ) → value_shape.refill ms v ≡ v) → IsPutTo old new p first next (k + 1) places
-put_plain old new p first next k places v o i e there none stays = subst (λ m. IsPutTo old new p first next m places) (sym (add-one k)) (record {
+pub put_plain : {old new : Blocks} {p first next k : ℕ} {places : List ℕ} {v : Value} {o : Object} → IsPutTo old new p first next k places → objects_in old p ≡ Some o → slice_get o.values k ≡ Some v → refs v ≡ [] → ((ms : List ℕ) → value_shape.refill ms v ≡ v) → IsPutTo old new p first next (k + 1) places
+put_plain {old = old} {new = new} {p = p} {first = first} {next = next} {k = k} {places = places} {v = v} {o = o} i e there none stays = subst (λ m. IsPutTo old new p first next m places) (sym (add-one k)) (record {
   come = λ x f. let same : x ≡ o = cc in
       let before = i.come o e in
       let count = ap length (refs_next k o.values v there ∙ ap (λ ms. refs_to k o.values ++ ms) none) in
@@ -131,12 +131,12 @@ put_plain old new p first next k places v o i e there none stays = subst (λ m. 
 })
 
 -- a value that is read of the object on the way is one of those before
-pub value_before : (old mid : Blocks) (p first next k : ℕ) (places : List ℕ) (v : Value) (o : Object) → IsPutTo old mid p first next k places → objects_in old p ≡ Some o → ((a : Object) → objects_in mid p ≡ Some a → slice_get a.values k ≡ Some v) → slice_get o.values k ≡ Some v
-value_before old mid p first next k places v o i e read = sym (at_partly (drop first places) k o.values) ∙ read (with_values o (partly (drop first places) k o.values)) (i.here o e)
+pub value_before : {old mid : Blocks} {p first next k : ℕ} {places : List ℕ} {v : Value} {o : Object} → IsPutTo old mid p first next k places → objects_in old p ≡ Some o → ((a : Object) → objects_in mid p ≡ Some a → slice_get a.values k ≡ Some v) → slice_get o.values k ≡ Some v
+value_before {first = first} {k = k} {places = places} {o = o} i e read = sym (at_partly (drop first places) k o.values) ∙ read (with_values o (partly (drop first places) k o.values)) (i.here o e)
 
 -- there is a place for each reference
-pub place_left : (old mid : Blocks) (p first next k : ℕ) (places : List ℕ) (r : ℕ) (o : Object) → IsPutTo old mid p first next k places → objects_in old p ≡ Some o → slice_get o.values k ≡ Some (Ref r) → first + length (stack_shape.refs o.values) ≤ length places → next < length places
-place_left old mid p first next k places r o i e there enough =
+pub place_left : {old mid : Blocks} {p first next k : ℕ} {places : List ℕ} {r : ℕ} {o : Object} → IsPutTo old mid p first next k places → objects_in old p ≡ Some o → slice_get o.values k ≡ Some (Ref r) → first + length (stack_shape.refs o.values) ≤ length places → next < length places
+place_left {k = k} {r = r} {o = o} i e there enough =
     let more = ap length (refs_next k o.values (Ref r) there) in
     let one = length-append (refs_to k o.values) (r ∷ []) in
     let all = refs_within (suc k) o.values in
@@ -213,8 +213,8 @@ pub record AreBackTo (objects places : List ℕ) (first next k : ℕ) (old new :
   pub come : next ≡ first + length (fields_of old (take k objects))
   pub back : AreWrittenBack (take k objects) (drop first places) old new
 
-pub back_more : (objects places : List ℕ) (first next after k p : ℕ) (old mid new : Blocks) → AllDistinct objects → k < length objects → p ≡ get_or objects k p → AreBackTo objects places first next k old mid → HasObject old p → IsPutInto mid new p (drop next places) → ((o : Object) → objects_in mid p ≡ Some o → after ≡ next + length (stack_shape.refs o.values)) → AreBackTo objects places first after (k + 1) old new
-back_more objects places first next after k p old mid new d h e b there put count = record {
+pub back_more : {objects places : List ℕ} {first next after k p : ℕ} {old mid new : Blocks} → AllDistinct objects → k < length objects → p ≡ get_or objects k p → AreBackTo objects places first next k old mid → HasObject old p → IsPutInto mid new p (drop next places) → ((o : Object) → objects_in mid p ≡ Some o → after ≡ next + length (stack_shape.refs o.values)) → AreBackTo objects places first after (k + 1) old new
+back_more {objects = objects} {places = places} {first = first} {next = next} {k = k} {p = p} {old = old} {mid = mid} {new = new} d h e b there put count = record {
   come =
       let next_fields = ap length (fields_next old objects k p h e) ∙ length-append (fields_of old (take k objects)) (refs_in (objects_in old p)) in
       let here : length (refs_in (objects_in old p)) ≡ length (stack_shape.refs there.0.values) = ap (λ o. length (refs_in o)) there.1 in

@@ -29,7 +29,7 @@ abbrev pub IsClosed : (ℕ → Option Object) → Type 0
 IsClosed f = (p q : ℕ) (a : Object) → f p ≡ Some a → Among q (stack_shape.refs a.values) → LiesAt f q
 
 -- what lies at places, and the content that shows it
-module _ (f : ℕ → Option Object) (c : Content ClassId) (s : Shows f c) where
+module _ {f : ℕ → Option Object} {c : Content ClassId} (s : Shows f c) where
   pub at_place : (p k : ℕ) → serial_at c p ≡ Some k → (a : Object) × (f p ≡ Some a) × (a.serial ≡ k)
   at_place p k e = behind (f p) k (sym (s.serials p) ∙ e)
 

@@ -19,17 +19,17 @@ use Rattle.jm_gen_heap.proofs.Making.{shown}
 module _ (g : Generations) (v : AreGenerations g) where
   -- where a serial is, an object lies, and the other way round
   pub place_lies : (p k : ℕ) → serial_at (content_of g) p ≡ Some k → (a : Object) × (lying g p ≡ Some a) × (a.serial ≡ k)
-  place_lies p k e = at_place (lying g) (content_of g) (shown g v) p k e
+  place_lies p k e = at_place (shown v) p k e
 
   pub lies_serial : (p : ℕ) (a : Object) → lying g p ≡ Some a → serial_at (content_of g) p ≡ Some a.serial
-  lies_serial p a e = serial_is (lying g) (content_of g) (shown g v) p a e
+  lies_serial p a e = serial_is (shown v) p a e
 
   -- a resident is the object that lies at its place, with serials for places
   pub object_is : (p k : ℕ) (a : Object) (x : ObjectOf ClassId) → serial_at (content_of g) p ≡ Some k → object_at (content_of g) k ≡ Some x → lying g p ≡ Some a → x ≡ named (name_of (content_of g)) a
   object_is p k a x e f l =
       let number : Some a.serial ≡ Some k = sym (lies_serial p a l) ∙ e in
       let serial : a.serial ≡ k = cc in
-      let both : Some x ≡ Some (named (name_of (content_of g)) a) = sym f ∙ ap (object_at (content_of g)) (sym serial) ∙ (shown g v).objects p a l in
+      let both : Some x ≡ Some (named (name_of (content_of g)) a) = sym f ∙ ap (object_at (content_of g)) (sym serial) ∙ (shown v).objects p a l in
       cc
 
   pub length_is : (p k : ℕ) (a : Object) (x : ObjectOf ClassId) → serial_at (content_of g) p ≡ Some k → object_at (content_of g) k ≡ Some x → lying g p ≡ Some a → length a.values ≡ length x.values
@@ -48,7 +48,7 @@ module _ (g : Generations) (v : AreGenerations g) where
 
   pub value_is : (p i : ℕ) (a : Object) (w : Value) → lying g p ≡ Some a → slice_get a.values i ≡ Some w → HasValue (content_of g) p i (rename (name_of (content_of g)) w)
   value_is p i a w l e =
-      (a.serial, named (name_of (content_of g)) a, lies_serial p a l, (shown g v).objects p a l, get_map (rename (name_of (content_of g))) a.values i w e)
+      (a.serial, named (name_of (content_of g)) a, lies_serial p a l, (shown v).objects p a l, get_map (rename (name_of (content_of g))) a.values i w e)
 
   pub value_resident : (p i : ℕ) (a : Object) (w : Value) → lying g p ≡ Some a → slice_get a.values i ≡ Some w → AllResident (content_of g) (refs w)
-  value_resident p i a w l e = lying_resident (lying g) (content_of g) (shown g v) (refs w) (λ q k. v.told.closed p q a l (refs_in value_shape a.values i w q e k))
+  value_resident p i a w l e = lying_resident (shown v) (refs w) (λ q k. v.told.closed p q a l (refs_in value_shape a.values i w q e k))

@@ -1,5 +1,5 @@
 -- The serials of all objects, and in another order.
-use Rattle.std.proofs.Common.{◌≡◌, ◌⊎◌, ℕ, zero, suc, ◌+◌, ◌<◌, ◌≤◌, List, [], ◌∷◌, ◌++◌, Some, None, true, false, refl, sym, ap, ◌∙◌, length, take, arith, append_assoc, append-nil}
+use Rattle.std.proofs.Common.{◌≡◌, ℕ, zero, suc, ◌+◌, ◌<◌, ◌≤◌, List, [], ◌∷◌, ◌++◌, Some, None, true, false, refl, sym, ap, ◌∙◌, length, take, arith, append_assoc, append-nil}
 use Rattle.std.specs.Prelude.{map, nat_eq, sum_by, slice_get}
 use Rattle.std.specs.Ordering.{nat_cmp}
 use Rattle.std.specs.List.{flat_map}
@@ -63,7 +63,7 @@ content_serials g = of_residents (serial_name g) (placed_in (stores_of g)) ∙ i
 pub are_resident : (g : Generations) → AreGenerations g → (found sorted : List ℕ) → found ≡ all_serials (stores_of g) → IsPermutation found sorted → IsSorted nat_cmp sorted → AreResident (content_of g) sorted
 are_resident g v found sorted is moved up = record {
   sorted = up;
-  once = distinct_times sorted (λ k. let same = same_times k in let few = times_distinct k serials (sound g v).serials in omega (arith, same, few));
+  once = distinct_times sorted (λ k. let same = same_times k in let few = times_distinct k serials (sound v).serials in omega (arith, same, few));
   same = λ k. (listed k, lies_listed k);
 }
   where
@@ -77,13 +77,13 @@ are_resident g v found sorted is moved up = record {
     listed k a =
         let many = times_among k sorted a in
         let same = same_times k in
-        let x = (shown g v).listed k (among_times k serials (omega (arith, many, same))) in
+        let x = (shown v).listed k (among_times k serials (omega (arith, many, same))) in
         (x.0, lies_serial g v x.0 x.1 x.2 ∙ ap Some x.3)
 
     lies_listed : (k : ℕ) → (p : ℕ) × (serial_at (content_of g) p ≡ Some k) → Among k sorted
     lies_listed k h =
         let x = place_lies g v h.0 k h.1 in
-        let there = serial_listed (content_of g) k _ (ap (object_at (content_of g)) (sym x.2) ∙ (shown g v).objects h.0 x.0 x.1) in
+        let there = serial_listed (content_of g) k _ (ap (object_at (content_of g)) (sym x.2) ∙ (shown v).objects h.0 x.0 x.1) in
         let many = times_among k serials there in
         let same = same_times k in
         among_times k sorted (omega (arith, many, same))

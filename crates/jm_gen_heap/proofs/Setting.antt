@@ -25,7 +25,7 @@ use Rattle.jm_gen_heap.proofs.ResidentCells.{cells_covered, cells_alike, serial_
 use Rattle.jm_gen_heap.proofs.Lanes.{AreLaned, lanes, lying_young, lying_old, young_lies, old_lies}
 use Rattle.jm_gen_heap.proofs.Making.{laned, shown, sound}
 
-module _ (g h : Generations) (s : AreGenerations g) (p i : ℕ) (v : Value) (w : IsWritten g h p i v) (names : AllResident (content_of g) (refs v)) where
+module _ {g h : Generations} (s : AreGenerations g) {p i : ℕ} {v : Value} (w : IsWritten g h p i v) (names : AllResident (content_of g) (refs v)) where
   abbrev c : Content ClassId
   c = content_of g
 
@@ -98,19 +98,19 @@ module _ (g h : Generations) (s : AreGenerations g) (p i : ℕ) (v : Value) (w :
     where
       lies_before : (q r : ℕ) (a : Object) (x : Before q a) → Among r (stack_shape.refs x.object.values) ⊎ ((q ≡ p) × Among r (refs v)) → LiesAt (lying g) r
       lies_before q r a x (inl m) = s.told.closed q r x.object x.lay m
-      lies_before q r a x (inr m) = resident_lies (lying g) c (shown g s) (refs v) names r m.1
+      lies_before q r a x (inr m) = resident_lies (shown s) (refs v) names r m.1
 
       named_lies : (r : ℕ) → LiesAt (lying g) r → LiesAt (lying h) r
       named_lies r y = let z = after r y.0 y.1 in (z.object, z.lies)
 
   shown_after : Shows (lying h) d
-  shown_after = shows h (lanes h laned_after) told_after
+  shown_after = shows h (lanes laned_after) told_after
 
   sound_after : IsSound d
-  sound_after = sound_content h (lanes h laned_after) told_after
+  sound_after = sound_content h (lanes laned_after) told_after
 
   serials : (q : ℕ) → serial_at d q ≡ serial_at c q
-  serials q = shown_after.serials q ∙ by (lying g q) refl (lying h q) refl ∙ sym ((shown g s).serials q)
+  serials q = shown_after.serials q ∙ by (lying g q) refl (lying h q) refl ∙ sym ((shown s).serials q)
     where
       by : (x : Option Object) → lying g q ≡ x → (y : Option Object) → lying h q ≡ y → serial_of y ≡ serial_of x
       by None e None f = refl
@@ -133,19 +133,19 @@ module _ (g h : Generations) (s : AreGenerations g) (p i : ℕ) (v : Value) (w :
 
   changed : (k : ℕ) (o : ObjectOf ClassId) → serial_at c p ≡ Some k → object_at c k ≡ Some o → object_at d k ≡ Some (record { type = o.type; values = slice_set o.values i (rename (name_of c) v) })
   changed k o e f =
-      let number : Some w.object.serial ≡ Some k = sym (serial_is (lying g) c (shown g s) p w.object w.lay) ∙ e in
+      let number : Some w.object.serial ≡ Some k = sym (serial_is (shown s) p w.object w.lay) ∙ e in
       let serial : w.object.serial ≡ k = cc in
-      let both : Some (named (name_of c) w.object) ≡ Some o = sym ((shown g s).objects p w.object w.lay) ∙ ap (object_at c) serial ∙ f in
+      let both : Some (named (name_of c) w.object) ≡ Some o = sym ((shown s).objects p w.object w.lay) ∙ ap (object_at c) serial ∙ f in
       let was : named (name_of c) w.object ≡ o = cc in
       ap (object_at d) (sym serial)
       ∙ shown_after.objects p (with_value w.object i v) w.here
       ∙ ap Some (written_object ∙ ap (λ (x : ObjectOf ClassId). record { type = x.type; values = slice_set x.values i (rename (name_of c) v) }) was)
 
   other_objects : (k j : ℕ) → serial_at c p ≡ Some k → j ≢ k → object_at d j ≡ object_at c j
-  other_objects k j e away = options_agree (object_at d j) (object_at c j) (λ x f. was x (shown_after.only j x f)) (λ x f. is x ((shown g s).only j x f))
+  other_objects k j e away = options_agree (object_at d j) (object_at c j) (λ x f. was x (shown_after.only j x f)) (λ x f. is x ((shown s).only j x f))
     where
       written_serial : w.object.serial ≡ k
-      written_serial = let number : Some w.object.serial ≡ Some k = sym (serial_is (lying g) c (shown g s) p w.object w.lay) ∙ e in cc
+      written_serial = let number : Some w.object.serial ≡ Some k = sym (serial_is (shown s) p w.object w.lay) ∙ e in cc
 
       here : (q : ℕ) (a : Object) → lying g q ≡ Some a → a.serial ≡ j → q ≢ p
       here q a f same t =
@@ -157,7 +157,7 @@ module _ (g h : Generations) (s : AreGenerations g) (p i : ℕ) (v : Value) (w :
       was x r =
           let b = before r.0 r.1 r.2 in
           let lay : lying g r.0 ≡ Some r.1 = sym (w.others r.0 (here r.0 b.object b.lay (sym b.alike.serial ∙ r.3))) ∙ r.2 in
-          ap (object_at c) (sym r.3) ∙ (shown g s).objects r.0 r.1 lay ∙ ap Some (sym (r.4 ∙ named_same (name_of d) (name_of c) r.1 (λ q m. names_same q)))
+          ap (object_at c) (sym r.3) ∙ (shown s).objects r.0 r.1 lay ∙ ap Some (sym (r.4 ∙ named_same (name_of d) (name_of c) r.1 (λ q m. names_same q)))
 
       is : (x : ObjectOf ClassId) → (q : ℕ) × (a : Object) × (lying g q ≡ Some a) × (a.serial ≡ j) × (x ≡ named (name_of c) a) → object_at d j ≡ Some x
       is x r =
@@ -171,53 +171,53 @@ module _ (g h : Generations) (s : AreGenerations g) (p i : ℕ) (v : Value) (w :
   -- no object has another size
   same_cells : resident_cells d ≡ resident_cells c
   same_cells =
-      cells_covered d (serials_of c.residents) sound_after (sound g s).serials cover
+      cells_covered d (serials_of c.residents) sound_after (sound s).serials cover
       ∙ cells_alike (object_at d) (object_at c) (serials_of c.residents) alike
-      ∙ sym (cells_covered c (serials_of c.residents) (sound g s) (sound g s).serials (λ k a. a))
+      ∙ sym (cells_covered c (serials_of c.residents) (sound s) (sound s).serials (λ k a. a))
     where
       cover : (k : ℕ) → Among k (serials_of d.residents) → Among k (serials_of c.residents)
       cover k a =
           let r = shown_after.listed k a in
           let x = before r.0 r.1 r.2 in
-          serial_listed c k (named (name_of c) x.object) (ap (object_at c) (sym r.3 ∙ x.alike.serial) ∙ (shown g s).objects r.0 x.object x.lay)
+          serial_listed c k (named (name_of c) x.object) (ap (object_at c) (sym r.3 ∙ x.alike.serial) ∙ (shown s).objects r.0 x.object x.lay)
 
       size : (name : ℕ → ℕ) (a : Object) → cells_of class_size (Some (named name a)) ≡ class_size a.class (length a.values)
       size name a = ap (class_size a.class) (length-map a.values (rename name))
 
       alike : (k : ℕ) → Among k (serials_of c.residents) → cells_of class_size (object_at d k) ≡ cells_of class_size (object_at c k)
       alike k m =
-          let r = (shown g s).listed k m in
+          let r = (shown s).listed k m in
           let x = after r.0 r.1 r.2 in
           ap (cells_of class_size) (ap (object_at d) (sym r.3 ∙ sym x.alike.serial) ∙ shown_after.objects r.0 x.object x.lies)
           ∙ size (name_of d) x.object
           ∙ ap (λ t. class_size t (length x.object.values)) x.alike.class
           ∙ ap (class_size r.1.class) x.alike.many
           ∙ sym (size (name_of c) r.1)
-          ∙ ap (cells_of class_size) (sym ((shown g s).objects r.0 r.1 r.2) ∙ ap (object_at c) r.3)
+          ∙ ap (cells_of class_size) (sym ((shown s).objects r.0 r.1 r.2) ∙ ap (object_at c) r.3)
 
   aged_after : AreAged h
   aged_after = record {
-    young = λ q a e. let y = young_lies h laned_after q a e in let x = before q a y.1 in let age = s.aged.young q x.object (sym (lying_young g (laned g s) q y.0) ∙ x.lay) in omega (arith, age, x.alike.age);
-    old = λ q a e. let y = old_lies h laned_after q a e in let x = before q a y.1 in x.alike.age ∙ s.aged.old q x.object (sym (lying_old g (laned g s) q y.0) ∙ x.lay);
+    young = λ q a e. let y = young_lies laned_after q a e in let x = before q a y.1 in let age = s.aged.young q x.object (sym (lying_young (laned s) q y.0) ∙ x.lay) in omega (arith, age, x.alike.age);
+    old = λ q a e. let y = old_lies laned_after q a e in let x = before q a y.1 in x.alike.age ∙ s.aged.old q x.object (sym (lying_old (laned s) q y.0) ∙ x.lay);
   }
 
   remembered_after : AreRemembered h
   remembered_after = record {
-    covers = λ q r a e m y. let z = old_lies h laned_after q a e in let x = before q a z.1 in covered q r a z.0 y x (x.refs_from r m);
+    covers = λ q r a e m y. let z = old_lies laned_after q a e in let x = before q a z.1 in covered q r a z.0 y x (x.refs_from r m);
     old = λ q a. old q (w.noted.only q a);
   }
     where
       covered : (q r : ℕ) (a : Object) → lane_of q ≡ old_lane → IsYoung r → (x : Before q a) → Among r (stack_shape.refs x.object.values) ⊎ ((q ≡ p) × Among r (refs v)) → Among q h.remembered
-      covered q r a lane y x (inl m) = w.noted.keeps q (s.remembered.covers q r x.object (sym (lying_old g (laned g s) q lane) ∙ x.lay) m y)
+      covered q r a lane y x (inl m) = w.noted.keeps q (s.remembered.covers q r x.object (sym (lying_old (laned s) q lane) ∙ x.lay) m y)
       covered q r a lane y x (inr m) = subst (λ n. Among n h.remembered) (sym m.0) (w.noted.covers (ap lane_of (sym m.0) ∙ lane) r m.1 y)
 
       now_old : (q : ℕ) (b : Object) → lying h q ≡ Some b → lane_of q ≡ old_lane → HasObject h.tenured q
-      now_old q b e lane = (b, sym (lying_old h laned_after q lane) ∙ e)
+      now_old q b e lane = (b, sym (lying_old laned_after q lane) ∙ e)
 
       old : (q : ℕ) → Among q g.remembered ⊎ ((q ≡ p) × (lane_of p ≡ old_lane)) → HasObject h.tenured q
       old q (inl a) =
           let x = s.remembered.old q a in
-          let y = old_lies g (laned g s) q x.0 x.1 in
+          let y = old_lies (laned s) q x.0 x.1 in
           let z = after q x.0 y.1 in
           now_old q z.object z.lies y.0
       old q (inr t) = now_old q (with_value w.object i v) (ap (lying h) t.0 ∙ w.here) (ap lane_of t.0 ∙ t.1)

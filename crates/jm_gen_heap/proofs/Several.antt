@@ -8,6 +8,7 @@ use Rattle.jm_values.specs.Rename.{stack_shape}
 use Rattle.jm_values.specs.Objects.{ObjectOf, size_by}
 use Rattle.jm_values.specs.Content.{Content, Kept, MadeAll, AllResident, AreAtEnd, object_at, serial_at, name_of}
 use Rattle.jm_values.proofs.Renaming.{stack_is_shape}
+use Rattle.jm_values.proofs.Lists.{some_there as there_at}
 use Rattle.jm_heap.specs.Allocation.{AreRefused, AreRefusedHere, IsRefusedHere}
 use Rattle.jm_heap.specs.Cells.{class_size}
 use Rattle.jm_heap.specs.NewObject.{new_object}
@@ -30,14 +31,16 @@ use Rattle.jm_gen_heap.proofs.Showing.{Told}
 use Rattle.jm_gen_heap.proofs.Reaching.{LiesAt, resident_lies, serial_is}
 use Rattle.jm_gen_heap.proofs.ResidentCells.{used_at_most}
 use Rattle.jm_gen_heap.proofs.Carrying.{Carries, kept, carried_same}
-use Rattle.jm_gen_heap.proofs.Making.{shown, sound, reached_below, unnamed_map, plain_named, put_keeps}
+use Rattle.jm_gen_heap.proofs.Making.{shown, sound, reached_below, plain_named, put_keeps}
 use Rattle.jm_gen_heap.proofs.Following.{kept_twice, still_used}
 use Rattle.jm_gen_heap.proofs.Allocating.{limit_of, next_of, object_was}
 use Rattle.jm_gen_heap.proofs.Alike.{alike_content, alike_twice, alike_keeps, put_alike}
+use Rattle.jm_program.proofs.Texts.{map_same as unnamed_map}
+use Rattle.jm_program.proofs.Sequences.{got_last as at_end}
 
 -- what is like what was put was put
 pub first_alike : (g : Generations) (places : List ℕ) (n : ℕ) (xs : List (ObjectOf ClassId)) (k : ℕ) (h after : Generations) → AreFirstPut g places n xs k h → IsAlike h after → AreFirstPut g places n xs k after
-first_alike g places n xs zero h after f a = alike_twice g h after f a
+first_alike g places n xs zero h after f a = alike_twice f a
 first_alike g places n xs (suc k) h after f a = record {
   mid = f.mid;
   earlier = f.earlier;
@@ -46,25 +49,21 @@ first_alike g places n xs (suc k) h after f a = record {
   object = f.object;
   object_is = f.object_is;
   put = record {
-    put = record { object = f.put.put.object; put = put_alike f.mid h after f.place f.put.put.object f.put.put.put a; fresh = f.put.put.fresh; shape = f.put.put.shape; nursery = f.put.put.nursery };
+    put = record { object = f.put.put.object; put = put_alike f.put.put.put a; fresh = f.put.put.fresh; shape = f.put.put.shape; nursery = f.put.put.nursery };
     above = f.put.above;
   };
 }
 
 -- each step keeps to what the generations do
 pub first_keeps : (g : Generations) (places : List ℕ) (n : ℕ) (xs : List (ObjectOf ClassId)) (k : ℕ) (h : Generations) → AreGenerations g → AreFirstPut g places n xs k h → AreGenerations h
-first_keeps g places n xs zero h v f = alike_keeps g h v f
+first_keeps g places n xs zero h v f = alike_keeps v f
 first_keeps g places n xs (suc k) h v f =
-    put_keeps f.mid h (first_keeps g places n xs k f.mid v f.earlier) f.place f.put.put.object f.put.put.put f.put.put.fresh
+    put_keeps (first_keeps g places n xs k f.mid v f.earlier) f.put.put.put f.put.put.fresh
 
 still_in : (xs : List ℕ) (y i x : ℕ) → slice_get xs i ≡ Some x → slice_get (xs ++ y ∷ []) i ≡ Some x
 still_in [] y i x e = cc
 still_in (z ∷ xs) y zero x e = e
 still_in (z ∷ xs) y (suc i) x e = still_in xs y i x e
-
-at_end : (xs : List ℕ) (y : ℕ) → slice_get (xs ++ y ∷ []) (length xs) ≡ Some y
-at_end [] y = refl
-at_end (x ∷ xs) y = at_end xs y
 
 first_longer : (g : Generations) (places : List ℕ) (p n : ℕ) (xs : List (ObjectOf ClassId)) (k : ℕ) (h : Generations) → AreFirstPut g places n xs k h → AreFirstPut g (places ++ p ∷ []) n xs k h
 first_longer g places p n xs zero h f = f
@@ -193,13 +192,8 @@ take_all : (xs : List (ObjectOf ClassId)) → take (length xs) xs ≡ xs
 take_all [] = refl
 take_all (x ∷ xs) = ap (λ l. x ∷ l) (take_all xs)
 
-there_at : (places : List ℕ) (i : ℕ) → i < length places → (p : ℕ) × (slice_get places i ≡ Some p)
-there_at [] i h = absurd (omega (arith, h))
-there_at (p ∷ places) zero h = (p, refl)
-there_at (p ∷ places) (suc i) h = there_at places i (omega (arith, h))
-
 -- all are made, as every heap makes them
-module _ (g h : Generations) (v : AreGenerations g) (places : List ℕ) (n : ℕ) (xs : List (ObjectOf ClassId)) (m : AreAllPut g h places n xs) where
+module _ {g h : Generations} (v : AreGenerations g) {places : List ℕ} {n : ℕ} {xs : List (ObjectOf ClassId)} (m : AreAllPut g h places n xs) where
   abbrev c : Content ClassId
   c = content_of g
 
@@ -227,7 +221,7 @@ module _ (g h : Generations) (v : AreGenerations g) (places : List ℕ) (n : ℕ
   placed : (i p : ℕ) → slice_get places i ≡ Some p → serial_at d p ≡ Some (c.next + i)
   placed i p e =
       let l = lies_new i p e in
-      serial_is (lying h) d (shown h w) p l.object l.lies ∙ ap Some (l.serial ∙ ap (λ k. k + i) (sym (next_of g)))
+      serial_is (shown w) p l.object l.lies ∙ ap Some (l.serial ∙ ap (λ k. k + i) (sym (next_of g)))
 
   filled : (i : ℕ) (x : ObjectOf ClassId) → slice_get xs i ≡ Some x → object_at d (c.next + i) ≡ Some x
   filled i x e =
@@ -236,7 +230,7 @@ module _ (g h : Generations) (v : AreGenerations g) (places : List ℕ) (n : ℕ
       let at = there_at places i (omega (arith, within, many)) in
       let l = lies_new i at.0 at.1 in
       ap (object_at d) (ap (λ k. k + i) (next_of g) ∙ sym l.serial)
-      ∙ (shown h w).objects at.0 l.object l.lies
+      ∙ (shown w).objects at.0 l.object l.lies
       ∙ ap Some (plain_named (name_of d) l.object l.plain)
       ∙ sym l.shape
       ∙ e
@@ -246,40 +240,40 @@ module _ (g h : Generations) (v : AreGenerations g) (places : List ℕ) (n : ℕ
 
   pub all_made : (roots : List ℕ) → AllResident c roots → MadeAll class_size c roots d roots places xs
   all_made roots r = record {
-    kept = subst (λ l. Kept c roots d l) (unnamed_map roots) (kept (lying g) (lying h) c d (shown g v) (shown h w) (λ q. q) (LiesAt (lying g)) carries roots (resident_lies (lying g) c (shown g v) roots r) limit_same (sound h w));
+    kept = subst (λ l. Kept c roots d l) (unnamed_map roots) (kept (shown v) (shown w) carries roots (resident_lies (shown v) roots r) limit_same (sound w));
     next = next_of h ∙ first.next ∙ ap (λ k. k + length xs) (sym (next_of g));
     many = m.many;
     placed = placed;
     filled = filled;
-    fits = (let used = used_at_most c roots (reached_below g v roots r) in let counted = v.counted in let within = w.within in let limit = first.limit in let own = limit_of g in let more = sizes in omega (arith, used, counted, within, limit, own, more));
+    fits = (let used = used_at_most c roots (reached_below v roots r) in let counted = v.counted in let within = w.within in let limit = first.limit in let own = limit_of g in let more = sizes in omega (arith, used, counted, within, limit, own, more));
     lasts = (let lasts = m.lasts in let next = next_of g in omega (arith, lasts, next));
   }
 
   -- what was there is as it was
   pub all_still : (k : ℕ) (x : ObjectOf ClassId) → object_at c k ≡ Some x → object_at d k ≡ Some x
   all_still k x e =
-      let r = (shown g v).only k x e in
-      subst (λ j. object_at d j ≡ object_at c j) r.3 (carried_same (lying g) (lying h) c d (shown g v) (shown h w) (λ q. q) (LiesAt (lying g)) carries r.0 r.1 (r.1, r.2) r.2) ∙ e
+      let r = (shown v).only k x e in
+      subst (λ j. object_at d j ≡ object_at c j) r.3 (carried_same (shown v) (shown w) carries r.0 r.1 (r.1, r.2) r.2) ∙ e
 
   pub all_as_before : AreAsBeforeMaking c d
   all_as_before k x low e =
-      let r = (shown h w).only k x e in
+      let r = (shown w).only k x e in
       by r.0 r.1 r.3 (first.only r.0 r.1 r.2)
     where
       by : (q : ℕ) (a : Object) → a.serial ≡ k → (lying g q ≡ Some a) ⊎ (g.next ≤ a.serial) → object_at c k ≡ Some x
       by q a s (inl t) =
-          sym (subst (λ j. object_at d j ≡ object_at c j) s (carried_same (lying g) (lying h) c d (shown g v) (shown h w) (λ y. y) (LiesAt (lying g)) carries q a (a, t) t)) ∙ e
+          sym (subst (λ j. object_at d j ≡ object_at c j) s (carried_same (shown v) (shown w) carries q a (a, t) t)) ∙ e
       by q a s (inr high) = let next = next_of g in absurd (omega (arith, low, next, high, s))
 
 -- they are made after what was kept
 pub all_after : (old mid new : Content ClassId) (roots moved places : List ℕ) (xs : List (ObjectOf ClassId)) → Kept old roots mid moved → mid.next ≡ old.next → MadeAll class_size mid moved new moved places xs → MadeAll class_size old roots new moved places xs
 all_after old mid new roots moved places xs k next m = record {
-  kept = kept_twice old mid roots moved k new moved m.kept;
+  kept = kept_twice k new moved m.kept;
   next = m.next ∙ ap (λ j. j + length xs) next;
   many = m.many;
   placed = λ i p e. m.placed i p e ∙ ap (λ j. Some (j + i)) next;
   filled = λ i x e. ap (λ j. object_at new (j + i)) (sym next) ∙ m.filled i x e;
-  fits = (let used = still_used old mid roots moved k next in let limit = k.limit in let fits = m.fits in omega (arith, used, limit, fits));
+  fits = (let used = still_used k next in let limit = k.limit in let fits = m.fits in omega (arith, used, limit, fits));
   lasts = (let lasts = m.lasts in omega (arith, lasts, next));
 }
 
@@ -289,7 +283,7 @@ all_before old mid new next a b k x low e = a k x (b k x (omega (arith, low, nex
 -- serials are at their end, and there is room
 pub all_at_end : (g : Generations) → AreGenerations g → (xs : List (ObjectOf ClassId)) → all_cells g + all_sizes xs ≤ g.limit → 2 ^ 63 < g.next + length xs → (roots : List ℕ) → AllResident (content_of g) roots → AreAtEnd class_size (content_of g) roots xs
 all_at_end g v xs room end roots r =
-    let used = used_at_most (content_of g) roots (reached_below g v roots r) in
+    let used = used_at_most (content_of g) roots (reached_below v roots r) in
     let counted = v.counted in
     let limit = limit_of g in
     let next = next_of g in
@@ -310,7 +304,7 @@ all_refused old mid roots moved xs OutOfMemory k next h = tt
 all_refused old mid roots moved xs HeapFull k next h = absurd h
 all_refused old mid roots moved xs SerialsEnd k next h =
     let at = h moved k.resident in
-    let used = still_used old mid roots moved k next in
+    let used = still_used k next in
     let limit = k.limit in
     (omega (arith, at.0, used, limit), omega (arith, at.1, next))
 
@@ -352,14 +346,14 @@ many_objects [] = refl
 many_objects (s ∷ shapes) = ap suc (many_objects shapes)
 
 -- one more, behind the places that there are
-pub first_push : (g : Generations) (places more : List ℕ) (p n : ℕ) (xs : List (ObjectOf ClassId)) (k : ℕ) (mid h : Generations) (x : ObjectOf ClassId) → AreFirstPut g places n xs k mid → length places ≡ k → more ≡ places ++ p ∷ [] → slice_get xs k ≡ Some x → IsPutNew mid h p n x → IsAbove mid p n → AreFirstPut g more n xs (k + 1) h
-first_push g places more p n xs k mid h x f many e there put above =
+pub first_push : (g : Generations) (places : List ℕ) {more : List ℕ} {p n : ℕ} (xs : List (ObjectOf ClassId)) (k : ℕ) {mid h : Generations} {x : ObjectOf ClassId} → AreFirstPut g places n xs k mid → length places ≡ k → more ≡ places ++ p ∷ [] → slice_get xs k ≡ Some x → IsPutNew mid h p n x → IsAbove mid p n → AreFirstPut g more n xs (k + 1) h
+first_push g places {more = more} {p = p} {n = n} xs k {mid = mid} {h = h} {x = x} f many e there put above =
     let one : suc k ≡ k + 1 = omega arith in
     subst (λ j. AreFirstPut g more n xs j h) one (subst (λ l. AreFirstPut g l n xs (suc k) h) (sym e) (first_next g places p n xs k mid h x f many there (record { put = put; above = above })))
 
 -- a new object has survived none
-pub new_age : (g h : Generations) (n : ℕ) (xs : List (ObjectOf ClassId)) (i p : ℕ) → LiesNew g h n xs i p → HasSurvived h p 0
-new_age g h n xs i p l a e =
+pub new_age : {g h : Generations} {n : ℕ} {xs : List (ObjectOf ClassId)} {i p : ℕ} → LiesNew g h n xs i p → HasSurvived h p 0
+new_age l a e =
     let both : Some l.object ≡ Some a = sym l.lies ∙ e in
     let same : l.object ≡ a = cc in
     ap (λ (o : Object). o.age) (sym same) ∙ l.age
@@ -370,8 +364,8 @@ module _ {T E : Type 0} (r : Result T E) (places : T → List ℕ) (g h : Genera
   tried_before old next before ok err = by r ok err
     where
       by : (s : Result T E) → IfOk s (λ x. AreAllPut g h (places x) n xs) → OnErr s (IsAlike g h) → AreAsBeforeMaking old (content_of h)
-      by (Ok x) put b = all_before old (content_of g) (content_of h) next before (all_as_before g h v (places x) n xs put)
-      by (Err x) put b = λ k o low e. before k o (ap (λ c. object_at c k) (sym (alike_content g h v b)) ∙ e)
+      by (Ok x) put b = all_before old (content_of g) (content_of h) next before (all_as_before v put)
+      by (Err x) put b = λ k o low e. before k o (ap (λ c. object_at c k) (sym (alike_content v b)) ∙ e)
 
   pub tried_stays : (first : Generations) (cells : ℕ) → AreGenerations first → OldStay first g cells → IfOk r (λ x. AreAllPut g h (places x) n xs) → OnErr r (IsAlike g h) → OldStay first h cells
   tried_stays first cells w stays ok err = by r ok err
@@ -379,5 +373,5 @@ module _ {T E : Type 0} (r : Result T E) (places : T → List ℕ) (g h : Genera
       by : (s : Result T E) → IfOk s (λ x. AreAllPut g h (places x) n xs) → OnErr s (IsAlike g h) → OldStay first h cells
       by (Ok x) put b = λ fits k old.
           let was = object_was first w k old in
-          all_still g h v (places x) n xs put k was.0 (stays fits k old ∙ was.1) ∙ sym was.1
-      by (Err x) put b = λ fits k old. ap (λ c. object_at c k) (alike_content g h v b) ∙ stays fits k old
+          all_still v put k was.0 (stays fits k old ∙ was.1) ∙ sym was.1
+      by (Err x) put b = λ fits k old. ap (λ c. object_at c k) (alike_content v b) ∙ stays fits k old

@@ -33,9 +33,9 @@ pub same_bare : (s : Shape) (h : Header) → h.class ≡ (new_object s).type →
 same_bare s h e = ap (λ t. record { type = t; values = (new_object s).values }) e
 
 -- it is put into a nursery
-pub put_held : (limit next cells : ℕ) (young new : Young) (tenured : Blocks) (pointers : Noted) → AreHeld limit next young tenured cells pointers → (s : Shape) (h : Header) → h ≡ record { serial = next; class = (new_object s).type; age = 0 } → (p n : ℕ) → IsMade young new n p (object_of h (new_object s).values) → all_cells (held limit next young tenured pointers) + size_by class_size (new_object s) ≤ limit → next < 2 ^ 63 → AreHeld limit (next + 1) new tenured cells pointers × IsPutNew (held limit next young tenured pointers) (held limit (next + 1) new tenured pointers) p n (new_object s)
-put_held limit next cells young new tenured pointers a s h header p n made room lasts =
-    (record { small = a.small; same = ap (λ y. y.limit) made.lanes ∙ a.same; counted = a.counted; keeps = put_keeps g after a.keeps p o put fresh }, record { object = o; put = put; fresh = fresh; shape = same_bare s h (ap (λ x. x.class) header); nursery = made.lane })
+pub put_held : {limit next cells : ℕ} {young new : Young} {tenured : Blocks} {pointers : Noted} {view : Generations} → AreHeld limit next young tenured cells pointers → held limit next young tenured pointers ≡ view → (s : Shape) {h : Header} {p n : ℕ} → h ≡ record { serial = next; class = (new_object s).type; age = 0 } → IsMade young new n p (object_of h (new_object s).values) → all_cells view + size_by class_size (new_object s) ≤ view.limit → next < 2 ^ 63 → AreHeld limit (next + 1) new tenured cells pointers × IsPutNew (held limit next young tenured pointers) (held limit (next + 1) new tenured pointers) p n (new_object s)
+put_held {limit = limit} {next = next} {young = young} {new = new} {tenured = tenured} {pointers = pointers} a is s {h = h} {p = p} {n = n} header made fits lasts =
+    (record { small = a.small; same = ap (λ y. y.limit) made.lanes ∙ a.same; counted = a.counted; keeps = put_keeps a.keeps put fresh }, record { object = o; put = put; fresh = fresh; shape = same_bare s h (ap (λ x. x.class) header); nursery = made.lane })
   where
     g : Generations
     g = held limit next young tenured pointers
@@ -51,5 +51,6 @@ put_held limit next cells young new tenured pointers a s h header p n made room 
 
     put : IsPut g after p o
     put =
+        let room = subst (λ (x : Generations). all_cells x + size_by class_size (new_object s) ≤ x.limit) (sym is) fits in
         let size = same_size s h (new_object s).values (ap (λ x. x.class) header) refl in
-        nursery_made g (laned g a.keeps) new n p o (subst (λ l. IsMade (record { limit = l; lanes = young.lanes }) new n p o) a.same made) (omega (arith, size, room))
+        nursery_made (laned a.keeps) (subst (λ l. IsMade (record { limit = l; lanes = young.lanes }) new n p o) a.same made) (omega (arith, size, room))

@@ -30,7 +30,7 @@ module _ (limit : ℕ) (nurseries : List Blocks) (tenured : Blocks) (r : AreNurs
   no_old p a e = let both : None ≡ Some a = sym (no_cells tenured bare p) ∙ e in cc
 
   nothing_lies : (p : ℕ) (a : Object) → lying g p ≡ Some a → ⊥
-  nothing_lies p a e = by (lies_where g laned p a e)
+  nothing_lies p a e = by (lies_where laned p a e)
     where
       by : LiesYoung g p a ⊎ LiesOld g p a → ⊥
       by (inl y) = no_young p a y.lies

@@ -3,7 +3,6 @@ use Rattle.std.proofs.Common.{◌≡◌, ◌≢◌, ℕ, ◌+◌, ◌-◌, ◌<�
 use Rattle.std.specs.Prelude.{◌&&◌, slice_get, slice_set, nat_le}
 use Rattle.std.proofs.lemmas.Bool.{leb-true, le-leb}
 use Rattle.std.proofs.lemmas.Bool.Decides.{eqb_tells}
-use Rattle.std.proofs.lemmas.List.{length-set}
 use Rattle.std.proofs.lemmas.List.Sums.{sum_by-set}
 use Rattle.std.proofs.lemmas.Option.{slice_get_within, get_or_from_slice_get}
 use Rattle.jm_program.proofs.Sequences.{got_written, got_unwritten}
@@ -13,7 +12,8 @@ use Rattle.jm_blocks.specs.Cells.{object_cells}
 use Rattle.jm_blocks.specs.Places.{lane_of}
 use Rattle.jm_blocks.specs.Stores.{Blocks, objects_in, store_cells, store_with, Changed, IsSet}
 use Rattle.jm_blocks.proofs.Placing.{lies_in}
-use Rattle.jm_nursery.specs.Nurseries.{Young, AreNurseries, IsMade, lane_cells, young_cells, nursery_at}
+use Rattle.jm_nursery.specs.Nurseries.{Young, IsMade, lane_cells, young_cells, nursery_at}
+use Rattle.jm_nursery.proofs.Making.{nurseries_set}
 use Rattle.jm_barrier.specs.Remembered.{noted}
 use Rattle.jm_copy.specs.Condemned.{objects_at, object_of_store}
 use Rattle.jm_copy.proofs.Making.{bumped_free}
@@ -53,91 +53,85 @@ young_set stores n s t e =
     let same : lane_cells s ≡ lane_cells s = refl in
     rw (get_or_from_slice_get stores n s s e) at all
 
-pub nurseries_set : (stores : List Blocks) (n : ℕ) (s t : Blocks) → AreNurseries stores → slice_get stores n ≡ Some s → t.lane ≡ s.lane → AreNurseries (slice_set stores n t)
-nurseries_set stores n s t r e h = record {
-  many = length-set stores n t ∙ r.many;
-  numbered = λ k x f. by k x f (eqb_tells k n);
-}
-  where
-    by : (k : ℕ) (x : Blocks) → slice_get (slice_set stores n t) k ≡ Some x → Told k n → x.lane ≡ k + 1
-    by k x f (inr d) = r.numbered k x (sym (got_unwritten stores n k t d.1) ∙ f)
-    by k x f (inl d) =
-        let here : Some t ≡ Some x = sym (got_written stores n t (slice_get_within stores n s e)) ∙ ap (slice_get (slice_set stores n t)) (sym d.1) ∙ f in
-        let same : x ≡ t = cc in
-        ap (λ y. y.lane) same ∙ h ∙ r.numbered n s e ∙ ap (λ m. m + 1) (sym d.1)
+-- the store of a nursery is to be another, in which one object of its lane is another
+pub record NurseryChange (g : Generations) (n : ℕ) (s t : Blocks) (p : ℕ) (o : Object) : Type 0 where
+  pub laned : AreLaned g
+  pub store : slice_get g.nurseries n ≡ Some s
+  pub lane : t.lane ≡ s.lane
+  pub at : lane_of p ≡ s.lane
+  pub changed : Changed s t p o
 
--- one object of a nursery is another
-module _ (g : Generations) (l : AreLaned g) (p : ℕ) (o : Object) (next n : ℕ) (s t : Blocks) (e : slice_get g.nurseries n ≡ Some s) (lane : t.lane ≡ s.lane) (at : lane_of p ≡ s.lane) (w : Changed s t p o) where
+module _ {g : Generations} {n : ℕ} {s t : Blocks} {p : ℕ} {o : Object} (c : NurseryChange g n s t p o) (next : ℕ) where
   abbrev after : Generations
   after = with_nursery g n t next
 
   few : n < 16
-  few = let within = slice_get_within g.nurseries n s e in omega (arith, within, l.nurseries.many)
+  few = let within = slice_get_within g.nurseries n s c.store in omega (arith, within, c.laned.nurseries.many)
 
   pub nursery_laned : AreLaned (with_nursery g n t next)
-  nursery_laned = record { nurseries = nurseries_set g.nurseries n s t l.nurseries e lane; tenured = l.tenured }
+  nursery_laned = record { nurseries = nurseries_set g.nurseries n s t c.laned.nurseries c.store c.lane; tenured = c.laned.tenured }
 
   pub nursery_young : IsYoung p
-  nursery_young = let number = l.nurseries.numbered n s e in record { some = omega (arith, at, number); few = omega (arith, at, number, few) }
+  nursery_young = let number = c.laned.nurseries.numbered n s c.store in record { some = omega (arith, c.at, number); few = omega (arith, c.at, number, few) }
 
   at_number : (q : ℕ) → lane_of q ≡ s.lane → lane_of q - 1 ≡ n
-  at_number q f = let number = l.nurseries.numbered n s e in omega (arith, f, number)
+  at_number q f = let number = c.laned.nurseries.numbered n s c.store in omega (arith, f, number)
 
   read_old : (q : ℕ) → lane_of q ≡ s.lane → objects_at g.nurseries q ≡ objects_in s q
   unfolding objects_at
-  read_old q f = ap (λ k. object_of_store (slice_get g.nurseries k) q) (at_number q f) ∙ ap (λ x. object_of_store x q) e
+  read_old q f = ap (λ k. object_of_store (slice_get g.nurseries k) q) (at_number q f) ∙ ap (λ x. object_of_store x q) c.store
 
   read_new : (q : ℕ) → lane_of q ≡ s.lane → objects_at (slice_set g.nurseries n t) q ≡ objects_in t q
   unfolding objects_at
-  read_new q f = ap (λ k. object_of_store (slice_get (slice_set g.nurseries n t) k) q) (at_number q f) ∙ ap (λ x. object_of_store x q) (got_written g.nurseries n t (slice_get_within g.nurseries n s e))
+  read_new q f = ap (λ k. object_of_store (slice_get (slice_set g.nurseries n t) k) q) (at_number q f) ∙ ap (λ x. object_of_store x q) (got_written g.nurseries n t (slice_get_within g.nurseries n s c.store))
 
   read_other : (q : ℕ) → IsYoung q → lane_of q ≢ s.lane → objects_at (slice_set g.nurseries n t) q ≡ objects_at g.nurseries q
   unfolding objects_at
-  read_other q y f = ap (λ x. object_of_store x q) (got_unwritten g.nurseries n (lane_of q - 1) t (λ k. f (let number = l.nurseries.numbered n s e in omega (arith, k, number, y.some))))
+  read_other q y f = ap (λ x. object_of_store x q) (got_unwritten g.nurseries n (lane_of q - 1) t (λ k. f (let number = c.laned.nurseries.numbered n s c.store in omega (arith, k, number, y.some))))
 
   young_same : (q : ℕ) → q ≢ p → IsYoung q → objects_at (slice_set g.nurseries n t) q ≡ objects_at g.nurseries q
   young_same q away y = by (eqb_tells (lane_of q) s.lane)
     where
       by : Told (lane_of q) s.lane → objects_at (slice_set g.nurseries n t) q ≡ objects_at g.nurseries q
-      by (inl k) = read_new q k.1 ∙ w.others q away ∙ sym (read_old q k.1)
+      by (inl k) = read_new q k.1 ∙ c.changed.others q away ∙ sym (read_old q k.1)
       by (inr k) = read_other q y k.1
 
   nursery_here : lying after p ≡ Some o
-  nursery_here = lying_young after nursery_laned p nursery_young ∙ read_new p at ∙ w.here
+  nursery_here = lying_young nursery_laned p nursery_young ∙ read_new p c.at ∙ c.changed.here
 
   pub nursery_others : (q : ℕ) → q ≢ p → lying after q ≡ lying g q
-  nursery_others q away = same_lying g after l nursery_laned q (λ y. young_same q away y) (λ k. refl)
+  nursery_others q away = same_lying c.laned nursery_laned q (λ y. young_same q away y) (λ k. refl)
 
   pub nursery_lay : lying g p ≡ objects_in s p
-  nursery_lay = lying_young g l p nursery_young ∙ read_old p at
+  nursery_lay = lying_young c.laned p nursery_young ∙ read_old p c.at
 
 -- an object more in a nursery, at a place of it that was free
-pub nursery_put : (g : Generations) → AreLaned g → (p : ℕ) (o : Object) (n : ℕ) (s t : Blocks) → slice_get g.nurseries n ≡ Some s → t.lane ≡ s.lane → lane_of p ≡ s.lane → Changed s t p o → objects_in s p ≡ None → store_cells t.lists ≡ store_cells s.lists + object_cells o → all_cells g + object_cells o ≤ g.limit → IsPut g (with_nursery g n t (g.next + 1)) p o
-nursery_put g l p o n s t e lane at w free size room = record {
+pub nursery_put : {g : Generations} {n : ℕ} {s t : Blocks} {p : ℕ} {o : Object} → NurseryChange g n s t p o → objects_in s p ≡ None → store_cells t.lists ≡ store_cells s.lists + object_cells o → all_cells g + object_cells o ≤ g.limit → IsPut g (with_nursery g n t (g.next + 1)) p o
+nursery_put {g = g} {n = n} {s = s} {t = t} {o = o} c free size room = record {
   limit = refl;
   next = refl;
-  nurseries = (nursery_laned g l p o (g.next + 1) n s t e lane at w).nurseries;
+  nurseries = (nursery_laned c (g.next + 1)).nurseries;
   tenured = refl;
   remembered = refl;
-  young = nursery_young g l p o (g.next + 1) n s t e lane at w;
-  fresh = nursery_lay g l p o (g.next + 1) n s t e lane at w ∙ free;
-  here = nursery_here g l p o (g.next + 1) n s t e lane at w;
-  others = nursery_others g l p o (g.next + 1) n s t e lane at w;
+  young = nursery_young c (g.next + 1);
+  fresh = nursery_lay c (g.next + 1) ∙ free;
+  here = nursery_here c (g.next + 1);
+  others = nursery_others c (g.next + 1);
   cells = cells;
   within = (omega (arith, cells, room));
 }
   where
     cells : all_cells (with_nursery g n t (g.next + 1)) ≡ all_cells g + object_cells o
-    cells = let set = young_set g.nurseries n s t e in omega (arith, set, size)
+    cells = let set = young_set g.nurseries n s t c.store in omega (arith, set, size)
 
 -- as the nurseries make it
-pub nursery_made : (g : Generations) → AreLaned g → (young : Young) (n p : ℕ) (o : Object) → IsMade (record { limit = g.limit; lanes = g.nurseries }) young n p o → all_cells g + object_cells o ≤ g.limit → IsPut g (record { limit = g.limit; next = g.next + 1; nurseries = young.lanes; tenured = g.tenured; remembered = g.remembered }) p o
-nursery_made g l young n p o m room =
-    let put = nursery_put g l p o n m.store (store_with m.store o) m.store_is refl at m.bumped.changed (bumped_free m.store (store_with m.store o) p o m.bumped) size room in
+pub nursery_made : {g : Generations} → AreLaned g → {young : Young} {n p : ℕ} {o : Object} → IsMade (record { limit = g.limit; lanes = g.nurseries }) young n p o → all_cells g + object_cells o ≤ g.limit → IsPut g (record { limit = g.limit; next = g.next + 1; nurseries = young.lanes; tenured = g.tenured; remembered = g.remembered }) p o
+nursery_made {g = g} l {young = young} {n = n} {p = p} {o = o} m room =
+    let put = nursery_put change (bumped_free m.store (store_with m.store o) p o m.bumped) size room in
     subst (λ (lanes : List Blocks). IsPut g (record { limit = g.limit; next = g.next + 1; nurseries = lanes; tenured = g.tenured; remembered = g.remembered }) p o) (sym (ap (λ y. y.lanes) m.lanes)) put
   where
-    at : lane_of p ≡ m.store.lane
-    at = (in_lane p n m.lane).0 ∙ sym (l.nurseries.numbered n m.store m.store_is)
+    change : NurseryChange g n m.store (store_with m.store o) p o
+    change = record { laned = l; store = m.store_is; lane = refl; at = (in_lane p n m.lane).0 ∙ sym (l.nurseries.numbered n m.store m.store_is); changed = m.bumped.changed }
 
     size : store_cells (store_with m.store o).lists ≡ store_cells m.store.lists + object_cells o
     size =
@@ -146,22 +140,22 @@ nursery_made g l young n p o m room =
         omega (arith, set, made)
 
 -- a value of an object in a nursery is set
-module _ (g : Generations) (v : AreGenerations g) (n : ℕ) (s t : Blocks) (p i : ℕ) (x : Value) (o : Object) (e : slice_get g.nurseries n ≡ Some s) (lane : t.lane ≡ s.lane) (lies : objects_in s p ≡ Some o) (w : IsSet s t p i x) (cells : store_cells t.lists ≡ store_cells s.lists) where
-  in_its_lane : lane_of p ≡ s.lane
-  in_its_lane = (lies_in s p o lies).lane
+module _ {g : Generations} (v : AreGenerations g) (n : ℕ) {s : Blocks} (t : Blocks) {p : ℕ} (i : ℕ) (x : Value) {o : Object} (e : slice_get g.nurseries n ≡ Some s) (lane : t.lane ≡ s.lane) (lies : objects_in s p ≡ Some o) (w : IsSet s t p i x) (cells : store_cells t.lists ≡ store_cells s.lists) where
+  change : NurseryChange g n s t p (with_value o i x)
+  change = record { laned = laned v; store = e; lane = lane; at = (lies_in s p o lies).lane; changed = w o lies }
 
   pub nursery_set : IsWritten g (with_nursery g n t g.next) p i x
   nursery_set = record {
     limit = refl;
     next = refl;
-    nurseries = (nursery_laned g (laned g v) p (with_value o i x) g.next n s t e lane in_its_lane (w o lies)).nurseries;
+    nurseries = (nursery_laned change g.next).nurseries;
     tenured = v.tenured;
     object = o;
-    lay = nursery_lay g (laned g v) p (with_value o i x) g.next n s t e lane in_its_lane (w o lies) ∙ lies;
-    here = nursery_here g (laned g v) p (with_value o i x) g.next n s t e lane in_its_lane (w o lies);
-    others = nursery_others g (laned g v) p (with_value o i x) g.next n s t e lane in_its_lane (w o lies);
+    lay = nursery_lay change g.next ∙ lies;
+    here = nursery_here change g.next;
+    others = nursery_others change g.next;
     noted = record {
-      covers = λ at q m y. absurd (not_both p (nursery_young g (laned g v) p (with_value o i x) g.next n s t e lane in_its_lane (w o lies)) at);
+      covers = λ at q m y. absurd (not_both p (nursery_young change g.next) at);
       keeps = λ q a. a;
       only = λ q a. inl a;
     };
@@ -169,7 +163,7 @@ module _ (g : Generations) (v : AreGenerations g) (n : ℕ) (s t : Blocks) (p i 
   }
 
 -- a value of an old object is set: it is noted, or the value names no young one
-module _ (g : Generations) (v : AreGenerations g) (t : Blocks) (p i : ℕ) (x : Value) (o : Object) (lane : t.lane ≡ g.tenured.lane) (lies : objects_in g.tenured p ≡ Some o) (w : IsSet g.tenured t p i x) (cells : store_cells t.lists ≡ store_cells g.tenured.lists) where
+module _ {g : Generations} (v : AreGenerations g) (t : Blocks) {p : ℕ} (i : ℕ) (x : Value) {o : Object} (lane : t.lane ≡ g.tenured.lane) (lies : objects_in g.tenured p ≡ Some o) (w : IsSet g.tenured t p i x) (cells : store_cells t.lists ≡ store_cells g.tenured.lists) where
   old_place : lane_of p ≡ old_lane
   old_place = (lies_in g.tenured p o lies).lane ∙ v.tenured
 
@@ -183,9 +177,9 @@ module _ (g : Generations) (v : AreGenerations g) (t : Blocks) (p i : ℕ) (x : 
     nurseries = v.nurseries;
     tenured = lane ∙ v.tenured;
     object = o;
-    lay = lying_old g (laned g v) p old_place ∙ lies;
-    here = lying_old (with_tenured g t remembered) (old_laned remembered) p old_place ∙ (w o lies).here;
-    others = λ q away. same_lying g (with_tenured g t remembered) (laned g v) (old_laned remembered) q (λ y. refl) (λ k. (w o lies).others q away);
+    lay = lying_old (laned v) p old_place ∙ lies;
+    here = lying_old (old_laned remembered) p old_place ∙ (w o lies).here;
+    others = λ q away. same_lying (laned v) (old_laned remembered) q (λ y. refl) (λ k. (w o lies).others q away);
     noted = noted;
     cells = (omega (arith, cells));
   }

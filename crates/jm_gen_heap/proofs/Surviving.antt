@@ -15,9 +15,9 @@ use Rattle.jm_copy.specs.Pointing.{points_to}
 use Rattle.jm_gen_heap.specs.Collections.{AreSurvivors}
 
 -- nurseries that have the survivors have them in the first
-pub first_has : (young : Blocks) (stores : List Blocks) → AreSurvivors young stores → (p : ℕ) → objects_at stores p ≡ objects_in young p
+pub first_has : {young : Blocks} {stores : List Blocks} → AreSurvivors young stores → (p : ℕ) → objects_at stores p ≡ objects_in young p
 unfolding objects_at
-first_has young stores s p = by (lane_of p - 1) refl (slice_get stores (lane_of p - 1)) refl
+first_has {young = young} {stores = stores} s p = by (lane_of p - 1) refl (slice_get stores (lane_of p - 1)) refl
   where
     lane : young.lane ≡ 1
     lane = s.nurseries.numbered zero young s.first

@@ -11,7 +11,7 @@ use Rattle.jm_values.proofs.Renaming.{stack_is_shape}
 use Rattle.jm_blocks.specs.Objects.{Object}
 use Rattle.jm_blocks.specs.Stores.{Blocks, objects_in}
 use Rattle.jm_gen_heap.specs.Collections.{refs_in, fields_of, with_values, AreRefilled}
-use Rattle.jm_gen_heap.proofs.Making.{unnamed_map}
+use Rattle.jm_program.proofs.Texts.{map_same as unnamed_map}
 
 -- values whose references are others in order have them under other names
 pub refilled_values : (m : ℕ → ℕ) (vs : List Value) (rest : List ℕ) → stack_shape.refill (map m (stack_shape.refs vs) ++ rest) vs ≡ map (rename m) vs

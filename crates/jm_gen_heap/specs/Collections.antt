@@ -31,6 +31,10 @@ pub record AreSurvivors (young : Blocks) (stores : List Blocks) : Type 0 where
 abbrev pub IsWhole : Blocks → Type 0
 IsWhole s = (b : ℕ) (os : List Object) → slice_get s.lists b ≡ Some os → length os ≤ 256
 
+-- of each store
+abbrev pub AreWhole : List Blocks → Type 0
+AreWhole stores = (n : ℕ) (s : Blocks) → slice_get stores n ≡ Some s → IsWhole s
+
 -- the generations with other objects
 abbrev pub collected_as : Generations → List Blocks → Blocks → List ℕ → Generations
 collected_as g nurseries tenured remembered = record { limit = g.limit; next = g.next; nurseries = nurseries; tenured = tenured; remembered = remembered }

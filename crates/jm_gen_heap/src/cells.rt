@@ -2,7 +2,8 @@
 
 ghost use Rattle.std.specs.Prelude.{◌≡◌, ◌<◌, ◌^◌};
 ghost use Rattle.jm_blocks.specs.Stores.{store_cells};
-ghost use Rattle.jm_gen_heap.specs.Collections.{IsWhole};
+ghost use Rattle.jm_nursery.specs.Nurseries.{young_cells};
+ghost use Rattle.jm_gen_heap.specs.Collections.{AreWhole, IsWhole};
 
 use jm_blocks::BlockStore;
 
@@ -16,6 +17,18 @@ pub fn store_cells(store: &BlockStore) -> u64
         let block = store.block(number);
         let _objects = block.len();
         cells = cells.saturating_add(block.cells());
+    }
+    cells
+}
+
+/// The cells of all objects of nurseries, where they are fewer than 2^64.
+pub fn young_cells(stores: &[BlockStore]) -> u64
+    ensures value { young_cells stores.now < 2 ^ 64 → result ≡ young_cells stores.now }
+    ensures short { AreWhole stores.now }
+{
+    let mut cells = 0u64;
+    for number in 0..stores.len() {
+        cells = cells.saturating_add(store_cells(&stores[number]));
     }
     cells
 }

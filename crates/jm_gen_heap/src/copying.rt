@@ -1,17 +1,19 @@
-// The stores of a heap are handed to its collector.
+// The stores of a heap are handed to its collector, and others are put in their place.
 
-ghost use Rattle.std.specs.Prelude.{◌≡◌, ℕ, List, ◌++◌, ◌∷◌, [], IfOk, IfErr, OnErr};
-ghost use Rattle.jm_blocks.specs.Stores.{Blocks, objects_in};
+ghost use Rattle.std.specs.Prelude.{◌≡◌, ℕ, ◌+◌, ◌<◌, ◌≤◌, ◌^◌, List, ◌++◌, ◌∷◌, [], IfOk, OnErr};
+ghost use Rattle.jm_blocks.specs.Stores.{Blocks, objects_in, store_cells};
 ghost use Rattle.jm_nursery.specs.Nurseries.{AreNurseries, young_cells};
 ghost use Rattle.jm_gen_heap.specs.Generations.{old_lane};
-ghost use Rattle.jm_gen_heap.specs.Collections.{AreSurvivors};
-ghost use Rattle.jm_gen_heap.specs.Copying.{IsCopied};
+ghost use Rattle.jm_gen_heap.specs.Collections.{AreSurvivors, AreWhole, IsWhole};
+ghost use Rattle.jm_gen_heap.specs.Copying.{ArePutIn, IsCopied};
 
+use crate::cells::{store_cells, young_cells};
 use jm_blocks::BlockStore;
-use jm_copy::{Collector, Survivors};
-use jm_nursery::empty_nurseries;
+use jm_copy::{Collector, Refused, Survivors};
+use jm_nursery::{Nurseries, empty_nurseries};
 use jm_values::Place;
-use std::alloc::Global;
+use std::alloc::{AllocError, Global};
+use std::mem;
 
 /// The lane of the old objects, behind those of the nurseries.
 pub const OLD_LANE: u64 = 17;
@@ -65,36 +67,41 @@ fn in_old_lane(alloc: Global, store: BlockStore) -> BlockStore
     BlockStore::new(alloc, OLD_LANE)
 }
 
-/// Copies the young objects that the roots reach. Where a growth is refused, the objects and the
-/// roots are as they were.
+/// Takes the stores out and copies the young objects that the roots reach, with empty stores in their
+/// place meanwhile. Where a growth is refused, the objects are put back as they were, and the roots
+/// have not changed.
 pub fn copy_young<C: Collector>(
     alloc: Global,
     collector: &C,
-    stores: Stores,
+    young: &mut Nurseries,
+    tenured: &mut BlockStore,
     roots: &mut Vec<Place>,
-) -> Result<Copied, Stores>
-    requires nurseries { AreNurseries stores.young.items }
-    requires lane { stores.tenured.lane ≡ old_lane }
-    ensures ok { IfOk result (λ c. IsCopied stores.young.items stores.tenured roots.old.items
+) -> Result<Copied, AllocError>
+    requires { tenured.old.lane ≡ old_lane }
+    ensures ok { IfOk result (λ c. IsCopied young.old.lanes tenured.old roots.old.items
         c.stores.young.items c.stores.tenured c.promoted.items roots.new.items) }
-    ensures young { IfErr result (λ s. s.young.items ≡ stores.young.items) }
-    ensures tenured { IfErr result (λ s. (p : ℕ) → objects_in s.tenured p ≡ objects_in stores.tenured p) }
-    ensures lane { IfErr result (λ s. s.tenured.lane ≡ old_lane) }
+    ensures limit { young.new.limit ≡ young.old.limit }
+    ensures young { OnErr result (young.new ≡ young.old) }
+    ensures lane { OnErr result (tenured.new.lane ≡ old_lane) }
+    ensures tenured { OnErr result ((p : ℕ) → objects_in tenured.new p ≡ objects_in tenured.old p) }
     ensures roots { OnErr result (roots.new.items ≡ roots.old.items) }
 {
-    let Ok(young) = empty_nurseries(alloc) else {
-        return Err(stores);
-    };
-    let Stores {
-        young: condemned,
-        tenured,
-    } = stores;
-    match collector.collect(alloc, condemned, tenured, roots) {
-        Ok(survivors) => Ok(take_survivors(young, survivors)),
-        Err(refused) => Err(Stores {
-            young: refused.condemned,
-            tenured: in_old_lane(alloc, refused.tenured),
-        }),
+    let nurseries = empty_nurseries(alloc)?;
+    let placeholder = empty_nurseries(alloc)?;
+    let cells = young.cells();
+    let condemned = young.exchange(placeholder, 0);
+    let store = mem::replace(tenured, BlockStore::new(alloc, OLD_LANE));
+    match collector.collect(alloc, condemned, store, roots) {
+        Ok(survivors) => Ok(take_survivors(nurseries, survivors)),
+        Err(refused) => {
+            let Refused {
+                condemned,
+                tenured: store,
+            } = refused;
+            let _placeholder = young.exchange(condemned, cells);
+            *tenured = in_old_lane(alloc, store);
+            Err(AllocError)
+        }
     }
 }
 
@@ -112,38 +119,61 @@ fn apart(alloc: Global, mut all: Vec<BlockStore>) -> Stores
     }
 }
 
-/// Copies the objects that the roots reach. Where a growth is refused, the stores and the roots are
-/// as they were.
+/// Takes the stores out and copies the objects that the roots reach, with empty stores in their place
+/// meanwhile. Where a growth is refused, the stores are put back, and the roots have not changed.
 pub fn copy_all<C: Collector>(
     alloc: Global,
     collector: &C,
-    stores: Stores,
+    young: &mut Nurseries,
+    tenured: &mut BlockStore,
     roots: &mut Vec<Place>,
-) -> Result<Copied, Stores>
-    requires nurseries { AreNurseries stores.young.items }
-    requires lane { stores.tenured.lane ≡ old_lane }
-    ensures ok { IfOk result (λ c. IsCopied (stores.young.items ++ stores.tenured ∷ []) (record { lane = old_lane; lists = [] }) roots.old.items
+) -> Result<Copied, AllocError>
+    requires { tenured.old.lane ≡ old_lane }
+    ensures ok { IfOk result (λ c. IsCopied (young.old.lanes ++ tenured.old ∷ []) (record { lane = old_lane; lists = [] }) roots.old.items
         c.stores.young.items c.stores.tenured c.promoted.items roots.new.items) }
-    ensures young { IfErr result (λ s. s.young.items ≡ stores.young.items) }
-    ensures tenured { IfErr result (λ s. s.tenured ≡ stores.tenured) }
+    ensures limit { young.new.limit ≡ young.old.limit }
+    ensures young { OnErr result (young.new ≡ young.old) }
+    ensures tenured { OnErr result (tenured.new ≡ tenured.old) }
     ensures roots { OnErr result (roots.new.items ≡ roots.old.items) }
 {
-    let Ok(young) = empty_nurseries(alloc) else {
-        return Err(stores);
-    };
-    let Stores {
-        young: mut all,
-        tenured,
-    } = stores;
+    let nurseries = empty_nurseries(alloc)?;
+    let placeholder = empty_nurseries(alloc)?;
+    let cells = young.cells();
+    let mut all = young.exchange(placeholder, 0);
     if all.reserve(1).is_err() {
-        return Err(Stores {
-            young: all,
-            tenured,
-        });
+        let _placeholder = young.exchange(all, cells);
+        return Err(AllocError);
     }
-    all.push_reserved(tenured);
+    all.push_reserved(mem::replace(tenured, BlockStore::new(alloc, OLD_LANE)));
     match collector.collect(alloc, all, BlockStore::new(alloc, OLD_LANE), roots) {
-        Ok(survivors) => Ok(take_survivors(young, survivors)),
-        Err(refused) => Err(apart(alloc, refused.condemned)),
+        Ok(survivors) => Ok(take_survivors(nurseries, survivors)),
+        Err(refused) => {
+            let Stores {
+                young: condemned,
+                tenured: store,
+            } = apart(alloc, refused.condemned);
+            let _placeholder = young.exchange(condemned, cells);
+            *tenured = store;
+            Err(AllocError)
+        }
     }
+}
+
+/// Puts stores in the place of those that were taken out, and answers the cells of the old objects.
+pub fn put_stores(young: &mut Nurseries, tenured: &mut BlockStore, stores: Stores) -> u64
+    requires small { young.old.limit < 2 ^ 32 }
+    requires nurseries { AreNurseries stores.young.items }
+    requires within { AreWhole stores.young.items → IsWhole stores.tenured →
+        young_cells stores.young.items + store_cells stores.tenured.lists ≤ young.old.limit }
+    ensures { ArePutIn young.old young.new stores.young.items stores.tenured tenured.new result }
+{
+    let Stores {
+        young: nurseries,
+        tenured: store,
+    } = stores;
+    let young_cells = young_cells(&nurseries);
+    let cells = store_cells(&store);
+    let _placeholder = young.exchange(nurseries, young_cells);
+    *tenured = store;
+    cells
 }

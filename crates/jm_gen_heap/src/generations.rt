@@ -1,9 +1,10 @@
 // The young and the old objects of a heap.
 
 ghost use Rattle.std.specs.Prelude.{◌≡◌, ℕ, ◌+◌, ◌%◌, ◌/◌, ◌<◌, ◌≤◌, ◌^◌, ◌++◌, [], Some, true, false};
-ghost use Rattle.std.specs.Prelude.{IfOk, IfErr, OnOk, OnErr, IsTrue, IsFalse, length, map, take, nat_le, vec_capacity};
+ghost use Rattle.std.specs.Prelude.{IfOk, IfErr, OnOk, OnErr, IsTrue, IsFalse, length, map, take, drop, nat_le, vec_capacity};
 ghost use Rattle.jm_values.specs.Rename.{refs, rename};
 ghost use Rattle.jm_values.specs.Reach.{AllDistinct};
+ghost use Rattle.jm_values.specs.Shape.{Among};
 ghost use Rattle.jm_values.specs.Content.{AllResident, IsSet, name_of, serial_at};
 ghost use Rattle.jm_values.specs.Content.{HasValue as HasContent};
 ghost use Rattle.jm_values.specs.declared.value.Value.{Value};
@@ -15,13 +16,13 @@ ghost use Rattle.jm_heap.specs.Elements.{elements, element_kind};
 ghost use Rattle.jm_heap.specs.Packing.{Fits, kind_of};
 ghost use Rattle.jm_blocks.specs.Objects.{Object, object_of};
 ghost use Rattle.jm_blocks.specs.Places.{lane_of};
-ghost use Rattle.jm_blocks.specs.Stores.{HasValue, objects_in};
-ghost use Rattle.jm_nursery.specs.Nurseries.{AreNurseries, IsMade, young_cells};
+ghost use Rattle.jm_blocks.specs.Stores.{HasObject, HasValue, objects_in};
+ghost use Rattle.jm_nursery.specs.Nurseries.{IsMade, young_cells};
 ghost use Rattle.jm_gen_heap.specs.Generations.{lying, all_cells, old_lane, stores_of};
 ghost use Rattle.jm_gen_heap.specs.Residents.{content_of};
 ghost use Rattle.jm_gen_heap.specs.Invariant.{AreGenerations};
 ghost use Rattle.jm_gen_heap.specs.Steps.{IsWritten};
-ghost use Rattle.jm_gen_heap.specs.Collections.{LeavesAllReached, fields_of};
+ghost use Rattle.jm_gen_heap.specs.Collections.{AreWrittenBack, LeavesAllReached, fields_of};
 ghost use Rattle.jm_barrier.specs.Remembered.{noted};
 ghost use Rattle.jm_gen_heap.specs.Pointers.{IsSettled, StillPoint, names_young};
 ghost use Rattle.jm_gen_heap.specs.Held.{IsPutNew, IsSetOld};
@@ -30,18 +31,17 @@ ghost use Rattle.jm_gen_heap.specs.Several.{AreAllPut, AreBackBefore, AreFirstPu
 ghost use Rattle.jm_gen_heap.specs.Serials.{all_serials, block_serials, store_serials};
 
 use crate::cells::store_cells;
-use crate::copying::{Copied, OLD_LANE, Stores, copy_all, copy_young};
+use crate::copying::{Copied, OLD_LANE, copy_all, copy_young, put_stores};
 use crate::fields::{add_fields, put_fields};
 use crate::pointers::{Pointers, names_young};
 use crate::request::{default_element, header_of};
 use jm_blocks::{Block, BlockStore, Header, Position};
 use jm_copy::Collector;
 use jm_heap::{Elements, HeapFault, Roots, Shape};
-use jm_nursery::{Nurseries, empty_nurseries};
+use jm_nursery::Nurseries;
 use jm_values::{Place, Value};
 use std::alloc::{AllocError, Global};
 use std::marker::Model;
-use std::mem;
 
 // How many objects there can be, so that each has a serial.
 const MAX_SERIALS: u64 = 1 << 63;
@@ -140,24 +140,26 @@ fn put_new(
     }
 }
 
-// Takes the stores out, and puts empty ones in their place.
-fn take_stores(
-    alloc: Global,
-    young: &mut Nurseries,
+// Writes the places that a minor collection moved back: the first ones are the roots, the others the
+// references of the noted objects. These and the promoted ones are then all that may point to young
+// objects.
+fn write_back(
     tenured: &mut BlockStore,
-    placeholder: Vec<BlockStore>,
-) -> Stores
-    requires nurseries { AreNurseries placeholder.items }
-    requires none { young_cells placeholder.items ≡ 0 }
-    ensures young { result.young.items ≡ young.old.lanes }
-    ensures tenured { result.tenured ≡ tenured.old }
-    ensures nurseries { AreNurseries result.young.items }
-    ensures limit { young.new.limit ≡ young.old.limit }
+    pointers: &mut Pointers,
+    promoted: Vec<Place>,
+    places: &Vec<Place>,
+    roots: &mut Roots,
+)
+    requires there { (p : ℕ) → Among p pointers.old.noted → HasObject tenured.old p }
+    requires enough { length places.now.items ≡ length roots.old + length (fields_of tenured.old pointers.old.noted) }
+    ensures fields { AreWrittenBack pointers.old.noted (drop (length roots.old) places.now.items) tenured.old tenured.new }
+    ensures roots { roots.new ≡ take (length roots.old) places.now.items }
+    ensures pointers { pointers.new ≡ record { noted = []; left = pointers.old.noted ++ promoted.items } }
 {
-    Stores {
-        young: young.exchange(placeholder, 0),
-        tenured: mem::replace(tenured, BlockStore::new(alloc, OLD_LANE)),
-    }
+    put_fields(tenured, pointers.noted(), places, roots.len());
+    put_roots(roots, places);
+    let noted = pointers.take();
+    pointers.put(noted, promoted);
 }
 
 /// The nurseries, the store of the old objects, and the old objects that may point to young ones.
@@ -428,29 +430,28 @@ impl Generations {
         ensures roots { OnErr result (roots.new ≡ roots.old) }
     {
         let mut places = minor_roots(self.alloc, &mut self.pointers, &self.tenured, roots)?;
-        let placeholder = empty_nurseries(self.alloc)?;
-        let cells = self.young.cells();
-        let stores = take_stores(self.alloc, &mut self.young, &mut self.tenured, placeholder);
-        match copy_young(self.alloc, collector, stores, &mut places) {
+        match copy_young(
+            self.alloc,
+            collector,
+            &mut self.young,
+            &mut self.tenured,
+            &mut places,
+        ) {
             Ok(copied) => {
-                let Copied { stores, promoted } = copied;
-                let Stores { young, mut tenured } = stores;
-                let before = self.pointers.take();
-                put_fields(&mut tenured, before.as_slice(), &places, roots.len());
-                put_roots(roots, &places);
-                self.tenured_cells = store_cells(&tenured);
-                self.tenured = tenured;
-                let young_cells = store_cells(&young[0]);
-                let _placeholder = self.young.exchange(young, young_cells);
-                self.pointers.put(before, promoted);
+                let mut stores = copied.stores;
+                write_back(
+                    &mut stores.tenured,
+                    &mut self.pointers,
+                    copied.promoted,
+                    &places,
+                    roots,
+                );
+                self.tenured_cells = put_stores(&mut self.young, &mut self.tenured, stores);
                 Ok(())
             }
-            Err(stores) => {
-                let Stores { young, tenured } = stores;
-                self.tenured_cells = store_cells(&tenured);
-                self.tenured = tenured;
-                let _placeholder = self.young.exchange(young, cells);
-                Err(AllocError)
+            Err(fault) => {
+                self.tenured_cells = store_cells(&self.tenured);
+                Err(fault)
             }
         }
     }
@@ -469,28 +470,18 @@ impl Generations {
         ensures roots { OnErr result (roots.new ≡ roots.old) }
     {
         let mut places = list_of(self.alloc, roots)?;
-        let placeholder = empty_nurseries(self.alloc)?;
-        let cells = self.young.cells();
-        let stores = take_stores(self.alloc, &mut self.young, &mut self.tenured, placeholder);
-        match copy_all(self.alloc, collector, stores, &mut places) {
-            Ok(copied) => {
-                let Copied { stores, promoted } = copied;
-                let Stores { young, tenured } = stores;
-                put_roots(roots, &places);
-                self.tenured_cells = store_cells(&tenured);
-                self.tenured = tenured;
-                let young_cells = store_cells(&young[0]);
-                let _placeholder = self.young.exchange(young, young_cells);
-                self.pointers.put(promoted, Vec::new(self.alloc));
-                Ok(())
-            }
-            Err(stores) => {
-                let Stores { young, tenured } = stores;
-                self.tenured = tenured;
-                let _placeholder = self.young.exchange(young, cells);
-                Err(AllocError)
-            }
-        }
+        let copied = copy_all(
+            self.alloc,
+            collector,
+            &mut self.young,
+            &mut self.tenured,
+            &mut places,
+        )?;
+        let Copied { stores, promoted } = copied;
+        put_roots(roots, &places);
+        self.pointers.put(promoted, Vec::new(self.alloc));
+        self.tenured_cells = put_stores(&mut self.young, &mut self.tenured, stores);
+        Ok(())
     }
 
     /// The serials of all objects.

@@ -1,6 +1,6 @@
 -- What is left when an object has come to a place where none lay.
 use Rattle.std.proofs.Common.{◌≡◌, ◌≢◌, ℕ, ◌+◌, ◌<◌, ◌≤◌, ◌^◌, ◌⊎◌, List, [], ◌∷◌, Some, None, true, refl, sym, ap, ◌∙◌, subst, inl, inr, length, arith}
-use Rattle.std.specs.Prelude.{Result, Ok, Err, OnErr, map, is_some, unwrap_or}
+use Rattle.std.specs.Prelude.{map, is_some, unwrap_or}
 use Rattle.std.proofs.lemmas.Bool.Decides.{eqb_tells}
 use Rattle.jm_values.specs.declared.value.Value.{Value}
 use Rattle.jm_values.specs.declared.value.Value.TheVariants.{Int, Long, Null, Ref}
@@ -188,7 +188,3 @@ at_end limit next slots d e s o room last = subst (λ x. (roots : List ℕ) → 
 
 pub new_size : (serial : ℕ) (o : ObjectOf ClassId) → object_cells (numbered serial o) ≡ size_by class_size o
 new_size serial o = same_size (numbered serial o) o refl refl
-
-pub on_err : {T E P : Type 0} (r : Result T E) → P → OnErr r P
-on_err (Ok x) h = tt
-on_err (Err e) h = h

@@ -23,6 +23,7 @@ use Rattle.jm_world.specs.Next.{goes}
 use Rattle.jm_world.specs.Objects.{FieldName, place_of_field, same_field}
 use Rattle.jm_world.specs.Types.{array_of, narrow}
 use Rattle.jm_world.specs.World.{World, Static, Literal, literal_in, set_static_in}
+use Rattle.jm_world.proofs.FoundAgain.{place_within}
 use Rattle.jm_heap.specs.declared.class_id.ClassId.{ClassId}
 use Rattle.jm_tables.specs.Layouts.{static_fields}
 use Rattle.jm_linked.specs.Links.{LinkedView, IsLinked, IsFieldOf}
@@ -41,7 +42,6 @@ use Rattle.jm_interp.proofs.After.{seen_after, then_does}
 use Rattle.jm_interp.proofs.Initialized.{has_class}
 use Rattle.jm_interp.proofs.LiteralRow.{literal_held, literal_is, text_found}
 use Rattle.jm_interp.proofs.OnThread.{model, thread_there, does, does_as}
-use Rattle.jm_interp.proofs.StaticRows.{place_within}
 use Rattle.jm_interp.proofs.StaticStored.{fields, renamed, mid, mid_matches, mid_runs}
 
 -- the value of a string's constant, by what is found of its literal

@@ -28,6 +28,7 @@ use Rattle.jm_world.specs.Resolution.{select}
 use Rattle.jm_world.specs.Stepping.{step_thread, enter_code, enter_found, enter_thread, run_type}
 use Rattle.jm_world.specs.World.{World, Thread, held_shape, returned}
 use Rattle.jm_world.specs.declared.stop.Stop.TheVariants as why
+use Rattle.jm_world.proofs.FoundAgain.{stands_there}
 use Rattle.jm_state.specs.Arguments.{beginning}
 use Rattle.jm_heap.specs.declared.class_id.ClassId.{ClassId}
 use Rattle.jm_linked.specs.Links.{IsMethodOf, IsSelected, class_name_of}
@@ -62,7 +63,7 @@ use Rattle.jm_interp.proofs.Objects.{IsObject}
 use Rattle.jm_interp.proofs.Objects as objects
 use Rattle.jm_interp.proofs.OnThread as thread
 use Rattle.jm_interp.proofs.OnThread.{Leads, model, lower, with_thread_at, read, thread_there, does, does_as, stops, part_here, held_object, held_frames}
-use Rattle.jm_interp.proofs.SelectedCalls.{stands_there, its_descriptor, selected_declares, selected_instance, nothing, without_code, with_code}
+use Rattle.jm_interp.proofs.SelectedCalls.{its_descriptor, selected_declares, selected_instance, nothing, without_code, with_code}
 use Rattle.jm_interp.proofs.Threads.{part_refs, with_top}
 use Rattle.jm_interp.proofs.Unwound.{names_class}
 

@@ -20,8 +20,8 @@ use Rattle.jm_world.specs.Hierarchy.{chain, holds_of_any, is_below, is_subclass,
 use Rattle.jm_world.specs.Loads.{Loads, refusal, wrong_kind, first_of_all, same_bool, is_sealed, is_strange_interface}
 use Rattle.jm_world.specs.Loads.{superclass_of_kind, superclass_refusal, interface_of_kind, parents_refusal}
 use Rattle.jm_world.specs.Objects.{instance_fields, place_of_field}
-use Rattle.jm_world.proofs.FoundAgain.{class_name_is}
 use Rattle.jm_world.proofs.Refusing.{not_refused, first_none, second_none}
+use Rattle.jm_world.proofs.FoundAgain.{has_own_name}
 use Rattle.jm_tables.specs.Layouts.{StandsInChain, slot_at, static_fields}
 use Rattle.jm_tables.specs.Numbering.{name_of}
 use Rattle.jm_tables.specs.declared.layout.FieldSlot.TheVariants.{Instance, Static}
@@ -68,10 +68,6 @@ same_is : (a b : Bool) → same_bool a b ≡ true → b ≡ a
 same_is true b e = e
 same_is false true e = cc
 same_is false false e = refl
-
-pub has_own_name : (program : List ClassParts) (name : List ℕ) (c : ClassParts) → class_named program name ≡ Some c → same_text c.name name ≡ true
-unfolding class_named
-has_own_name program name c e = class_name_is program name c e
 
 -- one of the names for which a test holds
 any_of : (test : List ℕ → Bool) (P : List ℕ → Type 0) (xs : List (List ℕ)) → AllByRecursion P xs → holds_of_any test xs ≡ true

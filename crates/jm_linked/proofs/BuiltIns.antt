@@ -5,15 +5,11 @@ use Rattle.std.specs.List.{AllByRecursion}
 use Rattle.std.specs.Cmp.Lexicographic as texts
 use Rattle.jm_program.specs.Names.{same_text}
 use Rattle.jm_program.specs.declared.class.ClassParts.{ClassParts}
-use Rattle.jm_program.proofs.Truths.{right_false as neither}
 use Rattle.jm_builtins.specs.List.{the_builtins}
 use Rattle.jm_world.specs.Classes.{built_in_named, class_among, class_named}
-use Rattle.jm_world.specs.Loads.{Loads, refusal, duplicates, is_named_among}
+use Rattle.jm_world.specs.Loads.{Loads, refusal, duplicates}
 use Rattle.jm_world.proofs.Refusing.{not_refused, first_none, second_none}
-
-not_built_in : (seen : List ClassParts) (name : List ℕ) → is_named_among seen name ≡ false → is_some (built_in_named the_builtins name) ≡ false
-not_built_in [] name e = e
-not_built_in (c ∷ cs) name e = not_built_in cs name (neither (same_text c.name name) (is_named_among cs name) e)
+use Rattle.jm_world.proofs.FoundAgain.{not_built_in}
 
 no_built_ins : (seen cs : List ClassParts) → duplicates seen cs ≡ None → AllByRecursion (λ c. is_some (built_in_named the_builtins c.name) ≡ false) cs
 no_built_ins seen [] e = tt

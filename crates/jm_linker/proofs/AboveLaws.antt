@@ -10,24 +10,21 @@ use Rattle.jm_program.specs.Names.{same_text}
 use Rattle.jm_program.specs.Flags.{is_interface}
 use Rattle.jm_program.specs.declared.class.ClassParts.{ClassParts}
 use Rattle.jm_program.proofs.Texts.{text_itself, text_is}
+use Rattle.jm_program.proofs.Truths.{both_true as both}
 use Rattle.jm_builtins.specs.declared.built_in.BuiltIn.{BuiltIn}
 use Rattle.jm_builtins.specs.List.{the_builtins}
 use Rattle.jm_world.specs.Classes.{as_class, built_in_named, class_named, height}
 use Rattle.jm_world.specs.Hierarchy.{parents, holds_of_any, is_below}
 use Rattle.jm_world.specs.Loads.{Loads, Refusal, refusal, or_else, when, cycle, no_class, duplicates, duplicate_members, first_of_all, parents_refusal, cycle_refusal, superclass_refusal, superclass_of_kind, interface_of_kind}
 use Rattle.jm_world.proofs.Refusing.{none_of_all, both_none}
+use Rattle.jm_world.proofs.FoundAgain.{has_own_name as has_name}
 use Rattle.jm_linked.specs.Links.{class_numbered}
 use Rattle.jm_linked.proofs.BuiltIns.{built_in_class}
 use Rattle.jm_linker.specs.Orders.{AreThere}
-use Rattle.jm_linker.proofs.CycleLaws.{has_name}
+use Rattle.jm_tables.proofs.ChainLaws.{any_more}
 
 pub not_none : {A : Type 0} (o : Option A) → is_some o ≡ true → o ≡ None → ⊥
 not_none o some none = let bad : true ≡ false = sym some ∙ ap is_some none in cc
-
-both : (a b : Bool) → (a && b) ≡ true → (a ≡ true) × (b ≡ true)
-both true true e = (refl, refl)
-both true false e = cc
-both false b e = cc
 
 -- tests along names
 pub any_at : (f : List ℕ → Bool) (xs : List (List ℕ)) (i : ℕ) (x : List ℕ) → slice_get xs i ≡ Some x → f x ≡ true → holds_of_any f xs ≡ true
@@ -38,36 +35,6 @@ any_at f (y ∷ ys) (suc i) x at e = by (f y) (any_at f ys i x at e)
     by : (t : Bool) → holds_of_any f ys ≡ true → (elim t as (λ _. Bool) [ true ↦ true | false ↦ holds_of_any f ys ]) ≡ true
     by true g = refl
     by false g = g
-
-any_more : (test more : List ℕ → Bool) → ((x : List ℕ) → test x ≡ true → more x ≡ true) → (xs : List (List ℕ)) → holds_of_any test xs ≡ true
-    → holds_of_any more xs ≡ true
-any_more test more h [] e = cc
-any_more test more h (x ∷ xs) e = by (test x) (more x) (h x) (any_more test more h xs) e
-  where
-    by : (s t : Bool) → (s ≡ true → t ≡ true) → (holds_of_any test xs ≡ true → holds_of_any more xs ≡ true)
-        → (elim s as (λ _. Bool) [ true ↦ true | false ↦ holds_of_any test xs ]) ≡ true
-        → (elim t as (λ _. Bool) [ true ↦ true | false ↦ holds_of_any more xs ]) ≡ true
-    by s true k later e = refl
-    by false false k later e = later e
-    by true false k later e = let no : false ≡ true = k refl in cc
-
--- more steps up find what fewer find
-pub below_more_steps : (program : List ClassParts) (n m : ℕ) (name above : List ℕ) → n ≤ m → is_below n program name above ≡ true
-    → is_below m program name above ≡ true
-below_more_steps program zero m name above l e = cc
-below_more_steps program (suc n) zero name above l e = absurd (omega (arith, l))
-below_more_steps program (suc n) (suc m) name above l e =
-    by (same_text name above)
-    (any_more (λ p. is_below n program p above) (λ p. is_below m program p above) (λ p h. below_more_steps program n m p above (omega (arith, l)) h)
-    (parents (class_named program name))) e
-  where
-    by : (t : Bool)
-        → (holds_of_any (λ p. is_below n program p above) (parents (class_named program name)) ≡ true
-        → holds_of_any (λ p. is_below m program p above) (parents (class_named program name)) ≡ true)
-        → (elim t as (λ _. Bool) [ true ↦ true | false ↦ holds_of_any (λ p. is_below n program p above) (parents (class_named program name)) ]) ≡ true
-        → (elim t as (λ _. Bool) [ true ↦ true | false ↦ holds_of_any (λ p. is_below m program p above) (parents (class_named program name)) ]) ≡ true
-    by true h e = refl
-    by false h e = h e
 
 -- a class is below itself
 pub below_itself : (program : List ClassParts) (n : ℕ) (name : List ℕ) → is_below (suc n) program name name ≡ true

@@ -11,6 +11,7 @@ use Rattle.jm_builtins.specs.List.{the_builtins}
 use Rattle.jm_world.specs.Classes.{as_class, built_in_named, class_among, class_named, height}
 use Rattle.jm_world.specs.Hierarchy.{parents, holds_of_any, is_below}
 use Rattle.jm_world.specs.Resolution.{first_found, interfaces_first}
+use Rattle.jm_world.proofs.FoundAgain.{has_own_name as has_name}
 use Rattle.jm_linker.specs.Cycles.{is_above_itself}
 use Rattle.jm_linker.specs.Walks.{above_from, above_any}
 
@@ -36,10 +37,6 @@ among_has_name (k ∷ ks) name c e = by (among_has_name ks name c) (same_text k.
     by : (class_among ks name ≡ Some c → same_text c.name name ≡ true) → (t : Bool) → same_text k.name name ≡ t → (elim t as (λ _. Option ClassParts) [ true ↦ Some k | false ↦ class_among ks name ]) ≡ Some c → same_text c.name name ≡ true
     by more true is g = ap (λ (d : ClassParts). same_text d.name name) (same k g) ∙ is
     by more false is g = more g
-
-pub has_name : (program : List ClassParts) (name : List ℕ) (c : ClassParts) → class_named program name ≡ Some c → same_text c.name name ≡ true
-unfolding class_named
-has_name program name c e = among_has_name program name c e
 
 -- a class of the program is found by its name
 pub named_there : (cs : List ClassParts) (i : ℕ) (c : ClassParts) → i < length cs → c ≡ get_or cs i c → is_some (class_among cs c.name) ≡ true

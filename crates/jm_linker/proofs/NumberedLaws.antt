@@ -11,11 +11,11 @@ use Rattle.jm_program.proofs.Sequences.{got_front}
 use Rattle.jm_builtins.specs.List.{the_builtins}
 use Rattle.jm_builtins.specs.declared.built_in.BuiltIn.{BuiltIn}
 use Rattle.jm_world.specs.Classes.{as_class, class_named}
+use Rattle.jm_world.proofs.FoundAgain.{has_own_name as has_name}
 use Rattle.jm_linked.specs.Links.{class_numbered}
 use Rattle.jm_linker.specs.BuiltInClasses.{built_in_classes, class_in, number_from}
 use Rattle.jm_linker.specs.declared.members.Members.{Members}
 use Rattle.jm_linker.specs.NumberedClasses.{IsNumberOf, HasClass}
-use Rattle.jm_linker.proofs.CycleLaws.{has_name}
 use Rattle.jm_linker.proofs.Numbers.{by_number, by_no_number}
 
 abbrev members_class : Members → ClassParts

@@ -12,12 +12,13 @@ use Rattle.jm_world.specs.Hierarchy.{parents, holds_of_any, is_below}
 use Rattle.jm_world.specs.Loads.{Loads}
 use Rattle.jm_tables.specs.Numbering.{name_of}
 use Rattle.jm_tables.specs.declared.inheritance.Declared.{Declared}
+use Rattle.jm_tables.proofs.ChainLaws.{below_more_steps}
 use Rattle.jm_linked.specs.Tables.{all_names}
 use Rattle.jm_linked.proofs.Names.{are_names, name_numbered, found_numbered}
 use Rattle.jm_values.proofs.Lists.{get_map, get_there}
 use Rattle.jm_linker.specs.Inherited.{AreClasses}
 use Rattle.jm_linker.specs.Orders.{is_placed, is_next, HasNext, CanBeOrdered}
-use Rattle.jm_linker.proofs.AboveLaws.{any_at, below_more_steps, one_further, below_itself, none_above_itself}
+use Rattle.jm_linker.proofs.AboveLaws.{any_at, one_further, below_itself, none_above_itself}
 use Rattle.jm_linker.proofs.PlacedLaws.{placed_count, count_within, count_more, set_is, set_was, set_length, none_is, none_counted, all_counted, first_or_none, not_next}
 
 module _ (program : List ClassParts) (loads : Loads program) (heirs : List Declared) (are : AreClasses program (height program) heirs) where

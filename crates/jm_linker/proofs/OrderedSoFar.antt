@@ -6,7 +6,7 @@ use Rattle.std.proofs.lemmas.List.Elements.{All-get_or, All-from_get_or}
 use Rattle.std.proofs.lemmas.Option.{slice_get_within, slice_get-get_or}
 use Rattle.std.specs.Prelude.{slice_get, slice_index_or}
 use Rattle.std.specs.List.{All, list_all}
-use Rattle.jm_program.proofs.Sequences.{got_front}
+use Rattle.jm_program.proofs.Sequences.{got_front, got_last as last_is}
 use Rattle.jm_tables.specs.declared.inheritance.Declared.{Declared}
 use Rattle.jm_tables.specs.Inheriting.{IsOrder, StandsBefore}
 use Rattle.jm_linker.specs.Orders.{is_placed, is_next, HasNext, CanBeOrdered}
@@ -41,10 +41,6 @@ has_next classes placed order can are l =
 -- one more
 stands_more : (order : List ℕ) (x i class : ℕ) (more : ℕ) → i ≤ more → StandsBefore order i class → StandsBefore (order ++ x ∷ []) more class
 stands_more order x i class more l stands = let low = stands.1 in (stands.0, omega (arith, low, l), got_front order (x ∷ []) stands.0 class stands.2)
-
-last_is : (order : List ℕ) (x : ℕ) → slice_get (order ++ x ∷ []) (length order) ≡ Some x
-last_is [] x = refl
-last_is (y ∷ ys) x = last_is ys x
 
 split_last : (order : List ℕ) (x i class : ℕ) → slice_get (order ++ x ∷ []) i ≡ Some class
     → (slice_get order i ≡ Some class) ⊎ ((i ≡ length order) × (x ≡ class))

@@ -9,11 +9,11 @@ use Rattle.jm_program.proofs.Texts.{text_is}
 use Rattle.jm_world.specs.Classes.{class_among, class_named, height}
 use Rattle.jm_world.specs.Hierarchy.{parents, holds_of_any, is_below}
 use Rattle.jm_world.specs.Loads.{when, cycle, cycle_refusal}
+use Rattle.jm_world.proofs.FoundAgain.{has_own_name as has_name}
 use Rattle.jm_linker.specs.BuiltInClasses.{built_in_classes, class_in, number_from}
 use Rattle.jm_linker.specs.Ranks.{rank_at, rank_of, is_under, is_superclass_under, are_parents_under, is_over_parents, has_none_over}
 use Rattle.jm_linker.specs.declared.members.Members.{Members}
 use Rattle.jm_linker.proofs.ClassLaws.{built_in_found}
-use Rattle.jm_linker.proofs.CycleLaws.{has_name}
 
 all_append : (f : List ℕ → Bool) (xs ys : List (List ℕ)) → list_all f xs ≡ true → list_all f ys ≡ true → list_all f (xs ++ ys) ≡ true
 all_append f [] ys e g = g

@@ -18,9 +18,9 @@ use Rattle.jm_values.proofs.SoundContents.{name_is, object_below}
 use Rattle.jm_heap.specs.Cells.{class_size}
 use Rattle.jm_heap.specs.Allocation.{IsRefused}
 use Rattle.jm_heap.specs.declared.class_id.ClassId.{ClassId}
-use Rattle.jm_heap.specs.declared.class_id.ClassId.TheVariants.{Instance, Array}
 use Rattle.jm_heap.specs.declared.fault.HeapFault.{HeapFault}
 use Rattle.jm_heap.specs.declared.fault.HeapFault.TheVariants.{HeapFull, SerialsEnd}
+use Rattle.jm_heap.proofs.SizeLaws.{at_least_two as at_least}
 use Rattle.jm_machine.specs.Start.{IsEmpty}
 use Rattle.jm_machine.specs.FirstObjects.{Holds, HasRoomFor, Adds, cells_of_all}
 use Rattle.jm_machine.proofs.WithinCells.{used_at_most}
@@ -86,12 +86,6 @@ only_object c p k j o x lies is again that =
     let number : k ≡ j = cc in
     let both : Some o ≡ Some x = sym is ∙ ap (object_at c) number ∙ that in
     cc
-
--- each object takes 2 cells at least
-at_least : (t : ClassId) (n : ℕ) → 2 ≤ class_size t n
-unfolding class_size
-at_least (Instance class) n = omega arith
-at_least (Array component) n = omega arith
 
 two_cells : (o : ObjectOf ClassId) → 2 ≤ size_by class_size o
 two_cells o = at_least o.type (length o.values)

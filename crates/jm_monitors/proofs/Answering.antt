@@ -1,6 +1,6 @@
 -- What the calls of a thread come to, by how the monitor is held.
 use Rattle.std.proofs.Common.{◌≡◌, ◌≢◌, ℕ, ◌+◌, ◌-◌, ◌^◌, ◌<◌, ◌≤◌, List, Option, Some, None, Bool, true, false, refl, sym, ap, ◌∙◌, subst, ◌⊎◌}
-use Rattle.std.specs.Prelude.{nat_eq, nat_lt, option_map, Result, Ok, Err, OnErr}
+use Rattle.std.specs.Prelude.{nat_eq, nat_lt, option_map}
 use Rattle.std.proofs.lemmas.Bool.{lt-ltb, le-ltb}
 use Rattle.jm_program.proofs.Numbers.{found_unequal as other, found_equal as own}
 use Rattle.jm_world.specs.Monitors.{monitor_in, left_in}
@@ -8,10 +8,7 @@ use Rattle.jm_monitors.specs.declared.entering.Entering.{Entering}
 use Rattle.jm_monitors.specs.declared.entering.Entering.TheVariants.{Entered, Blocked, CountEnds}
 use Rattle.jm_monitors.specs.HeldMonitors.{HeldMonitor, monitors_of, held_in, with_held, without_held, recounted_held, held_after_enter, held_after_exit, EntersAs}
 use Rattle.jm_monitors.proofs.InTheModel.{enters_as_the_model, leaves_as_the_model}
-
-pub on_err : {T E P : Type 0} (r : Result T E) → P → OnErr r P
-on_err (Ok x) p = tt
-on_err (Err e) p = p
+use Rattle.jm_values.proofs.Outcomes.{on_err}
 
 -- entering one that a thread holds
 enters_held : (hs : List HeldMonitor) (k place thread : ℕ) (h : HeldMonitor) (b c : Bool) → Some h ≡ held_in hs k → nat_eq h.owner thread ≡ b → nat_lt (h.count + 1) (2 ^ 31) ≡ c

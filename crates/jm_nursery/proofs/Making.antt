@@ -31,7 +31,7 @@ young_set (x ∷ lanes) (suc n) s t d e h =
     omega (arith, more, a, b)
 
 -- the nurseries are in order with another store in the place of one
-nurseries_set : (lanes : List Blocks) (n : ℕ) (s t : Blocks) → AreNurseries lanes → slice_get lanes n ≡ Some s → t.lane ≡ s.lane → AreNurseries (slice_set lanes n t)
+pub nurseries_set : (lanes : List Blocks) (n : ℕ) (s t : Blocks) → AreNurseries lanes → slice_get lanes n ≡ Some s → t.lane ≡ s.lane → AreNurseries (slice_set lanes n t)
 nurseries_set lanes n s t r e h = record {
   many = length-set lanes n t ∙ r.many;
   numbered = λ k x f. by k x f (eqb_tells k n);

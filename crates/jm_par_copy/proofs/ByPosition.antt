@@ -1,5 +1,5 @@
 -- Roots by position.
-use Rattle.std.proofs.Common.{◌≡◌, ◌≢◌, ◌⊎◌, ℕ, ◌+◌, ◌*◌, ◌<◌, List, [], ◌∷◌, ◌++◌, Some, true, false, refl, sym, ap, ◌∙◌, subst, inl, inr, length, arith, zero, suc}
+use Rattle.std.proofs.Common.{◌≡◌, ◌≢◌, ◌⊎◌, ℕ, ◌+◌, ◌*◌, ◌<◌, List, [], ◌∷◌, ◌++◌, Some, true, false, sym, ap, ◌∙◌, subst, inl, inr, length, arith, zero, suc}
 use Rattle.std.specs.Prelude.{slice_get, nat_eq, ◌%◌, ◌/◌}
 use Rattle.std.specs.List.{Contains}
 use Rattle.std.proofs.lemmas.Bool.Decides.{eqb_tells}
@@ -18,6 +18,7 @@ use Rattle.jm_copy.proofs.Steps.{forwarded_grows}
 use Rattle.jm_par_copy.specs.Roots.{AreRootsOf, IsRooted}
 use Rattle.jm_par_copy.specs.Working.{Pairs}
 use Rattle.jm_par_copy.proofs.Sharing.{pairs_more}
+use Rattle.jm_values.proofs.Lists.{some_there}
 
 -- the first so many of the roots
 abbrev pub AreFirst : List Blocks → List ℕ → List (ℕ × ℕ) → ℕ → ℕ → List ℕ → Type 0
@@ -95,8 +96,3 @@ module _ (stores : List Blocks) (roots : List ℕ) (words : TableView) (cs : Lis
       let h = has_rooted stores roots words 0 (i % words.copiers) cs c rooted numbered at in
       forwarded_grows (objects_at stores) (Pairs stores c.seat.hand.known) (Pairs stores (all_known (hands cs))) p q (pairs_more stores c.seat.hand.known (all_known (hands cs)) h.known)
       (h.rooted.each (i / words.copiers) p q (ap (λ k. slice_get roots k) place_is ∙ a) b)
-
-pub some_there : (xs : List ℕ) (i : ℕ) → i < length xs → (x : ℕ) × (slice_get xs i ≡ Some x)
-some_there [] i h = absurd (omega (arith, h))
-some_there (x ∷ xs) zero h = (x, refl)
-some_there (x ∷ xs) (suc i) h = some_there xs i (omega (arith, h))

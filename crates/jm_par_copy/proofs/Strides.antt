@@ -1,5 +1,5 @@
 -- What stays of a copier's own stores.
-use Rattle.std.proofs.Common.{◌≡◌, ◌≢◌, ◌⊎◌, ℕ, zero, suc, ◌+◌, ◌-◌, ◌<◌, ◌≤◌, ◌%◌, List, [], ◌∷◌, ◌++◌, Some, None, true, false, cond, refl, sym, ap, ◌∙◌, subst, inl, inr, length, replicate, arith, length-append, Bool}
+use Rattle.std.proofs.Common.{◌≡◌, ◌≢◌, ◌⊎◌, ℕ, zero, suc, ◌+◌, ◌-◌, ◌<◌, ◌≤◌, ◌%◌, List, [], ◌∷◌, ◌++◌, Some, None, true, false, cond, refl, sym, ap, ◌∙◌, subst, inl, inr, length, replicate, arith, length-append}
 use Rattle.std.specs.Prelude.{slice_get, nat_eq}
 use Rattle.std.proofs.lemmas.Bool.Decides.{eqb_tells}
 use Rattle.std.proofs.lemmas.List.{length-set, length-replicate}
@@ -16,6 +16,7 @@ use Rattle.jm_copy.specs.Copying.{IsAdded, IsReplaced}
 use Rattle.jm_copy.specs.Copies.{made, made_in, HasMade, Stays, is_above}
 use Rattle.jm_copy.specs.declared.copies.Copies.{Copies}
 use Rattle.jm_blocks.specs.declared.header.Header.{Header}
+use Rattle.jm_blocks.proofs.Lists.{no_blocks as no_blocks_at}
 use Rattle.jm_nursery.specs.Ages.{survived, survived_at}
 use Rattle.jm_nursery.specs.declared.age.Survival.{Survival}
 use Rattle.jm_nursery.specs.declared.age.Survival.TheVariants.{Young, Old}
@@ -269,14 +270,6 @@ ends_on x n y m c d f g a o = ends_as x n y m d f g (ends_go x n c d a o)
 -- a store of empty blocks alone
 abbrev only_empty : ℕ → ℕ → Blocks
 only_empty lane k = record { lane = lane; lists = replicate k [] }
-
-no_blocks_at : (lane p : ℕ) → objects_in (record { lane = lane; lists = [] }) p ≡ None
-unfolding objects_in
-no_blocks_at lane p = by (nat_eq (lane_of p) lane)
-  where
-    by : (b : Bool) → cond b (object_of_list None 0) None ≡ None
-    by true = refl
-    by false = refl
 
 pub opened_empty : (s : Blocks) (lane k : ℕ) → s ≡ record { lane = lane; lists = replicate k [] } → IsEmpty s
 opened_empty s lane k e = subst IsEmpty (sym e) (λ p. open_same (record { lane = lane; lists = [] }) k p ∙ no_blocks_at lane p)

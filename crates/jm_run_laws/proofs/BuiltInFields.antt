@@ -8,7 +8,7 @@ use Rattle.std.proofs.lemmas.List.Sums.{sum_by-cons}
 use Rattle.std.proofs.lemmas.List.Sorted.{sum_by-IsPermutation, IsPermutation-reverse}
 use Rattle.jm_program.specs.Names.{same_text}
 use Rattle.jm_program.specs.declared.class.ClassParts.{ClassParts}
-use Rattle.jm_program.proofs.Truths.{both_true, right_false as neither}
+use Rattle.jm_program.proofs.Truths.{both_true}
 use Rattle.jm_program.proofs.Numbers.{equal}
 use Rattle.jm_builtins.specs.declared.built_in.BuiltIn.{BuiltIn}
 use Rattle.jm_builtins.specs.List.{the_builtins}
@@ -16,13 +16,10 @@ use Rattle.jm_world.specs.Classes.{as_class, built_in_named, class_among, class_
 use Rattle.jm_world.specs.Hierarchy.{up_from, chain}
 use Rattle.jm_world.specs.Objects.{own_instance_fields, instance_fields}
 use Rattle.jm_world.specs.Loads.{duplicate_class, when, is_named_among, duplicates, refusal, Loads}
-use Rattle.jm_world.proofs.FoundAgain.{class_name_is}
+use Rattle.jm_world.proofs.FoundAgain.{class_name_is, not_built_in as none_built_in}
 use Rattle.jm_world.proofs.Refusing.{both_none, not_refused}
+use Rattle.jm_world.proofs.CalledMethods.{built_in_passes}
 use Rattle.jm_run_laws.proofs.Law.{is_bare}
-
-none_built_in : (seen : List ClassParts) (name : List ℕ) → is_named_among seen name ≡ false → is_some (built_in_named the_builtins name) ≡ false
-none_built_in [] name e = e
-none_built_in (c ∷ cs) name e = none_built_in cs name (neither (same_text c.name name) (is_named_among cs name) e)
 
 abbrev IsNew : ClassParts → Type 0
 IsNew c = is_some (built_in_named the_builtins c.name) ≡ false
@@ -92,15 +89,6 @@ passes c = same_text c.name string_class || (nat_eq (own_count c) 0 && is_bare_a
 all_pass : list_all (λ (b : BuiltIn). passes (as_class b)) the_builtins ≡ true
 all_pass = refl
 
-built_in_passes : (bs : List BuiltIn) (name : List ℕ) (c : ClassParts) → list_all (λ (b : BuiltIn). passes (as_class b)) bs ≡ true → built_in_named bs name ≡ Some c → passes c ≡ true
-built_in_passes [] name c a e = cc
-built_in_passes (b ∷ bs) name c a e = by (same_text b.name name) (both_true (passes (as_class b)) (list_all (λ (x : BuiltIn). passes (as_class x)) bs) a) e (built_in_passes bs name c)
-  where
-    by : (x : Bool) → (passes (as_class b) ≡ true) × (list_all (λ (y : BuiltIn). passes (as_class y)) bs ≡ true) → (elim x as (λ _. Option ClassParts) [ true ↦ Some (as_class b) | false ↦ built_in_named bs name ]) ≡ Some c
-        → (list_all (λ (y : BuiltIn). passes (as_class y)) bs ≡ true → built_in_named bs name ≡ Some c → passes c ≡ true) → passes c ≡ true
-    by true both h ih = let same : as_class b ≡ c = cc in subst (λ z. passes z ≡ true) same both.0
-    by false both h ih = ih both.1 h
-
 other_than : (a b : Bool) → (a || b) ≡ true → not a ≡ true → b ≡ true
 other_than true b e n = cc
 other_than false b e n = e
@@ -113,7 +101,7 @@ bare_there program loads name h = by (built_in_named the_builtins name) refl h
     by None q n = cc
     by (Some b) q n =
         let own : b.name ≡ name = (bytes_decides b.name name).0 (class_name_is [] name b q) in
-        let rest : (nat_eq (own_count b) 0 && is_bare_above b.superclass) ≡ true = other_than (same_text b.name string_class) (nat_eq (own_count b) 0 && is_bare_above b.superclass) (built_in_passes the_builtins name b all_pass q) (subst (λ x. not (same_text x string_class) ≡ true) (sym own) n) in
+        let rest : (nat_eq (own_count b) 0 && is_bare_above b.superclass) ≡ true = other_than (same_text b.name string_class) (nat_eq (own_count b) 0 && is_bare_above b.superclass) (built_in_passes passes the_builtins name b all_pass q) (subst (λ x. not (same_text x string_class) ≡ true) (sym own) n) in
         let both : (nat_eq (own_count b) 0 ≡ true) × (is_bare_above b.superclass ≡ true) = both_true (nat_eq (own_count b) 0) (is_bare_above b.superclass) rest in
         (b, built_in_there program loads name b q, both.0, both.1)
 

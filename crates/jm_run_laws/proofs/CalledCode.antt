@@ -15,7 +15,7 @@ use Rattle.jm_program.specs.declared.reference.ClassRef.TheVariants as named
 use Rattle.jm_program.specs.declared.reference.MethodRef.{MethodRef}
 use Rattle.jm_program.specs.declared.instruction.operation.InvokeOp.TheVariants.{Special}
 use Rattle.jm_builtins.specs.List.{the_builtins}
-use Rattle.jm_world.specs.Classes.{FoundMethod, class_named, height, method_in, method_of_class, method_named, name_of_method}
+use Rattle.jm_world.specs.Classes.{FoundMethod, class_named, height, method_in, method_named, name_of_method}
 use Rattle.jm_world.specs.Hierarchy.{up_from, chain}
 use Rattle.jm_world.specs.Resolution.{method_along, resolved_among, resolve_method, counts, instance_in, instance_along, select, select_special}
 use Rattle.jm_world.specs.Here.{Here}
@@ -24,7 +24,7 @@ use Rattle.jm_world.specs.Initialization.{initializer_type, is_initializer, init
 use Rattle.jm_world.specs.Loading.{main_type, main_in}
 use Rattle.jm_world.specs.Loads.{Refusal, Loads, or_else, when, wrong_kind, same_bool, named_class_refusal, init_refusal, found_method_refusal, method_refusal}
 use Rattle.jm_world.proofs.CalledMethods.{Declares, up_named, along_got, resolved_got}
-use Rattle.jm_world.proofs.FoundAgain.{method_type_is, class_again, found_type, method_again, instance_got, first_named}
+use Rattle.jm_world.proofs.FoundAgain.{method_type_is, found_type, instance_got, first_named, stands_there as again}
 use Rattle.jm_world.proofs.Refusing.{both_none}
 use Rattle.jm_run_laws.specs.LocalsOfRuns.{code_of}
 use Rattle.jm_run_laws.proofs.LoadedCode.{CodeLoads, declared_code}
@@ -36,9 +36,6 @@ Begins program n found = (code : Code) → found.method.code ≡ Some code → (
 abbrev pub CallBegins : List ClassParts → ℕ → Option FoundMethod → Type 0
 CallBegins program n None = Unit {0}
 CallBegins program n (Some found) = Begins program n found
-
-again : (program : List ClassParts) (name : List ℕ) (t : MethodDescriptor) (found : FoundMethod) → Declares program name t found → method_named program (name_of_method found) ≡ Some found.method
-again program name t found d = ap (λ o. method_of_class o (name_of_method found)) (class_again program d.0.0 found.class d.0.1) ∙ method_again found.class.methods name t found.method d.1
 
 module _ (program : List ClassParts) (fits : AllByRecursion Fits program) (loads : Loads program) where
   begins : (name : List ℕ) (t : MethodDescriptor) (n : ℕ) (found : FoundMethod) → Declares program name t found → n ≤ method_slots found.method → Begins program n found

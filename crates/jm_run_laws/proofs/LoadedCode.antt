@@ -1,14 +1,13 @@
 -- The code of a program that loads: it keeps the rules of a code, each of its instructions is
 -- allowed, and a method that is called has room for its arguments.
-use Rattle.std.proofs.Common.{◌≡◌, ℕ, zero, suc, ◌<◌, ◌≤◌, List, [], ◌∷◌, Option, Some, None, Bool, true, false, length, refl, ap, ◌∙◌, subst, inl, inr, ◌⊎◌, arith}
+use Rattle.std.proofs.Common.{◌≡◌, ℕ, ◌<◌, ◌≤◌, List, [], ◌∷◌, Option, Some, None, Bool, true, false, length, refl, ap, ◌∙◌, subst, inl, inr, ◌⊎◌}
 use Rattle.std.specs.Prelude.{not, is_none, slice_get, nat_le, nat_lt, ◌&&◌, ◌||◌}
 use Rattle.std.specs.List.{AllByRecursion, list_all}
 use Rattle.std.proofs.lemmas.Bool.{leb-true, ltb-true}
-use Rattle.jm_values.proofs.Lists.{each_at}
-use Rattle.jm_program.specs.Names.{same_text, is_method_name}
-use Rattle.jm_program.specs.Flags.{is_static, is_abstract, is_interface, is_native, is_synchronized}
-use Rattle.jm_program.specs.Descriptors.{is_method_type, is_kept_method_type}
-use Rattle.jm_program.specs.Fits.{Fits, body_fits, method_fits, method_slots, is_finalizer, is_class_initializer}
+use Rattle.jm_values.proofs.Lists.{each_at, got_within}
+use Rattle.jm_program.specs.Names.{same_text}
+use Rattle.jm_program.specs.Flags.{is_abstract, is_interface}
+use Rattle.jm_program.specs.Fits.{Fits, body_fits, method_fits, method_slots, is_class_initializer}
 use Rattle.jm_program.specs.Codes.{code_fits, handler_fits, line_fits}
 use Rattle.jm_program.specs.Instructions.{instr_fits}
 use Rattle.jm_program.specs.declared.class.ClassParts.{ClassParts}
@@ -20,34 +19,14 @@ use Rattle.jm_program.proofs.Truths.{both_true, passed_at}
 use Rattle.jm_builtins.specs.declared.built_in.BuiltIn.{BuiltIn}
 use Rattle.jm_builtins.specs.List.{the_builtins}
 use Rattle.jm_world.specs.Types.{same_method_type}
-use Rattle.jm_world.specs.Classes.{MethodName, as_class, built_in_named, class_among, class_named, method_in, method_of_class, method_named}
-use Rattle.jm_world.specs.Loads.{Refusal, no_main, or_else, when, first_of_all, duplicates, duplicate_members, parents_refusal, cycle_refusal, is_main, instruction_refusal, catch_refusal, method_code_refusal, refusal, Loads}
-use Rattle.jm_world.specs.Loading.{main_in}
+use Rattle.jm_world.specs.Classes.{MethodName, as_class, built_in_named, class_named, method_in, method_of_class, method_named}
+use Rattle.jm_world.specs.Loads.{Refusal, or_else, first_of_all, instruction_refusal, catch_refusal, method_code_refusal, Loads}
 use Rattle.jm_world.specs.Stepping.{instruction_in}
-use Rattle.jm_world.proofs.Refusing.{both_none}
+use Rattle.jm_world.proofs.Refusing.{both_none, all_none}
+use Rattle.jm_world.proofs.Fitting.{each_two}
+use Rattle.jm_world.proofs.NamesAreThere.{codes_load}
+use Rattle.jm_world.proofs.CalledMethods.{method_passes, class_kept, body_of, built_in_passes}
 use Rattle.jm_run_laws.specs.LocalsOfRuns.{code_of}
-
-pub all_none : {A : Type 0} (check : A → Option Refusal) (xs : List A) → first_of_all check xs ≡ None → AllByRecursion (λ x. check x ≡ None) xs
-all_none check [] e = tt
-all_none check (x ∷ xs) e =
-    let both : (check x ≡ None) × (first_of_all check xs ≡ None) = both_none (check x) (first_of_all check xs) e in
-    (both.0, all_none check xs both.1)
-
-each_two : {A : Type 0} {P Q R : A → Type 0} → ((x : A) → P x → Q x → R x) → (xs : List A) → AllByRecursion P xs → AllByRecursion Q xs → AllByRecursion R xs
-each_two f [] a b = tt
-each_two f (x ∷ xs) a b = (f x a.0 b.0, each_two f xs a.1 b.1)
-
-pub codes_load : (program : List ClassParts) → refusal program ≡ None → first_of_all (λ c. first_of_all (method_code_refusal program) c.methods) program ≡ None
-unfolding refusal
-codes_load program e =
-    after (when (not (is_main (main_in program))) no_main) (first_of_all (λ c. first_of_all (method_code_refusal program) c.methods) program)
-    (after (first_of_all (cycle_refusal program) program) _
-    (after (first_of_all (parents_refusal program) program) _
-    (after (first_of_all duplicate_members program) _
-    (after (duplicates [] program) _ e))))
-  where
-    after : (a b : Option Refusal) → or_else a b ≡ None → b ≡ None
-    after a b h = (both_none a b h).1
 
 -- a code of a method whose arguments take so many slots
 pub record CodeLoads (program : List ClassParts) (slots : ℕ) (code : Code) : Type 0 where
@@ -57,39 +36,12 @@ pub record CodeLoads (program : List ClassParts) (slots : ℕ) (code : Code) : T
   pub handlers : list_all (handler_fits (length code.instructions)) code.handlers ≡ true
   pub allowed : AllByRecursion (λ i. instruction_refusal program i ≡ None) code.instructions
 
--- a test that every method of a list passes
-method_passes : (test : Method → Bool) (ms : List Method) (name : List ℕ) (t : MethodDescriptor) (m : Method) → list_all test ms ≡ true → method_in ms name t ≡ Some m → test m ≡ true
-method_passes test [] name t m a e = cc
-method_passes test (x ∷ xs) name t m a e = by (same_text x.name name && same_method_type x.descriptor t) (both_true (test x) (list_all test xs) a) e (method_passes test xs name t m)
-  where
-    by : (b : Bool) → (test x ≡ true) × (list_all test xs ≡ true) → (elim b as (λ _. Option Method) [ true ↦ Some x | false ↦ method_in xs name t ]) ≡ Some m → (list_all test xs ≡ true → method_in xs name t ≡ Some m → test m ≡ true) → test m ≡ true
-    by true both h ih = let same : x ≡ m = cc in subst (λ z. test z ≡ true) same both.0
-    by false both h ih = ih both.1 h
-
--- a class is one of the program's, or built-in
-pub class_kept : (P : ClassParts → Type 0) (cs : List ClassParts) (name : List ℕ) (c : ClassParts) → AllByRecursion P cs → class_among cs name ≡ Some c → P c ⊎ (built_in_named the_builtins name ≡ Some c)
-class_kept P [] name c a e = inr e
-class_kept P (d ∷ ds) name c a e = by (same_text d.name name) e (class_kept P ds name c a.1)
-  where
-    by : (b : Bool) → (elim b as (λ _. Option ClassParts) [ true ↦ Some d | false ↦ class_among ds name ]) ≡ Some c → (class_among ds name ≡ Some c → P c ⊎ (built_in_named the_builtins name ≡ Some c)) → P c ⊎ (built_in_named the_builtins name ≡ Some c)
-    by true h ih = let same : d ≡ c = cc in inl (subst P same a.0)
-    by false h ih = ih h
-
 -- of the built-in methods none has code
-abbrev no_code : BuiltIn → Bool
-no_code b = list_all (λ m. is_none m.code) b.methods
+abbrev no_code : ClassParts → Bool
+no_code c = list_all (λ m. is_none m.code) c.methods
 
-none_has_code : list_all no_code the_builtins ≡ true
+none_has_code : list_all (λ (b : BuiltIn). no_code (as_class b)) the_builtins ≡ true
 none_has_code = refl
-
-built_in_methods : (bs : List BuiltIn) (name : List ℕ) (c : ClassParts) → list_all no_code bs ≡ true → built_in_named bs name ≡ Some c → list_all (λ m. is_none m.code) c.methods ≡ true
-built_in_methods [] name c a e = cc
-built_in_methods (b ∷ bs) name c a e = by (same_text b.name name) (both_true (no_code b) (list_all no_code bs) a) e (built_in_methods bs name c)
-  where
-    by : (x : Bool) → (no_code b ≡ true) × (list_all no_code bs ≡ true) → (elim x as (λ _. Option ClassParts) [ true ↦ Some (as_class b) | false ↦ built_in_named bs name ]) ≡ Some c
-        → (list_all no_code bs ≡ true → built_in_named bs name ≡ Some c → list_all (λ m. is_none m.code) c.methods ≡ true) → list_all (λ m. is_none m.code) c.methods ≡ true
-    by true both h ih = let same : as_class b ≡ c = cc in subst (λ z. list_all (λ m. is_none m.code) z.methods ≡ true) same both.0
-    by false both h ih = ih both.1 h
 
 -- what a class of the program keeps to
 abbrev ClassLoads : List ClassParts → ClassParts → Type 0
@@ -105,9 +57,6 @@ method_allowed check (x ∷ xs) name t m a e = by (same_text x.name name && same
     by : (b : Bool) → (check x ≡ None) × (first_of_all check xs ≡ None) → (elim b as (λ _. Option Method) [ true ↦ Some x | false ↦ method_in xs name t ]) ≡ Some m → (first_of_all check xs ≡ None → method_in xs name t ≡ Some m → check m ≡ None) → check m ≡ None
     by true both h ih = let same : x ≡ m = cc in subst (λ z. check z ≡ None) same both.0
     by false both h ih = ih both.1 h
-
-body_of : (b : Bool) (m : Method) → method_fits b m ≡ true → body_fits b m m.code ≡ true
-body_of b m f = (both_true (is_method_name m.name && is_method_type m.descriptor && is_kept_method_type m.descriptor && nat_le (method_slots m) 255 && not (is_native m.flags) && not (is_static m.flags && is_synchronized m.flags) && not (is_finalizer m)) (body_fits b m m.code) f).1
 
 code_loads : (program : List ClassParts) (b : Bool) (m : Method) (code : Code) → method_fits b m ≡ true → method_code_refusal program m ≡ None → m.code ≡ Some code → CodeLoads program (method_slots m) code
 code_loads program b m code f a e =
@@ -139,7 +88,7 @@ declared_code program fits e k c n name t m r code q = by (class_kept (ClassLoad
 
     by : ClassLoads program c ⊎ (built_in_named the_builtins k ≡ Some c) → CodeLoads program (method_slots m) code
     by (inl f) = code_loads program (is_interface c.flags) m code (method_passes (method_fits (is_interface c.flags)) c.methods name t m f.0.methods r) (method_allowed (method_code_refusal program) c.methods name t m f.1 r) q
-    by (inr b) = absurd (never (method_passes (λ x. is_none x.code) c.methods name t m (built_in_methods the_builtins k c none_has_code b) r))
+    by (inr b) = absurd (never (method_passes (λ x. is_none x.code) c.methods name t m (built_in_passes no_code the_builtins k c none_has_code b) r))
 
 -- the method of a frame
 pub named_code : (program : List ClassParts) → AllByRecursion Fits program → Loads program → (m : MethodName) (code : Code) → code_of (method_named program m) ≡ Some code → (slots : ℕ) × CodeLoads program slots code
@@ -160,11 +109,6 @@ pub record StandsAt (program : List ClassParts) (m : MethodName) (at : ℕ) (i :
   pub within : at < length code.instructions
   pub fits : instr_fits (length code.instructions) i ≡ true
   pub allowed : instruction_refusal program i ≡ None
-
-got_within : {A : Type 0} (xs : List A) (i : ℕ) (x : A) → slice_get xs i ≡ Some x → i < length xs
-got_within [] i x e = cc
-got_within (y ∷ ys) zero x e = omega arith
-got_within (y ∷ ys) (suc i) x e = omega (arith, got_within ys i x e)
 
 pub stands_at : (program : List ClassParts) → AllByRecursion Fits program → Loads program → (m : MethodName) (at : ℕ) (i : Instr) → instruction_in (method_named program m) at ≡ Some i → StandsAt program m at i
 stands_at program fits e m at i q = by (method_named program m) refl q

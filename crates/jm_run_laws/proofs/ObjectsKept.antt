@@ -1,5 +1,5 @@
 -- Events keep a value for each field of an object.
-use Rattle.std.proofs.Common.{◌≡◌, ℕ, zero, ◌+◌, ◌<◌, List, [], ◌∷◌, Option, Some, None, Bool, true, false, length, refl, sym, ap, ◌∙◌, subst, arith}
+use Rattle.std.proofs.Common.{◌≡◌, ℕ, ◌+◌, List, [], ◌∷◌, Option, Some, None, true, length, refl, sym, ◌∙◌, subst, arith}
 use Rattle.std.specs.Prelude.{slice_set}
 use Rattle.std.specs.List.{AllByRecursion}
 use Rattle.std.proofs.lemmas.List.{length-map}
@@ -10,16 +10,17 @@ use Rattle.jm_values.specs.declared.value.Value.TheVariants.{Ref}
 use Rattle.jm_values.proofs.Lists.{each_at}
 use Rattle.jm_world.specs.Types.{ObjectType, instance_of, array_of, default_value}
 use Rattle.jm_world.specs.Classes.{class_named, string_class, print_stream_class}
-use Rattle.jm_world.specs.Objects.{FieldName, same_field, instance_fields, place_of_field, new_instance, Object}
+use Rattle.jm_world.specs.Objects.{instance_fields, new_instance, Object}
 use Rattle.jm_world.specs.Frames.{Frame, method_frame, initialization_frame, entry_frame}
 use Rattle.jm_world.specs.World.{World, Thread}
 use Rattle.jm_world.specs.Next.{exception}
-use Rattle.jm_world.specs.NamesOfRuns.{IsThere}
 use Rattle.jm_world.specs.Loading.{literal_texts, objects_from, first_objects, loaded_world}
 use Rattle.jm_world.specs.Loads.{Loads, new_refusal}
 use Rattle.jm_world.specs.Run.{after, run_from}
 use Rattle.jm_world.specs.declared.event.Event.{Event}
 use Rattle.jm_world.proofs.KeepingNames.{events_keep_names, run_keeps as run_keeps_names}
+use Rattle.jm_world.proofs.NamesAreThere.{it_is as there, new_found as new_there}
+use Rattle.jm_world.proofs.FoundAgain.{place_within}
 use Rattle.jm_run_laws.specs.ObjectsOfRuns.{HasValues, HasFields, ObjectsHaveFields, EventsKeepFields, RunsHaveFields, FieldsHavePlaces, RunsHavePlaces}
 use Rattle.jm_run_laws.proofs.BuiltInFields.{built_in_there, bare_there, bare_fields, string_fields}
 use Rattle.jm_run_laws.proofs.Law.{Law, is_bare, IsKept, EachBelow, Frames, Pending, Its, Keeps}
@@ -28,17 +29,9 @@ use Rattle.jm_run_laws.proofs.EventsKept.{event_keeps, run_keeps}
 abbrev fields_law : List ClassParts → Law
 fields_law program = record { Top = λ m a. Unit {0}; Below = λ m a. Unit {0}; Holds = HasFields program; Pends = λ heap k. Unit {0} }
 
-there : {A : Type 0} (o : Option A) (a : A) → o ≡ Some a → IsThere o
-there None a e = cc
-there (Some b) a e = tt
-
 -- an exception, a new object, and a store
 bare_has : (program : List ClassParts) → Loads program → (class : List ℕ) → is_bare class ≡ true → HasFields program (exception class)
 bare_has program loads class e = (there (class_named program class) (bare_there program loads class e).0 (bare_there program loads class e).1, sym (bare_fields program loads class e))
-
-new_there : (class : List ℕ) (o : Option ClassParts) → new_refusal class o ≡ None → IsThere o
-new_there class None e = cc
-new_there class (Some c) e = tt
 
 new_has : (program : List ClassParts) (class : List ℕ) → new_refusal class (class_named program class) ≡ None → HasFields program (new_instance program class)
 new_has program class e = (new_there class (class_named program class) e, length-map (instance_fields program class) (λ f. default_value f.type))
@@ -105,26 +98,13 @@ literals_have program loads k (t ∷ ts) = (tt, (string, literals_have program l
 first_have : (program : List ClassParts) → Loads program → AllByRecursion (HasFields program) (first_objects program)
 first_have program loads = (bare_has program loads print_stream_class refl, (tt, literals_have program loads 2 (literal_texts program)))
 
-same_program : (program : List ClassParts) (limit : ℕ) (events : List Event) → (run_from (loaded_world program limit) events).program ≡ program
+pub same_program : (program : List ClassParts) (limit : ℕ) (events : List Event) → (run_from (loaded_world program limit) events).program ≡ program
 unfolding loaded_world
 same_program program limit events = (run_keeps_names (loaded_world program limit) events).0
 
 pub runs_have_fields : RunsHaveFields
 runs_have_fields program limit events fits loads = told program (run_from (loaded_world program limit) events) (same_program program limit events)
     (run_keeps (fields_law program) program limit events fits loads (fields_kept program loads) (first_have program loads))
-
--- places
-place_within : (fs : List FieldName) (f : FieldName) (i : ℕ) → place_of_field fs f ≡ Some i → i < length fs
-place_within [] f i e = cc
-place_within (g ∷ gs) f i e = by (same_field g f) e (place_within gs f)
-  where
-    later : (o : Option ℕ) → place_of_field gs f ≡ o → (elim o as (λ _. Option ℕ) [ None ↦ None | Some j ↦ Some (j + 1) ]) ≡ Some i → ((j : ℕ) → place_of_field gs f ≡ Some j → j < length gs) → i < length (g ∷ gs)
-    later None q h ih = cc
-    later (Some j) q h ih = let same : j + 1 ≡ i = ap (λ (o : Option ℕ). elim o as (λ _. ℕ) [ None ↦ zero | Some x ↦ x ]) h in omega (arith, same, ih j q)
-
-    by : (b : Bool) → (elim b as (λ _. Option ℕ) [ true ↦ Some 0 | false ↦ elim (place_of_field gs f) [ None ↦ None | Some j ↦ Some (j + 1) ] ]) ≡ Some i → ((j : ℕ) → place_of_field gs f ≡ Some j → j < length gs) → i < length (g ∷ gs)
-    by true h ih = let same : 0 ≡ i = ap (λ (o : Option ℕ). elim o as (λ _. ℕ) [ None ↦ zero | Some x ↦ x ]) h in omega (arith, same)
-    by false h ih = later (place_of_field gs f) refl h ih
 
 fields_have_places : (w : World) → ObjectsHaveFields w → FieldsHavePlaces w
 fields_have_places w h k o class f i e t p =

@@ -1,5 +1,5 @@
 -- Events leave no other pending exception than a Throwable.
-use Rattle.std.proofs.Common.{◌≡◌, ℕ, zero, suc, ◌+◌, ◌≤◌, List, [], ◌∷◌, ◌++◌, Option, Some, None, Bool, true, false, length, refl, sym, ap, ◌∙◌, subst, arith}
+use Rattle.std.proofs.Common.{◌≡◌, ℕ, zero, suc, ◌≤◌, List, [], ◌∷◌, ◌++◌, Option, Some, None, Bool, true, false, length, refl, sym, ap, ◌∙◌, subst, arith}
 use Rattle.std.specs.Prelude.{slice_get, slice_set, option_to_list}
 use Rattle.jm_program.specs.Names.{same_text}
 use Rattle.jm_program.specs.declared.class.ClassParts.{ClassParts}
@@ -16,14 +16,14 @@ use Rattle.jm_world.specs.Throwing.{is_kind_of}
 use Rattle.jm_world.specs.Loading.{first_objects, loaded_world}
 use Rattle.jm_world.specs.Loads.{Loads}
 use Rattle.jm_world.specs.Run.{after, run_from}
-use Rattle.jm_world.specs.declared.event.Event.{Event}
 use Rattle.jm_world.proofs.Fitting.{each_more}
-use Rattle.jm_world.proofs.KeepingNames.{events_keep_names, run_keeps as run_keeps_names}
+use Rattle.jm_world.proofs.KeepingNames.{events_keep_names}
 use Rattle.jm_run_laws.specs.ExceptionsOfRuns.{is_throwable, IsThrowable, PendingIsThrowable, ThreadsThrow, EventsThrowThrowables, RunsThrowThrowables}
 use Rattle.jm_run_laws.proofs.BuiltInFields.{built_in_there}
 use Rattle.jm_run_laws.proofs.Law.{Law, is_bare, is_thrown_in, is_thrown, IsKept, EachBelow, Frames, Pending, Keeps}
 use Rattle.jm_run_laws.proofs.EventsKept.{event_keeps, run_keeps}
 use Rattle.jm_run_laws.proofs.LocalsKept.{nothing_of}
+use Rattle.jm_run_laws.proofs.ObjectsKept.{same_program}
 
 -- a built-in class that is below Throwable is so in every program that loads
 thrown_below : (program : List ClassParts) → Loads program → (n m : ℕ) (name : List ℕ) → n ≤ m → is_thrown_in n name ≡ true → is_below m program name throwable_class ≡ true
@@ -132,10 +132,6 @@ told program w e h = each_more (λ t f. pends_so program w e t.pending f.1) w.th
 pub events_throw_throwables : EventsThrowThrowables
 events_throw_throwables w e fits loads h = told w.program (after w e).world (events_keep_names w e).0
     (event_keeps (thrown_law w.program) w e fits loads (thrown_kept w.program loads) (each_more (λ t f. (frames_so w.program t.frames, so_pends w t.pending f)) w.threads h, nothing_of w.heap))
-
-same_program : (program : List ClassParts) (limit : ℕ) (events : List Event) → (run_from (loaded_world program limit) events).program ≡ program
-unfolding loaded_world
-same_program program limit events = (run_keeps_names (loaded_world program limit) events).0
 
 pub runs_throw_throwables : RunsThrowThrowables
 runs_throw_throwables program limit events fits loads = told program (run_from (loaded_world program limit) events) (same_program program limit events)

@@ -9,6 +9,7 @@ use Rattle.jm_values.specs.Activation.{category}
 use Rattle.jm_values.specs.declared.value.Value.{Value}
 use Rattle.jm_values.specs.declared.value.Value.TheVariants.{Int, Long, Null, Ref}
 use Rattle.jm_world.specs.Invocation.{argument_locals, locals_of, unset, padded}
+use Rattle.jm_world.proofs.LocalsOfCalls.{unset_length}
 use Rattle.jm_frames.specs.FrameView.{FrameView, with_locals_of}
 use Rattle.jm_state.specs.declared.arguments.Callee.{Callee}
 
@@ -121,10 +122,6 @@ category_some (Int n) = omega arith
 category_some (Long n) = omega arith
 category_some Null = omega arith
 category_some (Ref p) = omega arith
-
-unset_length : (n : ℕ) → length (unset n) ≡ n
-unset_length zero = refl
-unset_length (suc n) = let rest = unset_length n in omega arith
 
 pub next_within : (c : Callee) (arguments : List Value) (i local : ℕ) (frame : FrameView) (v : Value) → length (locals_of arguments) ≤ c.max_locals
     → Handed c arguments i local frame → slice_get arguments i ≡ Some v → local < length frame.activation.locals

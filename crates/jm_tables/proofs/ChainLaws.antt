@@ -11,7 +11,7 @@ use Rattle.jm_tables.specs.Layouts.{AreFields, IsAlong}
 use Rattle.jm_tables.specs.Numbering.{name_of}
 use Rattle.jm_tables.proofs.LayoutLaws.{there, up_one, rest}
 
-any_more : (test more : List ℕ → Bool) → ((x : List ℕ) → test x ≡ true → more x ≡ true) → (xs : List (List ℕ)) → holds_of_any test xs ≡ true
+pub any_more : (test more : List ℕ → Bool) → ((x : List ℕ) → test x ≡ true → more x ≡ true) → (xs : List (List ℕ)) → holds_of_any test xs ≡ true
     → holds_of_any more xs ≡ true
 any_more test more h [] e = cc
 any_more test more h (x ∷ xs) e = by (test x) (more x) (h x) (any_more test more h xs) e
@@ -24,7 +24,7 @@ any_more test more h (x ∷ xs) e = by (test x) (more x) (h x) (any_more test mo
     by true false k later e = let no : false ≡ true = k refl in cc
 
 -- more steps up find what fewer find
-below_more_steps : (program : List ClassParts) (n m : ℕ) (name above : List ℕ) → n ≤ m → is_below n program name above ≡ true
+pub below_more_steps : (program : List ClassParts) (n m : ℕ) (name above : List ℕ) → n ≤ m → is_below n program name above ≡ true
     → is_below m program name above ≡ true
 below_more_steps program zero m name above l e = cc
 below_more_steps program (suc n) zero name above l e = absurd (omega (arith, l))

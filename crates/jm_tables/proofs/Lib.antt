@@ -1,4 +1,4 @@
-mod ChainLaws
+pub mod ChainLaws
 mod ExtentLaws
 mod HierarchyLaws
 mod InstanceLaws

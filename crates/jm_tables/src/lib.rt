@@ -12,7 +12,7 @@
 //! equal ones once, so that a literal is a number at run time; a text is found by an ordered index, in
 //! as many comparisons as the number of texts has binary digits.
 //!
-//! The crate stands on `jm_program`, `jm_builtins`, `jm_values` and `jm_world`.
+//! The crate stands on `jm_program`, `jm_builtins` and `jm_world`.
 #![tactic(auto)]
 
 mod extent;

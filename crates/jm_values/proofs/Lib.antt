@@ -1,5 +1,6 @@
 pub mod Among
 pub mod Lists
+pub mod Outcomes
 pub mod Shapes
 pub mod Alike
 pub mod Erasing

@@ -1,6 +1,6 @@
 -- Lists: what lies at an index, another element, the last one as the top, and the references of an element.
 use Rattle.std.proofs.Common.{◌≡◌, ℕ, zero, suc, ◌+◌, ◌-◌, ◌<◌, List, [], ◌∷◌, ◌++◌, Some, refl, sym, ap, ◌∙◌, subst, inl, inr, ◌⊎◌, length, reverse, arith}
-use Rattle.std.proofs.Common.{length-append, append_assoc, take}
+use Rattle.std.proofs.Common.{length-append, append_assoc, take, drop, get_or, drop-cons, add-one}
 use Rattle.std.specs.Prelude.{◌↔◌, map, slice_get, slice_set, slice_index_or}
 use Rattle.std.specs.List.{AllByRecursion}
 use Rattle.std.proofs.lemmas.List.{reverse-append, reverse-reverse}
@@ -168,3 +168,15 @@ each_and_more P (y ∷ ys) x a h = (a.0, each_and_more P ys x a.1 h)
 pub each_of_both : {A : Type 0} (P : A → Type 0) (xs ys : List A) → AllByRecursion P xs → AllByRecursion P ys → AllByRecursion P (xs ++ ys)
 each_of_both P [] ys a b = b
 each_of_both P (x ∷ xs) ys a b = (a.0, each_of_both P xs ys a.1 b)
+
+-- one item more, an item that stands there, and what is left from it on
+pub length_end : {X : Type 0} (front : List X) (x : X) → length (front ++ x ∷ []) ≡ length front + 1
+length_end front x = length-append front (x ∷ [])
+
+pub some_there : {X : Type 0} (xs : List X) (i : ℕ) → i < length xs → (x : X) × (slice_get xs i ≡ Some x)
+some_there [] i h = absurd (omega (arith, h))
+some_there (x ∷ xs) zero h = (x, refl)
+some_there (x ∷ xs) (suc i) h = some_there xs i (omega (arith, h))
+
+pub first_left : {A : Type 0} (xs : List A) (i : ℕ) (x : A) → i < length xs → x ≡ get_or xs i x → drop i xs ≡ x ∷ drop (i + 1) xs
+first_left xs i x within is = drop-cons xs i x within ∙ rw (← is, add-one) refl

@@ -5,6 +5,7 @@ use Rattle.std.proofs.lemmas.List.{append-nil, map-append, length-map, take-appe
 use Rattle.std.specs.List.{drop-map}
 use Rattle.std.proofs.Math.Seq.{drop-append_seam, take-append_seam}
 use Rattle.jm_program.proofs.Sequences.{none_left as length_zero}
+use Rattle.jm_program.proofs.Texts.{map_same}
 use Rattle.jm_values.specs.Shape.{Shape, ShapeLaws, IsShape, IsPart, plain_shape, option_shape, list_shape, pair_shape, part_shape}
 use Rattle.jm_values.proofs.Among.{among_left, among_right}
 
@@ -147,10 +148,6 @@ part_is_shape part put s p h a = record {
   refilled = λ ns rest e. ap s.refs (p.part_put _ a) ∙ (h (part a)).refilled ns rest e;
   moved = λ f g ns rest e. p.put_put _ _ a ∙ ap (λ b. put (s.rename g b) a) (p.part_put _ a) ∙ ap (λ b. put b a) ((h (part a)).moved f g ns rest e);
 }
-
-map_same : (ns : List ℕ) → map (λ p. p) ns ≡ ns
-map_same [] = refl
-map_same (n ∷ ns) = ap (λ l. n ∷ l) (map_same ns)
 
 -- other references in the place of the first ones leave what renaming would have left
 pub refill_renames : {A : Type 0} (s : Shape A) → IsShape A s → (f : ℕ → ℕ) (x : A) → s.refill (map f (s.refs x)) x ≡ s.rename f x

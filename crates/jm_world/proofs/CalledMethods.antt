@@ -95,7 +95,7 @@ unfolding resolve_method chain
 resolved_got program class name t found e = among_got program (height program) class name t found (up_from (height program) program class) (up_named (height program) program class) e
 
 -- a test that every method of a list passes
-method_passes : (test : Method → Bool) (ms : List Method) (name : List ℕ) (t : MethodDescriptor) (m : Method) → list_all test ms ≡ true → method_in ms name t ≡ Some m → test m ≡ true
+pub method_passes : (test : Method → Bool) (ms : List Method) (name : List ℕ) (t : MethodDescriptor) (m : Method) → list_all test ms ≡ true → method_in ms name t ≡ Some m → test m ≡ true
 method_passes test [] name t m a e = cc
 method_passes test (x ∷ xs) name t m a e = by (same_text x.name name && same_method_type x.descriptor t) (both_true (test x) (list_all test xs) a) e (method_passes test xs name t m)
   where
@@ -103,24 +103,25 @@ method_passes test (x ∷ xs) name t m a e = by (same_text x.name name && same_m
     by true both h ih = let same : x ≡ m = cc in subst (λ z. test z ≡ true) same both.0
     by false both h ih = ih both.1 h
 
--- of the built-in methods none is static
-abbrev no_static : BuiltIn → Bool
-no_static b = list_all (λ m. not (is_static m.flags)) b.methods
-
-none_static : list_all no_static the_builtins ≡ true
-none_static = refl
-
-built_in_methods : (bs : List BuiltIn) (name : List ℕ) (c : ClassParts) → list_all no_static bs ≡ true → built_in_named bs name ≡ Some c → list_all (λ m. not (is_static m.flags)) c.methods ≡ true
-built_in_methods [] name c a e = cc
-built_in_methods (b ∷ bs) name c a e = by (same_text b.name name) (both_true (no_static b) (list_all no_static bs) a) e (built_in_methods bs name c)
+-- a test that every built-in class passes
+pub built_in_passes : (test : ClassParts → Bool) (bs : List BuiltIn) (name : List ℕ) (c : ClassParts) → list_all (λ (b : BuiltIn). test (as_class b)) bs ≡ true → built_in_named bs name ≡ Some c → test c ≡ true
+built_in_passes test [] name c a e = cc
+built_in_passes test (b ∷ bs) name c a e = by (same_text b.name name) (both_true (test (as_class b)) (list_all (λ (x : BuiltIn). test (as_class x)) bs) a) e (built_in_passes test bs name c)
   where
-    by : (x : Bool) → (no_static b ≡ true) × (list_all no_static bs ≡ true) → (elim x as (λ _. Option ClassParts) [ true ↦ Some (as_class b) | false ↦ built_in_named bs name ]) ≡ Some c
-        → (list_all no_static bs ≡ true → built_in_named bs name ≡ Some c → list_all (λ m. not (is_static m.flags)) c.methods ≡ true) → list_all (λ m. not (is_static m.flags)) c.methods ≡ true
-    by true both h ih = let same : as_class b ≡ c = cc in subst (λ z. list_all (λ m. not (is_static m.flags)) z.methods ≡ true) same both.0
+    by : (x : Bool) → (test (as_class b) ≡ true) × (list_all (λ (y : BuiltIn). test (as_class y)) bs ≡ true) → (elim x as (λ _. Option ClassParts) [ true ↦ Some (as_class b) | false ↦ built_in_named bs name ]) ≡ Some c
+        → (list_all (λ (y : BuiltIn). test (as_class y)) bs ≡ true → built_in_named bs name ≡ Some c → test c ≡ true) → test c ≡ true
+    by true both h ih = let same : as_class b ≡ c = cc in subst (λ z. test z ≡ true) same both.0
     by false both h ih = ih both.1 h
 
+-- of the built-in methods none is static
+abbrev no_static : ClassParts → Bool
+no_static c = list_all (λ m. not (is_static m.flags)) c.methods
+
+none_static : list_all (λ (b : BuiltIn). no_static (as_class b)) the_builtins ≡ true
+none_static = refl
+
 -- a class is one of the program's, or built-in
-class_kept : (P : ClassParts → Type 0) (cs : List ClassParts) (name : List ℕ) (c : ClassParts) → AllByRecursion P cs → class_among cs name ≡ Some c → P c ⊎ (built_in_named the_builtins name ≡ Some c)
+pub class_kept : (P : ClassParts → Type 0) (cs : List ClassParts) (name : List ℕ) (c : ClassParts) → AllByRecursion P cs → class_among cs name ≡ Some c → P c ⊎ (built_in_named the_builtins name ≡ Some c)
 class_kept P [] name c a e = inr e
 class_kept P (d ∷ ds) name c a e = by (same_text d.name name) e (class_kept P ds name c a.1)
   where
@@ -129,10 +130,10 @@ class_kept P (d ∷ ds) name c a e = by (same_text d.name name) e (class_kept P 
     by false h ih = ih h
 
 -- a method that keeps the rules has code where it is static or <clinit>
-body_of : (b : Bool) (m : Method) → method_fits b m ≡ true → body_fits b m m.code ≡ true
+pub body_of : (b : Bool) (m : Method) → method_fits b m ≡ true → body_fits b m m.code ≡ true
 body_of b m f = (both_true (is_method_name m.name && is_method_type m.descriptor && is_kept_method_type m.descriptor && nat_le (method_slots m) 255 && not (is_native m.flags) && not (is_static m.flags && is_synchronized m.flags) && not (is_finalizer m)) (body_fits b m m.code) f).1
 
-never : (b : Bool) → not b ≡ true → b ≡ true → ⊥
+pub never : (b : Bool) → not b ≡ true → b ≡ true → ⊥
 never true h q = cc
 never false h q = cc
 
@@ -175,4 +176,4 @@ static_code program class name t found fits e s = by (class_kept Fits program (r
   where
     by : Fits found.class ⊎ (built_in_named the_builtins (resolved_got program class name t found e).0.0 ≡ Some found.class) → method_in found.class.methods name t ≡ Some found.method → IsThere found.method.code
     by (inl f) r = has_code (is_interface found.class.flags) found.method (method_passes (method_fits (is_interface found.class.flags)) found.class.methods name t found.method f.methods r) (inl s)
-    by (inr b) r = absurd (never (is_static found.method.flags) (method_passes (λ m. not (is_static m.flags)) found.class.methods name t found.method (built_in_methods the_builtins (resolved_got program class name t found e).0.0 found.class none_static b) r) s)
+    by (inr b) r = absurd (never (is_static found.method.flags) (method_passes (λ m. not (is_static m.flags)) found.class.methods name t found.method (built_in_passes no_static the_builtins (resolved_got program class name t found e).0.0 found.class none_static b) r) s)

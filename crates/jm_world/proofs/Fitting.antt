@@ -21,6 +21,10 @@ pub each_more : {A : Type 0} {P Q : A → Type 0} → ((x : A) → P x → Q x) 
 each_more f [] a = tt
 each_more f (x ∷ xs) a = (f x a.0, each_more f xs a.1)
 
+pub each_two : {A : Type 0} {P Q R : A → Type 0} → ((x : A) → P x → Q x → R x) → (xs : List A) → AllByRecursion P xs → AllByRecursion Q xs → AllByRecursion R xs
+each_two f [] a b = tt
+each_two f (x ∷ xs) a b = (f x a.0 b.0, each_two f xs a.1 b.1)
+
 -- more objects
 pub value_more : (n m : ℕ) → n ≤ m → (v : Value) → ValueBelow n v → ValueBelow m v
 value_more n m l (Ref k) b = omega (arith, l, b)

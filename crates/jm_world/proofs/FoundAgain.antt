@@ -1,6 +1,6 @@
 -- A method that was found is found again by the name by which a frame keeps it.
-use Rattle.std.proofs.Common.{◌≡◌, ◌≢◌, ℕ, List, [], ◌∷◌, Option, Some, None, Bool, true, false, refl, sym, ap, ◌∙◌, subst, ◌⊎◌}
-use Rattle.std.specs.Prelude.{◌&&◌, nat_eq, codes}
+use Rattle.std.proofs.Common.{◌≡◌, ◌≢◌, ℕ, List, [], ◌∷◌, Option, Some, None, Bool, true, false, refl, sym, ap, ◌∙◌, subst, ◌⊎◌, ◌+◌, ◌<◌, length, arith}
+use Rattle.std.specs.Prelude.{◌&&◌, nat_eq, codes, is_some}
 use Rattle.std.specs.List.{AllByRecursion}
 use Rattle.std.specs.Cmp.Lexicographic.{bytes_decides}
 use Rattle.jm_program.specs.Names.{same_text, is_init}
@@ -14,7 +14,7 @@ use Rattle.jm_program.specs.declared.descriptor.ElementType.TheVariants.{Base, C
 use Rattle.jm_program.specs.declared.descriptor.FieldType.{FieldType}
 use Rattle.jm_program.specs.declared.descriptor.MethodDescriptor.{MethodDescriptor}
 use Rattle.jm_program.specs.declared.reference.MethodRef.{MethodRef}
-use Rattle.jm_program.proofs.Truths.{both_true}
+use Rattle.jm_program.proofs.Truths.{both_true, right_false as neither}
 use Rattle.jm_program.proofs.Numbers.{equal}
 use Rattle.jm_builtins.specs.declared.built_in.BuiltIn.{BuiltIn}
 use Rattle.jm_builtins.specs.List.{the_builtins}
@@ -28,6 +28,8 @@ use Rattle.jm_world.specs.Initialization.{initializer_type, is_initializer, init
 use Rattle.jm_world.specs.Loading.{main_type, main_in}
 use Rattle.jm_world.specs.NamesOfRuns.{IsThere, HasBody}
 use Rattle.jm_world.proofs.CalledMethods.{IsNamed, Declares, up_named, taken, along_got, resolved_got, found_name}
+use Rattle.jm_world.specs.Objects.{FieldName, place_of_field, same_field}
+use Rattle.jm_world.specs.Loads.{is_named_among}
 
 abbrev base_of : ℕ → BaseType
 base_of n = elim (nat_eq n 66) [
@@ -197,3 +199,30 @@ mainly (c ∷ cs) = by (method_in c.methods (codes "main") main_type) refl
     by : (o : Option Method) → method_in c.methods (codes "main") main_type ≡ o → CallRuns (c ∷ cs) (elim o as (λ _. Option FoundMethod) [ None ↦ None | Some m ↦ Some (record { class = c; method = m }) ])
     by None r = tt
     by (Some m) r = again (c ∷ cs) (codes "main") main_type (record { class = c; method = m }) ((c.name, first_named c cs), r)
+
+-- a method that a class declares is found by its name
+pub stands_there : (program : List ClassParts) (name : List ℕ) (t : MethodDescriptor) (found : FoundMethod) → Declares program name t found
+    → method_named program (name_of_method found) ≡ Some found.method
+stands_there program name t found d =
+    ap (λ o. method_of_class o (name_of_method found)) (class_again program d.0.0 found.class d.0.1) ∙ method_again found.class.methods name t found.method d.1
+
+-- a class has the name by which it is found
+pub has_own_name : (program : List ClassParts) (name : List ℕ) (c : ClassParts) → class_named program name ≡ Some c → same_text c.name name ≡ true
+unfolding class_named
+has_own_name program name c e = class_name_is program name c e
+
+-- a name that is neither of a class nor built-in
+pub not_built_in : (seen : List ClassParts) (name : List ℕ) → is_named_among seen name ≡ false → is_some (built_in_named the_builtins name) ≡ false
+not_built_in [] name e = e
+not_built_in (c ∷ cs) name e = not_built_in cs name (neither (same_text c.name name) (is_named_among cs name) e)
+
+-- the place of a field is one of them
+pub place_within : (gs : List FieldName) (f : FieldName) (n : ℕ) → place_of_field gs f ≡ Some n → n < length gs
+place_within [] f n e = cc
+place_within (g ∷ gs) f n e = by (place_within gs f) (same_field g f) (place_of_field gs f) refl e
+  where
+    by : ((i : ℕ) → place_of_field gs f ≡ Some i → i < length gs) → (b : Bool) (o : Option ℕ) → place_of_field gs f ≡ o
+        → (elim b as (λ _. Option ℕ) [ true ↦ Some 0 | false ↦ elim o [ None ↦ None | Some i ↦ Some (i + 1) ] ]) ≡ Some n → n < length (g ∷ gs)
+    by rest true o is h = let same : 0 ≡ n = cc in omega arith
+    by rest false None is h = cc
+    by rest false (Some i) is h = let same : i + 1 ≡ n = cc in let lt = rest i is in omega arith

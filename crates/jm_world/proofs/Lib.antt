@@ -14,6 +14,7 @@ pub mod KeepingNames
 pub mod CalledMethods
 pub mod NamesAreThere
 pub mod FoundAgain
+pub mod LocalsOfCalls
 pub mod KeepingCode
 pub mod LoadsWellFormed
 pub mod Reaching

@@ -40,23 +40,17 @@ use Rattle.jm_world.specs.Loading.{text_of, texts_of_field, texts_of_instruction
 use Rattle.jm_world.specs.Loads.{Refusal, no_class, no_method, no_main, wrong_kind, or_else, when, first_of_all, duplicates, duplicate_members, parents_refusal, cycle_refusal, is_main, class_refusal, element_refusal, ref_refusal, is_static_use, is_stored, same_bool, found_field_refusal, is_static_call, init_refusal, found_method_refusal, named_class_refusal, method_refusal, new_refusal, instruction_refusal, catch_refusal, method_code_refusal, refusal, Loads}
 use Rattle.jm_world.specs.Run.{run_from}
 use Rattle.jm_world.specs.NamesOfRuns.{fields_of, SameNames, IsThere, ElementIsThere, ClassIsThere, StaticIsThere, FieldIsThere, IsOfUse, MethodIsThere, LiteralIsThere, Finds, CatchIsThere, CodeFinds, ClassFinds, RunsHaveWhatIsNamed}
-use Rattle.jm_world.proofs.Fitting.{each_more}
+use Rattle.jm_world.proofs.Fitting.{each_more, each_two}
 use Rattle.jm_world.proofs.KeepingNames.{run_keeps}
 use Rattle.jm_world.proofs.CalledMethods.{first_got, static_code, initializer_code}
 use Rattle.jm_world.proofs.Comparing.{type_itself, same_flag}
-use Rattle.jm_world.proofs.Refusing.{both_none, not_refused}
-
-all_none : {A : Type 0} (check : A → Option Refusal) (xs : List A) → first_of_all check xs ≡ None → AllByRecursion (λ x. check x ≡ None) xs
-all_none check [] e = tt
-all_none check (x ∷ xs) e =
-    let both : (check x ≡ None) × (first_of_all check xs ≡ None) = both_none (check x) (first_of_all check xs) e in
-    (both.0, all_none check xs both.1)
+use Rattle.jm_world.proofs.Refusing.{both_none, not_refused, all_none}
 
 is_there : {A : Type 0} (o : Option A) (r : Refusal) → when (not (is_some o)) r ≡ None → IsThere o
 is_there None r e = cc
 is_there (Some a) r e = tt
 
-it_is : {A : Type 0} (o : Option A) (a : A) → o ≡ Some a → IsThere o
+pub it_is : {A : Type 0} (o : Option A) (a : A) → o ≡ Some a → IsThere o
 it_is None a e = cc
 it_is (Some b) a e = tt
 
@@ -70,10 +64,6 @@ each_of P f [] a = tt
 each_of P f (x ∷ xs) a =
     let both : AllByRecursion P (f x) × AllByRecursion P (flat_map f xs) = each_both P (f x) (flat_map f xs) a in
     (both.0, each_of P f xs both.1)
-
-each_two : {A : Type 0} {P Q R : A → Type 0} → ((x : A) → P x → Q x → R x) → (xs : List A) → AllByRecursion P xs → AllByRecursion Q xs → AllByRecursion R xs
-each_two f [] a b = tt
-each_two f (x ∷ xs) a b = (f x a.0 b.0, each_two f xs a.1 b.1)
 
 -- literals: each text of the program is one of the distinct texts, and each of those has its String
 has_first : (t : List ℕ) (ts : List (List ℕ)) → has_text t (t ∷ ts) ≡ true
@@ -249,7 +239,7 @@ built_in_out (b ∷ bs) name c a e = by (same_text b.name name) (both_true (only
     by true both h ih = let same : as_class b ≡ c = cc in subst (λ z. list_all (is_out z) (nameable z) ≡ true) same both.0
     by false both h ih = ih both.1 h
 
-field_passes : (test : Field → Bool) (fs : List Field) (name : List ℕ) (t : FieldType) (f : Field) → list_all test fs ≡ true → field_in fs name t ≡ Some f → test f ≡ true
+pub field_passes : (test : Field → Bool) (fs : List Field) (name : List ℕ) (t : FieldType) (f : Field) → list_all test fs ≡ true → field_in fs name t ≡ Some f → test f ≡ true
 field_passes test [] name t f a e = cc
 field_passes test (g ∷ gs) name t f a e = by (same_text g.name name && same_type g.descriptor t) (both_true (test g) (list_all test gs) a) e (field_passes test gs name t f)
   where
@@ -258,10 +248,10 @@ field_passes test (g ∷ gs) name t f a e = by (same_text g.name name && same_ty
     by false both h ih = ih both.1 h
 
 -- where a field is found
-abbrev FoundIn : List ClassParts → List ℕ → FieldType → FoundField → Type 0
+abbrev pub FoundIn : List ClassParts → List ℕ → FieldType → FoundField → Type 0
 FoundIn program name t found = (k : List ℕ) × (class_named program k ≡ Some found.class) × (field_in (nameable found.class) name t ≡ Some found.field)
 
-field_got : (n : ℕ) (program : List ClassParts) (name : List ℕ) (t : FieldType) (class : List ℕ) (found : FoundField) → field_from n program name t class ≡ Some found → FoundIn program name t found
+pub field_got : (n : ℕ) (program : List ClassParts) (name : List ℕ) (t : FieldType) (class : List ℕ) (found : FoundField) → field_from n program name t class ≡ Some found → FoundIn program name t found
 field_got zero program name t class found e = cc
 field_got (suc n) program name t class found e = by (field_got n program name t) (class_named program class) refl e
   where
@@ -315,7 +305,7 @@ ref_found : (w : World) (t : ClassRef) → ref_refusal w.program t ≡ None → 
 ref_found w (named.Class name) e = class_found w name e
 ref_found w (named.Array t) e = element_found w t.element e
 
-new_found : (name : List ℕ) (o : Option ClassParts) → new_refusal name o ≡ None → IsThere o
+pub new_found : (name : List ℕ) (o : Option ClassParts) → new_refusal name o ≡ None → IsThere o
 new_found name None e = cc
 new_found name (Some c) e = tt
 
@@ -409,7 +399,7 @@ class_finds w s fits c e a = (
   initializer_code c e.0.methods,
 )
 
-codes_load : (program : List ClassParts) → refusal program ≡ None → first_of_all (λ c. first_of_all (method_code_refusal program) c.methods) program ≡ None
+pub codes_load : (program : List ClassParts) → refusal program ≡ None → first_of_all (λ c. first_of_all (method_code_refusal program) c.methods) program ≡ None
 unfolding refusal
 codes_load program e =
     after (when (not (is_main (main_in program))) no_main) (first_of_all (λ c. first_of_all (method_code_refusal program) c.methods) program)

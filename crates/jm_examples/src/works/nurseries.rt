@@ -90,7 +90,7 @@ fn are_eights(values: Elements<'_>) -> bool {
 
 /// Fills the nurseries, hands them to a minor collection, and compares what is left: the objects of all
 /// workers, young, in the one store that the first nursery gets.
-#[tactic(auto, using(crate::proofs::Lanes::nursery_lanes))]
+#[tactic(auto, using(jm_gen_heap::proofs::Lanes::nursery_lanes))]
 pub fn workers(alloc: Global) -> Result<()> {
     let mut nurseries = Nurseries::new(alloc, LIMIT)?;
     let mut roots = fill(alloc, &mut nurseries)?;

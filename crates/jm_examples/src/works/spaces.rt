@@ -59,7 +59,7 @@ pub enum Outcome {
 }
 
 /// Puts an object above all others of a store, with values of its kind.
-#[tactic(auto, using(jm_blocks::proofs::Sizes::at_least_two))]
+#[tactic(auto, using(jm_heap::proofs::SizeLaws::at_least_two))]
 pub fn make(
     alloc: Global,
     store: &mut BlockStore,

@@ -1,20 +1,17 @@
-use Rattle.std.proofs.Common.{◌≡◌, Option, Some, None, false, ◌<◌, arith, ap, refl, sym, subst, length, take, ◌∙◌}
+use Rattle.std.proofs.Common.{◌≡◌, Some, false, arith, ap, refl, sym, subst, ◌∙◌}
 use Rattle.std.proofs.Math.Seq.{take-length}
-use Rattle.std.proofs.lemmas.List.{length-set}
-use Rattle.std.proofs.lemmas.Option.{slice_get_within}
-use Rattle.jm_values.specs.declared.value.Value.TheVariants.{Ref}
+use Rattle.jm_heap.specs.Packing.{kind_of}
 use Rattle.jm_blocks.specs.Objects.{with_value}
 use Rattle.jm_copy.specs.Pointing.{names_lane, points_to}
-use Rattle.jm_copy.specs.declared.copies.Named.{Named}
 use Rattle.jm_copy.proofs.Making.{extends_refl, extends_more, others_more}
-use Rattle.jm_copy.proofs.Scanning.{Reaches, UpTo, reaches, reaches_more, rest, rest_less}
+use Rattle.jm_copy.proofs.Scanning.{ended_set, Reaches, reaches, reaches_more, rest, rest_less}
 use Rattle.jm_copy.proofs.scan.scan_object.Goals as goal
 
 pub loop-next-init : goal.loop-next-init
 loop-next-init c =
     let there = c.requires.there in
     record {
-      there = (there.0, there.1, reaches c.args.from.stores.now c.args.from.roots.now c.args.to.now c.args.to.now c.args.place c.args.to.now.young.lane false there.0 0 c.named_from-next.result there.1 (omega arith) (record { copying = λ done h. h; points_is = refl }) (c.named_from-next.ensures there.0 there.1));
+      there = (there.0, there.1, reaches c.args.from.stores.now c.args.from.roots.now c.args.to.now c.args.to.now c.args.place c.args.to.now.young.lane false there.0 0 c.named_first-next.result there.1 (omega arith) (record { copying = λ done h. h; points_is = refl }) (c.named_first-next.ensures there.0 there.1));
       passed = λ m n h below apart. refl;
       extends = extends_refl c.args.from.stores.now c.args.to.now;
     }
@@ -29,16 +26,14 @@ pub forward_named-requires-clause-there : goal.forward_named-requires-clause-the
 forward_named-requires-clause-there c =
     let there = c.loop-next.invariant.there in
     let at = subst (λ r. Reaches c.args.from.stores.now c.args.from.roots.now c.args.to.now c.loop-next.to c.args.place c.args.to.now.young.lane c.loop-next.points there.0 r) c.in-Some.is there.2 in
-    (there.0, there.1, at.1.here, at.1.fits)
+    (there.0, there.1, at.1.here, at.1.ended.fits)
 
 pub named_after-next-requires : goal.named_after-next-requires
 named_after-next-requires c =
     let there = c.loop-next.invariant.there in
     let at = subst (λ r. Reaches c.args.from.stores.now c.args.from.roots.now c.args.to.now c.loop-next.to c.args.place c.args.to.now.young.lane c.loop-next.points there.0 r) c.in-Some.is there.2 in
     let next = c.in_ok-names.ensures.names there.0 there.1 in
-    let many = length-set there.0.values c.in-Some.named.number next.0 in
-    let inside = slice_get_within there.0.values c.in-Some.named.number (Ref c.in-Some.named.place) at.1.here in
-    (with_value there.0 c.in-Some.named.number next.0, next.1, omega (arith, many, inside), at.1.count ∙ sym many)
+    (with_value there.0 c.in-Some.named.number next.0, next.1, ended_set there.0.values (kind_of there.0.class) c.in-Some.named.number c.in-Some.named.end next.0 at.1.ended)
 
 pub loop-next-preserved : goal.loop-next-preserved
 loop-next-preserved c =
@@ -48,7 +43,7 @@ loop-next-preserved c =
     let next = c.in_ok-names.ensures.names there.0 there.1 in
     let names = next.2 ∙ ap (λ l. names_lane l next.0) stays.young_lane in
     let after = with_value there.0 c.in-Some.named.number next.0 in
-    let on = reaches_more c.args.from.stores.now c.args.from.roots.now c.args.to.now c.loop-next.to c.forward_named.new.to c.args.place c.args.to.now.young.lane c.loop-next.points c.in_ok-names.names there.0 next.0 c.in-Some.named c.named_after-next.result at next.1 names c.in_ok-names.ensures.copying (c.named_after-next.ensures after next.1) in
+    let on = reaches_more c.args.from.stores.now c.args.from.roots.now c.args.to.now c.loop-next.to c.forward_named.new.to c.args.place c.args.to.now.young.lane c.loop-next.points c.in_ok-names.names there.0 next.0 c.in-Some.named c.named_after-next.result at next.1 names c.in_ok-names.ensures.copying (c.named_after-next.ensures.names after next.1) in
     record {
       there = (after, next.1, subst (λ b. Reaches c.args.from.stores.now c.args.from.roots.now c.args.to.now c.forward_named.new.to c.args.place c.args.to.now.young.lane b after c.named_after-next.result) (sym c.either-points.ensures) on);
       passed = others_more c.args.to.now c.loop-next.to c.forward_named.new.to c.args.place stays c.loop-next.invariant.passed c.in_ok-names.ensures.passed;
@@ -60,7 +55,7 @@ loop-next-smaller c =
     let there = c.loop-next.invariant.there in
     let at = subst (λ r. Reaches c.args.from.stores.now c.args.from.roots.now c.args.to.now c.loop-next.to c.args.place c.args.to.now.young.lane c.loop-next.points there.0 r) c.in-Some.is there.2 in
     let next = c.in_ok-names.ensures.names there.0 there.1 in
-    let less = rest_less there.0 c.in-Some.named next.0 c.named_after-next.result at.1 (c.named_after-next.ensures (with_value there.0 c.in-Some.named.number next.0) next.1) in
+    let less = rest_less there.0 c.in-Some.named next.0 c.named_after-next.result at.1 (c.named_after-next.ensures.names (with_value there.0 c.in-Some.named.number next.0) next.1) c.named_after-next.ensures.end in
     let was = ap rest c.in-Some.is in
     omega (arith, less, was)
 

@@ -2,9 +2,9 @@
 use Rattle.std.proofs.Common.{◌≤◌, [], length, refl, arith}
 use Rattle.std.proofs.lemmas.Result.{err_from_is_err_and}
 use Rattle.jm_listing.specs.Listings.{source_rows}
-use Rattle.jm_film_run.proofs.Passing.{next_item}
 use Rattle.jm_film_run.proofs.Fronts.{all_rows, one_more_row, one_next, put_fault, put_same}
 use Rattle.jm_film_run.proofs.front.put_sources.Goals as goal
+use Rattle.jm_values.proofs.Lists.{first_left as next_item}
 
 pub loop-source-init : goal.loop-source-init
 loop-source-init g c = (c.requires, ([], g.met.P.PageWriter.wrote_none _, refl))

@@ -7,5 +7,5 @@ use Rattle.jm_gen_heap.proofs.cells.store_cells.Given as goal
 abbrev pub invariant-loop-number : goal.invariant-loop-number
 invariant-loop-number l = record {
   value : store_cells (take l.number l.store.lists) < 2 ^ 64 → l.cells ≡ store_cells (take l.number l.store.lists);
-  short : (b : ℕ) (os : List Object) → b < l.number → slice_get l.store.lists b ≡ Some os → length os ≤ 256;
+  short : (b : ℕ) → b < l.number → (os : List Object) → slice_get l.store.lists b ≡ Some os → length os ≤ 256;
 }

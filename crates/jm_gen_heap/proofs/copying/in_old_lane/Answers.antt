@@ -1,7 +1,8 @@
 use Rattle.std.proofs.Common.{◌≢◌, ap, sym, ◌∙◌}
 use Rattle.jm_blocks.specs.Stores.{objects_in}
+use Rattle.jm_blocks.proofs.Lists.{no_blocks}
 use Rattle.jm_gen_heap.specs.Generations.{old_lane}
-use Rattle.jm_gen_heap.proofs.Stores.{no_blocks, other_lane}
+use Rattle.jm_gen_heap.proofs.Stores.{other_lane}
 use Rattle.jm_gen_heap.proofs.copying.in_old_lane.Goals as goal
 
 pub returns-clause-same : goal.returns-clause-same

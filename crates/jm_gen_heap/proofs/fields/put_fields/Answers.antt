@@ -30,4 +30,4 @@ loop-object-preserved c =
     let i = c.loop-object.object-index in
     let p = c.object-item.result in
     let there = c.requires.there p (among_at ps i p c.loop-object-test.true c.object-item.is) in
-    back_more ps c.args.places.now.items c.args.first c.loop-object.next c.put_references-next.result i p c.args.store.now c.loop-object.store c.put_references-next.new.store c.requires.distinct c.loop-object-test.true c.object-item.is c.loop-object.invariant there c.put_references-next.ensures.put c.put_references-next.ensures.next
+    back_more c.requires.distinct c.loop-object-test.true c.object-item.is c.loop-object.invariant there c.put_references-next.ensures.put c.put_references-next.ensures.next

@@ -7,8 +7,8 @@ use Rattle.jm_copy.specs.Condemned.{objects_at}
 use Rattle.jm_copy.proofs.Steps.{forwarded_more}
 use Rattle.jm_par_copy.specs.Copiers.{hands}
 use Rattle.jm_par_copy.specs.Working.{Pairs}
-use Rattle.jm_par_copy.proofs.ByPosition.{some_there}
 use Rattle.jm_par_copy.proofs.new_roots.root_places.Goals as goal
+use Rattle.jm_values.proofs.Lists.{some_there}
 
 pub loop-position-preserved : goal.loop-position-preserved
 loop-position-preserved c =

@@ -32,7 +32,7 @@ invariant_of-self-2 c =
     let there = read_there fs c.from.inside.values c.args.from.now c.args.index e o c.from.view_is c.index-entry.ensures c.requires.1 in
     let is = object_is fs c.from.inside.values c.args.from.now c.args.index e o c.from.view_is c.index-entry.ensures c.requires.1 in
     let room = room_by es c.self.inside.values c.args.self.now c.self.inside.cells (object_cells o) c.self.view_is c.self.invariant c.requires.2 in
-    rw (c.push_reserved.ensures.items, c.copied.ensures, c.reserve.ensures.items, c.in_ok-start.ensures.ok, c.cells.ensures, c.kind.ensures, c.start.ensures, c.length.ensures.value)
+    rw (c.push_entry.ensures, c.reserve.ensures.items, c.in_ok-start.ensures.ok, c.cells.ensures, c.kind.ensures, c.start.ensures, c.length.ensures.value)
     (block_copied es fs c.self.inside.values c.from.inside.values c.self.inside.cells c.from.inside.cells c.args.index c.args.age c.in_ok-start.start e o c.self.invariant c.from.invariant there is (c.in_ok-start.ensures.first ∙ ap (λ k. length (list_of k c.self.inside.values)) c.kind.ensures) (omega (arith, c.length.ensures.value, c.length.ensures.short)) room)
 
 pub returns-clause-ok : goal.returns-clause-ok
@@ -42,7 +42,7 @@ returns-clause-ok c o h =
     let e = c.index-entry.result.now in
     let there = read_there fs c.from.inside.values c.args.from.now c.args.index e o c.from.view_is c.index-entry.ensures h in
     let is = object_is fs c.from.inside.values c.args.from.now c.args.index e o c.from.view_is c.index-entry.ensures h in
-    rw (c.push_reserved.ensures.items, c.copied.ensures, c.reserve.ensures.items, c.in_ok-start.ensures.ok, c.kind.ensures, c.start.ensures, c.length.ensures.value)
+    rw (c.push_entry.ensures, c.reserve.ensures.items, c.in_ok-start.ensures.ok, c.kind.ensures, c.start.ensures, c.length.ensures.value)
     (spelled_copied es fs c.self.inside.values c.from.inside.values c.self.inside.cells c.from.inside.cells c.args.index c.args.age c.in_ok-start.start e o c.self.invariant c.from.invariant there is (c.in_ok-start.ensures.first ∙ ap (λ k. length (list_of k c.self.inside.values)) c.kind.ensures))
     ∙ ap (λ os. os ++ aged c.args.age o ∷ []) c.self.view_is
 

@@ -1,7 +1,7 @@
-use Rattle.std.proofs.Common.{arith, length}
+use Rattle.std.proofs.Common.{arith}
 use Rattle.jm_blocks.proofs.Spelling.{entry_there}
-use Rattle.jm_blocks.proofs.Sizes.{at_least_two}
 use Rattle.jm_blocks.proofs.contents.Contents.reserve_like.Goals as goal
+use Rattle.jm_heap.proofs.SizeLaws.{at_least_two}
 
 pub index-entry-requires : goal.index-entry-requires
 index-entry-requires c =

@@ -8,10 +8,11 @@ use Rattle.jm_blocks.specs.Objects.{Object}
 use Rattle.jm_blocks.specs.Stores.{Blocks, HasObject, IsLast, IsLastBlock, IsPopped, Bumped, store_cells}
 use Rattle.jm_blocks.proofs.Walking.{nothing_there}
 use Rattle.jm_blocks.proofs.Cutting.{cut_read, cut_cells, cut_bumped, popped_whole}
-use Rattle.jm_blocks.proofs.Sizes.{at_least_two, few_where_room}
+use Rattle.jm_blocks.proofs.Sizes.{few_where_room}
 use Rattle.jm_blocks.specs.Cells.{object_cells}
 use Rattle.jm_blocks.proofs.store.BlockStore.pop.Goals as goal
 use Rattle.jm_blocks.proofs.store.BlockStore.pop.Goals.{then-len-eq0, else-len-eq0}
+use Rattle.jm_heap.proofs.SizeLaws.{at_least_two}
 
 pub returns-in_default-clause-popped : goal.returns-in_default-clause-popped
 returns-in_default-clause-popped c p there top = let none = nothing_there c.args.self.now c.in_default.ensures p in let some = there.1 in absurd cc

@@ -6,9 +6,9 @@ use Rattle.jm_blocks.specs.Cells.{object_cells}
 use Rattle.jm_blocks.specs.Places.{lane_of}
 use Rattle.jm_blocks.specs.Stores.{Blocks, Bumped, last_has_room}
 use Rattle.jm_blocks.proofs.Placing.{lane_put}
-use Rattle.jm_blocks.proofs.Sizes.{at_least_two}
 use Rattle.jm_blocks.proofs.Filling.{fill_last, few_in_last, reserved_last, room_in_last}
 use Rattle.jm_blocks.proofs.store.BlockStore.push_copy.Goals as goal
+use Rattle.jm_heap.proofs.SizeLaws.{at_least_two}
 
 pub place_in-place-requires-clause-index : goal.place_in-place-requires-clause-index
 place_in-place-requires-clause-index c =

@@ -1,5 +1,5 @@
 use Rattle.std.proofs.Common.{◌≡◌, Some, ◌++◌, ◌∷◌, [], ◌∙◌, ◌+◌, ap, arith, sym, subst, length, length-append}
-use Rattle.jm_blocks.specs.Objects.{Object, aged}
+use Rattle.jm_blocks.specs.Objects.{aged}
 use Rattle.jm_blocks.specs.Cells.{object_cells}
 use Rattle.jm_blocks.specs.Places.{place_at}
 use Rattle.jm_blocks.specs.Stores.{Blocks, Bumped, last_has_room}

@@ -1,12 +1,32 @@
-use Rattle.std.proofs.Common.{◌≡◌, ◌∙◌, Some, sym, ap, arith, length}
+use Rattle.std.proofs.Common.{◌≡◌, ◌+◌, ◌∙◌, Some, ap, sym, subst, arith}
+use Rattle.jm_heap.specs.Elements.{elements}
+use Rattle.jm_heap.specs.Packing.{kind_of}
+use Rattle.jm_blocks.specs.Objects.{object_of}
+use Rattle.jm_blocks.specs.Stores.{objects_in}
+use Rattle.jm_copy.specs.Naming.{IsEnded, NamesFirst, NamesNext}
+use Rattle.jm_copy.proofs.Making.{store_has}
 use Rattle.jm_copy.proofs.copies.Copies.named_after.Goals as goal
 
-pub named_from-requires : goal.named_from-requires
-named_from-requires c = (c.requires.0, c.requires.1)
+pub object_at-requires : goal.object_at-requires
+object_at-requires c = (c.requires.0, ap (λ s. objects_in s c.args.place) c.store.ensures ∙ store_has c.args.self.now c.args.place c.requires.0 c.requires.1)
 
-pub returns-then-first-count : goal.returns-then-first-count
-returns-then-first-count c a e i p from below h =
+pub named_below-requires : goal.named_below-requires
+named_below-requires c =
+    let both : Some c.requires.0 ≡ Some (object_of c.object_at.result.0 (elements c.object_at.result.1)) = sym (store_has c.args.self.now c.args.place c.requires.0 c.requires.1) ∙ ap (λ s. objects_in s c.args.place) (sym c.store.ensures) ∙ c.object_at.ensures.value in
+    let same : c.requires.0 ≡ object_of c.object_at.result.0 (elements c.object_at.result.1) = cc in
+    let there = subst (λ x. IsEnded x.values (kind_of x.class) c.args.number c.args.end) same c.requires.2 in
+    let ended = subst (λ k. IsEnded (elements c.object_at.result.1) k c.args.number c.args.end) (sym c.object_at.ensures.kind) there in
+    record { within = ended.within; none = ended.none; fits = ended.fits }
+
+pub returns-then-first-end-clause-names : goal.returns-then-first-end-clause-names
+returns-then-first-end-clause-names c a e =
     let both : Some c.requires.0 ≡ Some a = sym c.requires.1 ∙ e in
     let same : c.requires.0 ≡ a = cc in
-    let many = ap (λ x. length x.values) same in
-    absurd (omega (arith, from, below, many, c.requires.3, c.if-first-count.true))
+    let ended = subst (λ x. IsEnded x.values (kind_of x.class) c.args.number c.args.end) same c.requires.2 in
+    λ i p from below h. ended.none i p (omega (arith, from, c.if-first-end.true)) below h
+
+pub returns-clause-names : goal.returns-clause-names
+returns-clause-names c a e =
+    let both : Some a ≡ Some (object_of c.object_at.result.0 (elements c.object_at.result.1)) = sym (store_has c.args.self.now c.args.place a e) ∙ ap (λ s. objects_in s c.args.place) (sym c.store.ensures) ∙ c.object_at.ensures.value in
+    let same : a ≡ object_of c.object_at.result.0 (elements c.object_at.result.1) = cc in
+    subst (λ x. NamesNext x (c.args.number + 1) c.named_below.result) (sym same) (subst (λ k. NamesFirst (elements c.object_at.result.1) k (c.args.number + 1) c.named_below.result) c.object_at.ensures.kind c.named_below.ensures.names)

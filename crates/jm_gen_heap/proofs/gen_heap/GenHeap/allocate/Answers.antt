@@ -1,10 +1,10 @@
 use Rattle.std.proofs.Common.{◌%◌, refl, sym, ap, subst}
 use Rattle.jm_values.specs.Objects.{size_by}
 use Rattle.jm_values.specs.Content.{AllResident}
+use Rattle.jm_values.proofs.Outcomes.{on_err}
 use Rattle.jm_heap.specs.Cells.{class_size}
 use Rattle.jm_heap.specs.NewObject.{new_object}
 use Rattle.jm_heap.specs.Allocation.{MadeHereOrNot}
-use Rattle.jm_heap.proofs.MakingLemmas.{on_err}
 use Rattle.jm_gen_heap.specs.Residents.{content_of}
 use Rattle.std.specs.Prelude.{OnOk}
 use Rattle.jm_gen_heap.specs.Allocating.{HasAged, PutHere}

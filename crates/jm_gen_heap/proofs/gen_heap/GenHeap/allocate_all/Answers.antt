@@ -19,7 +19,7 @@ use Rattle.jm_gen_heap.proofs.gen_heap.GenHeap.allocate_all.Goals as goal
 
 pub returns-in_default-clause-kept : goal.returns-in_default-clause-kept
 returns-in_default-clause-kept g c =
-    kept_same (content_of c.args.self.now) c.args.roots.now (sound c.args.self.now (subst AreGenerations c.self.view_is c.used-used.ensures.keeps)) c.requires
+    kept_same (content_of c.args.self.now) c.args.roots.now (sound {g = c.args.self.now} (subst AreGenerations c.self.view_is c.used-used.ensures.keeps)) c.requires
 
 pub returns-in_default-clause-err : goal.returns-in_default-clause-err
 returns-in_default-clause-err g c =
@@ -32,30 +32,30 @@ returns-clause-ok g c =
     let keeps = subst AreGenerations c.self-2.view_is c.make_all.ensures.keeps in
     let put = subst (λ x. IfOk c.make_all.result (λ places. AreAllPut x c.make_all.new.self places.items (c.args.nursery % 16) (map new_object c.args.shapes.now))) c.self-2.view_is c.make_all.ensures.ok in
     IfOk-weaker c.make_all.result (λ places. AreAllPut c.make_ready.new.self c.make_all.new.self places.items (c.args.nursery % 16) (map new_object c.args.shapes.now)) (λ places. MadeAll class_size (content_of c.args.self.now) c.args.roots.now (content_of c.make_all.new.self) c.make_ready.new.roots places.items (map new_object c.args.shapes.now))
-    (λ places m. all_after (content_of c.args.self.now) (content_of c.make_ready.new.self) (content_of c.make_all.new.self) c.args.roots.now c.make_ready.new.roots places.items (map new_object c.args.shapes.now) c.make_ready.ensures.kept c.make_ready.ensures.next (all_made c.make_ready.new.self c.make_all.new.self keeps places.items (c.args.nursery % 16) (map new_object c.args.shapes.now) m c.make_ready.new.roots c.make_ready.ensures.kept.resident))
+    (λ places m. all_after (content_of c.args.self.now) (content_of c.make_ready.new.self) (content_of c.make_all.new.self) c.args.roots.now c.make_ready.new.roots places.items (map new_object c.args.shapes.now) c.make_ready.ensures.kept c.make_ready.ensures.next (all_made keeps m c.make_ready.new.roots c.make_ready.ensures.kept.resident))
     put
 
 pub returns-clause-nursery : goal.returns-clause-nursery
 returns-clause-nursery g c =
     let keeps = subst AreGenerations c.self-2.view_is c.make_all.ensures.keeps in
     let put = subst (λ x. IfOk c.make_all.result (λ places. AreAllPut x c.make_all.new.self places.items (c.args.nursery % 16) (map new_object c.args.shapes.now))) c.self-2.view_is c.make_all.ensures.ok in
-    IfOk-weaker c.make_all.result (λ places. AreAllPut c.make_ready.new.self c.make_all.new.self places.items (c.args.nursery % 16) (map new_object c.args.shapes.now)) (λ places. AllPlaces (λ place. nursery_at place ≡ Some (c.args.nursery % 16)) places.items) (λ places m i p e. (lies_new c.make_ready.new.self c.make_all.new.self keeps places.items (c.args.nursery % 16) (map new_object c.args.shapes.now) m i p e).nursery) put
+    IfOk-weaker c.make_all.result (λ places. AreAllPut c.make_ready.new.self c.make_all.new.self places.items (c.args.nursery % 16) (map new_object c.args.shapes.now)) (λ places. AllPlaces (λ place. nursery_at place ≡ Some (c.args.nursery % 16)) places.items) (λ places m i p e. (lies_new keeps m i p e).nursery) put
 
 pub returns-clause-fresh : goal.returns-clause-fresh
 returns-clause-fresh g c =
     let keeps = subst AreGenerations c.self-2.view_is c.make_all.ensures.keeps in
     let put = subst (λ x. IfOk c.make_all.result (λ places. AreAllPut x c.make_all.new.self places.items (c.args.nursery % 16) (map new_object c.args.shapes.now))) c.self-2.view_is c.make_all.ensures.ok in
-    IfOk-weaker c.make_all.result (λ places. AreAllPut c.make_ready.new.self c.make_all.new.self places.items (c.args.nursery % 16) (map new_object c.args.shapes.now)) (λ places. AllPlaces (λ place. HasSurvived c.make_all.new.self place 0) places.items) (λ places m i p e. new_age c.make_ready.new.self c.make_all.new.self (c.args.nursery % 16) (map new_object c.args.shapes.now) i p (lies_new c.make_ready.new.self c.make_all.new.self keeps places.items (c.args.nursery % 16) (map new_object c.args.shapes.now) m i p e)) put
+    IfOk-weaker c.make_all.result (λ places. AreAllPut c.make_ready.new.self c.make_all.new.self places.items (c.args.nursery % 16) (map new_object c.args.shapes.now)) (λ places. AllPlaces (λ place. HasSurvived c.make_all.new.self place 0) places.items) (λ places m i p e. new_age (lies_new keeps m i p e)) put
 
 pub returns-clause-kept : goal.returns-clause-kept
 returns-clause-kept g c =
     let keeps = subst AreGenerations c.self-2.view_is c.make_all.ensures.keeps in
-    on_err_weaker c.make_all.result (λ b. subst (λ x. Kept (content_of c.args.self.now) c.args.roots.now x c.make_ready.new.roots) (sym (alike_content c.make_ready.new.self c.make_all.new.self keeps b)) c.make_ready.ensures.kept) (subst (λ x. OnErr c.make_all.result (IsAlike x c.make_all.new.self)) c.self-2.view_is c.make_all.ensures.none)
+    on_err_weaker c.make_all.result (λ b. subst (λ x. Kept (content_of c.args.self.now) c.args.roots.now x c.make_ready.new.roots) (sym (alike_content keeps b)) c.make_ready.ensures.kept) (subst (λ x. OnErr c.make_all.result (IsAlike x c.make_all.new.self)) c.self-2.view_is c.make_all.ensures.none)
 
 pub returns-clause-next : goal.returns-clause-next
 returns-clause-next g c =
     let keeps = subst AreGenerations c.self-2.view_is c.make_all.ensures.keeps in
-    on_err_weaker c.make_all.result (λ b. ap (λ x. x.next) (alike_content c.make_ready.new.self c.make_all.new.self keeps b) ∙ c.make_ready.ensures.next) (subst (λ x. OnErr c.make_all.result (IsAlike x c.make_all.new.self)) c.self-2.view_is c.make_all.ensures.none)
+    on_err_weaker c.make_all.result (λ b. ap (λ x. x.next) (alike_content keeps b) ∙ c.make_ready.ensures.next) (subst (λ x. OnErr c.make_all.result (IsAlike x c.make_all.new.self)) c.self-2.view_is c.make_all.ensures.none)
 
 pub returns-clause-as_before : goal.returns-clause-as_before
 returns-clause-as_before g c =

@@ -19,7 +19,7 @@ returns-clause-ok g c =
     let mid = content_of c.make_room.new.self in
     let o = new_object c.args.shape in
     let made = subst (λ x. IfOk c.make.result (λ p. MadeHere (content_of x) (content_of c.make.new.self) p o)) c.self.view_is c.make.ensures.made in
-    IfOk-weaker c.make.result (λ p. MadeHere mid (content_of c.make.new.self) p o) (λ p. Made class_size old c.args.roots.now (content_of c.make.new.self) c.make_room.new.roots p o) (λ p m. made_after old mid c.args.roots.now c.make_room.new.roots c.make_room.ensures.kept c.make_room.ensures.next (content_of c.make.new.self) p o m) made
+    IfOk-weaker c.make.result (λ p. MadeHere mid (content_of c.make.new.self) p o) (λ p. Made class_size old c.args.roots.now (content_of c.make.new.self) c.make_room.new.roots p o) (λ p m. made_after c.make_room.ensures.kept c.make_room.ensures.next (content_of c.make.new.self) p o m) made
 
 pub returns-clause-stays : goal.returns-clause-stays
 returns-clause-stays g c =

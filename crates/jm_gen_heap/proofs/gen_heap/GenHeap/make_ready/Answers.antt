@@ -9,4 +9,4 @@ pub returns-then-is_within_quota-clause-kept : goal.returns-then-is_within_quota
 returns-then-is_within_quota-clause-kept g c =
     let gen = c.self.inside.generations in
     let resident = subst (λ x. AllResident (content_of x) c.args.roots.now) (sym c.self.view_is) c.requires.resident in
-    subst (λ x. Kept (content_of x) c.args.roots.now (content_of x) c.args.roots.now) c.self.view_is (kept_same (content_of gen) c.args.roots.now (sound gen c.fits.ensures.keeps) resident)
+    subst (λ x. Kept (content_of x) c.args.roots.now (content_of x) c.args.roots.now) c.self.view_is (kept_same (content_of gen) c.args.roots.now (sound c.fits.ensures.keeps) resident)

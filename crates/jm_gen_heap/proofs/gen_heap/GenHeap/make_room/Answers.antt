@@ -27,33 +27,33 @@ returns-in_err-collect_all-clause-kept g c =
 
 pub returns-then-fits-clause-kept : goal.returns-then-fits-clause-kept
 returns-then-fits-clause-kept g c =
-    let left = minor_left c.self.inside.generations c.collect_young.new.self c.args.roots.now c.collect_young.new.roots c.in_ok-collect_young.ensures.ok in
+    let left = minor_left c.in_ok-collect_young.ensures.ok in
     subst (λ x. Kept (content_of x) c.args.roots.now (content_of c.collect_young.new.self) c.collect_young.new.roots) c.self.view_is left.kept
 
 pub returns-then-fits-clause-next : goal.returns-then-fits-clause-next
 returns-then-fits-clause-next g c =
-    let left = minor_left c.self.inside.generations c.collect_young.new.self c.args.roots.now c.collect_young.new.roots c.in_ok-collect_young.ensures.ok in
+    let left = minor_left c.in_ok-collect_young.ensures.ok in
     left.next ∙ ap (λ x. (content_of x).next) c.self.view_is
 
 pub returns-then-fits-clause-as_before : goal.returns-then-fits-clause-as_before
 returns-then-fits-clause-as_before g c =
-    let left = minor_left c.self.inside.generations c.collect_young.new.self c.args.roots.now c.collect_young.new.roots c.in_ok-collect_young.ensures.ok in
+    let left = minor_left c.in_ok-collect_young.ensures.ok in
     subst (λ x. IsAsBefore (content_of x) (content_of c.collect_young.new.self)) c.self.view_is left.as_before
 
 pub returns-then-fits-clause-stays : goal.returns-then-fits-clause-stays
 returns-then-fits-clause-stays g c =
-    let stays = minor_stays c.self.inside.generations c.collect_young.new.self c.args.roots.now c.collect_young.new.roots c.args.cells c.in_ok-collect_young.ensures.ok in
+    let stays = minor_stays c.in_ok-collect_young.ensures.ok c.args.cells in
     subst (λ x. OldStay x c.collect_young.new.self c.args.cells) c.self.view_is stays
 
 pub returns-then-fits-clause-ok : goal.returns-then-fits-clause-ok
 returns-then-fits-clause-ok g c =
     let gen = c.self.inside.generations in
     let fits = leb-true (all_cells gen + c.args.cells) gen.limit (sym c.fits.ensures.value ∙ c.if-fits.true) in
-    minor_fits gen c.collect_young.new.self c.args.roots.now c.collect_young.new.roots c.args.cells c.fits.ensures.keeps c.in_ok-collect_young.ensures.keeps c.in_ok-collect_young.ensures.ok fits
+    minor_fits c.fits.ensures.keeps c.in_ok-collect_young.ensures.keeps c.in_ok-collect_young.ensures.ok c.args.cells fits
 
 pub returns-clause-err : goal.returns-clause-err
 returns-clause-err g c =
     let gen = c.self.inside.generations in
     let h = c.collect_all.new.self in
-    let passes = full_passes gen h c.args.roots.now c.collect_all.new.roots c.args.cells c.in_ok-collect_all.ensures.ok (λ fits. let both : true ≡ false = sym (le-leb (all_cells h + c.args.cells) h.limit fits) ∙ sym c.fits-2.ensures.value ∙ c.if-fits-2.false in cc) in
+    let passes = full_passes c.in_ok-collect_all.ensures.ok c.args.cells (λ fits. let both : true ≡ false = sym (le-leb (all_cells h + c.args.cells) h.limit fits) ∙ sym c.fits-2.ensures.value ∙ c.if-fits-2.false in cc) in
     subst (λ x. (content_of x).limit < used_by class_size (content_of x) c.args.roots.now + c.args.cells) c.self.view_is passes

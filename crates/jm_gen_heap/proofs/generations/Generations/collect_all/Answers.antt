@@ -1,53 +1,35 @@
-use Rattle.std.proofs.Common.{◌∙◌, ◌++◌, [], sym, ap, subst, arith, append-nil}
+use Rattle.std.proofs.Common.{◌++◌, ◌∙◌, sym, ap, subst, arith, append-nil}
 use Rattle.jm_values.specs.Content.{AllResident}
 use Rattle.jm_gen_heap.specs.Residents.{content_of}
 use Rattle.jm_gen_heap.specs.Collections.{LeavesAllReached}
-use Rattle.jm_gen_heap.specs.Held.{held}
-use Rattle.jm_gen_heap.proofs.Collecting.{full_result, full_roots, collected_held}
+use Rattle.jm_gen_heap.specs.Held.{AreHeld, held}
+use Rattle.jm_gen_heap.specs.Pointers.{all_of}
+use Rattle.jm_gen_heap.proofs.Collecting.{full_done, full_held}
+use Rattle.jm_gen_heap.proofs.generations.Generations.collect_all.Given.{Over}
 use Rattle.jm_gen_heap.proofs.generations.Generations.collect_all.Goals as goal
+use Rattle.jm_gen_heap.proofs.generations.Generations.collect_all.Goals.{After-put_stores-self-inside}
 
-pub exchange-placeholder-requires-clause-counted : goal.exchange-placeholder-requires-clause-counted
-exchange-placeholder-requires-clause-counted g c =
-    let i = c.self.inside in
+pub put_stores-self-inside-requires-clause-within : goal.put_stores-self-inside-requires-clause-within
+put_stores-self-inside-requires-clause-within g c young old =
     let r = subst (λ x. AllResident (content_of x) c.args.roots.now) (sym c.self.view_is) c.requires in
-    let copied = c.in-Ok.copied in
-    let d = full_result i.limit i.next i.tenured_cells i.young i.tenured i.pointers c.self.invariant c.args.roots.now c.copy_all.new.roots.items r copied.stores.young.items c.take_stores-stores.result.young.items c.take_stores-stores.result.tenured copied.stores.tenured c.index.result.now copied.promoted.items c.in_ok-places.places.items c.store_cells-young_cells.result c.take_stores-stores.ensures.young c.take_stores-stores.ensures.tenured c.in_ok-places.ensures c.in-Ok.ensures.ok c.index.ensures c.store_cells-young_cells.ensures.value c.store_cells-young_cells.ensures.short c.store_cells-self-inside.ensures.short in
-    d.counted
+    let d = full_done c.self.invariant.keeps r c.in_ok-places.ensures c.in_ok-copied.ensures.ok young old in
+    omega (arith, d.generations.within, c.copy_all.ensures.limit, c.self.invariant.same)
 
-pub exchange-placeholder-requires-clause-within : goal.exchange-placeholder-requires-clause-within
-exchange-placeholder-requires-clause-within g c =
-    let i = c.self.inside in
+-- what is held then, and what it left
+done : (g : Over) (c : After-put_stores-self-inside g) → AreHeld c.self.inside.limit c.self.inside.next c.put_stores-self-inside.new.young c.put_stores-self-inside.new.tenured c.put_stores-self-inside.result c.put.new.self × LeavesAllReached (held c.self.inside.limit c.self.inside.next c.self.inside.young c.self.inside.tenured c.self.inside.pointers) (held c.self.inside.limit c.self.inside.next c.put_stores-self-inside.new.young c.put_stores-self-inside.new.tenured c.put.new.self) c.args.roots.now c.put_roots.new.roots
+done g c =
     let r = subst (λ x. AllResident (content_of x) c.args.roots.now) (sym c.self.view_is) c.requires in
-    let copied = c.in-Ok.copied in
-    let d = full_result i.limit i.next i.tenured_cells i.young i.tenured i.pointers c.self.invariant c.args.roots.now c.copy_all.new.roots.items r copied.stores.young.items c.take_stores-stores.result.young.items c.take_stores-stores.result.tenured copied.stores.tenured c.index.result.now copied.promoted.items c.in_ok-places.places.items c.store_cells-young_cells.result c.take_stores-stores.ensures.young c.take_stores-stores.ensures.tenured c.in_ok-places.ensures c.in-Ok.ensures.ok c.index.ensures c.store_cells-young_cells.ensures.value c.store_cells-young_cells.ensures.short c.store_cells-self-inside.ensures.short in
-    omega (arith, d.within, c.take_stores-stores.ensures.limit, c.self.invariant.same)
+    let listed = c.in_ok-copied.copied.promoted.items in
+    let after = ap all_of c.put.ensures ∙ ap (λ ps. listed ++ ps) c.new.ensures.items ∙ append-nil listed in
+    full_held {after = c.put.new.self} c.self.invariant r c.in_ok-places.ensures c.in_ok-copied.ensures.ok c.put_roots.ensures c.put_stores-self-inside.ensures c.copy_all.ensures.limit after
 
-pub invariant_of-self : goal.invariant_of-self
-invariant_of-self g c =
-    let i = c.self.inside in
-    let r = subst (λ x. AllResident (content_of x) c.args.roots.now) (sym c.self.view_is) c.requires in
-    let copied = c.in-Ok.copied in
-    let d = full_result i.limit i.next i.tenured_cells i.young i.tenured i.pointers c.self.invariant c.args.roots.now c.copy_all.new.roots.items r copied.stores.young.items c.take_stores-stores.result.young.items c.take_stores-stores.result.tenured copied.stores.tenured c.index.result.now copied.promoted.items c.in_ok-places.places.items c.store_cells-young_cells.result c.take_stores-stores.ensures.young c.take_stores-stores.ensures.tenured c.in_ok-places.ensures c.in-Ok.ensures.ok c.index.ensures c.store_cells-young_cells.ensures.value c.store_cells-young_cells.ensures.short c.store_cells-self-inside.ensures.short in
-    let h = collected_held i.limit i.next c.store_cells-self-inside.result c.take_stores-stores.new.young.limit c.exchange-placeholder.new.self copied.stores.young.items copied.stores.tenured c.put.new.self (record { noted = []; left = copied.promoted.items }) c.self.invariant.small c.exchange-placeholder.ensures.held (c.take_stores-stores.ensures.limit ∙ c.self.invariant.same) (c.put.ensures ∙ ap (λ xs. record { noted = []; left = xs }) (ap (λ xs. copied.promoted.items ++ xs) c.new.ensures.items ∙ append-nil copied.promoted.items)) d.leaves.generations c.store_cells-self-inside.ensures.value in
-    h.0
+pub invariant_of-self-2 : goal.invariant_of-self-2
+invariant_of-self-2 g c = (done g (goal.at.invariant_of-self-2 g c).After-put_stores-self-inside).0
 
-pub returns-in-Ok-clause-ok : goal.returns-in-Ok-clause-ok
-returns-in-Ok-clause-ok g c =
+pub returns-clause-ok : goal.returns-clause-ok
+returns-clause-ok g c =
     let i = c.self.inside in
-    let r = subst (λ x. AllResident (content_of x) c.args.roots.now) (sym c.self.view_is) c.requires in
-    let copied = c.in-Ok.copied in
-    let d = full_result i.limit i.next i.tenured_cells i.young i.tenured i.pointers c.self.invariant c.args.roots.now c.copy_all.new.roots.items r copied.stores.young.items c.take_stores-stores.result.young.items c.take_stores-stores.result.tenured copied.stores.tenured c.index.result.now copied.promoted.items c.in_ok-places.places.items c.store_cells-young_cells.result c.take_stores-stores.ensures.young c.take_stores-stores.ensures.tenured c.in_ok-places.ensures c.in-Ok.ensures.ok c.index.ensures c.store_cells-young_cells.ensures.value c.store_cells-young_cells.ensures.short c.store_cells-self-inside.ensures.short in
-    let h = collected_held i.limit i.next c.store_cells-self-inside.result c.take_stores-stores.new.young.limit c.exchange-placeholder.new.self copied.stores.young.items copied.stores.tenured c.put.new.self (record { noted = []; left = copied.promoted.items }) c.self.invariant.small c.exchange-placeholder.ensures.held (c.take_stores-stores.ensures.limit ∙ c.self.invariant.same) (c.put.ensures ∙ ap (λ xs. record { noted = []; left = xs }) (ap (λ xs. copied.promoted.items ++ xs) c.new.ensures.items ∙ append-nil copied.promoted.items)) d.leaves.generations c.store_cells-self-inside.ensures.value in
-    let moved = full_roots c.args.roots.now c.copy_all.new.roots.items c.put_roots.new.roots d.many c.put_roots.ensures in
-    subst (λ x. LeavesAllReached x (held i.limit i.next c.exchange-placeholder.new.self copied.stores.tenured c.put.new.self) c.args.roots.now c.put_roots.new.roots) c.self.view_is
-    (subst (λ x. LeavesAllReached (held i.limit i.next i.young i.tenured i.pointers) x c.args.roots.now c.put_roots.new.roots) (sym h.1)
-    (subst (λ x. LeavesAllReached (held i.limit i.next i.young i.tenured i.pointers) (held i.limit i.next (record { limit = i.limit; lanes = copied.stores.young.items }) copied.stores.tenured (record { noted = []; left = copied.promoted.items })) c.args.roots.now x) (sym moved) d.leaves))
+    subst (λ x. LeavesAllReached x (held i.limit i.next c.put_stores-self-inside.new.young c.put_stores-self-inside.new.tenured c.put.new.self) c.args.roots.now c.put_roots.new.roots) c.self.view_is (done g (goal.at.returns-clause-ok g c).After-put_stores-self-inside).1
 
-pub returns-in-Ok-clause-keeps : goal.returns-in-Ok-clause-keeps
-returns-in-Ok-clause-keeps g c =
-    let i = c.self.inside in
-    let r = subst (λ x. AllResident (content_of x) c.args.roots.now) (sym c.self.view_is) c.requires in
-    let copied = c.in-Ok.copied in
-    let d = full_result i.limit i.next i.tenured_cells i.young i.tenured i.pointers c.self.invariant c.args.roots.now c.copy_all.new.roots.items r copied.stores.young.items c.take_stores-stores.result.young.items c.take_stores-stores.result.tenured copied.stores.tenured c.index.result.now copied.promoted.items c.in_ok-places.places.items c.store_cells-young_cells.result c.take_stores-stores.ensures.young c.take_stores-stores.ensures.tenured c.in_ok-places.ensures c.in-Ok.ensures.ok c.index.ensures c.store_cells-young_cells.ensures.value c.store_cells-young_cells.ensures.short c.store_cells-self-inside.ensures.short in
-    let h = collected_held i.limit i.next c.store_cells-self-inside.result c.take_stores-stores.new.young.limit c.exchange-placeholder.new.self copied.stores.young.items copied.stores.tenured c.put.new.self (record { noted = []; left = copied.promoted.items }) c.self.invariant.small c.exchange-placeholder.ensures.held (c.take_stores-stores.ensures.limit ∙ c.self.invariant.same) (c.put.ensures ∙ ap (λ xs. record { noted = []; left = xs }) (ap (λ xs. copied.promoted.items ++ xs) c.new.ensures.items ∙ append-nil copied.promoted.items)) d.leaves.generations c.store_cells-self-inside.ensures.value in
-    h.0.keeps
+pub returns-clause-keeps : goal.returns-clause-keeps
+returns-clause-keeps g c = (done g (goal.at.returns-clause-keeps g c).After-put_stores-self-inside).0.keeps

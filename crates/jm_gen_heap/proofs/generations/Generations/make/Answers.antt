@@ -18,32 +18,26 @@ use Rattle.jm_gen_heap.proofs.generations.Generations.make.Goals as goal
 
 pub invariant_of-self-2 : goal.invariant_of-self-2
 invariant_of-self-2 c =
-    let i = c.self.inside in
-    let room = subst (λ (x : Generations). all_cells x + size_by class_size (new_object c.args.shape) ≤ x.limit) (sym c.self.view_is) c.requires in
-    (put_held i.limit i.next i.tenured_cells i.young c.put_new.new.young i.tenured i.pointers c.self.invariant c.args.shape c.header_of-header.result c.header_of-header.ensures c.in_ok-place.place (c.args.nursery % 16) c.in_ok-place.ensures.ok room (omega (arith, c.if-self-ge-MAX_SERIALS.false))).0
+    (put_held c.self.invariant c.self.view_is c.args.shape c.header_of-header.ensures c.in_ok-place.ensures.ok c.requires (omega (arith, c.if-self-ge-MAX_SERIALS.false))).0
 
 pub returns-clause-ok : goal.returns-clause-ok
 returns-clause-ok c =
     let i = c.self.inside in
-    let room = subst (λ (x : Generations). all_cells x + size_by class_size (new_object c.args.shape) ≤ x.limit) (sym c.self.view_is) c.requires in
-    let put = (put_held i.limit i.next i.tenured_cells i.young c.put_new.new.young i.tenured i.pointers c.self.invariant c.args.shape c.header_of-header.result c.header_of-header.ensures c.in_ok-place.place (c.args.nursery % 16) c.in_ok-place.ensures.ok room (omega (arith, c.if-self-ge-MAX_SERIALS.false))).1 in
+    let put = (put_held c.self.invariant c.self.view_is c.args.shape c.header_of-header.ensures c.in_ok-place.ensures.ok c.requires (omega (arith, c.if-self-ge-MAX_SERIALS.false))).1 in
     subst (λ x. IsPutNew x (held i.limit (i.next + 1) c.put_new.new.young i.tenured i.pointers) c.in_ok-place.place (c.args.nursery % 16) (new_object c.args.shape)) c.self.view_is put
 
 pub returns-clause-made : goal.returns-clause-made
 returns-clause-made c =
     let i = c.self.inside in
-    let room = subst (λ (x : Generations). all_cells x + size_by class_size (new_object c.args.shape) ≤ x.limit) (sym c.self.view_is) c.requires in
-    let put = (put_held i.limit i.next i.tenured_cells i.young c.put_new.new.young i.tenured i.pointers c.self.invariant c.args.shape c.header_of-header.result c.header_of-header.ensures c.in_ok-place.place (c.args.nursery % 16) c.in_ok-place.ensures.ok room (omega (arith, c.if-self-ge-MAX_SERIALS.false))).1 in
+    let put = (put_held c.self.invariant c.self.view_is c.args.shape c.header_of-header.ensures c.in_ok-place.ensures.ok c.requires (omega (arith, c.if-self-ge-MAX_SERIALS.false))).1 in
     let g : Generations = held i.limit i.next i.young i.tenured i.pointers in
     let h : Generations = held i.limit (i.next + 1) c.put_new.new.young i.tenured i.pointers in
-    let made = subst (λ x. MadeHere (content_of g) (content_of h) c.in_ok-place.place x) put.shape (put_made g h c.self.invariant.keeps c.in_ok-place.place put.object put.put put.fresh) in
+    let made = subst (λ x. MadeHere (content_of g) (content_of h) c.in_ok-place.place x) put.shape (put_made c.self.invariant.keeps put.put put.fresh) in
     subst (λ x. MadeHere (content_of x) (content_of h) c.in_ok-place.place (new_object c.args.shape)) c.self.view_is made
 
 pub returns-clause-keeps : goal.returns-clause-keeps
 returns-clause-keeps c =
-    let i = c.self.inside in
-    let room = subst (λ (x : Generations). all_cells x + size_by class_size (new_object c.args.shape) ≤ x.limit) (sym c.self.view_is) c.requires in
-    (put_held i.limit i.next i.tenured_cells i.young c.put_new.new.young i.tenured i.pointers c.self.invariant c.args.shape c.header_of-header.result c.header_of-header.ensures c.in_ok-place.place (c.args.nursery % 16) c.in_ok-place.ensures.ok room (omega (arith, c.if-self-ge-MAX_SERIALS.false))).0.keeps
+    (put_held c.self.invariant c.self.view_is c.args.shape c.header_of-header.ensures c.in_ok-place.ensures.ok c.requires (omega (arith, c.if-self-ge-MAX_SERIALS.false))).0.keeps
 
 pub returns-then-self-ge-MAX_SERIALS-clause-err : goal.returns-then-self-ge-MAX_SERIALS-clause-err
 returns-then-self-ge-MAX_SERIALS-clause-err c =
@@ -56,8 +50,7 @@ returns-then-self-ge-MAX_SERIALS-clause-err c =
 pub returns-clause-above : goal.returns-clause-above
 returns-clause-above c =
     let i = c.self.inside in
-    let g : Generations = held i.limit i.next i.young i.tenured i.pointers in
     let n = c.args.nursery % 16 in
     let o = object_of c.header_of-header.result (new_object c.args.shape).values in
     let made = subst (λ l. IsMade (record { limit = l; lanes = i.young.lanes }) c.put_new.new.young n c.in_ok-place.place o) c.self.invariant.same c.in_ok-place.ensures.ok in
-    subst (λ x. IsAbove x c.in_ok-place.place n) c.self.view_is (made_above g (laned g c.self.invariant.keeps) c.put_new.new.young n c.in_ok-place.place o made)
+    subst (λ x. IsAbove x c.in_ok-place.place n) c.self.view_is (made_above (laned c.self.invariant.keeps) made)

@@ -15,7 +15,7 @@ pub loop-number-preserved : goal.loop-number-preserved
 loop-number-preserved c =
     let i = c.loop-number.invariant in
     record {
-      put = first_push c.args.self.now c.loop-number.places.items c.push_reserved.new.self.items c.in-Ok.place (c.args.nursery % 16) (map new_object c.args.shapes.now) c.loop-number.number c.loop-number.self c.make.new.self _ i.put i.many c.push_reserved.ensures.items (shape_object c.args.shapes.now c.loop-number.number _ c.loop-number-test.true) c.in-Ok.ensures.ok c.in-Ok.ensures.above;
+      put = first_push c.args.self.now c.loop-number.places.items (map new_object c.args.shapes.now) c.loop-number.number i.put i.many c.push_reserved.ensures.items (shape_object c.args.shapes.now c.loop-number.number _ c.loop-number-test.true) c.in-Ok.ensures.ok c.in-Ok.ensures.above;
       many = omega (arith, ap length c.push_reserved.ensures.items, i.many);
       len = omega (arith, i.len, c.push_reserved.ensures.len);
       room = omega (arith, i.room, c.push_reserved.ensures.capacity);

@@ -20,7 +20,7 @@ young c =
     let i = c.self.inside in
     let g : Generations = held i.limit i.next i.young i.tenured i.pointers in
     let x = place_lies g c.self.invariant.keeps c.args.place c.requires.0 (subst (λ (y : Generations). serial_at (content_of y) c.args.place ≡ Some c.requires.0) (sym c.self.view_is) c.requires.1) in
-    young_lane g (laned g c.self.invariant.keeps) c.args.place x.0 (away c) x.1
+    young_lane (laned c.self.invariant.keeps) c.args.place x.0 (away c) x.1
 
 pub overflow_sub-result : goal.overflow_sub-result
 overflow_sub-result c = let y = young c in omega (arith, y.some, c.of-position.ensures.lane)
@@ -39,19 +39,19 @@ returns-clause-there c o e =
     let n = c.of-position.result.lane - 1 in
     let there : lying g c.args.place ≡ Some o = ap (λ x. lying x c.args.place) c.self.view_is ∙ e in
     let apart : lane_of c.args.place ≢ old_lane = λ f. c.if-position-eq-OLD_LANE.false (c.of-position.ensures.lane ∙ f) in
-    let y = young_lane g (laned g c.self.invariant.keeps) c.args.place o apart there in
+    let y = young_lane (laned c.self.invariant.keeps) c.args.place o apart there in
     let many = c.self.invariant.keeps.nurseries.many in
     let lanes = ap length c.stores.ensures.value in
     let within : n < length c.stores.result.now = omega (arith, y.some, y.few, c.of-position.ensures.lane, many, lanes) in
-    let at = in_young g (laned g c.self.invariant.keeps) c.args.place o apart there ∙ ap (λ l. Some (l - 1)) (sym c.of-position.ensures.lane) in
+    let at = in_young (laned c.self.invariant.keeps) c.args.place o apart there ∙ ap (λ l. Some (l - 1)) (sym c.of-position.ensures.lane) in
     let read = slice_get_read c.stores.result.now (length c.stores.result.now) n c.index-stores-position.result refl within c.index-stores-position.is in
-    store_young g (laned g c.self.invariant.keeps) c.args.place n c.index-stores-position.result o at (ap (λ xs. slice_get xs n) (sym c.stores.ensures.value) ∙ read) there
+    store_young (laned c.self.invariant.keeps) c.args.place n c.index-stores-position.result o at (ap (λ xs. slice_get xs n) (sym c.stores.ensures.value) ∙ read) there
 
 pub returns-then-position-eq-OLD_LANE-clause-there : goal.returns-then-position-eq-OLD_LANE-clause-there
 returns-then-position-eq-OLD_LANE-clause-there c o e =
     let i = c.self.inside in
     let g : Generations = held i.limit i.next i.young i.tenured i.pointers in
-    store_old g (laned g c.self.invariant.keeps) c.args.place o (sym c.of-position.ensures.lane ∙ c.if-position-eq-OLD_LANE.true) (ap (λ x. lying x c.args.place) c.self.view_is ∙ e)
+    store_old (laned c.self.invariant.keeps) c.args.place o (sym c.of-position.ensures.lane ∙ c.if-position-eq-OLD_LANE.true) (ap (λ x. lying x c.args.place) c.self.view_is ∙ e)
 
 pub returns-then-position-eq-OLD_LANE-clause-keeps : goal.returns-then-position-eq-OLD_LANE-clause-keeps
 returns-then-position-eq-OLD_LANE-clause-keeps c = subst AreGenerations c.self.view_is c.self.invariant.keeps

@@ -1,6 +1,6 @@
 use Rattle.std.proofs.Common.{◌++◌, ap, refl, subst, ◌∙◌}
 use Rattle.jm_values.proofs.Among.{among_left}
-use Rattle.jm_heap.proofs.MakingLemmas.{on_err}
+use Rattle.jm_values.proofs.Outcomes.{on_err}
 use Rattle.jm_gen_heap.specs.Pointers.{Noted, Covers, Grows, IsSettled, StillPoint}
 use Rattle.jm_gen_heap.proofs.Noting.{grows_more, grows_then, settled, still_grown}
 use Rattle.jm_gen_heap.proofs.pointers.Pointers.settle.Goals as goal

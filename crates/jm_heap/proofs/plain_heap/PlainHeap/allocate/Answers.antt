@@ -1,9 +1,9 @@
 use Rattle.std.proofs.Common.{◌≡◌, sym, subst}
 use Rattle.jm_values.specs.Content.{Kept}
+use Rattle.jm_values.proofs.Outcomes.{on_err}
 use Rattle.jm_heap.specs.NewObject.{new_object}
 use Rattle.jm_heap.specs.Allocation.{MadeHere, MadeHereOrNot}
 use Rattle.jm_heap.specs.Collection.{IsAsBeforeMaking}
-use Rattle.jm_heap.proofs.MakingLemmas.{on_err}
 use Rattle.jm_heap.proofs.SweepingLemmas.{kept_same}
 use Rattle.jm_heap.proofs.AllocatingLemmas.{before_same}
 use Rattle.jm_heap.proofs.plain_heap.PlainHeap.allocate.Goals as goal

@@ -1,10 +1,11 @@
 use Rattle.std.proofs.Common.{◌≤◌, ◌+◌, refl, arith}
 use Rattle.jm_values.specs.Objects.{size_by}
+use Rattle.jm_values.proofs.Outcomes.{on_err}
 use Rattle.jm_heap.specs.Cells.{class_size, resident_cells}
 use Rattle.jm_heap.specs.NewObject.{new_object}
 use Rattle.jm_heap.specs.Stored.{numbered}
 use Rattle.jm_heap.proofs.NewLemmas.{new_refs}
-use Rattle.jm_heap.proofs.MakingLemmas.{sound_made, made_at, at_end, cells_are, limit_is, new_size, on_err}
+use Rattle.jm_heap.proofs.MakingLemmas.{sound_made, made_at, at_end, cells_are, limit_is, new_size}
 use Rattle.jm_heap.proofs.plain_heap.PlainHeap.allocate_here.Goals as goal
 
 pub returns-then-cells-self-clause-full : goal.returns-then-cells-self-clause-full

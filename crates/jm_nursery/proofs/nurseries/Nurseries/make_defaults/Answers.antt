@@ -3,10 +3,10 @@ use Rattle.std.specs.Prelude.{slice_set}
 use Rattle.std.proofs.lemmas.List.{length-map}
 use Rattle.jm_values.specs.Objects.{default_of}
 use Rattle.jm_heap.specs.Cells.{class_size}
+use Rattle.jm_heap.proofs.SizeLaws.{at_least_two}
 use Rattle.jm_blocks.specs.Objects.{Object, object_of}
 use Rattle.jm_blocks.specs.Cells.{object_cells}
 use Rattle.jm_blocks.specs.Stores.{next_place}
-use Rattle.jm_blocks.proofs.Sizes.{at_least_two}
 use Rattle.jm_nursery.specs.Nurseries.{Young, IsMade, young_cells}
 use Rattle.jm_nursery.proofs.Making.{made, young_more}
 use Rattle.jm_nursery.proofs.nurseries.Nurseries.make_defaults.Goals as goal

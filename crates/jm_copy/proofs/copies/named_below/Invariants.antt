@@ -1,7 +1,7 @@
 use Rattle.std.proofs.Common.{◌≤◌}
 use Rattle.jm_heap.specs.Elements.{elements}
 use Rattle.jm_copy.specs.Naming.{NoneNamed}
-use Rattle.jm_copy.proofs.copies.named_from.Given as goal
+use Rattle.jm_copy.proofs.copies.named_below.Given as goal
 
 abbrev pub invariant-loop-number : goal.invariant-loop-number
 invariant-loop-number l = record {
