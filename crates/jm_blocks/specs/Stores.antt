@@ -26,6 +26,10 @@ HasObject s p = (o : Object) × (objects_in s p ≡ Some o)
 abbrev pub HasValue : Blocks → ℕ → ℕ → Type 0
 HasValue s p i = (o : Object) × (objects_in s p ≡ Some o) × (i < length o.values)
 
+-- the object at a place is that of a number in this list
+abbrev pub LiesIn : Blocks → ℕ → List Object → ℕ → Type 0
+LiesIn s p os i = (o : Object) × (objects_in s p ≡ Some o) × (slice_get os i ≡ Some o)
+
 -- one place has this object afterwards, and all others have what they had
 pub record Changed (old new : Blocks) (p : ℕ) (o : Object) : Type 0 where
   pub here : objects_in new p ≡ Some o

@@ -1,7 +1,7 @@
 // What a block holds.
 
 ghost use Rattle.std.specs.Prelude.{◌≡◌, ◌+◌, ◌<◌, ◌≤◌, ◌^◌, ◌++◌, ◌∷◌, [], Some, None, MatchOption, OnOk, OnErr, IfSome, IsTrue, true};
-ghost use Rattle.std.specs.Prelude.{take, drop, length, map, slice_get, slice_set, replicate};
+ghost use Rattle.std.specs.Prelude.{drop, length, map, slice_get, slice_set, replicate};
 ghost use Rattle.jm_values.specs.Objects.{default_of};
 ghost use Rattle.jm_heap.specs.Cells.{class_size};
 ghost use Rattle.jm_blocks.specs.Objects.{Object, aged, object_of, with_value};

@@ -1,6 +1,6 @@
 // The values of a block, packed.
 
-ghost use Rattle.std.specs.Prelude.{pos, ◌≡◌, ◌+◌, ◌<◌, ◌≤◌, ◌^◌, ◌++◌, ◌∷◌, [], IfOk, OnOk, OnErr, IfSome, Some};
+ghost use Rattle.std.specs.Prelude.{pos, ◌≡◌, ◌+◌, ◌<◌, ◌≤◌, ◌++◌, ◌∷◌, [], IfOk, OnOk, OnErr, Some};
 ghost use Rattle.std.specs.Prelude.{take, drop, length, map, replicate, slice_get, slice_set};
 ghost use Rattle.jm_values.specs.Objects.{default_of};
 ghost use Rattle.jm_values.specs.declared.value.Value.{Value};

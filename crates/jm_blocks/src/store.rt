@@ -1,6 +1,6 @@
 // Blocks under numbers.
 
-ghost use Rattle.std.specs.Prelude.{◌≡◌, ℕ, ◌+◌, ◌<◌, ◌≤◌, ◌^◌, ◌++◌, false, Some, None, MatchOption, IfSome, IfOk, OnOk, OnErr, length, map, slice_get, slice_set, replicate, [], ◌∷◌};
+ghost use Rattle.std.specs.Prelude.{◌≡◌, ℕ, ◌+◌, ◌<◌, ◌≤◌, ◌^◌, ◌++◌, false, Some, None, MatchOption, IfSome, IfOk, OnOk, OnErr, length, map, slice_get, slice_set, replicate, []};
 ghost use Rattle.jm_values.specs.Objects.{default_of};
 ghost use Rattle.jm_blocks.specs.Objects.{Object, aged, object_of};
 ghost use Rattle.jm_blocks.specs.Cells.{object_cells};
@@ -8,7 +8,7 @@ ghost use Rattle.jm_heap.specs.Elements.{elements, element_kind};
 ghost use Rattle.jm_heap.specs.Packing.{Fits, kind_of};
 ghost use Rattle.jm_heap.specs.declared.storage.Storage.TheVariants as kind;
 ghost use Rattle.jm_blocks.specs.Places.{place_at, lane_of};
-ghost use Rattle.jm_blocks.specs.Stores.{Blocks, objects_in, HasObject, HasValue, Bumped, IsSet, IsPopped, IsAfter, IsFirst, IsFirstBlock, IsLast, IsLastBlock, IsEmpty, EndsBlock, NoneFrom};
+ghost use Rattle.jm_blocks.specs.Stores.{Blocks, objects_in, LiesIn, HasObject, HasValue, Bumped, IsSet, IsPopped, IsAfter, IsFirst, IsFirstBlock, IsLast, IsLastBlock, IsEmpty, EndsBlock, NoneFrom};
 ghost use Rattle.jm_blocks.specs.Stores.{last_has_room, store_with, next_place, store_cells};
 
 use crate::block::Block;
@@ -134,22 +134,11 @@ impl BlockStore {
         block.object_at(position.index)
     }
 
-    /// The block of the object at a place, and the object's number there.
-    #[inline]
-    pub fn find(&self, place: Place) -> Option<(&Block, usize)>
-        ensures { MatchOption result (objects_in self.now place ≡ None) (λ r. (o : Object) × (objects_in self.now place ≡ Some o) × (slice_get r.0.now r.1 ≡ Some o)) }
-    {
-        if Position::of(place).lane != self.lane {
-            return None;
-        }
-        self.find_here(place)
-    }
-
-    /// The same at a place of the store's lane.
+    /// The block of the object at a place of the store's lane, and the object's number there.
     #[inline]
     pub fn find_here(&self, place: Place) -> Option<(&Block, usize)>
         requires { lane_of place ≡ self.now.lane }
-        ensures { MatchOption result (objects_in self.now place ≡ None) (λ r. (o : Object) × (objects_in self.now place ≡ Some o) × (slice_get r.0.now r.1 ≡ Some o)) }
+        ensures { MatchOption result (objects_in self.now place ≡ None) (λ r. LiesIn self.now place r.0.now r.1) }
     {
         let position = Position::of(place);
         if position.block >= self.blocks.len() {
@@ -275,6 +264,7 @@ impl BlockStore {
     ) -> Result<Place, AllocError>
         requires { (o : Object) × (slice_get from.now index ≡ Some o) × (last_has_room self.old.lists (object_cells o) ≡ false) }
         ensures ok { IfOk result (λ p. (o : Object) → slice_get from.now index ≡ Some o → Bumped self.old self.new p (aged age o)) }
+        ensures filled { IfOk result (λ p. (o : Object) → slice_get from.now index ≡ Some o → (p ≡ next_place self.old (object_cells o)) × (self.new ≡ store_with self.old (aged age o))) }
         ensures lane { IfOk result (λ p. lane_of p ≡ self.old.lane) }
         ensures same { self.new.lane ≡ self.old.lane }
         ensures err { OnErr result (self.new ≡ self.old) }
@@ -301,6 +291,7 @@ impl BlockStore {
     ) -> Result<Place, AllocError>
         requires { (o : Object) × (slice_get from.now index ≡ Some o) }
         ensures ok { IfOk result (λ p. (o : Object) → slice_get from.now index ≡ Some o → Bumped self.old self.new p (aged age o)) }
+        ensures filled { IfOk result (λ p. (o : Object) → slice_get from.now index ≡ Some o → (p ≡ next_place self.old (object_cells o)) × (self.new ≡ store_with self.old (aged age o))) }
         ensures lane { IfOk result (λ p. lane_of p ≡ self.old.lane) }
         ensures same { self.new.lane ≡ self.old.lane }
         ensures err { OnErr result (self.new ≡ self.old) }

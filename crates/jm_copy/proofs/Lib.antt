@@ -9,5 +9,4 @@ pub mod Pointing
 pub mod Listed
 pub mod Steps
 pub mod Images
-pub mod Plain
 pub mod Scanning

@@ -6,7 +6,7 @@ use Rattle.std.proofs.lemmas.Bool.{le-ltb, lt-ltb, cases_lt}
 use Rattle.std.proofs.lemmas.Bool.Decides.{eqb_tells}
 use Rattle.jm_values.specs.Shape.{Among}
 use Rattle.jm_values.specs.Reach.{AllDistinct}
-use Rattle.jm_values.proofs.Among.{among_left, among_right, among_or_last}
+use Rattle.jm_values.proofs.Among.{among_left, among_right, among_or_last, among_split}
 use Rattle.jm_blocks.specs.Objects.{Object}
 use Rattle.jm_blocks.specs.Places.{lane_of}
 use Rattle.jm_blocks.specs.Stores.{Blocks, objects_in, HasObject}
@@ -21,13 +21,22 @@ use Rattle.jm_copy.proofs.Keeping.{mark_stays}
 use Rattle.jm_copy.proofs.Making.{is_over, not_above, made_where, LiesYoung, LiesOld}
 use Rattle.jm_copy.proofs.Marking.{passed_young, passed_old}
 
-distinct_push : (q : ℕ) (ps : List ℕ) → AllDistinct ps → (Among q ps → ⊥) → AllDistinct (ps ++ q ∷ [])
+pub distinct_push : (q : ℕ) (ps : List ℕ) → AllDistinct ps → (Among q ps → ⊥) → AllDistinct (ps ++ q ∷ [])
 distinct_push q [] d n = (λ h. h, tt)
 distinct_push q (x ∷ ps) d n = (λ h. apart (among_or_last x q ps h), distinct_push q ps d.1 (λ h. n (inr h)))
   where
     apart : Among x ps ⊎ (x ≡ q) → ⊥
     apart (inl a) = d.0 a
     apart (inr e) = n (inl (sym e))
+
+-- two lists without a place in common
+pub distinct_append : (ns ms : List ℕ) → AllDistinct ns → AllDistinct ms → ((n : ℕ) → Among n ns → Among n ms → ⊥) → AllDistinct (ns ++ ms)
+distinct_append [] ms d e h = e
+distinct_append (n ∷ ns) ms d e h = (λ a. by (among_split n ns ms a), distinct_append ns ms d.1 e (λ m a b. h m (inr a) b))
+  where
+    by : Among n ns ⊎ Among n ms → ⊥
+    by (inl a) = d.0 a
+    by (inr b) = h n (inl refl) b
 
 pub listed_none : (lane : ℕ) (s : Blocks) (kept : Option ℕ) (places : List ℕ) → IsMark s kept → places ≡ [] → IsListed lane s kept kept places
 listed_none lane s kept places mark e = subst (λ ps. IsListed lane s kept kept ps) (sym e) (record {

@@ -64,10 +64,6 @@ ScansObject stores roots c d p =
     (done : Progress) → IsCopying stores roots c (at done p 0)
     → (a : Object) × (made d p ≡ Some a) × IsCopying stores roots d (at done p (length a.values))
 
--- an object that was made has as many values as before
-abbrev pub KeepsLength : Copies → Copies → ℕ → Type 0
-KeepsLength c d p = (a : Object) → made c p ≡ Some a → (b : Object) × (made d p ≡ Some b) × (length b.values ≡ length a.values)
-
 -- where the old store had an object, it has it still, and below it nothing more; or all but the one at a place
 abbrev pub AllStay : Copies → Copies → Type 0
 AllStay c d = (m n : ℕ) → HasObject c.tenured m → n ≤ m → objects_in d.tenured n ≡ objects_in c.tenured n

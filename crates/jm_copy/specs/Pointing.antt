@@ -1,5 +1,5 @@
 -- Which old objects point to young ones.
-use Rattle.std.specs.Prelude.{◌≡◌, ℕ, ◌||◌, ◌++◌, if◌then◌else◌, List, [], ◌∷◌, Option, Some, Bool, true, false, nat_eq}
+use Rattle.std.specs.Prelude.{◌≡◌, ℕ, ◌||◌, List, [], ◌∷◌, Option, Some, Bool, true, false, nat_eq}
 use Rattle.jm_values.specs.Shape.{Among}
 use Rattle.jm_values.specs.Reach.{AllDistinct}
 use Rattle.jm_values.specs.declared.value.Value.{Value}
@@ -19,10 +19,6 @@ names_lane lane Null = false
 abbrev pub points_to : ℕ → List Value → Bool
 points_to lane [] = false
 points_to lane (v ∷ vs) = names_lane lane v || points_to lane vs
-
--- the list with the object's place, if it points there
-abbrev pub with_pointer : ℕ → Object → ℕ → List ℕ → List ℕ
-with_pointer lane o p places = if points_to lane o.values then places ++ p ∷ [] else places
 
 -- the places of the objects that point into a lane, each once
 pub record ListsPointers (lane : ℕ) (objects : ℕ → Option Object) (places : List ℕ) : Type 0 where

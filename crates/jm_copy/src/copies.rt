@@ -1,7 +1,6 @@
 // What a collection has made so far.
 
-ghost use Rattle.std.specs.Prelude.{◌≡◌, ◌≢◌, ◌+◌, ◌<◌, ◌≤◌, ◌^◌, ℕ, [], length, slice_get, Some, MatchOption, IfOk, IfSome, OnErr, nat_eq};
-ghost use Rattle.jm_values.specs.Rename.{stack_shape};
+ghost use Rattle.std.specs.Prelude.{◌≡◌, ◌≢◌, ◌+◌, ◌<◌, ◌≤◌, ℕ, length, slice_get, Some, MatchOption, IfOk, IfSome, OnErr, nat_eq};
 ghost use Rattle.jm_values.specs.declared.value.Value.TheVariants.{Ref};
 ghost use Rattle.jm_heap.specs.Elements.{elements, element_kind};
 ghost use Rattle.jm_heap.specs.Packing.{Fits, kind_of};
@@ -101,6 +100,28 @@ fn named_below(values: Elements<'_>, first: usize, end: usize) -> Option<Named>
     None
 }
 
+/// The first reference among values.
+#[inline(always)]
+pub fn first_named(values: Elements<'_>) -> Option<Named>
+    ensures { NamesFirst (elements values.entry) (element_kind values.entry) 0 result }
+{
+    if values.is_plain() {
+        return None;
+    }
+    let end = end_of(values);
+    named_below(values, 0, end)
+}
+
+/// The first reference among values after one, where the end of the references is known.
+#[inline(always)]
+pub fn next_named(values: Elements<'_>, number: usize, end: usize) -> Option<Named>
+    requires { IsEnded (elements values) (element_kind values) number end }
+    ensures names { NamesFirst (elements values.entry) (element_kind values.entry) (number + 1) result }
+    ensures end { IfSome result (λ r. r.end ≡ end) }
+{
+    named_below(values, number + 1, end)
+}
+
 impl Copies {
     /// Copies an object of a block: into the store of the young at its first survival, and else into the
     /// old one. A growth that is refused changes nothing.
@@ -136,30 +157,6 @@ impl Copies {
         &self.tenured
     }
 
-    /// One value of a new object.
-    #[inline]
-    pub fn value(&self, place: Place, number: usize) -> Value
-        requires { (a : Object) × (made self.now place ≡ Some a) × (number < length a.values) }
-        ensures value { (a : Object) → made self.now place ≡ Some a → slice_get a.values number ≡ Some result }
-        ensures fits { (a : Object) → made self.now place ≡ Some a → Fits (kind_of a.class) result }
-    {
-        self.store(place).get(place, number)
-    }
-
-    /// How many values of a new object are to be forwarded: all that it has, or none where nothing in
-    /// it can be a reference.
-    #[inline]
-    pub fn to_forward(&self, place: Place) -> Option<usize>
-        requires { HasMade self.now place }
-        ensures { (a : Object) → made self.now place ≡ Some a → MatchOption result (stack_shape.refs a.values ≡ []) (λ n. length a.values ≡ n) }
-    {
-        match self.store(place).object(place) {
-            Some((_, values)) if values.is_plain() => None,
-            Some((_, values)) => Some(values.len()),
-            None => Some(0),
-        }
-    }
-
     /// The new object that lies after one in its block, if there is one.
     #[inline(always)]
     pub fn beside(&self, place: Place) -> Option<Place>
@@ -176,11 +173,7 @@ impl Copies {
         ensures { (a : Object) → made self.now place ≡ Some a → NamesNext a 0 result }
     {
         let (_, values) = self.store(place).object_at(place);
-        if values.is_plain() {
-            return None;
-        }
-        let end = end_of(values);
-        named_below(values, 0, end)
+        first_named(values)
     }
 
     /// The first reference of a new object after one, where the end of its references is known: where that comes next
@@ -191,12 +184,11 @@ impl Copies {
         ensures names { (a : Object) → made self.now place ≡ Some a → NamesNext a (number + 1) result }
         ensures end { IfSome result (λ r. r.end ≡ end) }
     {
-        let first = number + 1;
-        if first >= end {
+        if number + 1 >= end {
             return None;
         }
         let (_, values) = self.store(place).object_at(place);
-        named_below(values, first, end)
+        next_named(values, number, end)
     }
 
     /// Changes one value of a new object.

@@ -1,6 +1,6 @@
 // One object is copied, and one value forwarded.
 
-ghost use Rattle.std.specs.Prelude.{◌≡◌, ◌+◌, ◌<◌, ℕ, List, Some, IfOk, OnOk, OnErr, length, slice_get};
+ghost use Rattle.std.specs.Prelude.{◌≡◌, ◌<◌, ℕ, Some, IfOk, OnOk, OnErr, length, slice_get};
 ghost use Rattle.jm_values.specs.declared.value.Value.TheVariants.{Ref};
 ghost use Rattle.jm_heap.specs.Packing.{Fits, kind_of};
 ghost use Rattle.jm_blocks.specs.Objects.{Object};

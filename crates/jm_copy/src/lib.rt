@@ -21,9 +21,8 @@
 //! and the law [`a_finished_scan_is_an_image`] states the end: with all values forwarded and all roots, the
 //! new objects are the image.
 //!
-//! The stores that a copier fills, the marks of its scan, the numbers of the condemned objects and the list of the
-//! promoted ones that point to young ones are public ([`Copies`], [`Marks`], [`Starts`], [`pointers`]), for
-//! collectors of several copiers.
+//! The stores that a copier fills, the marks of its scan, the numbers of the condemned objects and the references of
+//! an object are public ([`Copies`], [`Marks`], [`Starts`], [`first_named`]), for collectors of several copiers.
 //!
 //! The crate stands on `jm_blocks`.
 #![tactic(auto)]
@@ -32,7 +31,6 @@ mod collector;
 mod copies;
 mod forward;
 mod laws;
-mod old_pointers;
 mod scan;
 mod serial;
 mod source;
@@ -40,11 +38,10 @@ mod starts;
 mod words;
 
 pub use collector::{Collector, Refused, Survivors};
-pub use copies::{Copies, Named};
+pub use copies::{Copies, Named, first_named, next_named};
 pub use laws::a_finished_scan_is_an_image;
-pub use old_pointers::pointers;
-pub use scan::{Marks, next, next_of, pass};
+pub use scan::{Marks, next, next_after, next_of, pass};
 pub use serial::SerialCollector;
-pub use source::{Source, condemned, number};
+pub use source::{Source, find, number};
 pub use starts::{Starts, number_all};
 pub use words::Words;

@@ -1,6 +1,6 @@
 // The scan over the two stores that are filled.
 
-ghost use Rattle.std.specs.Prelude.{◌≡◌, ◌≢◌, ◌<◌, ◌^◌, ◌++◌, ◌∷◌, ◌||◌, [], ℕ, Some, MatchOption, IfOk, OnOk, length, if◌then◌else◌};
+ghost use Rattle.std.specs.Prelude.{◌≡◌, ◌≢◌, ◌<◌, ◌^◌, ◌++◌, ◌∷◌, ◌||◌, [], Some, MatchOption, IfOk, OnOk, if◌then◌else◌};
 ghost use Rattle.jm_blocks.specs.Objects.{Object};
 ghost use Rattle.jm_blocks.specs.Places.{lane_of};
 ghost use Rattle.jm_copy.specs.Copying.{IsScanned, Progress};
@@ -45,9 +45,9 @@ pub fn next(to: &Copies, marks: &Marks) -> Option<Place>
     next_of(&to.tenured, &marks.tenured)
 }
 
-// A new object that is not scanned, after one was: the next one of its block, where there is one.
+/// A new object that is not scanned, after one was: the next one of its block, where there is one.
 #[inline(always)]
-fn next_after(to: &Copies, marks: &Marks, place: Place) -> Option<Place>
+pub fn next_after(to: &Copies, marks: &Marks, place: Place) -> Option<Place>
     requires marks { AreMarks to.now marks.now }
     requires apart { to.now.tenured.lane ≢ to.now.young.lane }
     requires there { HasMade to.now place }

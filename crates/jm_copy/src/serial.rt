@@ -1,11 +1,11 @@
 // The collector of one thread.
 
-ghost use Rattle.std.specs.Prelude.{◌≡◌, ◌≢◌, ◌<◌, ◌^◌, ℕ, IfErr, IfOk, IsTrue, None, OnErr, true, false, replicate, length};
+ghost use Rattle.std.specs.Prelude.{◌≡◌, ◌≢◌, ◌<◌, ℕ, IfErr, IfOk, IsTrue, None, OnErr, true, false, replicate};
 ghost use Rattle.jm_blocks.specs.Stores.{objects_in, HasObject, IsLast};
 ghost use Rattle.jm_copy.specs.Condemned.{AreLanes};
 ghost use Rattle.jm_copy.specs.Collected.{IsCollected, IsCopiedOut};
 ghost use Rattle.jm_copy.specs.Copies.{IsFresh, IsMark, IsSource, Stays, is_above};
-ghost use Rattle.jm_copy.specs.Numbers.{AreNumbers, object_count};
+ghost use Rattle.jm_copy.specs.Numbers.{object_count};
 
 use crate::collector::{Collector, Refused, Survivors};
 use crate::copies::Copies;

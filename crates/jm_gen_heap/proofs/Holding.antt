@@ -14,7 +14,7 @@ use Rattle.jm_blocks.specs.Objects.{Object}
 use Rattle.jm_blocks.specs.Places.{lane_of}
 use Rattle.jm_blocks.specs.Stores.{Blocks, objects_in, store_cells}
 use Rattle.jm_barrier.specs.Remembered.{noted}
-use Rattle.jm_nursery.specs.Nurseries.{Young, AreNurseries, HasYoungValue, nursery_at, young_cells, lane_cells}
+use Rattle.jm_nursery.specs.Nurseries.{Young, AreNurseries, HasYoungValue, nursery_at, young_cells}
 use Rattle.jm_nursery.specs.Nurseries as nursery
 use Rattle.jm_nursery.proofs.Making.{in_nursery}
 use Rattle.jm_copy.specs.Condemned.{objects_at, object_of_store}

@@ -4,13 +4,13 @@ use Rattle.std.specs.Prelude.{slice_get}
 use Rattle.std.proofs.lemmas.Option.{slice_get_within}
 use Rattle.jm_values.specs.Shape.{Among}
 use Rattle.jm_values.specs.Reach.{AllDistinct}
-use Rattle.jm_values.proofs.Among.{among_split}
 use Rattle.jm_blocks.specs.Objects.{Object}
 use Rattle.jm_blocks.specs.Places.{place_at, lane_of, block_of, index_of}
 use Rattle.jm_blocks.specs.Stores.{Blocks, objects_in, object_of_list}
 use Rattle.jm_blocks.proofs.Placing.{LiesIn, lies_in, at_place, parts, lane_put, block_put, index_put}
 use Rattle.jm_copy.specs.Condemned.{AreLanes, objects_at, object_of_store}
 use Rattle.jm_copy.proofs.Numbering.{lies_at}
+use Rattle.jm_copy.proofs.Pointing.{distinct_append}
 use Rattle.jm_gen_heap.specs.Residents.{Placed, placed_in_block, placed_in_blocks, placed_in}
 
 -- the list has the object at the place
@@ -44,14 +44,6 @@ among_places (x ∷ xs) p (inr a) = let r = among_places xs p a in (r.0, inr r.1
 places_append : (xs ys : List Placed) → places (xs ++ ys) ≡ places xs ++ places ys
 places_append [] ys = refl
 places_append (x ∷ xs) ys = ap (λ l. x.place ∷ l) (places_append xs ys)
-
-pub distinct_append : (ns ms : List ℕ) → AllDistinct ns → AllDistinct ms → ((n : ℕ) → Among n ns → Among n ms → ⊥) → AllDistinct (ns ++ ms)
-distinct_append [] ms d e h = e
-distinct_append (n ∷ ns) ms d e h = (λ a. by (among_split n ns ms a), distinct_append ns ms d.1 e (λ m a b. h m (inr a) b))
-  where
-    by : Among n ns ⊎ Among n ms → ⊥
-    by (inl a) = d.0 a
-    by (inr b) = h n (inl refl) b
 
 -- of a block, from an index on
 record InBlock (lane b i : ℕ) (os : List Object) (p : ℕ) (o : Object) : Type 0 where

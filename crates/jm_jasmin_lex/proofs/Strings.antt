@@ -1,6 +1,5 @@
 -- What the loop over the characters of a string keeps.
 use Rattle.std.proofs.Common.{◌≡◌, ℕ, List, [], ◌∷◌, ◌++◌, ◌+◌, ◌*◌, refl, sym, ap, ◌∙◌, append_assoc}
-use Rattle.std.specs.Prelude.{map}
 use Rattle.std.proofs.lemmas.List.{append-nil}
 use Rattle.jm_jasmin_lex.specs.declared.string.Part.{Part}
 use Rattle.jm_jasmin_lex.specs.declared.string.Part.TheVariants.{Before, Plain}
@@ -21,10 +20,6 @@ units_next seen units after part next c h e k = record {
 pub units_done : (seen units : List ℕ) (part : Part) → UnitsSoFar seen units part → units_from Before seen ≡ units
 unfolding units_from
 units_done seen units part h = sym (ap (units_from Before) (append-nil seen)) ∙ h.units_are [] ∙ append-nil units
-
-pub map_same : (xs : List ℕ) → map (λ x. x) xs ≡ xs
-map_same [] = refl
-map_same (x ∷ xs) = ap (λ (ys : List ℕ). x ∷ ys) (map_same xs)
 
 -- ---- the value by rules
 

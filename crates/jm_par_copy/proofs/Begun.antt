@@ -1,4 +1,5 @@
 -- Where a copier begins in the old store.
+use Rattle.std.specs.Global.{Global}
 use Rattle.std.proofs.Common.{◌≡◌, ◌⊎◌, ℕ, zero, suc, ◌+◌, ◌-◌, ◌*◌, ◌<◌, ◌≤◌, ◌%◌, List, [], ◌∷◌, ◌++◌, Option, Some, None, Bool, true, false, cond, refl, sym, ap, ◌∙◌, subst, inl, inr, length, sum, replicate, eq-eqb, arith}
 use Rattle.std.specs.Prelude.{slice_get, nat_eq, nat_le, ◌&&◌, ◌/◌, MatchOption}
 use Rattle.std.specs.List.{All}
@@ -21,7 +22,7 @@ use Rattle.jm_par_copy.specs.Pieces.{is_in, objects_of}
 use Rattle.jm_par_copy.specs.Strides.{EndsOwn}
 use Rattle.jm_par_copy.specs.Working.{both}
 use Rattle.jm_par_copy.proofs.Begins.{append_none}
-use Rattle.jm_par_copy.proofs.Moves.{block_is_back, block_is_out}
+use Rattle.jm_par_copy.proofs.Moves.{block_is_back, block_is_out, no_places}
 use Rattle.jm_par_copy.proofs.Sharing.{both_left, both_right}
 use Rattle.jm_par_copy.proofs.Strides.{opened_empty}
 
@@ -190,33 +191,33 @@ module _ (x n first : ℕ) (before : Blocks) (begins : IsBegin x n before.lists 
       none p true t = ap (λ b. cond b (objects_in before p) None) t ∙ nothing p (eqb-true _ _ t) (objects_in before p) refl
       none p false t = ap (λ b. cond b (objects_in before p) None) t
 
-  pub begun_block : (os : List Object) → slice_get before.lists first ≡ Some os → (s : Blocks) → s ≡ with_block (opened first before) first os → IsBegun x n before s
-  begun_block os is s e = subst (λ t. IsBegun x n before t) (sym e) (record {
+  pub begun_block : (heap : Global) (os : List Object) → slice_get before.lists first ≡ Some os → (s : Blocks) → s ≡ with_block (opened first before) first os → IsBegun x n before s
+  begun_block heap os is s e = subst (λ t. IsBegun x n before t) (sym e) (record {
     first = first;
     begins = begins;
     many = length-set (opened first before).lists first os ∙ length-replicate (first + 1) [];
-    same = λ p. has p (is_in (piece_of (opened first before) first os 0) p) refl;
+    same = λ p. has p (is_in (piece_of (opened first before) first os (no_places heap) 0) p) refl;
   })
     where
       there : slice_get (opened first before).lists first ≡ Some []
       there = opened_free first
 
-      of_block : (p : ℕ) (t : Bool) → is_in (piece_of (opened first before) first os 0) p ≡ t → objects_of (piece_of (opened first before) first os 0) p ≡ cond t (objects_in before p) None
-      of_block p t h = (block_is_out before first 0 os is p).0 ∙ ap (λ b. cond b (objects_in before p) None) h
+      of_block : (p : ℕ) (t : Bool) → is_in (piece_of (opened first before) first os (no_places heap) 0) p ≡ t → objects_of (piece_of (opened first before) first os (no_places heap) 0) p ≡ cond t (objects_in before p) None
+      of_block p t h = (block_is_out before first 0 os (no_places heap) is p).0 ∙ ap (λ b. cond b (objects_in before p) None) h
 
-      all : (p : ℕ) → objects_in (with_block (opened first before) first os) p ≡ both (objects_of (piece_of (opened first before) first os 0)) (objects_in (opened first before)) p
-      all p = block_is_back (opened first before) first 0 os there p
+      all : (p : ℕ) → objects_in (with_block (opened first before) first os) p ≡ both (objects_of (piece_of (opened first before) first os (no_places heap) 0)) (objects_in (opened first before)) p
+      all p = block_is_back (opened first before) first 0 os (no_places heap) there p
 
-      value : (p : ℕ) (o : Option Object) → objects_of (piece_of (opened first before) first os 0) p ≡ o → objects_in (with_block (opened first before) first os) p ≡ o
-      value p None h = all p ∙ both_right (objects_of (piece_of (opened first before) first os 0)) (objects_in (opened first before)) p h ∙ empty p
-      value p (Some a) h = all p ∙ both_left (objects_of (piece_of (opened first before) first os 0)) (objects_in (opened first before)) p a h
+      value : (p : ℕ) (o : Option Object) → objects_of (piece_of (opened first before) first os (no_places heap) 0) p ≡ o → objects_in (with_block (opened first before) first os) p ≡ o
+      value p None h = all p ∙ both_right (objects_of (piece_of (opened first before) first os (no_places heap) 0)) (objects_in (opened first before)) p h ∙ empty p
+      value p (Some a) h = all p ∙ both_left (objects_of (piece_of (opened first before) first os (no_places heap) 0)) (objects_in (opened first before)) p a h
 
-      apart : (p : ℕ) → is_in (piece_of (opened first before) first os 0) p ≡ false → (l : Bool) → nat_eq (lane_of p) before.lane ≡ l → (b : Bool) → nat_eq (block_of p) first ≡ b → None ≡ cond b (objects_in before p) None
+      apart : (p : ℕ) → is_in (piece_of (opened first before) first os (no_places heap) 0) p ≡ false → (l : Bool) → nat_eq (lane_of p) before.lane ≡ l → (b : Bool) → nat_eq (block_of p) first ≡ b → None ≡ cond b (objects_in before p) None
       apart p h l e false f = refl
       apart p h true e true f = let two : true ≡ false = sym (ap (λ v. v && nat_eq (block_of p) first) e ∙ f) ∙ h in cc
       apart p h false e true f = sym (elsewhere before p (λ g. let two : true ≡ false = sym (eq-eqb (lane_of p) before.lane g) ∙ e in cc))
 
-      inside : (p : ℕ) → is_in (piece_of (opened first before) first os 0) p ≡ true → (b : Bool) → nat_eq (block_of p) first ≡ b → objects_in before p ≡ cond b (objects_in before p) None
+      inside : (p : ℕ) → is_in (piece_of (opened first before) first os (no_places heap) 0) p ≡ true → (b : Bool) → nat_eq (block_of p) first ≡ b → objects_in before p ≡ cond b (objects_in before p) None
       inside p h true f = refl
       inside p h false f = let two : false ≡ true = sym (last (nat_eq (lane_of p) before.lane) f) ∙ h in cc
         where
@@ -224,7 +225,7 @@ module _ (x n first : ℕ) (before : Blocks) (begins : IsBegin x n before.lists 
           last true g = g
           last false g = refl
 
-      has : (p : ℕ) (t : Bool) → is_in (piece_of (opened first before) first os 0) p ≡ t → objects_in (with_block (opened first before) first os) p ≡ cond (nat_eq (block_of p) first) (objects_in before p) None
+      has : (p : ℕ) (t : Bool) → is_in (piece_of (opened first before) first os (no_places heap) 0) p ≡ t → objects_in (with_block (opened first before) first os) p ≡ cond (nat_eq (block_of p) first) (objects_in before p) None
       has p true t = value p (objects_in before p) (of_block p true t) ∙ inside p t (nat_eq (block_of p) first) refl
       has p false t = value p None (of_block p false t) ∙ apart p t (nat_eq (lane_of p) before.lane) refl (nat_eq (block_of p) first) refl
 

@@ -18,7 +18,6 @@ use Rattle.jm_copy.proofs.Steps.{forwarded_grows}
 use Rattle.jm_par_copy.specs.Roots.{AreRootsOf, IsRooted}
 use Rattle.jm_par_copy.specs.Working.{Pairs}
 use Rattle.jm_par_copy.proofs.Sharing.{pairs_more}
-use Rattle.jm_values.proofs.Lists.{some_there}
 
 -- the first so many of the roots
 abbrev pub AreFirst : List Blocks → List ℕ → List (ℕ × ℕ) → ℕ → ℕ → List ℕ → Type 0

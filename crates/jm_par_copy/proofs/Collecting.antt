@@ -1,10 +1,8 @@
 -- The end of a collection is what a collector promises.
-use Rattle.std.proofs.Common.{◌≡◌, ◌≢◌, ◌⊎◌, ℕ, zero, suc, ◌+◌, ◌≤◌, List, [], ◌∷◌, ◌++◌, length, Option, Some, None, true, false, cond, refl, sym, ap, ◌∙◌, inl, inr, subst, eq-eqb, arith}
-use Rattle.std.specs.Prelude.{drop, slice_get, nat_eq}
+use Rattle.std.proofs.Common.{◌≡◌, ◌≢◌, ◌⊎◌, ℕ, List, [], ◌∷◌, Option, Some, None, true, false, cond, refl, sym, ap, ◌∙◌, inl, inr, subst, eq-eqb, arith}
+use Rattle.std.specs.Prelude.{slice_get, nat_eq}
 use Rattle.std.proofs.lemmas.Bool.Decides.{eqb_tells}
 use Rattle.jm_program.proofs.Numbers.{found_unequal}
-use Rattle.jm_values.specs.Reach.{AllDistinct}
-use Rattle.jm_values.specs.Shape.{Among}
 use Rattle.jm_blocks.specs.Objects.{Object}
 use Rattle.jm_blocks.specs.Places.{lane_of}
 use Rattle.jm_blocks.specs.Stores.{Blocks, objects_in}
@@ -13,17 +11,20 @@ use Rattle.jm_forward.specs.Hands.{TableView, all_wins}
 use Rattle.jm_copy.specs.Collected.{fresh, promoted_in, survivors}
 use Rattle.jm_copy.specs.Condemned.{objects_at}
 use Rattle.jm_copy.specs.Image.{IsImage}
+use Rattle.jm_copy.specs.Pointing.{ListsPointers}
 use Rattle.jm_copy.proofs.Images.{image_same}
 use Rattle.jm_par_copy.specs.Copiers.{AllFill, AreApartGiven, AreDifferent, AreInLanes, ArePlaced, AreSeated, IsPlaced, all_pieces, hands, parts}
-use Rattle.jm_par_copy.specs.Ending.{AllLoads, AreLoads, EndIsCollected, HeldIsLoads, new_if, new_of, stocks, stored}
+use Rattle.jm_par_copy.specs.Ending.{AllLoads, AreLoads, EndIsCollected, HeldIsLoads, stocks, stored}
 use Rattle.jm_par_copy.specs.Holding.{AreApartPieces, IsInOne}
 use Rattle.jm_par_copy.specs.Merging.{GoesOver}
+use Rattle.jm_par_copy.specs.Notes.{all_listed}
 use Rattle.jm_par_copy.specs.Pieces.{IsPiece, place_in}
 use Rattle.jm_par_copy.specs.Together.{AreApart, joint, moved_by_wins}
 use Rattle.jm_par_copy.specs.declared.piece.Piece.{Piece}
 use Rattle.jm_par_copy.specs.declared.copier.Copier.{Copier}
 use Rattle.jm_par_copy.proofs.Copiers.{apart_of, one_left, one_right}
 use Rattle.jm_par_copy.proofs.Ends.{ages_are_by_lane, end_is_image}
+use Rattle.jm_par_copy.proofs.Noted.{all_list, lists_same, old_is, old_only}
 use Rattle.jm_par_copy.proofs.Pieces.{in_here}
 use Rattle.jm_par_copy.proofs.Reordering.{get_one}
 use Rattle.jm_par_copy.proofs.Sharing.{both_left, both_right}
@@ -72,73 +73,6 @@ held_is_loads stores roots words cs aside young before c other p =
     let loads = are_loads young before aside c.pieces (aside_apart young before cs aside c.given) (aside_placed young before cs aside p.pieces) in
     all_loads young before other stores words (all_pieces cs aside) cs aside c.seated c.different p.own (apart_of stores roots words cs aside c) p.pieces loads
 
--- the new ones of a list of places
-new_if_in : (x : Option Object) (q p : ℕ) (ps : List ℕ) → Among p (new_if x q ps) → ((x ≡ None) × (p ≡ q)) ⊎ Among p ps
-new_if_in None q p ps (inl e) = inl (refl, e)
-new_if_in None q p ps (inr h) = inr h
-new_if_in (Some o) q p ps h = inr h
-
-new_among : (s : Blocks) (ps : List ℕ) (p : ℕ) → Among p (new_of s ps) → Among p ps × (objects_in s p ≡ None)
-new_among s [] p h = absurd h
-new_among s (q ∷ ps) p h = by (new_among s ps p) (new_if_in (objects_in s q) q p (new_of s ps) h)
-  where
-    rest : Among p ps × (objects_in s p ≡ None) → Among p (q ∷ ps) × (objects_in s p ≡ None)
-    rest t = (inr t.0, t.1)
-
-    by : (Among p (new_of s ps) → Among p ps × (objects_in s p ≡ None)) → ((objects_in s q ≡ None) × (p ≡ q)) ⊎ Among p (new_of s ps) → Among p (q ∷ ps) × (objects_in s p ≡ None)
-    by more (inl t) = (inl t.1, ap (objects_in s) t.1 ∙ t.0)
-    by more (inr t) = rest (more t)
-
-among_new : (s : Blocks) (ps : List ℕ) (p : ℕ) → objects_in s p ≡ None → Among p ps → Among p (new_of s ps)
-among_new s [] p e h = absurd h
-among_new s (q ∷ ps) p e (inl t) = subst (λ x. Among p (new_if x q (new_of s ps))) (sym e ∙ ap (objects_in s) t) (inl t)
-among_new s (q ∷ ps) p e (inr h) = by (among_new s ps p e h) (objects_in s q)
-  where
-    by : Among p (new_of s ps) → (x : Option Object) → Among p (new_if x q (new_of s ps))
-    by more None = inr more
-    by more (Some o) = more
-
-drop_next : (xs : List ℕ) (i x : ℕ) → slice_get xs i ≡ Some x → drop i xs ≡ x ∷ drop (suc i) xs
-drop_next [] i x e = cc
-drop_next (y ∷ xs) zero x e = let same : y ≡ x = cc in ap (λ z. z ∷ xs) same
-drop_next (y ∷ xs) (suc i) x e = drop_next xs i x e
-
-if_beside : (o : Option Object) (p : ℕ) (news ps : List ℕ) → news ++ new_if o p ps ≡ (news ++ new_if o p []) ++ ps
-if_beside o p news ps = ap (λ qs. news ++ qs) (split o) ∙ sym (append_assoc news (new_if o p []) ps)
-  where
-    split : (x : Option Object) → new_if x p ps ≡ new_if x p [] ++ ps
-    split None = refl
-    split (Some a) = refl
-
-    append_assoc : (xs ys zs : List ℕ) → (xs ++ ys) ++ zs ≡ xs ++ (ys ++ zs)
-    append_assoc [] ys zs = refl
-    append_assoc (x ∷ xs) ys zs = ap (λ ws. x ∷ ws) (append_assoc xs ys zs)
-
-pub one_listed : (s : Blocks) (ps : List ℕ) (i p : ℕ) (news more : List ℕ) → slice_get ps i ≡ Some p → more ≡ news ++ new_if (objects_in s p) p [] → new_of s ps ≡ news ++ new_of s (drop i ps) → new_of s ps ≡ more ++ new_of s (drop (i + 1) ps)
-one_listed s ps i p news more at is e =
-    let next : suc i ≡ i + 1 = omega arith in
-    e ∙ ap (λ qs. news ++ new_of s qs) (drop_next ps i p at ∙ ap (λ k. p ∷ drop k ps) next)
-    ∙ if_beside (objects_in s p) p news (new_of s (drop (i + 1) ps))
-    ∙ ap (λ qs. qs ++ new_of s (drop (i + 1) ps)) (sym is)
-
-pub if_few : (o : Option Object) (p : ℕ) → length (new_if o p []) ≤ 1
-if_few None p = omega arith
-if_few (Some a) p = omega arith
-
-pub drop_all : (xs : List ℕ) (i : ℕ) → length xs ≤ i → drop i xs ≡ []
-drop_all [] zero h = refl
-drop_all [] (suc i) h = refl
-drop_all (x ∷ xs) zero h = absurd (omega (arith, h))
-drop_all (x ∷ xs) (suc i) h = drop_all xs i (omega (arith, h))
-
-new_distinct : (s : Blocks) (ps : List ℕ) → AllDistinct ps → AllDistinct (new_of s ps)
-new_distinct s [] d = tt
-new_distinct s (q ∷ ps) d = by (new_distinct s ps d.1) (objects_in s q)
-  where
-    by : AllDistinct (new_of s ps) → (x : Option Object) → AllDistinct (new_if x q (new_of s ps))
-    by more None = ((λ h. d.0 (new_among s ps q h).0), more)
-    by more (Some o) = more
-
 module _ (cs : List Copier) (aside : List Piece) (before young promoted : Blocks) (other : before.lane ≢ 1) (young_lane : young.lane ≡ 1) (promoted_lane : promoted.lane ≡ before.lane) (all : (n : ℕ) → stored young promoted n ≡ stocks cs aside n) where
   promoted_away : (n : ℕ) (a : Object) → objects_in promoted n ≡ Some a → lane_of n ≢ young.lane
   promoted_away n a e h = let at = lies_in promoted n a e in other (sym promoted_lane ∙ sym at.lane ∙ h ∙ young_lane)
@@ -157,7 +91,7 @@ module _ (cs : List Copier) (aside : List Piece) (before young promoted : Blocks
 
 pub end_is_collected : EndIsCollected
 unfolding survivors
-end_is_collected stores roots new_roots words cs aside before young promoted tenured pointing c ended agree all many forwarded other placed t listed = record {
+end_is_collected stores roots new_roots words cs aside before young promoted tenured c ended agree all many forwarded other placed t = record {
   image = image;
   collected = record {
     moved = moved_by_wins stores (all_wins (hands cs));
@@ -173,14 +107,7 @@ end_is_collected stores roots new_roots words cs aside before young promoted ten
     kept = λ n o e. t.old n ∙ both_left (objects_in before) (objects_in promoted) n o e;
     young_lane = t.young_lane;
     tenured_lane = t.tenured_lane;
-    pointers = record {
-      sound = λ p h.
-          let new = new_among before pointing p h in
-          let has = listed.sound p new.0 in
-          (has.0, is_new p has.0 has.1 new.1, has.3);
-      complete = λ p o e g. let was = was_none p o e (objects_in before p) refl in among_new before pointing p was.0 (listed.complete p o was.1 refl g);
-      distinct = new_distinct before pointing listed.distinct;
-    };
+    pointers = pointers;
   };
 }
   where
@@ -205,13 +132,6 @@ end_is_collected stores roots new_roots words cs aside before young promoted ten
     came : (n : ℕ) (a : Object) → objects_in before n ≡ None → objects_in tenured n ≡ Some a → objects_in promoted n ≡ Some a
     came n a e f = sym (both_right (objects_in before) (objects_in promoted) n e) ∙ sym (t.old n) ∙ f
 
-    is_new : (n : ℕ) (a : Object) → objects_in promoted n ≡ Some a → objects_in before n ≡ None → promoted_in before tenured n ≡ Some a
-    is_new n a e g = ap (λ x. fresh x (objects_in tenured n)) g ∙ t.old n ∙ both_right (objects_in before) (objects_in promoted) n g ∙ e
-
-    was_none : (n : ℕ) (a : Object) → promoted_in before tenured n ≡ Some a → (x : Option Object) → objects_in before n ≡ x → (objects_in before n ≡ None) × (objects_in promoted n ≡ Some a)
-    was_none n a e None g = (g, came n a g (sym (ap (λ x. fresh x (objects_in tenured n)) g) ∙ e))
-    was_none n a e (Some o) g = let two : None ≡ Some a = sym (ap (λ x. fresh x (objects_in tenured n)) g) ∙ e in cc
-
     -- where the old store had one nothing is held
     nothing_held : (n : ℕ) (o : Object) → objects_in before n ≡ Some o → (x : Option Object) → joint (parts cs aside) n ≡ x → joint (parts cs aside) n ≡ None
     nothing_held n o e None h = h
@@ -231,3 +151,17 @@ end_is_collected stores roots new_roots words cs aside before young promoted ten
 
     image : IsImage (objects_at stores) roots (survivors young before tenured) new_roots (moved_by_wins stores (all_wins (hands cs)))
     image = image_same (joint (parts cs aside)) (survivors young before tenured) (end_is_image stores roots new_roots words cs aside c ended agree all many forwarded) same
+
+    old_are : (n : ℕ) → old_only (joint (parts cs aside)) n ≡ promoted_in before tenured n
+    old_are n = by (eqb_tells (lane_of n) 1)
+      where
+        by : ((nat_eq (lane_of n) 1 ≡ true) × (lane_of n ≡ 1)) ⊎ ((nat_eq (lane_of n) 1 ≡ false) × (lane_of n ≢ 1)) → old_only (joint (parts cs aside)) n ≡ promoted_in before tenured n
+        by (inl h) =
+            let none = elsewhere tenured n (λ e. other (sym t.tenured_lane ∙ sym e ∙ h.1)) in
+            ap (λ b. cond b None (joint (parts cs aside) n)) h.0 ∙ sym (ap (λ x. fresh x (objects_in tenured n)) (nothing_young n h.1) ∙ none)
+        by (inr h) = old_is (joint (parts cs aside)) n h.1 ∙ added n (λ e. h.1 (e ∙ t.young_lane)) (objects_in before n) refl
+
+    pointers : ListsPointers young.lane (promoted_in before tenured) (all_listed cs aside)
+    pointers = subst (λ l. ListsPointers l (promoted_in before tenured) (all_listed cs aside)) (sym t.young_lane)
+        (lists_same (old_only (joint (parts cs aside))) (promoted_in before tenured) (all_listed cs aside)
+        (all_list stores words (all_pieces cs aside) cs aside c.seated c.given (apart_of stores roots words cs aside c) c.noting ended) old_are)

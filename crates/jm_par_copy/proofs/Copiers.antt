@@ -18,6 +18,7 @@ use Rattle.jm_par_copy.specs.Begins.{IsLocal}
 use Rattle.jm_par_copy.specs.Fresh.{IsFreshOwn}
 use Rattle.jm_par_copy.specs.Giving.{IsOwnBlock}
 use Rattle.jm_par_copy.specs.Holding.{held_objects, held_progress, AreGiven, AreSamePieces, IsHolding, IsInOne}
+use Rattle.jm_par_copy.specs.Notes.{AllNote}
 use Rattle.jm_par_copy.specs.Pieces.{is_in, objects_of}
 use Rattle.jm_par_copy.specs.Roots.{AreRootsOf, RootsStand}
 use Rattle.jm_par_copy.specs.Round.{AreReady, AreRound, IsKept, IsReady, IsRound}
@@ -33,6 +34,7 @@ use Rattle.jm_par_copy.proofs.Begins.{append_none, working_begins}
 use Rattle.jm_par_copy.proofs.Beside.{same_in}
 use Rattle.jm_par_copy.proofs.Fresh.{nothing_made}
 use Rattle.jm_par_copy.proofs.Listing.{Has, has_from, contains_from, has_left, has_right, has_both}
+use Rattle.jm_par_copy.proofs.Noting.{back_notes, fresh_notes, round_notes}
 use Rattle.jm_par_copy.proofs.Sharing.{both_left, both_right, both_where, copying_both, copying_knows, copying_nothing, copying_won, deal_keeps, only_in, only_some, pairs_more}
 use Rattle.jm_par_copy.proofs.Strides.{ends_on, longer_same, new_before, new_is_own}
 use Rattle.jm_par_copy.proofs.Turns.{held_is_won}
@@ -464,8 +466,8 @@ module _ (stores : List Blocks) (roots : List ℕ) (known wins : List (ℕ × �
       by rest (inr h) = inr (rest h.1)
 
 -- whatever the step was
-done_keeps : (stores : List Blocks) (roots : List ℕ) (words : TableView) (cs ds : List Copier) (aside : List Piece) → AreCopying stores roots words cs aside → AreDone stores roots (all_known (hands cs)) (all_wins (hands cs)) cs ds → AreCopying stores roots words ds aside
-done_keeps stores roots words cs ds aside c r =
+done_keeps : (stores : List Blocks) (roots : List ℕ) (words : TableView) (cs ds : List Copier) (aside : List Piece) → AreCopying stores roots words cs aside → AreDone stores roots (all_known (hands cs)) (all_wins (hands cs)) cs ds → AllNote ds aside → AreCopying stores roots words ds aside
+done_keeps stores roots words cs ds aside c r noting =
     let known = all_known (hands cs) in
     let wins = all_wins (hands cs) in
     let all = all_known (hands ds) in
@@ -487,6 +489,7 @@ done_keeps stores roots words cs ds aside c r =
       given = given;
       pieces = c.pieces;
       rooted = rooted_on stores roots known wins cs ds r c.rooted;
+      noting = noting;
       copying = copying_won (Pairs stores all) (Pairs stores (held_after wins ts)) (Pairs stores (all_wins (hands ds))) (joint (parts ds aside)) (joint_done (parts ds aside))
           (λ p n h. (h.0, h.1, subst (λ ws. Contains ws (number_of stores p, n)) won ((held_is_won ts adds (number_of stores p, n) (cover p n h.0 h.1)).0 (subst (λ ws. Contains (held_after ws ts) (number_of stores p, n)) (sym before) h.2))))
           (λ p n h. (h.0, h.1, subst (λ ws. Contains (held_after ws ts) (number_of stores p, n)) before ((held_is_won ts adds (number_of stores p, n) (cover p n h.0 h.1)).1 (subst (λ ws. Contains ws (number_of stores p, n)) (sym won) h.2))))
@@ -533,7 +536,7 @@ pub round_keeps : RoundKeeps
 round_keeps stores roots words cs ds aside c r f =
     let known = all_known (hands cs) in
     let wins = all_wins (hands cs) in
-    done_keeps stores roots words cs ds aside c (step_all stores roots words (all_pieces cs aside) known wins cs ds c.seated (all_begin stores roots known wins words (all_pieces cs aside) cs aside c.seated (begin_of stores roots words cs aside c)) r f)
+    done_keeps stores roots words cs ds aside c (step_all stores roots words (all_pieces cs aside) known wins cs ds c.seated (all_begin stores roots known wins words (all_pieces cs aside) cs aside c.seated (begin_of stores roots words cs aside c)) r f) (round_notes stores roots cs ds aside r f c.noting)
 
 pub back_all : (stores : List Blocks) (roots : List ℕ) (words : TableView) (pieces : List Piece) (known wins : List (ℕ × ℕ)) (cs ds : List Copier) → AreSeated stores words pieces cs → AllBegin stores roots known wins cs → AreBack cs ds → AreDone stores roots known wins cs ds
 back_all stores roots words pieces known wins [] [] s b r = tt
@@ -573,7 +576,7 @@ pub back_keeps : BackKeeps
 back_keeps stores roots words cs ds aside c r =
     let known = all_known (hands cs) in
     let wins = all_wins (hands cs) in
-    done_keeps stores roots words cs ds aside c (back_all stores roots words (all_pieces cs aside) known wins cs ds c.seated (all_begin stores roots known wins words (all_pieces cs aside) cs aside c.seated (begin_of stores roots words cs aside c)) r)
+    done_keeps stores roots words cs ds aside c (back_all stores roots words (all_pieces cs aside) known wins cs ds c.seated (all_begin stores roots known wins words (all_pieces cs aside) cs aside c.seated (begin_of stores roots words cs aside c)) r) (back_notes cs ds aside r c.noting)
 
 -- before the first claim nobody holds anything
 pub no_pieces : (stores : List Blocks) (roots : List ℕ) (words : TableView) (cs : List Copier) → AreFreshCopiers stores roots words cs → (n : ℕ) → IsInOne (all_pieces cs []) n → ⊥
@@ -624,6 +627,7 @@ fresh_are_copying stores roots words cs f different = record {
   given = fresh_apart stores roots words cs f;
   pieces = λ i x e. cc;
   rooted = fresh_rooted stores roots words cs f;
+  noting = fresh_notes stores roots words cs f;
   copying = record {
     reached = λ p n h. absurd (none_won stores roots words cs f (number_of stores p, n) (has_from (all_wins (hands cs)) (number_of stores p, n) h.2));
     apart = λ p q n h i. absurd (none_won stores roots words cs f (number_of stores p, n) (has_from (all_wins (hands cs)) (number_of stores p, n) h.2));

@@ -1,5 +1,6 @@
 -- A closed block is given back.
 use Rattle.std.proofs.Common.{◌≡◌, ◌≢◌, ◌⊎◌, ℕ, zero, suc, ◌<◌, List, [], ◌∷◌, ◌++◌, Option, Some, None, Bool, true, false, cond, refl, sym, ap, ◌∙◌, subst, inl, inr, length, arith, eq-eqb}
+use Rattle.std.specs.Global.{Vec}
 use Rattle.std.specs.Prelude.{slice_get, nat_eq, nat_lt, not, ◌&&◌, IfSome}
 use Rattle.std.proofs.lemmas.Bool.{eqb-true, lt-ltb}
 use Rattle.std.proofs.lemmas.Bool.Decides.{eqb_tells}
@@ -24,12 +25,14 @@ use Rattle.jm_par_copy.specs.Working.{Pairs, IsNew, IsScanning, IsWorking, both,
 use Rattle.jm_par_copy.specs.Pieces.{IsPiece, is_in, objects_of, progress_of}
 use Rattle.jm_par_copy.specs.Holding.{held_objects, held_progress, AreApartPieces, IsApart, AreGiven, IsHolding, IsInOne}
 use Rattle.jm_par_copy.specs.Moves.{piece_of, with_block}
+use Rattle.jm_par_copy.specs.Notes.{AreNoted, KeepsListedTo}
 use Rattle.jm_par_copy.specs.Giving.{GoesOut, IsBeyond, IsClosed, IsOwnBlock, GivenBack, GivesBack, SameBlocks, StillHolds, without_young, without_old}
 use Rattle.jm_par_copy.specs.declared.piece.Piece.{Piece}
 use Rattle.jm_par_copy.proofs.Sharing.{both_left, both_right, both_where}
 use Rattle.jm_par_copy.proofs.Pieces.{progress_in, progress_out, objects_elsewhere}
 use Rattle.jm_par_copy.proofs.Aside.{held, is_there}
 use Rattle.jm_par_copy.proofs.Moves.{block_is_out}
+use Rattle.jm_par_copy.proofs.Noting.{listed_same, listed_then}
 use Rattle.jm_par_copy.proofs.Beside.{apart_back, front_objects, front_progress, held_aside, without}
 use Rattle.jm_par_copy.proofs.Working.{dated_same, working_at}
 
@@ -185,31 +188,31 @@ module _ (stores : List Blocks) (roots : List ℕ) (base held_ : List (ℕ × �
       new (suc i) y e n t = g.new i y e n (s.new h.copier h.copiers n t)
 
 -- the block's places, and the others
-at_block : (s : Blocks) (b : ℕ) (os : List Object) (n : ℕ) → is_in (piece_of s b os 0) n ≡ true → (lane_of n ≡ s.lane) × (block_of n ≡ b)
-at_block s b os n e = let a = both_true (nat_eq (lane_of n) s.lane) (nat_eq (block_of n) b) e in (eqb-true _ _ a.0, eqb-true _ _ a.1)
+at_block : (s : Blocks) (b : ℕ) (os : List Object) (v : Vec ℕ) (n : ℕ) → is_in (piece_of s b os v 0) n ≡ true → (lane_of n ≡ s.lane) × (block_of n ≡ b)
+at_block s b os v n e = let a = both_true (nat_eq (lane_of n) s.lane) (nat_eq (block_of n) b) e in (eqb-true _ _ a.0, eqb-true _ _ a.1)
 
-out_of : (s : Blocks) (b : ℕ) (os : List Object) (n : ℕ) → ((lane_of n ≡ s.lane) → (block_of n ≡ b) → ⊥) → is_in (piece_of s b os 0) n ≡ false
-out_of s b os n away = by (is_in (piece_of s b os 0) n) refl
+out_of : (s : Blocks) (b : ℕ) (os : List Object) (v : Vec ℕ) (n : ℕ) → ((lane_of n ≡ s.lane) → (block_of n ≡ b) → ⊥) → is_in (piece_of s b os v 0) n ≡ false
+out_of s b os v n away = by (is_in (piece_of s b os v 0) n) refl
   where
-    by : (t : Bool) → is_in (piece_of s b os 0) n ≡ t → is_in (piece_of s b os 0) n ≡ false
+    by : (t : Bool) → is_in (piece_of s b os v 0) n ≡ t → is_in (piece_of s b os v 0) n ≡ false
     by false e = e
-    by true e = let a = at_block s b os n e in absurd (away a.0 a.1)
+    by true e = let a = at_block s b os v n e in absurd (away a.0 a.1)
 
-module _ (s : Blocks) (mark : Option ℕ) (b : ℕ) (os : List Object) (closed : IsClosed s mark b os) where
+module _ (s : Blocks) (mark : Option ℕ) (b : ℕ) (os : List Object) (v : Vec ℕ) (closed : IsClosed s mark b os) where
   abbrev x : Piece
-  x = piece_of s b os 0
+  x = piece_of s b os v 0
 
   abbrev left : Blocks
   left = with_block s b []
 
   gone : (n : ℕ) → is_in x n ≡ true → objects_in left n ≡ None
-  gone n e = (block_is_out s b 0 os closed.is n).1 ∙ ap (λ t. cond (not t) (objects_in s n) None) e
+  gone n e = (block_is_out s b 0 os v closed.is n).1 ∙ ap (λ t. cond (not t) (objects_in s n) None) e
 
   stays : (n : ℕ) → is_in x n ≡ false → objects_in left n ≡ objects_in s n
-  stays n e = (block_is_out s b 0 os closed.is n).1 ∙ ap (λ t. cond (not t) (objects_in s n) None) e
+  stays n e = (block_is_out s b 0 os v closed.is n).1 ∙ ap (λ t. cond (not t) (objects_in s n) None) e
 
   taken : (n : ℕ) → is_in x n ≡ true → objects_of x n ≡ objects_in s n
-  taken n e = (block_is_out s b 0 os closed.is n).0 ∙ ap (λ t. cond t (objects_in s n) None) e
+  taken n e = (block_is_out s b 0 os v closed.is n).0 ∙ ap (λ t. cond t (objects_in s n) None) e
 
   many : length left.lists ≡ length s.lists
   many = length-set s.lists b []
@@ -224,7 +227,7 @@ module _ (s : Blocks) (mark : Option ℕ) (b : ℕ) (os : List Object) (closed :
           by : (u : Bool) → is_in x q ≡ u → q < n
           by false u = t.1 q (there.0, stays q u ∙ there.1)
           by true u =
-              let at = at_block s b os q u in
+              let at = at_block s b os v q u in
               let mine = parts q in
               let yours = parts n in
               let below = closed.below in
@@ -235,10 +238,10 @@ module _ (s : Blocks) (mark : Option ℕ) (b : ℕ) (os : List Object) (closed :
               omega (arith, mine, yours, below, lane, block, on, far, many)
 
   ahead_out : (y k n : ℕ) → IsAhead y k left n → is_in x n ≡ false
-  ahead_out y k n t = out_of s b os n (λ l e. let below = closed.below in let far = t.2 in omega (arith, below, far, many, e))
+  ahead_out y k n t = out_of s b os v n (λ l e. let below = closed.below in let far = t.2 in omega (arith, below, far, many, e))
 
   mark_out : (p : ℕ) → mark ≡ Some p → is_in x p ≡ false
-  mark_out p e = out_of s b os p (λ l f. let low = subst (λ o. IfSome o (λ q. block_of q < b)) e closed.above in omega (arith, low, f))
+  mark_out p e = out_of s b os v p (λ l f. let low = subst (λ o. IfSome o (λ q. block_of q < b)) e closed.above in omega (arith, low, f))
 
   mark_left : IsMark s mark → IsMark left mark
   mark_left i = by mark refl i
@@ -254,7 +257,7 @@ module _ (s : Blocks) (mark : Option ℕ) (b : ℕ) (os : List Object) (closed :
       by None e h = refl
       by (Some p) e h =
           let low = subst (λ o. IfSome o (λ q. block_of q < b)) e closed.above in
-          let at = at_block s b os n t in
+          let at = at_block s b os v n t in
           let lies = lies_in s p h.0 h.1 in
           let mine = parts p in
           let yours = parts n in
@@ -264,7 +267,7 @@ module _ (s : Blocks) (mark : Option ℕ) (b : ℕ) (os : List Object) (closed :
           lt-ltb p n (omega (arith, low, mine, yours, here, block, lane))
 
   piece : IsPiece x
-  piece = record { lane = closed.lane; few = closed.few; mark = omega arith }
+  piece = record { some_lane = closed.some_lane; lane = closed.lane; numbered = closed.numbered; few = closed.few; mark = omega arith }
 
   -- the first object of the block
   witness : (n : ℕ) × (a : Object) × (objects_in s n ≡ Some a) × (is_in x n ≡ true)
@@ -311,62 +314,62 @@ apart_lane c n apart e = by (eqb_tells (lane_of n) c.young.lane)
     by (inl h) = absurd (apart (sym e ∙ h.1))
     by (inr h) = h.0
 
-young_splits : (c : Copies) (m : Marks) (b : ℕ) (os : List Object) → c.tenured.lane ≢ c.young.lane → AreMarks c m → IsClosed c.young m.young b os → Splits c (without_young c b) m (piece_of c.young b os 0)
-young_splits c m b os apart marks closed = record {
+young_splits : (c : Copies) (m : Marks) (b : ℕ) (os : List Object) (v : Vec ℕ) → c.tenured.lane ≢ c.young.lane → AreMarks c m → IsClosed c.young m.young b os → Splits c (without_young c b) m (piece_of c.young b os v 0)
+young_splits c m b os v apart marks closed = record {
   young_lane = refl;
   old_lane = refl;
   kept = λ k. k;
-  inside = λ n t. (by_lane (without_young c b) n (lane n t) ∙ gone c.young m.young b os closed n t, taken c.young m.young b os closed n t ∙ sym (by_lane c n (lane n t)));
-  outside = λ n t. young_same c b n (stays c.young m.young b os closed n t);
+  inside = λ n t. (by_lane (without_young c b) n (lane n t) ∙ gone c.young m.young b os v closed n t, taken c.young m.young b os v closed n t ∙ sym (by_lane c n (lane n t)));
+  outside = λ n t. young_same c b n (stays c.young m.young b os v closed n t);
   new = new;
   beyond = beyond;
-  ahead = λ n count t. not_yet c.young.lane m n count (lane n t) (above c.young m.young b os closed marks.young n t);
+  ahead = λ n count t. not_yet c.young.lane m n count (lane n t) (above c.young m.young b os v closed marks.young n t);
   mark = refl;
-  piece = piece c.young m.young b os closed;
-  some = let w = witness c.young m.young b os closed in (w.0, w.1, by_lane c w.0 (lane w.0 w.3) ∙ w.2, w.3);
+  piece = piece c.young m.young b os v closed;
+  some = let w = witness c.young m.young b os v closed in (w.0, w.1, by_lane c w.0 (lane w.0 w.3) ∙ w.2, w.3);
   kept_same = refl;
   below = λ n e. refl;
-  past = λ k n t l. absurd (apart (sym l ∙ (at_block c.young b os n t).0));
+  past = λ k n t l. absurd (apart (sym l ∙ (at_block c.young b os v n t).0));
 }
   where
-    lane : (n : ℕ) → is_in (piece_of c.young b os 0) n ≡ true → nat_eq (lane_of n) c.young.lane ≡ true
-    lane n t = eq-eqb (lane_of n) c.young.lane (at_block c.young b os n t).0
+    lane : (n : ℕ) → is_in (piece_of c.young b os v 0) n ≡ true → nat_eq (lane_of n) c.young.lane ≡ true
+    lane n t = eq-eqb (lane_of n) c.young.lane (at_block c.young b os v n t).0
 
     new : (y k n : ℕ) → IsNewOf y k (without_young c b) n → IsNewOf y k c n
-    new y k n (inl t) = inl (ahead_before c.young m.young b os closed y k n t)
+    new y k n (inl t) = inl (ahead_before c.young m.young b os v closed y k n t)
     new y k n (inr t) = inr t
 
-    beyond : (y k n : ℕ) → IsNewOf y k (without_young c b) n → is_in (piece_of c.young b os 0) n ≡ false
-    beyond y k n (inl t) = ahead_out c.young m.young b os closed y k n t
-    beyond y k n (inr t) = out_of c.young b os n (λ l e. apart (sym t.0 ∙ l))
+    beyond : (y k n : ℕ) → IsNewOf y k (without_young c b) n → is_in (piece_of c.young b os v 0) n ≡ false
+    beyond y k n (inl t) = ahead_out c.young m.young b os v closed y k n t
+    beyond y k n (inr t) = out_of c.young b os v n (λ l e. apart (sym t.0 ∙ l))
 
-old_splits : (c : Copies) (m : Marks) (b : ℕ) (os : List Object) → c.tenured.lane ≢ c.young.lane → AreMarks c m → IsMark c.tenured c.kept → IsClosed c.tenured m.tenured b os → Splits c (without_old c b) m (piece_of c.tenured b os 0)
-old_splits c m b os apart marks kept closed = record {
+old_splits : (c : Copies) (m : Marks) (b : ℕ) (os : List Object) (v : Vec ℕ) → c.tenured.lane ≢ c.young.lane → AreMarks c m → IsMark c.tenured c.kept → IsClosed c.tenured m.tenured b os → Splits c (without_old c b) m (piece_of c.tenured b os v 0)
+old_splits c m b os v apart marks kept closed = record {
   young_lane = refl;
   old_lane = refl;
   kept = λ k. kept_left c.kept refl k;
-  inside = λ n t. (by_other (without_old c b) n (lane n t) (over n t) ∙ gone c.tenured m.tenured b os closed n t, taken c.tenured m.tenured b os closed n t ∙ sym (by_other c n (lane n t) (over n t)));
-  outside = λ n t. old_same c b n (stays c.tenured m.tenured b os closed n t);
+  inside = λ n t. (by_other (without_old c b) n (lane n t) (over n t) ∙ gone c.tenured m.tenured b os v closed n t, taken c.tenured m.tenured b os v closed n t ∙ sym (by_other c n (lane n t) (over n t)));
+  outside = λ n t. old_same c b n (stays c.tenured m.tenured b os v closed n t);
   new = new;
   beyond = beyond;
-  ahead = λ n count t. not_yet_old c.young.lane m n count (lane n t) (above c.tenured m.tenured b os closed marks.tenured n t);
+  ahead = λ n count t. not_yet_old c.young.lane m n count (lane n t) (above c.tenured m.tenured b os v closed marks.tenured n t);
   mark = refl;
-  piece = piece c.tenured m.tenured b os closed;
-  some = let w = witness c.tenured m.tenured b os closed in (w.0, w.1, by_other c w.0 (lane w.0 w.3) (over w.0 w.3) ∙ w.2, w.3);
+  piece = piece c.tenured m.tenured b os v closed;
+  some = let w = witness c.tenured m.tenured b os v closed in (w.0, w.1, by_other c w.0 (lane w.0 w.3) (over w.0 w.3) ∙ w.2, w.3);
   kept_same = refl;
-  below = λ n e. below n e (is_in (piece_of c.tenured b os 0) n) refl;
-  past = λ k n t l. subst (λ a. IsBeyond c.kept a) (sym (at_block c.tenured b os n t).1) (past c.kept refl k);
+  below = λ n e. below n e (is_in (piece_of c.tenured b os v 0) n) refl;
+  past = λ k n t l. subst (λ a. IsBeyond c.kept a) (sym (at_block c.tenured b os v n t).1) (past c.kept refl k);
 }
   where
-    lane : (n : ℕ) → is_in (piece_of c.tenured b os 0) n ≡ true → nat_eq (lane_of n) c.young.lane ≡ false
-    lane n t = apart_lane c n apart (at_block c.tenured b os n t).0
+    lane : (n : ℕ) → is_in (piece_of c.tenured b os v 0) n ≡ true → nat_eq (lane_of n) c.young.lane ≡ false
+    lane n t = apart_lane c n apart (at_block c.tenured b os v n t).0
 
-    over : (n : ℕ) → is_in (piece_of c.tenured b os 0) n ≡ true → is_above c.kept n ≡ true
-    over n t = marks.past n (above c.tenured m.tenured b os closed marks.tenured n t)
+    over : (n : ℕ) → is_in (piece_of c.tenured b os v 0) n ≡ true → is_above c.kept n ≡ true
+    over n t = marks.past n (above c.tenured m.tenured b os v closed marks.tenured n t)
 
-    below : (n : ℕ) → is_above c.kept n ≡ false → (t : Bool) → is_in (piece_of c.tenured b os 0) n ≡ t → objects_in (with_block c.tenured b []) n ≡ objects_in c.tenured n
+    below : (n : ℕ) → is_above c.kept n ≡ false → (t : Bool) → is_in (piece_of c.tenured b os v 0) n ≡ t → objects_in (with_block c.tenured b []) n ≡ objects_in c.tenured n
     below n e true t = let two : true ≡ false = sym (over n t) ∙ e in cc
-    below n e false t = stays c.tenured m.tenured b os closed n t
+    below n e false t = stays c.tenured m.tenured b os v closed n t
 
     past : (o : Option ℕ) → c.kept ≡ o → IsMark c.tenured o → IsBeyond o b
     past None e h = tt
@@ -375,7 +378,7 @@ old_splits c m b os apart marks kept closed = record {
         let lane : lane_of n ≡ c.tenured.lane = lane_put c.tenured.lane b 0 closed.lane (omega arith) in
         let block : block_of n ≡ b = block_put c.tenured.lane b 0 closed.lane (omega arith) in
         let index : index_of n ≡ 0 = index_put c.tenured.lane b 0 (omega arith) in
-        let inside : is_in (piece_of c.tenured b os 0) n ≡ true = ap (λ t. t && nat_eq (block_of n) b) (eq-eqb (lane_of n) c.tenured.lane lane) ∙ eq-eqb (block_of n) b block in
+        let inside : is_in (piece_of c.tenured b os v 0) n ≡ true = ap (λ t. t && nat_eq (block_of n) b) (eq-eqb (lane_of n) c.tenured.lane lane) ∙ eq-eqb (block_of n) b block in
         let less = is_over k n (ap (λ o. is_above o n) (sym e) ∙ over n inside) in
         let lies = lies_in c.tenured k h.0 h.1 in
         let on = lies.lane in
@@ -385,39 +388,39 @@ old_splits c m b os apart marks kept closed = record {
 
     kept_left : (o : Option ℕ) → c.kept ≡ o → IsMark c.tenured o → IsMark (with_block c.tenured b []) o
     kept_left None e h = tt
-    kept_left (Some p) e h = (h.0, stays c.tenured m.tenured b os closed p (not_in p e (is_in (piece_of c.tenured b os 0) p) refl) ∙ h.1)
+    kept_left (Some p) e h = (h.0, stays c.tenured m.tenured b os v closed p (not_in p e (is_in (piece_of c.tenured b os v 0) p) refl) ∙ h.1)
       where
-        not_in : (q : ℕ) → c.kept ≡ Some q → (t : Bool) → is_in (piece_of c.tenured b os 0) q ≡ t → is_in (piece_of c.tenured b os 0) q ≡ false
+        not_in : (q : ℕ) → c.kept ≡ Some q → (t : Bool) → is_in (piece_of c.tenured b os v 0) q ≡ t → is_in (piece_of c.tenured b os v 0) q ≡ false
         not_in q f false t = t
         not_in q f true t = let self = is_over q q (ap (λ o. is_above o q) (sym f) ∙ over q t) in absurd (omega (arith, self))
 
     new : (y k n : ℕ) → IsNewOf y k (without_old c b) n → IsNewOf y k c n
     new y k n (inl t) = inl t
-    new y k n (inr t) = inr (ahead_before c.tenured m.tenured b os closed y k n t)
+    new y k n (inr t) = inr (ahead_before c.tenured m.tenured b os v closed y k n t)
 
-    beyond : (y k n : ℕ) → IsNewOf y k (without_old c b) n → is_in (piece_of c.tenured b os 0) n ≡ false
-    beyond y k n (inl t) = out_of c.tenured b os n (λ l e. apart (sym l ∙ t.0))
-    beyond y k n (inr t) = ahead_out c.tenured m.tenured b os closed y k n t
+    beyond : (y k n : ℕ) → IsNewOf y k (without_old c b) n → is_in (piece_of c.tenured b os v 0) n ≡ false
+    beyond y k n (inl t) = out_of c.tenured b os v n (λ l e. apart (sym l ∙ t.0))
+    beyond y k n (inr t) = ahead_out c.tenured m.tenured b os v closed y k n t
 
 pub gives_back : GivesBack
-gives_back stores roots base held_ k h c m xs b os g marks f = (young, old)
+gives_back stores roots base held_ k h c m xs b os v g marks f = (young, old)
   where
-    young : IsClosed c.young m.young b os → GivenBack stores roots base held_ k h (without_young c b) m (piece_of c.young b os 0) xs
+    young : IsClosed c.young m.young b os → GivenBack stores roots base held_ k h (without_young c b) m (piece_of c.young b os v 0) xs
     young closed =
-        let s = young_splits c m b os f.apart marks closed in
+        let s = young_splits c m b os v f.apart marks closed in
         record {
-          holding = split_holding stores roots base held_ k h c (without_young c b) m (piece_of c.young b os 0) xs s g f;
-          given = split_given stores roots base held_ k h c (without_young c b) m (piece_of c.young b os 0) xs s g f;
-          marks = record { young = mark_left c.young m.young b os closed marks.young; tenured = marks.tenured; past = marks.past };
+          holding = split_holding stores roots base held_ k h c (without_young c b) m (piece_of c.young b os v 0) xs s g f;
+          given = split_given stores roots base held_ k h c (without_young c b) m (piece_of c.young b os v 0) xs s g f;
+          marks = record { young = mark_left c.young m.young b os v closed marks.young; tenured = marks.tenured; past = marks.past };
         }
 
-    old : IsClosed c.tenured m.tenured b os → GivenBack stores roots base held_ k h (without_old c b) m (piece_of c.tenured b os 0) xs
+    old : IsClosed c.tenured m.tenured b os → GivenBack stores roots base held_ k h (without_old c b) m (piece_of c.tenured b os v 0) xs
     old closed =
-        let s = old_splits c m b os f.apart marks f.kept closed in
+        let s = old_splits c m b os v f.apart marks f.kept closed in
         record {
-          holding = split_holding stores roots base held_ k h c (without_old c b) m (piece_of c.tenured b os 0) xs s g f;
-          given = split_given stores roots base held_ k h c (without_old c b) m (piece_of c.tenured b os 0) xs s g f;
-          marks = record { young = marks.young; tenured = mark_left c.tenured m.tenured b os closed marks.tenured; past = marks.past };
+          holding = split_holding stores roots base held_ k h c (without_old c b) m (piece_of c.tenured b os v 0) xs s g f;
+          given = split_given stores roots base held_ k h c (without_old c b) m (piece_of c.tenured b os v 0) xs s g f;
+          marks = record { young = marks.young; tenured = mark_left c.tenured m.tenured b os v closed marks.tenured; past = marks.past };
         }
 
 -- put last in the place of first
@@ -507,17 +510,17 @@ out_more c d e xs ys zs p q = record {
     by n (inl h) = p.pieces n h
     by n (inr h) = inr (h.0, (h.1.0, p.made h.0 h.1.0 h.1.1), h.2, h.3, λ l. subst (λ k. IsBeyond k (block_of n)) p.kept (h.4 (l ∙ sym p.old_lane)))
 
-pub young_given : (c : Copies) (m : Marks) (b : ℕ) (os : List Object) (xs : List Piece) → IsClosed c.young m.young b os → StillHolds c (without_young c b) m xs (xs ++ piece_of c.young b os 0 ∷ [])
-young_given c m b os xs closed stores roots base held_ k h g marks f =
-    let back = (gives_back stores roots base held_ k h c m xs b os g marks f).0 closed in
-    let given = given_last h (without_young c b) (piece_of c.young b os 0) xs back.given in
-    (holding_last stores roots base held_ k h (without_young c b) m (piece_of c.young b os 0) xs given.apart back.holding, given, back.marks, split_out c (without_young c b) m (piece_of c.young b os 0) xs f.kept (young_splits c m b os f.apart marks closed))
+pub young_given : (c : Copies) (m : Marks) (b : ℕ) (os : List Object) (v : Vec ℕ) (xs : List Piece) → IsClosed c.young m.young b os → StillHolds c (without_young c b) m xs (xs ++ piece_of c.young b os v 0 ∷ [])
+young_given c m b os v xs closed stores roots base held_ k h g marks f =
+    let back = (gives_back stores roots base held_ k h c m xs b os v g marks f).0 closed in
+    let given = given_last h (without_young c b) (piece_of c.young b os v 0) xs back.given in
+    (holding_last stores roots base held_ k h (without_young c b) m (piece_of c.young b os v 0) xs given.apart back.holding, given, back.marks, split_out c (without_young c b) m (piece_of c.young b os v 0) xs f.kept (young_splits c m b os v f.apart marks closed))
 
-pub old_given : (c : Copies) (m : Marks) (b : ℕ) (os : List Object) (xs : List Piece) → IsClosed c.tenured m.tenured b os → StillHolds c (without_old c b) m xs (xs ++ piece_of c.tenured b os 0 ∷ [])
-old_given c m b os xs closed stores roots base held_ k h g marks f =
-    let back = (gives_back stores roots base held_ k h c m xs b os g marks f).1 closed in
-    let given = given_last h (without_old c b) (piece_of c.tenured b os 0) xs back.given in
-    (holding_last stores roots base held_ k h (without_old c b) m (piece_of c.tenured b os 0) xs given.apart back.holding, given, back.marks, split_out c (without_old c b) m (piece_of c.tenured b os 0) xs f.kept (old_splits c m b os f.apart marks f.kept closed))
+pub old_given : (c : Copies) (m : Marks) (b : ℕ) (os : List Object) (v : Vec ℕ) (xs : List Piece) → IsClosed c.tenured m.tenured b os → StillHolds c (without_old c b) m xs (xs ++ piece_of c.tenured b os v 0 ∷ [])
+old_given c m b os v xs closed stores roots base held_ k h g marks f =
+    let back = (gives_back stores roots base held_ k h c m xs b os v g marks f).1 closed in
+    let given = given_last h (without_old c b) (piece_of c.tenured b os v 0) xs back.given in
+    (holding_last stores roots base held_ k h (without_old c b) m (piece_of c.tenured b os v 0) xs given.apart back.holding, given, back.marks, split_out c (without_old c b) m (piece_of c.tenured b os v 0) xs f.kept (old_splits c m b os v f.apart marks f.kept closed))
 
 pub still_refl : (c : Copies) (m : Marks) (xs : List Piece) → StillHolds c c m xs xs
 still_refl c m xs stores roots base held_ k h g marks f = (f, g, marks, out_refl c xs)
@@ -539,3 +542,18 @@ blocks_young c b = record { young_lane = refl; old_lane = refl; young = length-s
 
 pub blocks_old : (c : Copies) (b : ℕ) → SameBlocks c (without_old c b)
 blocks_old c b = record { young_lane = refl; old_lane = refl; young = refl; old = length-set c.tenured.lists b []; kept = refl }
+
+-- what was listed of the old store as far as its mark is listed still
+pub old_listed : (c : Copies) (m : Marks) (b : ℕ) (os : List Object) (v : Vec ℕ) → IsClosed c.tenured m.tenured b os → KeepsListedTo m.tenured c (without_old c b)
+old_listed c m b os v closed lane places l = listed_same lane c.tenured (with_block c.tenured b []) c.kept m.tenured places l (mark_left c.tenured m.tenured b os v closed l.mark_there) (λ n e. by n e (is_in (piece_of c.tenured b os v 0) n) refl)
+  where
+    by : (n : ℕ) → is_above m.tenured n ≡ false → (t : Bool) → is_in (piece_of c.tenured b os v 0) n ≡ t → objects_in (with_block c.tenured b []) n ≡ objects_in c.tenured n
+    by n e true t = let two : true ≡ false = sym (above c.tenured m.tenured b os v closed l.mark_there n t) ∙ e in cc
+    by n e false t = stays c.tenured m.tenured b os v closed n t
+
+-- what giving back keeps, step by step
+abbrev pub GivesBackTo : Copies → Copies → Marks → List Piece → List Piece → Type 0
+GivesBackTo c d m xs ys = StillHolds c d m xs ys × SameBlocks c d × KeepsListedTo m.tenured c d × (AreNoted xs → AreNoted ys)
+
+pub gives_more : (c d e : Copies) (m : Marks) (xs ys zs : List Piece) → GivesBackTo c d m xs ys → GivesBackTo d e m ys zs → GivesBackTo c e m xs zs
+gives_more c d e m xs ys zs p q = (still_more c d e m xs ys zs p.0 q.0, blocks_more c d e p.1 q.1, listed_then m.tenured c d e p.2 q.2, λ n. q.3 (p.3 n))

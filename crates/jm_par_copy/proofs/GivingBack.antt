@@ -13,6 +13,7 @@ none_back c = record {
   marks = refl;
   holds = λ stores roots base held k h given marks holding. (holding, given, marks, record { old_lane = refl; kept = refl; below = λ n e. refl; made = λ n a e. e; new = λ x k n h. h; pieces = λ n h. inl h });
   same = record { young_lane = refl; old_lane = refl; young = refl; old = refl; kept = refl };
+  noting = λ n. n;
 }
 
 none_are_back : (cs : List Copier) → AreBack cs cs

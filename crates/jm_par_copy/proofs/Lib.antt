@@ -3,7 +3,9 @@ pub mod Listing
 pub mod Sharing
 pub mod Joining
 pub mod Working
-pub mod Plain
+pub mod Skipped
+pub mod Staying
+pub mod Pointers
 pub mod Rounds
 pub mod Pieces
 pub mod Moves
@@ -13,6 +15,7 @@ pub mod Fresh
 pub mod Turns
 pub mod Aside
 pub mod Beside
+pub mod Noting
 pub mod Giving
 pub mod Copiers
 pub mod Ends
@@ -25,6 +28,7 @@ pub mod Seats
 pub mod Placed
 pub mod Stocks
 pub mod Merged
+pub mod Noted
 pub mod Collecting
 pub mod Loads
 pub mod Meeting

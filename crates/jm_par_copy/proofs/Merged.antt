@@ -1,4 +1,5 @@
 -- The blocks of one store are put into another of the same lane.
+use Rattle.std.specs.Global.{Global}
 use Rattle.std.proofs.Common.{◌≡◌, ◌≢◌, ◌⊎◌, ℕ, ◌+◌, ◌<◌, ◌≤◌, List, [], ◌∷◌, Option, Some, None, Bool, true, false, not, cond, refl, sym, ap, ◌∙◌, subst, inl, inr, length, eq-eqb, arith}
 use Rattle.std.specs.Prelude.{slice_get, nat_eq, ◌&&◌}
 use Rattle.std.proofs.lemmas.Bool.{cases_lt}
@@ -17,7 +18,7 @@ use Rattle.jm_par_copy.specs.Moves.{piece_of, with_block}
 use Rattle.jm_par_copy.specs.Pieces.{is_in, objects_of}
 use Rattle.jm_par_copy.specs.Working.{both, or_else}
 use Rattle.jm_par_copy.specs.declared.piece.Piece.{Piece}
-use Rattle.jm_par_copy.proofs.Moves.{block_is_back, block_is_out}
+use Rattle.jm_par_copy.proofs.Moves.{block_is_back, block_is_out, no_places}
 use Rattle.jm_par_copy.proofs.Pieces.{object_here, objects_elsewhere, objects_in_it}
 use Rattle.jm_par_copy.proofs.Sharing.{both_left, both_right}
 use Rattle.jm_par_copy.proofs.Strides.{lane_below}
@@ -88,7 +89,7 @@ unfolding both
 both_is f g h k n e = e
 
 -- a block takes the place of that of its number in the second, whose objects it has
-module _ (from to : Blocks) (b : ℕ) (os : List Object) (lane : from.lane ≡ to.lane) (few : from.lane < 64) (over : GoesOver from to) (is : slice_get from.lists b ≡ Some os) (some : 0 < length os) (there : b < length to.lists) where
+module _ (heap : Global) (from to : Blocks) (b : ℕ) (os : List Object) (lane : from.lane ≡ to.lane) (few : from.lane < 64) (over : GoesOver from to) (is : slice_get from.lists b ≡ Some os) (some : 0 < length os) (there : b < length to.lists) where
   abbrev from_now : Blocks
   from_now = with_block from b []
 
@@ -99,24 +100,24 @@ module _ (from to : Blocks) (b : ℕ) (os : List Object) (lane : from.lane ≡ t
   to_now = with_block cut b os
 
   abbrev x : Piece
-  x = piece_of from b os 0
+  x = piece_of from b os (no_places heap) 0
 
-  same : piece_of to b os 0 ≡ x
-  same = ap (λ l. let p : Piece = (record { lane = l; number = b; block = os; mark = 0 }) in p) (sym lane)
+  same : piece_of to b os (no_places heap) 0 ≡ x
+  same = ap (λ l. let p : Piece = (record { lane = l; number = b; block = os; mark = 0; pointing = no_places heap }) in p) (sym lane)
 
   zs : (zs : List Object) × (slice_get to.lists b ≡ Some zs)
   zs = get_there to.lists b there
 
   back : (n : ℕ) → objects_in to_now n ≡ both (objects_of x) (objects_in cut) n
-  back n = block_is_back cut b 0 os (got_written to.lists b [] there) n ∙ ap (λ p. both (objects_of p) (objects_in cut) n) same
+  back n = block_is_back cut b 0 os (no_places heap) (got_written to.lists b [] there) n ∙ ap (λ p. both (objects_of p) (objects_in cut) n) same
 
   -- of the second what lies in the block is cut off
   cut_is : (n : ℕ) (t : Bool) → is_in x n ≡ t → objects_in cut n ≡ cond (not t) (objects_in to n) None
-  cut_is n t e = (block_is_out to b 0 zs.0 zs.1 n).1 ∙ ap (λ u. cond (not u) (objects_in to n) None) (ap (λ l. nat_eq (lane_of n) l && nat_eq (block_of n) b) (sym lane) ∙ e)
+  cut_is n t e = (block_is_out to b 0 zs.0 (no_places heap) zs.1 n).1 ∙ ap (λ u. cond (not u) (objects_in to n) None) (ap (λ l. nat_eq (lane_of n) l && nat_eq (block_of n) b) (sym lane) ∙ e)
 
   out : (n : ℕ) (t : Bool) → is_in x n ≡ t → (objects_of x n ≡ cond t (objects_in from n) None) × (objects_in from_now n ≡ cond (not t) (objects_in from n) None)
   out n t e =
-      let o = block_is_out from b 0 os is n in
+      let o = block_is_out from b 0 os (no_places heap) is n in
       (o.0 ∙ ap (λ u. cond u (objects_in from n) None) e, o.1 ∙ ap (λ u. cond (not u) (objects_in from n) None) e)
 
   block_is_b : (n : ℕ) → is_in x n ≡ true → block_of n ≡ b
@@ -236,9 +237,9 @@ filled_within s p h = let at = lies_in s p h.0 h.1 in let within = slice_get_wit
 pub filled_above : (s : Blocks) (p : ℕ) → IsLast s p → (n : ℕ) → HasObject s n → block_of n < block_of p + 1
 filled_above s p last n h = let below = last n h in omega (arith, below)
 
-pub moved_block : (from to mid from_now to_now : Blocks) (b : ℕ) (os : List Object) → from.lane ≡ to.lane → from.lane < 64 → GoesOver from to → slice_get from.lists b ≡ Some os → 0 < length os → b < length to.lists → from_now ≡ with_block from b [] → mid ≡ with_block to b [] → to_now ≡ with_block mid b os → IsMoved from to from_now to_now
-moved_block from to mid from_now to_now b os lane few over e some there is cut put =
-    let moved = moved_one from to b os lane few over e some there in
+pub moved_block : (heap : Global) (from to mid from_now to_now : Blocks) (b : ℕ) (os : List Object) → from.lane ≡ to.lane → from.lane < 64 → GoesOver from to → slice_get from.lists b ≡ Some os → 0 < length os → b < length to.lists → from_now ≡ with_block from b [] → mid ≡ with_block to b [] → to_now ≡ with_block mid b os → IsMoved from to from_now to_now
+moved_block heap from to mid from_now to_now b os lane few over e some there is cut put =
+    let moved = moved_one heap from to b os lane few over e some there in
     let here = subst (λ s. IsMoved from to s (with_block (with_block to b []) b os)) (sym is) moved in
     let mid_is = subst (λ s. IsMoved from to from_now (with_block s b os)) (sym cut) here in
     subst (λ s. IsMoved from to from_now s) (sym put) mid_is
@@ -274,6 +275,6 @@ piece_is_free x to mid lane few free same_lane same some there =
 pub piece_is_put : (x : Piece) (to mid new : Blocks) → x.lane ≡ to.lane → mid.lane ≡ to.lane → ((n : ℕ) → objects_in mid n ≡ objects_in to n) → slice_get mid.lists x.number ≡ Some [] → new ≡ with_block mid x.number x.block → (n : ℕ) → objects_in new n ≡ both (objects_of x) (objects_in to) n
 piece_is_put x to mid new lane same_lane same free is n =
     ap (λ s. objects_in s n) is
-    ∙ block_is_back mid x.number x.mark x.block free n
-    ∙ ap (λ l. let p : Piece = (record { lane = l; number = x.number; block = x.block; mark = x.mark }) in both (objects_of p) (objects_in mid) n) (same_lane ∙ sym lane)
+    ∙ block_is_back mid x.number x.mark x.block x.pointing free n
+    ∙ ap (λ l. let p : Piece = (record { lane = l; number = x.number; block = x.block; mark = x.mark; pointing = x.pointing }) in both (objects_of p) (objects_in mid) n) (same_lane ∙ sym lane)
     ∙ (let whole : objects_in mid ≡ objects_in to = λ t m. same m t in ap (λ f. both (objects_of x) f n) whole)

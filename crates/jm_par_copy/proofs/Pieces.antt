@@ -1,5 +1,5 @@
 -- The objects of a block that was moved to a copier.
-use Rattle.std.proofs.Common.{◌≡◌, ◌≢◌, ◌⊎◌, ℕ, ◌+◌, ◌<◌, ◌≤◌, ◌&&◌, List, Option, Some, None, Bool, true, false, cond, refl, sym, ap, ◌∙◌, subst, inl, inr, length, arith, eq-eqb}
+use Rattle.std.proofs.Common.{◌≡◌, ◌≢◌, ◌⊎◌, ℕ, ◌+◌, ◌-◌, ◌<◌, ◌≤◌, ◌&&◌, List, Option, Some, None, Bool, true, false, cond, refl, sym, ap, ◌∙◌, subst, inl, inr, length, arith, eq-eqb}
 use Rattle.std.specs.Prelude.{nat_eq, nat_lt, slice_get, slice_set}
 use Rattle.std.proofs.lemmas.Bool.{lt-ltb, le-ltb, cases_lt}
 use Rattle.std.proofs.lemmas.Bool.Decides.{eqb_tells}
@@ -52,11 +52,11 @@ pub object_here : (x : Piece) (i : ℕ) → x.lane < 64 → i < 256 → objects_
 object_here x i lane few = objects_in_it x (place_in x i) (in_here x i lane few) ∙ ap (slice_get x.block) (index_put x.lane x.number i few)
 
 -- one value of an object of the block is another
-pub piece_replaced : (x y : Piece) (i j : ℕ) (a : Object) (w : Value) → x.lane < 64 → i < 256 → slice_get x.block i ≡ Some a → y ≡ record { lane = x.lane; number = x.number; block = slice_set x.block i (with_value a j w); mark = x.mark } → IsReplaced (objects_of x) (objects_of y) (place_in x i) (with_value a j w)
+pub piece_replaced : (x y : Piece) (i j : ℕ) (a : Object) (w : Value) → x.lane < 64 → i < 256 → slice_get x.block i ≡ Some a → y ≡ record { lane = x.lane; number = x.number; block = slice_set x.block i (with_value a j w); mark = x.mark; pointing = x.pointing } → IsReplaced (objects_of x) (objects_of y) (place_in x i) (with_value a j w)
 piece_replaced x y i j a w lane few e is = subst (λ z. IsReplaced (objects_of x) (objects_of z) (place_in x i) (with_value a j w)) (sym is) (record { here = here; others = λ q ne. by q ne (is_in x q) refl })
   where
     z : Piece
-    z = record { lane = x.lane; number = x.number; block = slice_set x.block i (with_value a j w); mark = x.mark }
+    z = record { lane = x.lane; number = x.number; block = slice_set x.block i (with_value a j w); mark = x.mark; pointing = x.pointing }
 
     here : objects_of z (place_in x i) ≡ Some (with_value a j w)
     here = object_here z i lane few ∙ got_written x.block i (with_value a j w) (slice_get_within x.block i a e)
@@ -123,7 +123,7 @@ left_replaced f g rest s a t = record { here = both_left g rest s a t.here; othe
 
 -- the block with another mark, or with other values
 abbrev pub marked : Piece → List Object → ℕ → Piece
-marked x os m = record { lane = x.lane; number = x.number; block = os; mark = m }
+marked x os m = record { lane = x.lane; number = x.number; block = os; mark = m; pointing = x.pointing }
 
 pub progress_in : (x : Piece) (done : Progress) (n count : ℕ) → is_in x n ≡ true → progress_of x done n count ≡ cond (nat_lt (index_of n) x.mark) count 0
 unfolding progress_of
@@ -133,7 +133,7 @@ pub progress_out : (x : Piece) (done : Progress) (n count : ℕ) → is_in x n �
 unfolding progress_of
 progress_out x done n count t = ap (λ b. cond b (cond (nat_lt (index_of n) x.mark) count 0) (done n count)) t
 
-same_side : (i m : ℕ) → i ≢ m → nat_lt i m ≡ nat_lt i (m + 1)
+pub same_side : (i m : ℕ) → i ≢ m → nat_lt i m ≡ nat_lt i (m + 1)
 same_side i m h = by (cases_lt i m)
   where
     by : (i < m) ⊎ (m ≤ i) → nat_lt i m ≡ nat_lt i (m + 1)
@@ -219,21 +219,47 @@ module _ (stores : List Blocks) (roots : List ℕ) (base held : List (ℕ × ℕ
       ahead n count new (inr i) = sym (at_other next s (length a.values) n count i.1) ∙ f.ahead n count new
 
 -- a block that is another in its objects and mark alone
-pub piece_is : (x y : Piece) (m : ℕ) → IsSamePiece x y → y.mark ≡ m → marked x y.block m ≡ y
-piece_is x y m s e =
-    ap (λ l. record { lane = l; number = x.number; block = y.block; mark = m }) (sym s.lane)
-    ∙ ap (λ n. record { lane = y.lane; number = n; block = y.block; mark = m }) (sym s.number)
-    ∙ ap (λ i. record { lane = y.lane; number = y.number; block = y.block; mark = i }) (sym e)
+pub piece_is : (x y : Piece) (m : ℕ) → IsSamePiece x y → y.mark ≡ m → y.pointing ≡ x.pointing → marked x y.block m ≡ y
+piece_is x y m s e p =
+    ap (λ l. record { lane = l; number = x.number; block = y.block; mark = m; pointing = x.pointing }) (sym s.lane)
+    ∙ ap (λ n. record { lane = y.lane; number = n; block = y.block; mark = m; pointing = x.pointing }) (sym s.number)
+    ∙ ap (λ i. record { lane = y.lane; number = y.number; block = y.block; mark = i; pointing = x.pointing }) (sym e)
+    ∙ ap (λ l. record { lane = y.lane; number = y.number; block = y.block; mark = y.mark; pointing = l }) (sym p)
 
 pub place_same : (x y : Piece) (i : ℕ) → IsSamePiece x y → place_in x i ≡ place_in y i
 place_same x y i s = ap (λ l. place_at l x.number i) (sym s.lane) ∙ ap (λ n. place_at y.lane n i) (sym s.number)
+
+pub given_here : (x y : Piece) (i : ℕ) (a : Object) → IsPiece x → IsSamePiece x y → i < 256 → slice_get y.block i ≡ Some a → (rest : ℕ → Option Object) → both (objects_of y) rest (place_in x i) ≡ Some a
+given_here x y i a p s few e rest = both_left (objects_of y) rest (place_in x i) a (ap (objects_of y) (place_same x y i s) ∙ object_here y i (omega (arith, p.lane, s.lane)) few ∙ e)
 
 pub mark_few : (x : Piece) → IsPiece x → x.mark < length x.block → x.mark < 256
 mark_few x p w = omega (arith, w, p.few)
 
 -- the same block keeps to what a block does
 pub piece_stays : (x y : Piece) → IsPiece x → IsSamePiece x y → y.mark ≤ length y.block → IsPiece y
-piece_stays x y p s m = record { lane = omega (arith, p.lane, s.lane); few = omega (arith, p.few, s.many); mark = m }
+piece_stays x y p s m = record { some_lane = omega (arith, p.some_lane, s.lane); lane = omega (arith, p.lane, s.lane); numbered = let few = p.numbered in omega (arith, few, s.number); few = omega (arith, p.few, s.many); mark = m }
 
 pub same_more : (x y z : Piece) → IsSamePiece x y → IsSamePiece y z → IsSamePiece x z
 same_more x y z f g = record { lane = g.lane ∙ f.lane; number = g.number ∙ f.number; many = g.many ∙ f.many }
+
+-- the block with another list of places holds what it held, as far scanned
+abbrev pub with_places : Piece → Piece → Piece
+with_places y z = record { lane = y.lane; number = y.number; block = y.block; mark = y.mark; pointing = z.pointing }
+
+given_placed : (stores : List Blocks) (roots : List ℕ) (base held : List (ℕ × ℕ)) (k : ℕ) (rest : ℕ → Option Object) (done : Progress) (h : Hand) (c : Copies) (y z : Piece) → IsGiven stores roots base held k rest (progress_of y done) h c y → IsGiven stores roots base held k rest (progress_of (with_places y z) done) h c (with_places y z)
+unfolding objects_of progress_of
+given_placed stores roots base held k rest done h c y z f = f
+
+places_is : (y z : Piece) → z.lane ≡ y.lane → z.number ≡ y.number → z.block ≡ y.block → z.mark ≡ y.mark → with_places y z ≡ z
+places_is y z lane number block mark =
+    ap (λ l. record { lane = l; number = y.number; block = y.block; mark = y.mark; pointing = z.pointing }) (sym lane)
+    ∙ ap (λ n. record { lane = z.lane; number = n; block = y.block; mark = y.mark; pointing = z.pointing }) (sym number)
+    ∙ ap (λ b. record { lane = z.lane; number = z.number; block = b; mark = y.mark; pointing = z.pointing }) (sym block)
+    ∙ ap (λ m. record { lane = z.lane; number = z.number; block = z.block; mark = m; pointing = z.pointing }) (sym mark)
+
+pub given_listed : (stores : List Blocks) (roots : List ℕ) (base held : List (ℕ × ℕ)) (k : ℕ) (rest : ℕ → Option Object) (done : Progress) (h : Hand) (c : Copies) (y z : Piece) → z.lane ≡ y.lane → z.number ≡ y.number → z.block ≡ y.block → z.mark ≡ y.mark → IsGiven stores roots base held k rest (progress_of y done) h c y → IsGiven stores roots base held k rest (progress_of z done) h c z
+given_listed stores roots base held k rest done h c y z lane number block mark f = subst (λ x. IsGiven stores roots base held k rest (progress_of x done) h c x) (places_is y z lane number block mark) (given_placed stores roots base held k rest done h c y z f)
+
+-- the place of the object that was at the mark
+pub place_of_last : (x y : Piece) → IsSamePiece x y → y.mark ≡ x.mark + 1 → place_in y (y.mark - 1) ≡ place_in x x.mark
+place_of_last x y s e = let one : y.mark - 1 ≡ x.mark = omega (arith, e) in ap (place_in y) one ∙ sym (place_same x y x.mark s)

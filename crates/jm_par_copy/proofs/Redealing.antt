@@ -9,7 +9,7 @@ use Rattle.jm_par_copy.proofs.Reordering.{after_order, append_twice, back_order,
 
 -- the same copiers
 pub same_copier : (c : Copier) → IsSameCopier c c
-same_copier c = record { number = refl; seat = refl; to = refl; marks = refl; roots = refl; rooted = refl }
+same_copier c = record { number = refl; seat = refl; to = refl; marks = refl; pointing = refl; roots = refl; rooted = refl }
 
 pub same_copiers : (cs : List Copier) → AreSameCopiers cs cs
 same_copiers [] = tt
@@ -21,7 +21,7 @@ same_then [] (d ∷ ds) es r t = absurd r
 same_then (c ∷ cs) [] es r t = absurd r
 same_then (c ∷ cs) (d ∷ ds) [] r t = absurd t
 same_then (c ∷ cs) (d ∷ ds) (e ∷ es) r t = (
-  record { number = t.0.number ∙ r.0.number; seat = t.0.seat ∙ r.0.seat; to = t.0.to ∙ r.0.to; marks = t.0.marks ∙ r.0.marks; roots = t.0.roots ∙ r.0.roots; rooted = t.0.rooted ∙ r.0.rooted },
+  record { number = t.0.number ∙ r.0.number; seat = t.0.seat ∙ r.0.seat; to = t.0.to ∙ r.0.to; marks = t.0.marks ∙ r.0.marks; pointing = t.0.pointing ∙ r.0.pointing; roots = t.0.roots ∙ r.0.roots; rooted = t.0.rooted ∙ r.0.rooted },
   same_then cs ds es r.1 t.1,
 )
 
@@ -83,16 +83,32 @@ out_order (c ∷ cs) xs zs =
     (after_order mine (all_pieces cs (xs ++ zs)) (xs ++ all_pieces cs zs) (out_order cs xs zs))
     (exchange mine xs (all_pieces cs zs))
 
-added_order : (cs : List Copier) (k : ℕ) (c d : Copier) (x : Piece) (zs : List Piece) → slice_get cs k ≡ Some c → d.given.items ≡ c.given.items ++ x ∷ [] → IsReordered (all_pieces cs (x ∷ zs)) (all_pieces (slice_set cs k d) zs)
-added_order [] k c d x zs e i = cc
-added_order (b ∷ cs) zero c d x zs e i =
-    let same : b ≡ c = cc in
-    let items : d.given.items ≡ b.given.items ++ x ∷ [] = i ∙ ap (λ (z : Copier). z.given.items ++ x ∷ []) (sym same) in
+-- a list before and behind one of its items, which may be another
+split_at : {X : Type 0} (xs : List X) (k : ℕ) (x y : X) → slice_get xs k ≡ Some x → (front : List X) × (back : List X) × (xs ≡ front ++ x ∷ back) × (slice_set xs k y ≡ front ++ y ∷ back)
+split_at [] k x y e = cc
+split_at (z ∷ xs) zero x y e = let same : z ≡ x = cc in ([], xs, ap (λ w. w ∷ xs) same, refl)
+split_at (z ∷ xs) (suc k) x y e = let s = split_at xs k x y e in (z ∷ s.0, s.1, ap (λ ws. z ∷ ws) s.2, ap (λ ws. z ∷ ws) s.3)
+
+front_order : (front cs ds : List Copier) (xs ys : List Piece) → IsReordered (all_pieces cs xs) (all_pieces ds ys) → IsReordered (all_pieces (front ++ cs) xs) (all_pieces (front ++ ds) ys)
+front_order [] cs ds xs ys f = f
+front_order (b ∷ front) cs ds xs ys f = after_order b.given.items (all_pieces (front ++ cs) xs) (all_pieces (front ++ ds) ys) (front_order front cs ds xs ys f)
+
+-- one copier of all has other blocks
+set_order : (cs : List Copier) (k : ℕ) (c d : Copier) (xs ys : List Piece) → slice_get cs k ≡ Some c → ((back : List Copier) → IsReordered (c.given.items ++ all_pieces back xs) (d.given.items ++ all_pieces back ys)) → IsReordered (all_pieces cs xs) (all_pieces (slice_set cs k d) ys)
+set_order cs k c d xs ys e f =
+    let s = split_at cs k c d e in
+    let whole = front_order s.0 (c ∷ s.1) (d ∷ s.1) xs ys (f s.1) in
+    subst (λ es. IsReordered (all_pieces cs xs) (all_pieces es ys)) (sym s.3) (subst (λ es. IsReordered (all_pieces es xs) (all_pieces (s.0 ++ d ∷ s.1) ys)) (sym s.2) whole)
+
+first_added : (cs : List Copier) (mine more : List Piece) (x : Piece) (zs : List Piece) → more ≡ mine ++ x ∷ [] → IsReordered (mine ++ all_pieces cs (x ∷ zs)) (more ++ all_pieces cs zs)
+first_added cs mine more x zs e =
     let rest = all_pieces cs zs in
-    then_order (b.given.items ++ all_pieces cs (x ∷ zs)) (b.given.items ++ x ∷ rest) (d.given.items ++ rest)
-    (after_order b.given.items (all_pieces cs (x ∷ zs)) (x ∷ rest) (out_order cs (x ∷ []) zs))
-    (same_order (b.given.items ++ x ∷ rest) (d.given.items ++ rest) (ap (λ ws. ws ++ rest) items ∙ append_twice b.given.items (x ∷ []) rest))
-added_order (b ∷ cs) (suc k) c d x zs e i = after_order b.given.items (all_pieces cs (x ∷ zs)) (all_pieces (slice_set cs k d) zs) (added_order cs k c d x zs e i)
+    then_order (mine ++ all_pieces cs (x ∷ zs)) (mine ++ x ∷ rest) (more ++ rest)
+    (after_order mine (all_pieces cs (x ∷ zs)) (x ∷ rest) (out_order cs (x ∷ []) zs))
+    (same_order (mine ++ x ∷ rest) (more ++ rest) (ap (λ ws. ws ++ rest) e ∙ append_twice mine (x ∷ []) rest))
+
+added_order : (cs : List Copier) (k : ℕ) (c d : Copier) (x : Piece) (zs : List Piece) → slice_get cs k ≡ Some c → d.given.items ≡ c.given.items ++ x ∷ [] → IsReordered (all_pieces cs (x ∷ zs)) (all_pieces (slice_set cs k d) zs)
+added_order cs k c d x zs e i = set_order cs k c d (x ∷ zs) zs e (λ back. first_added back c.given.items d.given.items x zs i)
 
 -- one block more is dealt
 pub one_is_dealt : (cs : List Copier) (k : ℕ) (c d : Copier) (x : Piece) → slice_get cs k ≡ Some c → IsGivenOne c d x → (aside : List Piece) → AreDealt cs (x ∷ aside) (slice_set cs k d) aside
@@ -119,15 +135,14 @@ pub dealt_then : (cs ds es : List Copier) (xs ys zs : List Piece) → AreDealt c
 dealt_then cs ds es xs ys zs f g = record { same = same_then cs ds es f.same g.same; pieces = then_order (all_pieces cs xs) (all_pieces ds ys) (all_pieces es zs) f.pieces g.pieces }
 
 -- the blocks of one copier are gathered
-taken_order : (cs : List Copier) (k : ℕ) (c d : Copier) (xs : List Piece) → slice_get cs k ≡ Some c → d.given.items ≡ [] → IsReordered (all_pieces cs xs) (all_pieces (slice_set cs k d) (c.given.items ++ xs))
-taken_order [] k c d xs e i = cc
-taken_order (b ∷ cs) zero c d xs e i =
-    let same : b ≡ c = cc in
-    let mine = b.given.items in
-    then_order (mine ++ all_pieces cs xs) (all_pieces cs (mine ++ xs)) (d.given.items ++ all_pieces cs (c.given.items ++ xs))
+first_taken : (cs : List Copier) (mine left xs : List Piece) → left ≡ [] → IsReordered (mine ++ all_pieces cs xs) (left ++ all_pieces cs (mine ++ xs))
+first_taken cs mine left xs i =
+    then_order (mine ++ all_pieces cs xs) (all_pieces cs (mine ++ xs)) (left ++ all_pieces cs (mine ++ xs))
     (back_order (all_pieces cs (mine ++ xs)) (mine ++ all_pieces cs xs) (out_order cs mine xs))
-    (same_order (all_pieces cs (mine ++ xs)) (d.given.items ++ all_pieces cs (c.given.items ++ xs)) (ap (λ ws. ws ++ all_pieces cs (c.given.items ++ xs)) i ∙ ap (λ (z : Copier). all_pieces cs (z.given.items ++ xs)) (sym same)))
-taken_order (b ∷ cs) (suc k) c d xs e i = after_order b.given.items (all_pieces cs xs) (all_pieces (slice_set cs k d) (c.given.items ++ xs)) (taken_order cs k c d xs e i)
+    (same_order (all_pieces cs (mine ++ xs)) (left ++ all_pieces cs (mine ++ xs)) (ap (λ ws. ws ++ all_pieces cs (mine ++ xs)) i))
+
+taken_order : (cs : List Copier) (k : ℕ) (c d : Copier) (xs : List Piece) → slice_get cs k ≡ Some c → d.given.items ≡ [] → IsReordered (all_pieces cs xs) (all_pieces (slice_set cs k d) (c.given.items ++ xs))
+taken_order cs k c d xs e i = set_order cs k c d xs (c.given.items ++ xs) e (λ back. first_taken back c.given.items d.given.items xs i)
 
 pub taken_is_gathered : (cs : List Copier) (k : ℕ) (c d : Copier) (old new : List Piece) → slice_get cs k ≡ Some c → IsTaken c d old new → AreGathered cs (slice_set cs k d) old new
 taken_is_gathered cs k c d old new e t aside = record {

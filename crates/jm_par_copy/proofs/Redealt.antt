@@ -24,6 +24,7 @@ use Rattle.jm_par_copy.specs.declared.copier.Copier.{Copier}
 use Rattle.jm_par_copy.proofs.Aside.{held, is_there}
 use Rattle.jm_par_copy.proofs.Copiers.{all_apart, apart_of, copying_agrees, joint_has, roots_same, one_get}
 use Rattle.jm_par_copy.proofs.Listing.{Has, has_from, contains_from, has_left, has_right, has_both}
+use Rattle.jm_par_copy.proofs.Noting.{all_noted, dealt_notes}
 use Rattle.jm_par_copy.proofs.Reordering.{apart_covers, cover_append, covers_apart, covers_one, get_has, get_one, has_get, has_held, held_has, none_held, one_covers}
 use Rattle.jm_par_copy.proofs.Sharing.{both_left, both_right, both_where}
 
@@ -230,6 +231,7 @@ deal_keeps_all stores roots words cs ds aside rest c t = record {
   different = different;
   given = given;
   rooted = rooted_same stores roots cs ds t.same c.rooted;
+  noting = dealt_notes cs ds aside rest t.same c.noting (λ x h. all_noted cs aside c.noting x (from x h));
   pieces = λ i x e. are x (aside_has ds rest x (get_has rest i x e));
   copying = subst (λ hs. Copying (objects_at stores) roots (Pairs stores (all_known hs)) (Pairs stores (all_wins hs)) (joint (parts ds rest)) (joint_done (parts ds rest))) (sym (hands_same cs ds t.same))
       (copying_agrees (Pairs stores (all_known (hands cs))) (Pairs stores (all_wins (hands cs))) (joint (parts cs aside)) (joint (parts ds rest)) (joint_done (parts cs aside)) (joint_done (parts ds rest)) (λ n a e. goes n a (holder cs aside n a e)) (λ n a e. comes n a (holder ds rest n a e)) c.copying);

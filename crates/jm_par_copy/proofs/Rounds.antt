@@ -39,6 +39,7 @@ kept_then stores roots c d e f g = record {
   ended = g.ended;
   knows = λ i n h. g.knows i n (f.knows i n h);
   wins = wins_more c.seat.hand d.seat.hand e.seat.hand f.wins g.wins;
+  noting = λ n. g.noting (f.noting n);
 }
 
 -- the roots are forwarded first, and then blocks are scanned
@@ -64,7 +65,7 @@ round_of stores roots c d e on kept rooted scan =
     }
 
 -- a growth was refused when the roots were forwarded
-pub refused_round : (stores : List Blocks) (roots : List ℕ) (c d e : Copier) → GoesOn c d → e ≡ record { number = d.number; claims = d.claims; seat = d.seat; to = d.to; marks = d.marks; given = d.given; roots = d.roots; rooted = d.rooted; ended = d.ended; refused = true; room = d.room } → IsRound stores roots c e
+pub refused_round : (stores : List Blocks) (roots : List ℕ) (c d e : Copier) → GoesOn c d → e ≡ record { number = d.number; claims = d.claims; seat = d.seat; to = d.to; marks = d.marks; pointing = d.pointing; given = d.given; roots = d.roots; rooted = d.rooted; ended = d.ended; refused = true; room = d.room } → IsRound stores roots c e
 refused_round stores roots c d e on is = subst (λ z. IsRound stores roots c z) (sym is) (record {
   number = on.number;
   table = on.table;

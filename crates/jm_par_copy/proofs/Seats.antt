@@ -12,11 +12,14 @@ use Rattle.jm_forward.specs.Hands.{SeatView, TableView, fresh, hands_from, seat_
 use Rattle.jm_copy.specs.Copies.{HasMade, is_above}
 use Rattle.jm_copy.specs.Marks.{AreMarks, first_marks}
 use Rattle.jm_copy.specs.Numbers.{object_count}
+use Rattle.jm_copy.specs.Pointing.{IsListed}
 use Rattle.jm_copy.specs.declared.copies.Copies.{Copies}
 use Rattle.jm_copy.specs.declared.scan.Marks.{Marks}
+use Rattle.jm_copy.proofs.Pointing.{listed_none}
 use Rattle.jm_par_copy.specs.Copiers.{AllFill, AreDifferent, AreFreshCopiers, AreOthers, IsFilling, IsFreshCopier}
 use Rattle.jm_par_copy.specs.Fresh.{IsFreshOwn}
 use Rattle.jm_par_copy.specs.Holding.{AreGiven, IsHolding}
+use Rattle.jm_par_copy.specs.Notes.{AreNoted, IsNoting}
 use Rattle.jm_par_copy.specs.Round.{IsReady}
 use Rattle.jm_par_copy.specs.Seats.{AreNumbered, AreOwnStores, AreSeatsOf, IsOwnStores, IsSeatOf, SeatedAreFresh}
 use Rattle.jm_par_copy.specs.Strides.{OwnsEnds, owner_of}
@@ -44,13 +47,20 @@ one_seat_more number s ss all (u ∷ old) new stores to c cs f first rest some s
     beside (z ∷ xs) x ys = ap (λ zs. z ∷ zs) (beside xs x ys)
 
 one_is_ready : (stores : List Blocks) (roots : List ℕ) (words : TableView) (before : Blocks) (number : ℕ) (t : Copies) (c : Copier) → words.objects ≡ object_count stores → words.copiers ≤ 16 → number < words.copiers → IsOwnStores number words.copiers before t → IsSeatOf number (seat_of words.table (fresh words.copiers number)) t c → IsFreshCopier stores roots words c
-one_is_ready stores roots words before number t c objects few below own s = record { ready = ready; own = fresh_own; given = s.given; wins = ap (λ (h : Hand). h.wins) hand }
+one_is_ready stores roots words before number t c objects few below own s = record { ready = ready; own = fresh_own; given = s.given; wins = ap (λ (h : Hand). h.wins) hand; noting = noting }
   where
     hand : c.seat.hand ≡ fresh words.copiers number
     hand = ap (λ (v : SeatView). v.hand) s.seat_is
 
     fresh_own : IsFreshOwn c.to
     fresh_own = subst IsFreshOwn (sym s.to_is) own.fresh
+
+    noting : IsNoting c
+    noting = record {
+      young = ap (λ (v : Copies). v.young.lane) s.to_is ∙ own.young_lane;
+      own = subst (λ o. IsListed 1 c.to.tenured c.to.kept o c.pointing.items) (sym (s.tenured ∙ sym (ap (λ (v : Copies). v.kept) s.to_is))) (listed_none 1 c.to.tenured c.to.kept c.pointing.items fresh_own.kept s.pointing);
+      given = subst AreNoted (sym s.given) (λ i x e. absurd cc);
+    }
 
     marks_are : c.marks ≡ first_marks c.to
     marks_are = ap (λ y. let m : Marks = (record { young = y; tenured = c.marks.tenured }) in m) s.young ∙ ap (λ o. let m : Marks = (record { young = None; tenured = o }) in m) (s.tenured ∙ sym (ap (λ (v : Copies). v.kept) s.to_is))

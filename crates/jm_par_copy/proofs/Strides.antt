@@ -1,26 +1,22 @@
 -- What stays of a copier's own stores.
 use Rattle.std.proofs.Common.{◌≡◌, ◌≢◌, ◌⊎◌, ℕ, zero, suc, ◌+◌, ◌-◌, ◌<◌, ◌≤◌, ◌%◌, List, [], ◌∷◌, ◌++◌, Some, None, true, false, cond, refl, sym, ap, ◌∙◌, subst, inl, inr, length, replicate, arith, length-append}
-use Rattle.std.specs.Prelude.{slice_get, nat_eq}
+use Rattle.std.specs.Prelude.{get_or, slice_get, nat_eq}
 use Rattle.std.proofs.lemmas.Bool.Decides.{eqb_tells}
 use Rattle.std.proofs.lemmas.List.{length-set, length-replicate}
-use Rattle.std.proofs.lemmas.Option.{slice_get_within}
+use Rattle.std.proofs.lemmas.Option.{slice_get_within, get_or_from_slice_get}
 use Rattle.std.proofs.Math.Nat.{add-mod_right}
 use Rattle.jm_blocks.specs.Objects.{Object}
 use Rattle.jm_blocks.specs.Cells.{object_cells}
 use Rattle.jm_blocks.specs.Places.{lane_of, block_of, index_of, place_at}
-use Rattle.jm_blocks.specs.Stores.{Blocks, objects_in, object_of_list, HasObject, IsEmpty, last_has_room, list_has_room, last_of, next_place, with_object}
+use Rattle.jm_blocks.specs.Stores.{Blocks, objects_in, object_of_list, HasObject, IsEmpty, last_has_room, list_has_room, last_of, next_place, store_with, with_object, Bumped}
 use Rattle.jm_blocks.proofs.Placing.{block_put, lane_put, lies_in, parts}
-use Rattle.jm_blocks.proofs.Filling.{last_is, next_last, with_object_last}
+use Rattle.jm_blocks.proofs.Filling.{fill_last, last_is, next_last, with_object_last}
 use Rattle.jm_blocks.proofs.Sizes.{few_where_room}
 use Rattle.jm_copy.specs.Copying.{IsAdded, IsReplaced}
-use Rattle.jm_copy.specs.Copies.{made, made_in, HasMade, Stays, is_above}
+use Rattle.jm_copy.specs.Copies.{made, made_in, HasMade, IsPutIn, Stays, is_above}
 use Rattle.jm_copy.specs.declared.copies.Copies.{Copies}
-use Rattle.jm_blocks.specs.declared.header.Header.{Header}
 use Rattle.jm_blocks.proofs.Lists.{no_blocks as no_blocks_at}
-use Rattle.jm_nursery.specs.Ages.{survived, survived_at}
-use Rattle.jm_nursery.specs.declared.age.Survival.{Survival}
-use Rattle.jm_nursery.specs.declared.age.Survival.TheVariants.{Young, Old}
-use Rattle.jm_par_copy.specs.Strides.{store_by, owner_of, EndsOwn, OwnsEnds, IsAhead, IsNewOf, Longer, Goes, Opens, Opened, IsReservedIn, SameLengths}
+use Rattle.jm_par_copy.specs.Strides.{store_by, owner_of, EndsOwn, OwnsEnds, IsAhead, IsNewOf, Longer, Goes, Opens, Opened, IsReserved, IsReservedIn, SameLengths}
 
 pub longer_refl : (n : ℕ) (s : Blocks) → Longer n s s
 longer_refl n s = record { longer = omega arith; ends = λ x e. e }
@@ -144,9 +140,9 @@ reserved_ahead x n s cells p f r =
     let at : block_of p ≡ length s.lists - 1 = omega (arith, last, some) in
     (r.lane, r.past, omega (arith, last), ap (λ k. k % n) at ∙ f.own)
 
-pub reserved_new : (x n : ℕ) (c : Copies) (cells p : ℕ) (v : Survival) → OwnsEnds x n c → IsReservedIn (store_by c v) cells p → IsNewOf x n c p
-reserved_new x n c cells p (Young h) f r = inl (reserved_ahead x n c.young cells p f.young r)
-reserved_new x n c cells p (Old h) f r = inr (reserved_ahead x n c.tenured cells p f.old r)
+pub reserved_new : (x n : ℕ) (c : Copies) (cells p age : ℕ) → OwnsEnds x n c → IsReservedIn (store_by c age) cells p → IsNewOf x n c p
+reserved_new x n c cells p zero f r = inl (reserved_ahead x n c.young cells p f.young r)
+reserved_new x n c cells p (suc age) f r = inr (reserved_ahead x n c.tenured cells p f.old r)
 
 pub new_is_own : (x n : ℕ) (c : Copies) (p : ℕ) → IsNewOf x n c p → owner_of n p ≡ x
 new_is_own x n c p (inl h) = h.3
@@ -192,6 +188,20 @@ reserved_in s cells p lane two room e =
 pub as_many : (bs : List (List Object)) (o : Object) → last_has_room bs (object_cells o) ≡ true → length (with_object bs o) ≡ length bs
 as_many bs o room = ap length (with_object_last bs o room) ∙ length-set bs (length bs - 1) _
 
+pub lane_below : (p : ℕ) → lane_of p < 64
+lane_below p = omega arith
+
+-- an object whose place is reserved in a store is put there
+pub lands : (s t : Blocks) (p : ℕ) (o : Object) → IsReservedIn s (object_cells o) p → t ≡ store_with s o → IsPutIn s t p o
+lands s t p o r e =
+    let last = last_is s.lists (object_cells o) r.room in
+    let read : last.0 ≡ get_or s.lists (length s.lists - 1) last.0 = sym (get_or_from_slice_get s.lists (length s.lists - 1) last.0 last.0 last.1) in
+    let below = lane_below p in
+    let lane : s.lane < 64 = let at = r.lane in omega (arith, below, at) in
+    let filled = fill_last s s (length s.lists) last.0 (last.0 ++ o ∷ []) o refl refl lane read r.room refl in
+    let bumped : Bumped s t (next_place s (object_cells o)) o = subst (λ u. Bumped s u (next_place s (object_cells o)) o) (filled.blocks ∙ sym e) filled.bumped in
+    record { bumped = subst (λ q. Bumped s t q o) (sym r.place) bumped; lane = r.lane; same = ap (λ (u : Blocks). u.lane) e }
+
 abbrev empty_blocks : ℕ → List (List Object)
 empty_blocks k = replicate k []
 
@@ -214,23 +224,16 @@ opened_room bs n cells some = ap (λ x. list_has_room x cells) (last_is_empty bs
         let at : length (cs ++ replicate k []) - 1 ≡ length cs + (k - 1) = omega (arith, many, h) in
         ap (slice_get (cs ++ replicate k [])) at ∙ past cs k (k - 1) (omega (arith, h))
 
-pub lane_below : (p : ℕ) → lane_of p < 64
-lane_below p = omega arith
+-- a place that is reserved for an object of age 0 is in the store of the young, and for any other in the old one
+pub reserved_young : (c : Copies) (o : Object) (p : ℕ) → o.age ≡ 0 → IsReserved c o p → IsReservedIn c.young (object_cells o) p
+reserved_young c o p e r = subst (λ age. IsReservedIn (store_by c age) (object_cells o) p) e r
 
--- what grows older keeps its class
-young_at : (a : ℕ) (h k : Header) → Young k ≡ survived_at a h → k.class ≡ h.class
-young_at zero h k e = let same : k ≡ record { serial = h.serial; class = h.class; age = 1 } = cc in ap (λ (x : Header). x.class) same
-young_at (suc n) h k e = cc
-
-old_at : (a : ℕ) (h k : Header) → Old k ≡ survived_at a h → k.class ≡ h.class
-old_at zero h k e = cc
-old_at (suc n) h k e = let same : k ≡ record { serial = h.serial; class = h.class; age = 2 } = cc in ap (λ (x : Header). x.class) same
-
-pub young_class : (h k : Header) → Young k ≡ survived h → k.class ≡ h.class
-young_class h k e = young_at h.age h k e
-
-pub old_class : (h k : Header) → Old k ≡ survived h → k.class ≡ h.class
-old_class h k e = old_at h.age h k e
+pub reserved_old : (c : Copies) (o : Object) (p : ℕ) → o.age ≢ 0 → IsReserved c o p → IsReservedIn c.tenured (object_cells o) p
+reserved_old c o p h r = by o.age h r
+  where
+    by : (age : ℕ) → age ≢ 0 → IsReservedIn (store_by c age) (object_cells o) p → IsReservedIn c.tenured (object_cells o) p
+    by zero n s = absurd (n refl)
+    by (suc age) n s = s
 
 -- what is known after a reservation
 pub record Ready (x n : ℕ) (c d : Copies) (p : ℕ) : Type 0 where
@@ -240,12 +243,12 @@ pub record Ready (x n : ℕ) (c d : Copies) (p : ℕ) : Type 0 where
   pub new : IsNewOf x n d p
   pub before : IsNewOf x n c p
 
-pub ready : (x n m : ℕ) (c d : Copies) (cells p : ℕ) (v : Survival) → m ≡ n → OwnsEnds x n c → Opened m c d → IsReservedIn (store_by d v) cells p → Ready x n c d p
-ready x n m c d cells p v e ends o r =
+pub ready : (x n m : ℕ) (c d : Copies) (a : Object) (p : ℕ) → m ≡ n → OwnsEnds x n c → Opened m c d → IsReserved d a p → Ready x n c d p
+ready x n m c d a p e ends o r =
     let opened = subst (λ k. Opened k c d) e o in
     let stays = opened_stays n c d opened in
     let goes = opened_goes n c d opened x in
-    let new = reserved_new x n d cells p v (ends_go x n c d goes ends) r in
+    let new = reserved_new x n d (object_cells a) p a.age (ends_go x n c d goes ends) r in
     record { opened = opened; stays = stays; goes = goes; new = new; before = new_before x n c d p stays goes new }
 
 -- a value of an object that was made is another

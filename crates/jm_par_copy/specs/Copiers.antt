@@ -15,6 +15,7 @@ use Rattle.jm_par_copy.specs.Begins.{IsLocal}
 use Rattle.jm_par_copy.specs.Fresh.{IsFreshOwn}
 use Rattle.jm_par_copy.specs.Giving.{SameBlocks, StillHolds}
 use Rattle.jm_par_copy.specs.Holding.{held_objects, held_progress, AreApartPieces, AreGiven, IsInOne}
+use Rattle.jm_par_copy.specs.Notes.{AllNote, IsNoting}
 use Rattle.jm_par_copy.specs.Pieces.{IsPiece}
 use Rattle.jm_par_copy.specs.Roots.{IsRooted, RootsStand}
 use Rattle.jm_par_copy.specs.Round.{AreReady, AreRound, IsReady}
@@ -92,13 +93,14 @@ AreRooted stores roots [] = Unit {0}
 AreRooted stores roots (c ∷ cs) = RootsStand stores roots c × AreRooted stores roots cs
 
 -- all copiers between rounds, with the blocks that are set aside: what they hold is what all have won, by what
--- all know, and no place is held by two
+-- all know, no place is held by two, and what is scanned and points to young ones is listed
 pub record AreCopying (stores : List Blocks) (roots : List ℕ) (words : TableView) (cs : List Copier) (aside : List Piece) : Type 0 where
   pub seated : AreSeated stores words (all_pieces cs aside) cs
   pub different : AreDifferent cs
   pub given : AreApartGiven cs aside
   pub pieces : (i : ℕ) (x : Piece) → slice_get aside i ≡ Some x → IsPiece x
   pub rooted : AreRooted stores roots cs
+  pub noting : AllNote cs aside
   pub copying : Copying (objects_at stores) roots (Pairs stores (all_known (hands cs))) (Pairs stores (all_wins (hands cs))) (joint (parts cs aside)) (joint_done (parts cs aside))
 
 abbrev pub NoneRefused : List Copier → Type 0
@@ -140,6 +142,7 @@ pub record IsBack (c d : Copier) : Type 0 where
   pub marks : d.marks ≡ c.marks
   pub holds : StillHolds c.to d.to c.marks c.given.items d.given.items
   pub same : SameBlocks c.to d.to
+  pub noting : IsNoting c → IsNoting d
 
 abbrev pub AreBack : List Copier → List Copier → Type 0
 AreBack [] [] = Unit {0}
@@ -263,6 +266,7 @@ pub record IsFreshCopier (stores : List Blocks) (roots : List ℕ) (words : Tabl
   pub own : IsFreshOwn c.to
   pub given : c.given.items ≡ []
   pub wins : c.seat.hand.wins ≡ []
+  pub noting : IsNoting c
 
 abbrev pub AreFreshCopiers : List Blocks → List ℕ → TableView → List Copier → Type 0
 AreFreshCopiers stores roots words [] = Unit {0}

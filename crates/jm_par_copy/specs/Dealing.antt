@@ -28,6 +28,7 @@ pub record IsSameCopier (c d : Copier) : Type 0 where
   pub seat : d.seat ≡ c.seat
   pub to : d.to ≡ c.to
   pub marks : d.marks ≡ c.marks
+  pub pointing : d.pointing.items ≡ c.pointing.items
   pub roots : d.roots.items ≡ c.roots.items
   pub rooted : d.rooted ≡ c.rooted
 

@@ -8,9 +8,9 @@ use Rattle.jm_copy.specs.Condemned.{objects_at}
 use Rattle.jm_copy.specs.Copies.{made_in}
 use Rattle.jm_copy.specs.Copying.{AreForwarded}
 use Rattle.jm_copy.specs.Image.{IsImage}
-use Rattle.jm_copy.specs.Pointing.{ListsAbove}
 use Rattle.jm_par_copy.specs.Copiers.{AreCopying, AreEnded, ArePlaced, hands}
 use Rattle.jm_par_copy.specs.Holding.{AreApartPieces, held_objects}
+use Rattle.jm_par_copy.specs.Notes.{all_listed}
 use Rattle.jm_par_copy.specs.Pieces.{IsPiece}
 use Rattle.jm_par_copy.specs.Together.{moved_by_wins}
 use Rattle.jm_par_copy.specs.Working.{Pairs, both}
@@ -68,15 +68,6 @@ abbrev pub seats_in : List Copier → List SeatView
 seats_in [] = []
 seats_in (c ∷ cs) = c.seat ∷ seats_in cs
 
--- the places of a list where a store has no object, in order
-abbrev pub new_if : Option Object → ℕ → List ℕ → List ℕ
-new_if None p ps = p ∷ ps
-new_if (Some o) p ps = ps
-
-abbrev pub new_of : Blocks → List ℕ → List ℕ
-new_of s [] = []
-new_of s (p ∷ ps) = new_if (objects_in s p) p (new_of s ps)
-
 -- what all have lies in two stores, and the old store has what it had and the second of these
 pub record IsPutTogether (cs : List Copier) (aside : List Piece) (before young promoted tenured : Blocks) : Type 0 where
   pub young_lane : young.lane ≡ 1
@@ -93,9 +84,9 @@ pub record IsCollectedBy (condemned : List Blocks) (before : Blocks) (roots : Li
 -- where all have ended and have met, all roots are forwarded, and the copiers went on where they began in the old
 -- store, it is collected
 abbrev pub EndIsCollected : Type 0
-EndIsCollected = (stores : List Blocks) (roots new_roots : List ℕ) (words : TableView) (cs : List Copier) (aside : List Piece) (before young promoted tenured : Blocks) (pointing : List ℕ)
+EndIsCollected = (stores : List Blocks) (roots new_roots : List ℕ) (words : TableView) (cs : List Copier) (aside : List Piece) (before young promoted tenured : Blocks)
     → AreCopying stores roots words cs aside → AreEnded cs aside → Agree (hands cs) → AreAll (hands cs) → length new_roots ≡ length roots
     → AreForwarded (objects_at stores) (Pairs stores (all_known (hands cs))) roots new_roots
     → before.lane ≢ 1 → ArePlaced 1 before cs aside
-    → IsPutTogether cs aside before young promoted tenured → ListsAbove young.lane promoted None pointing
-    → IsCollectedBy stores before roots (all_wins (hands cs)) young tenured (new_of before pointing) new_roots
+    → IsPutTogether cs aside before young promoted tenured
+    → IsCollectedBy stores before roots (all_wins (hands cs)) young tenured (all_listed cs aside) new_roots

@@ -2,6 +2,7 @@ pub mod Strides
 pub mod Working
 pub mod Together
 pub mod Pieces
+pub mod Notes
 pub mod Round
 pub mod Moves
 pub mod Merging

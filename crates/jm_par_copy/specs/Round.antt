@@ -8,6 +8,7 @@ use Rattle.jm_copy.specs.Numbers.{object_count}
 use Rattle.jm_par_copy.specs.Strides.{Goes, OwnsEnds}
 use Rattle.jm_par_copy.specs.Roots.{IsRooted, RootsStand}
 use Rattle.jm_par_copy.specs.Holding.{AreGiven, AreSamePieces, IsHolding, KeepsHolding}
+use Rattle.jm_par_copy.specs.Notes.{IsNoting}
 use Rattle.jm_par_copy.specs.Working.{KnowsMore, WinsMore}
 use Rattle.jm_par_copy.specs.declared.piece.Piece.{Piece}
 use Rattle.jm_par_copy.specs.declared.copier.Copier.{Copier}
@@ -34,6 +35,7 @@ pub record IsKept (stores : List Blocks) (roots : List ℕ) (c d : Copier) : Typ
   pub ended : d.ended ≡ true → AllPassed d.to d.marks × ((i : ℕ) (x : Piece) → slice_get d.given.items i ≡ Some x → x.mark ≡ length x.block)
   pub knows : KnowsMore c.seat.hand d.seat.hand
   pub wins : WinsMore c.seat.hand d.seat.hand
+  pub noting : IsNoting c → IsNoting d
 
 -- what no step of a round changes, refused or not
 pub record GoesOn (c d : Copier) : Type 0 where

@@ -32,6 +32,7 @@ pub record IsSeatOf (number : ℕ) (seat : SeatView) (to : Copies) (c : Copier) 
   pub to_is : c.to ≡ to
   pub young : c.marks.young ≡ None
   pub tenured : c.marks.tenured ≡ to.kept
+  pub pointing : c.pointing.items ≡ []
   pub given : c.given.items ≡ []
   pub roots : c.roots.items ≡ []
   pub rooted : c.rooted ≡ false

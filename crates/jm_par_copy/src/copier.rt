@@ -17,10 +17,11 @@ use jm_values::Place;
 use std::alloc::{AllocError, Global};
 use std::thread::{Threads, join_mut};
 
-/// A copier: its number, how many claims it has made, its seat, its own two stores with their marks, the
-/// blocks that it was given, the new places of its roots and whether they are there, whether nothing that it holds is left to scan, and
-/// whether a growth was refused to it. Copiers at work stand one behind the other in a list, each written by its own
-/// thread, so there is room of a cache line (64 bytes) between what one of them has and what the next one has.
+/// A copier: its number, how many claims it has made, its seat, its own two stores with their marks, the places of its
+/// own old objects that are scanned and point to young ones, the blocks that it was given, the new places of its roots
+/// and whether they are there, whether nothing that it holds is left to scan, and whether a growth was refused to it.
+/// Copiers at work stand one behind the other in a list, each written by its own thread, so there is room of a cache
+/// line (64 bytes) between what one of them has and what the next one has.
 #[derive(Drop)]
 #[repr(C)]
 pub struct Copier {
@@ -29,6 +30,7 @@ pub struct Copier {
     pub seat: Seat,
     pub to: Copies,
     pub marks: Marks,
+    pub pointing: Vec<Place>,
     pub given: Vec<Piece>,
     pub roots: Vec<Place>,
     pub rooted: bool,
@@ -133,6 +135,7 @@ fn scan_blocks<G: Gate>(
         &mut copier.seat,
         &mut copier.to,
         marks,
+        &mut copier.pointing,
         limit - count,
     );
     match made {

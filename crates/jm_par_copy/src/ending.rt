@@ -1,10 +1,11 @@
 // The end of a collection.
 
-ghost use Rattle.std.specs.Prelude.{◌≡◌, ◌≢◌, ℕ, ◌<◌, ◌++◌, [], IfOk, OnErr, length, vec_capacity};
+ghost use Rattle.std.specs.Prelude.{◌≡◌, ◌≢◌, ℕ, ◌<◌, List, ◌++◌, IfOk, OnErr, OnOk, length};
 ghost use Rattle.jm_blocks.specs.Stores.{objects_in};
 ghost use Rattle.jm_forward.specs.Hands.{Agree, all_wins};
 ghost use Rattle.jm_par_copy.specs.Copiers.{AllRooted, AreCopying, AreEnded, ArePlaced, hands};
-ghost use Rattle.jm_par_copy.specs.Ending.{IsCollectedBy, new_if, new_of, seats_in};
+ghost use Rattle.jm_par_copy.specs.Ending.{IsCollectedBy, seats_in};
+ghost use Rattle.jm_par_copy.specs.Notes.{all_listed, listed_with};
 ghost use Rattle.jm_par_copy.specs.Seats.{AreNumbered};
 
 use crate::copier::Copier;
@@ -12,9 +13,9 @@ use crate::merging::move_all;
 use crate::new_roots::root_places;
 use crate::owner::CopierBlocks;
 use crate::piece::Piece;
-use crate::unloading::{YOUNG, put_together};
+use crate::unloading::put_together;
 use jm_blocks::BlockStore;
-use jm_copy::{Source, pointers};
+use jm_copy::Source;
 use jm_forward::Forwarding;
 use jm_values::Place;
 use std::alloc::{AllocError, Global};
@@ -28,27 +29,39 @@ pub struct Copied {
     pub roots: Vec<Place>,
 }
 
-// Puts a place behind others where the old store has no object there.
-fn add_if_new(old: &BlockStore, place: Place, news: &mut Vec<Place>)
-    requires room { length news.old.items < vec_capacity news.old }
-    ensures items { news.new.items ≡ news.old.items ++ new_if (objects_in old.now place) place [] }
-    ensures room { vec_capacity news.new ≡ vec_capacity news.old }
+// Puts the places that are listed with blocks behind others.
+fn add_listed_with(pieces: &[Piece], places: &mut Vec<Place>) -> Result<(), AllocError>
+    ensures { OnOk result (places.new.items ≡ places.old.items ++ listed_with pieces.now) }
 {
-    match old.object(place) {
-        Some(_) => {}
-        None => news.push_reserved(place),
+    for piece in pieces {
+        places.extend_from_slice(piece.pointing.as_slice())?;
     }
+    Ok(())
 }
 
-// Those of some places where the old store has no object.
-fn new_places(alloc: Global, old: &BlockStore, places: &[Place]) -> Result<Vec<Place>, AllocError>
-    ensures { IfOk result (λ news. news.items ≡ new_of old.now places.now) }
+// Puts the places that one copier has listed, and those that are listed with its blocks, behind others.
+fn add_listed_by(copier: &Copier, places: &mut Vec<Place>) -> Result<(), AllocError>
+    ensures { OnOk result ((own : List ℕ) × (own ≡ places.old.items ++ copier.now.pointing.items) × (places.new.items ≡ own ++ listed_with copier.now.given.items)) }
 {
-    let mut news = Vec::with_capacity(alloc, places.len())?;
-    for place in places {
-        add_if_new(old, *place, &mut news);
+    places.extend_from_slice(copier.pointing.as_slice())?;
+    add_listed_with(copier.given.as_slice(), places)?;
+    Ok(())
+}
+
+// All places that copiers have listed, and those that are listed with their blocks and with those that are set aside.
+fn all_pointing(
+    alloc: Global,
+    copiers: &[Copier],
+    aside: &[Piece],
+) -> Result<Vec<Place>, AllocError>
+    ensures { IfOk result (λ places. places.items ≡ all_listed copiers.now aside.now) }
+{
+    let mut places = Vec::new(alloc);
+    for copier in copiers {
+        add_listed_by(copier, &mut places)?;
     }
-    Ok(news)
+    add_listed_with(aside, &mut places)?;
+    Ok(places)
 }
 
 /// Puts what all copiers hold, who have ended, into one store of the young and into the old store. A block in which a
@@ -75,9 +88,8 @@ pub fn finish(
     ensures seats { seats_in copiers.new.items ≡ seats_in copiers.old.items }
 {
     let roots = root_places(alloc, from, words, copiers.as_slice())?;
+    let remembered = all_pointing(alloc, copiers.as_slice(), aside.as_slice())?;
     let (young, mut promoted) = put_together(alloc, copiers, aside, tenured.lane())?;
-    let pointing = pointers(alloc, &promoted, &None, YOUNG)?;
-    let remembered = new_places(alloc, tenured, pointing.as_slice())?;
     move_all(alloc, &mut promoted, tenured)?;
     Ok(Copied {
         young,

@@ -1,9 +1,10 @@
 // The blocks that a copier was given.
 
-ghost use Rattle.std.specs.Prelude.{◌≡◌, ◌≢◌, ℕ, ◌+◌, ◌<◌, ◌≤◌, List, IfOk, OnOk, Some, length, slice_get};
+ghost use Rattle.std.specs.Prelude.{◌≡◌, ◌≢◌, ℕ, ◌<◌, ◌≤◌, List, OnOk, Some, length, slice_get};
 ghost use Rattle.jm_copy.specs.Copies.{IsSource, Stays};
 ghost use Rattle.jm_copy.specs.Numbers.{object_count};
 ghost use Rattle.jm_par_copy.specs.Holding.{AreGiven, AreSamePieces, IsHolding, KeepsHolding};
+ghost use Rattle.jm_par_copy.specs.Notes.{AreNoted, KeepsListed};
 ghost use Rattle.jm_par_copy.specs.Strides.{Goes, OwnsEnds};
 ghost use Rattle.jm_par_copy.specs.Working.{KnowsMore, WinsMore};
 
@@ -40,6 +41,8 @@ fn scan_one<G: Gate>(
     ensures same { OnOk result (AreSamePieces given.old.items given.new.items) }
     ensures end { OnOk result ((x : Piece) → slice_get given.new.items number ≡ Some x → x.mark ≡ length x.block) }
     ensures others { (i : ℕ) → i ≢ number → slice_get given.new.items i ≡ slice_get given.old.items i }
+    ensures listed { OnOk result (KeepsListed to.old to.new) }
+    ensures noted { OnOk result (to.old.young.lane ≡ 1 → AreNoted given.old.items → AreNoted given.new.items) }
     ensures knows { OnOk result (KnowsMore seat.old.hand seat.new.hand) }
     ensures wins { OnOk result (WinsMore seat.old.hand seat.new.hand) }
     ensures stays { Stays to.old to.new }
@@ -87,6 +90,8 @@ pub fn scan_all_given<G: Gate>(
     ensures many { length given.new.items ≡ length given.old.items }
     ensures same { OnOk result (AreSamePieces given.old.items given.new.items) }
     ensures end { OnOk result ((i : ℕ) (x : Piece) → i < count → slice_get given.new.items i ≡ Some x → x.mark ≡ length x.block) }
+    ensures listed { OnOk result (KeepsListed to.old to.new) }
+    ensures noted { OnOk result (to.old.young.lane ≡ 1 → AreNoted given.old.items → AreNoted given.new.items) }
     ensures knows { OnOk result (KnowsMore seat.old.hand seat.new.hand) }
     ensures wins { OnOk result (WinsMore seat.old.hand seat.new.hand) }
     ensures stays { Stays to.old to.new }

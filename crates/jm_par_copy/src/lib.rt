@@ -11,9 +11,10 @@
 //! The copiers work in rounds. In each a copier scans so many blocks: those that it was given first, and then its
 //! own. Between two rounds blocks that are closed and not yet scanned leave the stores of those who filled them,
 //! and are dealt out anew, block j to copier j modulo n; the block that a copier is filling and the one that its
-//! mark is in stay with it. [`run_rounds`] ends when nothing is left to scan. [`finish`] then puts all blocks into one
-//! store of the young and one of the promoted, and the promoted ones into the old store, which was only read before:
-//! where a growth is refused there is nothing to mend.
+//! mark is in stay with it. The promoted objects that point to young ones are listed while they are scanned: by the
+//! copier in its own store, and with the block in one that moved. [`run_rounds`] ends when nothing is left to scan.
+//! [`finish`] then puts all blocks into one store of the young and one of the promoted, and the promoted ones into the
+//! old store, which was only read before: where a growth is refused there is nothing to mend.
 //!
 //! What holds of all copiers between two rounds is `AreCopying` (`specs/Copiers.antt`): what they hold together are
 //! the copies of what all have won, by what all know, and no place is held by two. A round keeps it, giving back

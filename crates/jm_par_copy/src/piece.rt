@@ -1,48 +1,68 @@
 // A block that was moved to a copier.
 
-ghost use Rattle.std.specs.Prelude.{◌≡◌, ℕ, ◌+◌, ◌<◌, ◌^◌, List, Option, Some, OnOk, length, slice_get, [], MatchOption};
-ghost use Rattle.jm_values.specs.Rename.{stack_shape};
+ghost use Rattle.std.specs.Prelude.{◌≡◌, ◌≢◌, ℕ, ◌+◌, ◌-◌, ◌<◌, ◌++◌, ◌∷◌, [], List, Option, Some, IfOk, IfSome, OnOk, if◌then◌else◌, length, slice_get};
+ghost use Rattle.jm_values.specs.declared.value.Value.TheVariants.{Ref};
+ghost use Rattle.jm_heap.specs.Packing.{Fits, kind_of};
 ghost use Rattle.jm_blocks.specs.Objects.{Object};
 ghost use Rattle.jm_copy.specs.Copying.{Progress};
 ghost use Rattle.jm_copy.specs.Copies.{IsSource, Stays};
 ghost use Rattle.jm_copy.specs.Marks.{at};
+ghost use Rattle.jm_copy.specs.Naming.{IsEnded, NamesNext};
 ghost use Rattle.jm_copy.specs.Numbers.{object_count};
+ghost use Rattle.jm_copy.specs.Pointing.{points_to};
+ghost use Rattle.jm_par_copy.specs.Notes.{IsNoted, KeepsListed};
 ghost use Rattle.jm_par_copy.specs.Strides.{Goes, OwnsEnds};
-ghost use Rattle.jm_par_copy.specs.Pieces.{ForwardsGiven, IsGiven, IsPiece, IsSamePiece, KeepsGiven, place_in, progress_of};
+ghost use Rattle.jm_par_copy.specs.Pieces.{BecomesGiven, ForwardsGiven, IsGiven, IsPiece, IsSamePiece, KeepsGiven, OthersAre, place_in, progress_of};
 ghost use Rattle.jm_par_copy.specs.Working.{KnowsMore, WinsMore};
 
 use crate::gate::Gate;
 use crate::owner::CopierBlocks;
+use crate::scan::either;
 use crate::step::forward;
-use jm_blocks::Block;
-use jm_copy::{Copies, Source};
+use jm_blocks::{Block, Position};
+use jm_copy::{Copies, Named, Source, first_named, next_named};
 use jm_forward::{Forwarding, Seat};
-use jm_values::Value;
+use jm_values::{Place, Value};
 use std::alloc::{AllocError, Global};
 
-/// A block with its lane and number; its objects below the mark are scanned.
+/// A block with its lane and number; its objects below the mark are scanned. If it is an old one, the places of those
+/// of them that point to young ones are listed, each once.
 #[derive(Drop)]
 pub struct Piece {
     pub lane: u64,
     pub number: usize,
     pub block: Block,
     pub mark: usize,
+    pub pointing: Vec<Place>,
 }
 
-// How many values of the object of a number are to be forwarded: all that it has, or none where nothing in it can
-// be a reference.
-fn count_to_forward(block: &Block, index: usize) -> Option<usize>
+// The first reference among the values of the object of a number.
+#[inline(always)]
+fn named_first(block: &Block, index: usize) -> Option<Named>
     requires { index < length block.now }
-    ensures { (a : Object) → slice_get block.now index ≡ Some a → MatchOption result (stack_shape.refs a.values ≡ []) (λ n. length a.values ≡ n) }
+    ensures { (a : Object) → slice_get block.now index ≡ Some a → NamesNext a 0 result }
 {
-    match block.object(index) {
-        Some((_, values)) if values.is_plain() => None,
-        Some((_, values)) => Some(values.len()),
-        None => Some(0),
-    }
+    let (_, values) = block.object_at(index);
+    first_named(values)
 }
 
-// Forwards one value of an object of the block, of which all values before it are forwarded.
+// The first reference of the object of a number after one, where the end of its references is known.
+#[inline(always)]
+fn named_after(block: &Block, index: usize, number: usize, end: usize) -> Option<Named>
+    requires { (a : Object) × (slice_get block.now index ≡ Some a) × IsEnded a.values (kind_of a.class) number end }
+    ensures names { (a : Object) → slice_get block.now index ≡ Some a → NamesNext a (number + 1) result }
+    ensures end { IfSome result (λ r. r.end ≡ end) }
+{
+    if number + 1 >= end {
+        return None;
+    }
+    let (_, values) = block.object_at(index);
+    next_named(values, number, end)
+}
+
+// Forwards a reference of an object of the block, of which all values before it are forwarded, and answers whether it
+// names a young object afterwards.
+#[inline(always)]
 fn forward_given<G: Gate>(
     alloc: Global,
     from: Source<'_>,
@@ -55,17 +75,21 @@ fn forward_given<G: Gate>(
     piece: &mut Piece,
     index: usize,
     number: usize,
-) -> Result<(), AllocError>
+    named: Place,
+) -> Result<bool, AllocError>
     requires source { IsSource from.stores.now from.numbers.now }
     requires words { (seat.old.table ≡ words.now.table) × (words.now.objects ≡ object_count from.stores.now) × (seat.old.hand.copiers ≡ words.now.copiers) }
     requires ends { OwnsEnds seat.old.hand.copier seat.old.hand.copiers to.old }
     requires piece { IsPiece piece.old }
     requires working { (base : List (ℕ × ℕ)) × (held : List (ℕ × ℕ)) × (k : ℕ) × (rest : ℕ → Option Object) × (done : Progress) × IsGiven from.stores.now from.roots.now base held k rest (at done (place_in piece.old index) number) seat.old.hand to.old piece.old }
-    requires there { (a : Object) × (slice_get piece.old.block index ≡ Some a) × (number < length a.values) }
+    requires there { (a : Object) × (slice_get piece.old.block index ≡ Some a) × (slice_get a.values number ≡ Some (Ref named)) × ((p : ℕ) → Fits (kind_of a.class) (Ref p)) }
     ensures working { OnOk result (ForwardsGiven from.entry.stores.now from.entry.roots.now seat.old.hand seat.new.hand to.old to.new piece.old piece.new (place_in piece.old index) number (number + 1)) }
-    ensures there { OnOk result ((a : Object) → slice_get piece.old.block index ≡ Some a → (b : Object) × (slice_get piece.new.block index ≡ Some b) × (length b.values ≡ length a.values)) }
+    ensures names { IfOk result (λ b. (a : Object) → slice_get piece.old.block index ≡ Some a → BecomesGiven to.old.young.lane piece.old piece.new index number a b) }
+    ensures others { OnOk result (OthersAre piece.old piece.new index) }
+    ensures listed { OnOk result (KeepsListed to.old to.new) }
     ensures same { OnOk result (IsSamePiece piece.old piece.new) }
     ensures mark { piece.new.mark ≡ piece.old.mark }
+    ensures pointing { piece.new.pointing ≡ piece.old.pointing }
     ensures knows { OnOk result (KnowsMore seat.old.hand seat.new.hand) }
     ensures wins { OnOk result (WinsMore seat.old.hand seat.new.hand) }
     ensures stays { Stays to.old to.new }
@@ -74,20 +98,13 @@ fn forward_given<G: Gate>(
     ensures copier { seat.new.hand.copier ≡ seat.old.hand.copier }
     ensures copiers { seat.new.hand.copiers ≡ seat.old.hand.copiers }
 {
-    let value = piece.block.get(index, number);
-    match value {
-        Value::Ref(named) => {
-            let copy = forward(alloc, from, words, gate, copier, claims, seat, to, named)?;
-            piece.block.set(index, number, Value::Ref(copy));
-            Ok(())
-        }
-        Value::Int(_) => Ok(()),
-        Value::Long(_) => Ok(()),
-        Value::Null => Ok(()),
-    }
+    let copy = forward(alloc, from, words, gate, copier, claims, seat, to, named)?;
+    piece.block.set(index, number, Value::Ref(copy));
+    Ok(to.is_young(copy))
 }
 
-// Forwards each value of the object at the mark, and moves the mark past it.
+// Forwards each reference of the object at the mark, moves the mark past it, and answers whether one of them names a
+// young object afterwards.
 fn scan_given<G: Gate>(
     alloc: Global,
     from: Source<'_>,
@@ -98,7 +115,7 @@ fn scan_given<G: Gate>(
     seat: &mut Seat,
     to: &mut Copies,
     piece: &mut Piece,
-) -> Result<(), AllocError>
+) -> Result<bool, AllocError>
     requires source { IsSource from.stores.now from.numbers.now }
     requires words { (seat.old.table ≡ words.now.table) × (words.now.objects ≡ object_count from.stores.now) × (seat.old.hand.copiers ≡ words.now.copiers) }
     requires ends { OwnsEnds seat.old.hand.copier seat.old.hand.copiers to.old }
@@ -108,6 +125,10 @@ fn scan_given<G: Gate>(
     ensures working { OnOk result (KeepsGiven from.entry.stores.now from.entry.roots.now seat.old.hand seat.new.hand to.old to.new piece.old piece.new) }
     ensures same { OnOk result (IsSamePiece piece.old piece.new) }
     ensures mark { OnOk result (piece.new.mark ≡ piece.old.mark + 1) }
+    ensures points { IfOk result (λ b. (a : Object) → slice_get piece.new.block piece.old.mark ≡ Some a → b ≡ points_to to.old.young.lane a.values) }
+    ensures others { OnOk result (OthersAre piece.old piece.new piece.old.mark) }
+    ensures pointing { piece.new.pointing ≡ piece.old.pointing }
+    ensures listed { OnOk result (KeepsListed to.old to.new) }
     ensures knows { OnOk result (KnowsMore seat.old.hand seat.new.hand) }
     ensures wins { OnOk result (WinsMore seat.old.hand seat.new.hand) }
     ensures stays { Stays to.old to.new }
@@ -117,20 +138,58 @@ fn scan_given<G: Gate>(
     ensures copiers { seat.new.hand.copiers ≡ seat.old.hand.copiers }
 {
     let index = piece.mark;
-    let Some(count) = count_to_forward(&piece.block, index) else {
-        piece.mark = index + 1;
-        return Ok(());
-    };
-    for number in 0..count {
-        forward_given(
-            alloc, from, words, gate, copier, claims, seat, to, piece, index, number,
+    let mut points = false;
+    let mut next = named_first(&piece.block, index);
+    while let Some(named) = next {
+        let names = forward_given(
+            alloc,
+            from,
+            words,
+            gate,
+            copier,
+            claims,
+            seat,
+            to,
+            piece,
+            index,
+            named.number,
+            named.place,
         )?;
+        points = either(points, names);
+        next = named_after(&piece.block, index, named.number, named.end);
     }
     piece.mark = index + 1;
+    Ok(points)
+}
+
+// Lists the place of the last object below the mark, if it lies in an old block and points to a young one.
+#[inline]
+fn note_last(to: &Copies, piece: &mut Piece, points: bool) -> Result<(), AllocError>
+    requires { (0 < piece.old.mark) × IsPiece piece.old }
+    ensures lane { piece.new.lane ≡ piece.old.lane }
+    ensures number { piece.new.number ≡ piece.old.number }
+    ensures block { piece.new.block ≡ piece.old.block }
+    ensures mark { piece.new.mark ≡ piece.old.mark }
+    ensures young { OnOk result (piece.old.lane ≡ to.now.young.lane → piece.new.pointing.items ≡ piece.old.pointing.items) }
+    ensures old { OnOk result (piece.old.lane ≢ to.now.young.lane → piece.new.pointing.items ≡ (if points then piece.old.pointing.items ++ place_in piece.old (piece.old.mark - 1) ∷ [] else piece.old.pointing.items)) }
+{
+    if !points {
+        return Ok(());
+    }
+    if piece.lane == to.young.lane() {
+        return Ok(());
+    }
+    let position = Position {
+        lane: piece.lane,
+        block: piece.number,
+        index: piece.mark - 1,
+    };
+    piece.pointing.push(position.place())?;
     Ok(())
 }
 
-/// Scans a block that the copier was given, from its mark to its end.
+/// Scans a block that the copier was given, from its mark to its end. If it is an old one, the places of those of its
+/// objects that point to young ones are listed with it.
 pub fn scan_piece<G: Gate>(
     alloc: Global,
     from: Source<'_>,
@@ -150,6 +209,8 @@ pub fn scan_piece<G: Gate>(
     ensures working { OnOk result (KeepsGiven from.entry.stores.now from.entry.roots.now seat.old.hand seat.new.hand to.old to.new piece.old piece.new) }
     ensures same { OnOk result (IsSamePiece piece.old piece.new) }
     ensures end { OnOk result (piece.new.mark ≡ length piece.new.block) }
+    ensures listed { OnOk result (KeepsListed to.old to.new) }
+    ensures noted { OnOk result (to.old.young.lane ≡ 1 → IsNoted piece.old → IsNoted piece.new) }
     ensures knows { OnOk result (KnowsMore seat.old.hand seat.new.hand) }
     ensures wins { OnOk result (WinsMore seat.old.hand seat.new.hand) }
     ensures stays { Stays to.old to.new }
@@ -161,7 +222,8 @@ pub fn scan_piece<G: Gate>(
     let first = piece.mark;
     let count = piece.block.len();
     for _object in first..count {
-        scan_given(alloc, from, words, gate, copier, claims, seat, to, piece)?;
+        let points = scan_given(alloc, from, words, gate, copier, claims, seat, to, piece)?;
+        note_last(to, piece, points)?;
     }
     Ok(())
 }

@@ -5,6 +5,7 @@ ghost use Rattle.jm_blocks.specs.Objects.{Object};
 ghost use Rattle.jm_copy.specs.Copying.{Progress};
 ghost use Rattle.jm_copy.specs.Copies.{IsSource, Stays};
 ghost use Rattle.jm_copy.specs.Numbers.{object_count};
+ghost use Rattle.jm_par_copy.specs.Notes.{KeepsListed};
 ghost use Rattle.jm_par_copy.specs.Roots.{AreRootsOf};
 ghost use Rattle.jm_par_copy.specs.Strides.{Goes, OwnsEnds};
 ghost use Rattle.jm_par_copy.specs.Working.{IsWorking, KeepsWorking, KnowsMore, WinsMore};
@@ -38,6 +39,7 @@ pub fn forward_roots<G: Gate>(
     requires none { places.old.items ≡ [] }
     ensures roots { OnOk result (AreRootsOf from.entry.stores.now from.entry.roots.now seat.new.hand.known number words.now.copiers places.new.items) }
     ensures working { OnOk result (KeepsWorking from.entry.stores.now from.entry.roots.now seat.old.hand seat.new.hand to.old to.new) }
+    ensures listed { OnOk result (KeepsListed to.old to.new) }
     ensures knows { OnOk result (KnowsMore seat.old.hand seat.new.hand) }
     ensures wins { OnOk result (WinsMore seat.old.hand seat.new.hand) }
     ensures stays { Stays to.old to.new }

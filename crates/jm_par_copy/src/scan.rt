@@ -1,18 +1,22 @@
 // One round of a copier over its own objects.
 
-ghost use Rattle.std.specs.Prelude.{◌≡◌, ℕ, ◌+◌, ◌<◌, ◌^◌, List, Option, Some, IfOk, OnOk, IsTrue, length, true};
+ghost use Rattle.std.specs.Prelude.{◌≡◌, ◌≢◌, ℕ, ◌+◌, ◌<◌, ◌++◌, ◌∷◌, ◌||◌, [], List, Option, Some, IfOk, OnOk, IsTrue, if◌then◌else◌, slice_get, true};
+ghost use Rattle.jm_values.specs.declared.value.Value.TheVariants.{Ref};
+ghost use Rattle.jm_heap.specs.Packing.{Fits, kind_of};
 ghost use Rattle.jm_blocks.specs.Objects.{Object};
+ghost use Rattle.jm_blocks.specs.Places.{lane_of};
 ghost use Rattle.jm_copy.specs.Copying.{Progress};
 ghost use Rattle.jm_copy.specs.Copies.{HasMade, IsSource, Stays, made};
-ghost use Rattle.jm_copy.specs.Marks.{AllPassed, AreMarks, KeepsLength, at};
+ghost use Rattle.jm_copy.specs.Marks.{AllPassed, AreMarks, BecomesValue, OthersStay, at};
 ghost use Rattle.jm_copy.specs.Numbers.{object_count};
+ghost use Rattle.jm_copy.specs.Pointing.{IsListed, points_to};
 ghost use Rattle.jm_par_copy.specs.Strides.{Goes, OwnsEnds};
 ghost use Rattle.jm_par_copy.specs.Working.{ForwardsAll, ForwardsOne, IsScanning, IsWorking, KeepsScanning, KnowsMore, WinsMore};
 
 use crate::gate::Gate;
 use crate::owner::CopierBlocks;
 use crate::step::forward;
-use jm_copy::{Copies, Marks, Source, next, pass};
+use jm_copy::{Copies, Marks, Source, next, next_after, pass};
 use jm_forward::{Forwarding, Seat};
 use jm_values::{Place, Value};
 use std::alloc::{AllocError, Global};
@@ -20,8 +24,10 @@ use std::alloc::{AllocError, Global};
 /// How many objects of a block have a number.
 const OBJECTS: u64 = 256;
 
-// Forwards one value of an object of the copier's own, of which all values before it are forwarded.
-fn forward_value<G: Gate>(
+// Forwards a reference of an object of the copier's own, of which all values before it are forwarded, and answers
+// whether it names a young object afterwards.
+#[inline(always)]
+fn forward_named<G: Gate>(
     alloc: Global,
     from: Source<'_>,
     words: &Forwarding<CopierBlocks>,
@@ -32,14 +38,16 @@ fn forward_value<G: Gate>(
     to: &mut Copies,
     place: Place,
     number: usize,
-) -> Result<(), AllocError>
+    named: Place,
+) -> Result<bool, AllocError>
     requires source { IsSource from.stores.now from.numbers.now }
     requires words { (seat.old.table ≡ words.now.table) × (words.now.objects ≡ object_count from.stores.now) × (seat.old.hand.copiers ≡ words.now.copiers) }
     requires ends { OwnsEnds seat.old.hand.copier seat.old.hand.copiers to.old }
     requires working { (base : List (ℕ × ℕ)) × (held : List (ℕ × ℕ)) × (k : ℕ) × (rest : ℕ → Option Object) × (done : Progress) × IsWorking from.stores.now from.roots.now base held k rest seat.old.hand to.old (at done place number) }
-    requires there { (a : Object) × (made to.old place ≡ Some a) × (number < length a.values) }
+    requires there { (a : Object) × (made to.old place ≡ Some a) × (slice_get a.values number ≡ Some (Ref named)) × ((p : ℕ) → Fits (kind_of a.class) (Ref p)) }
     ensures working { OnOk result (ForwardsOne from.entry.stores.now from.entry.roots.now seat.old.hand seat.new.hand to.old to.new place number) }
-    ensures there { OnOk result (KeepsLength to.old to.new place) }
+    ensures names { IfOk result (λ b. (a : Object) → made to.old place ≡ Some a → BecomesValue to.old to.new place number a b) }
+    ensures others { OnOk result (OthersStay to.old to.new place) }
     ensures knows { OnOk result (KnowsMore seat.old.hand seat.new.hand) }
     ensures wins { OnOk result (WinsMore seat.old.hand seat.new.hand) }
     ensures stays { Stays to.old to.new }
@@ -48,20 +56,22 @@ fn forward_value<G: Gate>(
     ensures copier { seat.new.hand.copier ≡ seat.old.hand.copier }
     ensures copiers { seat.new.hand.copiers ≡ seat.old.hand.copiers }
 {
-    let value = to.value(place, number);
-    match value {
-        Value::Ref(named) => {
-            let copy = forward(alloc, from, words, gate, copier, claims, seat, to, named)?;
-            to.set(place, number, Value::Ref(copy));
-            Ok(())
-        }
-        Value::Int(_) => Ok(()),
-        Value::Long(_) => Ok(()),
-        Value::Null => Ok(()),
-    }
+    let copy = forward(alloc, from, words, gate, copier, claims, seat, to, named)?;
+    to.set(place, number, Value::Ref(copy));
+    Ok(to.is_young(copy))
 }
 
-// Forwards each value of one object of the copier's own; one in which nothing can be a reference is passed over.
+// Whether one of two facts holds.
+#[inline(always)]
+pub(crate) fn either(one: bool, other: bool) -> bool
+    ensures { result ≡ (one || other) }
+{
+    if one { true } else { other }
+}
+
+// Forwards each reference of one object of the copier's own, and answers whether one of them names a young object
+// afterwards.
+#[inline(always)]
 fn scan_object<G: Gate>(
     alloc: Global,
     from: Source<'_>,
@@ -72,13 +82,15 @@ fn scan_object<G: Gate>(
     seat: &mut Seat,
     to: &mut Copies,
     place: Place,
-) -> Result<(), AllocError>
+) -> Result<bool, AllocError>
     requires source { IsSource from.stores.now from.numbers.now }
     requires words { (seat.old.table ≡ words.now.table) × (words.now.objects ≡ object_count from.stores.now) × (seat.old.hand.copiers ≡ words.now.copiers) }
     requires ends { OwnsEnds seat.old.hand.copier seat.old.hand.copiers to.old }
     requires working { (base : List (ℕ × ℕ)) × (held : List (ℕ × ℕ)) × (k : ℕ) × (rest : ℕ → Option Object) × (done : Progress) × IsWorking from.stores.now from.roots.now base held k rest seat.old.hand to.old (at done place 0) }
     requires there { HasMade to.old place }
     ensures working { OnOk result (ForwardsAll from.entry.stores.now from.entry.roots.now seat.old.hand seat.new.hand to.old to.new place) }
+    ensures points { IfOk result (λ b. (a : Object) → made to.new place ≡ Some a → b ≡ points_to to.old.young.lane a.values) }
+    ensures others { OnOk result (OthersStay to.old to.new place) }
     ensures knows { OnOk result (KnowsMore seat.old.hand seat.new.hand) }
     ensures wins { OnOk result (WinsMore seat.old.hand seat.new.hand) }
     ensures stays { Stays to.old to.new }
@@ -87,14 +99,41 @@ fn scan_object<G: Gate>(
     ensures copier { seat.new.hand.copier ≡ seat.old.hand.copier }
     ensures copiers { seat.new.hand.copiers ≡ seat.old.hand.copiers }
 {
-    let Some(count) = to.to_forward(place) else {
-        return Ok(());
-    };
-    for number in 0..count {
-        forward_value(
-            alloc, from, words, gate, copier, claims, seat, to, place, number,
+    let mut points = false;
+    let mut next = to.named_first(place);
+    while let Some(named) = next {
+        let names = forward_named(
+            alloc,
+            from,
+            words,
+            gate,
+            copier,
+            claims,
+            seat,
+            to,
+            place,
+            named.number,
+            named.place,
         )?;
+        points = either(points, names);
+        next = to.named_after(place, named.number, named.end);
     }
+    Ok(points)
+}
+
+// Lists the place of an object that was scanned, if it is an old one and points to a young one.
+#[inline]
+fn note(to: &Copies, place: Place, points: bool, places: &mut Vec<Place>) -> Result<(), AllocError>
+    ensures young { OnOk result (lane_of place ≡ to.now.young.lane → places.new.items ≡ places.old.items) }
+    ensures old { OnOk result (lane_of place ≢ to.now.young.lane → places.new.items ≡ (if points then places.old.items ++ place ∷ [] else places.old.items)) }
+{
+    if !points {
+        return Ok(());
+    }
+    if to.is_young(place) {
+        return Ok(());
+    }
+    places.push(place)?;
     Ok(())
 }
 
@@ -108,7 +147,8 @@ fn count_block(blocks: usize, last: u64, block: u64) -> usize {
 }
 
 /// Scans the copier's own objects from two marks on, also those that the scan itself makes, until
-/// none is left or so many blocks were scanned: the marks after it, and whether nothing is left.
+/// none is left or so many blocks were scanned: the marks after it, and whether nothing is left. Of the old objects that
+/// it scans it lists the places of those that point to young ones.
 pub fn scan_own<G: Gate>(
     alloc: Global,
     from: Source<'_>,
@@ -119,6 +159,7 @@ pub fn scan_own<G: Gate>(
     seat: &mut Seat,
     to: &mut Copies,
     marks: Marks,
+    pointing: &mut Vec<Place>,
     limit: usize,
 ) -> Result<(Marks, bool), AllocError>
     requires source { IsSource from.stores.now from.numbers.now }
@@ -129,6 +170,7 @@ pub fn scan_own<G: Gate>(
     ensures scanning { IfOk result (λ r. KeepsScanning from.entry.stores.now from.entry.roots.now seat.old.hand seat.new.hand to.old to.new marks r.0) }
     ensures marks { IfOk result (λ r. AreMarks to.new r.0) }
     ensures end { IfOk result (λ r. IsTrue r.1 → AllPassed to.new r.0) }
+    ensures listed { IfOk result (λ r. IsListed to.old.young.lane to.old.tenured to.old.kept marks.tenured pointing.old.items → IsListed to.new.young.lane to.new.tenured to.new.kept r.0.tenured pointing.new.items) }
     ensures knows { OnOk result (KnowsMore seat.old.hand seat.new.hand) }
     ensures wins { OnOk result (WinsMore seat.old.hand seat.new.hand) }
     ensures stays { Stays to.old to.new }
@@ -140,15 +182,18 @@ pub fn scan_own<G: Gate>(
     let mut marks = marks;
     let mut last = 0u64;
     let mut blocks = 0usize;
-    while let Some(place) = next(to, &marks) {
+    let mut first = next(to, &marks);
+    while let Some(place) = first {
         let block = place.number() / OBJECTS;
         blocks = count_block(blocks, last, block);
         last = block;
         if blocks > limit {
             return Ok((marks, false));
         }
-        scan_object(alloc, from, words, gate, copier, claims, seat, to, place)?;
+        let points = scan_object(alloc, from, words, gate, copier, claims, seat, to, place)?;
+        note(to, place, points, pointing)?;
         marks = pass(to, &marks, place);
+        first = next_after(to, &marks, place);
     }
     Ok((marks, true))
 }

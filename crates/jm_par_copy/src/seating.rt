@@ -163,6 +163,7 @@ fn seat_one(alloc: Global, number: usize, seat: Seat, to: Copies) -> Copier
             young: None,
             tenured: kept,
         },
+        pointing: Vec::new(alloc),
         given: Vec::new(alloc),
         roots: Vec::new(alloc),
         rooted: false,

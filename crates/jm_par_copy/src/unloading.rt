@@ -1,7 +1,6 @@
 // What all copiers hold is put into one store of the young and one of the old.
 
 ghost use Rattle.std.specs.Prelude.{◌≡◌, ◌≢◌, ◌⊎◌, ℕ, ◌<◌, IfOk, OnOk};
-ghost use Rattle.jm_blocks.specs.Objects.{Object};
 ghost use Rattle.jm_par_copy.specs.Ending.{AllLoads, AreLoads, IsBeside, IsLoad, IsLoaded, seats_in, stock, stocks, stored};
 ghost use Rattle.jm_par_copy.specs.Holding.{held_objects};
 ghost use Rattle.jm_par_copy.specs.Pieces.{IsPiece, objects_of};

@@ -1,4 +1,4 @@
-use Rattle.std.proofs.Common.{◌≡◌, true, false, subst, sym}
+use Rattle.std.proofs.Common.{◌≡◌, ◌∙◌, true, false, subst, sym}
 use Rattle.jm_copy.proofs.Marking.{marks_stay}
 use Rattle.jm_par_copy.specs.Holding.{held_objects, held_progress}
 use Rattle.jm_par_copy.specs.Working.{IsWorking, scan_progress}
@@ -25,4 +25,5 @@ returns-clause-kept g c =
       ended = λ t. let two : false ≡ true = t in cc;
       knows = e.knows;
       wins = e.wins;
+      noting = λ n. record { young = f.stays.young_lane ∙ n.young; own = e.listed 1 m.tenured c.args.copier.now.pointing.items n.own; given = n.given };
     }

@@ -4,6 +4,7 @@ use Rattle.jm_copy.proofs.Making.{stays_more}
 use Rattle.jm_par_copy.specs.Holding.{held_objects, held_progress}
 use Rattle.jm_par_copy.proofs.Strides.{goes_on}
 use Rattle.jm_par_copy.proofs.Beside.{given_still}
+use Rattle.jm_par_copy.proofs.Noting.{scan_noting}
 use Rattle.jm_par_copy.proofs.Working.{wins_more}
 use Rattle.jm_par_copy.proofs.copier.scan_blocks.Goals as goal
 
@@ -39,5 +40,6 @@ returns-in-Ok-made g c =
         );
         knows = λ i n h. f.knows i n (e.knows i n h);
         wins = wins_more c.args.copier.now.seat.hand c.scan_all_given.new.seat.hand c.scan_own-made.new.seat.hand e.wins f.wins;
+        noting = λ n. scan_noting c.args.copier.now _ c.scan_all_given.new.to c.scan_all_given.ensures.stays.young_lane c.scan_own-made.ensures.stays.young_lane e.listed f.listed e.noted n;
       };
     }

@@ -1,10 +1,10 @@
-use Rattle.std.proofs.Common.{◌≡◌, List, ◌∙◌, None, sym, ap, subst}
+use Rattle.std.proofs.Common.{◌≡◌, List, ◌∙◌, sym, ap, subst}
 use Rattle.jm_forward.specs.Hands.{all_known, all_wins}
 use Rattle.jm_copy.specs.Condemned.{objects_at}
 use Rattle.jm_copy.specs.Copying.{AreForwarded}
-use Rattle.jm_copy.specs.Pointing.{ListsAbove}
 use Rattle.jm_par_copy.specs.Copiers.{all_pieces, hands}
-use Rattle.jm_par_copy.specs.Ending.{AllLoads, IsCollectedBy, IsPutTogether, new_of}
+use Rattle.jm_par_copy.specs.Ending.{AllLoads, IsCollectedBy, IsPutTogether}
+use Rattle.jm_par_copy.specs.Notes.{all_listed}
 use Rattle.jm_par_copy.specs.Working.{Pairs}
 use Rattle.jm_par_copy.specs.declared.copier.Copier.{Copier}
 use Rattle.jm_par_copy.proofs.Collecting.{end_is_collected, held_is_loads, promoted_over}
@@ -39,11 +39,9 @@ returns-clause-ok c agree =
       old = c.in_ok-move_all.ensures.ok;
     } in
     let forwarded = subst (λ (cs : List Copier). AreForwarded (objects_at c.args.from.stores.now) (Pairs c.args.from.stores.now (all_known (hands cs))) c.args.from.roots.now c.in_ok-roots.roots.items) c.as_slice.ensures.value c.in_ok-roots.ensures.forwarded in
-    let pointing = c.in_ok-pointing.pointing.items in
-    let collected = end_is_collected c.args.from.stores.now c.args.from.roots.now c.in_ok-roots.roots.items c.args.words.now c.args.copiers.now.items c.args.aside.items c.args.tenured.now c.in_ok-young.young c.in_ok-young.promoted c.move_all.new.to pointing
+    let pointing : c.in_ok-remembered.remembered.items ≡ all_listed c.args.copiers.now.items c.args.aside.items = c.in_ok-remembered.ensures ∙ ap (λ (cs : List Copier). all_listed cs c.as_slice-3.result.now) c.as_slice-2.ensures.value ∙ ap (λ xs. all_listed c.args.copiers.now.items xs) c.as_slice-3.ensures.value in
+    let collected = end_is_collected c.args.from.stores.now c.args.from.roots.now c.in_ok-roots.roots.items c.args.words.now c.args.copiers.now.items c.args.aside.items c.args.tenured.now c.in_ok-young.young c.in_ok-young.promoted c.move_all.new.to
     c.requires.copying c.requires.ended agree
     (numbered_are_all c.args.words.now c.args.copiers.now.items c.requires.numbered c.requires.many.0 c.requires.many.1)
-    c.in_ok-roots.ensures.many forwarded other c.requires.placed put
-    (subst (λ l. ListsAbove l c.in_ok-young.promoted None pointing) (sym together.young_lane) c.in_ok-pointing.ensures) in
-    let news : c.in_ok-remembered.remembered.items ≡ new_of c.args.tenured.now pointing = c.in_ok-remembered.ensures ∙ ap (new_of c.args.tenured.now) c.as_slice-2.ensures.value in
-    subst (λ ps. IsCollectedBy c.args.from.stores.now c.args.tenured.now c.args.from.roots.now (all_wins (hands c.args.copiers.now.items)) c.in_ok-young.young c.move_all.new.to ps c.in_ok-roots.roots.items) (sym news) collected
+    c.in_ok-roots.ensures.many forwarded other c.requires.placed put in
+    subst (λ ps. IsCollectedBy c.args.from.stores.now c.args.tenured.now c.args.from.roots.now (all_wins (hands c.args.copiers.now.items)) c.in_ok-young.young c.move_all.new.to ps c.in_ok-roots.roots.items) (sym pointing) collected

@@ -6,6 +6,7 @@ use Rattle.jm_par_copy.specs.Holding.{held_objects, held_progress}
 use Rattle.jm_par_copy.specs.Working.{scan_progress}
 use Rattle.jm_par_copy.proofs.Pieces.{piece_stays}
 use Rattle.jm_par_copy.proofs.Beside.{without, held_first, held_scanned, given_stay, same_set}
+use Rattle.jm_par_copy.proofs.Pointers.{noted_set}
 use Rattle.jm_par_copy.proofs.holding.scan_one.Goals as goal
 
 pub scan_piece-requires-clause-piece : goal.scan_piece-requires-clause-piece
@@ -47,3 +48,8 @@ returns-clause-others g c i h = got_unwritten c.args.given.now.items c.args.numb
 
 pub returns-in_err-scan_piece-clause-others : goal.returns-in_err-scan_piece-clause-others
 returns-in_err-scan_piece-clause-others g c i h = got_unwritten c.args.given.now.items c.args.number i c.scan_piece.new.piece h
+
+pub returns-clause-noted : goal.returns-clause-noted
+returns-clause-noted g c young all =
+    let at = slice_get_read c.args.given.now.items (length c.args.given.now.items) c.args.number c.index_mut.result.now refl c.requires.there c.index_mut.ensures.value in
+    noted_set c.args.given.now.items c.args.number c.index_mut.result.now c.scan_piece.new.piece at (c.in_ok-scan_piece.ensures.noted young) all

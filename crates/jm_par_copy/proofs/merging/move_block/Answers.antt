@@ -19,7 +19,7 @@ returns-clause-moved c =
     let same : c.block.result.now ≡ c.take-block.result = cc in
     let many = ap length same in
     let some : 0 < length c.take-block.result = omega (arith, many, count, none) in
-    moved_block c.args.from.now c.args.to.now c.take-first.new.self c.take-block.new.self c.put.new.self c.args.number c.take-block.result c.requires.lane c.take-block.ensures.lane c.requires.over c.take-block.ensures.block some c.requires.opened c.take-block.ensures.left c.take-first.ensures.left c.put.ensures
+    moved_block c.args.alloc c.args.from.now c.args.to.now c.take-first.new.self c.take-block.new.self c.put.new.self c.args.number c.take-block.result c.requires.lane c.take-block.ensures.lane c.requires.over c.take-block.ensures.block some c.requires.opened c.take-block.ensures.left c.take-first.ensures.left c.put.ensures
 
 pub returns-clause-left : goal.returns-clause-left
 returns-clause-left c = subst (λ s. IsLeft c.args.from.now s c.args.number) (sym c.take-block.ensures.left) (left_one c.args.from.now c.args.number c.take-block.result c.take-block.ensures.block)

@@ -1,136 +1,182 @@
-use Rattle.std.proofs.Common.{◌≡◌, ◌+◌, ◌∙◌, ap, arith, refl, sym, subst, length, Some}
+use Rattle.std.proofs.Common.{◌≡◌, ◌+◌, ◌∙◌, ℕ, ap, arith, false, refl, sym, subst, length, Some}
 use Rattle.std.specs.Prelude.{slice_get}
+use Rattle.std.proofs.Math.Seq.{take-length}
+use Rattle.jm_heap.specs.Packing.{kind_of}
+use Rattle.jm_blocks.specs.Objects.{Object, with_value}
 use Rattle.jm_copy.specs.Marks.{at}
+use Rattle.jm_copy.specs.Pointing.{names_lane, points_to}
 use Rattle.jm_copy.proofs.Making.{stays_refl, stays_more}
-use Rattle.jm_par_copy.specs.Pieces.{IsGiven, objects_of, place_in, progress_of}
-use Rattle.jm_par_copy.specs.Working.{both}
-use Rattle.jm_par_copy.proofs.Plain.{plain_given}
-use Rattle.jm_par_copy.proofs.Sharing.{both_left}
+use Rattle.jm_copy.proofs.Scanning.{ended_set, rest, rest_less}
+use Rattle.jm_par_copy.specs.Pieces.{ForwardsGiven, IsGiven, place_in, progress_of}
 use Rattle.jm_par_copy.specs.declared.piece.Piece.{Piece}
-use Rattle.jm_par_copy.proofs.Pieces.{marked, object_here, given_starts, given_passed, piece_is, piece_stays, place_same, mark_few, same_more}
-use Rattle.jm_par_copy.proofs.Strides.{goes_on, goes_refl}
+use Rattle.jm_par_copy.proofs.Pieces.{given_here, marked, given_starts, given_passed, piece_is, piece_stays, place_same, mark_few, same_more}
+use Rattle.jm_par_copy.proofs.Skipped.{Reaches, at_end, at_reference, reaches, reaches_more, skipped_given}
+use Rattle.jm_par_copy.proofs.Strides.{ends_on, goes_on, goes_refl}
 use Rattle.jm_par_copy.proofs.Working.{wins_stay, wins_more}
 use Rattle.jm_par_copy.proofs.piece.scan_given.Goals as goal
 use Rattle.jm_values.proofs.Lists.{get_there}
 
-pub loop-number-init : goal.loop-number-init
-loop-number-init g c =
+pub loop-next-init : goal.loop-next-init
+loop-next-init g c =
+    let stores = c.args.from.stores.now in
+    let roots = c.args.from.roots.now in
     let x = c.args.piece.now in
+    let h = c.args.seat.now.hand in
+    let to = c.args.to.now in
+    let s = place_in x x.mark in
     let a = get_there x.block x.mark c.requires.there in
+    let forwards : ℕ → Type 0 = ForwardsGiven stores roots h h to to x x s 0 in
     record {
-      working = λ base held k rest done w. w;
-      there = (a.0, a.1, c.in-Some.ensures a.0 a.1);
+      there = (a.0, a.1, reaches forwards to.young.lane false a.0 (skipped_given stores roots h h to to x x s a.0 (given_here x x x.mark a.0 c.requires.piece (record { lane = refl; number = refl; many = refl }) (mark_few x c.requires.piece c.requires.there) a.1)) 0 c.named_first-next.result (omega arith) (record { to = λ base held k rest done w. w; points_is = refl }) (c.named_first-next.ensures a.0 a.1));
       piece = c.requires.piece;
       same = record { lane = refl; number = refl; many = refl };
       mark = refl;
       index = refl;
       within = c.requires.there;
-      knows = λ i n h. h;
-      wins = wins_stay c.args.seat.now.hand;
-      stays = stays_refl c.args.to.now;
+      others = λ j other. refl;
+      pointing = refl;
+      listed = λ lane mark places l. l;
+      knows = λ i n k. k;
+      wins = wins_stay h;
+      stays = stays_refl to;
       table = refl;
       copier = refl;
       copiers = refl;
-      goes = goes_refl c.args.seat.now.hand.copier c.args.seat.now.hand.copiers c.args.to.now;
+      goes = goes_refl h.copier h.copiers to;
     }
+
+pub forward_given-requires-clause-words : goal.forward_given-requires-clause-words
+forward_given-requires-clause-words g c = (c.loop-next.invariant.table ∙ c.requires.words.0, c.requires.words.1, c.loop-next.invariant.copiers ∙ c.requires.words.2)
+
+pub forward_given-requires-clause-ends : goal.forward_given-requires-clause-ends
+forward_given-requires-clause-ends g c = ends_on c.args.seat.now.hand.copier c.args.seat.now.hand.copiers c.loop-next.seat.hand.copier c.loop-next.seat.hand.copiers c.args.to.now c.loop-next.to c.loop-next.invariant.copier c.loop-next.invariant.copiers c.loop-next.invariant.goes c.requires.ends
+
+pub forward_given-requires-clause-there : goal.forward_given-requires-clause-there
+forward_given-requires-clause-there g c =
+    let there = c.loop-next.invariant.there in
+    let reached = at_reference _ _ _ _ _ _ c.in-Some.is there.2 in
+    (there.0, there.1, reached.1.here, reached.1.ended.fits)
 
 pub forward_given-requires-clause-working : goal.forward_given-requires-clause-working
 forward_given-requires-clause-working g c =
     let w = c.requires.working in
     let x = c.args.piece.now in
-    let y = c.loop-number.piece in
+    let y = c.loop-next.piece in
+    let i = c.loop-next.invariant in
     let a = get_there x.block x.mark c.requires.there in
     let stores = c.args.from.stores.now in
     let roots = c.args.from.roots.now in
     let next = progress_of (marked x x.block (x.mark + 1)) w.4 in
     let starts = given_starts stores roots w.0 w.1 w.2 w.3 c.args.seat.now.hand c.args.to.now w.4 x a.0 c.requires.piece.lane (mark_few x c.requires.piece c.requires.there) x.block a.1 w.5 in
-    let now = c.loop-number.invariant.working w.0 w.1 w.2 w.3 next starts in
-    (w.0, w.1, w.2, w.3, next, subst (λ s. IsGiven stores roots w.0 w.1 w.2 w.3 (at next s c.loop-number.number) c.loop-number.seat.hand c.loop-number.to y) (place_same x y x.mark c.loop-number.invariant.same) now)
+    let reached = at_reference _ _ _ _ _ _ c.in-Some.is i.there.2 in
+    let now = reached.0.to w.0 w.1 w.2 w.3 next starts in
+    let where_ = place_same x y x.mark i.same ∙ ap (place_in y) (sym i.index) in
+    (w.0, w.1, w.2, w.3, next, subst (λ s. IsGiven stores roots w.0 w.1 w.2 w.3 (at next s c.in-Some.named.number) c.loop-next.seat.hand c.loop-next.to y) where_ now)
+
+pub named_after-next-requires : goal.named_after-next-requires
+named_after-next-requires g c =
+    let there = c.loop-next.invariant.there in
+    let reached = at_reference _ _ _ _ _ _ c.in-Some.is there.2 in
+    let next = c.in_ok-names.ensures.names there.0 there.1 in
+    (with_value there.0 c.in-Some.named.number next.0, next.1, ended_set there.0.values (kind_of there.0.class) c.in-Some.named.number c.in-Some.named.end next.0 reached.1.ended)
+
+pub loop-next-preserved : goal.loop-next-preserved
+loop-next-preserved g c =
+    let stores = c.args.from.stores.now in
+    let roots = c.args.from.roots.now in
+    let h = c.args.seat.now.hand in
+    let h' = c.forward_given.new.seat.hand in
+    let x = c.args.piece.now in
+    let y = c.loop-next.piece in
+    let z = c.forward_given.new.piece in
+    let s = place_in x x.mark in
+    let start = c.args.to.now in
+    let now = c.forward_given.new.to in
+    let i = c.loop-next.invariant in
+    let e = c.in_ok-names.ensures in
+    let f = c.forward_given.ensures in
+    let named = c.in-Some.named in
+    let there = i.there in
+    let mark = i.piece.mark in
+    let forwards : ℕ → Type 0 = ForwardsGiven stores roots h c.loop-next.seat.hand start c.loop-next.to x y s 0 in
+    let after : ℕ → Type 0 = ForwardsGiven stores roots h h' start now x z s 0 in
+    let reached = at_reference forwards start.young.lane c.loop-next.points there.0 c.loop-next.next named c.in-Some.is there.2 in
+    let next = e.names there.0 there.1 in
+    let names = next.2 ∙ ap (λ l. names_lane l next.0) i.stays.young_lane in
+    let object = with_value there.0 named.number next.0 in
+    let same = same_more x y z i.same e.same in
+    let where_ = place_same x y x.mark i.same ∙ ap (place_in y) (sym i.index) in
+    let here : slice_get z.block x.mark ≡ Some object = ap (slice_get z.block) (sym i.index) ∙ next.1 in
+    let on = reaches_more forwards after start.young.lane c.loop-next.points c.in_ok-names.names there.0 next.0 named c.named_after-next.result
+    (skipped_given stores roots h h' start now x z s object (given_here x z x.mark object c.requires.piece same (mark_few x c.requires.piece c.requires.there) here)) reached
+    (λ to base held k rest done w.
+    let was = subst (λ q. IsGiven stores roots base held k rest (at done q named.number) c.loop-next.seat.hand c.loop-next.to y) where_ (to base held k rest done w) in
+    subst (λ q. IsGiven stores roots base held k rest (at done q (named.number + 1)) h' now z) (sym where_) (e.working base held k rest done was))
+    names (c.named_after-next.ensures.names object next.1) in
+    record {
+      there = (object, next.1, subst (λ b. Reaches after start.young.lane b object c.named_after-next.result) (sym c.either-points.ensures) on);
+      piece = piece_stays y z i.piece e.same (omega (arith, mark, f.mark, e.same.many));
+      same = same;
+      mark = f.mark ∙ i.mark;
+      index = i.index;
+      within = i.within;
+      others = λ j other. e.others j (λ k. other (k ∙ i.index)) ∙ i.others j other;
+      pointing = f.pointing ∙ i.pointing;
+      listed = λ lane m places l. e.listed lane m places (i.listed lane m places l);
+      knows = λ j n k. e.knows j n (i.knows j n k);
+      wins = wins_more h c.loop-next.seat.hand h' i.wins e.wins;
+      stays = stays_more start c.loop-next.to now i.stays f.stays;
+      table = f.table ∙ i.table;
+      copier = f.copier ∙ i.copier;
+      copiers = f.copiers ∙ i.copiers;
+      goes = goes_on h.copier h.copiers c.loop-next.seat.hand.copier c.loop-next.seat.hand.copiers start c.loop-next.to now i.copier i.copiers i.stays i.goes f.goes;
+    }
+
+pub loop-next-smaller : goal.loop-next-smaller
+loop-next-smaller g c =
+    let there = c.loop-next.invariant.there in
+    let reached = at_reference _ _ _ _ _ _ c.in-Some.is there.2 in
+    let next = c.in_ok-names.ensures.names there.0 there.1 in
+    let less = rest_less there.0 c.in-Some.named next.0 c.named_after-next.result reached.1 (c.named_after-next.ensures.names (with_value there.0 c.in-Some.named.number next.0) next.1) c.named_after-next.ensures.end in
+    let was = ap rest c.in-Some.is in
+    omega (arith, less, was)
+
+pub returns-in_err-names-clause-stays : goal.returns-in_err-names-clause-stays
+returns-in_err-names-clause-stays g c = stays_more c.args.to.now c.loop-next.to c.forward_given.new.to c.loop-next.invariant.stays c.forward_given.ensures.stays
+
+pub returns-in_err-names-clause-goes : goal.returns-in_err-names-clause-goes
+returns-in_err-names-clause-goes g c = goes_on c.args.seat.now.hand.copier c.args.seat.now.hand.copiers c.loop-next.seat.hand.copier c.loop-next.seat.hand.copiers c.args.to.now c.loop-next.to c.forward_given.new.to c.loop-next.invariant.copier c.loop-next.invariant.copiers c.loop-next.invariant.stays c.loop-next.invariant.goes c.forward_given.ensures.goes
 
 pub returns-clause-working : goal.returns-clause-working
 returns-clause-working g c base held k rest done f =
     let x = c.args.piece.now in
-    let y = c.loop-number.piece in
+    let y = c.loop-next.piece in
     let os = y.block in
+    let i = c.loop-next.invariant in
     let a = get_there x.block x.mark c.requires.there in
-    let b = c.loop-number.invariant.there in
+    let b = i.there in
     let stores = c.args.from.stores.now in
     let roots = c.args.from.roots.now in
-    let h = c.loop-number.seat.hand in
-    let to = c.loop-number.to in
+    let h = c.loop-next.seat.hand in
+    let to = c.loop-next.to in
     let lane = c.requires.piece.lane in
     let few = mark_few x c.requires.piece c.requires.there in
     let next = progress_of (marked x os (x.mark + 1)) done in
     let s = place_in x x.mark in
     let starts = given_starts stores roots base held k rest c.args.seat.now.hand c.args.to.now done x a.0 lane few os a.1 f in
-    let now = c.loop-number.invariant.working base held k rest next starts in
-    let all : c.loop-number.number ≡ length b.0.values = omega (arith, b.2, c.loop-number-test.false, c.loop-number.auto.number-end) in
-    let whole = subst (λ j. IsGiven stores roots base held k rest (at next s j) h to y) all now in
-    let piece = subst (λ z. IsGiven stores roots base held k rest (at next s (length b.0.values)) h to z) (sym (piece_is x y x.mark c.loop-number.invariant.same c.loop-number.invariant.mark)) whole in
-    let there : slice_get os x.mark ≡ Some b.0 = ap (slice_get os) (sym c.loop-number.invariant.index) ∙ b.1 in
+    let at_last = at_end _ _ _ _ _ c.in_default.is b.2 in
+    let whole = at_last.to base held k rest next starts in
+    let piece = subst (λ z. IsGiven stores roots base held k rest (at next s (length b.0.values)) h to z) (sym (piece_is x y x.mark i.same i.mark i.pointing)) whole in
+    let there : slice_get os x.mark ≡ Some b.0 = ap (slice_get os) (sym i.index) ∙ b.1 in
     let passed = given_passed stores roots base held k rest h to done x b.0 lane few os there piece in
-    let z : Piece = record { lane = y.lane; number = y.number; block = os; mark = x.mark + 1 } in
-    let is : marked x os (x.mark + 1) ≡ z = piece_is x z (x.mark + 1) (record { lane = c.loop-number.invariant.same.lane; number = c.loop-number.invariant.same.number; many = c.loop-number.invariant.same.many }) refl in
+    let z : Piece = record { lane = y.lane; number = y.number; block = os; mark = x.mark + 1; pointing = y.pointing } in
+    let is : marked x os (x.mark + 1) ≡ z = piece_is x z (x.mark + 1) (record { lane = i.same.lane; number = i.same.number; many = i.same.many }) refl i.pointing in
     subst (λ p. IsGiven stores roots base held k rest (progress_of p done) h to p) is passed
 
-pub returns-in_err-forward_given-clause-goes : goal.returns-in_err-forward_given-clause-goes
-returns-in_err-forward_given-clause-goes g c = goes_on c.args.seat.now.hand.copier c.args.seat.now.hand.copiers c.loop-number.seat.hand.copier c.loop-number.seat.hand.copiers c.args.to.now c.loop-number.to c.forward_given.new.to c.loop-number.invariant.copier c.loop-number.invariant.copiers c.loop-number.invariant.stays c.loop-number.invariant.goes c.forward_given.ensures.goes
-
-pub loop-number-preserved : goal.loop-number-preserved
-loop-number-preserved g c =
-    let i = c.loop-number.invariant in
-    let e = c.in_ok-forward_given.ensures in
-    let next = e.there i.there.0 i.there.1 in
-    let mark = i.piece.mark in
-    let where_ = place_same c.args.piece.now c.loop-number.piece c.args.piece.now.mark i.same ∙ ap (place_in c.loop-number.piece) (sym i.index) in
-    record {
-      working = λ base held k rest done w.
-          let now = i.working base held k rest done w in
-          let here = subst (λ s. IsGiven c.args.from.stores.now c.args.from.roots.now base held k rest (at done s c.loop-number.number) c.loop-number.seat.hand c.loop-number.to c.loop-number.piece) where_ now in
-          subst (λ s. IsGiven c.args.from.stores.now c.args.from.roots.now base held k rest (at done s (c.loop-number.number + 1)) c.forward_given.new.seat.hand c.forward_given.new.to c.forward_given.new.piece) (sym where_) (e.working base held k rest done here);
-      there = (next.0, next.1, next.2 ∙ i.there.2);
-      piece = piece_stays c.loop-number.piece c.forward_given.new.piece i.piece e.same (omega (arith, mark, c.forward_given.ensures.mark, e.same.many));
-      same = same_more c.args.piece.now c.loop-number.piece c.forward_given.new.piece i.same e.same;
-      mark = c.forward_given.ensures.mark ∙ i.mark;
-      index = i.index;
-      within = i.within;
-      knows = λ j n h. e.knows j n (i.knows j n h);
-      wins = wins_more c.args.seat.now.hand c.loop-number.seat.hand c.forward_given.new.seat.hand i.wins e.wins;
-      stays = stays_more c.args.to.now c.loop-number.to c.forward_given.new.to i.stays c.forward_given.ensures.stays;
-      table = c.forward_given.ensures.table ∙ i.table;
-      copier = c.forward_given.ensures.copier ∙ i.copier;
-      copiers = c.forward_given.ensures.copiers ∙ i.copiers;
-      goes = goes_on c.args.seat.now.hand.copier c.args.seat.now.hand.copiers c.loop-number.seat.hand.copier c.loop-number.seat.hand.copiers c.args.to.now c.loop-number.to c.forward_given.new.to c.loop-number.invariant.copier c.loop-number.invariant.copiers c.loop-number.invariant.stays c.loop-number.invariant.goes c.forward_given.ensures.goes;
-    }
-
--- nothing in it is a reference
-pub returns-in_default-clause-working : goal.returns-in_default-clause-working
-returns-in_default-clause-working g c base held k rest done f =
-    let x = c.args.piece.now in
-    let os = x.block in
-    let a = get_there os x.mark c.requires.there in
-    let stores = c.args.from.stores.now in
-    let roots = c.args.from.roots.now in
-    let h = c.args.seat.now.hand in
-    let to = c.args.to.now in
-    let lane = c.requires.piece.lane in
-    let few = mark_few x c.requires.piece c.requires.there in
-    let next = progress_of (marked x os (x.mark + 1)) done in
-    let s = place_in x x.mark in
-    let starts = given_starts stores roots base held k rest h to done x a.0 lane few os a.1 f in
-    let here : both (objects_of x) rest s ≡ Some a.0 = both_left (objects_of x) rest s a.0 (object_here x x.mark lane few ∙ a.1) in
-    let plain = c.in_default.ensures a.0 a.1 in
-    let whole = plain_given stores roots base held k (both (objects_of x) rest) h to next s a.0 here plain (length a.0.values) (omega arith) starts in
-    given_passed stores roots base held k rest h to done x a.0 lane few os a.1 whole
-
-pub returns-in_default-clause-same : goal.returns-in_default-clause-same
-returns-in_default-clause-same g c = record { lane = refl; number = refl; many = refl }
-
-pub returns-in_default-clause-wins : goal.returns-in_default-clause-wins
-returns-in_default-clause-wins g c = wins_stay c.args.seat.now.hand
-
-pub returns-in_default-clause-stays : goal.returns-in_default-clause-stays
-returns-in_default-clause-stays g c = stays_refl c.args.to.now
-
-pub returns-in_default-clause-goes : goal.returns-in_default-clause-goes
-returns-in_default-clause-goes g c = goes_refl c.args.seat.now.hand.copier c.args.seat.now.hand.copiers c.args.to.now
+pub returns-clause-points : goal.returns-clause-points
+returns-clause-points g c a e =
+    let there = c.loop-next.invariant.there in
+    let at_last = at_end _ _ _ _ _ c.in_default.is there.2 in
+    let both : Some there.0 ≡ Some a = sym there.1 ∙ ap (slice_get c.loop-next.piece.block) c.loop-next.invariant.index ∙ e in
+    let same : there.0 ≡ a = cc in
+    at_last.points_is ∙ ap (points_to c.args.to.now.young.lane) (take-length there.0.values) ∙ ap (λ (x : Object). points_to c.args.to.now.young.lane x.values) same

@@ -5,6 +5,7 @@ use Rattle.jm_copy.proofs.Making.{stays_refl, stays_more}
 use Rattle.jm_copy.proofs.Steps.{root_reached}
 use Rattle.jm_copy.specs.Condemned.{objects_at}
 use Rattle.jm_par_copy.proofs.ByPosition.{AreFirst, first_grow, first_more, next_position}
+use Rattle.jm_par_copy.proofs.Staying.{all_stay, keeps_listed}
 use Rattle.jm_par_copy.proofs.Strides.{ends_on, goes_on, goes_refl}
 use Rattle.jm_par_copy.proofs.Working.{wins_stay, wins_more}
 use Rattle.jm_par_copy.proofs.rooting.forward_roots.Goals as goal
@@ -14,6 +15,7 @@ loop-position-init g c = record {
   roots = λ j p q a b. let none : slice_get c.args.places.now.items j ≡ Some q = b in let two : slice_get [] j ≡ Some q = ap (λ xs. slice_get xs j) (sym c.requires.none) ∙ none in cc;
   position = let none : length c.args.places.now.items ≡ 0 = ap length c.requires.none in let zero = ap (λ k. c.copiers-copiers.result * k) none in omega (arith, zero);
   working = λ base held k rest done h. h;
+  listed = λ lane mark places l. l;
   knows = λ i n h. h;
   wins = wins_stay c.args.seat.now.hand;
   stays = stays_refl c.args.to.now;
@@ -59,10 +61,14 @@ loop-position-preserved g c =
     let next = next_position c.args.number n places place in
     let many = ap (λ qs. c.args.number + n * length qs) items in
     let was = i.position in
+    let w = c.requires.working in
+    let now = i.working w.0 w.1 w.2 w.3 w.4 w.5 in
+    let still = all_stay c.loop-position.seat.hand.copier c.loop-position.seat.hand.copiers c.loop-position.to c.forward.new.to now.apart c.forward.ensures.stays c.forward.ensures.goes e.keeps in
     record {
       roots = subst (λ qs. AreFirst stores roots known c.args.number n qs) (sym items) (first_more stores roots known c.args.number n places c.index-roots-position.result place at (e.forwarded []) grown);
       position = ap (λ k. k + n) was ∙ sym next ∙ sym many;
       working = λ base held k rest done w. e.working base held k rest done (i.working base held k rest done w);
+      listed = λ lane mark listed l. keeps_listed c.loop-position.to c.forward.new.to c.forward.ensures.stays still lane mark listed (i.listed lane mark listed l);
       knows = λ j m h. e.knows j m (i.knows j m h);
       wins = wins_more c.args.seat.now.hand c.loop-position.seat.hand c.forward.new.seat.hand i.wins e.wins;
       stays = stays_more c.args.to.now c.loop-position.to c.forward.new.to i.stays c.forward.ensures.stays;

@@ -1,5 +1,6 @@
 use Rattle.std.proofs.Common.{◌≡◌, ◌+◌, ◌*◌, ◌-◌, length}
 use Rattle.jm_copy.specs.Copies.{Stays}
+use Rattle.jm_par_copy.specs.Notes.{KeepsListed}
 use Rattle.jm_par_copy.specs.Strides.{Goes}
 use Rattle.jm_par_copy.specs.Working.{KeepsWorking, KnowsMore, WinsMore}
 use Rattle.jm_par_copy.proofs.ByPosition.{AreFirst}
@@ -10,6 +11,7 @@ invariant-loop-position g l = record {
   roots : AreFirst l.from.stores.now l.from.roots.now l.seat.hand.known l.number l.copiers l.places.items;
   position : l.position ≡ l.number + l.copiers * length l.places.items;
   working : KeepsWorking l.from.stores.now l.from.roots.now l.fn.seat.hand l.seat.hand l.fn.to l.to;
+  listed : KeepsListed l.fn.to l.to;
   knows : KnowsMore l.fn.seat.hand l.seat.hand;
   wins : WinsMore l.fn.seat.hand l.seat.hand;
   stays : Stays l.fn.to l.to;

@@ -1,76 +1,116 @@
-use Rattle.std.proofs.Common.{◌≡◌, ◌∙◌, arith, refl, subst, length}
-use Rattle.jm_copy.proofs.Making.{stays_refl, stays_more}
+use Rattle.std.proofs.Common.{◌≡◌, ℕ, Some, false, arith, ap, refl, sym, subst, ◌∙◌}
+use Rattle.std.proofs.Math.Seq.{take-length}
+use Rattle.jm_heap.specs.Packing.{kind_of}
+use Rattle.jm_blocks.specs.Objects.{Object, with_value}
+use Rattle.jm_copy.specs.Pointing.{names_lane, points_to}
+use Rattle.jm_copy.proofs.Making.{others_more, stays_refl, stays_more}
+use Rattle.jm_copy.proofs.Scanning.{ended_set, rest, rest_less}
 use Rattle.jm_par_copy.specs.Working.{ForwardsTo}
-use Rattle.jm_par_copy.proofs.Plain.{plain_working}
+use Rattle.jm_par_copy.proofs.Skipped.{Reaches, at_end, at_reference, reaches, reaches_more, skipped_own}
 use Rattle.jm_par_copy.proofs.Strides.{ends_on, goes_on, goes_refl}
 use Rattle.jm_par_copy.proofs.Working.{wins_stay, wins_more}
 use Rattle.jm_par_copy.proofs.scan.scan_object.Goals as goal
 
-pub loop-number-init : goal.loop-number-init
-loop-number-init g c = record {
-  working = λ base held k rest done h. h;
-  there = (c.requires.there.0, c.requires.there.1, c.in-Some.ensures c.requires.there.0 c.requires.there.1);
-  knows = λ i n h. h;
-  wins = wins_stay c.args.seat.now.hand;
-  stays = stays_refl c.args.to.now;
-  table = refl;
-  copier = refl;
-  copiers = refl;
-  goes = goes_refl c.args.seat.now.hand.copier c.args.seat.now.hand.copiers c.args.to.now;
-}
-
-pub forward_value-requires-clause-words : goal.forward_value-requires-clause-words
-forward_value-requires-clause-words g c = (c.loop-number.invariant.table ∙ c.requires.words.0, c.requires.words.1, c.loop-number.invariant.copiers ∙ c.requires.words.2)
-
-pub forward_value-requires-clause-ends : goal.forward_value-requires-clause-ends
-forward_value-requires-clause-ends g c = ends_on c.args.seat.now.hand.copier c.args.seat.now.hand.copiers c.loop-number.seat.hand.copier c.loop-number.seat.hand.copiers c.args.to.now c.loop-number.to c.loop-number.invariant.copier c.loop-number.invariant.copiers c.loop-number.invariant.goes c.requires.ends
-
-pub forward_value-requires-clause-working : goal.forward_value-requires-clause-working
-forward_value-requires-clause-working g c = let w = c.requires.working in (w.0, w.1, w.2, w.3, w.4, c.loop-number.invariant.working w.0 w.1 w.2 w.3 w.4 w.5)
-
-pub forward_value-requires-clause-there : goal.forward_value-requires-clause-there
-forward_value-requires-clause-there g c = let there = c.loop-number.invariant.there in (there.0, there.1, omega (arith, there.2, c.loop-number-test.true))
-
-pub loop-number-preserved : goal.loop-number-preserved
-loop-number-preserved g c =
-    let there = c.loop-number.invariant.there in
-    let next = c.in_ok-forward_value.ensures.there there.0 there.1 in
+pub loop-next-init : goal.loop-next-init
+loop-next-init g c =
+    let there = c.requires.there in
+    let h = c.args.seat.now.hand in
+    let to = c.args.to.now in
+    let forwards : ℕ → Type 0 = ForwardsTo c.args.from.stores.now c.args.from.roots.now h h to to c.args.place in
     record {
-      working = λ base held k rest done h. c.in_ok-forward_value.ensures.working base held k rest done (c.loop-number.invariant.working base held k rest done h);
-      there = (next.0, next.1, next.2 ∙ there.2);
-      knows = λ i n h. c.in_ok-forward_value.ensures.knows i n (c.loop-number.invariant.knows i n h);
-      wins = wins_more c.args.seat.now.hand c.loop-number.seat.hand c.forward_value.new.seat.hand c.loop-number.invariant.wins c.in_ok-forward_value.ensures.wins;
-      stays = stays_more c.args.to.now c.loop-number.to c.forward_value.new.to c.loop-number.invariant.stays c.forward_value.ensures.stays;
-      table = c.forward_value.ensures.table ∙ c.loop-number.invariant.table;
-      copier = c.forward_value.ensures.copier ∙ c.loop-number.invariant.copier;
-      copiers = c.forward_value.ensures.copiers ∙ c.loop-number.invariant.copiers;
-      goes = goes_on c.args.seat.now.hand.copier c.args.seat.now.hand.copiers c.loop-number.seat.hand.copier c.loop-number.seat.hand.copiers c.args.to.now c.loop-number.to c.forward_value.new.to c.loop-number.invariant.copier c.loop-number.invariant.copiers c.loop-number.invariant.stays c.loop-number.invariant.goes c.forward_value.ensures.goes;
+      there = (there.0, there.1, reaches forwards to.young.lane false there.0 (skipped_own c.args.from.stores.now c.args.from.roots.now h h to to c.args.place there.0 there.1) 0 c.named_first-next.result (omega arith) (record { to = λ base held k rest done w. w; points_is = refl }) (c.named_first-next.ensures there.0 there.1));
+      others = λ m n h below apart. refl;
+      knows = λ i n h. h;
+      wins = wins_stay c.args.seat.now.hand;
+      stays = stays_refl c.args.to.now;
+      table = refl;
+      copier = refl;
+      copiers = refl;
+      goes = goes_refl c.args.seat.now.hand.copier c.args.seat.now.hand.copiers c.args.to.now;
     }
 
-pub returns-in_err-forward_value-clause-stays : goal.returns-in_err-forward_value-clause-stays
-returns-in_err-forward_value-clause-stays g c = stays_more c.args.to.now c.loop-number.to c.forward_value.new.to c.loop-number.invariant.stays c.forward_value.ensures.stays
+pub forward_named-requires-clause-words : goal.forward_named-requires-clause-words
+forward_named-requires-clause-words g c = (c.loop-next.invariant.table ∙ c.requires.words.0, c.requires.words.1, c.loop-next.invariant.copiers ∙ c.requires.words.2)
 
-pub returns-in_err-forward_value-clause-goes : goal.returns-in_err-forward_value-clause-goes
-returns-in_err-forward_value-clause-goes g c = goes_on c.args.seat.now.hand.copier c.args.seat.now.hand.copiers c.loop-number.seat.hand.copier c.loop-number.seat.hand.copiers c.args.to.now c.loop-number.to c.forward_value.new.to c.loop-number.invariant.copier c.loop-number.invariant.copiers c.loop-number.invariant.stays c.loop-number.invariant.goes c.forward_value.ensures.goes
+pub forward_named-requires-clause-ends : goal.forward_named-requires-clause-ends
+forward_named-requires-clause-ends g c = ends_on c.args.seat.now.hand.copier c.args.seat.now.hand.copiers c.loop-next.seat.hand.copier c.loop-next.seat.hand.copiers c.args.to.now c.loop-next.to c.loop-next.invariant.copier c.loop-next.invariant.copiers c.loop-next.invariant.goes c.requires.ends
+
+pub forward_named-requires-clause-working : goal.forward_named-requires-clause-working
+forward_named-requires-clause-working g c =
+    let w = c.requires.working in
+    let there = c.loop-next.invariant.there in
+    let reached = at_reference _ _ _ _ _ _ c.in-Some.is there.2 in
+    (w.0, w.1, w.2, w.3, w.4, reached.0.to w.0 w.1 w.2 w.3 w.4 w.5)
+
+pub forward_named-requires-clause-there : goal.forward_named-requires-clause-there
+forward_named-requires-clause-there g c =
+    let there = c.loop-next.invariant.there in
+    let reached = at_reference _ _ _ _ _ _ c.in-Some.is there.2 in
+    (there.0, there.1, reached.1.here, reached.1.ended.fits)
+
+pub named_after-next-requires : goal.named_after-next-requires
+named_after-next-requires g c =
+    let there = c.loop-next.invariant.there in
+    let reached = at_reference _ _ _ _ _ _ c.in-Some.is there.2 in
+    let next = c.in_ok-names.ensures.names there.0 there.1 in
+    (with_value there.0 c.in-Some.named.number next.0, next.1, ended_set there.0.values (kind_of there.0.class) c.in-Some.named.number c.in-Some.named.end next.0 reached.1.ended)
+
+pub loop-next-preserved : goal.loop-next-preserved
+loop-next-preserved g c =
+    let stores = c.args.from.stores.now in
+    let roots = c.args.from.roots.now in
+    let h = c.args.seat.now.hand in
+    let start = c.args.to.now in
+    let place = c.args.place in
+    let i = c.loop-next.invariant in
+    let e = c.in_ok-names.ensures in
+    let there = i.there in
+    let named = c.in-Some.named in
+    let forwards : ℕ → Type 0 = ForwardsTo stores roots h c.loop-next.seat.hand start c.loop-next.to place in
+    let now = c.forward_named.new.to in
+    let after : ℕ → Type 0 = ForwardsTo stores roots h c.forward_named.new.seat.hand start now place in
+    let at = subst (λ r. Reaches forwards start.young.lane c.loop-next.points there.0 r) c.in-Some.is there.2 in
+    let next = e.names there.0 there.1 in
+    let names = next.2 ∙ ap (λ l. names_lane l next.0) i.stays.young_lane in
+    let object = with_value there.0 named.number next.0 in
+    let on = reaches_more forwards after start.young.lane c.loop-next.points c.in_ok-names.names there.0 next.0 named c.named_after-next.result (skipped_own stores roots h c.forward_named.new.seat.hand start now place object next.1) at (λ f base held k rest done w. e.working base held k rest done (f base held k rest done w)) names (c.named_after-next.ensures.names object next.1) in
+    record {
+      there = (object, next.1, subst (λ b. Reaches after start.young.lane b object c.named_after-next.result) (sym c.either-points.ensures) on);
+      others = others_more start c.loop-next.to now place i.stays i.others e.others;
+      knows = λ j n k. e.knows j n (i.knows j n k);
+      wins = wins_more h c.loop-next.seat.hand c.forward_named.new.seat.hand i.wins e.wins;
+      stays = stays_more start c.loop-next.to now i.stays c.forward_named.ensures.stays;
+      table = c.forward_named.ensures.table ∙ i.table;
+      copier = c.forward_named.ensures.copier ∙ i.copier;
+      copiers = c.forward_named.ensures.copiers ∙ i.copiers;
+      goes = goes_on h.copier h.copiers c.loop-next.seat.hand.copier c.loop-next.seat.hand.copiers start c.loop-next.to now i.copier i.copiers i.stays i.goes c.forward_named.ensures.goes;
+    }
+
+pub loop-next-smaller : goal.loop-next-smaller
+loop-next-smaller g c =
+    let there = c.loop-next.invariant.there in
+    let reached = at_reference _ _ _ _ _ _ c.in-Some.is there.2 in
+    let next = c.in_ok-names.ensures.names there.0 there.1 in
+    let less = rest_less there.0 c.in-Some.named next.0 c.named_after-next.result reached.1 (c.named_after-next.ensures.names (with_value there.0 c.in-Some.named.number next.0) next.1) c.named_after-next.ensures.end in
+    let was = ap rest c.in-Some.is in
+    omega (arith, less, was)
+
+pub returns-in_err-names-clause-stays : goal.returns-in_err-names-clause-stays
+returns-in_err-names-clause-stays g c = stays_more c.args.to.now c.loop-next.to c.forward_named.new.to c.loop-next.invariant.stays c.forward_named.ensures.stays
+
+pub returns-in_err-names-clause-goes : goal.returns-in_err-names-clause-goes
+returns-in_err-names-clause-goes g c = goes_on c.args.seat.now.hand.copier c.args.seat.now.hand.copiers c.loop-next.seat.hand.copier c.loop-next.seat.hand.copiers c.args.to.now c.loop-next.to c.forward_named.new.to c.loop-next.invariant.copier c.loop-next.invariant.copiers c.loop-next.invariant.stays c.loop-next.invariant.goes c.forward_named.ensures.goes
 
 pub returns-clause-working : goal.returns-clause-working
 returns-clause-working g c =
-    let there = c.loop-number.invariant.there in
-    let all : c.loop-number.number ≡ length there.0.values = omega (arith, there.2, c.loop-number-test.false, c.loop-number.auto.number-end) in
-    (there.0, there.1, subst (λ k. ForwardsTo c.args.from.stores.now c.args.from.roots.now c.args.seat.now.hand c.loop-number.seat.hand c.args.to.now c.loop-number.to c.args.place k) all c.loop-number.invariant.working)
+    let there = c.loop-next.invariant.there in
+    let reached = at_end _ _ _ _ _ c.in_default.is there.2 in
+    (there.0, there.1, reached.to)
 
--- nothing in it is a reference
-pub returns-in_default-clause-working : goal.returns-in_default-clause-working
-returns-in_default-clause-working g c =
-    let there = c.requires.there in
-    let plain = c.in_default.ensures there.0 there.1 in
-    (there.0, there.1, λ base held k rest done w. plain_working c.args.from.stores.now c.args.from.roots.now base held k rest c.args.seat.now.hand c.args.to.now done c.args.place there.0 there.1 plain (length there.0.values) (omega arith) w)
-
-pub returns-in_default-clause-wins : goal.returns-in_default-clause-wins
-returns-in_default-clause-wins g c = wins_stay c.args.seat.now.hand
-
-pub returns-in_default-clause-stays : goal.returns-in_default-clause-stays
-returns-in_default-clause-stays g c = stays_refl c.args.to.now
-
-pub returns-in_default-clause-goes : goal.returns-in_default-clause-goes
-returns-in_default-clause-goes g c = goes_refl c.args.seat.now.hand.copier c.args.seat.now.hand.copiers c.args.to.now
+pub returns-clause-points : goal.returns-clause-points
+returns-clause-points g c a e =
+    let there = c.loop-next.invariant.there in
+    let reached = at_end _ _ _ _ _ c.in_default.is there.2 in
+    let both : Some there.0 ≡ Some a = sym there.1 ∙ e in
+    let same : there.0 ≡ a = cc in
+    reached.points_is ∙ ap (points_to c.args.to.now.young.lane) (take-length there.0.values) ∙ ap (λ (x : Object). points_to c.args.to.now.young.lane x.values) same

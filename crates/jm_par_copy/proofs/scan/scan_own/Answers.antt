@@ -1,48 +1,111 @@
-use Rattle.std.proofs.Common.{◌∙◌, arith, ap, sym, subst, length}
-use Rattle.jm_copy.specs.Marks.{at, passed, AreMarks}
-use Rattle.jm_copy.proofs.Making.{stays_more}
-use Rattle.jm_copy.proofs.Marking.{next_made, passed_marks, marks_stay, passed_left, left}
+use Rattle.std.proofs.Common.{◌≡◌, ◌≢◌, ◌∙◌, ℕ, Option, Some, arith, ap, refl, sym, subst, length}
+use Rattle.std.specs.Prelude.{MatchOption}
+use Rattle.jm_copy.specs.Copies.{Stays}
+use Rattle.jm_copy.specs.Marks.{at, mark_of, passed, AllPassed, AreMarks, IsNext}
+use Rattle.jm_copy.specs.Pointing.{IsListed}
+use Rattle.jm_copy.specs.declared.copies.Copies.{Copies}
+use Rattle.jm_copy.specs.declared.scan.Marks.{Marks}
+use Rattle.jm_copy.proofs.Making.{stays_refl, stays_more}
+use Rattle.jm_copy.proofs.Marking.{next_made, passed_mark, passed_marks, marks_stay, passed_left, left}
+use Rattle.jm_copy.proofs.Pointing.{scanned_listed}
 use Rattle.jm_par_copy.specs.Working.{IsScanning, IsWorking, scan_progress}
-use Rattle.jm_par_copy.proofs.Strides.{ends_on, goes_on}
-use Rattle.jm_par_copy.proofs.Working.{next_scanning, passed_scanning, wins_more}
+use Rattle.jm_par_copy.proofs.Strides.{ends_on, goes_on, goes_refl}
+use Rattle.jm_par_copy.proofs.Working.{next_scanning, passed_scanning, wins_stay, wins_more}
 use Rattle.jm_par_copy.proofs.scan.scan_own.Goals as goal
+
+next_here : (c : Copies) (m : Marks) (r : Option ℕ) (p : ℕ) → r ≡ Some p → MatchOption r (AllPassed c m) (λ q. IsNext c m q) → IsNext c m p
+next_here c m r p e h = subst (λ o. MatchOption o (AllPassed c m) (λ q. IsNext c m q)) e h
+
+apart_still : (c d : Copies) → Stays c d → c.tenured.lane ≢ c.young.lane → d.tenured.lane ≢ d.young.lane
+apart_still c d s apart e = apart (sym s.old_lane ∙ e ∙ s.young_lane)
+
+pub loop-first-init : goal.loop-first-init
+loop-first-init g c = record {
+  scanning = λ base held k rest rest_done w. w;
+  marks = c.requires.marks;
+  next = c.next-first.ensures;
+  listed = λ l. l;
+  knows = λ i n h. h;
+  wins = wins_stay c.args.seat.now.hand;
+  stays = stays_refl c.args.to.now;
+  table = refl;
+  copier = refl;
+  copiers = refl;
+  goes = goes_refl c.args.seat.now.hand.copier c.args.seat.now.hand.copiers c.args.to.now;
+}
+
+pub next-first-requires : goal.next-first-requires
+next-first-requires g c = record { marks = c.requires.marks; apart = c.requires.scanning.5.apart }
+
+pub next_after-first-requires : goal.next_after-first-requires
+next_after-first-requires g c =
+    let before = c.loop-first.to in
+    let after = c.scan_object.new.to in
+    let marks = c.loop-first.marks in
+    let place = c.in-Some.place in
+    let stays = c.scan_object.ensures.stays in
+    let scanned = c.in_ok-points.ensures.working in
+    let next = next_here before marks c.loop-first.first place c.in-Some.is c.loop-first.invariant.next in
+    let there = subst (λ l. AreMarks after (passed l marks place)) (sym stays.young_lane) (marks_stay before after (passed before.young.lane marks place) stays (passed_marks before marks place c.loop-first.invariant.marks next)) in
+    record {
+      marks = subst (λ (m : Marks). AreMarks after m) (sym c.pass-marks.ensures.value) there;
+      apart = apart_still before after stays (apart_still c.args.to.now before c.loop-first.invariant.stays c.requires.scanning.5.apart);
+      there = (scanned.0, scanned.1);
+      passed = subst (λ m. mark_of after.young.lane m place ≡ Some place) (sym c.pass-marks.ensures.value) (passed_mark after.young.lane marks place);
+    }
+
+pub returns-in_err-note-clause-stays : goal.returns-in_err-note-clause-stays
+returns-in_err-note-clause-stays g c = stays_more c.args.to.now c.loop-first.to c.scan_object.new.to c.loop-first.invariant.stays c.scan_object.ensures.stays
+
+pub returns-in_err-note-clause-goes : goal.returns-in_err-note-clause-goes
+returns-in_err-note-clause-goes g c = goes_on c.args.seat.now.hand.copier c.args.seat.now.hand.copiers c.loop-first.seat.hand.copier c.loop-first.seat.hand.copiers c.args.to.now c.loop-first.to c.scan_object.new.to c.loop-first.invariant.copier c.loop-first.invariant.copiers c.loop-first.invariant.stays c.loop-first.invariant.goes c.scan_object.ensures.goes
+
+pub returns-clause-end : goal.returns-clause-end
+returns-clause-end g c t = subst (λ r. MatchOption r (AllPassed c.loop-first.to c.loop-first.marks) (λ p. IsNext c.loop-first.to c.loop-first.marks p)) c.in_default.is c.loop-first.invariant.next
 
 pub scan_object-requires-clause-working : goal.scan_object-requires-clause-working
 scan_object-requires-clause-working g c =
     let w = c.requires.scanning in
-    let to = c.loop-place.to in
-    let now = c.loop-place.invariant.scanning w.0 w.1 w.2 w.3 w.4 w.5 in
-    (w.0, w.1, w.2, w.3, scan_progress to.young.lane (passed to.young.lane c.loop-place.marks c.in-Some.place) w.3 w.4, next_scanning c.args.from.stores.now c.args.from.roots.now w.0 w.1 w.2 w.3 w.4 c.loop-place.seat.hand to c.loop-place.marks c.in-Some.place now c.loop-place.invariant.marks c.in-Some.ensures)
+    let to = c.loop-first.to in
+    let now = c.loop-first.invariant.scanning w.0 w.1 w.2 w.3 w.4 w.5 in
+    (w.0, w.1, w.2, w.3, scan_progress to.young.lane (passed to.young.lane c.loop-first.marks c.in-Some.place) w.3 w.4, next_scanning c.args.from.stores.now c.args.from.roots.now w.0 w.1 w.2 w.3 w.4 c.loop-first.seat.hand to c.loop-first.marks c.in-Some.place now c.loop-first.invariant.marks (next_here c.loop-first.to c.loop-first.marks c.loop-first.first c.in-Some.place c.in-Some.is c.loop-first.invariant.next))
 
 pub scan_object-requires-clause-there : goal.scan_object-requires-clause-there
-scan_object-requires-clause-there g c = next_made c.loop-place.to c.loop-place.marks c.in-Some.place c.loop-place.invariant.marks c.in-Some.ensures
+scan_object-requires-clause-there g c = next_made c.loop-first.to c.loop-first.marks c.in-Some.place c.loop-first.invariant.marks (next_here c.loop-first.to c.loop-first.marks c.loop-first.first c.in-Some.place c.in-Some.is c.loop-first.invariant.next)
 
-pub loop-place-preserved : goal.loop-place-preserved
-loop-place-preserved g c =
+pub loop-first-preserved : goal.loop-first-preserved
+loop-first-preserved g c =
     let stores = c.args.from.stores.now in
     let roots = c.args.from.roots.now in
-    let before = c.loop-place.to in
+    let before = c.loop-first.to in
     let after = c.scan_object.new.to in
-    let h = c.loop-place.seat.hand in
+    let h = c.loop-first.seat.hand in
     let h' = c.scan_object.new.seat.hand in
-    let marks = c.loop-place.marks in
+    let marks = c.loop-first.marks in
     let place = c.in-Some.place in
-    let invariant = c.loop-place.invariant in
+    let invariant = c.loop-first.invariant in
     let stays = c.scan_object.ensures.stays in
-    let scanned = c.in_ok-scan_object.ensures.working in
+    let scanned = c.in_ok-points.ensures.working in
     let lane = stays.young_lane in
-    let there = subst (λ l. AreMarks after (passed l marks place)) (sym lane) (marks_stay before after (passed before.young.lane marks place) stays (passed_marks before marks place invariant.marks c.in-Some.ensures)) in
+    let next = next_here before marks c.loop-first.first place c.in-Some.is invariant.next in
+    let there = subst (λ l. AreMarks after (passed l marks place)) (sym lane) (marks_stay before after (passed before.young.lane marks place) stays (passed_marks before marks place invariant.marks next)) in
+    let apart = apart_still c.args.to.now before invariant.stays c.requires.scanning.5.apart in
+    let points = c.in_ok-points.ensures.points scanned.0 scanned.1 in
     record {
       scanning = λ base held k rest rest_done w.
           let now = invariant.scanning base held k rest rest_done w in
-          let started = next_scanning stores roots base held k rest rest_done h before marks place now invariant.marks c.in-Some.ensures in
+          let started = next_scanning stores roots base held k rest rest_done h before marks place now invariant.marks next in
           let all = scanned.2 base held k rest (scan_progress before.young.lane (passed before.young.lane marks place) rest rest_done) started in
           let done = subst (λ l. IsWorking stores roots base held k rest h' after (at (scan_progress l (passed l marks place) rest rest_done) place (length scanned.0.values))) (sym lane) all in
           let scanning = passed_scanning stores roots base held k rest rest_done h' after marks place scanned.0 done scanned.1 there in
           subst (λ m. IsScanning stores roots base held k rest rest_done h' after m) (sym c.pass-marks.ensures.value) scanning;
-      marks = subst (λ m. AreMarks after m) (sym c.pass-marks.ensures.value) there;
-      knows = λ i n w. c.in_ok-scan_object.ensures.knows i n (invariant.knows i n w);
-      wins = wins_more c.args.seat.now.hand h h' invariant.wins c.in_ok-scan_object.ensures.wins;
+      marks = subst (λ (m : Marks). AreMarks after m) (sym c.pass-marks.ensures.value) there;
+      next = c.next_after-first.ensures;
+      listed = λ l.
+          let listed = scanned_listed before after marks place c.loop-first.pointing.items c.note.new.places.items c.in_ok-points.points scanned.0 apart next stays c.in_ok-points.ensures.others (invariant.listed l) scanned.1 points c.in_ok-note.ensures.young c.in_ok-note.ensures.old in
+          subst (λ (m : Marks). IsListed after.young.lane after.tenured after.kept m.tenured c.note.new.places.items) (sym c.pass-marks.ensures.value) listed;
+      knows = λ i n w. c.in_ok-points.ensures.knows i n (invariant.knows i n w);
+      wins = wins_more c.args.seat.now.hand h h' invariant.wins c.in_ok-points.ensures.wins;
       stays = stays_more c.args.to.now before after invariant.stays stays;
       table = c.scan_object.ensures.table ∙ invariant.table;
       copier = c.scan_object.ensures.copier ∙ invariant.copier;
@@ -50,16 +113,19 @@ loop-place-preserved g c =
       goes = goes_on c.args.seat.now.hand.copier c.args.seat.now.hand.copiers h.copier h.copiers c.args.to.now before after invariant.copier invariant.copiers invariant.stays invariant.goes c.scan_object.ensures.goes;
     }
 
-pub loop-place-smaller : goal.loop-place-smaller
-loop-place-smaller g c =
-    let fewer = passed_left c.loop-place.to c.loop-place.marks c.in-Some.place c.in-Some.ensures c.pass-marks.ensures.below in
+pub loop-first-smaller : goal.loop-first-smaller
+loop-first-smaller g c =
+    let fewer = passed_left c.loop-first.to c.loop-first.marks c.in-Some.place (next_here c.loop-first.to c.loop-first.marks c.loop-first.first c.in-Some.place c.in-Some.is c.loop-first.invariant.next) c.pass-marks.ensures.below in
     let lane = c.scan_object.ensures.stays.young_lane in
-    let young = ap (λ m. left m.young) c.pass-marks.ensures.value ∙ ap (λ l. left (passed l c.loop-place.marks c.in-Some.place).young) lane in
-    let tenured = ap (λ m. left m.tenured) c.pass-marks.ensures.value ∙ ap (λ l. left (passed l c.loop-place.marks c.in-Some.place).tenured) lane in
+    let young = ap (λ m. left m.young) c.pass-marks.ensures.value ∙ ap (λ l. left (passed l c.loop-first.marks c.in-Some.place).young) lane in
+    let tenured = ap (λ m. left m.tenured) c.pass-marks.ensures.value ∙ ap (λ l. left (passed l c.loop-first.marks c.in-Some.place).tenured) lane in
     omega (arith, fewer, young, tenured)
 
 pub scan_object-requires-clause-ends : goal.scan_object-requires-clause-ends
-scan_object-requires-clause-ends g c = ends_on c.args.seat.now.hand.copier c.args.seat.now.hand.copiers c.loop-place.seat.hand.copier c.loop-place.seat.hand.copiers c.args.to.now c.loop-place.to c.loop-place.invariant.copier c.loop-place.invariant.copiers c.loop-place.invariant.goes c.requires.ends
+scan_object-requires-clause-ends g c = ends_on c.args.seat.now.hand.copier c.args.seat.now.hand.copiers c.loop-first.seat.hand.copier c.loop-first.seat.hand.copiers c.args.to.now c.loop-first.to c.loop-first.invariant.copier c.loop-first.invariant.copiers c.loop-first.invariant.goes c.requires.ends
 
-pub returns-in_err-scan_object-clause-goes : goal.returns-in_err-scan_object-clause-goes
-returns-in_err-scan_object-clause-goes g c = goes_on c.args.seat.now.hand.copier c.args.seat.now.hand.copiers c.loop-place.seat.hand.copier c.loop-place.seat.hand.copiers c.args.to.now c.loop-place.to c.scan_object.new.to c.loop-place.invariant.copier c.loop-place.invariant.copiers c.loop-place.invariant.stays c.loop-place.invariant.goes c.scan_object.ensures.goes
+pub returns-in_err-points-clause-goes : goal.returns-in_err-points-clause-goes
+returns-in_err-points-clause-goes g c = goes_on c.args.seat.now.hand.copier c.args.seat.now.hand.copiers c.loop-first.seat.hand.copier c.loop-first.seat.hand.copiers c.args.to.now c.loop-first.to c.scan_object.new.to c.loop-first.invariant.copier c.loop-first.invariant.copiers c.loop-first.invariant.stays c.loop-first.invariant.goes c.scan_object.ensures.goes
+
+pub returns-in_err-points-clause-stays : goal.returns-in_err-points-clause-stays
+returns-in_err-points-clause-stays g c = stays_more c.args.to.now c.loop-first.to c.scan_object.new.to c.loop-first.invariant.stays c.scan_object.ensures.stays

@@ -36,7 +36,7 @@ returns-clause-begun c =
     let is = opened_is old first c.lane.result c.new-store.result c.open.new.self c.lane.ensures.value c.new-store.ensures c.in_ok-open.ensures.ok in
     let copied : c.in_ok-block.block ≡ c.block.result.now = c.in_ok-block.ensures in
     let put : c.put.new.self ≡ with_block (opened first old) first c.block.result.now = c.put.ensures ∙ ap (λ s. with_block s first c.in_ok-block.block) is ∙ ap (λ os. with_block (opened first old) first os) copied in
-    begun_block c.args.number c.args.copiers first old c.first_block-first.ensures.begins c.block.result.now c.block.ensures c.put.new.self put
+    begun_block c.args.number c.args.copiers first old c.first_block-first.ensures.begins c.args.alloc c.block.result.now c.block.ensures c.put.new.self put
 
 pub returns-clause-ends : goal.returns-clause-ends
 returns-clause-ends c =
@@ -45,4 +45,4 @@ returns-clause-ends c =
     let is = opened_is old first c.lane.result c.new-store.result c.open.new.self c.lane.ensures.value c.new-store.ensures c.in_ok-open.ensures.ok in
     let copied : c.in_ok-block.block ≡ c.block.result.now = c.in_ok-block.ensures in
     let put : c.put.new.self ≡ with_block (opened first old) first c.block.result.now = c.put.ensures ∙ ap (λ s. with_block s first c.in_ok-block.block) is ∙ ap (λ os. with_block (opened first old) first os) copied in
-    begun_ends c.args.number c.args.copiers old c.put.new.self (begun_block c.args.number c.args.copiers first old c.first_block-first.ensures.begins c.block.result.now c.block.ensures c.put.new.self put)
+    begun_ends c.args.number c.args.copiers old c.put.new.self (begun_block c.args.number c.args.copiers first old c.first_block-first.ensures.begins c.args.alloc c.block.result.now c.block.ensures c.put.new.self put)

@@ -37,6 +37,15 @@ returns-then-last_has_room-clause-ok c o e =
     let place = c.place_in-place.ensures.value ∙ reserved_last s c.args.self.now c.len-blocks.result (object_cells o) c.len.result c.index.result.now c.self.view_is m c.index.ensures room c.len.ensures.value in
     subst (λ p. Bumped c.args.self.now (record { lane = c.self.inside.lane; lists = slice_set c.self.inside.blocks.items (c.len-blocks.result - 1) c.bump_copy.new.self }) p (aged c.args.age o)) (sym place) filled.bumped
 
+pub returns-then-last_has_room-clause-filled : goal.returns-then-last_has_room-clause-filled
+returns-then-last_has_room-clause-filled c o e =
+    let s : Blocks = record { lane = c.self.inside.lane; lists = c.self.inside.blocks.items } in
+    let m = c.len-blocks.ensures ∙ c.self.inside.blocks.ok.0 in
+    let room = ap (last_has_room c.args.self.now.lists) (sym (c.cells_of.ensures o e)) ∙ sym c.last_has_room.ensures ∙ c.if-last_has_room.true in
+    let filled = fill_last s c.args.self.now c.len-blocks.result c.index_mut-block.result.now c.bump_copy.new.self (aged c.args.age o) c.self.view_is m c.self.invariant.1 c.index_mut-block.ensures.value room (c.in_ok-bump_copy.ensures.ok o e) in
+    let place = c.place_in-place.ensures.value ∙ reserved_last s c.args.self.now c.len-blocks.result (object_cells o) c.len.result c.index.result.now c.self.view_is m c.index.ensures room c.len.ensures.value in
+    (place, filled.blocks)
+
 pub returns-then-last_has_room-clause-lane : goal.returns-then-last_has_room-clause-lane
 returns-then-last_has_room-clause-lane c =
     let s : Blocks = record { lane = c.self.inside.lane; lists = c.self.inside.blocks.items } in
