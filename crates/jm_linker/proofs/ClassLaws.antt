@@ -1,8 +1,8 @@
 -- Classes found by name.
-use Rattle.std.proofs.Common.{◌≡◌, ℕ, zero, suc, ◌<◌, ◌≤◌, get_or, Bool, true, false, List, [], ◌∷◌, Option, Some, None, length, drop, refl, sym, ap, ◌∙◌, arith}
+use Rattle.std.proofs.Common.{◌≡◌, ℕ, suc, ◌≤◌, Bool, true, false, List, [], ◌∷◌, Option, Some, None, length, drop, refl, sym, ap, ◌∙◌, arith}
 use Rattle.std.proofs.lemmas.List.{nil_from_length, length-drop}
 use Rattle.std.specs.Borrow.{Bor}
-use Rattle.std.specs.Prelude.{map, is_some, option_copied, slice_get}
+use Rattle.std.specs.Prelude.{map, is_some, option_copied}
 use Rattle.jm_program.specs.Names.{same_text}
 use Rattle.jm_program.specs.declared.class.ClassParts.{ClassParts}
 use Rattle.jm_builtins.specs.declared.built_in.BuiltIn.{BuiltIn}
@@ -54,12 +54,6 @@ as_many ms cs e = sym (length_map (λ (m : Members). m.class.now) ms) ∙ ap len
 pub many_built_ins : (ms : List Members) → map (λ (m : Members). m.class.now) ms ≡ built_in_classes → length ms ≡ length the_builtins
 unfolding built_in_classes
 many_built_ins ms e = as_many ms built_in_classes e ∙ length_map as_class the_builtins
-
--- the class whose members stand at a place
-pub members_at : (ms : List Members) (i : ℕ) (m : Members) → i < length ms → m ≡ get_or ms i m → slice_get (map (λ (m : Members). m.class.now) ms) i ≡ Some m.class.now
-members_at [] i m l is = absurd (omega arith)
-members_at (x ∷ xs) zero m l is = ap (λ (y : Members). Some y.class.now) (sym is)
-members_at (x ∷ xs) (suc i) m l is = members_at xs i m (omega arith) is
 
 -- no member stands twice in a built-in class
 pub built_ins_once : first_of_all duplicate_members built_in_classes ≡ None

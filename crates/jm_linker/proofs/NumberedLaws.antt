@@ -3,7 +3,9 @@ use Rattle.std.proofs.Common.{◌≡◌, ℕ, ◌+◌, ◌-◌, ◌<◌, ◌≤�
 use Rattle.std.proofs.Common.{drop, refl, sym, ap, ◌∙◌, arith}
 use Rattle.std.specs.Prelude.{map, slice_get, option_map, MatchOption}
 use Rattle.std.proofs.lemmas.List.{drop_more, drop_all}
-use Rattle.std.proofs.lemmas.Option.{slice_get-map}
+use Rattle.std.proofs.lemmas.Option.{slice_get-get_or, slice_get-map, slice_get_past}
+use Rattle.std.specs.Borrow.{Bor}
+use Rattle.std.specs.List.{ItemBy}
 use Rattle.std.specs.Cmp.Lexicographic as texts
 use Rattle.jm_program.specs.Names.{same_text}
 use Rattle.jm_program.specs.declared.class.ClassParts.{ClassParts}
@@ -21,10 +23,16 @@ use Rattle.jm_linker.proofs.Numbers.{by_number, by_no_number}
 abbrev members_class : Members → ClassParts
 members_class m = m.class.now
 
-got_second : {A : Type 0} (xs ys : List A) (n k : ℕ) (x : A) → n ≡ length xs + k → slice_get ys k ≡ Some x → slice_get (xs ++ ys) n ≡ Some x
-got_second [] ys n k x e at = let same : n ≡ k = omega arith in ap (slice_get ys) same ∙ at
-got_second (z ∷ zs) ys zero k x e at = absurd (omega arith)
-got_second (z ∷ zs) ys (suc n) k x e at = got_second zs ys n k x (omega arith) at
+-- an element of two lists, one after the other: of the first, and of the second
+in_front : {A : Type 0} (xs ys : List A) (n : ℕ) → n < length xs → slice_get (xs ++ ys) n ≡ slice_get xs n
+in_front [] ys n l = absurd (omega (arith, l))
+in_front (x ∷ xs) ys zero l = refl
+in_front (x ∷ xs) ys (suc n) l = in_front xs ys n (omega (arith, l))
+
+behind : {A : Type 0} (xs ys : List A) (n k : ℕ) → n ≡ length xs + k → slice_get (xs ++ ys) n ≡ slice_get ys k
+behind [] ys n k e = let same : n ≡ k = omega (arith, e) in ap (slice_get ys) same
+behind (x ∷ xs) ys zero k e = absurd (omega (arith, e))
+behind (x ∷ xs) ys (suc n) k e = behind xs ys n k (omega (arith, e))
 
 -- the class of a number among classes, counted from a number
 record IsIn (k : ℕ) (cs : List ClassParts) (name : List ℕ) (n : ℕ) : Type 0 where
@@ -124,9 +132,9 @@ of_program program name n m e is =
     record {
       class = i.class;
       found = by_number program name n e ∙ at;
-      numbered = got_second (map as_class the_builtins) program m n i.class is at;
-      named = got_second (map (λ (b : BuiltIn). b.name) the_builtins) (map (λ (c : ClassParts). c.name) program) m n name is
-          (named_at program n i.class name at i.name_is);
+      numbered = behind (map as_class the_builtins) program m n is ∙ at;
+      named = behind (map (λ (b : BuiltIn). b.name) the_builtins) (map (λ (c : ClassParts). c.name) program) m n is
+          ∙ named_at program n i.class name at i.name_is;
     }
 
 built_in_names_are : map (λ (c : ClassParts). c.name) built_in_classes ≡ map (λ (b : BuiltIn). b.name) the_builtins
@@ -167,21 +175,25 @@ pub own_number : (program : List ClassParts) (c : ClassParts) (n m : ℕ) → Ha
     → class_numbered program m ≡ Some c
 own_number program c n m h i same = ap (class_numbered program) same ∙ i.numbered ∙ sym i.found ∙ by_own_name program c h
 
--- the class of a number
-pub numbered_own : (program : List ClassParts) (n k : ℕ) (c : ClassParts) → n ≡ length the_builtins + k → slice_get program k ≡ Some c
-    → class_numbered program n ≡ Some c
-numbered_own program n k c is at = got_second (map as_class the_builtins) program n k c is at
-
-pub numbered_past : (program : List ClassParts) (n k : ℕ) → n ≡ length the_builtins + k → slice_get program k ≡ None → class_numbered program n ≡ None
-numbered_past program n k is at = past (map as_class the_builtins) n k is at
+-- the class whose members a look-up gives
+class_got : (ms : List Members) (cs : List ClassParts) (n : ℕ) (r : Option (Bor Members)) → map members_class ms ≡ cs
+    → ItemBy (λ (m : Bor Members). m.now) ms n n r → option_map (λ (m : Bor Members). m.now.class.now) r ≡ slice_get cs n
+class_got ms cs n r all item = by r item ∙ sym (ap (λ ds. slice_get ds n) (sym all) ∙ slice_get-map members_class ms n)
   where
-    past : (xs : List ClassParts) (n k : ℕ) → n ≡ length xs + k → slice_get program k ≡ None → slice_get (xs ++ program) n ≡ None
-    past [] n k is at = let same : n ≡ k = omega arith in ap (slice_get program) same ∙ at
-    past (x ∷ xs) zero k is at = absurd (omega arith)
-    past (x ∷ xs) (suc n) k is at = past xs n k (omega arith) at
+    by : (r : Option (Bor Members)) → ItemBy (λ (m : Bor Members). m.now) ms n n r → option_map (λ (m : Bor Members). m.now.class.now) r ≡ option_map members_class (slice_get ms n)
+    by None item = ap (option_map members_class) (sym (slice_get_past ms n item.3))
+    by (Some m) item = ap (option_map members_class) (sym (slice_get-get_or ms n m.now item.3.0 ∙ ap Some (sym item.1)))
 
-pub numbered_built_in : (program : List ClassParts) (ms : List Members) (n : ℕ) (m : Members) → map members_class ms ≡ built_in_classes → slice_get ms n ≡ Some m
-    → class_numbered program n ≡ Some m.class.now
+-- by its number: a class of the program, and a built-in one
+pub own_got : (program : List ClassParts) (ms : List Members) (n k : ℕ) (r : Option (Bor Members)) → n ≡ length the_builtins + k
+    → map members_class ms ≡ program → ItemBy (λ (m : Bor Members). m.now) ms k k r → option_map (λ (m : Bor Members). m.now.class.now) r ≡ class_numbered program n
+own_got program ms n k r is all item = class_got ms program k r all item ∙ sym (behind (map as_class the_builtins) program n k is)
+
+pub built_in_got : (program : List ClassParts) (ms : List Members) (n : ℕ) (r : Option (Bor Members)) → n < length the_builtins
+    → map members_class ms ≡ built_in_classes → ItemBy (λ (m : Bor Members). m.now) ms n n r → option_map (λ (m : Bor Members). m.now.class.now) r ≡ class_numbered program n
 unfolding built_in_classes
-numbered_built_in program ms n m all at = got_front (map as_class the_builtins) program n m.class.now
-    (ap (λ cs. slice_get cs n) (sym all) ∙ slice_get-map members_class ms n ∙ ap (option_map members_class) at)
+built_in_got program ms n r l all item = class_got ms built_in_classes n r all item ∙ sym (in_front (map as_class the_builtins) program n l)
+
+-- the class of the number of a name is that of the name
+pub of_its_number : (program : List ClassParts) (name : List ℕ) (n : ℕ) → IsNumberOf program name n → class_numbered program n ≡ class_named program name
+of_its_number program name n h = h.numbered ∙ sym h.found

@@ -1,18 +1,18 @@
 -- One more turn of a walk up.
-use Rattle.std.proofs.Common.{◌≡◌, ◌≢◌, ℕ, zero, suc, ◌+◌, ◌-◌, ◌<◌, Bool, true, false, List, [], ◌∷◌, ◌++◌, Option, Some, None, refl, sym, ap, subst, ◌∙◌, ◌≤◌, cond, Bor, append_assoc, arith}
+use Rattle.std.proofs.Common.{◌≡◌, ◌≢◌, ℕ, zero, suc, ◌+◌, ◌-◌, ◌<◌, Bool, true, false, List, [], ◌∷◌, ◌++◌, Option, Some, None, refl, sym, ap, subst, ◌∙◌, ◌≤◌, cond, append_assoc, nat_eq, arith}
 use Rattle.std.specs.Prelude.{option_to_list}
+use Rattle.std.proofs.lemmas.Bool.Decides.{nat_tests}
 use Rattle.std.specs.BTreeMap.{BTreeMap, get}
-use Rattle.std.specs.Cmp.Lexicographic.{texts_ties}
+use Rattle.std.specs.Cmp.{unsigned_tied}
 use Rattle.std.specs.Map.{lookup}
-use Rattle.std.specs.Ordering.{is_eq}
+use Rattle.std.specs.Ordering.{is_eq, nat_cmp}
 use Rattle.jm_program.specs.declared.class.ClassParts.{ClassParts}
-use Rattle.jm_program.proofs.Texts.{text_is}
 use Rattle.jm_world.specs.Classes.{class_named, height}
 use Rattle.jm_world.specs.Hierarchy.{up_from, chain}
 use Rattle.jm_world.specs.Resolution.{first_found, interfaces_first}
+use Rattle.jm_linked.specs.Links.{NamesClass}
 use Rattle.jm_linker.specs.declared.walk.Pending.{Pending}
-use Rattle.jm_linker.specs.Tables.{by_units}
-use Rattle.jm_linker.specs.Walks.{AllVain, Says, AllSay, above_from, above_any, or_found, found_pending, first_along}
+use Rattle.jm_linker.specs.Walks.{AllVain, Gives, Says, AllSay, above_from, above_any, or_found, found_pending, first_along}
 
 or_none : (a : Option ClassParts) → or_found a None ≡ a
 or_none None = refl
@@ -199,7 +199,7 @@ was_vain test program ps qs p e z a = says_same test program p _ _ (empty_none t
 pub begin_says : (test : ClassParts → Bool) (program : List ClassParts) (ps qs : List Pending) (p : Pending) → ps ≡ [] → qs ≡ ps ++ p ∷ [] → p.below ≡ None → AllSay test program qs
 begin_says test program ps qs p none e below =
     subst (AllSay test program) (sym (e ∙ ap (λ xs. xs ++ p ∷ []) none))
-    (one_says test program p (subst (λ o. elim o as (λ _. Type 0) [ None ↦ Unit {0} | Some name ↦ above_from test (suc p.depth) program name.now ≡ above_any test p.depth program p.names.now ]) (sym below) tt))
+    (one_says test program p (subst (λ o. elim o as (λ _. Type 0) [ None ↦ Unit {0} | Some n ↦ Gives test (suc p.depth) program n (above_any test p.depth program p.names.now) ]) (sym below) tt))
 
 -- a walk over fewer classes is in vain where one over more is
 none_of_names : (f g : List ℕ → Option ClassParts) → ((y : List ℕ) → f y ≡ None → g y ≡ None) → (xs : List (List ℕ)) → first_found f xs ≡ None → first_found g xs ≡ None
@@ -227,25 +227,33 @@ less_vain test program (suc m) (suc d) x l e = by (λ y h. less_vain test progra
 pub is_vain : (test : ClassParts → Bool) (program : List ClassParts) (depth most : ℕ) (name : List ℕ) → depth ≤ most → above_from test (suc most) program name ≡ None → above_from test (suc depth) program name ≡ None
 is_vain test program depth most name l e = less_vain test program (suc depth) (suc most) name (omega (arith, l)) e
 
+-- numbers that are told to be equal
+nat_ties : (m n : ℕ) → is_eq (nat_cmp m n) ≡ true → m ≡ n
+nat_ties m n e = let same : nat_eq m n ≡ true = sym (unsigned_tied m n) ∙ e in grind (arith, nat_tests, same)
+
+-- a number names one class
+one_name : (program : List ClassParts) (number : ℕ) (x y : List ℕ) → NamesClass program number x → NamesClass program number y → x ≡ y
+one_name program number x y e f = cc
+
 -- one more walk that is kept
-pub kept_more : (test : ClassParts → Bool) (program : List ClassParts) (old now : BTreeMap (Bor (List ℕ)) ℕ) (p : Pending) (name key : Bor (List ℕ)) → p.below ≡ Some name → key.now ≡ name.now → ((q : Bor (List ℕ)) → get by_units now q ≡ cond (is_eq (by_units key q)) (Some p.depth) (get by_units old q)) → AllVain test program old → Says test program p None → AllVain test program now
-kept_more test program old now p name key below is updates vain says = λ q depth kept. by q depth (is_eq (by_units key q)) refl (sym (updates q) ∙ kept)
+pub kept_more : (test : ClassParts → Bool) (program : List ClassParts) (old now : BTreeMap ℕ ℕ) (p : Pending) (number : ℕ) → p.below ≡ Some number → ((q : ℕ) → get nat_cmp now q ≡ cond (is_eq (nat_cmp number q)) (Some p.depth) (get nat_cmp old q)) → AllVain test program old → Says test program p None → AllVain test program now
+kept_more test program old now p number below updates vain says = λ q depth kept. by q depth (is_eq (nat_cmp number q)) refl (sym (updates q) ∙ kept)
   where
-    said : above_from test (suc p.depth) program name.now ≡ None
-    said = subst (λ o. elim o as (λ _. Type 0) [ None ↦ Unit {0} | Some n ↦ above_from test (suc p.depth) program n.now ≡ None ]) below says
+    said : Gives test (suc p.depth) program number None
+    said = subst (λ o. elim o as (λ _. Type 0) [ None ↦ Unit {0} | Some n ↦ Gives test (suc p.depth) program n None ]) below says
 
     same : (depth : ℕ) → Some p.depth ≡ Some depth → p.depth ≡ depth
     same depth e = cc
 
-    by : (q : Bor (List ℕ)) (depth : ℕ) (t : Bool) → is_eq (by_units key q) ≡ t → cond t (Some p.depth) (get by_units old q) ≡ Some depth → above_from test (suc depth) program q.now ≡ None
-    by q depth true e f = subst (λ n. above_from test (suc n) program q.now ≡ None) (same depth f) (subst (λ n. above_from test (suc p.depth) program n ≡ None) (sym is ∙ text_is key.now q.now (texts_ties key.now q.now ∙ e)) said)
+    by : (q depth : ℕ) (t : Bool) → is_eq (nat_cmp number q) ≡ t → cond t (Some p.depth) (get nat_cmp old q) ≡ Some depth → Gives test (suc depth) program q None
+    by q depth true e f = subst (λ n. Gives test (suc n) program q None) (same depth f) (subst (λ n. Gives test (suc p.depth) program n None) (nat_ties number q e) said)
     by q depth false e f = vain q depth f
 
 -- of names above the same class the same is said
 says_as : (test : ClassParts → Bool) (program : List ClassParts) (p q : Pending) → q.depth ≡ p.depth → q.below ≡ p.below → (found : Option ClassParts) → Says test program p found → Says test program q found
 says_as test program p q depth below found h =
-    subst (λ o. elim o as (λ _. Type 0) [ None ↦ Unit {0} | Some name ↦ above_from test (suc q.depth) program name.now ≡ found ]) (sym below)
-    (subst (λ d. elim p.below as (λ _. Type 0) [ None ↦ Unit {0} | Some name ↦ above_from test (suc d) program name.now ≡ found ]) (sym depth) h)
+    subst (λ o. elim o as (λ _. Type 0) [ None ↦ Unit {0} | Some n ↦ Gives test (suc q.depth) program n found ]) (sym below)
+    (subst (λ d. elim p.below as (λ _. Type 0) [ None ↦ Unit {0} | Some n ↦ Gives test (suc d) program n found ]) (sym depth) h)
 
 -- a name of which nothing is found
 pub say_skipped : (test : ClassParts → Bool) (program : List ClassParts) (ps qs rs : List Pending) (p q : Pending) (x : List ℕ) (xs : List (List ℕ)) → qs ≡ ps ++ p ∷ [] → p.names.now ≡ x ∷ xs → q.names.now ≡ xs → q.depth ≡ p.depth → q.below ≡ p.below → rs ≡ ps ++ q ∷ [] → above_from test p.depth program x ≡ None → AllSay test program qs → AllSay test program rs
@@ -263,29 +271,29 @@ three_found test program q s i = refl
 
 three_say : (test : ClassParts → Bool) (program : List ClassParts) (q s i : Pending) → Says test program q (found_pending test program (q ∷ s ∷ i ∷ [])) → Says test program s (or_found (above_any test i.depth program i.names.now) (above_any test s.depth program s.names.now)) → i.below ≡ None → AllSay test program (q ∷ s ∷ i ∷ [])
 unfolding AllSay found_pending
-three_say test program q s i a b below = (a, (b, (subst (λ o. elim o as (λ _. Type 0) [ None ↦ Unit {0} | Some name ↦ above_from test (suc i.depth) program name.now ≡ above_any test i.depth program i.names.now ]) (sym below) tt, tt)))
+three_say test program q s i a b below = (a, (b, (subst (λ o. elim o as (λ _. Type 0) [ None ↦ Unit {0} | Some n ↦ Gives test (suc i.depth) program n (above_any test i.depth program i.names.now) ]) (sym below) tt, tt)))
 
 -- the names above a class, after those that were there
-pub say_above : (test : ClassParts → Bool) (program : List ClassParts) (ps qs os ts rs : List Pending) (p q s i : Pending) (x : Bor (List ℕ)) (xs : List (List ℕ)) (c : ClassParts) → qs ≡ ps ++ p ∷ [] → p.names.now ≡ x.now ∷ xs → q.names.now ≡ xs → q.depth ≡ p.depth → q.below ≡ p.below → os ≡ ps ++ q ∷ [] → s.names.now ≡ option_to_list c.superclass → s.depth ≡ p.depth - 1 → s.below ≡ Some x → ts ≡ os ++ s ∷ [] → i.names.now ≡ c.interfaces → i.depth ≡ p.depth - 1 → i.below ≡ None → rs ≡ ts ++ i ∷ [] → p.depth ≢ 0 → class_named program x.now ≡ Some c → test c ≡ false → AllSay test program qs → (found_pending test program qs ≡ found_pending test program rs) × AllSay test program rs
-say_above test program ps qs os ts rs p q s i x xs c e names others depth below f super up same g interfaces up' below' h ne is other a =
+pub say_above : (test : ClassParts → Bool) (program : List ClassParts) (ps qs os ts rs : List Pending) (p q s i : Pending) (x : List ℕ) (xs : List (List ℕ)) (number : ℕ) (c : ClassParts) → qs ≡ ps ++ p ∷ [] → p.names.now ≡ x ∷ xs → q.names.now ≡ xs → q.depth ≡ p.depth → q.below ≡ p.below → os ≡ ps ++ q ∷ [] → s.names.now ≡ option_to_list c.superclass → s.depth ≡ p.depth - 1 → s.below ≡ Some number → ts ≡ os ++ s ∷ [] → i.names.now ≡ c.interfaces → i.depth ≡ p.depth - 1 → i.below ≡ None → rs ≡ ts ++ i ∷ [] → p.depth ≢ 0 → NamesClass program number x → class_named program x ≡ Some c → test c ≡ false → AllSay test program qs → (found_pending test program qs ≡ found_pending test program rs) × AllSay test program rs
+say_above test program ps qs os ts rs p q s i x xs number c e names others depth below f super up same g interfaces up' below' h ne named is other a =
     let d : ℕ = p.depth - 1 in
-    let inner : or_found (above_any test i.depth program i.names.now) (above_any test s.depth program s.names.now) ≡ above_from test p.depth program x.now =
+    let inner : or_found (above_any test i.depth program i.names.now) (above_any test s.depth program s.names.now) ≡ above_from test p.depth program x =
     ap (λ ys. or_found (above_any test i.depth program ys) (above_any test s.depth program s.names.now)) interfaces
     ∙ ap (λ n. or_found (above_any test n program c.interfaces) (above_any test s.depth program s.names.now)) up'
     ∙ ap (λ ys. or_found (above_any test d program c.interfaces) (above_any test s.depth program ys)) super
     ∙ ap (λ n. or_found (above_any test d program c.interfaces) (above_any test n program (option_to_list c.superclass))) up
-    ∙ sym (any_append test d program c.interfaces (option_to_list c.superclass)) ∙ sym (is_above test program p.depth x.now c ne is other) in
+    ∙ sym (any_append test d program c.interfaces (option_to_list c.superclass)) ∙ sym (is_above test program p.depth x c ne is other) in
     let left : above_any test q.depth program q.names.now ≡ above_any test p.depth program xs = ap (λ ys. above_any test q.depth program ys) others ∙ ap (λ n. above_any test n program xs) depth in
     let whole : found_pending test program (q ∷ s ∷ i ∷ []) ≡ above_any test p.depth program p.names.now =
-    three_found test program q s i ∙ ap (λ o. or_found o (above_any test q.depth program q.names.now)) inner ∙ ap (or_found (above_from test p.depth program x.now)) left
-    ∙ sym (ap (λ ys. above_any test p.depth program ys) names ∙ any_cons test p.depth program x.now xs) in
+    three_found test program q s i ∙ ap (λ o. or_found o (above_any test q.depth program q.names.now)) inner ∙ ap (or_found (above_from test p.depth program x)) left
+    ∙ sym (ap (λ ys. above_any test p.depth program ys) names ∙ any_cons test p.depth program x xs) in
     let list : rs ≡ ps ++ q ∷ s ∷ i ∷ [] = h ∙ ap (λ ys. ys ++ i ∷ []) (g ∙ ap (λ ys. ys ++ s ∷ []) f) ∙ three ps in
     let all = subst (AllSay test program) e a in
     let was = say_one test program p (say_upper test program ps (p ∷ []) all) in
     let one : suc s.depth ≡ p.depth = omega (arith, up, ne) in
     let said : Says test program s (or_found (above_any test i.depth program i.names.now) (above_any test s.depth program s.names.now)) =
-    subst (λ o. elim o as (λ _. Type 0) [ None ↦ Unit {0} | Some name ↦ above_from test (suc s.depth) program name.now ≡ or_found (above_any test i.depth program i.names.now) (above_any test s.depth program s.names.now) ]) (sym same)
-    (ap (λ n. above_from test n program x.now) one ∙ sym inner) in (
+    subst (λ o. elim o as (λ _. Type 0) [ None ↦ Unit {0} | Some n ↦ Gives test (suc s.depth) program n (or_found (above_any test i.depth program i.names.now) (above_any test s.depth program s.names.now)) ]) (sym same)
+    (λ name is. ap (above_from test (suc s.depth) program) (one_name program number name x is named) ∙ ap (λ n. above_from test n program x) one ∙ sym inner) in (
       ap (found_pending test program) e ∙ found_append test program ps (p ∷ []) ∙ ap (λ o. or_found o (found_pending test program ps)) (one_pending test program p ∙ sym whole) ∙ sym (found_append test program ps (q ∷ s ∷ i ∷ [])) ∙ ap (found_pending test program) (sym list),
       subst (AllSay test program) (sym list)
           (say_other test program ps (p ∷ []) (q ∷ s ∷ i ∷ []) (one_pending test program p ∙ sym whole) all
@@ -296,9 +304,9 @@ say_above test program ps qs os ts rs p q s i x xs c e names others depth below 
     three ps = append_assoc (ps ++ q ∷ []) (s ∷ []) (i ∷ []) ∙ append_assoc ps (q ∷ []) (s ∷ i ∷ [])
 
 -- no walk is kept yet
-pub none_kept : (test : ClassParts → Bool) (program : List ClassParts) (kept : BTreeMap (Bor (List ℕ)) ℕ) → kept.entries ≡ [] → AllVain test program kept
-none_kept test program kept e = λ name depth is. by name depth (get by_units kept name) (ap (lookup (λ k. is_eq (by_units name k))) e) is
+pub none_kept : (test : ClassParts → Bool) (program : List ClassParts) (kept : BTreeMap ℕ ℕ) → kept.entries ≡ [] → AllVain test program kept
+none_kept test program kept e = λ number depth is. by number depth (get nat_cmp kept number) (ap (lookup (λ k. is_eq (nat_cmp number k))) e) is
   where
-    by : (name : Bor (List ℕ)) (depth : ℕ) (o : Option ℕ) → o ≡ None → o ≡ Some depth → above_from test (suc depth) program name.now ≡ None
-    by name depth None e f = cc
-    by name depth (Some d) e f = cc
+    by : (number depth : ℕ) (o : Option ℕ) → o ≡ None → o ≡ Some depth → Gives test (suc depth) program number None
+    by number depth None e f = cc
+    by number depth (Some d) e f = cc

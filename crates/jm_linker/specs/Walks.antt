@@ -1,15 +1,15 @@
 -- The first class from a name up in which something is found: the class itself, its superinterfaces,
 -- its superclass, each with all above it.
 use Rattle.std.specs.Prelude.{◌≡◌, ℕ, zero, suc, List, [], ◌∷◌, Option, Some, None, Bool, true, false, is_some}
-use Rattle.std.specs.Borrow.{Bor}
 use Rattle.std.specs.BTreeMap.{BTreeMap, get}
+use Rattle.std.specs.Ordering.{nat_cmp}
 use Rattle.jm_program.specs.Names.{same_text}
 use Rattle.jm_program.specs.declared.class.ClassParts.{ClassParts}
 use Rattle.jm_world.specs.Classes.{class_named, field_in, method_in}
 use Rattle.jm_world.specs.Resolution.{first_found, instance_in, interfaces_first, nameable}
 use Rattle.jm_linker.specs.declared.sought.Sought.{Sought}
 use Rattle.jm_linker.specs.declared.sought.Sought.TheVariants as sought
-use Rattle.jm_linker.specs.Tables.{by_units}
+use Rattle.jm_linked.specs.Links.{NamesClass}
 use Rattle.jm_linker.specs.declared.walk.Pending.{Pending}
 
 abbrev pub sought_in : Sought → ClassParts → Bool
@@ -38,17 +38,21 @@ unfoldable pub found_pending : (ClassParts → Bool) → List ClassParts → Lis
 found_pending test program [] = None
 found_pending test program (p ∷ ps) = or_found (found_pending test program ps) (above_any test p.depth program p.names.now)
 
+-- what the class of the number gives
+abbrev pub Gives : (ClassParts → Bool) → ℕ → List ClassParts → ℕ → Option ClassParts → Type 0
+Gives test depth program number found = (name : List ℕ) → NamesClass program number name → above_from test depth program name ≡ found
+
 -- of the last names above a class: what they and all after them give is what the class gives
 abbrev pub Says : (ClassParts → Bool) → List ClassParts → Pending → Option ClassParts → Type 0
-Says test program p found = elim p.below [ None ↦ Unit {0} | Some name ↦ above_from test (suc p.depth) program name.now ≡ found ]
+Says test program p found = elim p.below [ None ↦ Unit {0} | Some number ↦ Gives test (suc p.depth) program number found ]
 
 unfoldable pub AllSay : (ClassParts → Bool) → List ClassParts → List Pending → Type 0
 AllSay test program [] = Unit {0}
 AllSay test program (p ∷ ps) = Says test program p (found_pending test program (p ∷ ps)) × AllSay test program ps
 
--- the walks that are kept, by name and by how many classes above the name, were in vain
-abbrev pub AllVain : (ClassParts → Bool) → List ClassParts → BTreeMap (Bor (List ℕ)) ℕ → Type 0
-AllVain test program kept = (name : Bor (List ℕ)) (depth : ℕ) → get by_units kept name ≡ Some depth → above_from test (suc depth) program name.now ≡ None
+-- the walks that are kept, by the class's number and by how many classes above it, were in vain
+abbrev pub AllVain : (ClassParts → Bool) → List ClassParts → BTreeMap ℕ ℕ → Type 0
+AllVain test program kept = (number depth : ℕ) → get nat_cmp kept number ≡ Some depth → Gives test (suc depth) program number None
 
 -- the first of a list of classes
 abbrev pub first_along : (ClassParts → Bool) → List ClassParts → Option ClassParts

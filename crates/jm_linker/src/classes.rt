@@ -173,17 +173,6 @@ fn find_in<'a>(classes: &'a [ClassParts], name: &Name) -> Option<&'a ClassParts>
     None
 }
 
-fn find_among<'c, 'a>(classes: &'c [Members<'a>], name: &Name) -> Option<&'c Members<'a>>
-    ensures { option_map (λ m. m.now.class.now) result ≡ class_in (map (λ m. m.class.now) classes.now) name.now }
-{
-    for members in classes {
-        if is_same(&members.class.name, name) {
-            return Some(members);
-        }
-    }
-    None
-}
-
 // The number of the first of the classes that has the name.
 fn number_among(classes: &[Members], name: &Name) -> Option<usize>
     ensures { result ≡ number_from 0 (map (λ m. m.class.now) classes.now) name.now }
@@ -194,14 +183,6 @@ fn number_among(classes: &[Members], name: &Name) -> Option<usize>
         }
     }
     None
-}
-
-#[tactic(auto, using(crate::proofs::ClassLaws::members_at))]
-fn members_at<'c, 'a>(classes: &'c [Members<'a>], number: usize) -> &'c Members<'a>
-    requires { number < length classes.now }
-    ensures { slice_get (map (λ m. m.class.now) classes.now) number ≡ Some result.now.class.now }
-{
-    &classes[number]
 }
 
 // The members of each of the built-in classes, in none of which one stands twice. They are few, and
@@ -357,26 +338,35 @@ impl<'a> Classes<'a> {
         }
     }
 
-    /// The class of a number among all classes: the built-in ones first, and then the program's.
+    /// The class of a number among all classes, with its members: the built-in ones first, and then
+    /// the program's.
+    pub fn members_numbered(&self, number: usize) -> Option<&Members<'a>>
+        ensures { option_map (λ m. m.now.class.now) result ≡ class_numbered self.now.program.now number }
+    {
+        match number.checked_sub(self.built_ins.len()) {
+            Some(own) => self.members.get(own),
+            None => self.built_ins.get(number),
+        }
+    }
+
+    /// The class of a number among all classes.
     pub fn class_at(&self, number: usize) -> Option<&'a ClassParts>
         ensures { option_copied result ≡ class_numbered self.now.program.now number }
     {
-        match number.checked_sub(self.built_ins.len()) {
-            Some(own) => match self.program.get(own) {
-                Some(class) => Some(class.parts()),
-                None => None,
-            },
-            None => Some(self.built_ins.get(number)?.class),
+        match self.members_numbered(number) {
+            Some(members) => Some(members.class),
+            None => None,
         }
     }
 
     /// The class of the name with its members: the program's, or else a built-in one.
+    #[tactic(auto, using(crate::proofs::NumberedLaws::of_its_number))]
     pub fn members(&self, name: &'a Name) -> Option<&Members<'a>>
         ensures { option_map (λ m. m.now.class.now) result ≡ class_named self.now.program.now name.now }
     {
-        match self.number(name) {
-            Some(number) => Some(members_at(&self.members, number)),
-            None => find_among(&self.built_ins, name),
+        match self.class_number(name) {
+            Some(number) => self.members_numbered(number),
+            None => None,
         }
     }
 

@@ -6,7 +6,7 @@ ghost use Rattle.jm_world.specs.Classes.{height, method_in};
 ghost use Rattle.jm_world.specs.Hierarchy.{chain};
 ghost use Rattle.jm_world.specs.Resolution.{instance_in};
 ghost use Rattle.jm_linker.specs.Answers.{IsOutOfMemory};
-ghost use Rattle.jm_linker.specs.Walks.{AllVain, Says, sought_in, above_from, above_any, first_along};
+ghost use Rattle.jm_linker.specs.Walks.{AllVain, Gives, Says, sought_in, above_any, first_along};
 
 use crate::classes::Classes;
 use crate::fault::LinkFault;
@@ -19,12 +19,12 @@ use std::collections::BTreeMap;
 use std::slice;
 
 // Names that a walk has still to look at, and how many classes up it may go from them. Where they
-// are the last ones above a class, its name stands with them.
+// are the last ones above a class, its number stands with them.
 #[derive(Clone, Copy)]
 pub struct Pending<'a> {
     names: &'a [Name],
     depth: usize,
-    below: Option<&'a Name>,
+    below: Option<usize>,
 }
 
 // Whether the class declares the method as one of instances.
@@ -60,25 +60,22 @@ fn superclass_of(class: &ClassParts) -> &[Name]
     }
 }
 
-// Whether a walk up from the name, over as many classes above it, was in vain.
-fn is_tried<'a>(tried: &BTreeMap<&'a [u16], usize>, name: &'a Name, depth: usize) -> bool
-    ensures { (test : ClassParts → Bool) (program : List ClassParts) → AllVain test program tried.now → result ≡ true → above_from test (suc depth) program name.now ≡ None }
+// Whether a walk up from the class of the number, over as many classes above it, was in vain.
+fn is_tried(tried: &BTreeMap<usize, usize>, number: usize, depth: usize) -> bool
+    ensures { (test : ClassParts → Bool) (program : List ClassParts) → AllVain test program tried.now → result ≡ true → Gives test (suc depth) program number None }
 {
-    match tried.get(&name.units()) {
+    match tried.get(&number) {
         Some(most) => depth <= *most,
         None => false,
     }
 }
 
 // Keeps that a walk was in vain, whose last names these were.
-fn keep_tried<'a>(
-    tried: &mut BTreeMap<&'a [u16], usize>,
-    last: Pending<'a>,
-) -> Result<(), AllocError>
+fn keep_tried(tried: &mut BTreeMap<usize, usize>, last: Pending<'_>) -> Result<(), AllocError>
     ensures { OnOk result ((test : ClassParts → Bool) (program : List ClassParts) → AllVain test program tried.old → Says test program last.entry None → AllVain test program tried.new) }
 {
-    if let Some(name) = last.below {
-        tried.insert(name.units(), last.depth)?;
+    if let Some(number) = last.below {
+        tried.insert(number, last.depth)?;
     }
     Ok(())
 }
@@ -113,25 +110,29 @@ pub fn find_above<'c, 'a>(
             continue;
         };
         pending.push(Pending { names, ..next })?;
-        if is_tried(&tried, name, depth) {
+        let Some(number) = classes.class_number(name) else {
+            continue;
+        };
+        if is_tried(&tried, number, depth) {
             continue;
         }
-        if let Some(members) = classes.members(name) {
-            if sought.is_in(members) {
-                return Ok(Some(members));
-            }
-            let class = members.class;
-            pending.push(Pending {
-                names: superclass_of(class),
-                depth,
-                below: Some(name),
-            })?;
-            pending.push(Pending {
-                names: class.interfaces.as_slice(),
-                depth,
-                below: None,
-            })?;
+        let Some(members) = classes.members_numbered(number) else {
+            continue;
+        };
+        if sought.is_in(members) {
+            return Ok(Some(members));
         }
+        let class = members.class;
+        pending.push(Pending {
+            names: superclass_of(class),
+            depth,
+            below: Some(number),
+        })?;
+        pending.push(Pending {
+            names: class.interfaces.as_slice(),
+            depth,
+            below: None,
+        })?;
     }
     Err(LinkFault::OutOfMemory)
 }

@@ -1,11 +1,11 @@
 -- A turn of the walk.
-use Rattle.std.proofs.Common.{◌≡◌, suc, [], ◌++◌, ◌-◌, take, refl, sym, ap, subst, ◌∙◌, arith}
+use Rattle.std.proofs.Common.{◌≡◌, suc, [], ◌++◌, ◌-◌, take, refl, sym, ap, ◌∙◌, arith}
 use Rattle.std.proofs.lemmas.List.{nil_from_length}
-use Rattle.jm_linker.specs.Walks.{sought_in, above_from, found_pending, AllSay}
+use Rattle.jm_linker.specs.Walks.{sought_in, above_from, found_pending}
+use Rattle.jm_linker.proofs.NumberedLaws.{of_its_number}
 use Rattle.jm_linker.proofs.WalkLaws.{only_pending, none_pending, too_deep, no_more, found_by_first_name, no_such, is_here, here_first}
 use Rattle.jm_linker.proofs.WalkLaws.{nothing_first, say_dropped, say_skipped, say_above, was_vain, begin_says, none_kept, deep_none, empty_none}
 use Rattle.jm_linker.proofs.walk.find_above.Goals as goal
-use Rattle.jm_linker.proofs.walk.find_above.Goals.{in-Some-members+else-is_in+in_ok-push-3+in_ok-push-4, in_default-members}
 
 pub loop-init : goal.loop-init
 loop-init c =
@@ -44,13 +44,26 @@ loop-preserved-in_default-split_first c =
       c.in_ok-keep_tried.ensures test program inv.2 (was_vain test program _ _ _ c.in-Some.ensures.items none inv.1),
     )
 
+pub loop-preserved-in_default-class_number : goal.loop-preserved-in_default-class_number
+loop-preserved-in_default-class_number c =
+    let test = sought_in c.args.sought.now in
+    let program = c.args.classes.now.program.now in
+    let inv = c.loop.invariant in
+    let none = no_such test program c.in-Some.next.depth c.in-Some-split_first.name.now c.in_default-class_number.ensures in
+    let first = found_by_first_name test program _ _ _ _ _ c.in-Some-split_first.name.now _
+    c.in-Some.ensures.items c.in-Some-split_first.ensures.cases.0 refl refl c.in_ok-push-2.ensures.items in (
+      nothing_first _ _ _ _ first none inv.0,
+      say_skipped test program _ _ _ _ _ c.in-Some-split_first.name.now _ c.in-Some.ensures.items c.in-Some-split_first.ensures.cases.0 refl refl refl c.in_ok-push-2.ensures.items none inv.1,
+      inv.2,
+    )
+
 pub loop-preserved-then-is_tried : goal.loop-preserved-then-is_tried
 loop-preserved-then-is_tried c =
     let test = sought_in c.args.sought.now in
     let program = c.args.classes.now.program.now in
     let inv = c.loop.invariant in
     let one : suc (c.in-Some.next.depth - 1) ≡ c.in-Some.next.depth = omega (arith, c.if-next-eq0.false) in
-    let vain = c.is_tried.ensures test program inv.2 c.if-is_tried.true in
+    let vain = c.is_tried.ensures test program inv.2 c.if-is_tried.true c.in-Some-split_first.name.now c.in-Some-class_number.ensures.named in
     let none = ap (λ n. above_from test n program c.in-Some-split_first.name.now) (sym one) ∙ vain in
     let first = found_by_first_name test program _ _ _ _ _ c.in-Some-split_first.name.now _
     c.in-Some.ensures.items c.in-Some-split_first.ensures.cases.0 refl refl c.in_ok-push-2.ensures.items in (
@@ -63,26 +76,19 @@ pub returns-then-is_in : goal.returns-then-is_in
 returns-then-is_in c =
     let test = sought_in c.args.sought.now in
     let program = c.args.classes.now.program.now in
+    let class = c.in-Some-members_numbered.members.now.class.now in
+    let named = sym (of_its_number program c.in-Some-split_first.name.now c.in-Some-class_number.number c.in-Some-class_number.ensures) ∙ sym c.in-Some-members_numbered.ensures in
     let first = found_by_first_name test program _ _ _ _ _ c.in-Some-split_first.name.now _
     c.in-Some.ensures.items c.in-Some-split_first.ensures.cases.0 refl refl c.in_ok-push-2.ensures.items in
-    let here = is_here test program c.in-Some.next.depth c.in-Some-split_first.name.now c.in-Some-members.members.now.class.now c.if-next-eq0.false (sym c.in-Some-members.ensures) (sym c.is_in.ensures ∙ c.if-is_in.true) in
-    here_first _ _ _ _ c.in-Some-members.members.now.class.now first here c.loop.invariant.0
+    let here = is_here test program c.in-Some.next.depth c.in-Some-split_first.name.now class c.if-next-eq0.false named (sym c.is_in.ensures ∙ c.if-is_in.true) in
+    here_first _ _ _ _ class first here c.loop.invariant.0
 
 pub loop-preserved : goal.loop-preserved
 loop-preserved c =
     let test = sought_in c.args.sought.now in
     let program = c.args.classes.now.program.now in
     let inv = c.loop.invariant in
-    let first = found_by_first_name test program _ _ _ _ _ c.in-Some-split_first.name.now _
-    c.in-Some.ensures.items c.in-Some-split_first.ensures.cases.0 refl refl c.in_ok-push-2.ensures.items in
-    elim c.match-members.branch [
-      | in-Some-members+else-is_in+in_ok-push-3+in_ok-push-4 w ↦
-          let turn = say_above test program _ _ _ _ _ c.in-Some.next _ _ _ c.in-Some-split_first.name _ w.in-Some-members.members.now.class.now c.in-Some.ensures.items c.in-Some-split_first.ensures.cases.0 refl refl refl c.in_ok-push-2.ensures.items w.superclass_of.ensures refl refl w.in_ok-push-3.ensures.items w.as_slice.ensures refl refl w.in_ok-push-4.ensures.items c.if-next-eq0.false (sym w.in-Some-members.ensures) (sym w.is_in.ensures ∙ w.if-is_in.false) inv.1 in
-          (ap (λ v. found_pending test program v.items) w.pending-is ∙ sym turn.0 ∙ inv.0, subst (λ v. AllSay test program v.items) (sym w.pending-is) turn.1, inv.2)
-      | in_default-members w ↦
-          let none = no_such test program c.in-Some.next.depth c.in-Some-split_first.name.now (sym w.in_default-members.ensures) in (
-            ap (λ v. found_pending test program v.items) w.pending-is ∙ nothing_first _ _ _ _ first none inv.0,
-            subst (λ v. AllSay test program v.items) (sym w.pending-is) (say_skipped test program _ _ _ _ _ c.in-Some-split_first.name.now _ c.in-Some.ensures.items c.in-Some-split_first.ensures.cases.0 refl refl refl c.in_ok-push-2.ensures.items none inv.1),
-            inv.2,
-          )
-    ]
+    let class = c.in-Some-members_numbered.members.now.class.now in
+    let named = sym (of_its_number program c.in-Some-split_first.name.now c.in-Some-class_number.number c.in-Some-class_number.ensures) ∙ sym c.in-Some-members_numbered.ensures in
+    let turn = say_above test program _ _ _ _ _ c.in-Some.next _ _ _ c.in-Some-split_first.name.now _ c.in-Some-class_number.number class c.in-Some.ensures.items c.in-Some-split_first.ensures.cases.0 refl refl refl c.in_ok-push-2.ensures.items c.superclass_of.ensures refl refl c.in_ok-push-3.ensures.items c.as_slice.ensures refl refl c.in_ok-push-4.ensures.items c.if-next-eq0.false c.in-Some-class_number.ensures.named named (sym c.is_in.ensures ∙ c.if-is_in.false) inv.1 in
+    (sym turn.0 ∙ inv.0, turn.1, inv.2)
