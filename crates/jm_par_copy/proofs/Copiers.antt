@@ -22,7 +22,7 @@ use Rattle.jm_par_copy.specs.Notes.{AllNote}
 use Rattle.jm_par_copy.specs.Pieces.{is_in, objects_of}
 use Rattle.jm_par_copy.specs.Roots.{AreRootsOf, RootsStand}
 use Rattle.jm_par_copy.specs.Round.{AreReady, AreRound, IsKept, IsReady, IsRound}
-use Rattle.jm_par_copy.specs.Strides.{IsNewOf, OwnsEnds, owner_of}
+use Rattle.jm_par_copy.specs.Strides.{OwnsEnds, owner_of}
 use Rattle.jm_par_copy.specs.Together.{Part, AreApart, joint, joint_done, of_share, only}
 use Rattle.jm_par_copy.specs.Turns.{AllAdd, IsShared, held_after, wins_after, wins_before}
 use Rattle.jm_par_copy.specs.Working.{IsNew, KnowsMore, Pairs, WinsMore, done_by, held_by, known_to}
@@ -32,11 +32,12 @@ use Rattle.jm_par_copy.specs.declared.copier.Copier.{Copier}
 use Rattle.jm_par_copy.proofs.Aside.{is_there}
 use Rattle.jm_par_copy.proofs.Begins.{append_none, working_begins}
 use Rattle.jm_par_copy.proofs.Beside.{same_in}
+use Rattle.jm_par_copy.proofs.Claiming.{claiming_new}
 use Rattle.jm_par_copy.proofs.Fresh.{nothing_made}
 use Rattle.jm_par_copy.proofs.Listing.{Has, has_from, contains_from, has_left, has_right, has_both}
 use Rattle.jm_par_copy.proofs.Noting.{back_notes, fresh_notes, round_notes}
 use Rattle.jm_par_copy.proofs.Sharing.{both_left, both_right, both_where, copying_both, copying_knows, copying_nothing, copying_won, deal_keeps, only_in, only_some, pairs_more}
-use Rattle.jm_par_copy.proofs.Strides.{ends_on, longer_same, new_before, new_is_own}
+use Rattle.jm_par_copy.proofs.Strides.{ends_on, longer_same, new_is_own}
 use Rattle.jm_par_copy.proofs.Turns.{held_is_won}
 
 -- the same objects, and of each as much is scanned
@@ -208,7 +209,7 @@ module _ (stores : List Blocks) (roots : List ℕ) (known wins : List (ℕ × �
 ready_all : (stores : List Blocks) (roots : List ℕ) (words : TableView) (pieces : List Piece) (known wins : List (ℕ × ℕ)) (cs : List Copier) → AreSeated stores words pieces cs → AreRooted stores roots cs → AllBegin stores roots known wins cs → AreReady stores roots words cs
 ready_all stores roots words pieces known wins [] s t b = tt
 ready_all stores roots words pieces known wins (c ∷ cs) s t b = (
-  record { table = s.0.table; objects = s.0.objects; copiers = s.0.copiers; ends = s.0.ends; marks = s.0.marks; given = s.0.given; number = s.0.number; rooted = t.0; holding = (known, of_share (share (contents c)) wins, length c.seat.hand.wins, b.0) },
+  record { claims = record { table = s.0.table; objects = s.0.objects; copiers = s.0.copiers; ends = s.0.ends }; marks = s.0.marks; given = s.0.given; number = s.0.number; rooted = t.0; holding = (known, of_share (share (contents c)) wins, length c.seat.hand.wins, b.0) },
   ready_all stores roots words pieces known wins cs s.1 t.1 b.1,
 )
 
@@ -516,19 +517,19 @@ step_all stores roots words pieces known wins (c ∷ cs) (d ∷ ds) s b r f = (s
   where
     step : IsSeated stores words pieces c → HoldsBy stores roots known wins c c → IsRound stores roots c d → IsKept stores roots c d → IsDone stores roots known wins c d
     step s b r t = record {
-      number = r.number;
+      number = r.on.number;
       rooted = λ k. let now = r.rooted f.0 in record { none = λ e. let two : true ≡ false = sym now.0 ∙ e in cc; all = λ e. now.1 };
-      table = r.table;
-      copier = r.copier;
-      copiers = r.copiers;
-      knows = t.knows;
-      more = t.wins;
-      ends = ends_on c.seat.hand.copier c.seat.hand.copiers d.seat.hand.copier d.seat.hand.copiers c.to d.to r.copier r.copiers r.goes s.ends;
+      table = r.on.claiming.table;
+      copier = r.on.claiming.copier;
+      copiers = r.on.claiming.copiers;
+      knows = t.learns.knows;
+      more = t.learns.wins;
+      ends = ends_on c.seat.hand.copier c.seat.hand.copiers d.seat.hand.copier d.seat.hand.copiers c.to d.to r.on.claiming.copier r.on.claiming.copiers r.on.claiming.goes s.ends;
       given = t.given;
       marks = t.marks;
       holding = t.holding known (of_share (share (contents c)) wins) (length c.seat.hand.wins) b;
-      made = λ n h. r.goes.made n h.0 h.1;
-      new = λ n h. new_before c.seat.hand.copier c.seat.hand.copiers c.to d.to n r.stays r.goes (subst (λ x. IsNewOf x c.seat.hand.copiers d.to n) r.copier (subst (λ m. IsNewOf d.seat.hand.copier m d.to n) r.copiers h));
+      made = λ n h. r.on.claiming.goes.made n h.0 h.1;
+      new = λ n h. claiming_new c.seat d.seat c.to d.to n r.on.claiming h;
       pieces = λ n h. inl (one_same c.given.items d.given.items n t.same h);
     }
 
@@ -603,11 +604,11 @@ fresh_seated stores roots words pieces (c ∷ cs) no_one f = (one f.0.ready f.0.
     one : IsReady stores roots words c → IsFreshOwn c.to → c.seat.hand.wins ≡ [] → IsSeated stores words pieces c
     one r o w = record {
       wins = λ i n k. absurd (subst (λ ws. Has ws (i, n)) w (has_from c.seat.hand.wins (i, n) k));
-      table = r.table;
-      objects = r.objects;
-      copiers = r.copiers;
+      table = r.claims.table;
+      objects = r.claims.objects;
+      copiers = r.claims.copiers;
       number = r.number;
-      ends = r.ends;
+      ends = r.claims.ends;
       marks = r.marks;
       given = r.given;
       local = local_of stores roots r.holding.0 r.holding.1 r.holding.2 c r.holding.3;

@@ -127,7 +127,7 @@ pub round_seats : (stores : List Blocks) (roots : List ℕ) (cs ds : List Copier
 round_seats stores roots [] [] r = tt
 round_seats stores roots [] (d ∷ ds) r = absurd r
 round_seats stores roots (c ∷ cs) [] r = absurd r
-round_seats stores roots (c ∷ cs) (d ∷ ds) r = (record { number = r.0.number; table = r.0.table; copier = r.0.copier; copiers = r.0.copiers; young_lane = r.0.stays.young_lane; old_lane = r.0.stays.old_lane; kept = r.0.stays.kept }, round_seats stores roots cs ds r.1)
+round_seats stores roots (c ∷ cs) (d ∷ ds) r = (record { number = r.0.on.number; table = r.0.on.claiming.table; copier = r.0.on.claiming.copier; copiers = r.0.on.claiming.copiers; young_lane = r.0.on.claiming.stays.young_lane; old_lane = r.0.on.claiming.stays.old_lane; kept = r.0.on.claiming.stays.kept }, round_seats stores roots cs ds r.1)
 
 pub round_many : (stores : List Blocks) (roots : List ℕ) (cs ds : List Copier) → AreRound stores roots cs ds → length ds ≡ length cs
 round_many stores roots [] [] r = refl

@@ -3,6 +3,7 @@ pub mod Listing
 pub mod Sharing
 pub mod Joining
 pub mod Working
+pub mod Claiming
 pub mod Skipped
 pub mod Staying
 pub mod Pointers

@@ -39,9 +39,9 @@ round_longer stores roots [] (d ∷ ds) r = absurd r
 round_longer stores roots (c ∷ cs) [] r = absurd r
 round_longer stores roots (c ∷ cs) (d ∷ ds) r = (
   record {
-    seat = record { number = r.0.number; table = r.0.table; copier = r.0.copier; copiers = r.0.copiers; young_lane = r.0.stays.young_lane; old_lane = r.0.stays.old_lane; kept = r.0.stays.kept };
-    longer = r.0.goes.old.longer;
-    below = r.0.stays.below;
+    seat = record { number = r.0.on.number; table = r.0.on.claiming.table; copier = r.0.on.claiming.copier; copiers = r.0.on.claiming.copiers; young_lane = r.0.on.claiming.stays.young_lane; old_lane = r.0.on.claiming.stays.old_lane; kept = r.0.on.claiming.stays.kept };
+    longer = r.0.on.claiming.goes.old.longer;
+    below = r.0.on.claiming.stays.below;
   },
   round_longer stores roots cs ds r.1,
 )

@@ -73,10 +73,12 @@ one_is_ready stores roots words before number t c objects few below own s = reco
 
     ready : IsReady stores roots words c
     ready = record {
-      table = ap (λ (v : SeatView). v.table) s.seat_is;
-      objects = objects;
-      copiers = ap (λ (h : Hand). h.copiers) hand;
-      ends = subst (λ (h : Hand). OwnsEnds h.copier h.copiers c.to) (sym hand) (subst (λ (v : Copies). OwnsEnds number words.copiers v) (sym s.to_is) own.ends);
+      claims = record {
+        table = ap (λ (v : SeatView). v.table) s.seat_is;
+        objects = objects;
+        copiers = ap (λ (h : Hand). h.copiers) hand;
+        ends = subst (λ (h : Hand). OwnsEnds h.copier h.copiers c.to) (sym hand) (subst (λ (v : Copies). OwnsEnds number words.copiers v) (sym s.to_is) own.ends);
+      };
       marks = marks;
       given = given;
       number = subst (λ k. (k < words.copiers) × (words.copiers ≤ 16)) (sym s.number_is) (below, few);

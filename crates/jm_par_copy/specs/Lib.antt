@@ -1,5 +1,6 @@
 pub mod Strides
 pub mod Working
+pub mod Claiming
 pub mod Together
 pub mod Pieces
 pub mod Notes

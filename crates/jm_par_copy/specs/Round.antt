@@ -2,23 +2,17 @@
 use Rattle.std.specs.Prelude.{◌≡◌, ℕ, ◌<◌, ◌≤◌, List, [], ◌∷◌, Some, true, false, length, slice_get}
 use Rattle.jm_blocks.specs.Stores.{Blocks}
 use Rattle.jm_forward.specs.Hands.{TableView}
-use Rattle.jm_copy.specs.Copies.{Stays}
 use Rattle.jm_copy.specs.Marks.{AllPassed, AreMarks}
-use Rattle.jm_copy.specs.Numbers.{object_count}
-use Rattle.jm_par_copy.specs.Strides.{Goes, OwnsEnds}
+use Rattle.jm_par_copy.specs.Claiming.{CanClaim, KeepsClaiming, LearnsMore}
 use Rattle.jm_par_copy.specs.Roots.{IsRooted, RootsStand}
 use Rattle.jm_par_copy.specs.Holding.{AreGiven, AreSamePieces, IsHolding, KeepsHolding}
 use Rattle.jm_par_copy.specs.Notes.{IsNoting}
-use Rattle.jm_par_copy.specs.Working.{KnowsMore, WinsMore}
 use Rattle.jm_par_copy.specs.declared.piece.Piece.{Piece}
 use Rattle.jm_par_copy.specs.declared.copier.Copier.{Copier}
 
 -- it has a seat of the table, lanes of its own, and something that it knows and holds
 pub record IsReady (stores : List Blocks) (roots : List ℕ) (words : TableView) (c : Copier) : Type 0 where
-  pub table : c.seat.table ≡ words.table
-  pub objects : words.objects ≡ object_count stores
-  pub copiers : c.seat.hand.copiers ≡ words.copiers
-  pub ends : OwnsEnds c.seat.hand.copier c.seat.hand.copiers c.to
+  pub claims : CanClaim stores words c.seat c.to
   pub marks : AreMarks c.to c.marks
   pub given : AreGiven c.seat.hand c.to c.given.items
   pub number : (c.number < words.copiers) × (words.copiers ≤ 16)
@@ -33,18 +27,13 @@ pub record IsKept (stores : List Blocks) (roots : List ℕ) (c d : Copier) : Typ
   pub same : AreSamePieces c.given.items d.given.items
   pub marks : AreMarks d.to d.marks
   pub ended : d.ended ≡ true → AllPassed d.to d.marks × ((i : ℕ) (x : Piece) → slice_get d.given.items i ≡ Some x → x.mark ≡ length x.block)
-  pub knows : KnowsMore c.seat.hand d.seat.hand
-  pub wins : WinsMore c.seat.hand d.seat.hand
+  pub learns : LearnsMore c.seat.hand d.seat.hand
   pub noting : IsNoting c → IsNoting d
 
 -- what no step of a round changes, refused or not
 pub record GoesOn (c d : Copier) : Type 0 where
   pub number : d.number ≡ c.number
-  pub table : d.seat.table ≡ c.seat.table
-  pub copier : d.seat.hand.copier ≡ c.seat.hand.copier
-  pub copiers : d.seat.hand.copiers ≡ c.seat.hand.copiers
-  pub stays : Stays c.to d.to
-  pub goes : Goes c.seat.hand.copier c.seat.hand.copiers c.to d.to
+  pub claiming : KeepsClaiming c.seat d.seat c.to d.to
 
 -- the scan of a round
 pub record IsScan (stores : List Blocks) (roots : List ℕ) (c d : Copier) : Type 0 where
@@ -55,13 +44,8 @@ pub record IsScan (stores : List Blocks) (roots : List ℕ) (c d : Copier) : Typ
 
 -- after it the copier has the new places of all its roots
 pub record IsRound (stores : List Blocks) (roots : List ℕ) (c d : Copier) : Type 0 where
-  pub number : d.number ≡ c.number
-  pub table : d.seat.table ≡ c.seat.table
-  pub copier : d.seat.hand.copier ≡ c.seat.hand.copier
-  pub copiers : d.seat.hand.copiers ≡ c.seat.hand.copiers
+  pub on : GoesOn c d
   pub rooted : d.refused ≡ false → (d.rooted ≡ true) × IsRooted stores roots d
-  pub stays : Stays c.to d.to
-  pub goes : Goes c.seat.hand.copier c.seat.hand.copiers c.to d.to
   pub kept : d.refused ≡ false → IsKept stores roots c d
 
 abbrev pub AreReady : List Blocks → List ℕ → TableView → List Copier → Type 0

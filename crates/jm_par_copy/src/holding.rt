@@ -1,12 +1,10 @@
 // The blocks that a copier was given.
 
 ghost use Rattle.std.specs.Prelude.{◌≡◌, ◌≢◌, ℕ, ◌<◌, ◌≤◌, List, OnOk, Some, length, slice_get};
-ghost use Rattle.jm_copy.specs.Copies.{IsSource, Stays};
-ghost use Rattle.jm_copy.specs.Numbers.{object_count};
+ghost use Rattle.jm_copy.specs.Copies.{IsSource};
 ghost use Rattle.jm_par_copy.specs.Holding.{AreGiven, AreSamePieces, IsHolding, KeepsHolding};
 ghost use Rattle.jm_par_copy.specs.Notes.{AreNoted, KeepsListed};
-ghost use Rattle.jm_par_copy.specs.Strides.{Goes, OwnsEnds};
-ghost use Rattle.jm_par_copy.specs.Working.{KnowsMore, WinsMore};
+ghost use Rattle.jm_par_copy.specs.Claiming.{CanClaim, KeepsClaiming, LearnsMore};
 
 use crate::gate::Gate;
 use crate::owner::CopierBlocks;
@@ -30,8 +28,7 @@ fn scan_one<G: Gate>(
     number: usize,
 ) -> Result<(), AllocError>
     requires source { IsSource from.stores.now from.numbers.now }
-    requires words { (seat.old.table ≡ words.now.table) × (words.now.objects ≡ object_count from.stores.now) × (seat.old.hand.copiers ≡ words.now.copiers) }
-    requires ends { OwnsEnds seat.old.hand.copier seat.old.hand.copiers to.old }
+    requires claims { CanClaim from.stores.now words.now seat.old to.old }
     requires given { AreGiven seat.old.hand to.old given.old.items }
     requires holding { (base : List (ℕ × ℕ)) × (held : List (ℕ × ℕ)) × (k : ℕ) × IsHolding from.stores.now from.roots.now base held k seat.old.hand to.old marks.now given.old.items }
     requires there { number < length given.old.items }
@@ -43,13 +40,8 @@ fn scan_one<G: Gate>(
     ensures others { (i : ℕ) → i ≢ number → slice_get given.new.items i ≡ slice_get given.old.items i }
     ensures listed { OnOk result (KeepsListed to.old to.new) }
     ensures noted { OnOk result (to.old.young.lane ≡ 1 → AreNoted given.old.items → AreNoted given.new.items) }
-    ensures knows { OnOk result (KnowsMore seat.old.hand seat.new.hand) }
-    ensures wins { OnOk result (WinsMore seat.old.hand seat.new.hand) }
-    ensures stays { Stays to.old to.new }
-    ensures goes { Goes seat.old.hand.copier seat.old.hand.copiers to.old to.new }
-    ensures table { seat.new.table ≡ seat.old.table }
-    ensures copier { seat.new.hand.copier ≡ seat.old.hand.copier }
-    ensures copiers { seat.new.hand.copiers ≡ seat.old.hand.copiers }
+    ensures learns { OnOk result (LearnsMore seat.old.hand seat.new.hand) }
+    ensures on { KeepsClaiming seat.old seat.new to.old to.new }
 {
     scan_piece(
         alloc,
@@ -80,8 +72,7 @@ pub fn scan_all_given<G: Gate>(
     count: usize,
 ) -> Result<(), AllocError>
     requires source { IsSource from.stores.now from.numbers.now }
-    requires words { (seat.old.table ≡ words.now.table) × (words.now.objects ≡ object_count from.stores.now) × (seat.old.hand.copiers ≡ words.now.copiers) }
-    requires ends { OwnsEnds seat.old.hand.copier seat.old.hand.copiers to.old }
+    requires claims { CanClaim from.stores.now words.now seat.old to.old }
     requires given { AreGiven seat.old.hand to.old given.old.items }
     requires holding { (base : List (ℕ × ℕ)) × (held : List (ℕ × ℕ)) × (k : ℕ) × IsHolding from.stores.now from.roots.now base held k seat.old.hand to.old marks.now given.old.items }
     requires count { count ≤ length given.old.items }
@@ -92,13 +83,8 @@ pub fn scan_all_given<G: Gate>(
     ensures end { OnOk result ((i : ℕ) (x : Piece) → i < count → slice_get given.new.items i ≡ Some x → x.mark ≡ length x.block) }
     ensures listed { OnOk result (KeepsListed to.old to.new) }
     ensures noted { OnOk result (to.old.young.lane ≡ 1 → AreNoted given.old.items → AreNoted given.new.items) }
-    ensures knows { OnOk result (KnowsMore seat.old.hand seat.new.hand) }
-    ensures wins { OnOk result (WinsMore seat.old.hand seat.new.hand) }
-    ensures stays { Stays to.old to.new }
-    ensures goes { Goes seat.old.hand.copier seat.old.hand.copiers to.old to.new }
-    ensures table { seat.new.table ≡ seat.old.table }
-    ensures copier { seat.new.hand.copier ≡ seat.old.hand.copier }
-    ensures copiers { seat.new.hand.copiers ≡ seat.old.hand.copiers }
+    ensures learns { OnOk result (LearnsMore seat.old.hand seat.new.hand) }
+    ensures on { KeepsClaiming seat.old seat.new to.old to.new }
 {
     for number in 0..count {
         scan_one(

@@ -5,15 +5,13 @@ ghost use Rattle.jm_values.specs.declared.value.Value.TheVariants.{Ref};
 ghost use Rattle.jm_heap.specs.Packing.{Fits, kind_of};
 ghost use Rattle.jm_blocks.specs.Objects.{Object};
 ghost use Rattle.jm_copy.specs.Copying.{Progress};
-ghost use Rattle.jm_copy.specs.Copies.{IsSource, Stays};
+ghost use Rattle.jm_copy.specs.Copies.{IsSource};
 ghost use Rattle.jm_copy.specs.Marks.{at};
 ghost use Rattle.jm_copy.specs.Naming.{IsEnded, NamesNext};
-ghost use Rattle.jm_copy.specs.Numbers.{object_count};
 ghost use Rattle.jm_copy.specs.Pointing.{points_to};
 ghost use Rattle.jm_par_copy.specs.Notes.{IsNoted, KeepsListed};
-ghost use Rattle.jm_par_copy.specs.Strides.{Goes, OwnsEnds};
+ghost use Rattle.jm_par_copy.specs.Claiming.{CanClaim, KeepsClaiming, LearnsMore};
 ghost use Rattle.jm_par_copy.specs.Pieces.{BecomesGiven, ForwardsGiven, IsGiven, IsPiece, IsSamePiece, KeepsGiven, OthersAre, place_in, progress_of};
-ghost use Rattle.jm_par_copy.specs.Working.{KnowsMore, WinsMore};
 
 use crate::gate::Gate;
 use crate::owner::CopierBlocks;
@@ -78,8 +76,7 @@ fn forward_given<G: Gate>(
     named: Place,
 ) -> Result<bool, AllocError>
     requires source { IsSource from.stores.now from.numbers.now }
-    requires words { (seat.old.table ≡ words.now.table) × (words.now.objects ≡ object_count from.stores.now) × (seat.old.hand.copiers ≡ words.now.copiers) }
-    requires ends { OwnsEnds seat.old.hand.copier seat.old.hand.copiers to.old }
+    requires claims { CanClaim from.stores.now words.now seat.old to.old }
     requires piece { IsPiece piece.old }
     requires working { (base : List (ℕ × ℕ)) × (held : List (ℕ × ℕ)) × (k : ℕ) × (rest : ℕ → Option Object) × (done : Progress) × IsGiven from.stores.now from.roots.now base held k rest (at done (place_in piece.old index) number) seat.old.hand to.old piece.old }
     requires there { (a : Object) × (slice_get piece.old.block index ≡ Some a) × (slice_get a.values number ≡ Some (Ref named)) × ((p : ℕ) → Fits (kind_of a.class) (Ref p)) }
@@ -90,13 +87,8 @@ fn forward_given<G: Gate>(
     ensures same { OnOk result (IsSamePiece piece.old piece.new) }
     ensures mark { piece.new.mark ≡ piece.old.mark }
     ensures pointing { piece.new.pointing ≡ piece.old.pointing }
-    ensures knows { OnOk result (KnowsMore seat.old.hand seat.new.hand) }
-    ensures wins { OnOk result (WinsMore seat.old.hand seat.new.hand) }
-    ensures stays { Stays to.old to.new }
-    ensures goes { Goes seat.old.hand.copier seat.old.hand.copiers to.old to.new }
-    ensures table { seat.new.table ≡ seat.old.table }
-    ensures copier { seat.new.hand.copier ≡ seat.old.hand.copier }
-    ensures copiers { seat.new.hand.copiers ≡ seat.old.hand.copiers }
+    ensures learns { OnOk result (LearnsMore seat.old.hand seat.new.hand) }
+    ensures on { KeepsClaiming seat.old seat.new to.old to.new }
 {
     let copy = forward(alloc, from, words, gate, copier, claims, seat, to, named)?;
     piece.block.set(index, number, Value::Ref(copy));
@@ -117,8 +109,7 @@ fn scan_given<G: Gate>(
     piece: &mut Piece,
 ) -> Result<bool, AllocError>
     requires source { IsSource from.stores.now from.numbers.now }
-    requires words { (seat.old.table ≡ words.now.table) × (words.now.objects ≡ object_count from.stores.now) × (seat.old.hand.copiers ≡ words.now.copiers) }
-    requires ends { OwnsEnds seat.old.hand.copier seat.old.hand.copiers to.old }
+    requires claims { CanClaim from.stores.now words.now seat.old to.old }
     requires piece { IsPiece piece.old }
     requires working { (base : List (ℕ × ℕ)) × (held : List (ℕ × ℕ)) × (k : ℕ) × (rest : ℕ → Option Object) × (done : Progress) × IsGiven from.stores.now from.roots.now base held k rest (progress_of piece.old done) seat.old.hand to.old piece.old }
     requires there { piece.old.mark < length piece.old.block }
@@ -129,13 +120,8 @@ fn scan_given<G: Gate>(
     ensures others { OnOk result (OthersAre piece.old piece.new piece.old.mark) }
     ensures pointing { piece.new.pointing ≡ piece.old.pointing }
     ensures listed { OnOk result (KeepsListed to.old to.new) }
-    ensures knows { OnOk result (KnowsMore seat.old.hand seat.new.hand) }
-    ensures wins { OnOk result (WinsMore seat.old.hand seat.new.hand) }
-    ensures stays { Stays to.old to.new }
-    ensures goes { Goes seat.old.hand.copier seat.old.hand.copiers to.old to.new }
-    ensures table { seat.new.table ≡ seat.old.table }
-    ensures copier { seat.new.hand.copier ≡ seat.old.hand.copier }
-    ensures copiers { seat.new.hand.copiers ≡ seat.old.hand.copiers }
+    ensures learns { OnOk result (LearnsMore seat.old.hand seat.new.hand) }
+    ensures on { KeepsClaiming seat.old seat.new to.old to.new }
 {
     let index = piece.mark;
     let mut points = false;
@@ -202,8 +188,7 @@ pub fn scan_piece<G: Gate>(
     piece: &mut Piece,
 ) -> Result<(), AllocError>
     requires source { IsSource from.stores.now from.numbers.now }
-    requires words { (seat.old.table ≡ words.now.table) × (words.now.objects ≡ object_count from.stores.now) × (seat.old.hand.copiers ≡ words.now.copiers) }
-    requires ends { OwnsEnds seat.old.hand.copier seat.old.hand.copiers to.old }
+    requires claims { CanClaim from.stores.now words.now seat.old to.old }
     requires piece { IsPiece piece.old }
     requires working { (base : List (ℕ × ℕ)) × (held : List (ℕ × ℕ)) × (k : ℕ) × (rest : ℕ → Option Object) × (done : Progress) × IsGiven from.stores.now from.roots.now base held k rest (progress_of piece.old done) seat.old.hand to.old piece.old }
     ensures working { OnOk result (KeepsGiven from.entry.stores.now from.entry.roots.now seat.old.hand seat.new.hand to.old to.new piece.old piece.new) }
@@ -211,13 +196,8 @@ pub fn scan_piece<G: Gate>(
     ensures end { OnOk result (piece.new.mark ≡ length piece.new.block) }
     ensures listed { OnOk result (KeepsListed to.old to.new) }
     ensures noted { OnOk result (to.old.young.lane ≡ 1 → IsNoted piece.old → IsNoted piece.new) }
-    ensures knows { OnOk result (KnowsMore seat.old.hand seat.new.hand) }
-    ensures wins { OnOk result (WinsMore seat.old.hand seat.new.hand) }
-    ensures stays { Stays to.old to.new }
-    ensures goes { Goes seat.old.hand.copier seat.old.hand.copiers to.old to.new }
-    ensures table { seat.new.table ≡ seat.old.table }
-    ensures copier { seat.new.hand.copier ≡ seat.old.hand.copier }
-    ensures copiers { seat.new.hand.copiers ≡ seat.old.hand.copiers }
+    ensures learns { OnOk result (LearnsMore seat.old.hand seat.new.hand) }
+    ensures on { KeepsClaiming seat.old seat.new to.old to.new }
 {
     let first = piece.mark;
     let count = piece.block.len();

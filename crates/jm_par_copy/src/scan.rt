@@ -6,12 +6,11 @@ ghost use Rattle.jm_heap.specs.Packing.{Fits, kind_of};
 ghost use Rattle.jm_blocks.specs.Objects.{Object};
 ghost use Rattle.jm_blocks.specs.Places.{lane_of};
 ghost use Rattle.jm_copy.specs.Copying.{Progress};
-ghost use Rattle.jm_copy.specs.Copies.{HasMade, IsSource, Stays, made};
+ghost use Rattle.jm_copy.specs.Copies.{HasMade, IsSource, made};
 ghost use Rattle.jm_copy.specs.Marks.{AllPassed, AreMarks, BecomesValue, OthersStay, at};
-ghost use Rattle.jm_copy.specs.Numbers.{object_count};
 ghost use Rattle.jm_copy.specs.Pointing.{IsListed, points_to};
-ghost use Rattle.jm_par_copy.specs.Strides.{Goes, OwnsEnds};
-ghost use Rattle.jm_par_copy.specs.Working.{ForwardsAll, ForwardsOne, IsScanning, IsWorking, KeepsScanning, KnowsMore, WinsMore};
+ghost use Rattle.jm_par_copy.specs.Claiming.{CanClaim, KeepsClaiming, LearnsMore};
+ghost use Rattle.jm_par_copy.specs.Working.{ForwardsAll, ForwardsOne, IsScanning, IsWorking, KeepsScanning};
 
 use crate::gate::Gate;
 use crate::owner::CopierBlocks;
@@ -41,20 +40,14 @@ fn forward_named<G: Gate>(
     named: Place,
 ) -> Result<bool, AllocError>
     requires source { IsSource from.stores.now from.numbers.now }
-    requires words { (seat.old.table ≡ words.now.table) × (words.now.objects ≡ object_count from.stores.now) × (seat.old.hand.copiers ≡ words.now.copiers) }
-    requires ends { OwnsEnds seat.old.hand.copier seat.old.hand.copiers to.old }
+    requires claims { CanClaim from.stores.now words.now seat.old to.old }
     requires working { (base : List (ℕ × ℕ)) × (held : List (ℕ × ℕ)) × (k : ℕ) × (rest : ℕ → Option Object) × (done : Progress) × IsWorking from.stores.now from.roots.now base held k rest seat.old.hand to.old (at done place number) }
     requires there { (a : Object) × (made to.old place ≡ Some a) × (slice_get a.values number ≡ Some (Ref named)) × ((p : ℕ) → Fits (kind_of a.class) (Ref p)) }
     ensures working { OnOk result (ForwardsOne from.entry.stores.now from.entry.roots.now seat.old.hand seat.new.hand to.old to.new place number) }
     ensures names { IfOk result (λ b. (a : Object) → made to.old place ≡ Some a → BecomesValue to.old to.new place number a b) }
     ensures others { OnOk result (OthersStay to.old to.new place) }
-    ensures knows { OnOk result (KnowsMore seat.old.hand seat.new.hand) }
-    ensures wins { OnOk result (WinsMore seat.old.hand seat.new.hand) }
-    ensures stays { Stays to.old to.new }
-    ensures goes { Goes seat.old.hand.copier seat.old.hand.copiers to.old to.new }
-    ensures table { seat.new.table ≡ seat.old.table }
-    ensures copier { seat.new.hand.copier ≡ seat.old.hand.copier }
-    ensures copiers { seat.new.hand.copiers ≡ seat.old.hand.copiers }
+    ensures learns { OnOk result (LearnsMore seat.old.hand seat.new.hand) }
+    ensures on { KeepsClaiming seat.old seat.new to.old to.new }
 {
     let copy = forward(alloc, from, words, gate, copier, claims, seat, to, named)?;
     to.set(place, number, Value::Ref(copy));
@@ -84,20 +77,14 @@ fn scan_object<G: Gate>(
     place: Place,
 ) -> Result<bool, AllocError>
     requires source { IsSource from.stores.now from.numbers.now }
-    requires words { (seat.old.table ≡ words.now.table) × (words.now.objects ≡ object_count from.stores.now) × (seat.old.hand.copiers ≡ words.now.copiers) }
-    requires ends { OwnsEnds seat.old.hand.copier seat.old.hand.copiers to.old }
+    requires claims { CanClaim from.stores.now words.now seat.old to.old }
     requires working { (base : List (ℕ × ℕ)) × (held : List (ℕ × ℕ)) × (k : ℕ) × (rest : ℕ → Option Object) × (done : Progress) × IsWorking from.stores.now from.roots.now base held k rest seat.old.hand to.old (at done place 0) }
     requires there { HasMade to.old place }
     ensures working { OnOk result (ForwardsAll from.entry.stores.now from.entry.roots.now seat.old.hand seat.new.hand to.old to.new place) }
     ensures points { IfOk result (λ b. (a : Object) → made to.new place ≡ Some a → b ≡ points_to to.old.young.lane a.values) }
     ensures others { OnOk result (OthersStay to.old to.new place) }
-    ensures knows { OnOk result (KnowsMore seat.old.hand seat.new.hand) }
-    ensures wins { OnOk result (WinsMore seat.old.hand seat.new.hand) }
-    ensures stays { Stays to.old to.new }
-    ensures goes { Goes seat.old.hand.copier seat.old.hand.copiers to.old to.new }
-    ensures table { seat.new.table ≡ seat.old.table }
-    ensures copier { seat.new.hand.copier ≡ seat.old.hand.copier }
-    ensures copiers { seat.new.hand.copiers ≡ seat.old.hand.copiers }
+    ensures learns { OnOk result (LearnsMore seat.old.hand seat.new.hand) }
+    ensures on { KeepsClaiming seat.old seat.new to.old to.new }
 {
     let mut points = false;
     let mut next = to.named_first(place);
@@ -163,21 +150,15 @@ pub fn scan_own<G: Gate>(
     limit: usize,
 ) -> Result<(Marks, bool), AllocError>
     requires source { IsSource from.stores.now from.numbers.now }
-    requires words { (seat.old.table ≡ words.now.table) × (words.now.objects ≡ object_count from.stores.now) × (seat.old.hand.copiers ≡ words.now.copiers) }
-    requires ends { OwnsEnds seat.old.hand.copier seat.old.hand.copiers to.old }
+    requires claims { CanClaim from.stores.now words.now seat.old to.old }
     requires marks { AreMarks to.old marks }
     requires scanning { (base : List (ℕ × ℕ)) × (held : List (ℕ × ℕ)) × (k : ℕ) × (rest : ℕ → Option Object) × (rest_done : Progress) × IsScanning from.stores.now from.roots.now base held k rest rest_done seat.old.hand to.old marks }
     ensures scanning { IfOk result (λ r. KeepsScanning from.entry.stores.now from.entry.roots.now seat.old.hand seat.new.hand to.old to.new marks r.0) }
     ensures marks { IfOk result (λ r. AreMarks to.new r.0) }
     ensures end { IfOk result (λ r. IsTrue r.1 → AllPassed to.new r.0) }
     ensures listed { IfOk result (λ r. IsListed to.old.young.lane to.old.tenured to.old.kept marks.tenured pointing.old.items → IsListed to.new.young.lane to.new.tenured to.new.kept r.0.tenured pointing.new.items) }
-    ensures knows { OnOk result (KnowsMore seat.old.hand seat.new.hand) }
-    ensures wins { OnOk result (WinsMore seat.old.hand seat.new.hand) }
-    ensures stays { Stays to.old to.new }
-    ensures goes { Goes seat.old.hand.copier seat.old.hand.copiers to.old to.new }
-    ensures table { seat.new.table ≡ seat.old.table }
-    ensures copier { seat.new.hand.copier ≡ seat.old.hand.copier }
-    ensures copiers { seat.new.hand.copiers ≡ seat.old.hand.copiers }
+    ensures learns { OnOk result (LearnsMore seat.old.hand seat.new.hand) }
+    ensures on { KeepsClaiming seat.old seat.new to.old to.new }
 {
     let mut marks = marks;
     let mut last = 0u64;

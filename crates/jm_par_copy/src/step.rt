@@ -5,10 +5,10 @@ ghost use Rattle.jm_blocks.specs.Objects.{Object};
 ghost use Rattle.jm_copy.specs.Copying.{Forwarded, Progress};
 ghost use Rattle.jm_copy.specs.Image.{IsReached};
 ghost use Rattle.jm_copy.specs.Condemned.{objects_at};
-ghost use Rattle.jm_copy.specs.Copies.{IsSource, Stays, made};
+ghost use Rattle.jm_copy.specs.Copies.{IsSource, made};
 ghost use Rattle.jm_copy.specs.Numbers.{number_of, object_count};
-ghost use Rattle.jm_par_copy.specs.Strides.{Goes, OwnsEnds};
-ghost use Rattle.jm_par_copy.specs.Working.{IsWorking, KeepsWorking, KnowsMore, WinsMore, Pairs, known_to};
+ghost use Rattle.jm_par_copy.specs.Claiming.{CanClaim, KeepsClaiming, LearnsMore};
+ghost use Rattle.jm_par_copy.specs.Working.{IsWorking, KeepsWorking, Pairs, known_to};
 
 use crate::gate::Gate;
 use crate::owner::CopierBlocks;
@@ -38,21 +38,15 @@ fn claim_and_copy<G: Gate>(
     index: usize,
 ) -> Result<Place, AllocError>
     requires source { IsSource from.stores.now from.numbers.now }
-    requires words { (seat.old.table ≡ words.now.table) × (words.now.objects ≡ object_count from.stores.now) × (seat.old.hand.copiers ≡ words.now.copiers) }
-    requires ends { OwnsEnds seat.old.hand.copier seat.old.hand.copiers to.old }
+    requires claims { CanClaim from.stores.now words.now seat.old to.old }
     requires working { (base : List (ℕ × ℕ)) × (held : List (ℕ × ℕ)) × (k : ℕ) × (rest : ℕ → Option Object) × (done : Progress) × IsWorking from.stores.now from.roots.now base held k rest seat.old.hand to.old done }
     requires there { (o : Object) × (objects_at from.stores.now place ≡ Some o) × (slice_get block.now index ≡ Some o) × IsReached (objects_at from.stores.now) from.roots.now place }
     requires number { (number ≡ number_of from.stores.now place) × (number < object_count from.stores.now) }
     ensures forwarded { IfOk result (λ q. (base : List (ℕ × ℕ)) → Forwarded (objects_at from.entry.stores.now) (Pairs from.entry.stores.now (known_to base seat.new.hand)) place q) }
     ensures working { OnOk result (KeepsWorking from.entry.stores.now from.entry.roots.now seat.old.hand seat.new.hand to.old to.new) }
-    ensures knows { OnOk result (KnowsMore seat.old.hand seat.new.hand) }
-    ensures wins { OnOk result (WinsMore seat.old.hand seat.new.hand) }
+    ensures learns { OnOk result (LearnsMore seat.old.hand seat.new.hand) }
     ensures keeps { OnOk result ((n : ℕ) (a : Object) → made to.old n ≡ Some a → made to.new n ≡ Some a) }
-    ensures stays { Stays to.old to.new }
-    ensures goes { Goes seat.old.hand.copier seat.old.hand.copiers to.old to.new }
-    ensures table { seat.new.table ≡ seat.old.table }
-    ensures copier { seat.new.hand.copier ≡ seat.old.hand.copier }
-    ensures copiers { seat.new.hand.copiers ≡ seat.old.hand.copiers }
+    ensures on { KeepsClaiming seat.old seat.new to.old to.new }
 {
     let offered = reserve(alloc, to, words.copiers(), block, index)?;
     gate.at_claim(copier, *claims);
@@ -81,20 +75,14 @@ pub fn forward<G: Gate>(
     place: Place,
 ) -> Result<Place, AllocError>
     requires source { IsSource from.stores.now from.numbers.now }
-    requires words { (seat.old.table ≡ words.now.table) × (words.now.objects ≡ object_count from.stores.now) × (seat.old.hand.copiers ≡ words.now.copiers) }
-    requires ends { OwnsEnds seat.old.hand.copier seat.old.hand.copiers to.old }
+    requires claims { CanClaim from.stores.now words.now seat.old to.old }
     requires working { (base : List (ℕ × ℕ)) × (held : List (ℕ × ℕ)) × (k : ℕ) × (rest : ℕ → Option Object) × (done : Progress) × IsWorking from.stores.now from.roots.now base held k rest seat.old.hand to.old done }
     requires reached { (o : Object) → objects_at from.stores.now place ≡ Some o → IsReached (objects_at from.stores.now) from.roots.now place }
     ensures forwarded { IfOk result (λ q. (base : List (ℕ × ℕ)) → Forwarded (objects_at from.entry.stores.now) (Pairs from.entry.stores.now (known_to base seat.new.hand)) place q) }
     ensures working { OnOk result (KeepsWorking from.entry.stores.now from.entry.roots.now seat.old.hand seat.new.hand to.old to.new) }
-    ensures knows { OnOk result (KnowsMore seat.old.hand seat.new.hand) }
-    ensures wins { OnOk result (WinsMore seat.old.hand seat.new.hand) }
+    ensures learns { OnOk result (LearnsMore seat.old.hand seat.new.hand) }
     ensures keeps { OnOk result ((n : ℕ) (a : Object) → made to.old n ≡ Some a → made to.new n ≡ Some a) }
-    ensures stays { Stays to.old to.new }
-    ensures goes { Goes seat.old.hand.copier seat.old.hand.copiers to.old to.new }
-    ensures table { seat.new.table ≡ seat.old.table }
-    ensures copier { seat.new.hand.copier ≡ seat.old.hand.copier }
-    ensures copiers { seat.new.hand.copiers ≡ seat.old.hand.copiers }
+    ensures on { KeepsClaiming seat.old seat.new to.old to.new }
 {
     let Some((block, index)) = find(from.stores, place) else {
         return Ok(place);

@@ -18,12 +18,11 @@ returns-clause-kept g c =
     let e = c.in_ok-forward_roots.ensures in
     let f = c.forward_roots.ensures in
     record {
-      holding = λ base held k w. subst (λ lane. IsWorking stores roots base held k (held_objects xs) h' to' (scan_progress lane m (held_objects xs) (held_progress xs))) (sym f.stays.young_lane) (e.working base held k (held_objects xs) (scan_progress to.young.lane m (held_objects xs) (held_progress xs)) w);
-      given = given_still h h' to to' xs f.copier f.copiers f.stays f.goes c.requires.ready.given;
+      holding = λ base held k w. subst (λ lane. IsWorking stores roots base held k (held_objects xs) h' to' (scan_progress lane m (held_objects xs) (held_progress xs))) (sym f.on.stays.young_lane) (e.working base held k (held_objects xs) (scan_progress to.young.lane m (held_objects xs) (held_progress xs)) w);
+      given = given_still c.args.copier.now.seat c.forward_roots.new.seat to to' xs f.on c.requires.ready.given;
       same = same_refl xs;
-      marks = marks_stay to to' m f.stays c.requires.ready.marks;
+      marks = marks_stay to to' m f.on.stays c.requires.ready.marks;
       ended = λ t. let two : false ≡ true = t in cc;
-      knows = e.knows;
-      wins = e.wins;
-      noting = λ n. record { young = f.stays.young_lane ∙ n.young; own = e.listed 1 m.tenured c.args.copier.now.pointing.items n.own; given = n.given };
+      learns = e.learns;
+      noting = λ n. record { young = f.on.stays.young_lane ∙ n.young; own = e.listed 1 m.tenured c.args.copier.now.pointing.items n.own; given = n.given };
     }

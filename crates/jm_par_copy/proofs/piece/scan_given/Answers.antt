@@ -5,14 +5,12 @@ use Rattle.jm_heap.specs.Packing.{kind_of}
 use Rattle.jm_blocks.specs.Objects.{Object, with_value}
 use Rattle.jm_copy.specs.Marks.{at}
 use Rattle.jm_copy.specs.Pointing.{names_lane, points_to}
-use Rattle.jm_copy.proofs.Making.{stays_refl, stays_more}
 use Rattle.jm_copy.proofs.Scanning.{ended_set, rest, rest_less}
 use Rattle.jm_par_copy.specs.Pieces.{ForwardsGiven, IsGiven, place_in, progress_of}
 use Rattle.jm_par_copy.specs.declared.piece.Piece.{Piece}
 use Rattle.jm_par_copy.proofs.Pieces.{given_here, marked, given_starts, given_passed, piece_is, piece_stays, place_same, mark_few, same_more}
 use Rattle.jm_par_copy.proofs.Skipped.{Reaches, at_end, at_reference, reaches, reaches_more, skipped_given}
-use Rattle.jm_par_copy.proofs.Strides.{ends_on, goes_on, goes_refl}
-use Rattle.jm_par_copy.proofs.Working.{wins_stay, wins_more}
+use Rattle.jm_par_copy.proofs.Claiming.{claiming_more, claiming_refl, claims_still, learns_more, learns_refl}
 use Rattle.jm_par_copy.proofs.piece.scan_given.Goals as goal
 use Rattle.jm_values.proofs.Lists.{get_there}
 
@@ -36,20 +34,12 @@ loop-next-init g c =
       others = λ j other. refl;
       pointing = refl;
       listed = λ lane mark places l. l;
-      knows = λ i n k. k;
-      wins = wins_stay h;
-      stays = stays_refl to;
-      table = refl;
-      copier = refl;
-      copiers = refl;
-      goes = goes_refl h.copier h.copiers to;
+      learns = learns_refl c.args.seat.now.hand;
+      on = claiming_refl c.args.seat.now c.args.to.now;
     }
 
-pub forward_given-requires-clause-words : goal.forward_given-requires-clause-words
-forward_given-requires-clause-words g c = (c.loop-next.invariant.table ∙ c.requires.words.0, c.requires.words.1, c.loop-next.invariant.copiers ∙ c.requires.words.2)
-
-pub forward_given-requires-clause-ends : goal.forward_given-requires-clause-ends
-forward_given-requires-clause-ends g c = ends_on c.args.seat.now.hand.copier c.args.seat.now.hand.copiers c.loop-next.seat.hand.copier c.loop-next.seat.hand.copiers c.args.to.now c.loop-next.to c.loop-next.invariant.copier c.loop-next.invariant.copiers c.loop-next.invariant.goes c.requires.ends
+pub forward_given-requires-clause-claims : goal.forward_given-requires-clause-claims
+forward_given-requires-clause-claims g c = claims_still c.args.from.stores.now c.args.words.now c.args.seat.now c.loop-next.seat c.args.to.now c.loop-next.to c.loop-next.invariant.on c.requires.claims
 
 pub forward_given-requires-clause-there : goal.forward_given-requires-clause-there
 forward_given-requires-clause-there g c =
@@ -102,7 +92,7 @@ loop-next-preserved g c =
     let after : ℕ → Type 0 = ForwardsGiven stores roots h h' start now x z s 0 in
     let reached = at_reference forwards start.young.lane c.loop-next.points there.0 c.loop-next.next named c.in-Some.is there.2 in
     let next = e.names there.0 there.1 in
-    let names = next.2 ∙ ap (λ l. names_lane l next.0) i.stays.young_lane in
+    let names = next.2 ∙ ap (λ l. names_lane l next.0) i.on.stays.young_lane in
     let object = with_value there.0 named.number next.0 in
     let same = same_more x y z i.same e.same in
     let where_ = place_same x y x.mark i.same ∙ ap (place_in y) (sym i.index) in
@@ -123,13 +113,8 @@ loop-next-preserved g c =
       others = λ j other. e.others j (λ k. other (k ∙ i.index)) ∙ i.others j other;
       pointing = f.pointing ∙ i.pointing;
       listed = λ lane m places l. e.listed lane m places (i.listed lane m places l);
-      knows = λ j n k. e.knows j n (i.knows j n k);
-      wins = wins_more h c.loop-next.seat.hand h' i.wins e.wins;
-      stays = stays_more start c.loop-next.to now i.stays f.stays;
-      table = f.table ∙ i.table;
-      copier = f.copier ∙ i.copier;
-      copiers = f.copiers ∙ i.copiers;
-      goes = goes_on h.copier h.copiers c.loop-next.seat.hand.copier c.loop-next.seat.hand.copiers start c.loop-next.to now i.copier i.copiers i.stays i.goes f.goes;
+      learns = learns_more c.args.seat.now.hand c.loop-next.seat.hand c.forward_given.new.seat.hand c.loop-next.invariant.learns c.in_ok-names.ensures.learns;
+      on = claiming_more c.args.seat.now c.loop-next.seat c.forward_given.new.seat c.args.to.now c.loop-next.to c.forward_given.new.to c.loop-next.invariant.on c.forward_given.ensures.on;
     }
 
 pub loop-next-smaller : goal.loop-next-smaller
@@ -141,11 +126,8 @@ loop-next-smaller g c =
     let was = ap rest c.in-Some.is in
     omega (arith, less, was)
 
-pub returns-in_err-names-clause-stays : goal.returns-in_err-names-clause-stays
-returns-in_err-names-clause-stays g c = stays_more c.args.to.now c.loop-next.to c.forward_given.new.to c.loop-next.invariant.stays c.forward_given.ensures.stays
-
-pub returns-in_err-names-clause-goes : goal.returns-in_err-names-clause-goes
-returns-in_err-names-clause-goes g c = goes_on c.args.seat.now.hand.copier c.args.seat.now.hand.copiers c.loop-next.seat.hand.copier c.loop-next.seat.hand.copiers c.args.to.now c.loop-next.to c.forward_given.new.to c.loop-next.invariant.copier c.loop-next.invariant.copiers c.loop-next.invariant.stays c.loop-next.invariant.goes c.forward_given.ensures.goes
+pub returns-in_err-names-clause-on : goal.returns-in_err-names-clause-on
+returns-in_err-names-clause-on g c = claiming_more c.args.seat.now c.loop-next.seat c.forward_given.new.seat c.args.to.now c.loop-next.to c.forward_given.new.to c.loop-next.invariant.on c.forward_given.ensures.on
 
 pub returns-clause-working : goal.returns-clause-working
 returns-clause-working g c base held k rest done f =

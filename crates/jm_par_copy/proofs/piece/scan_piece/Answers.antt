@@ -1,26 +1,18 @@
 use Rattle.std.proofs.Common.{Vec, Global, ℕ, ◌≡◌, ◌+◌, ◌-◌, ◌∙◌, ◌<◌, ◌++◌, ◌∷◌, [], Some, ap, arith, cond, sym, length}
 use Rattle.std.specs.Prelude.{slice_get}
 use Rattle.jm_copy.specs.Pointing.{points_to}
-use Rattle.jm_copy.proofs.Making.{stays_more}
 use Rattle.jm_values.proofs.Lists.{get_there}
 use Rattle.jm_par_copy.specs.Pieces.{IsSamePiece, place_in}
-use Rattle.jm_par_copy.proofs.Strides.{goes_on}
 use Rattle.jm_par_copy.proofs.Pieces.{given_listed, piece_stays, place_of_last, same_more}
 use Rattle.jm_par_copy.proofs.Pointers.{noted_scanned}
-use Rattle.jm_par_copy.proofs.Working.{wins_more}
+use Rattle.jm_par_copy.proofs.Claiming.{claiming_more, learns_more}
 use Rattle.jm_par_copy.proofs.piece.scan_piece.Goals as goal
 
-pub returns-in_err-points-clause-goes : goal.returns-in_err-points-clause-goes
-returns-in_err-points-clause-goes g c = goes_on c.args.seat.now.hand.copier c.args.seat.now.hand.copiers c.loop-object.seat.hand.copier c.loop-object.seat.hand.copiers c.args.to.now c.loop-object.to c.scan_given.new.to c.loop-object.invariant.copier c.loop-object.invariant.copiers c.loop-object.invariant.stays c.loop-object.invariant.goes c.scan_given.ensures.goes
+pub returns-in_err-points-clause-on : goal.returns-in_err-points-clause-on
+returns-in_err-points-clause-on g c = claiming_more c.args.seat.now c.loop-object.seat c.scan_given.new.seat c.args.to.now c.loop-object.to c.scan_given.new.to c.loop-object.invariant.on c.scan_given.ensures.on
 
-pub returns-in_err-note_last-clause-goes : goal.returns-in_err-note_last-clause-goes
-returns-in_err-note_last-clause-goes g c = goes_on c.args.seat.now.hand.copier c.args.seat.now.hand.copiers c.loop-object.seat.hand.copier c.loop-object.seat.hand.copiers c.args.to.now c.loop-object.to c.scan_given.new.to c.loop-object.invariant.copier c.loop-object.invariant.copiers c.loop-object.invariant.stays c.loop-object.invariant.goes c.scan_given.ensures.goes
-
-pub returns-in_err-points-clause-stays : goal.returns-in_err-points-clause-stays
-returns-in_err-points-clause-stays g c = stays_more c.args.to.now c.loop-object.to c.scan_given.new.to c.loop-object.invariant.stays c.scan_given.ensures.stays
-
-pub returns-in_err-note_last-clause-stays : goal.returns-in_err-note_last-clause-stays
-returns-in_err-note_last-clause-stays g c = stays_more c.args.to.now c.loop-object.to c.scan_given.new.to c.loop-object.invariant.stays c.scan_given.ensures.stays
+pub returns-in_err-note_last-clause-on : goal.returns-in_err-note_last-clause-on
+returns-in_err-note_last-clause-on g c = claiming_more c.args.seat.now c.loop-object.seat c.scan_given.new.seat c.args.to.now c.loop-object.to c.scan_given.new.to c.loop-object.invariant.on c.scan_given.ensures.on
 
 pub note_last-requires : goal.note_last-requires
 note_last-requires g c =
@@ -53,19 +45,14 @@ loop-object-preserved g c =
       mark = omega (arith, e.mark, n.mark, i.mark);
       listed = λ lane mark places l. e.listed lane mark places (i.listed lane mark places l);
       noted = λ one was.
-          let young : c.loop-object.to.young.lane ≡ 1 = i.stays.young_lane ∙ one in
-          let now : c.scan_given.new.to.young.lane ≡ 1 = c.scan_given.ensures.stays.young_lane ∙ young in
+          let young : c.loop-object.to.young.lane ≡ 1 = i.on.stays.young_lane ∙ one in
+          let now : c.scan_given.new.to.young.lane ≡ 1 = c.scan_given.ensures.on.stays.young_lane ∙ young in
           let listed = ap (λ (v : Vec ℕ Global). v.items) c.scan_given.ensures.pointing in
           let last : place_in y (y.mark - 1) ≡ place_in x x.mark = place_of_last x y e.same e.mark in
           noted_scanned x z a.0 i.piece few same.lane same.number (n.mark ∙ e.mark) same.many (λ j other. ap (λ b. slice_get b j) n.block ∙ e.others j other) there c.in_ok-points.points (e.points a.0 a.1 ∙ ap (λ l. points_to l a.0.values) young)
           (λ f. c.in_ok-note_last.ensures.young (e.same.lane ∙ f ∙ sym now) ∙ listed)
           (λ f. c.in_ok-note_last.ensures.old (λ k. f (sym e.same.lane ∙ k ∙ now)) ∙ ap (λ p. cond c.in_ok-points.points (y.pointing.items ++ p ∷ []) y.pointing.items) last ∙ ap (λ ps. cond c.in_ok-points.points (ps ++ place_in x x.mark ∷ []) ps) listed)
           (i.noted one was);
-      knows = λ j m h. e.knows j m (i.knows j m h);
-      wins = wins_more c.args.seat.now.hand c.loop-object.seat.hand c.scan_given.new.seat.hand i.wins e.wins;
-      stays = stays_more c.args.to.now c.loop-object.to c.scan_given.new.to i.stays c.scan_given.ensures.stays;
-      table = c.scan_given.ensures.table ∙ i.table;
-      copier = c.scan_given.ensures.copier ∙ i.copier;
-      copiers = c.scan_given.ensures.copiers ∙ i.copiers;
-      goes = goes_on c.args.seat.now.hand.copier c.args.seat.now.hand.copiers c.loop-object.seat.hand.copier c.loop-object.seat.hand.copiers c.args.to.now c.loop-object.to c.scan_given.new.to c.loop-object.invariant.copier c.loop-object.invariant.copiers c.loop-object.invariant.stays c.loop-object.invariant.goes c.scan_given.ensures.goes;
+      learns = learns_more c.args.seat.now.hand c.loop-object.seat.hand c.scan_given.new.seat.hand c.loop-object.invariant.learns c.in_ok-points.ensures.learns;
+      on = claiming_more c.args.seat.now c.loop-object.seat c.scan_given.new.seat c.args.to.now c.loop-object.to c.scan_given.new.to c.loop-object.invariant.on c.scan_given.ensures.on;
     }

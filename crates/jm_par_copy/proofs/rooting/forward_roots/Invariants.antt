@@ -1,8 +1,7 @@
 use Rattle.std.proofs.Common.{◌≡◌, ◌+◌, ◌*◌, ◌-◌, length}
-use Rattle.jm_copy.specs.Copies.{Stays}
 use Rattle.jm_par_copy.specs.Notes.{KeepsListed}
-use Rattle.jm_par_copy.specs.Strides.{Goes}
-use Rattle.jm_par_copy.specs.Working.{KeepsWorking, KnowsMore, WinsMore}
+use Rattle.jm_par_copy.specs.Claiming.{KeepsClaiming, LearnsMore}
+use Rattle.jm_par_copy.specs.Working.{KeepsWorking}
 use Rattle.jm_par_copy.proofs.ByPosition.{AreFirst}
 use Rattle.jm_par_copy.proofs.rooting.forward_roots.Given as goal
 
@@ -12,13 +11,8 @@ invariant-loop-position g l = record {
   position : l.position ≡ l.number + l.copiers * length l.places.items;
   working : KeepsWorking l.from.stores.now l.from.roots.now l.fn.seat.hand l.seat.hand l.fn.to l.to;
   listed : KeepsListed l.fn.to l.to;
-  knows : KnowsMore l.fn.seat.hand l.seat.hand;
-  wins : WinsMore l.fn.seat.hand l.seat.hand;
-  stays : Stays l.fn.to l.to;
-  table : l.seat.table ≡ l.fn.seat.table;
-  copier : l.seat.hand.copier ≡ l.fn.seat.hand.copier;
-  copiers : l.seat.hand.copiers ≡ l.fn.seat.hand.copiers;
-  goes : Goes l.fn.seat.hand.copier l.fn.seat.hand.copiers l.fn.to l.to;
+  learns : LearnsMore l.fn.seat.hand l.seat.hand;
+  on : KeepsClaiming l.fn.seat l.seat l.fn.to l.to;
 }
 
 abbrev pub decreases-loop-position : goal.decreases-loop-position

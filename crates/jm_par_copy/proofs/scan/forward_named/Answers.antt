@@ -5,10 +5,10 @@ use Rattle.jm_values.specs.declared.value.Value.TheVariants.{Ref}
 use Rattle.jm_heap.specs.Packing.{Fits, kind_of}
 use Rattle.jm_blocks.specs.Objects.{with_value}
 use Rattle.jm_blocks.specs.Places.{lane_of}
-use Rattle.jm_copy.proofs.Making.{stays_more}
 use Rattle.jm_par_copy.proofs.Staying.{all_stay}
-use Rattle.jm_par_copy.proofs.Strides.{goes_on, set_goes}
+use Rattle.jm_par_copy.proofs.Strides.{set_goes}
 use Rattle.jm_par_copy.proofs.Working.{working_set, working_reached}
+use Rattle.jm_par_copy.proofs.Claiming.{claiming_by, claiming_more, learns_refl}
 use Rattle.jm_par_copy.proofs.scan.forward_named.Goals as goal
 
 pub forward-requires-clause-reached : goal.forward-requires-clause-reached
@@ -36,18 +36,17 @@ returns-clause-working g c base held k rest done i =
 pub returns-clause-names : goal.returns-clause-names
 returns-clause-names g c a e =
     let still = c.in_ok-copy.ensures.keeps c.args.place a e in
-    (Ref c.in_ok-copy.copy, (c.set.ensures.set a still).here, c.is_young.ensures ∙ ap (nat_eq (lane_of c.in_ok-copy.copy)) (c.set.ensures.stays.young_lane ∙ c.forward.ensures.stays.young_lane))
+    (Ref c.in_ok-copy.copy, (c.set.ensures.set a still).here, c.is_young.ensures ∙ ap (nat_eq (lane_of c.in_ok-copy.copy)) (c.set.ensures.stays.young_lane ∙ c.forward.ensures.on.stays.young_lane))
 
 pub returns-clause-others : goal.returns-clause-others
 returns-clause-others g c m n h below apart =
-    let stay = all_stay c.args.seat.now.hand.copier c.args.seat.now.hand.copiers c.args.to.now c.forward.new.to c.requires.working.5.apart c.forward.ensures.stays c.forward.ensures.goes c.in_ok-copy.ensures.keeps in
+    let stay = all_stay c.args.seat.now.hand.copier c.args.seat.now.hand.copiers c.args.to.now c.forward.new.to c.requires.working.5.apart c.forward.ensures.on.stays c.forward.ensures.on.goes c.in_ok-copy.ensures.keeps in
     c.set.ensures.others n apart ∙ stay m n h below
 
-pub returns-clause-stays : goal.returns-clause-stays
-returns-clause-stays g c = stays_more c.args.to.now c.forward.new.to c.set.new.self c.forward.ensures.stays c.set.ensures.stays
-
-pub returns-clause-goes : goal.returns-clause-goes
-returns-clause-goes g c =
+pub returns-clause-on : goal.returns-clause-on
+returns-clause-on g c =
     let a = c.requires.there in
     let still = c.in_ok-copy.ensures.keeps c.args.place a.0 a.1 in
-    goes_on c.args.seat.now.hand.copier c.args.seat.now.hand.copiers c.forward.new.seat.hand.copier c.forward.new.seat.hand.copiers c.args.to.now c.forward.new.to c.set.new.self c.in_ok-copy.ensures.copier c.in_ok-copy.ensures.copiers c.forward.ensures.stays c.forward.ensures.goes (set_goes c.forward.new.seat.hand.copier c.forward.new.seat.hand.copiers c.forward.new.to c.set.new.self c.args.place (with_value a.0 c.args.number (Ref c.in_ok-copy.copy)) (a.0, still) (c.set.ensures.set a.0 still) c.set.ensures.many)
+    let h = c.forward.new.seat.hand in
+    let goes = set_goes h.copier h.copiers c.forward.new.to c.set.new.self c.args.place (with_value a.0 c.args.number (Ref c.in_ok-copy.copy)) (a.0, still) (c.set.ensures.set a.0 still) c.set.ensures.many in
+    claiming_more c.args.seat.now c.forward.new.seat c.forward.new.seat c.args.to.now c.forward.new.to c.set.new.self c.forward.ensures.on (claiming_by c.forward.new.seat c.forward.new.seat c.forward.new.to c.set.new.self refl (learns_refl h) c.set.ensures.stays goes)

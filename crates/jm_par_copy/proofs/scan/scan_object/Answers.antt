@@ -3,12 +3,11 @@ use Rattle.std.proofs.Math.Seq.{take-length}
 use Rattle.jm_heap.specs.Packing.{kind_of}
 use Rattle.jm_blocks.specs.Objects.{Object, with_value}
 use Rattle.jm_copy.specs.Pointing.{names_lane, points_to}
-use Rattle.jm_copy.proofs.Making.{others_more, stays_refl, stays_more}
+use Rattle.jm_copy.proofs.Making.{others_more}
 use Rattle.jm_copy.proofs.Scanning.{ended_set, rest, rest_less}
 use Rattle.jm_par_copy.specs.Working.{ForwardsTo}
 use Rattle.jm_par_copy.proofs.Skipped.{Reaches, at_end, at_reference, reaches, reaches_more, skipped_own}
-use Rattle.jm_par_copy.proofs.Strides.{ends_on, goes_on, goes_refl}
-use Rattle.jm_par_copy.proofs.Working.{wins_stay, wins_more}
+use Rattle.jm_par_copy.proofs.Claiming.{claiming_more, claiming_refl, claims_still, learns_more, learns_refl}
 use Rattle.jm_par_copy.proofs.scan.scan_object.Goals as goal
 
 pub loop-next-init : goal.loop-next-init
@@ -20,20 +19,12 @@ loop-next-init g c =
     record {
       there = (there.0, there.1, reaches forwards to.young.lane false there.0 (skipped_own c.args.from.stores.now c.args.from.roots.now h h to to c.args.place there.0 there.1) 0 c.named_first-next.result (omega arith) (record { to = λ base held k rest done w. w; points_is = refl }) (c.named_first-next.ensures there.0 there.1));
       others = λ m n h below apart. refl;
-      knows = λ i n h. h;
-      wins = wins_stay c.args.seat.now.hand;
-      stays = stays_refl c.args.to.now;
-      table = refl;
-      copier = refl;
-      copiers = refl;
-      goes = goes_refl c.args.seat.now.hand.copier c.args.seat.now.hand.copiers c.args.to.now;
+      learns = learns_refl c.args.seat.now.hand;
+      on = claiming_refl c.args.seat.now c.args.to.now;
     }
 
-pub forward_named-requires-clause-words : goal.forward_named-requires-clause-words
-forward_named-requires-clause-words g c = (c.loop-next.invariant.table ∙ c.requires.words.0, c.requires.words.1, c.loop-next.invariant.copiers ∙ c.requires.words.2)
-
-pub forward_named-requires-clause-ends : goal.forward_named-requires-clause-ends
-forward_named-requires-clause-ends g c = ends_on c.args.seat.now.hand.copier c.args.seat.now.hand.copiers c.loop-next.seat.hand.copier c.loop-next.seat.hand.copiers c.args.to.now c.loop-next.to c.loop-next.invariant.copier c.loop-next.invariant.copiers c.loop-next.invariant.goes c.requires.ends
+pub forward_named-requires-clause-claims : goal.forward_named-requires-clause-claims
+forward_named-requires-clause-claims g c = claims_still c.args.from.stores.now c.args.words.now c.args.seat.now c.loop-next.seat c.args.to.now c.loop-next.to c.loop-next.invariant.on c.requires.claims
 
 pub forward_named-requires-clause-working : goal.forward_named-requires-clause-working
 forward_named-requires-clause-working g c =
@@ -71,19 +62,14 @@ loop-next-preserved g c =
     let after : ℕ → Type 0 = ForwardsTo stores roots h c.forward_named.new.seat.hand start now place in
     let at = subst (λ r. Reaches forwards start.young.lane c.loop-next.points there.0 r) c.in-Some.is there.2 in
     let next = e.names there.0 there.1 in
-    let names = next.2 ∙ ap (λ l. names_lane l next.0) i.stays.young_lane in
+    let names = next.2 ∙ ap (λ l. names_lane l next.0) i.on.stays.young_lane in
     let object = with_value there.0 named.number next.0 in
     let on = reaches_more forwards after start.young.lane c.loop-next.points c.in_ok-names.names there.0 next.0 named c.named_after-next.result (skipped_own stores roots h c.forward_named.new.seat.hand start now place object next.1) at (λ f base held k rest done w. e.working base held k rest done (f base held k rest done w)) names (c.named_after-next.ensures.names object next.1) in
     record {
       there = (object, next.1, subst (λ b. Reaches after start.young.lane b object c.named_after-next.result) (sym c.either-points.ensures) on);
-      others = others_more start c.loop-next.to now place i.stays i.others e.others;
-      knows = λ j n k. e.knows j n (i.knows j n k);
-      wins = wins_more h c.loop-next.seat.hand c.forward_named.new.seat.hand i.wins e.wins;
-      stays = stays_more start c.loop-next.to now i.stays c.forward_named.ensures.stays;
-      table = c.forward_named.ensures.table ∙ i.table;
-      copier = c.forward_named.ensures.copier ∙ i.copier;
-      copiers = c.forward_named.ensures.copiers ∙ i.copiers;
-      goes = goes_on h.copier h.copiers c.loop-next.seat.hand.copier c.loop-next.seat.hand.copiers start c.loop-next.to now i.copier i.copiers i.stays i.goes c.forward_named.ensures.goes;
+      others = others_more start c.loop-next.to now place i.on.stays i.others e.others;
+      learns = learns_more c.args.seat.now.hand c.loop-next.seat.hand c.forward_named.new.seat.hand c.loop-next.invariant.learns c.in_ok-names.ensures.learns;
+      on = claiming_more c.args.seat.now c.loop-next.seat c.forward_named.new.seat c.args.to.now c.loop-next.to c.forward_named.new.to c.loop-next.invariant.on c.forward_named.ensures.on;
     }
 
 pub loop-next-smaller : goal.loop-next-smaller
@@ -95,11 +81,8 @@ loop-next-smaller g c =
     let was = ap rest c.in-Some.is in
     omega (arith, less, was)
 
-pub returns-in_err-names-clause-stays : goal.returns-in_err-names-clause-stays
-returns-in_err-names-clause-stays g c = stays_more c.args.to.now c.loop-next.to c.forward_named.new.to c.loop-next.invariant.stays c.forward_named.ensures.stays
-
-pub returns-in_err-names-clause-goes : goal.returns-in_err-names-clause-goes
-returns-in_err-names-clause-goes g c = goes_on c.args.seat.now.hand.copier c.args.seat.now.hand.copiers c.loop-next.seat.hand.copier c.loop-next.seat.hand.copiers c.args.to.now c.loop-next.to c.forward_named.new.to c.loop-next.invariant.copier c.loop-next.invariant.copiers c.loop-next.invariant.stays c.loop-next.invariant.goes c.forward_named.ensures.goes
+pub returns-in_err-names-clause-on : goal.returns-in_err-names-clause-on
+returns-in_err-names-clause-on g c = claiming_more c.args.seat.now c.loop-next.seat c.forward_named.new.seat c.args.to.now c.loop-next.to c.forward_named.new.to c.loop-next.invariant.on c.forward_named.ensures.on
 
 pub returns-clause-working : goal.returns-clause-working
 returns-clause-working g c =

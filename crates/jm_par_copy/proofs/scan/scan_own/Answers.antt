@@ -5,12 +5,11 @@ use Rattle.jm_copy.specs.Marks.{at, mark_of, passed, AllPassed, AreMarks, IsNext
 use Rattle.jm_copy.specs.Pointing.{IsListed}
 use Rattle.jm_copy.specs.declared.copies.Copies.{Copies}
 use Rattle.jm_copy.specs.declared.scan.Marks.{Marks}
-use Rattle.jm_copy.proofs.Making.{stays_refl, stays_more}
 use Rattle.jm_copy.proofs.Marking.{next_made, passed_mark, passed_marks, marks_stay, passed_left, left}
 use Rattle.jm_copy.proofs.Pointing.{scanned_listed}
 use Rattle.jm_par_copy.specs.Working.{IsScanning, IsWorking, scan_progress}
-use Rattle.jm_par_copy.proofs.Strides.{ends_on, goes_on, goes_refl}
-use Rattle.jm_par_copy.proofs.Working.{next_scanning, passed_scanning, wins_stay, wins_more}
+use Rattle.jm_par_copy.proofs.Working.{next_scanning, passed_scanning}
+use Rattle.jm_par_copy.proofs.Claiming.{claiming_more, claiming_refl, claims_still, learns_more, learns_refl}
 use Rattle.jm_par_copy.proofs.scan.scan_own.Goals as goal
 
 next_here : (c : Copies) (m : Marks) (r : Option ℕ) (p : ℕ) → r ≡ Some p → MatchOption r (AllPassed c m) (λ q. IsNext c m q) → IsNext c m p
@@ -25,13 +24,8 @@ loop-first-init g c = record {
   marks = c.requires.marks;
   next = c.next-first.ensures;
   listed = λ l. l;
-  knows = λ i n h. h;
-  wins = wins_stay c.args.seat.now.hand;
-  stays = stays_refl c.args.to.now;
-  table = refl;
-  copier = refl;
-  copiers = refl;
-  goes = goes_refl c.args.seat.now.hand.copier c.args.seat.now.hand.copiers c.args.to.now;
+  learns = learns_refl c.args.seat.now.hand;
+  on = claiming_refl c.args.seat.now c.args.to.now;
 }
 
 pub next-first-requires : goal.next-first-requires
@@ -43,22 +37,19 @@ next_after-first-requires g c =
     let after = c.scan_object.new.to in
     let marks = c.loop-first.marks in
     let place = c.in-Some.place in
-    let stays = c.scan_object.ensures.stays in
+    let stays = c.scan_object.ensures.on.stays in
     let scanned = c.in_ok-points.ensures.working in
     let next = next_here before marks c.loop-first.first place c.in-Some.is c.loop-first.invariant.next in
     let there = subst (λ l. AreMarks after (passed l marks place)) (sym stays.young_lane) (marks_stay before after (passed before.young.lane marks place) stays (passed_marks before marks place c.loop-first.invariant.marks next)) in
     record {
       marks = subst (λ (m : Marks). AreMarks after m) (sym c.pass-marks.ensures.value) there;
-      apart = apart_still before after stays (apart_still c.args.to.now before c.loop-first.invariant.stays c.requires.scanning.5.apart);
+      apart = apart_still before after stays (apart_still c.args.to.now before c.loop-first.invariant.on.stays c.requires.scanning.5.apart);
       there = (scanned.0, scanned.1);
       passed = subst (λ m. mark_of after.young.lane m place ≡ Some place) (sym c.pass-marks.ensures.value) (passed_mark after.young.lane marks place);
     }
 
-pub returns-in_err-note-clause-stays : goal.returns-in_err-note-clause-stays
-returns-in_err-note-clause-stays g c = stays_more c.args.to.now c.loop-first.to c.scan_object.new.to c.loop-first.invariant.stays c.scan_object.ensures.stays
-
-pub returns-in_err-note-clause-goes : goal.returns-in_err-note-clause-goes
-returns-in_err-note-clause-goes g c = goes_on c.args.seat.now.hand.copier c.args.seat.now.hand.copiers c.loop-first.seat.hand.copier c.loop-first.seat.hand.copiers c.args.to.now c.loop-first.to c.scan_object.new.to c.loop-first.invariant.copier c.loop-first.invariant.copiers c.loop-first.invariant.stays c.loop-first.invariant.goes c.scan_object.ensures.goes
+pub returns-in_err-note-clause-on : goal.returns-in_err-note-clause-on
+returns-in_err-note-clause-on g c = claiming_more c.args.seat.now c.loop-first.seat c.scan_object.new.seat c.args.to.now c.loop-first.to c.scan_object.new.to c.loop-first.invariant.on c.scan_object.ensures.on
 
 pub returns-clause-end : goal.returns-clause-end
 returns-clause-end g c t = subst (λ r. MatchOption r (AllPassed c.loop-first.to c.loop-first.marks) (λ p. IsNext c.loop-first.to c.loop-first.marks p)) c.in_default.is c.loop-first.invariant.next
@@ -84,12 +75,12 @@ loop-first-preserved g c =
     let marks = c.loop-first.marks in
     let place = c.in-Some.place in
     let invariant = c.loop-first.invariant in
-    let stays = c.scan_object.ensures.stays in
+    let stays = c.scan_object.ensures.on.stays in
     let scanned = c.in_ok-points.ensures.working in
     let lane = stays.young_lane in
     let next = next_here before marks c.loop-first.first place c.in-Some.is invariant.next in
     let there = subst (λ l. AreMarks after (passed l marks place)) (sym lane) (marks_stay before after (passed before.young.lane marks place) stays (passed_marks before marks place invariant.marks next)) in
-    let apart = apart_still c.args.to.now before invariant.stays c.requires.scanning.5.apart in
+    let apart = apart_still c.args.to.now before invariant.on.stays c.requires.scanning.5.apart in
     let points = c.in_ok-points.ensures.points scanned.0 scanned.1 in
     record {
       scanning = λ base held k rest rest_done w.
@@ -104,28 +95,20 @@ loop-first-preserved g c =
       listed = λ l.
           let listed = scanned_listed before after marks place c.loop-first.pointing.items c.note.new.places.items c.in_ok-points.points scanned.0 apart next stays c.in_ok-points.ensures.others (invariant.listed l) scanned.1 points c.in_ok-note.ensures.young c.in_ok-note.ensures.old in
           subst (λ (m : Marks). IsListed after.young.lane after.tenured after.kept m.tenured c.note.new.places.items) (sym c.pass-marks.ensures.value) listed;
-      knows = λ i n w. c.in_ok-points.ensures.knows i n (invariant.knows i n w);
-      wins = wins_more c.args.seat.now.hand h h' invariant.wins c.in_ok-points.ensures.wins;
-      stays = stays_more c.args.to.now before after invariant.stays stays;
-      table = c.scan_object.ensures.table ∙ invariant.table;
-      copier = c.scan_object.ensures.copier ∙ invariant.copier;
-      copiers = c.scan_object.ensures.copiers ∙ invariant.copiers;
-      goes = goes_on c.args.seat.now.hand.copier c.args.seat.now.hand.copiers h.copier h.copiers c.args.to.now before after invariant.copier invariant.copiers invariant.stays invariant.goes c.scan_object.ensures.goes;
+      learns = learns_more c.args.seat.now.hand c.loop-first.seat.hand c.scan_object.new.seat.hand c.loop-first.invariant.learns c.in_ok-points.ensures.learns;
+      on = claiming_more c.args.seat.now c.loop-first.seat c.scan_object.new.seat c.args.to.now c.loop-first.to c.scan_object.new.to c.loop-first.invariant.on c.scan_object.ensures.on;
     }
 
 pub loop-first-smaller : goal.loop-first-smaller
 loop-first-smaller g c =
     let fewer = passed_left c.loop-first.to c.loop-first.marks c.in-Some.place (next_here c.loop-first.to c.loop-first.marks c.loop-first.first c.in-Some.place c.in-Some.is c.loop-first.invariant.next) c.pass-marks.ensures.below in
-    let lane = c.scan_object.ensures.stays.young_lane in
+    let lane = c.scan_object.ensures.on.stays.young_lane in
     let young = ap (λ m. left m.young) c.pass-marks.ensures.value ∙ ap (λ l. left (passed l c.loop-first.marks c.in-Some.place).young) lane in
     let tenured = ap (λ m. left m.tenured) c.pass-marks.ensures.value ∙ ap (λ l. left (passed l c.loop-first.marks c.in-Some.place).tenured) lane in
     omega (arith, fewer, young, tenured)
 
-pub scan_object-requires-clause-ends : goal.scan_object-requires-clause-ends
-scan_object-requires-clause-ends g c = ends_on c.args.seat.now.hand.copier c.args.seat.now.hand.copiers c.loop-first.seat.hand.copier c.loop-first.seat.hand.copiers c.args.to.now c.loop-first.to c.loop-first.invariant.copier c.loop-first.invariant.copiers c.loop-first.invariant.goes c.requires.ends
+pub scan_object-requires-clause-claims : goal.scan_object-requires-clause-claims
+scan_object-requires-clause-claims g c = claims_still c.args.from.stores.now c.args.words.now c.args.seat.now c.loop-first.seat c.args.to.now c.loop-first.to c.loop-first.invariant.on c.requires.claims
 
-pub returns-in_err-points-clause-goes : goal.returns-in_err-points-clause-goes
-returns-in_err-points-clause-goes g c = goes_on c.args.seat.now.hand.copier c.args.seat.now.hand.copiers c.loop-first.seat.hand.copier c.loop-first.seat.hand.copiers c.args.to.now c.loop-first.to c.scan_object.new.to c.loop-first.invariant.copier c.loop-first.invariant.copiers c.loop-first.invariant.stays c.loop-first.invariant.goes c.scan_object.ensures.goes
-
-pub returns-in_err-points-clause-stays : goal.returns-in_err-points-clause-stays
-returns-in_err-points-clause-stays g c = stays_more c.args.to.now c.loop-first.to c.scan_object.new.to c.loop-first.invariant.stays c.scan_object.ensures.stays
+pub returns-in_err-points-clause-on : goal.returns-in_err-points-clause-on
+returns-in_err-points-clause-on g c = claiming_more c.args.seat.now c.loop-first.seat c.scan_object.new.seat c.args.to.now c.loop-first.to c.scan_object.new.to c.loop-first.invariant.on c.scan_object.ensures.on

@@ -1,10 +1,11 @@
-use Rattle.std.proofs.Common.{sym, subst}
+use Rattle.std.proofs.Common.{◌≡◌, sym, subst}
 use Rattle.std.specs.Prelude.{OnOk}
-use Rattle.jm_forward.specs.declared.rule.Hand.{Hand}
-use Rattle.jm_par_copy.specs.Strides.{Goes, OwnsEnds}
-use Rattle.jm_par_copy.specs.Working.{IsWorking, KeepsWorking, KnowsMore, WinsMore}
-use Rattle.jm_par_copy.proofs.Working.{Stepped, seen, wins_seen}
+use Rattle.jm_copy.proofs.Making.{stays_refl}
+use Rattle.jm_par_copy.specs.Claiming.{CanClaim, KeepsClaiming, LearnsMore}
+use Rattle.jm_par_copy.specs.Working.{IsWorking, KeepsWorking}
+use Rattle.jm_par_copy.proofs.Working.{Stepped, seen}
 use Rattle.jm_par_copy.proofs.Strides.{goes_refl}
+use Rattle.jm_par_copy.proofs.Claiming.{claiming_by, claiming_refl, learns_refl, learns_seen, seat_same}
 use Rattle.jm_par_copy.proofs.step.forward.Given.{Over}
 use Rattle.jm_par_copy.proofs.step.forward.Goals.{In-Some-look}
 use Rattle.jm_par_copy.proofs.step.forward.Goals as goal
@@ -18,18 +19,23 @@ returns-in-Some-look-clause-forwarded g c = (looked g c).forwarded
 pub returns-in-Some-look-clause-working : goal.returns-in-Some-look-clause-working
 returns-in-Some-look-clause-working g c = (looked g c).working
 
-pub returns-in-Some-look-clause-goes : goal.returns-in-Some-look-clause-goes
-returns-in-Some-look-clause-goes g c = goes_refl c.args.seat.now.hand.copier c.args.seat.now.hand.copiers c.args.to.now
+pub returns-in-Some-look-clause-learns : goal.returns-in-Some-look-clause-learns
+returns-in-Some-look-clause-learns g c = learns_seen c.args.seat.now.hand c.look.new.seat.hand c.number-number.result c.in-Some-look.known c.in-Some-look.ensures.hand
 
-pub returns-in-Some-look-clause-wins : goal.returns-in-Some-look-clause-wins
-returns-in-Some-look-clause-wins g c = wins_seen c.args.seat.now.hand c.look.new.seat.hand c.number-number.result c.in-Some-look.known c.in-Some-look.ensures.hand
+pub returns-in-Some-look-clause-on : goal.returns-in-Some-look-clause-on
+returns-in-Some-look-clause-on g c =
+    let learns = learns_seen c.args.seat.now.hand c.look.new.seat.hand c.number-number.result c.in-Some-look.known c.in-Some-look.ensures.hand in
+    claiming_by c.args.seat.now c.look.new.seat c.args.to.now c.args.to.now c.look.ensures.table learns (stays_refl c.args.to.now) (goes_refl c.args.seat.now.hand.copier c.args.seat.now.hand.copiers c.args.to.now)
 
-pub returns-in_default-clause-goes : goal.returns-in_default-clause-goes
-returns-in_default-clause-goes g c = goes_refl c.args.seat.now.hand.copier c.args.seat.now.hand.copiers c.args.to.now
+pub returns-in_default-clause-learns : goal.returns-in_default-clause-learns
+returns-in_default-clause-learns g c = learns_refl c.args.seat.now.hand
 
--- where nothing was known the hand is as it was
-pub claim_and_copy-requires-clause-ends : goal.claim_and_copy-requires-clause-ends
-claim_and_copy-requires-clause-ends g c = subst (λ (h : Hand). OwnsEnds h.copier h.copiers c.args.to.now) (sym c.in_default-look.ensures.hand.0) c.requires.ends
+pub returns-in_default-clause-on : goal.returns-in_default-clause-on
+returns-in_default-clause-on g c = claiming_refl c.args.seat.now c.args.to.now
+
+-- where nothing was known the seat is as it was
+pub claim_and_copy-requires-clause-claims : goal.claim_and_copy-requires-clause-claims
+claim_and_copy-requires-clause-claims g c = subst (λ s. CanClaim c.args.from.stores.now c.args.words.now s c.args.to.now) (sym (seat_same c.args.seat.now c.look.new.seat c.look.ensures.table c.in_default-look.ensures.hand.0)) c.requires.claims
 
 pub claim_and_copy-requires-clause-working : goal.claim_and_copy-requires-clause-working
 claim_and_copy-requires-clause-working g c =
@@ -42,11 +48,8 @@ claim_and_copy-requires-clause-there g c = (c.in-Some.ensures.0, c.in-Some.ensur
 pub returns-clause-working : goal.returns-clause-working
 returns-clause-working g c = subst (λ h. OnOk c.claim_and_copy.result (KeepsWorking c.args.from.stores.now c.args.from.roots.now h c.claim_and_copy.new.seat.hand c.args.to.now c.claim_and_copy.new.to)) c.in_default-look.ensures.hand.0 c.claim_and_copy.ensures.working
 
-pub returns-clause-knows : goal.returns-clause-knows
-returns-clause-knows g c = subst (λ h. OnOk c.claim_and_copy.result (KnowsMore h c.claim_and_copy.new.seat.hand)) c.in_default-look.ensures.hand.0 c.claim_and_copy.ensures.knows
+pub returns-clause-learns : goal.returns-clause-learns
+returns-clause-learns g c = subst (λ h. OnOk c.claim_and_copy.result (LearnsMore h c.claim_and_copy.new.seat.hand)) c.in_default-look.ensures.hand.0 c.claim_and_copy.ensures.learns
 
-pub returns-clause-wins : goal.returns-clause-wins
-returns-clause-wins g c = subst (λ h. OnOk c.claim_and_copy.result (WinsMore h c.claim_and_copy.new.seat.hand)) c.in_default-look.ensures.hand.0 c.claim_and_copy.ensures.wins
-
-pub returns-clause-goes : goal.returns-clause-goes
-returns-clause-goes g c = subst (λ (h : Hand). Goes h.copier h.copiers c.args.to.now c.claim_and_copy.new.to) c.in_default-look.ensures.hand.0 c.claim_and_copy.ensures.goes
+pub returns-clause-on : goal.returns-clause-on
+returns-clause-on g c = subst (λ s. KeepsClaiming s c.claim_and_copy.new.seat c.args.to.now c.claim_and_copy.new.to) (seat_same c.args.seat.now c.look.new.seat c.look.ensures.table c.in_default-look.ensures.hand.0) c.claim_and_copy.ensures.on
