@@ -1,4 +1,4 @@
-use Rattle.std.proofs.Common.{Vec, Global, ℕ, ◌≡◌, ◌+◌, ◌-◌, ◌∙◌, ◌<◌, ◌++◌, ◌∷◌, [], Some, ap, arith, cond, sym, length}
+use Rattle.std.proofs.Common.{Vec, Global, ℕ, ◌≡◌, ◌-◌, ◌∙◌, ◌<◌, ◌++◌, ◌∷◌, [], Some, ap, arith, cond, sym, length}
 use Rattle.std.specs.Prelude.{slice_get}
 use Rattle.jm_copy.specs.Pointing.{points_to}
 use Rattle.jm_values.proofs.Lists.{get_there}

@@ -1,4 +1,4 @@
-use Rattle.std.proofs.Common.{◌≡◌, ◌≢◌, ◌∙◌, ℕ, Option, Some, arith, ap, refl, sym, subst, length}
+use Rattle.std.proofs.Common.{◌≡◌, ◌≢◌, ◌∙◌, ℕ, Option, Some, arith, ap, sym, subst, length}
 use Rattle.std.specs.Prelude.{MatchOption}
 use Rattle.jm_copy.specs.Copies.{Stays}
 use Rattle.jm_copy.specs.Marks.{at, mark_of, passed, AllPassed, AreMarks, IsNext}

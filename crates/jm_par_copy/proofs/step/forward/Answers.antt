@@ -1,4 +1,4 @@
-use Rattle.std.proofs.Common.{◌≡◌, sym, subst}
+use Rattle.std.proofs.Common.{sym, subst}
 use Rattle.std.specs.Prelude.{OnOk}
 use Rattle.jm_copy.proofs.Making.{stays_refl}
 use Rattle.jm_par_copy.specs.Claiming.{CanClaim, KeepsClaiming, LearnsMore}
