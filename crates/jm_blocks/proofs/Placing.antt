@@ -23,7 +23,7 @@ pub index_put : (lane b k : ℕ) → k < 256 → index_of (place_at lane b k) �
 index_put lane b k j = omega arith
 
 -- where the object at a place lies
-pub record LiesIn (s : Blocks) (p : ℕ) (o : Object) : Type 0 where
+pub record LiesInBlock (s : Blocks) (p : ℕ) (o : Object) : Type 0 where
   pub lane : lane_of p ≡ s.lane
   pub block : List Object
   pub block_is : slice_get s.lists (block_of p) ≡ Some block
@@ -33,11 +33,11 @@ in_list : (found : Option (List Object)) (k : ℕ) (o : Object) → object_of_li
 in_list None k o e = cc
 in_list (Some os) k o e = (os, refl, e)
 
-pub lies_in : (s : Blocks) (p : ℕ) (o : Object) → objects_in s p ≡ Some o → LiesIn s p o
+pub lies_in : (s : Blocks) (p : ℕ) (o : Object) → objects_in s p ≡ Some o → LiesInBlock s p o
 unfolding objects_in
 lies_in s p o e = by (nat_eq (lane_of p) s.lane) refl e
   where
-    by : (b : Bool) → nat_eq (lane_of p) s.lane ≡ b → cond b (object_of_list (slice_get s.lists (block_of p)) (index_of p)) None ≡ Some o → LiesIn s p o
+    by : (b : Bool) → nat_eq (lane_of p) s.lane ≡ b → cond b (object_of_list (slice_get s.lists (block_of p)) (index_of p)) None ≡ Some o → LiesInBlock s p o
     by false t f = cc
     by true t f = let at = in_list (slice_get s.lists (block_of p)) (index_of p) o f in record { lane = eqb-true (lane_of p) s.lane t; block = at.0; block_is = at.1; object_is = at.2 }
 
@@ -125,7 +125,7 @@ bumped_last lane bs os o h j e = record {
   above = λ q f. by q f.0 (lies_in (record { lane = lane; lists = bs }) q f.0 f.1) (eqb_tells (block_of q) (length bs - 1));
 }
   where
-    by : (q : ℕ) (a : Object) → LiesIn (record { lane = lane; lists = bs }) q a → ((nat_eq (block_of q) (length bs - 1) ≡ true) × (block_of q ≡ length bs - 1)) ⊎ ((nat_eq (block_of q) (length bs - 1) ≡ false) × (block_of q ≢ length bs - 1)) → q < place_at lane (length bs - 1) (length os)
+    by : (q : ℕ) (a : Object) → LiesInBlock (record { lane = lane; lists = bs }) q a → ((nat_eq (block_of q) (length bs - 1) ≡ true) × (block_of q ≡ length bs - 1)) ⊎ ((nat_eq (block_of q) (length bs - 1) ≡ false) × (block_of q ≢ length bs - 1)) → q < place_at lane (length bs - 1) (length os)
     by q a at (inl t) =
         let same : Some at.block ≡ Some os = sym at.block_is ∙ ap (λ i. slice_get bs i) t.1 ∙ e in
         let block : at.block ≡ os = cc in
@@ -145,7 +145,7 @@ bumped_new lane bs o h = record {
   above = λ q f. by q f.0 (lies_in (record { lane = lane; lists = bs }) q f.0 f.1);
 }
   where
-    by : (q : ℕ) (a : Object) → LiesIn (record { lane = lane; lists = bs }) q a → q < place_at lane (length bs) 0
+    by : (q : ℕ) (a : Object) → LiesInBlock (record { lane = lane; lists = bs }) q a → q < place_at lane (length bs) 0
     by q a at = let within = slice_get_within bs (block_of q) at.block at.block_is in let whole = parts q in omega (arith, at.lane, within, whole, h)
 
 -- the object at a place, by what is read as its block

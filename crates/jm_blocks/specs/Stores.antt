@@ -96,6 +96,11 @@ next_place s n =
     then place_at s.lane (length s.lists - 1) (length (objects_of (last_of s.lists)))
     else place_at s.lane (length s.lists) 0
 
+-- an object stands at the next place for its cells, and the blocks are as before with it more
+pub record IsPutNext (old new : Blocks) (p : ℕ) (o : Object) : Type 0 where
+  pub place : p ≡ next_place old (object_cells o)
+  pub blocks : new ≡ store_with old o
+
 -- the cells of all objects
 abbrev pub store_cells : List (List Object) → ℕ
 store_cells bs = sum_by block_cells bs

@@ -8,7 +8,7 @@ ghost use Rattle.jm_heap.specs.Elements.{elements, element_kind};
 ghost use Rattle.jm_heap.specs.Packing.{Fits, kind_of};
 ghost use Rattle.jm_heap.specs.declared.storage.Storage.TheVariants as kind;
 ghost use Rattle.jm_blocks.specs.Places.{place_at, lane_of};
-ghost use Rattle.jm_blocks.specs.Stores.{Blocks, objects_in, LiesIn, HasObject, HasValue, Bumped, IsSet, IsPopped, IsAfter, IsFirst, IsFirstBlock, IsLast, IsLastBlock, IsEmpty, EndsBlock, NoneFrom};
+ghost use Rattle.jm_blocks.specs.Stores.{Blocks, objects_in, LiesIn, HasObject, HasValue, Bumped, IsPutNext, IsSet, IsPopped, IsAfter, IsFirst, IsFirstBlock, IsLast, IsLastBlock, IsEmpty, EndsBlock, NoneFrom};
 ghost use Rattle.jm_blocks.specs.Stores.{last_has_room, store_with, next_place, store_cells};
 
 use crate::block::Block;
@@ -264,7 +264,7 @@ impl BlockStore {
     ) -> Result<Place, AllocError>
         requires { (o : Object) × (slice_get from.now index ≡ Some o) × (last_has_room self.old.lists (object_cells o) ≡ false) }
         ensures ok { IfOk result (λ p. (o : Object) → slice_get from.now index ≡ Some o → Bumped self.old self.new p (aged age o)) }
-        ensures filled { IfOk result (λ p. (o : Object) → slice_get from.now index ≡ Some o → (p ≡ next_place self.old (object_cells o)) × (self.new ≡ store_with self.old (aged age o))) }
+        ensures filled { IfOk result (λ p. (o : Object) → slice_get from.now index ≡ Some o → IsPutNext self.old self.new p (aged age o)) }
         ensures lane { IfOk result (λ p. lane_of p ≡ self.old.lane) }
         ensures same { self.new.lane ≡ self.old.lane }
         ensures err { OnErr result (self.new ≡ self.old) }
@@ -291,7 +291,7 @@ impl BlockStore {
     ) -> Result<Place, AllocError>
         requires { (o : Object) × (slice_get from.now index ≡ Some o) }
         ensures ok { IfOk result (λ p. (o : Object) → slice_get from.now index ≡ Some o → Bumped self.old self.new p (aged age o)) }
-        ensures filled { IfOk result (λ p. (o : Object) → slice_get from.now index ≡ Some o → (p ≡ next_place self.old (object_cells o)) × (self.new ≡ store_with self.old (aged age o))) }
+        ensures filled { IfOk result (λ p. (o : Object) → slice_get from.now index ≡ Some o → IsPutNext self.old self.new p (aged age o)) }
         ensures lane { IfOk result (λ p. lane_of p ≡ self.old.lane) }
         ensures same { self.new.lane ≡ self.old.lane }
         ensures err { OnErr result (self.new ≡ self.old) }

@@ -8,7 +8,7 @@ use Rattle.jm_program.proofs.Sequences.{got_last, got_before_last}
 use Rattle.jm_blocks.specs.Objects.{Object}
 use Rattle.jm_blocks.specs.Places.{lane_of, block_of, index_of}
 use Rattle.jm_blocks.specs.Stores.{Blocks, objects_in}
-use Rattle.jm_blocks.proofs.Placing.{LiesIn, lies_in, elsewhere, parts}
+use Rattle.jm_blocks.proofs.Placing.{LiesInBlock, lies_in, elsewhere, parts}
 use Rattle.jm_copy.specs.Condemned.{AreLanes, objects_at, object_of_store}
 use Rattle.jm_copy.specs.Numbers.{before, list_length, block_counts, lane_count, lane_counts, object_count, number_in, number_of, AreStarts, AreNumbers}
 use Rattle.jm_values.proofs.Lists.{get_map}
@@ -37,7 +37,7 @@ before_apart (n ∷ ns) (suc b) (suc c) x y i j e f g h same = let rest = before
 pub record LiesAt (stores : List Blocks) (p : ℕ) (o : Object) : Type 0 where
   pub store : Blocks
   pub store_is : slice_get stores (lane_of p - 1) ≡ Some store
-  pub lies : LiesIn store p o
+  pub lies : LiesInBlock store p o
 
 pub lies_at : (stores : List Blocks) (p : ℕ) (o : Object) → objects_at stores p ≡ Some o → LiesAt stores p o
 unfolding objects_at
@@ -48,7 +48,7 @@ lies_at stores p o e = by (slice_get stores (lane_of p - 1)) refl e
     by (Some s) f g = record { store = s; store_is = f; lies = lies_in s p o g }
 
 -- the number in the lane is below the lane's count
-lane_within : (s : Blocks) (p : ℕ) (o : Object) → LiesIn s p o → before (block_of p) (block_counts s) + index_of p < lane_count s
+lane_within : (s : Blocks) (p : ℕ) (o : Object) → LiesInBlock s p o → before (block_of p) (block_counts s) + index_of p < lane_count s
 lane_within s p o at =
     let le = before_within (block_counts s) (block_of p) (length at.block) (get_map list_length s.lists (block_of p) at.block at.block_is) in
     let w = slice_get_within at.block (index_of p) o at.object_is in
@@ -85,7 +85,7 @@ number_apart stores p q o a lanes e f same =
     let both : Some x.store ≡ Some y.store = sym x.store_is ∙ ap (slice_get stores) lane.0 ∙ y.store_is in
     let store : x.store ≡ y.store = cc in
     let inner : before (block_of p) (block_counts y.store) + index_of p ≡ before (block_of q) (block_counts y.store) + index_of q = ap (λ s. before (block_of p) (block_counts s) + index_of p) (sym store) ∙ lane.1 in
-    let here = subst (λ s. LiesIn s p o) store x.lies in
+    let here = subst (λ s. LiesInBlock s p o) store x.lies in
     let block = before_apart (block_counts y.store) (block_of p) (block_of q) (length here.block) (length y.lies.block) (index_of p) (index_of q) (get_map list_length y.store.lists (block_of p) here.block here.block_is) (get_map list_length y.store.lists (block_of q) y.lies.block y.lies.block_is) (slice_get_within here.block (index_of p) o here.object_is) (slice_get_within y.lies.block (index_of q) a y.lies.object_is) inner in
     let whole = parts p in
     let all = parts q in

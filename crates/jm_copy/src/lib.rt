@@ -22,7 +22,8 @@
 //! new objects are the image.
 //!
 //! The stores that a copier fills, the marks of its scan, the numbers of the condemned objects and the references of
-//! an object are public ([`Copies`], [`Marks`], [`Starts`], [`first_named`]), for collectors of several copiers.
+//! an object are public ([`Copies`], [`Marks`], [`Starts`], [`first_named`]), for collectors of several copiers, and so
+//! is the listing of the promoted objects that point to young ones ([`note`]).
 //!
 //! The crate stands on `jm_blocks`.
 #![tactic(auto)]
@@ -40,7 +41,7 @@ mod words;
 pub use collector::{Collector, Refused, Survivors};
 pub use copies::{Copies, Named, first_named, next_named};
 pub use laws::a_finished_scan_is_an_image;
-pub use scan::{Marks, next, next_after, next_of, pass};
+pub use scan::{Marks, either, next, next_after, next_of, note, pass};
 pub use serial::SerialCollector;
 pub use source::{Source, find, number};
 pub use starts::{Starts, number_all};

@@ -84,9 +84,9 @@ pub fn pass(to: &Copies, marks: &Marks, place: Place) -> Marks
     passed
 }
 
-// Whether one of two facts holds.
+/// Whether one of two facts holds.
 #[inline(always)]
-fn either(one: bool, other: bool) -> bool
+pub fn either(one: bool, other: bool) -> bool
     ensures { result ≡ (one || other) }
 {
     if one { true } else { other }
@@ -118,9 +118,14 @@ fn scan_object(
     Ok(points)
 }
 
-// Lists the place of an object that was scanned, if it is an old one and points to a young one.
+/// Lists the place of an object that was scanned, if it is an old one and points to a young one.
 #[inline]
-fn note(to: &Copies, place: Place, points: bool, places: &mut Vec<Place>) -> Result<(), AllocError>
+pub fn note(
+    to: &Copies,
+    place: Place,
+    points: bool,
+    places: &mut Vec<Place>,
+) -> Result<(), AllocError>
     ensures young { OnOk result (lane_of place ≡ to.now.young.lane → places.new.items ≡ places.old.items) }
     ensures old { OnOk result (lane_of place ≢ to.now.young.lane → places.new.items ≡ (if points then places.old.items ++ place ∷ [] else places.old.items)) }
 {

@@ -7,7 +7,7 @@ use Rattle.jm_values.specs.Reach.{AllDistinct}
 use Rattle.jm_blocks.specs.Objects.{Object}
 use Rattle.jm_blocks.specs.Places.{place_at, lane_of, block_of, index_of}
 use Rattle.jm_blocks.specs.Stores.{Blocks, objects_in, object_of_list}
-use Rattle.jm_blocks.proofs.Placing.{LiesIn, lies_in, at_place, parts, lane_put, block_put, index_put}
+use Rattle.jm_blocks.proofs.Placing.{LiesInBlock, lies_in, at_place, parts, lane_put, block_put, index_put}
 use Rattle.jm_copy.specs.Condemned.{AreLanes, objects_at, object_of_store}
 use Rattle.jm_copy.proofs.Numbering.{lies_at}
 use Rattle.jm_copy.proofs.Pointing.{distinct_append}
@@ -191,7 +191,7 @@ lies_listed stores p o e =
     let r = lies_at stores p o e in
     of_stores stores (lane_of p - 1) r.store p o r.store_is (of_lies r.store r.lies)
   where
-    of_lies : (s : Blocks) → LiesIn s p o → At (placed_in_blocks s.lane 0 s.lists) p o
+    of_lies : (s : Blocks) → LiesInBlock s p o → At (placed_in_blocks s.lane 0 s.lists) p o
     of_lies s at = of_store s p o (at_place s (block_of p) (index_of p) p at.lane refl refl ∙ ap (λ x. object_of_list x (index_of p)) at.block_is ∙ at.object_is)
 
 distinct_from : (m : ℕ) (stores : List Blocks) → m + length stores ≤ 64 → LanesFrom m stores → AllDistinct (places (placed_in stores))

@@ -1,5 +1,5 @@
 -- Classes by their numbers among all classes.
-use Rattle.std.proofs.Common.{◌≡◌, ℕ, ◌+◌, ◌-◌, ◌<◌, ◌≤◌, zero, suc, Bool, true, false, List, [], ◌∷◌, ◌++◌, Option, Some, None, length, get_or}
+use Rattle.std.proofs.Common.{◌≡◌, ℕ, ◌+◌, ◌-◌, ◌<◌, ◌≤◌, suc, Bool, true, false, List, [], ◌∷◌, ◌++◌, Option, Some, None, length, get_or}
 use Rattle.std.proofs.Common.{drop, refl, sym, ap, ◌∙◌, arith}
 use Rattle.std.specs.Prelude.{map, slice_get, option_map, MatchOption}
 use Rattle.std.proofs.lemmas.List.{drop_more, drop_all}
@@ -9,7 +9,7 @@ use Rattle.std.specs.List.{ItemBy}
 use Rattle.std.specs.Cmp.Lexicographic as texts
 use Rattle.jm_program.specs.Names.{same_text}
 use Rattle.jm_program.specs.declared.class.ClassParts.{ClassParts}
-use Rattle.jm_program.proofs.Sequences.{got_front}
+use Rattle.jm_program.proofs.Sequences.{got_behind, got_front, got_within}
 use Rattle.jm_builtins.specs.List.{the_builtins}
 use Rattle.jm_builtins.specs.declared.built_in.BuiltIn.{BuiltIn}
 use Rattle.jm_world.specs.Classes.{as_class, class_named}
@@ -23,16 +23,9 @@ use Rattle.jm_linker.proofs.Numbers.{by_number, by_no_number}
 abbrev members_class : Members → ClassParts
 members_class m = m.class.now
 
--- an element of two lists, one after the other: of the first, and of the second
-in_front : {A : Type 0} (xs ys : List A) (n : ℕ) → n < length xs → slice_get (xs ++ ys) n ≡ slice_get xs n
-in_front [] ys n l = absurd (omega (arith, l))
-in_front (x ∷ xs) ys zero l = refl
-in_front (x ∷ xs) ys (suc n) l = in_front xs ys n (omega (arith, l))
-
-behind : {A : Type 0} (xs ys : List A) (n k : ℕ) → n ≡ length xs + k → slice_get (xs ++ ys) n ≡ slice_get ys k
-behind [] ys n k e = let same : n ≡ k = omega (arith, e) in ap (slice_get ys) same
-behind (x ∷ xs) ys zero k e = absurd (omega (arith, e))
-behind (x ∷ xs) ys (suc n) k e = behind xs ys n k (omega (arith, e))
+-- what stands behind a list
+behind : {A : Type 0} (xs ys : List A) (n k : ℕ) (found : Option A) → n ≡ length xs + k → slice_get ys k ≡ found → slice_get (xs ++ ys) n ≡ found
+behind xs ys n k found is at = ap (slice_get (xs ++ ys)) is ∙ got_behind xs ys k ∙ at
 
 -- the class of a number among classes, counted from a number
 record IsIn (k : ℕ) (cs : List ClassParts) (name : List ℕ) (n : ℕ) : Type 0 where
@@ -132,9 +125,9 @@ of_program program name n m e is =
     record {
       class = i.class;
       found = by_number program name n e ∙ at;
-      numbered = behind (map as_class the_builtins) program m n is ∙ at;
-      named = behind (map (λ (b : BuiltIn). b.name) the_builtins) (map (λ (c : ClassParts). c.name) program) m n is
-          ∙ named_at program n i.class name at i.name_is;
+      numbered = behind (map as_class the_builtins) program m n (Some i.class) is at;
+      named = behind (map (λ (b : BuiltIn). b.name) the_builtins) (map (λ (c : ClassParts). c.name) program) m n (Some name) is
+          (named_at program n i.class name at i.name_is);
     }
 
 built_in_names_are : map (λ (c : ClassParts). c.name) built_in_classes ≡ map (λ (b : BuiltIn). b.name) the_builtins
@@ -187,12 +180,12 @@ class_got ms cs n r all item = by r item ∙ sym (ap (λ ds. slice_get ds n) (sy
 -- by its number: a class of the program, and a built-in one
 pub own_got : (program : List ClassParts) (ms : List Members) (n k : ℕ) (r : Option (Bor Members)) → n ≡ length the_builtins + k
     → map members_class ms ≡ program → ItemBy (λ (m : Bor Members). m.now) ms k k r → option_map (λ (m : Bor Members). m.now.class.now) r ≡ class_numbered program n
-own_got program ms n k r is all item = class_got ms program k r all item ∙ sym (behind (map as_class the_builtins) program n k is)
+own_got program ms n k r is all item = class_got ms program k r all item ∙ sym (behind (map as_class the_builtins) program n k (slice_get program k) is refl)
 
 pub built_in_got : (program : List ClassParts) (ms : List Members) (n : ℕ) (r : Option (Bor Members)) → n < length the_builtins
     → map members_class ms ≡ built_in_classes → ItemBy (λ (m : Bor Members). m.now) ms n n r → option_map (λ (m : Bor Members). m.now.class.now) r ≡ class_numbered program n
 unfolding built_in_classes
-built_in_got program ms n r l all item = class_got ms built_in_classes n r all item ∙ sym (in_front (map as_class the_builtins) program n l)
+built_in_got program ms n r l all item = class_got ms built_in_classes n r all item ∙ sym (got_within (map as_class the_builtins) program n l)
 
 -- the class of the number of a name is that of the name
 pub of_its_number : (program : List ClassParts) (name : List ℕ) (n : ℕ) → IsNumberOf program name n → class_numbered program n ≡ class_named program name

@@ -12,7 +12,7 @@ use Rattle.jm_program.proofs.Numbers.{equal}
 use Rattle.jm_blocks.specs.Objects.{Object}
 use Rattle.jm_blocks.specs.Places.{lane_of, block_of, index_of, place_at}
 use Rattle.jm_blocks.specs.Stores.{Blocks, HasObject, IsLast, objects_in, object_of_list}
-use Rattle.jm_blocks.proofs.Placing.{LiesIn, at_place, lies_in, lane_put, block_put, index_put}
+use Rattle.jm_blocks.proofs.Placing.{LiesInBlock, at_place, lies_in, lane_put, block_put, index_put}
 use Rattle.jm_par_copy.specs.Merging.{AreBeside, GoesOver, IsLeft, IsMoved}
 use Rattle.jm_par_copy.specs.Moves.{piece_of, with_block}
 use Rattle.jm_par_copy.specs.Pieces.{is_in, objects_of}
@@ -208,7 +208,7 @@ rest_more from mid now number l f k h = l.others k (λ e. absurd (omega (arith, 
 none_left : (from now : Blocks) (count : ℕ) → now.lane ≡ from.lane → ((n : ℕ) → HasObject from n → block_of n < count) → ((k : ℕ) → k < count → slice_get now.lists k ≡ Some []) → ((k : ℕ) → count ≤ k → slice_get now.lists k ≡ slice_get from.lists k) → (n : ℕ) → objects_in now n ≡ None
 none_left from now count lane above empty rest n = by (objects_in now n) refl
   where
-    never : (o : Object) → LiesIn now n o → (block_of n < count) ⊎ (count ≤ block_of n) → ⊥
+    never : (o : Object) → LiesInBlock now n o → (block_of n < count) ⊎ (count ≤ block_of n) → ⊥
     never o at (inl h) =
         let two : Some [] ≡ Some at.block = sym (empty (block_of n) h) ∙ at.block_is in
         let is : [] ≡ at.block = cc in

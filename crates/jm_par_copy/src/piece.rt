@@ -15,10 +15,9 @@ ghost use Rattle.jm_par_copy.specs.Pieces.{BecomesGiven, ForwardsGiven, IsGiven,
 
 use crate::gate::Gate;
 use crate::owner::CopierBlocks;
-use crate::scan::either;
 use crate::step::forward;
 use jm_blocks::{Block, Position};
-use jm_copy::{Copies, Named, Source, first_named, next_named};
+use jm_copy::{Copies, Named, Source, either, first_named, next_named};
 use jm_forward::{Forwarding, Seat};
 use jm_values::{Place, Value};
 use std::alloc::{AllocError, Global};

@@ -1,10 +1,9 @@
 // One round of a copier over its own objects.
 
-ghost use Rattle.std.specs.Prelude.{◌≡◌, ◌≢◌, ℕ, ◌+◌, ◌<◌, ◌++◌, ◌∷◌, ◌||◌, [], List, Option, Some, IfOk, OnOk, IsTrue, if◌then◌else◌, slice_get, true};
+ghost use Rattle.std.specs.Prelude.{◌≡◌, ℕ, ◌<◌, List, Option, Some, IfOk, OnOk, IsTrue, slice_get, true};
 ghost use Rattle.jm_values.specs.declared.value.Value.TheVariants.{Ref};
 ghost use Rattle.jm_heap.specs.Packing.{Fits, kind_of};
 ghost use Rattle.jm_blocks.specs.Objects.{Object};
-ghost use Rattle.jm_blocks.specs.Places.{lane_of};
 ghost use Rattle.jm_copy.specs.Copying.{Progress};
 ghost use Rattle.jm_copy.specs.Copies.{HasMade, IsSource, made};
 ghost use Rattle.jm_copy.specs.Marks.{AllPassed, AreMarks, BecomesValue, OthersStay, at};
@@ -15,7 +14,7 @@ ghost use Rattle.jm_par_copy.specs.Working.{ForwardsAll, ForwardsOne, IsScanning
 use crate::gate::Gate;
 use crate::owner::CopierBlocks;
 use crate::step::forward;
-use jm_copy::{Copies, Marks, Source, next, next_after, pass};
+use jm_copy::{Copies, Marks, Source, either, next, next_after, note, pass};
 use jm_forward::{Forwarding, Seat};
 use jm_values::{Place, Value};
 use std::alloc::{AllocError, Global};
@@ -52,14 +51,6 @@ fn forward_named<G: Gate>(
     let copy = forward(alloc, from, words, gate, copier, claims, seat, to, named)?;
     to.set(place, number, Value::Ref(copy));
     Ok(to.is_young(copy))
-}
-
-// Whether one of two facts holds.
-#[inline(always)]
-pub(crate) fn either(one: bool, other: bool) -> bool
-    ensures { result ≡ (one || other) }
-{
-    if one { true } else { other }
 }
 
 // Forwards each reference of one object of the copier's own, and answers whether one of them names a young object
@@ -106,22 +97,6 @@ fn scan_object<G: Gate>(
         next = to.named_after(place, named.number, named.end);
     }
     Ok(points)
-}
-
-// Lists the place of an object that was scanned, if it is an old one and points to a young one.
-#[inline]
-fn note(to: &Copies, place: Place, points: bool, places: &mut Vec<Place>) -> Result<(), AllocError>
-    ensures young { OnOk result (lane_of place ≡ to.now.young.lane → places.new.items ≡ places.old.items) }
-    ensures old { OnOk result (lane_of place ≢ to.now.young.lane → places.new.items ≡ (if points then places.old.items ++ place ∷ [] else places.old.items)) }
-{
-    if !points {
-        return Ok(());
-    }
-    if to.is_young(place) {
-        return Ok(());
-    }
-    places.push(place)?;
-    Ok(())
 }
 
 // How many blocks are scanned with one that is another than the last.

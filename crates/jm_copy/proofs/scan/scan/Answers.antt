@@ -1,11 +1,8 @@
-use Rattle.std.proofs.Common.{◌≡◌, ℕ, Option, Some, arith, ap, sym, subst, length, ◌∙◌}
+use Rattle.std.proofs.Common.{◌≡◌, Some, arith, ap, sym, subst, length, ◌∙◌}
 use Rattle.jm_copy.specs.Copies.{IsCopying}
-use Rattle.std.specs.Prelude.{MatchOption}
-use Rattle.jm_copy.specs.Marks.{at, mark_of, passed, progress, AllPassed, AreMarks, IsNext}
+use Rattle.jm_copy.specs.Marks.{at, mark_of, passed, progress, AllPassed, AreMarks}
 use Rattle.jm_copy.proofs.Making.{extends_refl, extends_more}
-use Rattle.jm_copy.proofs.Marking.{next_made, next_copying, passed_marks, marks_stay, passed_copying, all_scanned, passed_left, passed_mark, left}
-use Rattle.jm_copy.specs.declared.copies.Copies.{Copies}
-use Rattle.jm_copy.specs.declared.scan.Marks.{Marks}
+use Rattle.jm_copy.proofs.Marking.{next_here, none_here, next_made, next_copying, passed_marks, marks_stay, passed_copying, all_scanned, passed_left, passed_mark, left}
 use Rattle.jm_copy.specs.Pointing.{IsListed}
 use Rattle.jm_copy.proofs.Pointing.{listed_all, listed_none, scanned_listed}
 use Rattle.jm_copy.proofs.scan.scan.Goals as goal
@@ -16,11 +13,8 @@ loop-first-init c = record { copying = c.requires.copying; marks = record { youn
 pub next-first-requires : goal.next-first-requires
 next-first-requires c = record { marks = record { young = tt; tenured = c.requires.copying.kept; past = λ n e. e }; apart = c.requires.copying.apart }
 
-next_here : (c : Copies) (m : Marks) (r : Option ℕ) (p : ℕ) → r ≡ Some p → MatchOption r (AllPassed c m) (λ q. IsNext c m q) → IsNext c m p
-next_here c m r p e h = subst (λ o. MatchOption o (AllPassed c m) (λ q. IsNext c m q)) e h
-
 all_passed : (c : goal.In_default) → AllPassed c.loop-first.to c.loop-first.marks
-all_passed c = subst (λ r. MatchOption r (AllPassed c.loop-first.to c.loop-first.marks) (λ p. IsNext c.loop-first.to c.loop-first.marks p)) c.in_default.is c.loop-first.invariant.next
+all_passed c = none_here c.loop-first.to c.loop-first.marks c.loop-first.first c.in_default.is c.loop-first.invariant.next
 
 pub scan_object-requires-clause-copying : goal.scan_object-requires-clause-copying
 scan_object-requires-clause-copying c = (progress c.loop-first.to.young.lane (passed c.loop-first.to.young.lane c.loop-first.marks c.in-Some.place), next_copying c.args.from.stores.now c.args.from.roots.now c.loop-first.to c.loop-first.marks c.in-Some.place c.loop-first.invariant.copying c.loop-first.invariant.marks (next_here c.loop-first.to c.loop-first.marks c.loop-first.first c.in-Some.place c.in-Some.is c.loop-first.invariant.next))

@@ -1,19 +1,15 @@
-use Rattle.std.proofs.Common.{◌≡◌, ◌≢◌, ◌∙◌, ℕ, Option, Some, arith, ap, sym, subst, length}
-use Rattle.std.specs.Prelude.{MatchOption}
+use Rattle.std.proofs.Common.{◌≡◌, ◌≢◌, ◌∙◌, Some, arith, ap, sym, subst, length}
 use Rattle.jm_copy.specs.Copies.{Stays}
-use Rattle.jm_copy.specs.Marks.{at, mark_of, passed, AllPassed, AreMarks, IsNext}
+use Rattle.jm_copy.specs.Marks.{at, mark_of, passed, AreMarks}
 use Rattle.jm_copy.specs.Pointing.{IsListed}
 use Rattle.jm_copy.specs.declared.copies.Copies.{Copies}
 use Rattle.jm_copy.specs.declared.scan.Marks.{Marks}
-use Rattle.jm_copy.proofs.Marking.{next_made, passed_mark, passed_marks, marks_stay, passed_left, left}
+use Rattle.jm_copy.proofs.Marking.{next_here, none_here, next_made, passed_mark, passed_marks, marks_stay, passed_left, left}
 use Rattle.jm_copy.proofs.Pointing.{scanned_listed}
 use Rattle.jm_par_copy.specs.Working.{IsScanning, IsWorking, scan_progress}
 use Rattle.jm_par_copy.proofs.Working.{next_scanning, passed_scanning}
 use Rattle.jm_par_copy.proofs.Claiming.{claiming_more, claiming_refl, claims_still, learns_more, learns_refl}
 use Rattle.jm_par_copy.proofs.scan.scan_own.Goals as goal
-
-next_here : (c : Copies) (m : Marks) (r : Option ℕ) (p : ℕ) → r ≡ Some p → MatchOption r (AllPassed c m) (λ q. IsNext c m q) → IsNext c m p
-next_here c m r p e h = subst (λ o. MatchOption o (AllPassed c m) (λ q. IsNext c m q)) e h
 
 apart_still : (c d : Copies) → Stays c d → c.tenured.lane ≢ c.young.lane → d.tenured.lane ≢ d.young.lane
 apart_still c d s apart e = apart (sym s.old_lane ∙ e ∙ s.young_lane)
@@ -52,7 +48,7 @@ pub returns-in_err-note-clause-on : goal.returns-in_err-note-clause-on
 returns-in_err-note-clause-on g c = claiming_more c.args.seat.now c.loop-first.seat c.scan_object.new.seat c.args.to.now c.loop-first.to c.scan_object.new.to c.loop-first.invariant.on c.scan_object.ensures.on
 
 pub returns-clause-end : goal.returns-clause-end
-returns-clause-end g c t = subst (λ r. MatchOption r (AllPassed c.loop-first.to c.loop-first.marks) (λ p. IsNext c.loop-first.to c.loop-first.marks p)) c.in_default.is c.loop-first.invariant.next
+returns-clause-end g c t = none_here c.loop-first.to c.loop-first.marks c.loop-first.first c.in_default.is c.loop-first.invariant.next
 
 pub scan_object-requires-clause-working : goal.scan_object-requires-clause-working
 scan_object-requires-clause-working g c =

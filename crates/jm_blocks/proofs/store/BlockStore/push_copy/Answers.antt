@@ -44,7 +44,7 @@ returns-then-last_has_room-clause-filled c o e =
     let room = ap (last_has_room c.args.self.now.lists) (sym (c.cells_of.ensures o e)) ∙ sym c.last_has_room.ensures ∙ c.if-last_has_room.true in
     let filled = fill_last s c.args.self.now c.len-blocks.result c.index_mut-block.result.now c.bump_copy.new.self (aged c.args.age o) c.self.view_is m c.self.invariant.1 c.index_mut-block.ensures.value room (c.in_ok-bump_copy.ensures.ok o e) in
     let place = c.place_in-place.ensures.value ∙ reserved_last s c.args.self.now c.len-blocks.result (object_cells o) c.len.result c.index.result.now c.self.view_is m c.index.ensures room c.len.ensures.value in
-    (place, filled.blocks)
+    record { place = place; blocks = filled.blocks }
 
 pub returns-then-last_has_room-clause-lane : goal.returns-then-last_has_room-clause-lane
 returns-then-last_has_room-clause-lane c =

@@ -36,4 +36,4 @@ pub returns-clause-ok : goal.returns-clause-ok
 returns-clause-ok c o e = subst (λ p. Bumped c.args.self.now (record { lane = c.self.inside.lane; lists = c.push.new.self.items }) p (aged c.args.age o)) (sym (reserved c o e)) (own c o e).bumped
 
 pub returns-clause-filled : goal.returns-clause-filled
-returns-clause-filled c o e = (reserved c o e, (own c o e).blocks)
+returns-clause-filled c o e = record { place = reserved c o e; blocks = (own c o e).blocks }
