@@ -1,0 +1,135 @@
+"""One call of the program, or a few, in a folder of its own, and what came of it."""
+import collections
+import functools
+import os
+import shlex
+import subprocess
+import sys
+import tempfile
+
+TESTS = os.path.dirname(os.path.dirname(os.path.abspath(__file__)))
+DATA = f"{TESTS}/data"
+# A call that takes longer has failed.
+SECONDS = 120
+# A call for which memory is refused may take so many KB, and the file that it reads has so many bytes, without taking room.
+MEMORY = 256 << 10
+LARGE = 512 << 20
+
+# What a call is to come to: its words behind `jm`, the files that lie in its folder, what it reads, and what is to come of it, where
+# None is whatever comes. In `left` stand the files that are to be there afterwards beside `files`. With `memory` it may take so many KB.
+Call = collections.namedtuple("Call", "words files input output lines status left memory", defaults=({}, b"unread", b"", b"", 0, {}, None))
+Came = collections.namedtuple("Came", "output lines status files")
+
+
+class Large:
+    """A file too large for the memory that a call may take."""
+
+
+class Folder:
+    """A folder in the place of a file."""
+
+
+class Missed(Exception):
+    """What is not as it should be, with what was wanted and what came."""
+
+
+class NotAsked(Exception):
+    """A row that no command line asks, with why."""
+
+
+def shown(value):
+    """Returns how a value is shown."""
+    return f"[{value[:4000].decode(errors='backslashreplace')}]" if isinstance(value, bytes) else str(value)
+
+
+def laid(folder, files):
+    """Lays files into a folder. Each has its bytes, or is of a kind of its own."""
+    for name, content in files.items():
+        path = f"{folder}/{name}"
+        if "/" in name:
+            os.makedirs(os.path.dirname(path), exist_ok=True)
+        if content is Folder:
+            os.makedirs(path)
+            continue
+        with open(path, "wb") as file:
+            if content is Large:
+                file.truncate(LARGE)
+            else:
+                file.write(content)
+
+
+def found(folder):
+    """Returns the files of a folder, but for large ones."""
+    files = {}
+    for at, _, names in os.walk(folder):
+        for name in names:
+            path = f"{at}/{name}"
+            if os.path.isfile(path) and os.path.getsize(path) < LARGE:
+                with open(path, "rb") as file:
+                    files[os.path.relpath(path, folder)] = file.read()
+    return files
+
+
+class Program:
+    """A build of jm that is tested: its path, a folder for the folders of its calls, and the program of library calls beside it."""
+
+    def __init__(self, path, room, library=None):
+        self.build, self.room, self.build_library, self.data = path, room, library, DATA
+        # (help names the program as it was called)
+        os.mkdir(f"{room}/bin")
+        self.path = f"{room}/bin/jm"
+        os.symlink(path, self.path)
+
+    @functools.cached_property
+    def library(self):
+        """The program that calls the libraries, built where it is not there yet."""
+        if not self.build_library:
+            raise NotAsked("the program of library calls is not built")
+        return self.build_library()
+
+    def came_of(self, call, **more):
+        """Returns what comes of a call."""
+        with tempfile.TemporaryDirectory(dir=self.room) as folder:
+            laid(folder, call.files)
+            words = [self.path, *call.words]
+            if call.memory:
+                words = ["sh", "-c", f'ulimit -v {call.memory}; exec "$0" "$@"', *words]
+            try:
+                ran = subprocess.run(words, cwd=folder, input=call.input, capture_output=True, timeout=SECONDS, **more)
+            except subprocess.TimeoutExpired:
+                raise Missed(f"no answer in {SECONDS} s{again(self, call)}") from None
+            return Came(ran.stdout, ran.stderr, ran.returncode, found(folder))
+
+    def ask(self, call):
+        """Makes a call and returns what came of it, where it is as it should be."""
+        came = self.came_of(call)
+        for what in ("output", "lines", "status"):
+            wanted = getattr(call, what)
+            if wanted is not None and wanted != getattr(came, what):
+                told = f" ({shown(came.lines)})" if what == "status" else ""
+                raise Missed(f"wanted {what} {shown(wanted)}, came {shown(getattr(came, what))}{told}{again(self, call)}")
+        if call.left is not None:
+            whole = {name: it for name, it in call.files.items() if isinstance(it, bytes)} | call.left
+            others = sorted(it for it in {*whole, *came.files} if whole.get(it) != came.files.get(it))
+            if others:
+                raise Missed(f"other files than wanted: {', '.join(others)}{again(self, call)}")
+        return came
+
+    def made(self, words, files, **wanted):
+        """Makes a call of these words over these files: see ask."""
+        return self.ask(Call(words, files, **wanted))
+
+
+def again(jm, call):
+    """Returns the command by which a call is made again by hand, over its files, which are kept for it."""
+    kept = tempfile.mkdtemp(prefix="jm-row-")
+    laid(kept, {name: it for name, it in call.files.items() if it is not Large})
+    with open(f"{kept}/.input", "wb") as file:
+        file.write(call.input or b"")
+    words = " ".join(map(shlex.quote, [jm.build, *call.words]))
+    return f"\n    again: cd {kept} && {words} < .input"
+
+
+def refused_at_start(name):
+    """Ends tests/run, which cannot begin."""
+    sys.exit(f"tests/run: {name}")
