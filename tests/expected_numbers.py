@@ -23,14 +23,14 @@ def section(text, title):
     return {int(number): name for number, name in re.findall(r"(?m)^\| (\d+) \| ([^|]*) \|", part)}
 
 
-with open("../../docs/LIMITS.md", encoding="utf-8") as file:
+with open("../docs/LIMITS.md", encoding="utf-8") as file:
     limits = file.read()
 refusals, statuses = section(limits, "Refusals"), section(limits, "Exit statuses of the program `jm`")
 names = {number: "status" for number in statuses}
 for number, name in refusals.items():
     names[number] = name.partition(";")[0] + (f"; status {number}" if number in statuses else "")
 numbers = sorted(names)
-with open("../jm_explain/specs/Table.antt", encoding="utf-8") as file:
+with open("../crates/jm_explain/specs/Table.antt", encoding="utf-8") as file:
     meanings = {int(number): meaning for number, meaning in re.findall(r'number = (\d+); .*?meaning = codes "([^"]*)"', file.read())}
 none = [it for it in (16, 17, 44, 47, 48, 58, 91, 99, 4294967295) if it not in names]
 made = {

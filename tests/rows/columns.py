@@ -91,11 +91,16 @@ def file_of(files, name, column):
         raise ValueError(f"two files have the name {name}")
 
 
+def name_of(column):
+    """Returns a name of a file, or a word of a command line: a text in which `{N PART}` stands for PART so often."""
+    return text_bytes(expanded(column)).decode()
+
+
 def files_of(names, columns):
     """Returns the names of a program's files, and the files."""
     if names == "-":
         return [], {}
-    files, names = {}, names.split(" & ")
+    files, names = {}, [name_of(it) for it in names.split(" & ")]
     for name, column in zip(names, columns.split(" & ")):
         file_of(files, name, column)
     return names, files

@@ -1,6 +1,8 @@
 """Tables of jobs (tests/data/jobs/README.md): a row is a command over a program's files and what is to come of it."""
+import re
+
 from rows.calls import MEMORY, Call, Large
-from rows.columns import bytes_of, file_of, files_of, rows
+from rows.columns import bytes_of, file_of, files_of, name_of, rows
 
 # The heap of a run that says no other, in cells, and the least that an option takes.
 HEAP = 65_536
@@ -78,8 +80,10 @@ def job_words(job, names, files, events, collecting=(1, None)):
         return ["asm", *names, "Sum.class"]
     if word == "dis":
         return ["dis", *(["--bare"] if rest == "bare" else []), *names]
-    if word in ("check", "words"):
-        return [*(["check"] if word == "check" else rest.split()), *(names if word == "check" else [])]
+    if word == "check":
+        return ["check", *names]
+    if word == "words":
+        return [name_of(it) for it in re.findall(r"(?:\{[^}]*\}|[^ ])+", rest)]
     if word in ("explain", "version"):
         return [word, *rest.split()]
     raise ValueError(f"there is no job {word}")
@@ -96,7 +100,7 @@ def link_call(names, files, output, lines, status):
 
 def job_call(line, collecting=(1, None)):
     """Returns the call of a row of a table of jobs."""
-    job, names, contents, events, output, lines, status = line.split(" | ")
+    job, names, contents, events, output, lines, status, *written = line.split(" | ")
     word = job.split()[0]
     names, files = files_of(names, contents)
     if job == "link":
@@ -108,7 +112,7 @@ def job_call(line, collecting=(1, None)):
         call = call._replace(input=bytes_of(events))
     if word == "asm":
         call = call._replace(output=b"", left={"Sum.class": output} if status == "0" else {})
-    return call
+    return call._replace(left=files_of(*written)[1]) if written else call
 
 
 def table_rows(table, collecting=(1, None)):
