@@ -6,6 +6,7 @@ import shlex
 import subprocess
 import sys
 import tempfile
+import threading
 
 TESTS = os.path.dirname(os.path.dirname(os.path.abspath(__file__)))
 DATA = f"{TESTS}/data"
@@ -79,6 +80,7 @@ class Program:
         os.mkdir(f"{room}/bin")
         self.path = f"{room}/bin/jm"
         os.symlink(path, self.path)
+        self.building = threading.Lock()
 
     @functools.cached_property
     def library(self):
@@ -86,6 +88,14 @@ class Program:
         if not self.build_library:
             raise NotAsked("the program of library calls is not built")
         return self.build_library()
+
+    def preloaded(self, name):
+        """Returns the library of rows/NAME.c, which a program is started with (LD_PRELOAD), built once."""
+        path = f"{self.room}/bin/{name}.so"
+        with self.building:
+            if not os.path.exists(path):
+                subprocess.run(["cc", "-O2", "-shared", "-fPIC", "-o", path, f"{TESTS}/rows/{name}.c", "-ldl"], check=True)
+        return path
 
     def came_of(self, call, **more):
         """Returns what comes of a call."""

@@ -11,6 +11,7 @@ from rows.jobs import HEAP, job_words
 ENDED = re.compile(rb"jm: thread \d+ ended by ")
 # The counts of workers by which the programs of recorded.txt are run.
 WORKERS = ("2", "5")
+MOST = "16"
 
 
 @functools.lru_cache(None)
@@ -79,6 +80,18 @@ def ask_stressed(jm, run, collecting):
     jm.made(words, files, output=came.output, lines=came.lines, status=came.status)
 
 
+def check_seats(record, workers):
+    """Says what is wrong with a record by workers: each seat has lines (a worker ends by one of its own replies), and goes round the
+    threads from the first one on (docs/WORKERS.md)."""
+    lines = [line.split() for line in record.decode().splitlines()]
+    turns = {seat: [int(it[1]) for it in lines if it[2] == f"@{seat}"] for seat in range(workers)}
+    if sum(map(len, turns.values())) != len(lines) or not all(turns.values()):
+        raise Missed(f"of {workers} workers the record has the seats {sorted({it[2] for it in lines})}")
+    for seat, threads in turns.items():
+        if threads[0] != 1 or any(later not in (1, earlier + 1) for earlier, later in zip(threads, threads[1:])):
+            raise Missed(f"the worker of seat {seat} steps the threads {threads[:40]}")
+
+
 def ask_recorded(jm, names, workers):
     """Asks whether the record of a run by workers, replayed and as a schedule, comes to what the run came to."""
     files = {name: data(name) for name in names}
@@ -87,6 +100,7 @@ def ask_recorded(jm, names, workers):
     recorded = files | {"record": came.files["record"]}
     if came.files != recorded:
         raise Missed(f"{' '.join(words)}: other files")
+    check_seats(came.files["record"], int(workers))
     same = {"output": came.output, "lines": came.lines, "status": came.status}
     jm.made(["replay", "--show-heap", "record", *names], recorded, **same)
     jm.made(["run", "--show-heap", "--schedule", "record", *names], recorded, **same)
@@ -102,3 +116,5 @@ def tables(_long):
                [(where, lambda jm, run=run, how=(int(copiers), kind): ask_stressed(jm, run, how)) for where, *run in listed(table)])
     yield "recorded.txt", [(f"recorded.txt:{at} by {workers}", lambda jm, names=line.split(" "), workers=workers: ask_recorded(jm, names, workers))
                            for at, line in rows("recorded.txt") for workers in WORKERS]
+    at, line = rows("recorded.txt")[0]
+    yield "a run by 16 workers", [(f"recorded.txt:{at}", lambda jm: ask_recorded(jm, line.split(" "), MOST))]

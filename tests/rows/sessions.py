@@ -1,5 +1,6 @@
 """A session of the debugger, held command by command: each answer has to come before the next command is given."""
 import os
+import select
 import subprocess
 import tempfile
 
@@ -8,6 +9,8 @@ from rows.columns import rows
 from rows.jobs import job_call
 
 TABLE = "jobs/sessions.txt"
+# Seconds in which a command has to be answered.
+WAIT = 20
 
 
 def talk_of(jm, call, folder):
@@ -18,6 +21,9 @@ def talk_of(jm, call, folder):
         for command in call.input.splitlines(keepends=True):
             talk.stdin.write(command)
             talk.stdin.flush()
+            if not select.select([talk.stdout], [], [], WAIT)[0]:
+                talk.kill()
+                raise Missed(f"no answer to {shown(command)} in {WAIT} s, before another command is given")
             answer = os.read(talk.stdout.fileno(), 1 << 20)
             told += answer
             if not answer:
