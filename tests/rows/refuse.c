@@ -1,22 +1,34 @@
-/* Refuses one allocation of a program that it is preloaded into: that of the number in REFUSED,
- * counted from 1 from the start of main, resizing included. */
+/* Refuses one request for memory of a program that it is preloaded into: that of the number in REFUSED, counted from 1
+ * from the start of main, resizing included. How many were made, the refused one included, stands in the file COUNTED
+ * at each moment, however the program ends: eight bytes, in the order of the machine. */
 #define _GNU_SOURCE
 #include <dlfcn.h>
 #include <errno.h>
+#include <fcntl.h>
 #include <stdlib.h>
+#include <sys/mman.h>
+#include <unistd.h>
 
-static unsigned long refused, counted;
+static unsigned long refused, here, *counted = &here;
 
 __attribute__((constructor)) static void begin(void)
 {
-    const char *number = getenv("REFUSED");
-    counted = 0;
+    const char *number = getenv("REFUSED"), *name = getenv("COUNTED");
+    int file = name ? open(name, O_RDWR | O_CREAT | O_CLOEXEC, 0666) : -1;
+    if (file >= 0 && ftruncate(file, sizeof here) == 0) {
+        void *mapped = mmap(NULL, sizeof here, PROT_READ | PROT_WRITE, MAP_SHARED, file, 0);
+        if (mapped != MAP_FAILED)
+            counted = mapped;
+    }
+    if (file >= 0)
+        close(file);
+    *counted = 0;
     refused = number ? strtoul(number, NULL, 10) : 0;
 }
 
 static int is_refused(void)
 {
-    return refused != 0 && __atomic_add_fetch(&counted, 1, __ATOMIC_RELAXED) == refused;
+    return __atomic_add_fetch(counted, 1, __ATOMIC_RELAXED) == refused;
 }
 
 void *malloc(size_t size)
