@@ -4,7 +4,6 @@ import functools
 import os
 import shlex
 import subprocess
-import sys
 import tempfile
 import threading
 
@@ -80,7 +79,7 @@ class Program:
         os.mkdir(f"{room}/bin")
         self.path = f"{room}/bin/jm"
         os.symlink(path, self.path)
-        self.building = threading.Lock()
+        self.building, self.calls = threading.Lock(), threading.local()
 
     @functools.cached_property
     def library(self):
@@ -99,6 +98,7 @@ class Program:
 
     def came_of(self, call, **more):
         """Returns what comes of a call."""
+        self.calls.last = call
         with tempfile.TemporaryDirectory(dir=self.room) as folder:
             laid(folder, call.files)
             words = [self.path, *call.words]
@@ -107,7 +107,7 @@ class Program:
             try:
                 ran = subprocess.run(words, cwd=folder, input=call.input, capture_output=True, timeout=SECONDS, **more)
             except subprocess.TimeoutExpired:
-                raise Missed(f"no answer in {SECONDS} s{again(self, call)}") from None
+                raise Missed(f"no answer in {SECONDS} s") from None
             return Came(ran.stdout, ran.stderr, ran.returncode, found(folder))
 
     def ask(self, call):
@@ -117,12 +117,12 @@ class Program:
             wanted = getattr(call, what)
             if wanted is not None and wanted != getattr(came, what):
                 told = f" ({shown(came.lines)})" if what == "status" else ""
-                raise Missed(f"wanted {what} {shown(wanted)}, came {shown(getattr(came, what))}{told}{again(self, call)}")
+                raise Missed(f"wanted {what} {shown(wanted)}, came {shown(getattr(came, what))}{told}")
         if call.left is not None:
             whole = {name: it for name, it in call.files.items() if isinstance(it, bytes)} | call.left
             others = sorted(it for it in {*whole, *came.files} if whole.get(it) != came.files.get(it))
             if others:
-                raise Missed(f"other files than wanted: {', '.join(others)}{again(self, call)}")
+                raise Missed(f"other files than wanted: {', '.join(others)}")
         return came
 
     def made(self, words, files, **wanted):
@@ -130,16 +130,14 @@ class Program:
         return self.ask(Call(words, files, **wanted))
 
 
-def again(jm, call):
-    """Returns the command by which a call is made again by hand, over its files, which are kept for it."""
+def again(jm):
+    """Returns the command by which the last call of a row is made again by hand, over its files, which are kept for it."""
+    call = getattr(jm.calls, "last", None)
+    if call is None:
+        return ""
     kept = tempfile.mkdtemp(prefix="jm-row-")
     laid(kept, {name: it for name, it in call.files.items() if it is not Large})
     with open(f"{kept}/.input", "wb") as file:
         file.write(call.input or b"")
     words = " ".join(map(shlex.quote, [jm.build, *call.words]))
     return f"\n    again: cd {kept} && {words} < .input"
-
-
-def refused_at_start(name):
-    """Ends tests/run, which cannot begin."""
-    sys.exit(f"tests/run: {name}")
