@@ -1,6 +1,5 @@
 """One call of the program, or a few, in a folder of its own, and what came of it."""
 import collections
-import functools
 import os
 import shlex
 import subprocess
@@ -73,20 +72,21 @@ def found(folder):
 class Program:
     """A build of jm that is tested: its path, a folder for the folders of its calls, and the program of library calls beside it."""
 
-    def __init__(self, path, room, library=None):
+    def __init__(self, path, room, library):
         self.build, self.room, self.build_library, self.data = path, room, library, DATA
         # (help names the program as it was called)
         os.mkdir(f"{room}/bin")
         self.path = f"{room}/bin/jm"
         os.symlink(path, self.path)
-        self.building, self.calls = threading.Lock(), threading.local()
+        self.building, self.built, self.calls = threading.Lock(), None, threading.local()
 
-    @functools.cached_property
+    @property
     def library(self):
         """The program that calls the libraries, built where it is not there yet."""
-        if not self.build_library:
-            raise NotAsked("the program of library calls is not built")
-        return self.build_library()
+        with self.building:
+            if self.built is None:
+                self.built = self.build_library()
+            return self.built
 
     def preloaded(self, name):
         """Returns the library of rows/NAME.c, which a program is started with (LD_PRELOAD), built once."""
