@@ -87,7 +87,6 @@ pub fn machine_over<H: Heap + Drop>(alloc: Global, heap: H) -> anyhow::Result<Ma
 }
 
 /// How many objects lie in the heap of a machine before its first event.
-#[tactic(auto, using(crate::proofs::Beginnings::is_sound))]
 pub fn residents<H: Heap>(machine: &Machine<H>) -> Result<usize, AllocError>
     requires { MatchesWorld machine.now (beginning machine.now) }
 {
