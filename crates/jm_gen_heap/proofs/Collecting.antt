@@ -21,7 +21,8 @@ use Rattle.jm_gen_heap.specs.Steps.{with_tenured}
 use Rattle.jm_gen_heap.specs.Collections.{AreWhole, AreWrittenBack, IsWhole, LeavesAllReached, collected_as, fields_of, minor_roots}
 use Rattle.jm_gen_heap.proofs.Keeping.{full_leaves_reached, minor_leaves_old}
 use Rattle.jm_gen_heap.proofs.WritingBack.{same_fields}
-use Rattle.jm_gen_heap.proofs.Refusing.{refused_keeps, same_content, remembered_keeps, remembered_content}
+use Rattle.jm_gen_heap.proofs.Refusing.{refused_keeps, remembered_content, remembered_keeps, same_content, unmoved}
+use Rattle.jm_gen_heap.specs.Allocating.{AllLieAsBefore}
 use Rattle.jm_gen_heap.proofs.Storing.{no_nursery}
 use Rattle.jm_gen_heap.specs.Copying.{ArePutIn, IsCopied}
 use Rattle.jm_gen_heap.specs.Held.{AreHeld, held}
@@ -196,3 +197,11 @@ refused_held {limit = limit} {next = next} {young = young} {tenured = tenured} {
     let few = kept.within in
     let small = a.small in
     subst (λ y. AreHeld limit next y t count mid × (content_of (held limit next y t mid) ≡ content_of (held limit next young tenured pointers))) (sym e) (record { small = a.small; same = a.same; counted = value (omega (arith, few, small)); keeps = kept }, content ∙ still.1)
+
+-- where a collection of the young objects was refused, all lie as before
+pub refused_lie : {limit next cells : ℕ} {young new : Young} {tenured : Blocks} {pointers mid : Noted} (t : Blocks) → AreHeld limit next young tenured cells pointers → StillPoint tenured pointers mid → new ≡ young → t.lane ≡ old_lane → ((p : ℕ) → objects_in t p ≡ objects_in tenured p) → AllLieAsBefore (held limit next young tenured pointers) (held limit next new t mid)
+refused_lie {limit = limit} {next = next} {young = young} {tenured = tenured} {pointers = pointers} {mid = mid} t a s e lane same =
+    let g : Generations = held limit next young tenured mid in
+    let v : AreGenerations g = (still_held a s).0.keeps in
+    let u = unmoved g v t (lane ∙ sym v.tenured) same in
+    subst (λ y. AllLieAsBefore (held limit next young tenured pointers) (held limit next y t mid)) (sym e) (record { limit = refl; next = refl; places = u.places })

@@ -31,3 +31,4 @@ pub mod Refusing
 pub mod Alike
 pub mod Unmaking
 pub mod Several
+pub mod Lying

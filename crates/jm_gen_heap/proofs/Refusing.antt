@@ -21,7 +21,7 @@ module _ (g : Generations) (v : AreGenerations g) (t : Blocks) (lane : t.lane �
   laned_after : AreLaned (with_tenured g t g.remembered)
   laned_after = record { nurseries = v.nurseries; tenured = lane ∙ v.tenured }
 
-  unmoved : IsUnmoved g (with_tenured g t g.remembered)
+  pub unmoved : IsUnmoved g (with_tenured g t g.remembered)
   unmoved = record { limit = refl; next = refl; laned = laned_after; places = λ p. same_lying (laned v) laned_after p (λ y. refl) (λ e. same p) }
 
   pub same_content : content_of (with_tenured g t g.remembered) ≡ content_of g

@@ -75,6 +75,16 @@ pub record HasMadeRoom (g h : Generations) (roots moved : List ℕ) (cells : ℕ
   pub chosen : IsKindFor kind g cells
   pub leaves : Leaves kind g h roots moved
 
+-- every object lies where it lay, with its serial, class, values and age
+pub record AllLieAsBefore (g h : Generations) : Type 0 where
+  pub limit : h.limit ≡ g.limit
+  pub next : h.next ≡ g.next
+  pub places : (q : ℕ) → lying h q ≡ lying g q
+
+-- what a refusal leaves: all lies as before, and the roots are the same; or all lies as the collection left it that came first
+abbrev pub LieAsBeforeOrLeft : Generations → Generations → List ℕ → List ℕ → ℕ → Type 0
+LieAsBeforeOrLeft g h roots moved cells = (AllLieAsBefore g h × (moved ≡ roots)) ⊎ ((mid : Generations) × HasMadeRoom g mid roots moved cells × AllLieAsBefore mid h)
+
 -- one more object lies at the place behind such a collection, beside what that left
 pub record PutBehind (g h : Generations) (roots moved : List ℕ) (p n : ℕ) (x : ObjectOf ClassId) : Type 0 where
   pub mid : Generations

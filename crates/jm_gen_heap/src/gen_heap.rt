@@ -17,7 +17,7 @@ ghost use Rattle.jm_heap.specs.declared.class_id.ClassId.{ClassId};
 ghost use Rattle.jm_nursery.specs.Nurseries.{nursery_at};
 ghost use Rattle.jm_gen_heap.specs.Residents.{content_of};
 ghost use Rattle.jm_gen_heap.specs.Invariant.{AreGenerations};
-ghost use Rattle.jm_gen_heap.specs.Allocating.{AllSurvived, Fits, HasAged, HasMadeRoom, HasNoRoom, HasSurvived, IsAllocated, Leaves, OldStay, PutBehind, PutHere};
+ghost use Rattle.jm_gen_heap.specs.Allocating.{AllLieAsBefore, AllSurvived, Fits, HasAged, HasMadeRoom, HasNoRoom, HasSurvived, IsAllocated, Leaves, LieAsBeforeOrLeft, OldStay, PutBehind, PutHere};
 ghost use Rattle.jm_gen_heap.specs.Several.{AreAllocated, IsReady, all_sizes};
 ghost use Rattle.jm_gen_heap.specs.Steps.{IsWritten};
 
@@ -109,6 +109,7 @@ impl<C: Collector> GenHeap<C> {
         ensures keeps { AreGenerations self.new }
         ensures were { AreGenerations self.old }
         ensures err { IfErr result (HasNoRoom (content_of self.old) roots.old cells) }
+        ensures refused { OnErr result (LieAsBeforeOrLeft self.old self.new roots.old roots.new cells) }
     {
         if self.generations.fits(cells) {
             self.generations.collect_young(&self.collector, roots)?;
@@ -137,6 +138,7 @@ impl<C: Collector> GenHeap<C> {
         ensures as_before { IsAsBeforeMaking (content_of self.old) (content_of self.new) }
         ensures stays { OldStay self.old self.new (size_by class_size (new_object shape.entry)) }
         ensures err { IfErr result (IsRefused (content_of self.old) roots.old (new_object shape.entry)) }
+        ensures refused { OnErr result (LieAsBeforeOrLeft self.old self.new roots.old roots.new (size_by class_size (new_object shape.entry))) }
     {
         self.make_room(roots, shape.cells())?;
         self.generations.make(nursery, shape)
@@ -147,7 +149,7 @@ impl<C: Collector> GenHeap<C> {
     /// young objects and its own would pass a quarter of the limit, a full one where those of all
     /// objects and its own would pass the limit, and else nothing but the new object is changed. What
     /// the roots reach stays as it is, after a refusal too, and every old object where its cells fit
-    /// beside all.
+    /// beside all. After a refusal all objects lie where they lay, or where that collection left them.
     ///
     /// HeapFull comes exactly where the cells of what the roots reach and those of the object
     /// pass the limit, SerialsEnd where they do not and there have been 2^63 objects, and
@@ -170,6 +172,7 @@ impl<C: Collector> GenHeap<C> {
         ensures as_before { IsAsBeforeMaking (content_of self.old) (content_of self.new) }
         ensures stays { OldStay self.old self.new (size_by class_size (new_object shape.entry)) }
         ensures err { IfErr result (IsRefused (content_of self.old) roots.old (new_object shape.entry)) }
+        ensures refused { OnErr result (LieAsBeforeOrLeft self.old self.new roots.old roots.new (size_by class_size (new_object shape.entry))) }
     {
         match self.allocate_here(nursery, shape)? {
             Some(place) => Ok(place),
@@ -190,6 +193,7 @@ impl<C: Collector> GenHeap<C> {
         ensures ok { OnOk result (Fits self.new cells) }
         ensures were { AreGenerations self.old }
         ensures err { IfErr result (HasNoRoom (content_of self.old) roots.old cells) }
+        ensures refused { OnErr result (LieAsBeforeOrLeft self.old self.new roots.old roots.new cells) }
     {
         if self.generations.fits(cells) && self.generations.is_within_quota(cells) {
             return Ok(());
@@ -201,7 +205,7 @@ impl<C: Collector> GenHeap<C> {
     /// of their shapes, and answers their places; they have survived no collection. A collection comes
     /// first where it would for one object of as many cells (`allocate`), and no shapes answer no places.
     /// What the roots reach stays as it is, after a refusal too, and every old object where the cells fit
-    /// beside all.
+    /// beside all. After a refusal all objects lie where they lay, or where that collection left them.
     ///
     /// HeapFull comes exactly where the cells of what the roots reach and those of all objects pass the
     /// limit, SerialsEnd where they do not and there would be more than 2^63 objects, and OutOfMemory
@@ -222,6 +226,7 @@ impl<C: Collector> GenHeap<C> {
         ensures as_before { AreAsBeforeMaking (content_of self.old) (content_of self.new) }
         ensures stays { OldStay self.old self.new (all_sizes (map new_object shapes.now)) }
         ensures err { IfErr result (AreRefused (content_of self.old) roots.old (map new_object shapes.now)) }
+        ensures refused { OnErr result (LieAsBeforeOrLeft self.old self.new roots.old roots.new (all_sizes (map new_object shapes.now))) }
     {
         let _used = self.generations.used();
         let limit = self.generations.limit();
@@ -234,7 +239,7 @@ impl<C: Collector> GenHeap<C> {
 
     /// Gives up objects that the roots do not reach: with `Full` all of them, with `Minor` the young
     /// ones that no remembered old object reaches either. Where a growth is refused, nothing has
-    /// changed.
+    /// changed, and all objects lie where they lay.
     pub fn collect(&mut self, roots: &mut Roots, kind: Kind) -> Result<(), AllocError>
         requires { AllResident (content_of self.old) roots.old }
         ensures kept { Kept (content_of self.old) roots.old (content_of self.new) roots.new }
@@ -243,6 +248,7 @@ impl<C: Collector> GenHeap<C> {
         ensures ok { OnOk result (LeavesReached kind (content_of self.old) roots.old (content_of self.new)) }
         ensures exact { OnOk result (Leaves kind self.old self.new roots.old roots.new) }
         ensures err { OnErr result ((content_of self.new ≡ content_of self.old) × (roots.new ≡ roots.old)) }
+        ensures lie { OnErr result (AllLieAsBefore self.old self.new) }
     {
         let _cells = self.generations.used();
         match kind {

@@ -21,6 +21,7 @@ ghost use Rattle.jm_nursery.specs.Nurseries.{IsMade, young_cells};
 ghost use Rattle.jm_gen_heap.specs.Generations.{lying, all_cells, old_lane, stores_of};
 ghost use Rattle.jm_gen_heap.specs.Residents.{content_of};
 ghost use Rattle.jm_gen_heap.specs.Invariant.{AreGenerations};
+ghost use Rattle.jm_gen_heap.specs.Allocating.{AllLieAsBefore};
 ghost use Rattle.jm_gen_heap.specs.Steps.{IsWritten};
 ghost use Rattle.jm_gen_heap.specs.Collections.{AreWrittenBack, LeavesAllReached, fields_of};
 ghost use Rattle.jm_barrier.specs.Remembered.{noted};
@@ -427,6 +428,7 @@ impl Generations {
         ensures ok { OnOk result (LeavesMinor self.old self.new roots.old roots.new) }
         ensures keeps { AreGenerations self.new }
         ensures same { OnErr result (content_of self.new ≡ content_of self.old) }
+        ensures lie { OnErr result (AllLieAsBefore self.old self.new) }
         ensures roots { OnErr result (roots.new ≡ roots.old) }
     {
         let mut places = minor_roots(self.alloc, &mut self.pointers, &self.tenured, roots)?;

@@ -10,10 +10,11 @@ use Rattle.jm_nursery.specs.Nurseries.{nursery_at}
 use Rattle.jm_gen_heap.specs.Residents.{content_of}
 use Rattle.jm_gen_heap.specs.Invariant.{AreGenerations}
 use Rattle.jm_gen_heap.specs.Allocating.{HasSurvived, OldStay}
-use Rattle.jm_gen_heap.specs.Several.{AreAllPut, IsAlike}
+use Rattle.jm_gen_heap.specs.Several.{AreAllPut, IsAlike, IsReady}
 use Rattle.jm_gen_heap.proofs.Making.{sound}
 use Rattle.jm_gen_heap.proofs.Allocating.{limit_of}
 use Rattle.jm_gen_heap.proofs.Alike.{alike_content}
+use Rattle.jm_gen_heap.proofs.Lying.{alike_lies, ready_lies}
 use Rattle.jm_gen_heap.proofs.Several.{all_after, all_made, all_refused, lies_new, new_age, tried_before, tried_stays}
 use Rattle.jm_gen_heap.proofs.gen_heap.GenHeap.allocate_all.Goals as goal
 
@@ -74,3 +75,8 @@ pub returns-clause-err : goal.returns-clause-err
 returns-clause-err g c =
     let err = subst (λ x. IfErr c.make_all.result (AreRefusedHere (content_of x) (map new_object c.args.shapes.now))) c.self-2.view_is c.make_all.ensures.err in
     IfErr-weaker c.make_all.result (AreRefusedHere (content_of c.make_ready.new.self) (map new_object c.args.shapes.now)) (AreRefused (content_of c.args.self.now) c.args.roots.now (map new_object c.args.shapes.now)) (λ f h. all_refused (content_of c.args.self.now) (content_of c.make_ready.new.self) c.args.roots.now c.make_ready.new.roots (map new_object c.args.shapes.now) f c.make_ready.ensures.kept c.make_ready.ensures.next h) err
+
+pub returns-clause-refused : goal.returns-clause-refused
+returns-clause-refused g c =
+    let ready = subst (λ k. IsReady c.args.self.now c.make_ready.new.self c.args.roots.now c.make_ready.new.roots k) c.in-Some.ensures.cells.0 c.in_ok-make_ready.ensures.ready in
+    on_err_weaker c.make_all.result (λ a. ready_lies ready (alike_lies a)) (subst (λ x. OnErr c.make_all.result (IsAlike x c.make_all.new.self)) c.self-2.view_is c.make_all.ensures.none)

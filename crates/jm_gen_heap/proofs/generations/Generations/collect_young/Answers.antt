@@ -1,10 +1,11 @@
-use Rattle.std.proofs.Common.{◌≡◌, take, length, ◌∙◌, sym, ap, subst, arith}
+use Rattle.std.proofs.Common.{◌≡◌, take, length, ◌∙◌, refl, sym, ap, subst, arith}
 use Rattle.jm_values.specs.Content.{AllResident}
 use Rattle.jm_values.proofs.Outcomes.{on_err}
 use Rattle.jm_gen_heap.specs.Residents.{content_of}
 use Rattle.jm_gen_heap.specs.Held.{AreHeld, held}
 use Rattle.jm_gen_heap.specs.Minor.{LeavesMinor}
-use Rattle.jm_gen_heap.proofs.Collecting.{IsCopiedYoung, settled_copied, back_there, back_enough, minor_done, minor_held, refused_held, still_held}
+use Rattle.jm_gen_heap.specs.Allocating.{AllLieAsBefore}
+use Rattle.jm_gen_heap.proofs.Collecting.{IsCopiedYoung, settled_copied, back_there, back_enough, minor_done, minor_held, refused_held, refused_lie, still_held}
 use Rattle.jm_gen_heap.proofs.generations.Generations.collect_young.Given.{Over}
 use Rattle.jm_gen_heap.proofs.generations.Generations.collect_young.Goals as goal
 use Rattle.jm_gen_heap.proofs.generations.Generations.collect_young.Goals.{In-Ok, After-put_stores-self-inside, After-store_cells-self-inside}
@@ -63,3 +64,14 @@ returns-clause-same g c = (refused g (goal.at.returns-clause-same g c).After-sto
 
 pub returns-clause-keeps : goal.returns-clause-keeps
 returns-clause-keeps g c = (refused g (goal.at.returns-clause-keeps g c).After-store_cells-self-inside).0.keeps
+
+pub returns-in_err-places-clause-lie : goal.returns-in_err-places-clause-lie
+returns-in_err-places-clause-lie g c =
+    let i = c.self.inside in
+    on_err c.from_residual.result (subst (λ x. AllLieAsBefore x (held i.limit i.next i.young i.tenured c.minor_roots.new.pointers)) c.self.view_is (record { limit = refl; next = refl; places = λ q. refl }))
+
+pub returns-clause-lie : goal.returns-clause-lie
+returns-clause-lie g c =
+    let i = c.self.inside in
+    subst (λ x. AllLieAsBefore x (held i.limit i.next c.copy_young.new.young c.copy_young.new.tenured c.minor_roots.new.pointers)) c.self.view_is
+    (refused_lie c.copy_young.new.tenured c.self.invariant c.minor_roots.ensures.still c.in-Err.ensures.young c.in-Err.ensures.lane c.in-Err.ensures.tenured)
