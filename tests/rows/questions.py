@@ -10,7 +10,7 @@ from rows.class_files import counts
 from rows.columns import answer_bytes, bytes_of, data, expanded, rows, text_bytes, with_instructions
 
 # Which values of a byte are tried of the 256 that a row of changes asks of: every so many. tests/library tries all of a class file.
-STRIDE = int(os.environ.get("JM_STRIDE", "64"))
+STRIDE = int(os.environ.get("JM_STRIDE", "128"))
 
 
 def told_fault(lines, name):
