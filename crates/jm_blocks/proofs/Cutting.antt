@@ -151,7 +151,7 @@ take_objects (x ∷ y ∷ bs) zero j k e m = absurd (omega (arith, m))
 take_objects (x ∷ bs) (suc b) zero k e m = refl
 take_objects (x ∷ bs) (suc b) (suc j) k e m = take_objects bs b j k e (omega (arith, m))
 
-take_cells : (bs : List (List Object)) (b : ℕ) → slice_get bs b ≡ Some [] → length bs ≤ suc b → store_cells (take b bs) ≡ store_cells bs
+pub take_cells : (bs : List (List Object)) (b : ℕ) → slice_get bs b ≡ Some [] → length bs ≤ suc b → store_cells (take b bs) ≡ store_cells bs
 take_cells [] b e m = cc
 take_cells (x ∷ []) zero e m =
     let same : x ≡ [] = cc in

@@ -43,7 +43,7 @@ last_empty bs k =
     let split : replicate (suc k) [] ≡ replicate k [] ++ [] ∷ [] = ap (λ m. replicate m []) (sym one) ∙ sym (replicate-append-replicate k 1 []) in
     ap (λ xs. last_of (bs ++ xs)) split ∙ ap last_of (sym (append_assoc bs (replicate k []) ([] ∷ []))) ∙ last_end (bs ++ replicate k []) []
 
-empty_cells : (n : ℕ) → store_cells (replicate n []) ≡ 0
+pub empty_cells : (n : ℕ) → store_cells (replicate n []) ≡ 0
 empty_cells zero = refl
 empty_cells (suc n) = let all = sum_by-cons block_cells [] (replicate n []) in let rest = empty_cells n in omega (arith, all, rest)
 

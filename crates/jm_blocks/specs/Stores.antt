@@ -1,6 +1,6 @@
 -- The objects of a store by their places.
-use Rattle.std.specs.Prelude.{◌≡◌, ◌≢◌, ℕ, ◌+◌, ◌-◌, ◌<◌, ◌≤◌, [], ◌∷◌, ◌++◌, if◌then◌else◌}
-use Rattle.std.specs.Prelude.{List, Option, Some, None, Bool, false, nat_eq, slice_get, length, sum_by}
+use Rattle.std.specs.Prelude.{◌≡◌, ◌≢◌, ℕ, ◌+◌, ◌-◌, ◌%◌, ◌^◌, ◌<◌, ◌≤◌, [], ◌∷◌, ◌++◌, if◌then◌else◌}
+use Rattle.std.specs.Prelude.{List, Option, Some, None, Bool, false, nat_eq, slice_get, length, replicate, sum_by}
 use Rattle.jm_values.specs.declared.value.Value.{Value}
 use Rattle.jm_blocks.specs.Objects.{Object, with_value}
 use Rattle.jm_blocks.specs.Cells.{object_cells, sizes_of, block_cells, has_room}
@@ -104,6 +104,24 @@ pub record IsPutNext (old new : Blocks) (p : ℕ) (o : Object) : Type 0 where
 -- the cells of all objects
 abbrev pub store_cells : List (List Object) → ℕ
 store_cells bs = sum_by block_cells bs
+
+-- each block has at most 256 objects, so that a place can tell them
+abbrev pub AreShort : List (List Object) → Type 0
+AreShort bs = (b : ℕ) (os : List Object) → slice_get bs b ≡ Some os → length os ≤ 256
+
+-- blocks of which so many first ones are empty, and then come these
+abbrev pub lists_from : ℕ → List (List Object) → List (List Object)
+lists_from first kept = replicate first [] ++ kept
+
+-- where some are not kept the last one is, and there is room for all
+pub record AreKept (first : ℕ) (kept : List (List Object)) (capacity : ℕ) : Type 0 where
+  pub last : 0 < first → 0 < length kept
+  pub room : first + length kept ≤ capacity
+
+-- what a store keeps of its blocks beside them: their cells, modulo 2^64
+pub record AreCounted (bs : List (List Object)) (cells : ℕ) : Type 0 where
+  pub count : cells ≡ store_cells bs % 2 ^ 64
+  pub short : AreShort bs
 
 -- the last object, which lay at a place, is given up
 pub record IsPopped (old new : Blocks) (p : ℕ) (o : Object) : Type 0 where

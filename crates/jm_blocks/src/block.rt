@@ -84,6 +84,13 @@ impl Block {
         }
     }
 
+    /// Another block without objects.
+    pub(crate) fn another(&self) -> Block
+        ensures { result ≡ [] }
+    {
+        Block::new(self.alloc)
+    }
+
     /// How many objects there are.
     #[inline]
     pub fn len(&self) -> usize

@@ -1,6 +1,6 @@
 // Blocks under numbers.
 
-ghost use Rattle.std.specs.Prelude.{◌≡◌, ℕ, ◌+◌, ◌<◌, ◌≤◌, ◌^◌, ◌++◌, false, Some, None, MatchOption, IfSome, IfOk, OnOk, OnErr, length, map, slice_get, slice_set, replicate, []};
+ghost use Rattle.std.specs.Prelude.{◌≡◌, ℕ, ◌+◌, ◌<◌, ◌≤◌, ◌^◌, ◌++◌, true, false, Some, None, MatchOption, IfSome, IfOk, OnOk, OnErr, length, map, slice_get, slice_set, replicate, []};
 ghost use Rattle.jm_values.specs.Objects.{default_of};
 ghost use Rattle.jm_blocks.specs.Objects.{Object, aged, object_of};
 ghost use Rattle.jm_blocks.specs.Cells.{object_cells};
@@ -9,7 +9,8 @@ ghost use Rattle.jm_heap.specs.Packing.{Fits, kind_of};
 ghost use Rattle.jm_heap.specs.declared.storage.Storage.TheVariants as kind;
 ghost use Rattle.jm_blocks.specs.Places.{place_at, lane_of};
 ghost use Rattle.jm_blocks.specs.Stores.{Blocks, objects_in, LiesIn, HasObject, HasValue, Bumped, IsPutNext, IsSet, IsPopped, IsAfter, IsFirst, IsFirstBlock, IsLast, IsLastBlock, IsEmpty, EndsBlock, NoneFrom};
-ghost use Rattle.jm_blocks.specs.Stores.{last_has_room, store_with, next_place, store_cells};
+ghost use Rattle.jm_blocks.specs.Stores.{last_has_room, store_with, next_place, store_cells, AreShort};
+ghost use Rattle.std.specs.Prelude.{List, ◌∷◌, ◌⊎◌, get_or, vec_len, vec_capacity};
 
 use crate::block::Block;
 use crate::header::Header;
@@ -29,37 +30,96 @@ const MAX_BLOCKS: usize = 1 << 49;
 /// store fills, or was moved there for a while.
 pub struct BlockStore {
     lane: u64,
+    // So many first blocks are empty and are not kept, and one that is empty stands for them.
+    first: usize,
+    none: Block,
+    // The others, of which there is one at least where some are not kept. There is room for all.
     blocks: Vec<Block>,
+    // The cells of all objects, modulo 2^64.
+    cells: u64,
 }
 
 // Written out, so that whoever lets go of one makes a call (docs/DECISIONS.md).
 impl Drop for BlockStore {
     fn drop(self) {
-        let BlockStore { lane: _, blocks: _ } = self;
+        let BlockStore {
+            lane: _,
+            first: _,
+            none: _,
+            blocks: _,
+            cells: _,
+        } = self;
     }
 }
 
 impl Model for BlockStore {
-    ghost use Rattle.std.specs.Prelude.{◌<◌, ◌≤◌, ◌^◌, length};
-    ghost use Rattle.jm_blocks.specs.Stores.{Blocks};
+    ghost use Rattle.std.specs.Prelude.{◌≡◌, ◌<◌, ◌≤◌, ◌^◌, ◌+◌, [], length, vec_capacity};
+    ghost use Rattle.jm_blocks.specs.Stores.{Blocks, AreCounted, AreKept, lists_from};
 
     ghost Value = { Blocks };
 
-    ghost view = { λ s. record { lane = s.lane; lists = s.blocks.items } };
+    ghost view = { λ s. record { lane = s.lane; lists = lists_from s.first s.blocks.items } };
 
-    ghost invariant = { λ s. (0 < s.lane) × (s.lane < 64) × (length s.blocks.items ≤ 2 ^ 49) };
+    ghost invariant = { λ s. (0 < s.lane) × (s.lane < 64) × (s.first + length s.blocks.items ≤ 2 ^ 49) × AreCounted (lists_from s.first s.blocks.items) s.cells × (s.none ≡ []) × AreKept s.first s.blocks.items (vec_capacity s.blocks) };
 }
 
-// Puts so many empty blocks at the end. A growth that is refused changes nothing.
-fn push_empty(alloc: Global, blocks: &mut Vec<Block>, count: usize) -> Result<(), AllocError>
+// Puts so many empty blocks at the end, and sees to it that there is room for so many more. A growth that is
+// refused changes nothing.
+fn push_empty(
+    alloc: Global,
+    blocks: &mut Vec<Block>,
+    count: usize,
+    more: usize,
+) -> Result<(), AllocError>
+    requires { (count ≤ 2 ^ 49) × (more ≤ 2 ^ 49) }
     ensures ok { OnOk result (blocks.new.items ≡ blocks.old.items ++ replicate count []) }
+    ensures room { OnOk result (more + length blocks.new.items ≤ vec_capacity blocks.new) }
     ensures err { OnErr result (blocks.new.items ≡ blocks.old.items) }
+    ensures grows { vec_capacity blocks.old ≤ vec_capacity blocks.new }
 {
-    blocks.reserve(count)?;
+    blocks.reserve(count + more)?;
     for number in 0..count {
         blocks.push_reserved(Block::new(alloc));
     }
     Ok(())
+}
+
+// Puts a block at the end, and sees to it that there is room for so many more. A growth that is refused changes
+// nothing.
+fn push_block(blocks: &mut Vec<Block>, block: Block, more: usize) -> Result<(), AllocError>
+    requires { more ≤ 2 ^ 49 }
+    ensures ok { OnOk result (blocks.new.items ≡ blocks.old.items ++ block ∷ []) }
+    ensures room { OnOk result (more + length blocks.new.items ≤ vec_capacity blocks.new) }
+    ensures err { OnErr result (blocks.new.items ≡ blocks.old.items) }
+    ensures grows { vec_capacity blocks.old ≤ vec_capacity blocks.new }
+{
+    blocks.reserve(more + 1)?;
+    blocks.push_reserved(block);
+    Ok(())
+}
+
+// Puts so many empty blocks before the others, for which there is room.
+fn keep_empty(blocks: &mut Vec<Block>, none: &Block, count: usize)
+    requires { count + vec_len blocks.old ≤ vec_capacity blocks.old }
+    ensures { blocks.new.items ≡ replicate count [] ++ blocks.old.items }
+{
+    for number in 0..count {
+        let _room = blocks.insert(0, none.another());
+    }
+}
+
+// How many blocks are kept where the last one has so many objects left: one at least where some are not kept.
+fn blocks_left(objects: usize, before: usize, first: usize) -> usize
+    requires { before < 2 ^ 49 }
+    ensures { (result ≡ before + 1) ⊎ ((result ≡ before) × (objects ≡ 0) × (0 < first → 0 < before)) }
+{
+    if objects > 0 {
+        return before + 1;
+    }
+    if before == 0 && first > 0 {
+        return before + 1;
+    }
+    before
 }
 
 impl BlockStore {
@@ -71,8 +131,33 @@ impl BlockStore {
     {
         BlockStore {
             lane,
+            first: 0,
+            none: Block::new(alloc),
             blocks: Vec::new(alloc),
+            cells: 0,
         }
+    }
+
+    /// A store of so many empty blocks, in a lane from 1 to 63. All but the last are not kept: they take room
+    /// for their numbers, which nothing is written to, and a number of steps that is the same for all.
+    pub fn starting_at(alloc: Global, lane: u64, count: usize) -> Result<BlockStore, AllocError>
+        requires some { 0 < lane }
+        requires below { lane < 64 }
+        requires few { count ≤ 2 ^ 49 }
+        ensures { IfOk result (λ s. s ≡ record { lane = lane; lists = replicate count [] }) }
+    {
+        if count == 0 {
+            return Ok(BlockStore::new(alloc, lane));
+        }
+        let mut blocks = Vec::new(alloc);
+        push_empty(alloc, &mut blocks, 1, count - 1)?;
+        Ok(BlockStore {
+            lane,
+            first: count - 1,
+            none: Block::new(alloc),
+            blocks,
+            cells: 0,
+        })
     }
 
     /// The lane of all blocks, from 1 to 63.
@@ -91,7 +176,17 @@ impl BlockStore {
         ensures value { result ≡ length self.now.lists }
         ensures numbered { result ≤ 2 ^ 49 }
     {
-        self.blocks.len()
+        self.first + self.blocks.len()
+    }
+
+    /// The cells of all objects, where they are fewer than 2^64. It looks at no block. Each block has at
+    /// most 256 objects, so that a place can tell them.
+    #[inline]
+    pub fn cells(&self) -> u64
+        ensures value { store_cells self.now.lists < 2 ^ 64 → result ≡ store_cells self.now.lists }
+        ensures short { AreShort self.now.lists }
+    {
+        self.cells
     }
 
     /// The block of this number.
@@ -100,7 +195,37 @@ impl BlockStore {
         requires { number < length self.now.lists }
         ensures { slice_get self.now.lists number ≡ Some result.now }
     {
-        &self.blocks[number]
+        if number < self.first {
+            return &self.none;
+        }
+        &self.blocks[number - self.first]
+    }
+
+    // The block of a number, unless there is none or it is not kept and so has no objects.
+    #[inline(always)]
+    fn kept(&self, number: usize) -> Option<&Block>
+        ensures { MatchOption result ((os : List Object) → slice_get self.now.lists number ≡ Some os → os ≡ [])
+            (λ b. (b.now ≡ get_or self.now.lists number b.now) × (number < length self.now.lists)) }
+    {
+        if number < self.first {
+            return None;
+        }
+        let kept = number - self.first;
+        if kept >= self.blocks.len() {
+            return None;
+        }
+        Some(&self.blocks[kept])
+    }
+
+    // The block of a number, which has objects.
+    #[inline(always)]
+    fn filled(&self, number: usize) -> &Block
+        requires { (os : List Object) × (slice_get self.now.lists number ≡ Some os) × (0 < length os) }
+        ensures value { result.now ≡ get_or self.now.lists number result.now }
+        ensures within { number < length self.now.lists }
+        ensures lane { self.now.lane < 64 }
+    {
+        &self.blocks[number - self.first]
     }
 
     /// The object at a place: its header and its values, which are fewer than 2^32.
@@ -114,10 +239,9 @@ impl BlockStore {
         if position.lane != self.lane {
             return None;
         }
-        if position.block >= self.blocks.len() {
+        let Some(block) = self.kept(position.block) else {
             return None;
-        }
-        let block = &self.blocks[position.block];
+        };
         block.object(position.index)
     }
 
@@ -130,7 +254,7 @@ impl BlockStore {
         ensures kind { element_kind result.1 ≡ kind_of result.0.class }
     {
         let position = Position::of(place);
-        let block = &self.blocks[position.block];
+        let block = self.filled(position.block);
         block.object_at(position.index)
     }
 
@@ -141,10 +265,9 @@ impl BlockStore {
         ensures { MatchOption result (objects_in self.now place ≡ None) (λ r. LiesIn self.now place r.0.now r.1) }
     {
         let position = Position::of(place);
-        if position.block >= self.blocks.len() {
+        let Some(block) = self.kept(position.block) else {
             return None;
-        }
-        let block = &self.blocks[position.block];
+        };
         if position.index >= block.len() {
             return None;
         }
@@ -159,7 +282,7 @@ impl BlockStore {
         ensures fits { (o : Object) → objects_in self.now place ≡ Some o → Fits (kind_of o.class) result }
     {
         let position = Position::of(place);
-        let block = &self.blocks[position.block];
+        let block = self.filled(position.block);
         block.get(position.index, number)
     }
 
@@ -174,7 +297,7 @@ impl BlockStore {
         ensures many { length self.new.lists ≡ length self.old.lists }
     {
         let position = Position::of(place);
-        let block = &mut self.blocks[position.block];
+        let block = &mut self.blocks[position.block - self.first];
         block.set(position.index, number, value);
     }
 
@@ -216,12 +339,12 @@ impl BlockStore {
     {
         let count = self.blocks.len();
         if self.last_has_room(cells) {
-            return Ok(self.place_in(count - 1, self.blocks[count - 1].len()));
+            return Ok(self.place_in(self.first + count - 1, self.blocks[count - 1].len()));
         }
-        if count >= MAX_BLOCKS {
+        if self.len() >= MAX_BLOCKS {
             return Err(AllocError);
         }
-        Ok(self.place_in(count, 0))
+        Ok(self.place_in(self.len(), 0))
     }
 
     /// Puts an object at the place that is reserved for one of its cells, above all others, with values
@@ -240,16 +363,20 @@ impl BlockStore {
         ensures err { OnErr result (self.new ≡ self.old) }
     {
         let blocks = self.blocks.len();
-        if self.last_has_room(header.class.size(values.len() as u64)) {
+        let cells = header.class.size(values.len() as u64);
+        if self.last_has_room(cells) {
             let block = &mut self.blocks[blocks - 1];
-            return block.bump(header, values);
+            block.bump(header, values)?;
+            self.cells = self.cells.wrapping_add(cells);
+            return Ok(());
         }
-        if blocks >= MAX_BLOCKS {
+        if self.len() >= MAX_BLOCKS {
             return Err(AllocError);
         }
         let mut block = Block::new(alloc);
         block.bump(header, values)?;
-        self.blocks.push(block)?;
+        push_block(&mut self.blocks, block, self.first)?;
+        self.cells = self.cells.wrapping_add(cells);
         Ok(())
     }
 
@@ -269,14 +396,16 @@ impl BlockStore {
         ensures same { self.new.lane ≡ self.old.lane }
         ensures err { OnErr result (self.new ≡ self.old) }
     {
-        let blocks = self.blocks.len();
+        let blocks = self.len();
         if blocks >= MAX_BLOCKS {
             return Err(AllocError);
         }
+        let place = self.place_in(blocks, 0);
         let mut block = Block::new(alloc);
         block.bump_copy(from, index, age)?;
-        self.blocks.push(block)?;
-        Ok(self.place_in(blocks, 0))
+        push_block(&mut self.blocks, block, self.first)?;
+        self.cells = self.cells.wrapping_add(from.cells_of(index));
+        Ok(place)
     }
 
     /// Puts a copy of an object of some block above all others, of that age, and answers its place. It is
@@ -297,13 +426,36 @@ impl BlockStore {
         ensures err { OnErr result (self.new ≡ self.old) }
     {
         let blocks = self.blocks.len();
-        if self.last_has_room(from.cells_of(index)) {
-            let place = self.place_in(blocks - 1, self.blocks[blocks - 1].len());
+        let cells = from.cells_of(index);
+        if self.last_has_room(cells) {
+            let place = self.place_in(self.first + blocks - 1, self.blocks[blocks - 1].len());
             let block = &mut self.blocks[blocks - 1];
             block.bump_copy(from, index, age)?;
+            self.cells = self.cells.wrapping_add(cells);
             return Ok(place);
         }
         self.push_copy_apart(alloc, from, index, age)
+    }
+
+    /// Puts a copy of an object of some block, of that age, into the last block, which has room for its cells: as
+    /// `push_copy` does, and asks nothing. A growth that is refused changes nothing.
+    #[inline(always)]
+    pub fn push_copy_here(
+        &mut self,
+        from: &Block,
+        index: usize,
+        age: u8,
+        cells: u64,
+    ) -> Result<(), AllocError>
+        requires { (o : Object) × (slice_get from.now index ≡ Some o) × (cells ≡ object_cells o) × (last_has_room self.old.lists (object_cells o) ≡ true) }
+        ensures ok { OnOk result ((o : Object) → slice_get from.now index ≡ Some o → self.new ≡ store_with self.old (aged age o)) }
+        ensures err { OnErr result (self.new ≡ self.old) }
+    {
+        let blocks = self.blocks.len();
+        let block = &mut self.blocks[blocks - 1];
+        block.bump_copy(from, index, age)?;
+        self.cells = self.cells.wrapping_add(cells);
+        Ok(())
     }
 
     /// Puts an object whose values are so many copies of one at the place that is reserved for one of
@@ -321,16 +473,20 @@ impl BlockStore {
         ensures err { OnErr result (self.new ≡ self.old) }
     {
         let blocks = self.blocks.len();
-        if self.last_has_room(header.class.size(count as u64)) {
+        let cells = header.class.size(count as u64);
+        if self.last_has_room(cells) {
             let block = &mut self.blocks[blocks - 1];
-            return block.bump_copies(header, value, count);
+            block.bump_copies(header, value, count)?;
+            self.cells = self.cells.wrapping_add(cells);
+            return Ok(());
         }
-        if blocks >= MAX_BLOCKS {
+        if self.len() >= MAX_BLOCKS {
             return Err(AllocError);
         }
         let mut block = Block::new(alloc);
         block.bump_copies(header, value, count)?;
-        self.blocks.push(block)?;
+        push_block(&mut self.blocks, block, self.first)?;
+        self.cells = self.cells.wrapping_add(cells);
         Ok(())
     }
 
@@ -350,26 +506,31 @@ impl BlockStore {
         ensures err { OnErr result (self.new ≡ self.old) }
     {
         let blocks = self.blocks.len();
-        if self.last_has_room(header.class.size(fields.len() as u64)) {
+        let cells = header.class.size(fields.len() as u64);
+        if self.last_has_room(cells) {
             let block = &mut self.blocks[blocks - 1];
-            return block.bump_defaults(header, fields);
+            block.bump_defaults(header, fields)?;
+            self.cells = self.cells.wrapping_add(cells);
+            return Ok(());
         }
-        if blocks >= MAX_BLOCKS {
+        if self.len() >= MAX_BLOCKS {
             return Err(AllocError);
         }
         let mut block = Block::new(alloc);
         block.bump_defaults(header, fields)?;
-        self.blocks.push(block)?;
+        push_block(&mut self.blocks, block, self.first)?;
+        self.cells = self.cells.wrapping_add(cells);
         Ok(())
     }
 
     // The number of the last block that has an object.
     fn last_block(&self) -> Option<usize>
-        ensures { MatchOption result (NoneFrom self.now.lists 0) (λ b. IsLastBlock self.now.lists b) }
+        ensures found { MatchOption result (NoneFrom self.now.lists 0) (λ b. IsLastBlock self.now.lists b) }
+        ensures numbered { IfSome result (λ b. b < 2 ^ 49) }
     {
-        let mut count = self.blocks.len();
-        while count > 0 {
-            if self.blocks[count - 1].len() > 0 {
+        let mut count = self.len();
+        while count > self.first {
+            if self.block(count - 1).len() > 0 {
                 return Some(count - 1);
             }
             count -= 1;
@@ -383,8 +544,9 @@ impl BlockStore {
         ensures found { MatchOption result (NoneFrom self.now.lists from) (λ b. IsFirstBlock self.now.lists from b) }
         ensures numbered { IfSome result (λ b. b < 2 ^ 49) }
     {
-        for number in from..self.blocks.len() {
-            if self.blocks[number].len() > 0 {
+        let begin = usize::max(from, self.first);
+        for number in begin..self.len() {
+            if self.block(number).len() > 0 {
                 return Some(number);
             }
         }
@@ -392,18 +554,22 @@ impl BlockStore {
     }
 
     /// Gives up the last object, if there is one, and the empty blocks above it, its own with them where
-    /// it was the only one there.
+    /// it was the only one there. Where there is none nothing changes.
     pub fn pop(&mut self)
         ensures popped { (p : ℕ) → HasObject self.old p → IsLast self.old p → (o : Object) × IsPopped self.old self.new p o }
+        ensures empty { IsEmpty self.old → self.new ≡ self.old }
         ensures lane { self.new.lane ≡ self.old.lane }
     {
         let Some(last) = self.last_block() else {
             return;
         };
-        self.blocks.truncate(last + 1);
-        let block = &mut self.blocks[last];
+        let kept = last - self.first;
+        self.blocks.truncate(kept + 1);
+        let block = &mut self.blocks[kept];
+        let cells = block.cells();
         block.pop();
-        let left = if block.len() == 0 { last } else { last + 1 };
+        self.cells = self.cells.wrapping_sub(cells - block.cells());
+        let left = blocks_left(block.len(), kept, self.first);
         self.blocks.truncate(left);
     }
 
@@ -425,7 +591,7 @@ impl BlockStore {
         let Some(block) = self.last_block() else {
             return None;
         };
-        let objects = self.blocks[block].len();
+        let objects = self.block(block).len();
         Some(self.place_in(block, objects - 1))
     }
 
@@ -436,7 +602,7 @@ impl BlockStore {
         ensures { MatchOption result (EndsBlock self.now place) (λ p. IsAfter self.now place p) }
     {
         let position = Position::of(place);
-        let block = &self.blocks[position.block];
+        let block = self.filled(position.block);
         if position.index + 1 < block.len() {
             return Some(Place::new(place.number() + 1));
         }
@@ -473,10 +639,10 @@ impl BlockStore {
         ensures ok { OnOk result (self.new ≡ record { lane = self.old.lane; lists = self.old.lists ++ replicate count [] }) }
         ensures err { OnErr result (self.new ≡ self.old) }
     {
-        if count > MAX_BLOCKS - self.blocks.len() {
+        if count > MAX_BLOCKS - self.len() {
             return Err(AllocError);
         }
-        push_empty(alloc, &mut self.blocks, count)
+        push_empty(alloc, &mut self.blocks, count, self.first)
     }
 
     /// The block of a number, which is taken out; an empty one holds its number.
@@ -486,7 +652,12 @@ impl BlockStore {
         ensures lane { self.old.lane < 64 }
         ensures left { self.new ≡ record { lane = self.old.lane; lists = slice_set self.old.lists number [] } }
     {
-        mem::replace(&mut self.blocks[number], Block::new(alloc))
+        if number < self.first {
+            return Block::new(alloc);
+        }
+        let block = mem::replace(&mut self.blocks[number - self.first], Block::new(alloc));
+        self.cells = self.cells.wrapping_sub(block.cells());
+        block
     }
 
     /// Puts a block under its number, which an empty one has held.
@@ -494,6 +665,15 @@ impl BlockStore {
         requires { slice_get self.old.lists number ≡ Some [] }
         ensures { self.new ≡ record { lane = self.old.lane; lists = slice_set self.old.lists number block } }
     {
-        self.blocks[number] = block;
+        // It says that the block's objects are few.
+        let _objects = block.len();
+        self.cells = self.cells.wrapping_add(block.cells());
+        if number < self.first {
+            keep_empty(&mut self.blocks, &self.none, self.first);
+            self.first = 0;
+            self.blocks[number] = block;
+            return;
+        }
+        self.blocks[number - self.first] = block;
     }
 }

@@ -62,7 +62,7 @@ none_less vs k j v none e other i p from below h = by (cases_lt k i)
         other p same
 
 -- how much is left from one reference on
-pub rest : Option Named → ℕ
+unfoldable pub rest : Option Named → ℕ
 rest None = 0
 rest (Some r) = suc (r.end - r.number)
 

@@ -60,9 +60,9 @@ pub fn next_after(to: &Copies, marks: &Marks, place: Place) -> Option<Place>
     next(to, marks)
 }
 
-// Changes the marks where they lie, after an object was scanned.
+/// The marks after an object was scanned, which lie where they lay.
 #[inline(always)]
-fn pass_on(to: &Copies, marks: &mut Marks, place: Place)
+pub fn pass_on(to: &Copies, marks: &mut Marks, place: Place)
     ensures value { marks.new ≡ passed to.now.young.lane marks.old place }
     ensures below { place < 2 ^ 63 }
 {
@@ -72,16 +72,6 @@ fn pass_on(to: &Copies, marks: &mut Marks, place: Place)
         return;
     }
     marks.tenured = Some(place);
-}
-
-/// The marks after an object was scanned.
-pub fn pass(to: &Copies, marks: &Marks, place: Place) -> Marks
-    ensures value { result ≡ passed to.now.young.lane marks.now place }
-    ensures below { place < 2 ^ 63 }
-{
-    let mut passed = *marks;
-    pass_on(to, &mut passed, place);
-    passed
 }
 
 /// Whether one of two facts holds.

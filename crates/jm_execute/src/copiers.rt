@@ -28,7 +28,10 @@ impl<R: Threads> Collector for JobCollector<R> {
     ) -> Result<Survivors, Refused> {
         match self {
             JobCollector::OneCopier => SerialCollector.collect(alloc, condemned, tenured, roots),
-            JobCollector::SideBySide(copiers) => copiers.collect(alloc, condemned, tenured, roots),
+            // The trait's call: it leaves to one copier what is too little for several.
+            JobCollector::SideBySide(copiers) => {
+                Collector::collect(copiers, alloc, condemned, tenured, roots)
+            }
         }
     }
 }

@@ -1,6 +1,5 @@
 pub mod Noting
 pub mod Putting
-pub mod Counting
 pub mod Stores
 pub mod Holding
 pub mod Shapes

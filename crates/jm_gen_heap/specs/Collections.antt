@@ -1,5 +1,5 @@
 -- What is put in the place of the generations' stores after a collection, and what it leaves.
-use Rattle.std.specs.Prelude.{◌≡◌, ◌⊎◌, ℕ, zero, suc, ◌≤◌, List, [], ◌∷◌, ◌++◌, Option, Some, None, true, length, drop, slice_get}
+use Rattle.std.specs.Prelude.{◌≡◌, ◌⊎◌, ℕ, zero, suc, List, [], ◌∷◌, ◌++◌, Option, Some, None, true, length, drop, slice_get}
 use Rattle.jm_values.specs.declared.value.Value.{Value}
 use Rattle.jm_values.specs.Shape.{Among}
 use Rattle.jm_values.specs.Rename.{stack_shape}
@@ -10,7 +10,7 @@ use Rattle.jm_heap.specs.Collection.{IsAsBefore, LeavesReached}
 use Rattle.jm_heap.specs.declared.class_id.ClassId.{ClassId}
 use Rattle.jm_heap.specs.declared.heap.Kind.TheVariants.{Full}
 use Rattle.jm_blocks.specs.Objects.{Object}
-use Rattle.jm_blocks.specs.Stores.{Blocks, IsEmpty, objects_in}
+use Rattle.jm_blocks.specs.Stores.{Blocks, AreShort, IsEmpty, objects_in}
 use Rattle.jm_nursery.specs.Nurseries.{AreNurseries, lane_cells, young_cells}
 use Rattle.jm_copy.specs.Image.{IsReached, older}
 use Rattle.jm_copy.specs.Condemned.{objects_at}
@@ -29,7 +29,7 @@ pub record AreSurvivors (young : Blocks) (stores : List Blocks) : Type 0 where
 
 -- a place can tell all objects of each block
 abbrev pub IsWhole : Blocks → Type 0
-IsWhole s = (b : ℕ) (os : List Object) → slice_get s.lists b ≡ Some os → length os ≤ 256
+IsWhole s = AreShort s.lists
 
 -- of each store
 abbrev pub AreWhole : List Blocks → Type 0

@@ -7,7 +7,7 @@ ghost use Rattle.jm_gen_heap.specs.Generations.{old_lane};
 ghost use Rattle.jm_gen_heap.specs.Collections.{AreSurvivors, AreWhole, IsWhole};
 ghost use Rattle.jm_gen_heap.specs.Copying.{ArePutIn, IsCopied};
 
-use crate::cells::{store_cells, young_cells};
+use crate::cells::young_cells;
 use jm_blocks::BlockStore;
 use jm_copy::{Collector, Refused, Survivors};
 use jm_nursery::{Nurseries, empty_nurseries};
@@ -172,7 +172,7 @@ pub fn put_stores(young: &mut Nurseries, tenured: &mut BlockStore, stores: Store
         tenured: store,
     } = stores;
     let young_cells = young_cells(&nurseries);
-    let cells = store_cells(&store);
+    let cells = store.cells();
     let _placeholder = young.exchange(nurseries, young_cells);
     *tenured = store;
     cells

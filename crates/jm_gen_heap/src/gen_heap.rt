@@ -374,6 +374,10 @@ impl<C: Collector> Heap for GenHeap<C> {
 
     ghost leaves = { λ kind g h roots moved. Leaves kind g h roots moved };
 
+    ghost lie_as_before = { λ g h. AllLieAsBefore g h };
+
+    ghost refused = { λ g h roots moved cells. LieAsBeforeOrLeft g h roots moved cells };
+
     #[inline]
     fn allocate(
         &mut self,

@@ -31,7 +31,6 @@ ghost use Rattle.jm_gen_heap.specs.Minor.{LeavesMinor};
 ghost use Rattle.jm_gen_heap.specs.Several.{AreAllPut, AreBackBefore, AreFirstPut, EndsInPut, EndsInPuts, IsAbove, IsAlike, IsBackBefore, all_sizes};
 ghost use Rattle.jm_gen_heap.specs.Serials.{all_serials, block_serials, store_serials};
 
-use crate::cells::store_cells;
 use crate::copying::{Copied, OLD_LANE, copy_all, copy_young, put_stores};
 use crate::fields::{add_fields, put_fields};
 use crate::pointers::{Pointers, names_young};
@@ -452,7 +451,7 @@ impl Generations {
                 Ok(())
             }
             Err(fault) => {
-                self.tenured_cells = store_cells(&self.tenured);
+                self.tenured_cells = self.tenured.cells();
                 Err(fault)
             }
         }

@@ -1,9 +1,9 @@
 // What a heap promises.
 
-ghost use Rattle.std.specs.Prelude.{◌≡◌, ℕ, ◌<◌, ◌≤◌, ◌^◌, List, IfOk, OnOk, OnErr, IfErr, IfSome, Some, length, map, slice_get};
+ghost use Rattle.std.specs.Prelude.{◌≡◌, ℕ, ◌<◌, ◌≤◌, ◌^◌, List, IfOk, OnOk, OnErr, IfErr, IfSome, Some, length, map, slice_get, sum_by};
 ghost use Rattle.jm_values.specs.Rename.{rename, refs};
 ghost use Rattle.jm_values.specs.declared.value.Value.{Value};
-ghost use Rattle.jm_values.specs.Objects.{ObjectOf};
+ghost use Rattle.jm_values.specs.Objects.{ObjectOf, size_by};
 ghost use Rattle.jm_values.specs.Content.{Content, IsSound, AllResident, Kept, Made, MadeAll, HasValue, IsSet, serial_at, object_at, name_of};
 ghost use Rattle.jm_heap.specs.Cells.{class_size, resident_cells};
 ghost use Rattle.jm_heap.specs.Elements.{elements, element_kind, LieAs};
@@ -42,7 +42,7 @@ pub enum Kind {
 /// the next one. A new heap's is, and each call leaves it so.
 ///
 /// Beside its content a heap says, where it has something to say, in which nursery a place lies, how
-/// many collections an object has survived, and what a collection leaves.
+/// many collections an object has survived, what a collection leaves, and what a refusal does.
 pub trait Heap {
     ghost content: { Self → Content ClassId };
 
@@ -57,6 +57,12 @@ pub trait Heap {
 
     // what a collection of a kind makes of a heap, and of the roots that it was given
     ghost leaves: { Kind → Self → Self → List ℕ → List ℕ → Type 0 };
+
+    // whether each object lies where it lay, as it was, with what it has survived
+    ghost lie_as_before: { Self → Self → Type 0 };
+
+    // what a refusal to make objects of so many cells makes of a heap, and of the roots that it was given
+    ghost refused: { Self → Self → List ℕ → List ℕ → ℕ → Type 0 };
 
     /// Makes an object with default values (JVMS 2.3, 2.4), in the nursery of a number, which has no
     /// part in what it is, and answers its place; the object has survived no collection. It may
@@ -80,7 +86,8 @@ pub trait Heap {
         ensures kept { OnErr result (Kept (content self.old) roots.old (content self.new) roots.new) }
         ensures next { OnErr result ((content self.new).next ≡ (content self.old).next) }
         ensures as_before { IsAsBeforeMaking (content self.old) (content self.new) }
-        ensures err { IfErr result (IsRefused (content self.old) roots.old (new_object shape.entry)) };
+        ensures err { IfErr result (IsRefused (content self.old) roots.old (new_object shape.entry)) }
+        ensures refused { OnErr result (refused self.old self.new roots.old roots.new (size_by class_size (new_object shape.entry))) };
 
     /// Makes an object where that needs no collection, and so no roots; no other object moves or
     /// goes. With None nothing has changed, and `allocate` decides: when None comes is the heap's
@@ -121,7 +128,8 @@ pub trait Heap {
         ensures kept { OnErr result (Kept (content self.old) roots.old (content self.new) roots.new) }
         ensures next { OnErr result ((content self.new).next ≡ (content self.old).next) }
         ensures as_before { AreAsBeforeMaking (content self.old) (content self.new) }
-        ensures err { IfErr result (AreRefused (content self.old) roots.old (map new_object shapes.now)) };
+        ensures err { IfErr result (AreRefused (content self.old) roots.old (map new_object shapes.now)) }
+        ensures refused { OnErr result (refused self.old self.new roots.old roots.new (sum_by (size_by class_size) (map new_object shapes.now))) };
 
     /// The class or array type of the object at a place, and its values, which are fewer than 2^32: the
     /// fields of an instance, in the order of its shape, or the elements of an array. It takes no
@@ -172,7 +180,7 @@ pub trait Heap {
 
     /// Gives up objects that the roots do not reach: all of them with `Full`. The roots are moved
     /// with their objects, and what they reach stays as it is. Where a growth is refused, nothing
-    /// has changed.
+    /// has changed, and each object lies where it lay.
     fn collect(&mut self, roots: &mut Roots, kind: Kind) -> Result<(), AllocError>
         requires sound { IsSound (content self.old) }
         requires resident { AllResident (content self.old) roots.old }
@@ -181,7 +189,8 @@ pub trait Heap {
         ensures as_before { IsAsBefore (content self.old) (content self.new) }
         ensures ok { OnOk result (LeavesReached kind (content self.old) roots.old (content self.new)) }
         ensures leaves { OnOk result (leaves kind self.old self.new roots.old roots.new) }
-        ensures err { OnErr result ((content self.new ≡ content self.old) × (roots.new ≡ roots.old)) };
+        ensures err { OnErr result ((content self.new ≡ content self.old) × (roots.new ≡ roots.old)) }
+        ensures lie { OnErr result (lie_as_before self.old self.new) };
 
     /// The serials of the residents, rising.
     fn resident(&self) -> Result<Vec<u64>, AllocError>

@@ -370,6 +370,11 @@ impl Heap for PlainHeap {
 
     ghost leaves = { λ kind old new roots moved. LeavesUnmoved kind old new roots moved };
 
+    ghost lie_as_before = { λ old new. new ≡ old };
+
+    // what the roots reach stays where it is, and so do they
+    ghost refused = { λ old new roots moved cells. IsUnmoved old roots new × (moved ≡ roots) };
+
     #[inline]
     fn allocate(
         &mut self,

@@ -1,2 +1,1 @@
-pub mod Ages
 pub mod Nurseries

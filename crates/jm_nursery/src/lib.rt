@@ -1,4 +1,4 @@
-//! Nurseries: where new objects are made, and how they grow old.
+//! Nurseries: where new objects are made.
 //!
 //! Each worker makes its objects in a nursery of its own: a lane of blocks, the one of the worker's
 //! number modulo 16, whose last block is the worker's current one. [`Nurseries`] are the sixteen of
@@ -6,13 +6,11 @@
 //! which a minor collection comes first. Contracts see them as the limit and the list of the lanes'
 //! blocks. A collection takes the stores and puts others in their place
 //! ([`Nurseries::exchange`]): what was put in is what is held, and what was held comes out, so no
-//! block is lost or held twice. [`Survival`] says what a collection makes of an object's age.
+//! block is lost or held twice.
 //!
 //! The crate stands on `jm_blocks`.
 #![tactic(auto)]
 
-mod age;
 mod nurseries;
 
-pub use age::Survival;
 pub use nurseries::{Nurseries, empty_nurseries, nursery_of};

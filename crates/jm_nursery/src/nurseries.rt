@@ -3,16 +3,14 @@
 ghost use Rattle.std.specs.Prelude.{◌≡◌, ℕ, ◌+◌, ◌-◌, ◌*◌, ◌/◌, ◌%◌, ◌<◌, ◌≤◌, ◌^◌, [], Some, IfOk, OnErr, length, map, slice_get, replicate, nat_le};
 ghost use Rattle.jm_values.specs.Objects.{default_of};
 ghost use Rattle.jm_blocks.specs.Objects.{Object, object_of};
-ghost use Rattle.jm_heap.specs.Elements.{elements, element_kind};
 ghost use Rattle.jm_heap.specs.Packing.{Fits, kind_of};
 ghost use Rattle.jm_heap.specs.declared.storage.Storage.TheVariants as kind;
 ghost use Rattle.jm_blocks.specs.Places.{lane_of};
-ghost use Rattle.jm_blocks.specs.Stores.{Blocks, objects_in, HasObject, IsLast};
+ghost use Rattle.jm_blocks.specs.Stores.{Blocks, objects_in, HasObject, IsEmpty, IsLast};
 ghost use Rattle.jm_blocks.specs.Cells.{object_cells};
 ghost use Rattle.jm_nursery.specs.Nurseries.{Young, AreNurseries, CanHoldYoung, HasYoungValue, IsMade, IsUnmade, IsWritten, quota, young_cells, nursery_at};
 
 use jm_blocks::{BlockStore, Header, Position};
-use jm_heap::Elements;
 use jm_program::OperandType;
 use jm_values::{Place, Value};
 use std::alloc::{AllocError, Global};
@@ -153,29 +151,6 @@ impl Nurseries {
         Ok(place)
     }
 
-    /// Makes an object with these values in the nursery of a worker, as `make` does. A growth that is
-    /// refused changes nothing.
-    pub fn make_with(
-        &mut self,
-        alloc: Global,
-        worker: usize,
-        header: Header,
-        values: Elements<'_>,
-    ) -> Result<Place, AllocError>
-        requires short { length (elements values) < 2 ^ 32 }
-        requires same { element_kind values ≡ kind_of header.class }
-        requires room { young_cells self.old.lanes + object_cells (object_of header (elements values)) ≤ self.old.limit }
-        ensures ok { IfOk result (λ p. IsMade self.old self.new (worker % 16) p (object_of header (elements values.entry))) }
-        ensures err { OnErr result (self.new ≡ self.old) }
-    {
-        let size = header.class.size(values.len() as u64);
-        let store = &mut self.stores[worker % NURSERIES];
-        let place = store.reserve(size)?;
-        store.fill(alloc, header, values)?;
-        self.cells += size;
-        Ok(place)
-    }
-
     /// Makes an object with the default values of these fields in the nursery of a worker, as `make`
     /// does. A growth that is refused changes nothing.
     #[inline]
@@ -200,10 +175,12 @@ impl Nurseries {
         Ok(place)
     }
 
-    /// Gives up the last object in the nursery of a worker, its number modulo 16, if there is one.
+    /// Gives up the last object in the nursery of a worker, its number modulo 16, if there is one. Where
+    /// there is none nothing changes.
     pub fn pop(&mut self, worker: usize)
-        ensures { (s : Blocks) (p : ℕ) → slice_get self.old.lanes (worker % 16) ≡ Some s → HasObject s p → IsLast s p
+        ensures popped { (s : Blocks) (p : ℕ) → slice_get self.old.lanes (worker % 16) ≡ Some s → HasObject s p → IsLast s p
             → (o : Object) × IsUnmade self.old self.new (worker % 16) p o }
+        ensures empty { (s : Blocks) → slice_get self.old.lanes (worker % 16) ≡ Some s → IsEmpty s → self.new ≡ self.old }
     {
         let number = worker % NURSERIES;
         let Some(place) = self.stores[number].last() else {

@@ -1,13 +1,13 @@
 -- Where a copier begins in the old store.
 use Rattle.std.specs.Global.{Global}
 use Rattle.std.proofs.Common.{◌≡◌, ◌⊎◌, ℕ, zero, suc, ◌+◌, ◌-◌, ◌*◌, ◌<◌, ◌≤◌, ◌%◌, List, [], ◌∷◌, ◌++◌, Option, Some, None, Bool, true, false, cond, refl, sym, ap, ◌∙◌, subst, inl, inr, length, sum, replicate, eq-eqb, arith}
-use Rattle.std.specs.Prelude.{slice_get, nat_eq, nat_le, ◌&&◌, ◌/◌, MatchOption}
+use Rattle.std.specs.Prelude.{slice_get, not, nat_eq, nat_le, ◌&&◌, ◌/◌, MatchOption}
 use Rattle.std.specs.List.{All}
 use Rattle.std.proofs.lemmas.Bool.{cases_lt, eqb-true, le-leb}
 use Rattle.std.proofs.lemmas.List.{length-append, length-replicate, length-set}
 use Rattle.std.proofs.lemmas.List.Elements.{All-head, All-tail}
 use Rattle.std.proofs.lemmas.Option.{slice_get_within}
-use Rattle.std.proofs.Math.Nat.{add-mod_right, lt_of_mul-lt-mul_left, mod-add-div, mod-eq_of_lt, mul-add}
+use Rattle.std.proofs.Math.Nat.{add-mod_right, add-mul-mod_self_left, lt_of_mul-lt-mul_left, mod-add-div, mod-eq_of_lt, mod-lt, mul-add}
 use Rattle.jm_blocks.specs.Objects.{Object}
 use Rattle.jm_blocks.specs.Cells.{HoldsItsCells, has_room, object_cells, sizes_of}
 use Rattle.jm_blocks.specs.Places.{block_of, lane_of}
@@ -16,7 +16,7 @@ use Rattle.jm_blocks.proofs.Placing.{elsewhere, lies_in}
 use Rattle.jm_blocks.proofs.Sizes.{sum_cons}
 use Rattle.jm_copy.specs.Copies.{IsMark, is_above}
 use Rattle.jm_copy.proofs.Making.{is_over}
-use Rattle.jm_par_copy.specs.Begun.{IsBegin, IsBegun, IsOwn}
+use Rattle.jm_par_copy.specs.Begun.{IsBegin, IsBegun, IsLastOwn, is_full}
 use Rattle.jm_par_copy.specs.Moves.{piece_of, with_block}
 use Rattle.jm_par_copy.specs.Pieces.{is_in, objects_of}
 use Rattle.jm_par_copy.specs.Strides.{EndsOwn}
@@ -48,107 +48,63 @@ same_turn n x a b e f low high =
     let times = ap (λ k. n * k) same in
     omega (arith, first, second, e, f, times)
 
-module _ (x n : ℕ) (bs : List (List Object)) (k first : ℕ) (turn : k % n ≡ x) where
-  -- the copier's next block is the only one more
-  own_before : (b : ℕ) (os : List Object) → IsOwn x n bs (k + n) b os → IsOwn x n bs k b os ⊎ (b ≡ k)
-  own_before b os o = by (cases_lt b k)
-    where
-      by : (b < k) ⊎ (k ≤ b) → IsOwn x n bs k b os ⊎ (b ≡ k)
-      by (inl h) = inl (record { among = h; is = o.is; some = o.some; own = o.own })
-      by (inr h) = inr (same_turn n x k b turn o.own h o.among)
+-- the copier's own among the last n
+pub last_own_is : (x n count : ℕ) → x < n → x < count → IsLastOwn x n count (count - 1 - (count - 1 - x) % n)
+last_own_is x n count few some =
+    let whole = mod-add-div (count - 1 - x) n in
+    let rest = mod-lt (count - 1 - x) {m = n} (omega (arith, few)) in
+    let at : count - 1 - (count - 1 - x) % n ≡ x + n * ((count - 1 - x) / n) = omega (arith, whole, some) in
+    record {
+      own = ap (λ k. k % n) at ∙ add-mul-mod_self_left x n ((count - 1 - x) / n) ∙ mod-eq_of_lt few;
+      last = omega (arith, rest);
+      among = inl (omega (arith, some));
+    }
 
-  own_after : (b : ℕ) (os : List Object) → IsOwn x n bs k b os → IsOwn x n bs (k + n) b os
-  own_after b os o = record { among = let among = o.among in omega (arith, among); is = o.is; some = o.some; own = o.own }
-
-  -- it has no objects
-  pub begin_empty : (zs : List Object) → slice_get bs k ≡ Some zs → length zs ≡ 0 → IsBegin x n bs k first → IsBegin x n bs (k + n) first
-  begin_empty zs is none g = record {
-    own = g.own;
-    below = λ b os o. g.below b os (before b os o);
-    on = λ b os o last. g.on b os (before b os o) (λ c ys h. last c ys (own_after c ys h));
-    none = λ never. g.none (λ b os o. never b os (own_after b os o));
-  }
+module _ (x n : ℕ) (bs : List (List Object)) (first : ℕ) (g : IsBegin x n bs first) where
+  -- it is the copier's own
+  pub begin_own : first % n ≡ x
+  begin_own = ap (λ k. k % n) g.begins ∙ by (is_full (slice_get bs g.last))
     where
-      before : (b : ℕ) (os : List Object) → IsOwn x n bs (k + n) b os → IsOwn x n bs k b os
-      before b os o = by (own_before b os o)
+      by : (t : Bool) → cond t (g.last + n) g.last % n ≡ x
+      by true = add-mod_right g.last n ∙ g.is_last.own
+      by false = g.is_last.own
+
+  -- none of its blocks lies above
+  pub begin_above : (b : ℕ) → b < length bs → b % n ≡ x → b ≤ first
+  begin_above b among own = high (is_full (slice_get bs g.last)) g.begins
+    where
+      below : b ≤ g.last
+      below = by (cases_lt b g.last)
         where
-          by : IsOwn x n bs k b os ⊎ (b ≡ k) → IsOwn x n bs k b os
-          by (inl h) = h
-          by (inr e) =
-              let two : Some os ≡ Some zs = sym o.is ∙ ap (slice_get bs) e ∙ is in
-              let same : os ≡ zs = cc in
-              let many = ap length same in
-              let some = o.some in
-              absurd (omega (arith, many, some, none))
+          by : (b < g.last) ⊎ (g.last ≤ b) → b ≤ g.last
+          by (inl h) = omega (arith, h)
+          by (inr h) =
+              let last = g.is_last.last in
+              let same = same_turn n x g.last b g.is_last.own own h (omega (arith, among, last)) in
+              omega (arith, same)
 
-  -- it has some
-  pub begin_here : 0 < n → (zs : List Object) → slice_get bs k ≡ Some zs → 0 < length zs → IsBegin x n bs (k + n) (cond (has_room (sizes_of zs) 2) k (k + n))
-  begin_here positive zs is some = record {
-    own = by_room (has_room (sizes_of zs) 2);
-    below = λ b os o. high b (at_most b os (own_before b os o)) (has_room (sizes_of zs) 2);
-    on = on;
-    none = λ never. absurd (never k zs here);
-  }
-    where
-      here : IsOwn x n bs (k + n) k zs
-      here = record { among = omega (arith, positive); is = is; some = some; own = turn }
+      high : (t : Bool) → first ≡ cond t (g.last + n) g.last → b ≤ first
+      high true e = omega (arith, below, e)
+      high false e = omega (arith, below, e)
 
-      by_room : (t : Bool) → cond t k (k + n) % n ≡ x
-      by_room true = turn
-      by_room false = add-mod_right k n ∙ turn
-
-      at_most : (b : ℕ) (os : List Object) → IsOwn x n bs k b os ⊎ (b ≡ k) → b ≤ k
-      at_most b os (inl h) = let among = h.among in omega (arith, among)
-      at_most b os (inr e) = omega (arith, e)
-
-      high : (b : ℕ) → b ≤ k → (t : Bool) → b ≤ cond t k (k + n)
-      high b h true = h
-      high b h false = omega (arith, h)
-
-      on : (b : ℕ) (os : List Object) → IsOwn x n bs (k + n) b os → ((c : ℕ) (ys : List Object) → IsOwn x n bs (k + n) c ys → c ≤ b) → cond (has_room (sizes_of zs) 2) k (k + n) ≡ cond (has_room (sizes_of os) 2) b (b + n)
-      on b os o last =
-          let low = at_most b os (own_before b os o) in
-          let high = last k zs here in
-          let e : b ≡ k = omega (arith, low, high) in
-          let two : Some os ≡ Some zs = sym o.is ∙ ap (slice_get bs) e ∙ is in
-          let same : os ≡ zs = cc in
-          sym (ap (λ ys. cond (has_room (sizes_of ys) 2) b (b + n)) same ∙ ap (λ c. cond (has_room (sizes_of zs) 2) c (c + n)) e)
-
--- before the first of its blocks
-pub begin_first : (x n : ℕ) (bs : List (List Object)) → x < n → IsBegin x n bs x x
-begin_first x n bs few = record {
-  own = mod-eq_of_lt few;
-  below = λ b os o. absurd (never b os o);
-  on = λ b os o last. absurd (never b os o);
-  none = λ h. refl;
-}
+-- it is known where the block is not there, has room, and has none
+pub begin_new : (x n : ℕ) (bs : List (List Object)) (last : ℕ) → IsLastOwn x n (length bs) last → length bs ≤ last → IsBegin x n bs last
+begin_new x n bs last own over = record { last = last; is_last = own; begins = ap (λ t. cond t (last + n) last) (sym (none (slice_get bs last) refl)) }
   where
-    never : (b : ℕ) (os : List Object) → IsOwn x n bs x b os → ⊥
-    never b os o =
-        let among = o.among in
-        let less : b < n = omega (arith, among, few) in
-        let own = o.own in
-        let same : b ≡ x = sym (mod-eq_of_lt less) ∙ own in
-        omega (arith, among, same)
+    none : (o : Option (List Object)) → slice_get bs last ≡ o → is_full (slice_get bs last) ≡ false
+    none None e = ap is_full e
+    none (Some os) e = let within = slice_get_within bs last os e in absurd (omega (arith, within, over))
+
+pub begin_there : (x n : ℕ) (bs : List (List Object)) (last : ℕ) (os : List Object) (t : Bool) → IsLastOwn x n (length bs) last → slice_get bs last ≡ Some os → has_room (sizes_of os) 2 ≡ t → IsBegin x n bs (cond t last (last + n))
+begin_there x n bs last os t own is room = record { last = last; is_last = own; begins = by t ∙ ap (λ u. cond u (last + n) last) (sym (ap is_full is ∙ ap not room)) }
+  where
+    by : (u : Bool) → cond u last (last + n) ≡ cond (not u) (last + n) last
+    by true = refl
+    by false = refl
 
 -- so many empty blocks
 abbrev pub empties : ℕ → List (List Object)
 empties k = replicate k []
-
--- behind the last
-pub begin_all : (x n : ℕ) (bs : List (List Object)) (k first : ℕ) → length bs ≤ k → IsBegin x n bs k first → IsBegin x n bs (length bs) first
-begin_all x n bs k first all g = record {
-  own = g.own;
-  below = λ b os o. g.below b os (on b os o);
-  on = λ b os o last. g.on b os (on b os o) (λ c ys h. last c ys (within c ys h));
-  none = λ never. g.none (λ b os o. never b os (within b os o));
-}
-  where
-    on : (b : ℕ) (os : List Object) → IsOwn x n bs (length bs) b os → IsOwn x n bs k b os
-    on b os o = record { among = let among = o.among in omega (arith, among, all); is = o.is; some = o.some; own = o.own }
-
-    within : (b : ℕ) (os : List Object) → IsOwn x n bs k b os → IsOwn x n bs (length bs) b os
-    within b os o = record { among = slice_get_within bs b os o.is; is = o.is; some = o.some; own = o.own }
 
 empty_there : (k i : ℕ) → i < k → slice_get (empties k) i ≡ Some []
 empty_there zero i h = absurd (omega (arith, h))
@@ -162,13 +118,10 @@ opened_free first = empty_there (first + 1) first (omega arith)
 abbrev pub opened : ℕ → Blocks → Blocks
 opened first before = record { lane = before.lane; lists = empties (first + 1) }
 
-pub opened_is : (before : Blocks) (first lane : ℕ) (new done : Blocks) → lane ≡ before.lane → new ≡ record { lane = lane; lists = [] } → done ≡ record { lane = new.lane; lists = new.lists ++ empties (first + 1) } → done ≡ opened first before
-opened_is before first lane new done e f g =
-    g
-    ∙ ap (λ (s : Blocks). let t : Blocks = (record { lane = s.lane; lists = s.lists ++ empties (first + 1) }) in t) f
-    ∙ ap (λ l. let t : Blocks = (record { lane = l; lists = empties (first + 1) }) in t) e
+pub opened_is : (before : Blocks) (first lane : ℕ) (s : Blocks) → lane ≡ before.lane → s ≡ record { lane = lane; lists = empties (first + 1) } → s ≡ opened first before
+opened_is before first lane s e f = f ∙ ap (λ l. let t : Blocks = (record { lane = l; lists = empties (first + 1) }) in t) e
 
-module _ (x n first : ℕ) (before : Blocks) (begins : IsBegin x n before.lists (length before.lists) first) where
+module _ (x n first : ℕ) (before : Blocks) (begins : IsBegin x n before.lists first) where
   empty : (p : ℕ) → objects_in (opened first before) p ≡ None
   empty = opened_empty (opened first before) before.lane (first + 1) refl
 
@@ -234,7 +187,7 @@ pub begun_ends : (x n : ℕ) (before s : Blocks) → IsBegun x n before s → En
 begun_ends x n before s b =
     let many = b.many in
     let at : length s.lists - 1 ≡ b.first = omega (arith, many) in
-    record { some = omega (arith, many); own = ap (λ k. k % n) at ∙ b.begins.own }
+    record { some = omega (arith, many); own = ap (λ k. k % n) at ∙ begin_own x n before.lists b.first b.begins }
 
 -- the objects of a block one after the other
 pub record IsBeginning (os copied : List Object) : Type 0 where

@@ -51,10 +51,10 @@ rooted_grows stores roots known known' x n places g r = record { each = first_gr
 
 -- the copier of a number, and its roots
 record HasRooted (stores : List Blocks) (roots : List ℕ) (words : TableView) (number : ℕ) (cs : List Copier) (c : Copier) : Type 0 where
-  number_is : c.number ≡ number
-  copiers : c.seat.hand.copiers ≡ words.copiers
+  number_is : c.own.number ≡ number
+  copiers : c.own.seat.hand.copiers ≡ words.copiers
   rooted : IsRooted stores roots c
-  known : (w : ℕ × ℕ) → Contains c.seat.hand.known w → Contains (all_known (hands cs)) w
+  known : (w : ℕ × ℕ) → Contains c.own.seat.hand.known w → Contains (all_known (hands cs)) w
 
 has_rooted : (stores : List Blocks) (roots : List ℕ) (words : TableView) (first k : ℕ) (cs : List Copier) (c : Copier) → AllRooted stores roots cs → AreNumbered words first cs → slice_get cs k ≡ Some c → HasRooted stores roots words (first + k) cs c
 has_rooted stores roots words first k [] c r n e = cc
@@ -64,7 +64,7 @@ has_rooted stores roots words first zero (b ∷ cs) c r n e =
       number_is = let is = n.0 in omega (arith, is);
       copiers = n.3;
       rooted = r.0;
-      known = λ w h. contains_from (b.seat.hand.known ++ all_known (hands cs)) w (has_left b.seat.hand.known (all_known (hands cs)) w (has_from b.seat.hand.known w h));
+      known = λ w h. contains_from (b.own.seat.hand.known ++ all_known (hands cs)) w (has_left b.own.seat.hand.known (all_known (hands cs)) w (has_from b.own.seat.hand.known w h));
     })
 has_rooted stores roots words first (suc k) (b ∷ cs) c r n e =
     let rest = has_rooted stores roots words (first + 1) k cs c r.1 n.4 e in
@@ -72,26 +72,26 @@ has_rooted stores roots words first (suc k) (b ∷ cs) c r n e =
       number_is = let is = rest.number_is in omega (arith, is);
       copiers = rest.copiers;
       rooted = rest.rooted;
-      known = λ w h. contains_from (b.seat.hand.known ++ all_known (hands cs)) w (has_right b.seat.hand.known (all_known (hands cs)) w (has_from (all_known (hands cs)) w (rest.known w h)));
+      known = λ w h. contains_from (b.own.seat.hand.known ++ all_known (hands cs)) w (has_right b.own.seat.hand.known (all_known (hands cs)) w (has_from (all_known (hands cs)) w (rest.known w h)));
     }
 
 module _ (stores : List Blocks) (roots : List ℕ) (words : TableView) (cs : List Copier) (c : Copier) (i : ℕ) (rooted : AllRooted stores roots cs) (numbered : AreNumbered words 0 cs) (some : 0 < words.copiers) (at : slice_get cs (i % words.copiers) ≡ Some c) where
   -- the position by the copier's number and how many of its roots come before
-  place_is : c.number + c.seat.hand.copiers * (i / words.copiers) ≡ i
+  place_is : c.own.number + c.own.seat.hand.copiers * (i / words.copiers) ≡ i
   place_is =
       let h = has_rooted stores roots words 0 (i % words.copiers) cs c rooted numbered at in
-      let number : c.number ≡ i % words.copiers = let is = h.number_is in omega (arith, is) in
-      ap (λ x. x + c.seat.hand.copiers * (i / words.copiers)) number ∙ ap (λ n. i % words.copiers + n * (i / words.copiers)) h.copiers ∙ mod-add-div i words.copiers
+      let number : c.own.number ≡ i % words.copiers = let is = h.number_is in omega (arith, is) in
+      ap (λ x. x + c.own.seat.hand.copiers * (i / words.copiers)) number ∙ ap (λ n. i % words.copiers + n * (i / words.copiers)) h.copiers ∙ mod-add-div i words.copiers
 
   pub root_is_there : i < length roots → i / words.copiers < length c.roots.items
   root_is_there below =
       let h = has_rooted stores roots words 0 (i % words.copiers) cs c rooted numbered at in
       let all = h.rooted.all in
       let is = place_is in
-      lt_of_mul-lt-mul_left c.seat.hand.copiers (omega (arith, below, all, is))
+      lt_of_mul-lt-mul_left c.own.seat.hand.copiers (omega (arith, below, all, is))
 
   pub root_is_forwarded : (p q : ℕ) → slice_get roots i ≡ Some p → slice_get c.roots.items (i / words.copiers) ≡ Some q → Forwarded (objects_at stores) (Pairs stores (all_known (hands cs))) p q
   root_is_forwarded p q a b =
       let h = has_rooted stores roots words 0 (i % words.copiers) cs c rooted numbered at in
-      forwarded_grows (objects_at stores) (Pairs stores c.seat.hand.known) (Pairs stores (all_known (hands cs))) p q (pairs_more stores c.seat.hand.known (all_known (hands cs)) h.known)
+      forwarded_grows (objects_at stores) (Pairs stores c.own.seat.hand.known) (Pairs stores (all_known (hands cs))) p q (pairs_more stores c.own.seat.hand.known (all_known (hands cs)) h.known)
       (h.rooted.each (i / words.copiers) p q (ap (λ k. slice_get roots k) place_is ∙ a) b)

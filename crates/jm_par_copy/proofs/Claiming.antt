@@ -8,44 +8,55 @@ use Rattle.jm_copy.specs.declared.copies.Copies.{Copies}
 use Rattle.jm_copy.proofs.Making.{stays_more, stays_refl}
 use Rattle.jm_par_copy.specs.Claiming.{CanClaim, KeepsClaiming, LearnsMore}
 use Rattle.jm_par_copy.specs.Strides.{Goes, IsNewOf, Opened, owner_of}
+use Rattle.jm_par_copy.specs.declared.round.Own.{Own}
 use Rattle.jm_par_copy.specs.Working.{IsNew, KnowsMore}
 use Rattle.jm_par_copy.proofs.Strides.{ends_on, goes_on, goes_refl, new_before, opened_goes, opened_stays}
 use Rattle.jm_par_copy.proofs.Working.{known_more, wins_more, wins_seen, wins_stay, wins_won}
 
-pub claiming_refl : (s : SeatView) (c : Copies) → KeepsClaiming s s c c
-claiming_refl s c = record { stays = stays_refl c; goes = goes_refl s.hand.copier s.hand.copiers c; table = refl; copier = refl; copiers = refl }
+pub claiming_refl : (a : Own) → KeepsClaiming a a
+claiming_refl a = record { number = refl; stays = stays_refl a.to; goes = goes_refl a.seat.hand.copier a.seat.hand.copiers a.to; table = refl; copier = refl; copiers = refl }
 
-pub claiming_more : (s t u : SeatView) (c d e : Copies) → KeepsClaiming s t c d → KeepsClaiming t u d e → KeepsClaiming s u c e
-claiming_more s t u c d e f g = record {
-  stays = stays_more c d e f.stays g.stays;
-  goes = goes_on s.hand.copier s.hand.copiers t.hand.copier t.hand.copiers c d e f.copier f.copiers f.stays f.goes g.goes;
+pub claiming_more : (a b c : Own) → KeepsClaiming a b → KeepsClaiming b c → KeepsClaiming a c
+claiming_more a b c f g = record {
+  number = g.number ∙ f.number;
+  stays = stays_more a.to b.to c.to f.stays g.stays;
+  goes = goes_on a.seat.hand.copier a.seat.hand.copiers b.seat.hand.copier b.seat.hand.copiers a.to b.to c.to f.copier f.copiers f.stays f.goes g.goes;
   table = g.table ∙ f.table;
   copier = g.copier ∙ f.copier;
   copiers = g.copiers ∙ f.copiers;
 }
 
 -- what is new was new before
-pub claiming_new : (s t : SeatView) (c d : Copies) (n : ℕ) → KeepsClaiming s t c d → IsNew t.hand d n → IsNew s.hand c n
-claiming_new s t c d n f new = new_before s.hand.copier s.hand.copiers c d n f.stays f.goes (subst (λ x. IsNewOf x s.hand.copiers d n) f.copier (subst (λ m. IsNewOf t.hand.copier m d n) f.copiers new))
+pub claiming_new : (a b : Own) (n : ℕ) → KeepsClaiming a b → IsNew b.seat.hand b.to n → IsNew a.seat.hand a.to n
+claiming_new a b n f new = new_before a.seat.hand.copier a.seat.hand.copiers a.to b.to n f.stays f.goes (subst (λ x. IsNewOf x a.seat.hand.copiers b.to n) f.copier (subst (λ m. IsNewOf b.seat.hand.copier m b.to n) f.copiers new))
 
 -- it can claim again
-pub claims_still : (stores : List Blocks) (words : TableView) (s t : SeatView) (c d : Copies) → KeepsClaiming s t c d → CanClaim stores words s c → CanClaim stores words t d
-claims_still stores words s t c d f g = record {
+pub claims_still : (stores : List Blocks) (words : TableView) (a b : Own) → KeepsClaiming a b → CanClaim stores words a → CanClaim stores words b
+claims_still stores words a b f g = record {
   table = f.table ∙ g.table;
   objects = g.objects;
   copiers = f.copiers ∙ g.copiers;
-  ends = ends_on s.hand.copier s.hand.copiers t.hand.copier t.hand.copiers c d f.copier f.copiers f.goes g.ends;
+  ends = ends_on a.seat.hand.copier a.seat.hand.copiers b.seat.hand.copier b.seat.hand.copiers a.to b.to f.copier f.copiers f.goes g.ends;
 }
 
 -- its hand is another, of the same copier of as many
-pub claiming_by : (s t : SeatView) (c d : Copies) → t.table ≡ s.table → LearnsMore s.hand t.hand → Stays c d → Goes s.hand.copier s.hand.copiers c d → KeepsClaiming s t c d
-claiming_by s t c d table learns stays goes = record { stays = stays; goes = goes; table = table; copier = learns.wins.copier; copiers = learns.wins.copiers }
+pub claiming_by : (a b : Own) → b.number ≡ a.number → b.seat.table ≡ a.seat.table → LearnsMore a.seat.hand b.seat.hand → Stays a.to b.to → Goes a.seat.hand.copier a.seat.hand.copiers a.to b.to → KeepsClaiming a b
+claiming_by a b number table learns stays goes = record { number = number; stays = stays; goes = goes; table = table; copier = learns.wins.copier; copiers = learns.wins.copiers }
+
+-- the same with other stores
+abbrev pub with_stores : Own → Copies → Own
+with_stores a d = record { number = a.number; claims = a.claims; seat = a.seat; to = d }
+
+-- or with another seat
+abbrev pub with_seat : Own → SeatView → Own
+with_seat a s = record { number = a.number; claims = a.claims; seat = s; to = a.to }
 
 -- blocks are opened
-pub claiming_opened : (n : ℕ) (s : SeatView) (c d : Copies) → n ≡ s.hand.copiers → Opened n c d → KeepsClaiming s s c d
-claiming_opened n s c d many o = record {
-  stays = opened_stays n c d o;
-  goes = subst (λ k. Goes s.hand.copier k c d) many (opened_goes n c d o s.hand.copier);
+pub claiming_opened : (n : ℕ) (a : Own) (d : Copies) → n ≡ a.seat.hand.copiers → Opened n a.to d → KeepsClaiming a (with_stores a d)
+claiming_opened n a d many o = record {
+  number = refl;
+  stays = opened_stays n a.to d o;
+  goes = subst (λ k. Goes a.seat.hand.copier k a.to d) many (opened_goes n a.to d o a.seat.hand.copier);
   table = refl;
   copier = refl;
   copiers = refl;

@@ -128,12 +128,12 @@ one_same (x ∷ xs) (y ∷ ys) n s (inr h) = let many = s.many in inr (one_same 
 -- who holds a place
 abbrev pub MadeBy : List Copier → ℕ → Type 0
 MadeBy [] n = ⊥
-MadeBy (c ∷ cs) n = HasMade c.to n ⊎ MadeBy cs n
+MadeBy (c ∷ cs) n = HasMade c.own.to n ⊎ MadeBy cs n
 
-pub contents_where : (c : Copier) (n : ℕ) (a : Object) → contents c n ≡ Some a → HasMade c.to n ⊎ IsInOne c.given.items n
-contents_where c n a e = by (both_where (made c.to) (held_objects c.given.items) n a e)
+pub contents_where : (c : Copier) (n : ℕ) (a : Object) → contents c n ≡ Some a → HasMade c.own.to n ⊎ IsInOne c.given.items n
+contents_where c n a e = by (both_where (made c.own.to) (held_objects c.given.items) n a e)
   where
-    by : (made c.to n ≡ Some a) ⊎ ((made c.to n ≡ None) × (held_objects c.given.items n ≡ Some a)) → HasMade c.to n ⊎ IsInOne c.given.items n
+    by : (made c.own.to n ≡ Some a) ⊎ ((made c.own.to n ≡ None) × (held_objects c.given.items n ≡ Some a)) → HasMade c.own.to n ⊎ IsInOne c.given.items n
     by (inl h) = inl (a, h)
     by (inr h) = inr (one_held c.given.items n a h.1)
 
@@ -145,7 +145,7 @@ joint_where [] aside n a e = by (both_where (held_objects aside) (joint []) n a 
     by (inr h) = let two : None ≡ Some a = h.1 in cc
 joint_where (c ∷ cs) aside n a e = by (joint_where cs aside n a) (both_where (contents c) (joint (parts cs aside)) n a e)
   where
-    first : HasMade c.to n ⊎ IsInOne c.given.items n → MadeBy (c ∷ cs) n ⊎ IsInOne (all_pieces (c ∷ cs) aside) n
+    first : HasMade c.own.to n ⊎ IsInOne c.given.items n → MadeBy (c ∷ cs) n ⊎ IsInOne (all_pieces (c ∷ cs) aside) n
     first (inl h) = inl (inl h)
     first (inr h) = inr (one_left c.given.items (all_pieces cs aside) n h)
 
@@ -173,13 +173,13 @@ module _ (stores : List Blocks) (words : TableView) (pieces : List Piece) where
   all_apart [] aside f s d g = ((λ n a e. refl), tt)
   all_apart (c ∷ cs) aside f s d g = ((λ n a e. by n (joint (parts cs aside) n) refl (contents_where c n a e)), all_apart cs aside (λ n h. f n (one_right c.given.items (all_pieces cs aside) n h)) s.1 d.1 g.1)
     where
-      never : (n : ℕ) → MadeBy cs n ⊎ IsInOne (all_pieces cs aside) n → HasMade c.to n ⊎ IsInOne c.given.items n → ⊥
-      never n (inl h) (inl i) = made_other cs c.seat.hand.copier n s.1 d.0 h (s.0.own n i)
+      never : (n : ℕ) → MadeBy cs n ⊎ IsInOne (all_pieces cs aside) n → HasMade c.own.to n ⊎ IsInOne c.given.items n → ⊥
+      never n (inl h) (inl i) = made_other cs c.own.seat.hand.copier n s.1 d.0 h (s.0.own n i)
       never n (inl h) (inr i) = made_beside cs n s.1 h (f n (one_left c.given.items (all_pieces cs aside) n i))
       never n (inr h) (inl i) = s.0.beside n i (f n (one_right c.given.items (all_pieces cs aside) n h))
       never n (inr h) (inr i) = g.0 n i h
 
-      by : (n : ℕ) (z : Option Object) → joint (parts cs aside) n ≡ z → HasMade c.to n ⊎ IsInOne c.given.items n → joint (parts cs aside) n ≡ None
+      by : (n : ℕ) (z : Option Object) → joint (parts cs aside) n ≡ z → HasMade c.own.to n ⊎ IsInOne c.given.items n → joint (parts cs aside) n ≡ None
       by n None t h = t
       by n (Some b) t h = absurd (never n (joint_where cs aside n b t) h)
 
@@ -189,7 +189,7 @@ apart_of stores roots words cs aside c = all_apart stores words (all_pieces cs a
 module _ (stores : List Blocks) (roots : List ℕ) (known wins : List (ℕ × ℕ)) where
   -- each copier at the beginning of a round
   abbrev pub HoldsBy : Copier → Copier → Type 0
-  HoldsBy c d = IsHolding stores roots known (of_share (share (contents c)) wins) (length c.seat.hand.wins) d.seat.hand d.to d.marks d.given.items
+  HoldsBy c d = IsHolding stores roots known (of_share (share (contents c)) wins) (length c.own.seat.hand.wins) d.own.seat.hand d.own.to d.marks d.given.items
 
   abbrev pub AllBegin : List Copier → Type 0
   AllBegin [] = Unit {0}
@@ -198,7 +198,7 @@ module _ (stores : List Blocks) (roots : List ℕ) (known wins : List (ℕ × �
   pub all_begin : (words : TableView) (pieces : List Piece) (cs : List Copier) (aside : List Piece) → AreSeated stores words pieces cs → ((i : ℕ) (x : Part) → slice_get (parts cs aside) i ≡ Some x → PartBegins stores roots known wins x) → AllBegin cs
   all_begin words pieces [] aside s f = tt
   all_begin words pieces (c ∷ cs) aside s f = (
-    working_begins stores roots known (of_share (share (contents c)) wins) (held_objects c.given.items) c.seat.hand c.to (scan_of c) s.0.local (f 0 (part_of c) refl),
+    working_begins stores roots known (of_share (share (contents c)) wins) (held_objects c.given.items) c.own.seat.hand c.own.to (scan_of c) s.0.local (f 0 (part_of c) refl),
     all_begin words pieces cs aside s.1 (λ i x e. f (suc i) x e),
   )
 
@@ -209,7 +209,7 @@ module _ (stores : List Blocks) (roots : List ℕ) (known wins : List (ℕ × �
 ready_all : (stores : List Blocks) (roots : List ℕ) (words : TableView) (pieces : List Piece) (known wins : List (ℕ × ℕ)) (cs : List Copier) → AreSeated stores words pieces cs → AreRooted stores roots cs → AllBegin stores roots known wins cs → AreReady stores roots words cs
 ready_all stores roots words pieces known wins [] s t b = tt
 ready_all stores roots words pieces known wins (c ∷ cs) s t b = (
-  record { claims = record { table = s.0.table; objects = s.0.objects; copiers = s.0.copiers; ends = s.0.ends }; marks = s.0.marks; given = s.0.given; number = s.0.number; rooted = t.0; holding = (known, of_share (share (contents c)) wins, length c.seat.hand.wins, b.0) },
+  record { claims = record { table = s.0.table; objects = s.0.objects; copiers = s.0.copiers; ends = s.0.ends }; marks = s.0.marks; given = s.0.given; number = s.0.number; rooted = t.0; holding = (known, of_share (share (contents c)) wins, length c.own.seat.hand.wins, b.0) },
   ready_all stores roots words pieces known wins cs s.1 t.1 b.1,
 )
 
@@ -222,26 +222,26 @@ all_are_ready stores roots words cs aside c =
     let wins = all_wins (hands cs) in
     ready_all stores roots words (all_pieces cs aside) known wins cs c.seated c.rooted (all_begin stores roots known wins words (all_pieces cs aside) cs aside c.seated (begin_of stores roots words cs aside c))
 
-pub local_of : (stores : List Blocks) (roots : List ℕ) (base held : List (ℕ × ℕ)) (k : ℕ) (c : Copier) → IsHolding stores roots base held k c.seat.hand c.to c.marks c.given.items → IsLocal stores (held_objects c.given.items) c.seat.hand c.to (scan_of c)
+pub local_of : (stores : List Blocks) (roots : List ℕ) (base held : List (ℕ × ℕ)) (k : ℕ) (c : Copier) → IsHolding stores roots base held k c.own.seat.hand c.own.to c.marks c.given.items → IsLocal stores (held_objects c.given.items) c.own.seat.hand c.own.to (scan_of c)
 local_of stores roots base held k c w = record { apart = w.apart; kept = w.kept; ages = w.ages; dated = w.dated; taken = w.taken; free = w.free; once = w.once; ahead = w.ahead }
 
 -- what a step has done to a copier: it holds what it held, and what it has won since; moved blocks are those that
 -- were there, or blocks of its own
 pub record IsDone (stores : List Blocks) (roots : List ℕ) (known wins : List (ℕ × ℕ)) (c d : Copier) : Type 0 where
-  pub number : d.number ≡ c.number
+  pub number : d.own.number ≡ c.own.number
   pub rooted : RootsStand stores roots c → RootsStand stores roots d
-  pub table : d.seat.table ≡ c.seat.table
-  pub copier : d.seat.hand.copier ≡ c.seat.hand.copier
-  pub copiers : d.seat.hand.copiers ≡ c.seat.hand.copiers
-  pub knows : KnowsMore c.seat.hand d.seat.hand
-  pub more : WinsMore c.seat.hand d.seat.hand
-  pub ends : OwnsEnds d.seat.hand.copier d.seat.hand.copiers d.to
-  pub given : AreGiven d.seat.hand d.to d.given.items
-  pub marks : AreMarks d.to d.marks
+  pub table : d.own.seat.table ≡ c.own.seat.table
+  pub copier : d.own.seat.hand.copier ≡ c.own.seat.hand.copier
+  pub copiers : d.own.seat.hand.copiers ≡ c.own.seat.hand.copiers
+  pub knows : KnowsMore c.own.seat.hand d.own.seat.hand
+  pub more : WinsMore c.own.seat.hand d.own.seat.hand
+  pub ends : OwnsEnds d.own.seat.hand.copier d.own.seat.hand.copiers d.own.to
+  pub given : AreGiven d.own.seat.hand d.own.to d.given.items
+  pub marks : AreMarks d.own.to d.marks
   pub holding : HoldsBy stores roots known wins c d
-  pub made : (n : ℕ) → HasMade d.to n → HasMade c.to n ⊎ IsNew c.seat.hand c.to n
-  pub new : (n : ℕ) → IsNew d.seat.hand d.to n → IsNew c.seat.hand c.to n
-  pub pieces : (n : ℕ) → IsInOne d.given.items n → IsInOne c.given.items n ⊎ IsOwnBlock c.to n
+  pub made : (n : ℕ) → HasMade d.own.to n → HasMade c.own.to n ⊎ IsNew c.own.seat.hand c.own.to n
+  pub new : (n : ℕ) → IsNew d.own.seat.hand d.own.to n → IsNew c.own.seat.hand c.own.to n
+  pub pieces : (n : ℕ) → IsInOne d.given.items n → IsInOne c.given.items n ⊎ IsOwnBlock c.own.to n
 
 -- one place of a block is in what all are in
 one_moves : (xs : List Piece) (p n : ℕ) → lane_of p ≡ lane_of n → block_of p ≡ block_of n → IsInOne xs n → IsInOne xs p
@@ -261,16 +261,16 @@ pub given_new : (h : Hand) (c : Copies) (xs : List Piece) (n : ℕ) → AreGiven
 given_new h c xs n g m i = let t = one_get xs n i in let two : true ≡ false = sym t.3 ∙ g.new t.0 t.1 t.2 n m in cc
 
 -- copiers by their numbers
-pub other_has : (cs : List Copier) (x : ℕ) (c : Copier) → AreOthers x cs → Has cs c → c.seat.hand.copier ≡ x → ⊥
+pub other_has : (cs : List Copier) (x : ℕ) (c : Copier) → AreOthers x cs → Has cs c → c.own.seat.hand.copier ≡ x → ⊥
 other_has [] x c o h e = h
-other_has (b ∷ cs) x c o (inl t) e = o.0 (ap (λ (z : Copier). z.seat.hand.copier) t ∙ e)
+other_has (b ∷ cs) x c o (inl t) e = o.0 (ap (λ (z : Copier). z.own.seat.hand.copier) t ∙ e)
 other_has (b ∷ cs) x c o (inr h) e = other_has cs x c o.1 h e
 
-same_copier : (cs : List Copier) (c d : Copier) → AreDifferent cs → Has cs c → Has cs d → c.seat.hand.copier ≡ d.seat.hand.copier → c ≡ d
+same_copier : (cs : List Copier) (c d : Copier) → AreDifferent cs → Has cs c → Has cs d → c.own.seat.hand.copier ≡ d.own.seat.hand.copier → c ≡ d
 same_copier [] c d o h i e = absurd h
 same_copier (b ∷ cs) c d o (inl h) (inl i) e = sym h ∙ i
-same_copier (b ∷ cs) c d o (inl h) (inr i) e = absurd (other_has cs b.seat.hand.copier d o.0 i (sym e ∙ sym (ap (λ (z : Copier). z.seat.hand.copier) h)))
-same_copier (b ∷ cs) c d o (inr h) (inl i) e = absurd (other_has cs b.seat.hand.copier c o.0 h (e ∙ sym (ap (λ (z : Copier). z.seat.hand.copier) i)))
+same_copier (b ∷ cs) c d o (inl h) (inr i) e = absurd (other_has cs b.own.seat.hand.copier d o.0 i (sym e ∙ sym (ap (λ (z : Copier). z.own.seat.hand.copier) h)))
+same_copier (b ∷ cs) c d o (inr h) (inl i) e = absurd (other_has cs b.own.seat.hand.copier c o.0 h (e ∙ sym (ap (λ (z : Copier). z.own.seat.hand.copier) i)))
 same_copier (b ∷ cs) c d o (inr h) (inr i) e = same_copier cs c d o.1 h i e
 
 pub seated_has : (stores : List Blocks) (words : TableView) (pieces : List Piece) (cs : List Copier) (c : Copier) → AreSeated stores words pieces cs → Has cs c → IsSeated stores words pieces c
@@ -282,10 +282,10 @@ seated_has stores words pieces (b ∷ cs) c s (inr h) = seated_has stores words 
 pub record FromOwn (cs ds : List Copier) (n : ℕ) : Type 0 where
   pub c : Copier
   pub c_is : Has cs c
-  pub own : IsOwnBlock c.to n
+  pub own : IsOwnBlock c.own.to n
   pub d : Copier
   pub d_is : Has ds d
-  pub same : d.seat.hand.copier ≡ c.seat.hand.copier
+  pub same : d.own.seat.hand.copier ≡ c.own.seat.hand.copier
   pub there : IsInOne d.given.items n
 
 from_more : (c d : Copier) (cs ds : List Copier) (n : ℕ) → FromOwn cs ds n → FromOwn (c ∷ cs) (d ∷ ds) n
@@ -304,7 +304,7 @@ module _ (stores : List Blocks) (roots : List ℕ) (known wins : List (ℕ × �
   where_from (c ∷ cs) [] aside r n h = absurd r
   where_from (c ∷ cs) (d ∷ ds) aside r n h = by (where_from cs ds aside r.1 n) (one_both d.given.items (all_pieces ds aside) n h)
     where
-      first : IsInOne d.given.items n → IsInOne c.given.items n ⊎ IsOwnBlock c.to n → IsInOne (all_pieces (c ∷ cs) aside) n ⊎ FromOwn (c ∷ cs) (d ∷ ds) n
+      first : IsInOne d.given.items n → IsInOne c.given.items n ⊎ IsOwnBlock c.own.to n → IsInOne (all_pieces (c ∷ cs) aside) n ⊎ FromOwn (c ∷ cs) (d ∷ ds) n
       first i (inl g) = inl (one_left c.given.items (all_pieces cs aside) n g)
       first i (inr g) = inr (record { c = c; c_is = inl refl; own = g; d = d; d_is = inl refl; same = r.0.copier; there = i })
 
@@ -326,7 +326,7 @@ module _ (stores : List Blocks) (roots : List ℕ) (known wins : List (ℕ × �
   different_on [] [] r o = o
   different_on [] (d ∷ ds) r o = absurd r
   different_on (c ∷ cs) [] r o = absurd r
-  different_on (c ∷ cs) (d ∷ ds) r o = (subst (λ x. AreOthers x ds) (sym r.0.copier) (others_on c.seat.hand.copier cs ds r.1 o.0), different_on cs ds r.1 o.1)
+  different_on (c ∷ cs) (d ∷ ds) r o = (subst (λ x. AreOthers x ds) (sym r.0.copier) (others_on c.own.seat.hand.copier cs ds r.1 o.0), different_on cs ds r.1 o.1)
 
   rooted_on : (cs ds : List Copier) → AreDone cs ds → AreRooted stores roots cs → AreRooted stores roots ds
   rooted_on [] [] r t = t
@@ -336,7 +336,7 @@ module _ (stores : List Blocks) (roots : List ℕ) (known wins : List (ℕ × �
 
   module _ (words : TableView) (pieces : List Piece) where
     -- of an own block's places each is the copier's
-    owner_in : (c : Copier) (n : ℕ) → IsSeated stores words pieces c → IsOwnBlock c.to n → owner_of words.copiers n ≡ c.seat.hand.copier
+    owner_in : (c : Copier) (n : ℕ) → IsSeated stores words pieces c → IsOwnBlock c.own.to n → owner_of words.copiers n ≡ c.own.seat.hand.copier
     owner_in c n s o = ap (λ b. b % words.copiers) (sym o.3) ∙ s.own o.0 o.1
 
     given_on : (cs ds : List Copier) (aside : List Piece) → ((n : ℕ) → IsInOne (all_pieces cs aside) n → IsInOne pieces n) → AreSeated stores words pieces cs → AreDifferent cs → AreDone cs ds → AreApartGiven cs aside → AreApartGiven ds aside
@@ -345,11 +345,11 @@ module _ (stores : List Blocks) (roots : List ℕ) (known wins : List (ℕ × �
     given_on (c ∷ cs) [] aside f s o r g = absurd r
     given_on (c ∷ cs) (d ∷ ds) aside f s o r g = ((λ n h i. by n (r.0.pieces n h) (where_from cs ds aside r.1 n i)), given_on cs ds aside (λ n h. f n (one_right c.given.items (all_pieces cs aside) n h)) s.1 o.1 r.1 g.1)
       where
-        by : (n : ℕ) → IsInOne c.given.items n ⊎ IsOwnBlock c.to n → IsInOne (all_pieces cs aside) n ⊎ FromOwn cs ds n → ⊥
+        by : (n : ℕ) → IsInOne c.given.items n ⊎ IsOwnBlock c.own.to n → IsInOne (all_pieces cs aside) n ⊎ FromOwn cs ds n → ⊥
         by n (inl h) (inl i) = g.0 n h i
         by n (inr h) (inl i) = s.0.beside h.0 h.1 (f h.0 (one_right c.given.items (all_pieces cs aside) h.0 (one_moves (all_pieces cs aside) h.0 n h.2 h.3 i)))
         by n (inl h) (inr w) = let own = w.own in (seated_has stores words pieces cs w.c s.1 w.c_is).beside own.0 own.1 (f own.0 (one_left c.given.items (all_pieces cs aside) own.0 (one_moves c.given.items own.0 n own.2 own.3 h)))
-        by n (inr h) (inr w) = other_has cs c.seat.hand.copier w.c o.0 w.c_is (sym (owner_in w.c n (seated_has stores words pieces cs w.c s.1 w.c_is) w.own) ∙ owner_in c n s.0 h)
+        by n (inr h) (inr w) = other_has cs c.own.seat.hand.copier w.c o.0 w.c_is (sym (owner_in w.c n (seated_has stores words pieces cs w.c s.1 w.c_is) w.own) ∙ owner_in c n s.0 h)
 
     module _ (olds news : List Copier) (pieces' : List Piece) (all : AreSeated stores words pieces olds) (different : AreDifferent news) (f : (n : ℕ) → IsInOne pieces' n → IsInOne pieces n ⊎ FromOwn olds news n) where
       seated_on : (c d : Copier) → Has news d → IsSeated stores words pieces c → IsDone stores roots known wins c d → IsSeated stores words pieces' d
@@ -361,31 +361,31 @@ module _ (stores : List Blocks) (roots : List ℕ) (known wins : List (ℕ × �
         ends = t.ends;
         marks = t.marks;
         given = t.given;
-        local = local_of stores roots known (of_share (share (contents c)) wins) (length c.seat.hand.wins) d t.holding;
-        wins = wins_own c.seat.hand d.seat.hand t.more s.wins;
+        local = local_of stores roots known (of_share (share (contents c)) wins) (length c.own.seat.hand.wins) d t.holding;
+        wins = wins_own c.own.seat.hand d.own.seat.hand t.more s.wins;
         own = λ n h. own n (t.made n h);
         beside = λ n h i. beside n h (t.made n h) (f n i);
         new = λ n h i. fresh n h (t.new n h) (f n i);
       }
         where
-          own : (n : ℕ) → HasMade c.to n ⊎ IsNew c.seat.hand c.to n → owner_of words.copiers n ≡ d.seat.hand.copier
+          own : (n : ℕ) → HasMade c.own.to n ⊎ IsNew c.own.seat.hand c.own.to n → owner_of words.copiers n ≡ d.own.seat.hand.copier
           own n (inl h) = s.own n h ∙ sym t.copier
-          own n (inr h) = ap (λ m. owner_of m n) (sym s.copiers) ∙ new_is_own c.seat.hand.copier c.seat.hand.copiers c.to n h ∙ sym t.copier
+          own n (inr h) = ap (λ m. owner_of m n) (sym s.copiers) ∙ new_is_own c.own.seat.hand.copier c.own.seat.hand.copiers c.own.to n h ∙ sym t.copier
 
           -- it is the copier that holds it
-          itself : (n : ℕ) → owner_of words.copiers n ≡ d.seat.hand.copier → FromOwn olds news n → IsInOne d.given.items n
+          itself : (n : ℕ) → owner_of words.copiers n ≡ d.own.seat.hand.copier → FromOwn olds news n → IsInOne d.given.items n
           itself n e w =
-              let number : w.d.seat.hand.copier ≡ d.seat.hand.copier = w.same ∙ sym (owner_in w.c n (seated_has stores words pieces olds w.c all w.c_is) w.own) ∙ e in
+              let number : w.d.own.seat.hand.copier ≡ d.own.seat.hand.copier = w.same ∙ sym (owner_in w.c n (seated_has stores words pieces olds w.c all w.c_is) w.own) ∙ e in
               subst (λ (z : Copier). IsInOne z.given.items n) (same_copier news w.d d different w.d_is here number) w.there
 
-          beside : (n : ℕ) → HasMade d.to n → HasMade c.to n ⊎ IsNew c.seat.hand c.to n → IsInOne pieces n ⊎ FromOwn olds news n → ⊥
+          beside : (n : ℕ) → HasMade d.own.to n → HasMade c.own.to n ⊎ IsNew c.own.seat.hand c.own.to n → IsInOne pieces n ⊎ FromOwn olds news n → ⊥
           beside n h (inl m) (inl i) = s.beside n m i
           beside n h (inr m) (inl i) = s.new n m i
-          beside n h m (inr w) = given_own d.seat.hand d.to d.given.items n t.given h (itself n (own n m) w)
+          beside n h m (inr w) = given_own d.own.seat.hand d.own.to d.given.items n t.given h (itself n (own n m) w)
 
-          fresh : (n : ℕ) → IsNew d.seat.hand d.to n → IsNew c.seat.hand c.to n → IsInOne pieces n ⊎ FromOwn olds news n → ⊥
+          fresh : (n : ℕ) → IsNew d.own.seat.hand d.own.to n → IsNew c.own.seat.hand c.own.to n → IsInOne pieces n ⊎ FromOwn olds news n → ⊥
           fresh n h m (inl i) = s.new n m i
-          fresh n h m (inr w) = given_new d.seat.hand d.to d.given.items n t.given h (itself n (own n (inr m)) w)
+          fresh n h m (inr w) = given_new d.own.seat.hand d.own.to d.given.items n t.given h (itself n (own n (inr m)) w)
 
       seated_all : (cs ds : List Copier) → ((d : Copier) → Has ds d → Has news d) → AreSeated stores words pieces cs → AreDone cs ds → AreSeated stores words pieces' ds
       seated_all [] [] h s r = tt
@@ -416,37 +416,37 @@ module _ (stores : List Blocks) (roots : List ℕ) (known wins : List (ℕ × �
   all_joined all [] (d ∷ ds) aside g h r b p = absurd r
   all_joined all (c ∷ cs) [] aside g h r b p = absurd r
   all_joined all (c ∷ cs) (d ∷ ds) aside g h r b p =
-      let held = held_by (of_share (share (contents c)) wins) (length c.seat.hand.wins) d.seat.hand in
-      let mine = known_to known d.seat.hand in
+      let held = held_by (of_share (share (contents c)) wins) (length c.own.seat.hand.wins) d.own.seat.hand in
+      let mine = known_to known d.own.seat.hand in
       join_part all held (held_after wins (turns cs ds aside)) (part_of d) (parts ds aside)
-      (copying_knows (Pairs stores mine) (Pairs stores all) (Pairs stores held) (contents d) (scan_of d) (pairs_more stores mine all (λ w k. contains_from all w (by w (has_both known d.seat.hand.known w (has_from mine w k))))) r.0.holding.copying)
-      (all_joined all cs ds aside g (λ w k. h w (has_right d.seat.hand.known (all_known (hands ds)) w k)) r.1 b p.1)
+      (copying_knows (Pairs stores mine) (Pairs stores all) (Pairs stores held) (contents d) (scan_of d) (pairs_more stores mine all (λ w k. contains_from all w (by w (has_both known d.own.seat.hand.known w (has_from mine w k))))) r.0.holding.copying)
+      (all_joined all cs ds aside g (λ w k. h w (has_right d.own.seat.hand.known (all_known (hands ds)) w k)) r.1 b p.1)
       p.0
     where
-      by : (w : ℕ × ℕ) → Has known w ⊎ Has d.seat.hand.known w → Has all w
+      by : (w : ℕ × ℕ) → Has known w ⊎ Has d.own.seat.hand.known w → Has all w
       by w (inl k) = g w k
-      by w (inr k) = h w (has_left d.seat.hand.known (all_known (hands ds)) w k)
+      by w (inr k) = h w (has_left d.own.seat.hand.known (all_known (hands ds)) w k)
 
   -- what was known is known
   knows_all : (cs ds : List Copier) → AreDone cs ds → (i n : ℕ) → Has (all_known (hands cs)) (i, n) → Has (all_known (hands ds)) (i, n)
   knows_all [] ds r i n h = absurd h
   knows_all (c ∷ cs) [] r i n h = absurd r
-  knows_all (c ∷ cs) (d ∷ ds) r i n h = by (knows_all cs ds r.1 i n) (has_both c.seat.hand.known (all_known (hands cs)) (i, n) h)
+  knows_all (c ∷ cs) (d ∷ ds) r i n h = by (knows_all cs ds r.1 i n) (has_both c.own.seat.hand.known (all_known (hands cs)) (i, n) h)
     where
-      by : (Has (all_known (hands cs)) (i, n) → Has (all_known (hands ds)) (i, n)) → Has c.seat.hand.known (i, n) ⊎ Has (all_known (hands cs)) (i, n) → Has (all_known (hands (d ∷ ds))) (i, n)
-      by rest (inl g) = has_left d.seat.hand.known (all_known (hands ds)) (i, n) (has_from d.seat.hand.known (i, n) (r.0.knows i n (contains_from c.seat.hand.known (i, n) g)))
-      by rest (inr g) = has_right d.seat.hand.known (all_known (hands ds)) (i, n) (rest g)
+      by : (Has (all_known (hands cs)) (i, n) → Has (all_known (hands ds)) (i, n)) → Has c.own.seat.hand.known (i, n) ⊎ Has (all_known (hands cs)) (i, n) → Has (all_known (hands (d ∷ ds))) (i, n)
+      by rest (inl g) = has_left d.own.seat.hand.known (all_known (hands ds)) (i, n) (has_from d.own.seat.hand.known (i, n) (r.0.knows i n (contains_from c.own.seat.hand.known (i, n) g)))
+      by rest (inr g) = has_right d.own.seat.hand.known (all_known (hands ds)) (i, n) (rest g)
 
   before_is : (cs ds : List Copier) (aside : List Piece) → AreDone cs ds → wins_before (turns cs ds aside) ≡ all_wins (hands cs)
   before_is [] ds aside r = refl
   before_is (c ∷ cs) [] aside r = absurd r
-  before_is (c ∷ cs) (d ∷ ds) aside r = ap (λ ws. c.seat.hand.wins ++ ws) (before_is cs ds aside r.1)
+  before_is (c ∷ cs) (d ∷ ds) aside r = ap (λ ws. c.own.seat.hand.wins ++ ws) (before_is cs ds aside r.1)
 
   after_is : (cs ds : List Copier) (aside : List Piece) → AreDone cs ds → wins_after (turns cs ds aside) ≡ all_wins (hands ds)
   after_is [] [] aside r = refl
   after_is [] (d ∷ ds) aside r = absurd r
   after_is (c ∷ cs) [] aside r = absurd r
-  after_is (c ∷ cs) (d ∷ ds) aside r = ap (λ ws. d.seat.hand.wins ++ ws) (after_is cs ds aside r.1)
+  after_is (c ∷ cs) (d ∷ ds) aside r = ap (λ ws. d.own.seat.hand.wins ++ ws) (after_is cs ds aside r.1)
 
   turns_add : (cs ds : List Copier) (aside : List Piece) → AreDone cs ds → AllAdd (turns cs ds aside)
   turns_add [] ds aside r = (wins_stay (fresh 0 0), tt)
@@ -498,14 +498,14 @@ done_keeps stores roots words cs ds aside c r noting =
     }
 
 -- the roots stand as they did
-pub roots_same : (stores : List Blocks) (roots : List ℕ) (c d : Copier) → d.number ≡ c.number → d.seat.hand ≡ c.seat.hand → d.roots.items ≡ c.roots.items → d.rooted ≡ c.rooted → RootsStand stores roots c → RootsStand stores roots d
+pub roots_same : (stores : List Blocks) (roots : List ℕ) (c d : Copier) → d.own.number ≡ c.own.number → d.own.seat.hand ≡ c.own.seat.hand → d.roots.items ≡ c.roots.items → d.rooted ≡ c.rooted → RootsStand stores roots c → RootsStand stores roots d
 roots_same stores roots c d number hand items rooted t = record {
   none = λ e. items ∙ t.none (sym rooted ∙ e);
   all = λ e.
       let was = t.all (sym rooted ∙ e) in
-      subst (λ ps. AreRootsOf stores roots d.seat.hand.known d.number d.seat.hand.copiers ps) (sym items)
-      (subst (λ x. AreRootsOf stores roots d.seat.hand.known x d.seat.hand.copiers c.roots.items) (sym number)
-      (subst (λ (h : Hand). AreRootsOf stores roots h.known c.number h.copiers c.roots.items) (sym hand) was));
+      subst (λ ps. AreRootsOf stores roots d.own.seat.hand.known d.own.number d.own.seat.hand.copiers ps) (sym items)
+      (subst (λ x. AreRootsOf stores roots d.own.seat.hand.known x d.own.seat.hand.copiers c.roots.items) (sym number)
+      (subst (λ (h : Hand). AreRootsOf stores roots h.known c.own.number h.copiers c.roots.items) (sym hand) was));
 }
 
 -- each by what it held when the step began
@@ -519,17 +519,17 @@ step_all stores roots words pieces known wins (c ∷ cs) (d ∷ ds) s b r f = (s
     step s b r t = record {
       number = r.on.number;
       rooted = λ k. let now = r.rooted f.0 in record { none = λ e. let two : true ≡ false = sym now.0 ∙ e in cc; all = λ e. now.1 };
-      table = r.on.claiming.table;
-      copier = r.on.claiming.copier;
-      copiers = r.on.claiming.copiers;
+      table = r.on.table;
+      copier = r.on.copier;
+      copiers = r.on.copiers;
       knows = t.learns.knows;
       more = t.learns.wins;
-      ends = ends_on c.seat.hand.copier c.seat.hand.copiers d.seat.hand.copier d.seat.hand.copiers c.to d.to r.on.claiming.copier r.on.claiming.copiers r.on.claiming.goes s.ends;
+      ends = ends_on c.own.seat.hand.copier c.own.seat.hand.copiers d.own.seat.hand.copier d.own.seat.hand.copiers c.own.to d.own.to r.on.copier r.on.copiers r.on.goes s.ends;
       given = t.given;
       marks = t.marks;
-      holding = t.holding known (of_share (share (contents c)) wins) (length c.seat.hand.wins) b;
-      made = λ n h. r.on.claiming.goes.made n h.0 h.1;
-      new = λ n h. claiming_new c.seat d.seat c.to d.to n r.on.claiming h;
+      holding = t.holding known (of_share (share (contents c)) wins) (length c.own.seat.hand.wins) b;
+      made = λ n h. r.on.goes.made n h.0 h.1;
+      new = λ n h. claiming_new c.own d.own n r.on h;
       pieces = λ n h. inl (one_same c.given.items d.given.items n t.same h);
     }
 
@@ -548,13 +548,13 @@ back_all stores roots words pieces known wins (c ∷ cs) (d ∷ ds) s b r = (ste
     step : IsSeated stores words pieces c → HoldsBy stores roots known wins c c → IsBack c d → IsDone stores roots known wins c d
     step s b r =
         let held = of_share (share (contents c)) wins in
-        let k = length c.seat.hand.wins in
-        let t = r.holds stores roots known held k c.seat.hand s.given s.marks b in
-        let hand : d.seat.hand ≡ c.seat.hand = ap (λ (x : SeatView). x.hand) r.seat in
-        let ends : OwnsEnds c.seat.hand.copier c.seat.hand.copiers d.to = record {
+        let k = length c.own.seat.hand.wins in
+        let t = r.holds stores roots known held k c.own.seat.hand s.given s.marks b in
+        let hand : d.own.seat.hand ≡ c.own.seat.hand = ap (λ (x : SeatView). x.hand) r.seat in
+        let ends : OwnsEnds c.own.seat.hand.copier c.own.seat.hand.copiers d.own.to = record {
           copier = s.ends.copier;
-          young = (longer_same c.seat.hand.copiers c.to.young d.to.young r.same.young).ends c.seat.hand.copier s.ends.young;
-          old = (longer_same c.seat.hand.copiers c.to.tenured d.to.tenured r.same.old).ends c.seat.hand.copier s.ends.old;
+          young = (longer_same c.own.seat.hand.copiers c.own.to.young d.own.to.young r.same.young).ends c.own.seat.hand.copier s.ends.young;
+          old = (longer_same c.own.seat.hand.copiers c.own.to.tenured d.own.to.tenured r.same.old).ends c.own.seat.hand.copier s.ends.old;
         } in
         record {
           number = r.number;
@@ -563,13 +563,13 @@ back_all stores roots words pieces known wins (c ∷ cs) (d ∷ ds) s b r = (ste
           copier = ap (λ (x : Hand). x.copier) hand;
           copiers = ap (λ (x : Hand). x.copiers) hand;
           knows = λ i n h. subst (λ (x : Hand). Contains x.known (i, n)) (sym hand) h;
-          more = subst (λ (x : Hand). WinsMore c.seat.hand x) (sym hand) (wins_stay c.seat.hand);
-          ends = subst (λ (x : Hand). OwnsEnds x.copier x.copiers d.to) (sym hand) ends;
-          given = subst (λ (x : Hand). AreGiven x d.to d.given.items) (sym hand) t.1;
-          marks = subst (λ m. AreMarks d.to m) (sym r.marks) t.2;
-          holding = subst (λ m. IsHolding stores roots known held k d.seat.hand d.to m d.given.items) (sym r.marks) (subst (λ (x : Hand). IsHolding stores roots known held k x d.to c.marks d.given.items) (sym hand) t.0);
+          more = subst (λ (x : Hand). WinsMore c.own.seat.hand x) (sym hand) (wins_stay c.own.seat.hand);
+          ends = subst (λ (x : Hand). OwnsEnds x.copier x.copiers d.own.to) (sym hand) ends;
+          given = subst (λ (x : Hand). AreGiven x d.own.to d.given.items) (sym hand) t.1;
+          marks = subst (λ m. AreMarks d.own.to m) (sym r.marks) t.2;
+          holding = subst (λ m. IsHolding stores roots known held k d.own.seat.hand d.own.to m d.given.items) (sym r.marks) (subst (λ (x : Hand). IsHolding stores roots known held k x d.own.to c.marks d.given.items) (sym hand) t.0);
           made = λ n h. inl (h.0, t.3.made n h.0 h.1);
-          new = λ n h. t.3.new c.seat.hand.copier c.seat.hand.copiers n (subst (λ (x : Hand). IsNew x d.to n) hand h);
+          new = λ n h. t.3.new c.own.seat.hand.copier c.own.seat.hand.copiers n (subst (λ (x : Hand). IsNew x d.own.to n) hand h);
           pieces = t.3.pieces;
         }
 
@@ -586,7 +586,7 @@ no_pieces stores roots words (c ∷ cs) f n h = no_pieces stores roots words cs 
 
 none_made : (stores : List Blocks) (roots : List ℕ) (words : TableView) (cs : List Copier) → AreFreshCopiers stores roots words cs → (n : ℕ) → MadeBy cs n → ⊥
 none_made stores roots words [] f n h = h
-none_made stores roots words (c ∷ cs) f n (inl h) = let two : None ≡ Some h.0 = sym (nothing_made c.to f.0.own n) ∙ h.1 in cc
+none_made stores roots words (c ∷ cs) f n (inl h) = let two : None ≡ Some h.0 = sym (nothing_made c.own.to f.0.own n) ∙ h.1 in cc
 none_made stores roots words (c ∷ cs) f n (inr h) = none_made stores roots words cs f.1 n h
 
 none_won : (stores : List Blocks) (roots : List ℕ) (words : TableView) (cs : List Copier) → AreFreshCopiers stores roots words cs → (w : ℕ × ℕ) → Has (all_wins (hands cs)) w → ⊥
@@ -601,9 +601,9 @@ fresh_seated : (stores : List Blocks) (roots : List ℕ) (words : TableView) (pi
 fresh_seated stores roots words pieces [] no_one f = tt
 fresh_seated stores roots words pieces (c ∷ cs) no_one f = (one f.0.ready f.0.own f.0.wins, fresh_seated stores roots words pieces cs no_one f.1)
   where
-    one : IsReady stores roots words c → IsFreshOwn c.to → c.seat.hand.wins ≡ [] → IsSeated stores words pieces c
+    one : IsReady stores roots words c → IsFreshOwn c.own.to → c.own.seat.hand.wins ≡ [] → IsSeated stores words pieces c
     one r o w = record {
-      wins = λ i n k. absurd (subst (λ ws. Has ws (i, n)) w (has_from c.seat.hand.wins (i, n) k));
+      wins = λ i n k. absurd (subst (λ ws. Has ws (i, n)) w (has_from c.own.seat.hand.wins (i, n) k));
       table = r.claims.table;
       objects = r.claims.objects;
       copiers = r.claims.copiers;
@@ -612,7 +612,7 @@ fresh_seated stores roots words pieces (c ∷ cs) no_one f = (one f.0.ready f.0.
       marks = r.marks;
       given = r.given;
       local = local_of stores roots r.holding.0 r.holding.1 r.holding.2 c r.holding.3;
-      own = λ n h. let two : None ≡ Some h.0 = sym (nothing_made c.to o n) ∙ h.1 in cc;
+      own = λ n h. let two : None ≡ Some h.0 = sym (nothing_made c.own.to o n) ∙ h.1 in cc;
       beside = λ n h i. no_one n i;
       new = λ n h i. no_one n i;
     }

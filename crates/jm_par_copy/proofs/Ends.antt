@@ -44,12 +44,12 @@ held_ended (x ∷ xs) p s n a e = by (held_ended xs p.1 (λ i y f. s (suc i) y f
         progress_in x (held_progress xs) n (length a.values) t ∙ ap (λ b. cond b (length a.values) 0) (lt-ltb (index_of n) x.mark below)
     by rest (inr h) = progress_out x (held_progress xs) n (length a.values) (held_aside xs x (λ j z f. apart_back x z (p.0 j z f)) n a h.1) ∙ rest h.1
 
-one_ended : (stores : List Blocks) (words : TableView) (pieces : List Piece) (c : Copier) (cs : List Copier) → AreSeated stores words pieces (c ∷ cs) → AllPassed c.to c.marks → AreScannedPieces c.given.items → IsScanned (contents c) (scan_of c)
-one_ended stores words pieces c cs s passed scanned n a e = by (both_where (made c.to) (held_objects c.given.items) n a e)
+one_ended : (stores : List Blocks) (words : TableView) (pieces : List Piece) (c : Copier) (cs : List Copier) → AreSeated stores words pieces (c ∷ cs) → AllPassed c.own.to c.marks → AreScannedPieces c.given.items → IsScanned (contents c) (scan_of c)
+one_ended stores words pieces c cs s passed scanned n a e = by (both_where (made c.own.to) (held_objects c.given.items) n a e)
   where
-    by : (made c.to n ≡ Some a) ⊎ ((made c.to n ≡ None) × (held_objects c.given.items n ≡ Some a)) → scan_of c n (length a.values) ≡ length a.values
-    by (inl h) = held c.to.young.lane c.marks (held_objects c.given.items) (held_progress c.given.items) n (length a.values) None (s.0.local.once n a h) ∙ all_scanned c.to c.marks passed n a h
-    by (inr h) = held c.to.young.lane c.marks (held_objects c.given.items) (held_progress c.given.items) n (length a.values) (Some a) h.1 ∙ held_ended c.given.items s.0.given.apart scanned n a h.1
+    by : (made c.own.to n ≡ Some a) ⊎ ((made c.own.to n ≡ None) × (held_objects c.given.items n ≡ Some a)) → scan_of c n (length a.values) ≡ length a.values
+    by (inl h) = held c.own.to.young.lane c.marks (held_objects c.given.items) (held_progress c.given.items) n (length a.values) None (s.0.local.once n a h) ∙ all_scanned c.own.to c.marks passed n a h
+    by (inr h) = held c.own.to.young.lane c.marks (held_objects c.given.items) (held_progress c.given.items) n (length a.values) (Some a) h.1 ∙ held_ended c.given.items s.0.given.apart scanned n a h.1
 
 all_ended : (stores : List Blocks) (words : TableView) (pieces : List Piece) (cs : List Copier) (aside : List Piece) → AreSeated stores words pieces cs → AreApartGiven cs aside → AreEnded cs aside → IsScanned (joint (parts cs aside)) (joint_done (parts cs aside))
 all_ended stores words pieces [] aside s g f n a e = by (both_where (held_objects aside) (joint []) n a e)
@@ -79,17 +79,17 @@ end_is_image stores roots new_roots words cs aside c f agree all many forwarded 
     copying_image m new done new_roots both_ways (all_ended stores words (all_pieces cs aside) cs aside c.seated c.given f) many (all_grow (objects_at stores) (Pairs stores known) (Moves m) roots new_roots knows forwarded)
 
 -- whose win it is
-win_of : (cs : List Copier) (w : ℕ × ℕ) → Has (all_wins (hands cs)) w → (c : Copier) × Has cs c × Has c.seat.hand.wins w
+win_of : (cs : List Copier) (w : ℕ × ℕ) → Has (all_wins (hands cs)) w → (c : Copier) × Has cs c × Has c.own.seat.hand.wins w
 win_of [] w h = absurd h
-win_of (c ∷ cs) w h = by (win_of cs w) (has_both c.seat.hand.wins (all_wins (hands cs)) w h)
+win_of (c ∷ cs) w h = by (win_of cs w) (has_both c.own.seat.hand.wins (all_wins (hands cs)) w h)
   where
-    by : (Has (all_wins (hands cs)) w → (d : Copier) × Has cs d × Has d.seat.hand.wins w) → Has c.seat.hand.wins w ⊎ Has (all_wins (hands cs)) w → (d : Copier) × Has (c ∷ cs) d × Has d.seat.hand.wins w
+    by : (Has (all_wins (hands cs)) w → (d : Copier) × Has cs d × Has d.own.seat.hand.wins w) → Has c.own.seat.hand.wins w ⊎ Has (all_wins (hands cs)) w → (d : Copier) × Has (c ∷ cs) d × Has d.own.seat.hand.wins w
     by rest (inl g) = (c, inl refl, g)
     by rest (inr g) = let t = rest g in (t.0, inr t.1, t.2)
 
-lanes_are : (young old : ℕ) (cs : List Copier) (c : Copier) → AreInLanes young old cs → Has cs c → (c.to.young.lane ≡ young) × (c.to.tenured.lane ≡ old)
+lanes_are : (young old : ℕ) (cs : List Copier) (c : Copier) → AreInLanes young old cs → Has cs c → (c.own.to.young.lane ≡ young) × (c.own.to.tenured.lane ≡ old)
 lanes_are young old [] c y h = absurd h
-lanes_are young old (b ∷ cs) c y (inl e) = (sym (ap (λ (z : Copier). z.to.young.lane) e) ∙ y.0, sym (ap (λ (z : Copier). z.to.tenured.lane) e) ∙ y.1)
+lanes_are young old (b ∷ cs) c y (inl e) = (sym (ap (λ (z : Copier). z.own.to.young.lane) e) ∙ y.0, sym (ap (λ (z : Copier). z.own.to.tenured.lane) e) ∙ y.1)
 lanes_are young old (b ∷ cs) c y (inr h) = lanes_are young old cs c y.2 h
 
 pub ages_are_by_lane : AgesAreByLane
@@ -98,7 +98,7 @@ ages_are_by_lane stores roots words cs aside young old c lanes n a e =
     let has = c.copying.copied p.0 n p.1 in
     let win = win_of cs (number_of stores p.0, n) (has_from (all_wins (hands cs)) (number_of stores p.0, n) p.1.2) in
     let seat = seated_has stores words (all_pieces cs aside) cs win.0 c.seated win.1 in
-    let dated = seat.local.dated p.0 n has.o has.old_is (contains_from win.0.seat.hand.wins (number_of stores p.0, n) win.2) in
+    let dated = seat.local.dated p.0 n has.o has.old_is (contains_from win.0.own.seat.hand.wins (number_of stores p.0, n) win.2) in
     let one : Some has.a ≡ Some a = sym has.new_is ∙ e in
     let same : has.a ≡ a = cc in
     let are = lanes_are young old cs win.0 lanes win.1 in
@@ -127,7 +127,7 @@ pub round_seats : (stores : List Blocks) (roots : List ℕ) (cs ds : List Copier
 round_seats stores roots [] [] r = tt
 round_seats stores roots [] (d ∷ ds) r = absurd r
 round_seats stores roots (c ∷ cs) [] r = absurd r
-round_seats stores roots (c ∷ cs) (d ∷ ds) r = (record { number = r.0.on.number; table = r.0.on.claiming.table; copier = r.0.on.claiming.copier; copiers = r.0.on.claiming.copiers; young_lane = r.0.on.claiming.stays.young_lane; old_lane = r.0.on.claiming.stays.old_lane; kept = r.0.on.claiming.stays.kept }, round_seats stores roots cs ds r.1)
+round_seats stores roots (c ∷ cs) (d ∷ ds) r = (record { number = r.0.on.number; table = r.0.on.table; copier = r.0.on.copier; copiers = r.0.on.copiers; young_lane = r.0.on.stays.young_lane; old_lane = r.0.on.stays.old_lane; kept = r.0.on.stays.kept }, round_seats stores roots cs ds r.1)
 
 pub round_many : (stores : List Blocks) (roots : List ℕ) (cs ds : List Copier) → AreRound stores roots cs ds → length ds ≡ length cs
 round_many stores roots [] [] r = refl

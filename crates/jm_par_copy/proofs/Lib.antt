@@ -1,6 +1,7 @@
 pub mod Strides
 pub mod Listing
 pub mod Sharing
+pub mod Joined
 pub mod Joining
 pub mod Working
 pub mod Claiming
@@ -13,6 +14,7 @@ pub mod Moves
 pub mod Begun
 pub mod Begins
 pub mod Fresh
+pub mod Fronts
 pub mod Turns
 pub mod Aside
 pub mod Beside
@@ -24,6 +26,7 @@ pub mod Reordering
 pub mod Redealt
 pub mod Redealing
 pub mod GivingBack
+pub mod Going
 pub mod ByPosition
 pub mod Seats
 pub mod Placed
@@ -34,3 +37,4 @@ pub mod Collecting
 pub mod Loads
 pub mod Meeting
 pub mod Crew
+pub mod Alone

@@ -6,9 +6,8 @@ use Rattle.jm_program.proofs.Truths.{both_true}
 use Rattle.jm_program.proofs.Numbers.{equal}
 use Rattle.jm_blocks.specs.Objects.{Object}
 use Rattle.jm_blocks.specs.Places.{block_of, lane_of}
-use Rattle.jm_blocks.specs.Stores.{Blocks, objects_in}
+use Rattle.jm_blocks.specs.Stores.{Blocks, IsEmpty, objects_in}
 use Rattle.jm_blocks.proofs.Placing.{elsewhere, lies_in}
-use Rattle.jm_blocks.proofs.Walking.{no_blocks, nothing_there}
 use Rattle.jm_par_copy.specs.Ending.{AllLoads, AreLoads, IsBeside, IsLoad, IsLoaded, stock, stocks, stored}
 use Rattle.jm_par_copy.specs.Holding.{held_objects}
 use Rattle.jm_par_copy.specs.Merging.{AreBeside}
@@ -157,44 +156,44 @@ all_put a b young old xs p = record { young_lane = p.young_lane; old_lane = p.ol
 
 -- a copier's own stores
 module _ (c : Copier) (young old : Blocks) (other : young.lane ≢ old.lane) (load : IsLoad young.lane old.lane c) where
-  pub own_young_beside : IsBeside (stored c.to.young c.to.tenured) young old → AreBeside c.to.young young
+  pub own_young_beside : IsBeside (stored c.own.to.young c.own.to.tenured) young old → AreBeside c.own.to.young young
   own_young_beside h n p q =
-      let at = lies_in c.to.young n p.0 p.1 in
+      let at = lies_in c.own.to.young n p.0 p.1 in
       let lane : lane_of n ≡ young.lane = at.lane ∙ load.young_lane in
-      let none = h n p.0 (stored_young c.to.young c.to.tenured n at.lane ∙ p.1) in
+      let none = h n p.0 (stored_young c.own.to.young c.own.to.tenured n at.lane ∙ p.1) in
       let two : None ≡ Some q.0 = sym none ∙ stored_young young old n lane ∙ q.1 in
       cc
 
-  old_away : (n : ℕ) → lane_of n ≡ c.to.tenured.lane → lane_of n ≢ c.to.young.lane
+  old_away : (n : ℕ) → lane_of n ≡ c.own.to.tenured.lane → lane_of n ≢ c.own.to.young.lane
   old_away n e h = other (sym load.young_lane ∙ sym h ∙ e ∙ load.old_lane)
 
-  pub own_old_beside : IsBeside (stored c.to.young c.to.tenured) young old → AreBeside c.to.tenured old
+  pub own_old_beside : IsBeside (stored c.own.to.young c.own.to.tenured) young old → AreBeside c.own.to.tenured old
   own_old_beside h n p q =
-      let at = lies_in c.to.tenured n p.0 p.1 in
+      let at = lies_in c.own.to.tenured n p.0 p.1 in
       let away = old_away n at.lane in
-      let none = h n p.0 (stored_old c.to.young c.to.tenured n away ∙ p.1) in
+      let none = h n p.0 (stored_old c.own.to.young c.own.to.tenured n away ∙ p.1) in
       let two : None ≡ Some q.0 = sym none ∙ stored_old young old n (λ e. away (e ∙ sym load.young_lane)) ∙ q.1 in
       cc
 
-  own_both : (n : ℕ) → both (objects_in c.to.young) (objects_in c.to.tenured) n ≡ stored c.to.young c.to.tenured n
-  own_both n = by (eqb_tells (lane_of n) c.to.young.lane)
+  own_both : (n : ℕ) → both (objects_in c.own.to.young) (objects_in c.own.to.tenured) n ≡ stored c.own.to.young c.own.to.tenured n
+  own_both n = by (eqb_tells (lane_of n) c.own.to.young.lane)
     where
-      by : ((nat_eq (lane_of n) c.to.young.lane ≡ true) × (lane_of n ≡ c.to.young.lane)) ⊎ ((nat_eq (lane_of n) c.to.young.lane ≡ false) × (lane_of n ≢ c.to.young.lane)) → both (objects_in c.to.young) (objects_in c.to.tenured) n ≡ stored c.to.young c.to.tenured n
-      by (inl h) = both_none (objects_in c.to.young) (objects_in c.to.tenured) n (elsewhere c.to.tenured n (λ e. old_away n e h.1)) ∙ sym (stored_young c.to.young c.to.tenured n h.1)
-      by (inr h) = both_right (objects_in c.to.young) (objects_in c.to.tenured) n (elsewhere c.to.young n h.1) ∙ sym (stored_old c.to.young c.to.tenured n h.1)
+      by : ((nat_eq (lane_of n) c.own.to.young.lane ≡ true) × (lane_of n ≡ c.own.to.young.lane)) ⊎ ((nat_eq (lane_of n) c.own.to.young.lane ≡ false) × (lane_of n ≢ c.own.to.young.lane)) → both (objects_in c.own.to.young) (objects_in c.own.to.tenured) n ≡ stored c.own.to.young c.own.to.tenured n
+      by (inl h) = both_none (objects_in c.own.to.young) (objects_in c.own.to.tenured) n (elsewhere c.own.to.tenured n (λ e. old_away n e h.1)) ∙ sym (stored_young c.own.to.young c.own.to.tenured n h.1)
+      by (inr h) = both_right (objects_in c.own.to.young) (objects_in c.own.to.tenured) n (elsewhere c.own.to.young n h.1) ∙ sym (stored_old c.own.to.young c.own.to.tenured n h.1)
 
-  pub own_loaded : (young' old' : Blocks) → young'.lane ≡ young.lane → old'.lane ≡ old.lane → ((n : ℕ) → objects_in young' n ≡ both (objects_in young) (objects_in c.to.young) n) → ((n : ℕ) → objects_in old' n ≡ both (objects_in old) (objects_in c.to.tenured) n) → IsLoaded (stored c.to.young c.to.tenured) young old young' old'
+  pub own_loaded : (young' old' : Blocks) → young'.lane ≡ young.lane → old'.lane ≡ old.lane → ((n : ℕ) → objects_in young' n ≡ both (objects_in young) (objects_in c.own.to.young) n) → ((n : ℕ) → objects_in old' n ≡ both (objects_in old) (objects_in c.own.to.tenured) n) → IsLoaded (stored c.own.to.young c.own.to.tenured) young old young' old'
   own_loaded young' old' e f g h =
-      let first = loaded_young (objects_in c.to.young) young old young' e (λ n a t. let at = lies_in c.to.young n a t in at.lane ∙ load.young_lane) g in
-      let second = loaded_old (objects_in c.to.tenured) young' old old' (λ t. other (sym e ∙ t)) f (λ n a t. let at = lies_in c.to.tenured n a t in at.lane ∙ load.old_lane) h in
-      loaded_as (both (objects_in c.to.young) (objects_in c.to.tenured)) (stored c.to.young c.to.tenured) young old young' old' own_both (loaded_then (objects_in c.to.young) (objects_in c.to.tenured) young old young' old young' old' first second)
+      let first = loaded_young (objects_in c.own.to.young) young old young' e (λ n a t. let at = lies_in c.own.to.young n a t in at.lane ∙ load.young_lane) g in
+      let second = loaded_old (objects_in c.own.to.tenured) young' old old' (λ t. other (sym e ∙ t)) f (λ n a t. let at = lies_in c.own.to.tenured n a t in at.lane ∙ load.old_lane) h in
+      loaded_as (both (objects_in c.own.to.young) (objects_in c.own.to.tenured)) (stored c.own.to.young c.own.to.tenured) young old young' old' own_both (loaded_then (objects_in c.own.to.young) (objects_in c.own.to.tenured) young old young' old young' old' first second)
 
   -- and then its given blocks
-  pub given_loads : (young' old' : Blocks) → IsLoaded (stored c.to.young c.to.tenured) young old young' old' → AreLoads young'.lane old'.lane c.given.items
+  pub given_loads : (young' old' : Blocks) → IsLoaded (stored c.own.to.young c.own.to.tenured) young old young' old' → AreLoads young'.lane old'.lane c.given.items
   given_loads young' old' l = loads_as young.lane old.lane young'.lane old'.lane c.given.items l.young_lane l.old_lane load.given
 
-  pub given_beside : (young' old' : Blocks) → IsLoaded (stored c.to.young c.to.tenured) young old young' old' → IsBeside (stock c) young old → IsBeside (held_objects c.given.items) young' old'
-  given_beside young' old' l h = beside_then (stored c.to.young c.to.tenured) (held_objects c.given.items) young old young' old' l h (λ n b e. none_where (stored c.to.young c.to.tenured) (held_objects c.given.items) n b (λ a t. load.once n a t) e)
+  pub given_beside : (young' old' : Blocks) → IsLoaded (stored c.own.to.young c.own.to.tenured) young old young' old' → IsBeside (stock c) young old → IsBeside (held_objects c.given.items) young' old'
+  given_beside young' old' l h = beside_then (stored c.own.to.young c.own.to.tenured) (held_objects c.given.items) young old young' old' l h (λ n b e. none_where (stored c.own.to.young c.own.to.tenured) (held_objects c.given.items) n b (λ a t. load.once n a t) e)
 
 -- all copiers
 pub all_loads_as : (a b a' b' : ℕ) (cs : List Copier) (aside : List Piece) → a' ≡ a → b' ≡ b → AllLoads a b cs aside → AllLoads a' b' cs aside
@@ -217,15 +216,15 @@ pub other_lane : (x : Piece) (young old : Blocks) → (x.lane ≡ young.lane) �
 other_lane x young old (inl e) h = absurd (h e)
 other_lane x young old (inr e) h = e
 
--- stores without blocks have no objects
-pub none_stored : (young old : Blocks) (n : ℕ) → young.lists ≡ [] → old.lists ≡ [] → stored young old n ≡ None
+-- two stores without objects
+pub none_stored : (young old : Blocks) (n : ℕ) → IsEmpty young → IsEmpty old → stored young old n ≡ None
 none_stored young old n e f = by (eqb_tells (lane_of n) young.lane)
   where
     by : ((nat_eq (lane_of n) young.lane ≡ true) × (lane_of n ≡ young.lane)) ⊎ ((nat_eq (lane_of n) young.lane ≡ false) × (lane_of n ≢ young.lane)) → stored young old n ≡ None
-    by (inl h) = stored_young young old n h.1 ∙ nothing_there young (no_blocks young.lists e) n
-    by (inr h) = stored_old young old n h.1 ∙ nothing_there old (no_blocks old.lists f) n
+    by (inl h) = stored_young young old n h.1 ∙ e n
+    by (inr h) = stored_old young old n h.1 ∙ f n
 
-pub loaded_alone : (f : ℕ → Option Object) (young old young' old' : Blocks) → young.lists ≡ [] → old.lists ≡ [] → IsLoaded f young old young' old' → (n : ℕ) → stored young' old' n ≡ f n
+pub loaded_alone : (f : ℕ → Option Object) (young old young' old' : Blocks) → IsEmpty young → IsEmpty old → IsLoaded f young old young' old' → (n : ℕ) → stored young' old' n ≡ f n
 loaded_alone f young old young' old' e g l n = l.all n ∙ both_right (stored young old) f n (none_stored young old n e g)
 
 -- where there is no copier

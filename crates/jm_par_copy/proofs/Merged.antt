@@ -2,7 +2,6 @@
 use Rattle.std.specs.Global.{Global}
 use Rattle.std.proofs.Common.{◌≡◌, ◌≢◌, ◌⊎◌, ℕ, ◌+◌, ◌<◌, ◌≤◌, List, [], ◌∷◌, Option, Some, None, Bool, true, false, not, cond, refl, sym, ap, ◌∙◌, subst, inl, inr, length, eq-eqb, arith}
 use Rattle.std.specs.Prelude.{slice_get, nat_eq, ◌&&◌}
-use Rattle.std.proofs.lemmas.Bool.{cases_lt}
 use Rattle.std.proofs.lemmas.Bool.Decides.{eqb_tells}
 use Rattle.std.proofs.lemmas.List.{length-set}
 use Rattle.std.proofs.lemmas.Option.{slice_get_within}
@@ -192,42 +191,43 @@ pub left_empty : (from : Blocks) (b : ℕ) (os : List Object) → slice_get from
 left_empty from b [] e z = record { here = e; others = λ k h. refl }
 left_empty from b (o ∷ os) e z = absurd (omega (arith, z))
 
--- one block more is empty
-pub empty_more : (from from_now : Blocks) (number : ℕ) → IsLeft from from_now number → ((k : ℕ) → k < number → slice_get from.lists k ≡ Some []) → (k : ℕ) → k < number + 1 → slice_get from_now.lists k ≡ Some []
-empty_more from from_now number l f k h = by (eqb_tells k number)
+-- what is left lies above the block that was moved
+pub left_above : (from mid now : Blocks) (number : ℕ) → now.lane ≡ mid.lane → IsLeft mid now number → ((n : ℕ) → HasObject mid n → HasObject from n × (number ≤ block_of n)) → (n : ℕ) → HasObject now n → HasObject from n × (number + 1 ≤ block_of n)
+left_above from mid now number lane l f n h = by (eqb_tells (block_of n) number)
   where
-    by : ((nat_eq k number ≡ true) × (k ≡ number)) ⊎ ((nat_eq k number ≡ false) × (k ≢ number)) → slice_get from_now.lists k ≡ Some []
-    by (inl t) = ap (slice_get from_now.lists) t.1 ∙ l.here
-    by (inr t) = let other = t.1 in l.others k t.1 ∙ f k (omega (arith, h, other))
+    at : LiesInBlock now n h.0
+    at = lies_in now n h.0 h.1
 
--- and those above are as they were
-pub rest_more : (from mid now : Blocks) (number : ℕ) → IsLeft mid now number → ((k : ℕ) → number ≤ k → slice_get mid.lists k ≡ slice_get from.lists k) → (k : ℕ) → number + 1 ≤ k → slice_get now.lists k ≡ slice_get from.lists k
-rest_more from mid now number l f k h = l.others k (λ e. absurd (omega (arith, h, e))) ∙ f k (omega (arith, h))
-
--- with all blocks empty as far as there were objects there is nothing
-none_left : (from now : Blocks) (count : ℕ) → now.lane ≡ from.lane → ((n : ℕ) → HasObject from n → block_of n < count) → ((k : ℕ) → k < count → slice_get now.lists k ≡ Some []) → ((k : ℕ) → count ≤ k → slice_get now.lists k ≡ slice_get from.lists k) → (n : ℕ) → objects_in now n ≡ None
-none_left from now count lane above empty rest n = by (objects_in now n) refl
-  where
-    never : (o : Object) → LiesInBlock now n o → (block_of n < count) ⊎ (count ≤ block_of n) → ⊥
-    never o at (inl h) =
-        let two : Some [] ≡ Some at.block = sym (empty (block_of n) h) ∙ at.block_is in
+    by : ((nat_eq (block_of n) number ≡ true) × (block_of n ≡ number)) ⊎ ((nat_eq (block_of n) number ≡ false) × (block_of n ≢ number)) → HasObject from n × (number + 1 ≤ block_of n)
+    by (inl t) =
+        let two : Some [] ≡ Some at.block = sym l.here ∙ sym (ap (slice_get now.lists) t.1) ∙ at.block_is in
         let is : [] ≡ at.block = cc in
-        let none : None ≡ Some o = subst (λ os. slice_get os (index_of n) ≡ Some o) (sym is) at.object_is in
+        let none : None ≡ Some h.0 = subst (λ os. slice_get os (index_of n) ≡ Some h.0) (sym is) at.object_is in
         cc
-    never o at (inr h) =
-        let there : objects_in from n ≡ Some o = at_place from (block_of n) (index_of n) n (at.lane ∙ lane) refl refl ∙ ap (λ x. object_of_list x (index_of n)) (sym (rest (block_of n) h) ∙ at.block_is) ∙ at.object_is in
-        let below = above n (o, there) in
-        absurd (omega (arith, below, h))
+    by (inr t) =
+        let there : objects_in mid n ≡ Some h.0 = at_place mid (block_of n) (index_of n) n (at.lane ∙ lane) refl refl ∙ ap (λ x. object_of_list x (index_of n)) (sym (l.others (block_of n) t.1) ∙ at.block_is) ∙ at.object_is in
+        let was = f n (h.0, there) in
+        let from_on = was.1 in
+        let other = t.1 in
+        (was.0, omega (arith, from_on, other))
 
+-- where all objects lay below and what is left lies above there is nothing
+none_left : (from now : Blocks) (count number : ℕ) → ((n : ℕ) → HasObject from n → block_of n < count) → count ≤ number → ((n : ℕ) → HasObject now n → HasObject from n × (number ≤ block_of n)) → (n : ℕ) → objects_in now n ≡ None
+none_left from now count number above over left n = by (objects_in now n) refl
+  where
     by : (x : Option Object) → objects_in now n ≡ x → objects_in now n ≡ None
     by None e = e
-    by (Some o) e = absurd (never o (lies_in now n o e) (cases_lt (block_of n) count))
+    by (Some o) e =
+        let was = left n (o, e) in
+        let from_on = was.1 in
+        let below = above n was.0 in
+        absurd (omega (arith, from_on, below, over))
 
-pub moved_all : (from to from_now to_now : Blocks) (count : ℕ) → IsMoved from to from_now to_now → ((n : ℕ) → HasObject from n → block_of n < count) → ((k : ℕ) → k < count → slice_get from_now.lists k ≡ Some []) → ((k : ℕ) → count ≤ k → slice_get from_now.lists k ≡ slice_get from.lists k) → (n : ℕ) → objects_in to_now n ≡ both (objects_in to) (objects_in from) n
-moved_all from to from_now to_now count m above empty rest n = sym (alone (objects_in to_now n) refl) ∙ m.all n
+pub moved_all : (from to from_now to_now : Blocks) (count number : ℕ) → IsMoved from to from_now to_now → ((n : ℕ) → HasObject from n → block_of n < count) → count ≤ number → ((n : ℕ) → HasObject from_now n → HasObject from n × (number ≤ block_of n)) → (n : ℕ) → objects_in to_now n ≡ both (objects_in to) (objects_in from) n
+moved_all from to from_now to_now count number m above over left n = sym (alone (objects_in to_now n) refl) ∙ m.all n
   where
     alone : (x : Option Object) → objects_in to_now n ≡ x → both (objects_in to_now) (objects_in from_now) n ≡ objects_in to_now n
-    alone None e = both_right (objects_in to_now) (objects_in from_now) n e ∙ none_left from from_now count m.from_lane above empty rest n ∙ sym e
+    alone None e = both_right (objects_in to_now) (objects_in from_now) n e ∙ none_left from from_now count number above over left n ∙ sym e
     alone (Some o) e = both_left (objects_in to_now) (objects_in from_now) n o e ∙ sym e
 
 -- a store has a block for each of its objects, and none of them lies above that of the last one

@@ -88,18 +88,18 @@ module _ (f g : ℕ → Option Object) (xs ys : List ℕ) (l : ListsPointers 1 (
   }
 
 -- of a copier's own objects all are scanned
-own_lists : (c : Copier) → IsNoting c → c.to.tenured.lane ≢ c.to.young.lane → AllPassed c.to c.marks → ListsPointers 1 (old_only (made c.to)) c.pointing.items
+own_lists : (c : Copier) → IsNoting c → c.own.to.tenured.lane ≢ c.own.to.young.lane → AllPassed c.own.to c.marks → ListsPointers 1 (old_only (made c.own.to)) c.pointing.items
 own_lists c n apart passed = record {
   sound = λ p h.
       let has = n.own.sound p h in
-      let at = lies_in c.to.tenured p has.0 has.1 in
-      let away : lane_of p ≢ c.to.young.lane = λ e. apart (sym at.lane ∙ e) in
-      (has.0, old_is (made c.to) p (λ e. away (e ∙ sym n.young)) ∙ made_above c.to.young c.to.tenured c.to.kept p away has.2 ∙ has.1, has.4);
-  complete = λ p o e t. let was = old_some (made c.to) p o e in by p o was.0 t (made_where c.to p o was.1);
+      let at = lies_in c.own.to.tenured p has.0 has.1 in
+      let away : lane_of p ≢ c.own.to.young.lane = λ e. apart (sym at.lane ∙ e) in
+      (has.0, old_is (made c.own.to) p (λ e. away (e ∙ sym n.young)) ∙ made_above c.own.to.young c.own.to.tenured c.own.to.kept p away has.2 ∙ has.1, has.4);
+  complete = λ p o e t. let was = old_some (made c.own.to) p o e in by p o was.0 t (made_where c.own.to p o was.1);
   distinct = n.own.distinct;
 }
   where
-    by : (p : ℕ) (o : Object) → lane_of p ≢ 1 → points_to 1 o.values ≡ true → LiesYoung c.to p o ⊎ LiesOld c.to p o → Among p c.pointing.items
+    by : (p : ℕ) (o : Object) → lane_of p ≢ 1 → points_to 1 o.values ≡ true → LiesYoung c.own.to p o ⊎ LiesOld c.own.to p o → Among p c.pointing.items
     by p o away t (inl x) = absurd (away (x.lane ∙ n.young))
     by p o away t (inr x) = n.own.complete p o x.there x.above (passed.1 p (o, x.there)) t
 
@@ -143,7 +143,7 @@ pieces_list (x ∷ xs) p n s = lists_both (objects_of x) (held_objects xs) x.poi
 pub all_list : (stores : List Blocks) (words : TableView) (pieces : List Piece) (cs : List Copier) (aside : List Piece) → AreSeated stores words pieces cs → AreApartGiven cs aside → AreApart (parts cs aside) → AllNote cs aside → AreEnded cs aside → ListsPointers 1 (old_only (joint (parts cs aside))) (all_listed cs aside)
 all_list stores words pieces [] aside s g p n e = lists_same (old_only (held_objects aside)) (old_only (joint (parts [] aside))) (listed_with aside) (pieces_list aside g n e) (λ k. ap (λ o. cond (nat_eq (lane_of k) 1) None o) (sym (both_none (held_objects aside) (joint []) k refl)))
 all_list stores words pieces (c ∷ cs) aside s g p n e =
-    let mine = lists_both (made c.to) (held_objects c.given.items) c.pointing.items (listed_with c.given.items) (own_lists c n.0 s.0.local.apart e.0) (pieces_list c.given.items s.0.given.apart n.0.given e.1) s.0.local.once in
+    let mine = lists_both (made c.own.to) (held_objects c.given.items) c.pointing.items (listed_with c.given.items) (own_lists c n.0 s.0.local.apart e.0) (pieces_list c.given.items s.0.given.apart n.0.given e.1) s.0.local.once in
     let rest = all_list stores words pieces cs aside s.1 g.1 p.1 n.1 e.2 in
     lists_both (contents c) (joint (parts cs aside)) (c.pointing.items ++ listed_with c.given.items) (all_listed cs aside) mine rest p.0
 

@@ -52,8 +52,8 @@ all_noted (c ∷ cs) aside n x h = by (λ g. all_noted cs aside n.1 x g) (has_bo
 same_notes : (c d : Copier) → IsSameCopier c d → IsNoting c → AreNoted d.given.items → IsNoting d
 same_notes c d s n given = record {
   young = ap (λ (t : Copies). t.young.lane) s.to ∙ n.young;
-  own = subst (λ ps. IsListed 1 d.to.tenured d.to.kept d.marks.tenured ps) (sym s.pointing)
-      (subst (λ (m : Marks). IsListed 1 d.to.tenured d.to.kept m.tenured c.pointing.items) (sym s.marks)
+  own = subst (λ ps. IsListed 1 d.own.to.tenured d.own.to.kept d.marks.tenured ps) (sym s.pointing)
+      (subst (λ (m : Marks). IsListed 1 d.own.to.tenured d.own.to.kept m.tenured c.pointing.items) (sym s.marks)
       (subst (λ (t : Copies). IsListed 1 t.tenured t.kept c.marks.tenured c.pointing.items) (sym s.to) n.own));
   given = given;
 }
@@ -68,13 +68,13 @@ dealt_notes (c ∷ cs) (d ∷ ds) aside rest s n f = (
 )
 
 -- the given blocks are scanned, and then the copier's own
-pub scan_noting : (c d : Copier) (to : Copies) → to.young.lane ≡ c.to.young.lane → d.to.young.lane ≡ to.young.lane → KeepsListed c.to to → (IsListed to.young.lane to.tenured to.kept c.marks.tenured c.pointing.items → IsListed d.to.young.lane d.to.tenured d.to.kept d.marks.tenured d.pointing.items) → (c.to.young.lane ≡ 1 → AreNoted c.given.items → AreNoted d.given.items) → IsNoting c → IsNoting d
+pub scan_noting : (c d : Copier) (to : Copies) → to.young.lane ≡ c.own.to.young.lane → d.own.to.young.lane ≡ to.young.lane → KeepsListed c.own.to to → (IsListed to.young.lane to.tenured to.kept c.marks.tenured c.pointing.items → IsListed d.own.to.young.lane d.own.to.tenured d.own.to.kept d.marks.tenured d.pointing.items) → (c.own.to.young.lane ≡ 1 → AreNoted c.given.items → AreNoted d.given.items) → IsNoting c → IsNoting d
 scan_noting c d to first second keeps more noted n =
     let one : to.young.lane ≡ 1 = first ∙ n.young in
-    let two : d.to.young.lane ≡ 1 = second ∙ one in
+    let two : d.own.to.young.lane ≡ 1 = second ∙ one in
     record {
       young = two;
-      own = subst (λ l. IsListed l d.to.tenured d.to.kept d.marks.tenured d.pointing.items) two (more (subst (λ l. IsListed l to.tenured to.kept c.marks.tenured c.pointing.items) (sym one) (keeps 1 c.marks.tenured c.pointing.items n.own)));
+      own = subst (λ l. IsListed l d.own.to.tenured d.own.to.kept d.marks.tenured d.pointing.items) two (more (subst (λ l. IsListed l to.tenured to.kept c.marks.tenured c.pointing.items) (sym one) (keeps 1 c.marks.tenured c.pointing.items n.own)));
       given = noted n.young n.given;
     }
 
@@ -115,9 +115,9 @@ noted_more (z ∷ xs) x n all (suc i) y e = noted_more xs x n (λ j w f. all (su
 pub listed_then : (mark : Option ℕ) (c d e : Copies) → KeepsListedTo mark c d → KeepsListedTo mark d e → KeepsListedTo mark c e
 listed_then mark c d e f g lane places l = g lane places (f lane places l)
 
-pub back_noting : (c d : Copier) → d.marks ≡ c.marks → d.pointing ≡ c.pointing → SameBlocks c.to d.to → KeepsListedTo c.marks.tenured c.to d.to → (AreNoted c.given.items → AreNoted d.given.items) → IsNoting c → IsNoting d
+pub back_noting : (c d : Copier) → d.marks ≡ c.marks → d.pointing ≡ c.pointing → SameBlocks c.own.to d.own.to → KeepsListedTo c.marks.tenured c.own.to d.own.to → (AreNoted c.given.items → AreNoted d.given.items) → IsNoting c → IsNoting d
 back_noting c d marks pointing same listed noted n = record {
   young = same.young_lane ∙ n.young;
-  own = subst (λ v. IsListed 1 d.to.tenured d.to.kept d.marks.tenured v.items) (sym pointing) (subst (λ (m : Marks). IsListed 1 d.to.tenured d.to.kept m.tenured c.pointing.items) (sym marks) (listed 1 c.pointing.items n.own));
+  own = subst (λ v. IsListed 1 d.own.to.tenured d.own.to.kept d.marks.tenured v.items) (sym pointing) (subst (λ (m : Marks). IsListed 1 d.own.to.tenured d.own.to.kept m.tenured c.pointing.items) (sym marks) (listed 1 c.pointing.items n.own));
   given = noted n.given;
 }

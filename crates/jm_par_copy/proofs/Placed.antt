@@ -24,8 +24,8 @@ use Rattle.jm_par_copy.proofs.Reordering.{covers_one, one_covers}
 -- the copier keeps its lanes and the objects from before, and the old store gets no shorter
 record IsLonger (c d : Copier) : Type 0 where
   seat : KeepsSeat c d
-  longer : length c.to.tenured.lists ≤ length d.to.tenured.lists
-  below : (n : ℕ) → is_above c.to.kept n ≡ false → objects_in d.to.tenured n ≡ objects_in c.to.tenured n
+  longer : length c.own.to.tenured.lists ≤ length d.own.to.tenured.lists
+  below : (n : ℕ) → is_above c.own.to.kept n ≡ false → objects_in d.own.to.tenured n ≡ objects_in c.own.to.tenured n
 
 abbrev AreLonger : List Copier → List Copier → Type 0
 AreLonger [] [] = Unit {0}
@@ -39,9 +39,9 @@ round_longer stores roots [] (d ∷ ds) r = absurd r
 round_longer stores roots (c ∷ cs) [] r = absurd r
 round_longer stores roots (c ∷ cs) (d ∷ ds) r = (
   record {
-    seat = record { number = r.0.on.number; table = r.0.on.claiming.table; copier = r.0.on.claiming.copier; copiers = r.0.on.claiming.copiers; young_lane = r.0.on.claiming.stays.young_lane; old_lane = r.0.on.claiming.stays.old_lane; kept = r.0.on.claiming.stays.kept };
-    longer = r.0.on.claiming.goes.old.longer;
-    below = r.0.on.claiming.stays.below;
+    seat = record { number = r.0.on.number; table = r.0.on.table; copier = r.0.on.copier; copiers = r.0.on.copiers; young_lane = r.0.on.stays.young_lane; old_lane = r.0.on.stays.old_lane; kept = r.0.on.stays.kept };
+    longer = r.0.on.goes.old.longer;
+    below = r.0.on.stays.below;
   },
   round_longer stores roots cs ds r.1,
 )
@@ -49,7 +49,7 @@ round_longer stores roots (c ∷ cs) (d ∷ ds) r = (
 module _ (stores : List Blocks) (roots : List ℕ) (known wins : List (ℕ × ℕ)) (words : TableView) (pieces : List Piece) where
   back_one : (c d : Copier) → IsSeated stores words pieces c → HoldsBy stores roots known wins c c → IsBack c d → IsLonger c d
   back_one c d s h b =
-      let hand : d.seat.hand ≡ c.seat.hand = ap (λ (x : SeatView). x.hand) b.seat in
+      let hand : d.own.seat.hand ≡ c.own.seat.hand = ap (λ (x : SeatView). x.hand) b.seat in
       let many = b.same.old in
       record {
         seat = record {
@@ -62,7 +62,7 @@ module _ (stores : List Blocks) (roots : List ℕ) (known wins : List (ℕ × �
           kept = b.same.kept;
         };
         longer = omega (arith, many);
-        below = (b.holds stores roots known (of_share (share (contents c)) wins) (length c.seat.hand.wins) c.seat.hand s.given s.marks h).3.below;
+        below = (b.holds stores roots known (of_share (share (contents c)) wins) (length c.own.seat.hand.wins) c.own.seat.hand s.given s.marks h).3.below;
       }
 
   back_longer : (cs ds : List Copier) → AreSeated stores words pieces cs → AllBegin stores roots known wins cs → AreBack cs ds → AreLonger cs ds
@@ -81,11 +81,11 @@ not_past (Some k) n b e h = by (cases_lt k n)
     by (inr l) = let low : block_of k < b = h in omega (arith, l, low)
 
 module _ (young : ℕ) (before : Blocks) where
-  new_is_from : (x k : ℕ) (c : Copier) (n : ℕ) (f : IsFilling young before c) → IsNewOf x k c.to n → IsFrom young before.lane f.first n
+  new_is_from : (x k : ℕ) (c : Copier) (n : ℕ) (f : IsFilling young before c) → IsNewOf x k c.own.to n → IsFrom young before.lane f.first n
   new_is_from x k c n f (inl h) = inl (h.0 ∙ f.young_lane)
   new_is_from x k c n f (inr h) = let next = f.next in let past = h.2 in inr (h.0 ∙ f.old_lane, omega (arith, next, past))
 
-  filling_on : (c d : Copier) → IsLonger c d → ((n : ℕ) → HasMade d.to n → HasMade c.to n ⊎ IsNew c.seat.hand c.to n) → IsFilling young before c → IsFilling young before d
+  filling_on : (c d : Copier) → IsLonger c d → ((n : ℕ) → HasMade d.own.to n → HasMade c.own.to n ⊎ IsNew c.own.seat.hand c.own.to n) → IsFilling young before c → IsFilling young before d
   filling_on c d l m f = record {
     young_lane = l.seat.young_lane ∙ f.young_lane;
     old_lane = l.seat.old_lane ∙ f.old_lane;
@@ -98,12 +98,12 @@ module _ (young : ℕ) (before : Blocks) where
     there = λ n o e g. let t = f.there n o e g in (l.below n t.1 ∙ t.0, ap (λ k. is_above k n) l.seat.kept ∙ t.1);
   }
     where
-      not_above : (n : ℕ) → is_above d.to.kept n ≡ false → is_above c.to.kept n ≡ false
+      not_above : (n : ℕ) → is_above d.own.to.kept n ≡ false → is_above c.own.to.kept n ≡ false
       not_above n g = ap (λ k. is_above k n) (sym l.seat.kept) ∙ g
 
-      by : (n : ℕ) → HasMade c.to n ⊎ IsNew c.seat.hand c.to n → IsFrom young before.lane f.first n
+      by : (n : ℕ) → HasMade c.own.to n ⊎ IsNew c.own.seat.hand c.own.to n → IsFrom young before.lane f.first n
       by n (inl h) = f.made n h
-      by n (inr h) = new_is_from c.seat.hand.copier c.seat.hand.copiers c n f h
+      by n (inr h) = new_is_from c.own.seat.hand.copier c.own.seat.hand.copiers c n f h
 
   -- a copier of all, with its seat and where it fills
   record IsOneOf (stores : List Blocks) (words : TableView) (pieces : List Piece) (c : Copier) : Type 0 where
@@ -116,17 +116,17 @@ module _ (young : ℕ) (before : Blocks) where
   one_of stores words pieces (b ∷ cs) c f s (inr h) = one_of stores words pieces cs c f.1 s.1 h
 
   -- above the block in which a copier went on the old store has nothing in the copier's blocks
-  own_is_placed : (stores : List Blocks) (words : TableView) (pieces : List Piece) (c : Copier) (n : ℕ) → IsOneOf stores words pieces c → IsOwnBlock c.to n → IsPlaced young before n
+  own_is_placed : (stores : List Blocks) (words : TableView) (pieces : List Piece) (c : Copier) (n : ℕ) → IsOneOf stores words pieces c → IsOwnBlock c.own.to n → IsPlaced young before n
   own_is_placed stores words pieces c n o own = by (o.filling.made own.0 own.1)
     where
       free : lane_of n ≡ before.lane → o.filling.first ≤ block_of own.0 → IsFreeBlock before n
       free lane low m a e same =
-          let here : owner_of c.seat.hand.copiers m ≡ c.seat.hand.copier =
-          ap (λ b. b % c.seat.hand.copiers) (same ∙ sym own.3) ∙ ap (λ k. owner_of k own.0) o.seated.copiers ∙ o.seated.own own.0 own.1 in
+          let here : owner_of c.own.seat.hand.copiers m ≡ c.own.seat.hand.copier =
+          ap (λ b. b % c.own.seat.hand.copiers) (same ∙ sym own.3) ∙ ap (λ k. owner_of k own.0) o.seated.copiers ∙ o.seated.own own.0 own.1 in
           let block = own.3 in
           let high = o.filling.below m a e here in
           let at = o.filling.there m a e (omega (arith, low, high, same, block)) in
-          let less = not_past c.to.kept m (block_of n) at.1 (own.4 (lane ∙ sym o.filling.old_lane)) in
+          let less = not_past c.own.to.kept m (block_of n) at.1 (own.4 (lane ∙ sym o.filling.old_lane)) in
           absurd (omega (arith, less, same))
 
       by : IsFrom young before.lane o.filling.first own.0 → IsPlaced young before n

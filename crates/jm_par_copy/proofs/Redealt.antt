@@ -65,10 +65,10 @@ IsHeldBy xs n a f = (i : ℕ) × (x : Part) × (slice_get xs i ≡ Some x) × (x
 by_next : (x : Part) (xs : List Part) (n : ℕ) (a : Object) (f : ℕ → ℕ) → IsHeldBy xs n a f → IsHeldBy (x ∷ xs) n a f
 by_next x xs n a f h = (suc h.0, h.1, h.2, h.3, h.4)
 
-made_none : (c : Copier) (x : Piece) (n : ℕ) (a : Object) → AreGiven c.seat.hand c.to c.given.items → Has c.given.items x → objects_of x n ≡ Some a → made c.to n ≡ None
-made_none c x n a g h e = by (made c.to n) refl
+made_none : (c : Copier) (x : Piece) (n : ℕ) (a : Object) → AreGiven c.own.seat.hand c.own.to c.given.items → Has c.given.items x → objects_of x n ≡ Some a → made c.own.to n ≡ None
+made_none c x n a g h e = by (made c.own.to n) refl
   where
-    by : (z : Option Object) → made c.to n ≡ z → made c.to n ≡ None
+    by : (z : Option Object) → made c.own.to n ≡ z → made c.own.to n ≡ None
     by None t = t
     by (Some b) t = let at = has_get c.given.items x h in let two : true ≡ false = sym (is_there x n a e) ∙ g.own at.0 x at.1 n b t in cc
 
@@ -80,37 +80,37 @@ piece_held (c ∷ cs) aside stores words pieces s g x n a h e = by (λ k. piece_
     by rest (inl k) =
         let t = has_held c.given.items x n a s.0.given.apart k e in
         let none = made_none c x n a s.0.given k e in
-        (0, part_of c, refl, both_right (made c.to) (held_objects c.given.items) n none ∙ t.0, λ count. held c.to.young.lane c.marks (held_objects c.given.items) (held_progress c.given.items) n count (Some a) t.0 ∙ t.1 count)
+        (0, part_of c, refl, both_right (made c.own.to) (held_objects c.given.items) n none ∙ t.0, λ count. held c.own.to.young.lane c.marks (held_objects c.given.items) (held_progress c.given.items) n count (Some a) t.0 ∙ t.1 count)
     by rest (inr k) = by_next (part_of c) (parts cs aside) n a (λ count. progress_of x none_done n count) (rest k)
 
-made_held : (cs : List Copier) (aside : List Piece) (stores : List Blocks) (words : TableView) (pieces : List Piece) → AreSeated stores words pieces cs → (c : Copier) (n : ℕ) (a : Object) → Has cs c → made c.to n ≡ Some a → IsHeldBy (parts cs aside) n a (λ count. progress c.to.young.lane c.marks n count)
+made_held : (cs : List Copier) (aside : List Piece) (stores : List Blocks) (words : TableView) (pieces : List Piece) → AreSeated stores words pieces cs → (c : Copier) (n : ℕ) (a : Object) → Has cs c → made c.own.to n ≡ Some a → IsHeldBy (parts cs aside) n a (λ count. progress c.own.to.young.lane c.marks n count)
 made_held [] aside stores words pieces s c n a h e = absurd h
 made_held (b ∷ cs) aside stores words pieces s c n a (inl t) e =
-    let here : made b.to n ≡ Some a = ap (λ (z : Copier). made z.to n) t ∙ e in
+    let here : made b.own.to n ≡ Some a = ap (λ (z : Copier). made z.own.to n) t ∙ e in
     let none = s.0.local.once n a here in
-    (0, part_of b, refl, both_left (made b.to) (held_objects b.given.items) n a here, λ count. held b.to.young.lane b.marks (held_objects b.given.items) (held_progress b.given.items) n count None none ∙ ap (λ (z : Copier). progress z.to.young.lane z.marks n count) t)
-made_held (b ∷ cs) aside stores words pieces s c n a (inr h) e = by_next (part_of b) (parts cs aside) n a (λ count. progress c.to.young.lane c.marks n count) (made_held cs aside stores words pieces s.1 c n a h e)
+    (0, part_of b, refl, both_left (made b.own.to) (held_objects b.given.items) n a here, λ count. held b.own.to.young.lane b.marks (held_objects b.given.items) (held_progress b.given.items) n count None none ∙ ap (λ (z : Copier). progress z.own.to.young.lane z.marks n count) t)
+made_held (b ∷ cs) aside stores words pieces s c n a (inr h) e = by_next (part_of b) (parts cs aside) n a (λ count. progress c.own.to.young.lane c.marks n count) (made_held cs aside stores words pieces s.1 c n a h e)
 
 -- what is held at a place was made by a copier, or lies in one of the blocks
 
-holder : (cs : List Copier) (aside : List Piece) (n : ℕ) (a : Object) → joint (parts cs aside) n ≡ Some a → ((c : Copier) × Has cs c × (made c.to n ≡ Some a)) ⊎ ((x : Piece) × Has (all_pieces cs aside) x × (objects_of x n ≡ Some a))
+holder : (cs : List Copier) (aside : List Piece) (n : ℕ) (a : Object) → joint (parts cs aside) n ≡ Some a → ((c : Copier) × Has cs c × (made c.own.to n ≡ Some a)) ⊎ ((x : Piece) × Has (all_pieces cs aside) x × (objects_of x n ≡ Some a))
 holder [] aside n a e = by (both_where (held_objects aside) (joint []) n a e)
   where
-    by : (held_objects aside n ≡ Some a) ⊎ ((held_objects aside n ≡ None) × (joint [] n ≡ Some a)) → ((c : Copier) × Has [] c × (made c.to n ≡ Some a)) ⊎ ((x : Piece) × Has aside x × (objects_of x n ≡ Some a))
+    by : (held_objects aside n ≡ Some a) ⊎ ((held_objects aside n ≡ None) × (joint [] n ≡ Some a)) → ((c : Copier) × Has [] c × (made c.own.to n ≡ Some a)) ⊎ ((x : Piece) × Has aside x × (objects_of x n ≡ Some a))
     by (inl h) = inr (held_has aside n a h)
     by (inr h) = let two : None ≡ Some a = h.1 in cc
 holder (c ∷ cs) aside n a e = by (holder cs aside n a) (both_where (contents c) (joint (parts cs aside)) n a e)
   where
-    own : (made c.to n ≡ Some a) ⊎ ((made c.to n ≡ None) × (held_objects c.given.items n ≡ Some a)) → ((d : Copier) × Has (c ∷ cs) d × (made d.to n ≡ Some a)) ⊎ ((x : Piece) × Has (all_pieces (c ∷ cs) aside) x × (objects_of x n ≡ Some a))
+    own : (made c.own.to n ≡ Some a) ⊎ ((made c.own.to n ≡ None) × (held_objects c.given.items n ≡ Some a)) → ((d : Copier) × Has (c ∷ cs) d × (made d.own.to n ≡ Some a)) ⊎ ((x : Piece) × Has (all_pieces (c ∷ cs) aside) x × (objects_of x n ≡ Some a))
     own (inl h) = inl (c, inl refl, h)
     own (inr h) = let t = held_has c.given.items n a h.1 in inr (t.0, has_left c.given.items (all_pieces cs aside) t.0 t.1, t.2)
 
-    others : ((d : Copier) × Has cs d × (made d.to n ≡ Some a)) ⊎ ((x : Piece) × Has (all_pieces cs aside) x × (objects_of x n ≡ Some a)) → ((d : Copier) × Has (c ∷ cs) d × (made d.to n ≡ Some a)) ⊎ ((x : Piece) × Has (all_pieces (c ∷ cs) aside) x × (objects_of x n ≡ Some a))
+    others : ((d : Copier) × Has cs d × (made d.own.to n ≡ Some a)) ⊎ ((x : Piece) × Has (all_pieces cs aside) x × (objects_of x n ≡ Some a)) → ((d : Copier) × Has (c ∷ cs) d × (made d.own.to n ≡ Some a)) ⊎ ((x : Piece) × Has (all_pieces (c ∷ cs) aside) x × (objects_of x n ≡ Some a))
     others (inl h) = inl (h.0, inr h.1, h.2)
     others (inr h) = inr (h.0, has_right c.given.items (all_pieces cs aside) h.0 h.1, h.2)
 
-    by : (joint (parts cs aside) n ≡ Some a → ((d : Copier) × Has cs d × (made d.to n ≡ Some a)) ⊎ ((x : Piece) × Has (all_pieces cs aside) x × (objects_of x n ≡ Some a))) → (contents c n ≡ Some a) ⊎ ((contents c n ≡ None) × (joint (parts cs aside) n ≡ Some a)) → ((d : Copier) × Has (c ∷ cs) d × (made d.to n ≡ Some a)) ⊎ ((x : Piece) × Has (all_pieces (c ∷ cs) aside) x × (objects_of x n ≡ Some a))
-    by rest (inl h) = own (both_where (made c.to) (held_objects c.given.items) n a h)
+    by : (joint (parts cs aside) n ≡ Some a → ((d : Copier) × Has cs d × (made d.own.to n ≡ Some a)) ⊎ ((x : Piece) × Has (all_pieces cs aside) x × (objects_of x n ≡ Some a))) → (contents c n ≡ Some a) ⊎ ((contents c n ≡ None) × (joint (parts cs aside) n ≡ Some a)) → ((d : Copier) × Has (c ∷ cs) d × (made d.own.to n ≡ Some a)) ⊎ ((x : Piece) × Has (all_pieces (c ∷ cs) aside) x × (objects_of x n ≡ Some a))
+    by rest (inl h) = own (both_where (made c.own.to) (held_objects c.given.items) n a h)
     by rest (inr h) = others (rest h.1)
 
 -- the copiers are the same but for their given blocks
@@ -118,7 +118,7 @@ pub hands_same : (cs ds : List Copier) → AreSameCopiers cs ds → hands ds ≡
 hands_same [] [] r = refl
 hands_same [] (d ∷ ds) r = absurd r
 hands_same (c ∷ cs) [] r = absurd r
-hands_same (c ∷ cs) (d ∷ ds) r = ap (λ (s : SeatView). s.hand ∷ hands ds) r.0.seat ∙ ap (λ hs. c.seat.hand ∷ hs) (hands_same cs ds r.1)
+hands_same (c ∷ cs) (d ∷ ds) r = ap (λ (s : SeatView). s.hand ∷ hands ds) r.0.seat ∙ ap (λ hs. c.own.seat.hand ∷ hs) (hands_same cs ds r.1)
 
 others_same : (x : ℕ) (cs ds : List Copier) → AreSameCopiers cs ds → AreOthers x cs → AreOthers x ds
 others_same x [] [] r o = o
@@ -130,7 +130,7 @@ different_same : (cs ds : List Copier) → AreSameCopiers cs ds → AreDifferent
 different_same [] [] r o = o
 different_same [] (d ∷ ds) r o = absurd r
 different_same (c ∷ cs) [] r o = absurd r
-different_same (c ∷ cs) (d ∷ ds) r o = (subst (λ x. AreOthers x ds) (sym (ap (λ (s : SeatView). s.hand.copier) r.0.seat)) (others_same c.seat.hand.copier cs ds r.1 o.0), different_same cs ds r.1 o.1)
+different_same (c ∷ cs) (d ∷ ds) r o = (subst (λ x. AreOthers x ds) (sym (ap (λ (s : SeatView). s.hand.copier) r.0.seat)) (others_same c.own.seat.hand.copier cs ds r.1 o.0), different_same cs ds r.1 o.1)
 
 rooted_same : (stores : List Blocks) (roots : List ℕ) (cs ds : List Copier) → AreSameCopiers cs ds → AreRooted stores roots cs → AreRooted stores roots ds
 rooted_same stores roots [] [] r t = t
@@ -159,8 +159,8 @@ module _ (stores : List Blocks) (words : TableView) (pieces pieces' : List Piece
     objects = s.objects;
     copiers = ap (λ (z : Hand). z.copiers) hand ∙ s.copiers;
     number = subst (λ k. (k < words.copiers) × (words.copiers ≤ 16)) (sym r.number) s.number;
-    ends = subst (λ (z : Hand). OwnsEnds z.copier z.copiers d.to) (sym hand) (subst (λ (z : Copies). OwnsEnds c.seat.hand.copier c.seat.hand.copiers z) (sym r.to) s.ends);
-    marks = subst (λ m. AreMarks d.to m) (sym r.marks) (subst (λ z. AreMarks z c.marks) (sym r.to) s.marks);
+    ends = subst (λ (z : Hand). OwnsEnds z.copier z.copiers d.own.to) (sym hand) (subst (λ (z : Copies). OwnsEnds c.own.seat.hand.copier c.own.seat.hand.copiers z) (sym r.to) s.ends);
+    marks = subst (λ m. AreMarks d.own.to m) (sym r.marks) (subst (λ z. AreMarks z c.marks) (sym r.to) s.marks);
     given = record {
       pieces = λ i x e. are x (mine x (get_has d.given.items i x e));
       own = λ i x e n a f. beside i x e n (inl (a, f)) (is_in x n) refl;
@@ -171,15 +171,15 @@ module _ (stores : List Blocks) (words : TableView) (pieces pieces' : List Piece
       apart = λ e. s.local.apart (sym (ap (λ (z : Copies). z.tenured.lane) r.to) ∙ e ∙ ap (λ (z : Copies). z.young.lane) r.to);
       kept = subst (λ (z : Copies). IsMark z.tenured z.kept) (sym r.to) s.local.kept;
       ages = subst (λ (z : Copies). (n : ℕ) (a : Object) → made z n ≡ Some a → a.age ≡ age_at z n) (sym r.to) s.local.ages;
-      dated = subst (λ (z : Hand). AreDated stores z.wins d.to) (sym hand) (subst (λ (z : Copies). AreDated stores c.seat.hand.wins z) (sym r.to) s.local.dated);
+      dated = subst (λ (z : Hand). AreDated stores z.wins d.own.to) (sym hand) (subst (λ (z : Copies). AreDated stores c.own.seat.hand.wins z) (sym r.to) s.local.dated);
       taken = λ i n h new. s.local.taken i n (subst (λ (z : Hand). Contains z.wins (i, n)) hand h) (was_new n new);
       free = λ n new. none n (inr new);
       once = λ n a e. none n (inl (a, e));
       ahead = λ n count new.
-          held d.to.young.lane d.marks (held_objects d.given.items) (held_progress d.given.items) n count None (none n (inr new))
+          held d.own.to.young.lane d.marks (held_objects d.given.items) (held_progress d.given.items) n count None (none n (inr new))
           ∙ ap (λ (z : Copies). progress z.young.lane d.marks n count) r.to
-          ∙ ap (λ m. progress c.to.young.lane m n count) r.marks
-          ∙ sym (held c.to.young.lane c.marks (held_objects c.given.items) (held_progress c.given.items) n count None (s.local.free n (was_new n new)))
+          ∙ ap (λ m. progress c.own.to.young.lane m n count) r.marks
+          ∙ sym (held c.own.to.young.lane c.marks (held_objects c.given.items) (held_progress c.given.items) n count None (s.local.free n (was_new n new)))
           ∙ s.local.ahead n count (was_new n new);
     };
     wins = subst (λ (z : Hand). WinsAreOwn z.copiers z.copier z.wins) (sym hand) s.wins;
@@ -188,28 +188,28 @@ module _ (stores : List Blocks) (words : TableView) (pieces pieces' : List Piece
     new = λ n h i. s.new n (was_new n h) (less n i);
   }
     where
-      hand : d.seat.hand ≡ c.seat.hand
+      hand : d.own.seat.hand ≡ c.own.seat.hand
       hand = ap (λ (z : SeatView). z.hand) r.seat
 
-      was_new : (n : ℕ) → IsNew d.seat.hand d.to n → IsNew c.seat.hand c.to n
-      was_new n h = subst (λ z. IsNew c.seat.hand z n) r.to (subst (λ z. IsNew z d.to n) hand h)
+      was_new : (n : ℕ) → IsNew d.own.seat.hand d.own.to n → IsNew c.own.seat.hand c.own.to n
+      was_new n h = subst (λ z. IsNew c.own.seat.hand z n) r.to (subst (λ z. IsNew z d.own.to n) hand h)
 
-      was_made : (n : ℕ) → HasMade d.to n → HasMade c.to n
+      was_made : (n : ℕ) → HasMade d.own.to n → HasMade c.own.to n
       was_made n h = subst (λ z. HasMade z n) r.to h
 
       within : (xs : List Piece) → ((x : Piece) → Has xs x → Has pieces' x) → (n : ℕ) → IsInOne xs n → IsInOne pieces' n
       within xs f n h = let t = one_get xs n h in let at = has_get pieces' t.1 (f t.1 (get_has xs t.0 t.1 t.2)) in get_one pieces' at.0 t.1 n at.1 t.3
 
       -- no given block lies where something was made or will come
-      never : (n : ℕ) → HasMade d.to n ⊎ IsNew d.seat.hand d.to n → IsInOne d.given.items n → ⊥
+      never : (n : ℕ) → HasMade d.own.to n ⊎ IsNew d.own.seat.hand d.own.to n → IsInOne d.given.items n → ⊥
       never n (inl h) i = s.beside n (was_made n h) (less n (within d.given.items mine n i))
       never n (inr h) i = s.new n (was_new n h) (less n (within d.given.items mine n i))
 
-      beside : (i : ℕ) (x : Piece) → slice_get d.given.items i ≡ Some x → (n : ℕ) → HasMade d.to n ⊎ IsNew d.seat.hand d.to n → (b : Bool) → is_in x n ≡ b → is_in x n ≡ false
+      beside : (i : ℕ) (x : Piece) → slice_get d.given.items i ≡ Some x → (n : ℕ) → HasMade d.own.to n ⊎ IsNew d.own.seat.hand d.own.to n → (b : Bool) → is_in x n ≡ b → is_in x n ≡ false
       beside i x e n h false t = t
       beside i x e n h true t = absurd (never n h (get_one d.given.items i x n e t))
 
-      none : (n : ℕ) → HasMade d.to n ⊎ IsNew d.seat.hand d.to n → held_objects d.given.items n ≡ None
+      none : (n : ℕ) → HasMade d.own.to n ⊎ IsNew d.own.seat.hand d.own.to n → held_objects d.given.items n ≡ None
       none n h = none_held d.given.items n (never n h)
 
   all_seated : (cs ds : List Copier) (rest : List Piece) → AreSameCopiers cs ds → ((x : Piece) → Has (all_pieces ds rest) x → Has pieces' x) → AreApartGiven ds rest → ((n : ℕ) → cover (all_pieces ds rest) n ≤ 1) → AreSeated stores words pieces cs → AreSeated stores words pieces' ds
@@ -281,19 +281,19 @@ deal_keeps_all stores roots words cs ds aside rest c t = record {
         (piece_held cs aside stores words (all_pieces cs aside) c.seated c.given x n a h e)
         (piece_held ds rest stores words (all_pieces ds rest) seated given x n a k e)
 
-    by_copier : (b d : Copier) (n : ℕ) (a : Object) → Has cs b → Has ds d → IsSameCopier b d → made b.to n ≡ Some a → (joint (parts cs aside) n ≡ Some a) × (joint (parts ds rest) n ≡ Some a) × ((count : ℕ) → joint_done (parts ds rest) n count ≡ joint_done (parts cs aside) n count)
+    by_copier : (b d : Copier) (n : ℕ) (a : Object) → Has cs b → Has ds d → IsSameCopier b d → made b.own.to n ≡ Some a → (joint (parts cs aside) n ≡ Some a) × (joint (parts ds rest) n ≡ Some a) × ((count : ℕ) → joint_done (parts ds rest) n count ≡ joint_done (parts cs aside) n count)
     by_copier b d n a h k r e =
-        let here : made d.to n ≡ Some a = ap (λ z. made z n) r.to ∙ e in
+        let here : made d.own.to n ≡ Some a = ap (λ z. made z n) r.to ∙ e in
         let there = made_held ds rest stores words (all_pieces ds rest) seated d n a k here in
-        let same : (count : ℕ) → progress d.to.young.lane d.marks n count ≡ progress b.to.young.lane b.marks n count = λ count. ap (λ (z : Copies). progress z.young.lane d.marks n count) r.to ∙ ap (λ m. progress b.to.young.lane m n count) r.marks in
-        both n a (λ count. progress b.to.young.lane b.marks n count)
+        let same : (count : ℕ) → progress d.own.to.young.lane d.marks n count ≡ progress b.own.to.young.lane b.marks n count = λ count. ap (λ (z : Copies). progress z.young.lane d.marks n count) r.to ∙ ap (λ m. progress b.own.to.young.lane m n count) r.marks in
+        both n a (λ count. progress b.own.to.young.lane b.marks n count)
         (made_held cs aside stores words (all_pieces cs aside) c.seated b n a h e)
         (there.0, there.1, there.2, there.3, λ count. there.4 count ∙ same count)
 
-    goes : (n : ℕ) (a : Object) → ((b : Copier) × Has cs b × (made b.to n ≡ Some a)) ⊎ ((x : Piece) × Has (all_pieces cs aside) x × (objects_of x n ≡ Some a)) → (joint (parts ds rest) n ≡ Some a) × ((count : ℕ) → joint_done (parts ds rest) n count ≡ joint_done (parts cs aside) n count)
+    goes : (n : ℕ) (a : Object) → ((b : Copier) × Has cs b × (made b.own.to n ≡ Some a)) ⊎ ((x : Piece) × Has (all_pieces cs aside) x × (objects_of x n ≡ Some a)) → (joint (parts ds rest) n ≡ Some a) × ((count : ℕ) → joint_done (parts ds rest) n count ≡ joint_done (parts cs aside) n count)
     goes n a (inl h) = let d = has_same cs ds t.same h.0 h.1 in let g = by_copier h.0 d.0 n a h.1 d.1 d.2 h.2 in (g.1, g.2)
     goes n a (inr h) = let g = by_piece h.0 n a h.1 (to h.0 h.1) h.2 in (g.1, g.2)
 
-    comes : (n : ℕ) (a : Object) → ((d : Copier) × Has ds d × (made d.to n ≡ Some a)) ⊎ ((x : Piece) × Has (all_pieces ds rest) x × (objects_of x n ≡ Some a)) → joint (parts cs aside) n ≡ Some a
+    comes : (n : ℕ) (a : Object) → ((d : Copier) × Has ds d × (made d.own.to n ≡ Some a)) ⊎ ((x : Piece) × Has (all_pieces ds rest) x × (objects_of x n ≡ Some a)) → joint (parts cs aside) n ≡ Some a
     comes n a (inl h) = let b = has_was cs ds t.same h.0 h.1 in (by_copier b.0 h.0 n a b.1 h.1 b.2 (sym (ap (λ z. made z n) b.2.to) ∙ h.2)).0
     comes n a (inr h) = (by_piece h.0 n a (from h.0 h.1) h.1 h.2).0

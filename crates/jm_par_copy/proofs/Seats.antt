@@ -4,7 +4,7 @@ use Rattle.std.specs.Prelude.{slice_index_or, take, drop, nat_eq}
 use Rattle.std.proofs.lemmas.Bool.{eqb-true}
 use Rattle.std.proofs.lemmas.Option.{slice_get_within}
 use Rattle.jm_blocks.specs.Objects.{Object}
-use Rattle.jm_blocks.specs.Places.{block_of, index_of}
+use Rattle.jm_blocks.specs.Places.{block_of}
 use Rattle.jm_blocks.specs.Stores.{Blocks, objects_in}
 use Rattle.jm_blocks.proofs.Placing.{lies_in}
 use Rattle.jm_forward.specs.declared.rule.Hand.{Hand}
@@ -25,6 +25,7 @@ use Rattle.jm_par_copy.specs.Seats.{AreNumbered, AreOwnStores, AreSeatsOf, IsOwn
 use Rattle.jm_par_copy.specs.Strides.{OwnsEnds, owner_of}
 use Rattle.jm_par_copy.specs.declared.piece.Piece.{Piece}
 use Rattle.jm_par_copy.specs.declared.copier.Copier.{Copier}
+use Rattle.jm_par_copy.proofs.Begun.{begin_above, begin_own}
 use Rattle.jm_par_copy.proofs.Copiers.{no_pieces}
 use Rattle.jm_par_copy.proofs.Fresh.{fresh_is_working, nothing_made}
 
@@ -49,27 +50,27 @@ one_seat_more number s ss all (u ∷ old) new stores to c cs f first rest some s
 one_is_ready : (stores : List Blocks) (roots : List ℕ) (words : TableView) (before : Blocks) (number : ℕ) (t : Copies) (c : Copier) → words.objects ≡ object_count stores → words.copiers ≤ 16 → number < words.copiers → IsOwnStores number words.copiers before t → IsSeatOf number (seat_of words.table (fresh words.copiers number)) t c → IsFreshCopier stores roots words c
 one_is_ready stores roots words before number t c objects few below own s = record { ready = ready; own = fresh_own; given = s.given; wins = ap (λ (h : Hand). h.wins) hand; noting = noting }
   where
-    hand : c.seat.hand ≡ fresh words.copiers number
+    hand : c.own.seat.hand ≡ fresh words.copiers number
     hand = ap (λ (v : SeatView). v.hand) s.seat_is
 
-    fresh_own : IsFreshOwn c.to
+    fresh_own : IsFreshOwn c.own.to
     fresh_own = subst IsFreshOwn (sym s.to_is) own.fresh
 
     noting : IsNoting c
     noting = record {
       young = ap (λ (v : Copies). v.young.lane) s.to_is ∙ own.young_lane;
-      own = subst (λ o. IsListed 1 c.to.tenured c.to.kept o c.pointing.items) (sym (s.tenured ∙ sym (ap (λ (v : Copies). v.kept) s.to_is))) (listed_none 1 c.to.tenured c.to.kept c.pointing.items fresh_own.kept s.pointing);
+      own = subst (λ o. IsListed 1 c.own.to.tenured c.own.to.kept o c.pointing.items) (sym (s.tenured ∙ sym (ap (λ (v : Copies). v.kept) s.to_is))) (listed_none 1 c.own.to.tenured c.own.to.kept c.pointing.items fresh_own.kept s.pointing);
       given = subst AreNoted (sym s.given) (λ i x e. absurd cc);
     }
 
-    marks_are : c.marks ≡ first_marks c.to
+    marks_are : c.marks ≡ first_marks c.own.to
     marks_are = ap (λ y. let m : Marks = (record { young = y; tenured = c.marks.tenured }) in m) s.young ∙ ap (λ o. let m : Marks = (record { young = None; tenured = o }) in m) (s.tenured ∙ sym (ap (λ (v : Copies). v.kept) s.to_is))
 
-    marks : AreMarks c.to c.marks
-    marks = subst (λ m. AreMarks c.to m) (sym marks_are) (record { young = tt; tenured = fresh_own.kept; past = λ n e. e })
+    marks : AreMarks c.own.to c.marks
+    marks = subst (λ m. AreMarks c.own.to m) (sym marks_are) (record { young = tt; tenured = fresh_own.kept; past = λ n e. e })
 
-    given : AreGiven c.seat.hand c.to c.given.items
-    given = subst (λ (xs : List Piece). AreGiven c.seat.hand c.to xs) (sym s.given) (record { pieces = λ i x e. absurd cc; own = λ i x e. absurd cc; new = λ i x e. absurd cc; apart = tt })
+    given : AreGiven c.own.seat.hand c.own.to c.given.items
+    given = subst (λ (xs : List Piece). AreGiven c.own.seat.hand c.own.to xs) (sym s.given) (record { pieces = λ i x e. absurd cc; own = λ i x e. absurd cc; new = λ i x e. absurd cc; apart = tt })
 
     ready : IsReady stores roots words c
     ready = record {
@@ -77,7 +78,7 @@ one_is_ready stores roots words before number t c objects few below own s = reco
         table = ap (λ (v : SeatView). v.table) s.seat_is;
         objects = objects;
         copiers = ap (λ (h : Hand). h.copiers) hand;
-        ends = subst (λ (h : Hand). OwnsEnds h.copier h.copiers c.to) (sym hand) (subst (λ (v : Copies). OwnsEnds number words.copiers v) (sym s.to_is) own.ends);
+        ends = subst (λ (h : Hand). OwnsEnds h.copier h.copiers c.own.to) (sym hand) (subst (λ (v : Copies). OwnsEnds number words.copiers v) (sym s.to_is) own.ends);
       };
       marks = marks;
       given = given;
@@ -87,8 +88,8 @@ one_is_ready stores roots words before number t c objects few below own s = reco
         [],
         [],
         0,
-        subst (λ (xs : List Piece). IsHolding stores roots [] [] 0 c.seat.hand c.to c.marks xs) (sym s.given)
-            (subst (λ m. IsHolding stores roots [] [] 0 c.seat.hand c.to m []) (sym marks_are) (fresh_is_working stores roots c.seat.hand c.to (ap (λ (h : Hand). h.wins) hand) fresh_own)),
+        subst (λ (xs : List Piece). IsHolding stores roots [] [] 0 c.own.seat.hand c.own.to c.marks xs) (sym s.given)
+            (subst (λ m. IsHolding stores roots [] [] 0 c.own.seat.hand c.own.to m []) (sym marks_are) (fresh_is_working stores roots c.own.seat.hand c.own.to (ap (λ (h : Hand). h.wins) hand) fresh_own)),
       );
     }
 
@@ -98,8 +99,7 @@ module _ (before : Blocks) (number copiers : ℕ) (t : Copies) (own : IsOwnStore
   begins_below n o e h =
       let at = lies_in before n o e in
       let within = slice_get_within before.lists (block_of n) at.block at.block_is in
-      let some = slice_get_within at.block (index_of n) o at.object_is in
-      own.begun.begins.below (block_of n) at.block (record { among = within; is = at.block_is; some = omega (arith, some); own = h })
+      begin_above number copiers before.lists own.begun.first own.begun.begins (block_of n) within h
 
   kept_is : (n : ℕ) (o : Object) → objects_in t.tenured n ≡ Some o → (objects_in before n ≡ Some o) × (block_of n ≡ own.begun.first)
   kept_is n o e = by (nat_eq (block_of n) own.begun.first) refl
@@ -113,12 +113,12 @@ module _ (before : Blocks) (number copiers : ℕ) (t : Copies) (own : IsOwnStore
       let there : objects_in t.tenured n ≡ Some o = own.begun.same n ∙ ap (λ b. cond b (objects_in before n) None) (eq-eqb (block_of n) own.begun.first f) ∙ e in
       (there, own.fresh.last n (o, there))
 
-  is_filling : {seat : SeatView} (c : Copier) → IsSeatOf number seat t c → c.seat.hand.copiers ≡ copiers → c.seat.hand.copier ≡ number → IsFilling 1 before c
+  is_filling : {seat : SeatView} (c : Copier) → IsSeatOf number seat t c → c.own.seat.hand.copiers ≡ copiers → c.own.seat.hand.copier ≡ number → IsFilling 1 before c
   is_filling c s many copier = record {
     young_lane = ap (λ (v : Copies). v.young.lane) s.to_is ∙ own.young_lane;
     old_lane = ap (λ (v : Copies). v.tenured.lane) s.to_is ∙ own.tenured_lane;
     first = own.begun.first;
-    own = ap (λ k. own.begun.first % k) many ∙ own.begun.begins.own ∙ sym copier;
+    own = ap (λ k. own.begun.first % k) many ∙ begin_own number copiers before.lists own.begun.first own.begun.begins ∙ sym copier;
     next = let blocks = own.begun.many in subst (λ (v : Copies). own.begun.first < length v.tenured.lists) (sym s.to_is) (omega (arith, blocks));
     made = λ n h.
         let there = subst (λ (v : Copies). HasMade v n) s.to_is h in
@@ -149,7 +149,7 @@ numbered_others words x number (c ∷ cs) h s = ((λ e. let is = s.2 in absurd (
 
 pub numbered_different : (words : TableView) (number : ℕ) (cs : List Copier) → AreNumbered words number cs → AreDifferent cs
 numbered_different words number [] s = tt
-numbered_different words number (c ∷ cs) s = (numbered_others words c.seat.hand.copier (number + 1) cs (let is = s.2 in omega (arith, is)) s.4, numbered_different words (number + 1) cs s.4)
+numbered_different words number (c ∷ cs) s = (numbered_others words c.own.seat.hand.copier (number + 1) cs (let is = s.2 in omega (arith, is)) s.4, numbered_different words (number + 1) cs s.4)
 
 pub seated_are_fresh : SeatedAreFresh
 seated_are_fresh stores roots words before ts cs o few own s =

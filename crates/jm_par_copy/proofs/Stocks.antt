@@ -37,24 +37,24 @@ both_nones f g n e = by (f n) refl
     by (Some a) t = let two : None ≡ Some a = sym e ∙ both_left f g n a t in cc
 
 -- what was made is stored
-made_stored : (c : Copier) (n : ℕ) (a : Object) → made c.to n ≡ Some a → stored c.to.young c.to.tenured n ≡ Some a
-made_stored c n a e = by (made_where c.to n a e)
+made_stored : (c : Copier) (n : ℕ) (a : Object) → made c.own.to n ≡ Some a → stored c.own.to.young c.own.to.tenured n ≡ Some a
+made_stored c n a e = by (made_where c.own.to n a e)
   where
-    by : LiesYoung c.to n a ⊎ LiesOld c.to n a → stored c.to.young c.to.tenured n ≡ Some a
-    by (inl h) = stored_young c.to.young c.to.tenured n h.lane ∙ h.there
-    by (inr h) = stored_old c.to.young c.to.tenured n h.lane ∙ h.there
+    by : LiesYoung c.own.to n a ⊎ LiesOld c.own.to n a → stored c.own.to.young c.own.to.tenured n ≡ Some a
+    by (inl h) = stored_young c.own.to.young c.own.to.tenured n h.lane ∙ h.there
+    by (inr h) = stored_old c.own.to.young c.own.to.tenured n h.lane ∙ h.there
 
-made_none : (c : Copier) (n : ℕ) → stored c.to.young c.to.tenured n ≡ None → made c.to n ≡ None
-made_none c n e = by (made c.to n) refl
+made_none : (c : Copier) (n : ℕ) → stored c.own.to.young c.own.to.tenured n ≡ None → made c.own.to n ≡ None
+made_none c n e = by (made c.own.to n) refl
   where
-    by : (x : Option Object) → made c.to n ≡ x → made c.to n ≡ None
+    by : (x : Option Object) → made c.own.to n ≡ x → made c.own.to n ≡ None
     by None t = t
     by (Some a) t = let two : None ≡ Some a = sym e ∙ made_stored c n a t in cc
 
 contents_none : (c : Copier) (n : ℕ) → stock c n ≡ None → contents c n ≡ None
 contents_none c n e =
-    let none = both_nones (stored c.to.young c.to.tenured) (held_objects c.given.items) n e in
-    both_right (made c.to) (held_objects c.given.items) n (made_none c n none.0) ∙ none.1
+    let none = both_nones (stored c.own.to.young c.own.to.tenured) (held_objects c.given.items) n e in
+    both_right (made c.own.to) (held_objects c.given.items) n (made_none c n none.0) ∙ none.1
 
 joint_none : (cs : List Copier) (aside : List Piece) (n : ℕ) → stocks cs aside n ≡ None → joint (parts cs aside) n ≡ None
 joint_none [] aside n e = both_right (held_objects aside) (joint []) n e
@@ -62,22 +62,22 @@ joint_none (c ∷ cs) aside n e =
     let none = both_nones (stock c) (stocks cs aside) n e in
     both_right (contents c) (joint (parts cs aside)) n (contents_none c n none.0) ∙ joint_none cs aside n none.1
 
-stored_none : (cs : List Copier) (aside : List Piece) (n : ℕ) (c : Copier) → Has cs c → stocks cs aside n ≡ None → stored c.to.young c.to.tenured n ≡ None
+stored_none : (cs : List Copier) (aside : List Piece) (n : ℕ) (c : Copier) → Has cs c → stocks cs aside n ≡ None → stored c.own.to.young c.own.to.tenured n ≡ None
 stored_none [] aside n c h e = absurd h
-stored_none (b ∷ cs) aside n c (inl t) e = subst (λ (z : Copier). stored z.to.young z.to.tenured n ≡ None) t (both_nones (stored b.to.young b.to.tenured) (held_objects b.given.items) n (both_nones (stock b) (stocks cs aside) n e).0).0
+stored_none (b ∷ cs) aside n c (inl t) e = subst (λ (z : Copier). stored z.own.to.young z.own.to.tenured n ≡ None) t (both_nones (stored b.own.to.young b.own.to.tenured) (held_objects b.given.items) n (both_nones (stock b) (stocks cs aside) n e).0).0
 stored_none (b ∷ cs) aside n c (inr h) e = stored_none cs aside n c h (both_nones (stock b) (stocks cs aside) n e).1
 
 -- a copier that has an object at a place of its own stores
 pub record IsStoredBy (cs : List Copier) (n : ℕ) (a : Object) : Type 0 where
   pub c : Copier
   pub c_is : Has cs c
-  pub there : stored c.to.young c.to.tenured n ≡ Some a
+  pub there : stored c.own.to.young c.own.to.tenured n ≡ Some a
 
 stored_or_moved : (cs : List Copier) (aside : List Piece) (n : ℕ) (a : Object) → stocks cs aside n ≡ Some a → IsStoredBy cs n a ⊎ IsInOne (all_pieces cs aside) n
 stored_or_moved [] aside n a e = inr (one_held aside n a e)
 stored_or_moved (c ∷ cs) aside n a e = by (stored_or_moved cs aside n a) (both_where (stock c) (stocks cs aside) n a e)
   where
-    own : (stored c.to.young c.to.tenured n ≡ Some a) ⊎ ((stored c.to.young c.to.tenured n ≡ None) × (held_objects c.given.items n ≡ Some a)) → IsStoredBy (c ∷ cs) n a ⊎ IsInOne (all_pieces (c ∷ cs) aside) n
+    own : (stored c.own.to.young c.own.to.tenured n ≡ Some a) ⊎ ((stored c.own.to.young c.own.to.tenured n ≡ None) × (held_objects c.given.items n ≡ Some a)) → IsStoredBy (c ∷ cs) n a ⊎ IsInOne (all_pieces (c ∷ cs) aside) n
     own (inl h) = inl (record { c = c; c_is = inl refl; there = h })
     own (inr h) = inr (one_left c.given.items (all_pieces cs aside) n (one_held c.given.items n a h.1))
 
@@ -86,20 +86,20 @@ stored_or_moved (c ∷ cs) aside n a e = by (stored_or_moved cs aside n a) (both
     rest (inr h) = inr (one_right c.given.items (all_pieces cs aside) n h)
 
     by : (stocks cs aside n ≡ Some a → IsStoredBy cs n a ⊎ IsInOne (all_pieces cs aside) n) → (stock c n ≡ Some a) ⊎ ((stock c n ≡ None) × (stocks cs aside n ≡ Some a)) → IsStoredBy (c ∷ cs) n a ⊎ IsInOne (all_pieces (c ∷ cs) aside) n
-    by more (inl h) = own (both_where (stored c.to.young c.to.tenured) (held_objects c.given.items) n a h)
+    by more (inl h) = own (both_where (stored c.own.to.young c.own.to.tenured) (held_objects c.given.items) n a h)
     by more (inr h) = rest (more h.1)
 
 module _ (young : ℕ) (before : Blocks) (other : before.lane ≢ young) where
-  pub made_or_kept : (c : Copier) (n : ℕ) (a : Object) → IsFilling young before c → stored c.to.young c.to.tenured n ≡ Some a → (made c.to n ≡ Some a) ⊎ ((objects_in before n ≡ Some a) × (owner_of c.seat.hand.copiers n ≡ c.seat.hand.copier))
-  made_or_kept c n a f e = by (eqb_tells (lane_of n) c.to.young.lane)
+  pub made_or_kept : (c : Copier) (n : ℕ) (a : Object) → IsFilling young before c → stored c.own.to.young c.own.to.tenured n ≡ Some a → (made c.own.to n ≡ Some a) ⊎ ((objects_in before n ≡ Some a) × (owner_of c.own.seat.hand.copiers n ≡ c.own.seat.hand.copier))
+  made_or_kept c n a f e = by (eqb_tells (lane_of n) c.own.to.young.lane)
     where
-      old : lane_of n ≢ c.to.young.lane → objects_in c.to.tenured n ≡ Some a → (t : Bool) → is_above c.to.kept n ≡ t → (made c.to n ≡ Some a) ⊎ ((objects_in before n ≡ Some a) × (owner_of c.seat.hand.copiers n ≡ c.seat.hand.copier))
-      old l g true t = inl (made_above c.to.young c.to.tenured c.to.kept n l t ∙ g)
-      old l g false t = let k = f.kept n a g t in inr (k.0, ap (λ b. b % c.seat.hand.copiers) k.1 ∙ f.own)
+      old : lane_of n ≢ c.own.to.young.lane → objects_in c.own.to.tenured n ≡ Some a → (t : Bool) → is_above c.own.to.kept n ≡ t → (made c.own.to n ≡ Some a) ⊎ ((objects_in before n ≡ Some a) × (owner_of c.own.seat.hand.copiers n ≡ c.own.seat.hand.copier))
+      old l g true t = inl (made_above c.own.to.young c.own.to.tenured c.own.to.kept n l t ∙ g)
+      old l g false t = let k = f.kept n a g t in inr (k.0, ap (λ b. b % c.own.seat.hand.copiers) k.1 ∙ f.own)
 
-      by : ((nat_eq (lane_of n) c.to.young.lane ≡ true) × (lane_of n ≡ c.to.young.lane)) ⊎ ((nat_eq (lane_of n) c.to.young.lane ≡ false) × (lane_of n ≢ c.to.young.lane)) → (made c.to n ≡ Some a) ⊎ ((objects_in before n ≡ Some a) × (owner_of c.seat.hand.copiers n ≡ c.seat.hand.copier))
-      by (inl h) = inl (made_young c.to.young c.to.tenured c.to.kept n h.1 ∙ sym (stored_young c.to.young c.to.tenured n h.1) ∙ e)
-      by (inr h) = old h.1 (sym (stored_old c.to.young c.to.tenured n h.1) ∙ e) (is_above c.to.kept n) refl
+      by : ((nat_eq (lane_of n) c.own.to.young.lane ≡ true) × (lane_of n ≡ c.own.to.young.lane)) ⊎ ((nat_eq (lane_of n) c.own.to.young.lane ≡ false) × (lane_of n ≢ c.own.to.young.lane)) → (made c.own.to n ≡ Some a) ⊎ ((objects_in before n ≡ Some a) × (owner_of c.own.seat.hand.copiers n ≡ c.own.seat.hand.copier))
+      by (inl h) = inl (made_young c.own.to.young c.own.to.tenured c.own.to.kept n h.1 ∙ sym (stored_young c.own.to.young c.own.to.tenured n h.1) ∙ e)
+      by (inr h) = old h.1 (sym (stored_old c.own.to.young c.own.to.tenured n h.1) ∙ e) (is_above c.own.to.kept n) refl
 
   -- the old store has no object there
   abbrev pub IsClear : ℕ → Type 0
@@ -118,20 +118,20 @@ module _ (young : ℕ) (before : Blocks) (other : before.lane ≢ young) where
       none (Some o) e = absurd (h.1 n o e refl)
 
   module _ (stores : List Blocks) (words : TableView) (pieces : List Piece) where
-    made_clear : (c : Copier) (n : ℕ) → IsFilling young before c → IsSeated stores words pieces c → HasMade c.to n → IsClear n
+    made_clear : (c : Copier) (n : ℕ) → IsFilling young before c → IsSeated stores words pieces c → HasMade c.own.to n → IsClear n
     made_clear c n f s h = by (f.made n h)
       where
-        above : LiesYoung c.to n h.0 ⊎ LiesOld c.to n h.0 → lane_of n ≡ before.lane → is_above c.to.kept n ≡ true
+        above : LiesYoung c.own.to n h.0 ⊎ LiesOld c.own.to n h.0 → lane_of n ≡ before.lane → is_above c.own.to.kept n ≡ true
         above (inl t) l = absurd (other (sym l ∙ t.lane ∙ f.young_lane))
         above (inr t) l = t.above
 
         none : lane_of n ≡ before.lane → f.first ≤ block_of n → (x : Option Object) → objects_in before n ≡ x → objects_in before n ≡ None
         none l low None e = e
         none l low (Some o) e =
-            let own : owner_of c.seat.hand.copiers n ≡ c.seat.hand.copier = ap (λ k. owner_of k n) s.copiers ∙ s.own n h in
+            let own : owner_of c.own.seat.hand.copiers n ≡ c.own.seat.hand.copier = ap (λ k. owner_of k n) s.copiers ∙ s.own n h in
             let high = f.below n o e own in
             let there = f.there n o e (omega (arith, low, high)) in
-            let two : true ≡ false = sym (above (made_where c.to n h.0 h.1) l) ∙ there.1 in
+            let two : true ≡ false = sym (above (made_where c.own.to n h.0 h.1) l) ∙ there.1 in
             cc
 
         by : IsFrom young before.lane f.first n → IsClear n
@@ -153,24 +153,24 @@ module _ (young : ℕ) (before : Blocks) (other : before.lane ≢ young) where
     contents_clear : (c : Copier) (n : ℕ) (a : Object) → IsFilling young before c → IsSeated stores words pieces c → (IsInOne c.given.items n → IsPlaced young before n) → contents c n ≡ Some a → IsClear n
     contents_clear c n a f s p e = by (contents_where c n a e)
       where
-        by : HasMade c.to n ⊎ IsInOne c.given.items n → IsClear n
+        by : HasMade c.own.to n ⊎ IsInOne c.given.items n → IsClear n
         by (inl h) = made_clear c n f s h
         by (inr h) = placed_clear n (p h)
 
     -- what a copier has it holds, or keeps
     abbrev pub Keeps : Copier → ℕ → Object → Type 0
-    Keeps c n a = (objects_in before n ≡ Some a) × (owner_of words.copiers n ≡ c.seat.hand.copier)
+    Keeps c n a = (objects_in before n ≡ Some a) × (owner_of words.copiers n ≡ c.own.seat.hand.copier)
 
     stock_where : (c : Copier) (n : ℕ) (a : Object) → IsFilling young before c → IsSeated stores words pieces c → stock c n ≡ Some a → (contents c n ≡ Some a) ⊎ Keeps c n a
-    stock_where c n a f s e = by (both_where (stored c.to.young c.to.tenured) (held_objects c.given.items) n a e)
+    stock_where c n a f s e = by (both_where (stored c.own.to.young c.own.to.tenured) (held_objects c.given.items) n a e)
       where
-        own : (made c.to n ≡ Some a) ⊎ ((objects_in before n ≡ Some a) × (owner_of c.seat.hand.copiers n ≡ c.seat.hand.copier)) → (contents c n ≡ Some a) ⊎ Keeps c n a
-        own (inl h) = inl (both_left (made c.to) (held_objects c.given.items) n a h)
+        own : (made c.own.to n ≡ Some a) ⊎ ((objects_in before n ≡ Some a) × (owner_of c.own.seat.hand.copiers n ≡ c.own.seat.hand.copier)) → (contents c n ≡ Some a) ⊎ Keeps c n a
+        own (inl h) = inl (both_left (made c.own.to) (held_objects c.given.items) n a h)
         own (inr h) = inr (h.0, ap (λ k. owner_of k n) (sym s.copiers) ∙ h.1)
 
-        by : (stored c.to.young c.to.tenured n ≡ Some a) ⊎ ((stored c.to.young c.to.tenured n ≡ None) × (held_objects c.given.items n ≡ Some a)) → (contents c n ≡ Some a) ⊎ Keeps c n a
+        by : (stored c.own.to.young c.own.to.tenured n ≡ Some a) ⊎ ((stored c.own.to.young c.own.to.tenured n ≡ None) × (held_objects c.given.items n ≡ Some a)) → (contents c n ≡ Some a) ⊎ Keeps c n a
         by (inl h) = own (made_or_kept c n a f h)
-        by (inr h) = inl (both_right (made c.to) (held_objects c.given.items) n (made_none c n h.0) ∙ h.1)
+        by (inr h) = inl (both_right (made c.own.to) (held_objects c.given.items) n (made_none c n h.0) ∙ h.1)
 
     abbrev KeptBy : List Copier → ℕ → Object → Type 0
     KeptBy [] n a = ⊥
@@ -203,25 +203,25 @@ module _ (young : ℕ) (before : Blocks) (other : before.lane ≢ young) where
     kept_other x (c ∷ cs) n a o e (inr h) = kept_other x cs n a o.1 e h
 
     -- no place is held or kept twice
-    pub own_once : (c : Copier) (n : ℕ) (a : Object) → IsFilling young before c → IsSeated stores words pieces c → (IsInOne c.given.items n → IsPlaced young before n) → stored c.to.young c.to.tenured n ≡ Some a → held_objects c.given.items n ≡ None
+    pub own_once : (c : Copier) (n : ℕ) (a : Object) → IsFilling young before c → IsSeated stores words pieces c → (IsInOne c.given.items n → IsPlaced young before n) → stored c.own.to.young c.own.to.tenured n ≡ Some a → held_objects c.given.items n ≡ None
     own_once c n a f s p e = by (made_or_kept c n a f e)
       where
         none : objects_in before n ≡ Some a → (x : Option Object) → held_objects c.given.items n ≡ x → held_objects c.given.items n ≡ None
         none was None t = t
         none was (Some b) t = absurd (never_clear n a (placed_clear n (p (one_held c.given.items n b t))) was)
 
-        by : (made c.to n ≡ Some a) ⊎ ((objects_in before n ≡ Some a) × (owner_of c.seat.hand.copiers n ≡ c.seat.hand.copier)) → held_objects c.given.items n ≡ None
+        by : (made c.own.to n ≡ Some a) ⊎ ((objects_in before n ≡ Some a) × (owner_of c.own.seat.hand.copiers n ≡ c.own.seat.hand.copier)) → held_objects c.given.items n ≡ None
         by (inl h) = s.local.once n a h
         by (inr h) = none h.0 (held_objects c.given.items n) refl
 
-    pub stock_once : (c : Copier) (cs : List Copier) (aside : List Piece) (n : ℕ) (a : Object) → AllFill young before (c ∷ cs) → AreSeated stores words pieces (c ∷ cs) → AreOthers c.seat.hand.copier cs → (IsInOne (all_pieces (c ∷ cs) aside) n → IsPlaced young before n) → ((b : Object) → contents c n ≡ Some b → joint (parts cs aside) n ≡ None) → stock c n ≡ Some a → stocks cs aside n ≡ None
+    pub stock_once : (c : Copier) (cs : List Copier) (aside : List Piece) (n : ℕ) (a : Object) → AllFill young before (c ∷ cs) → AreSeated stores words pieces (c ∷ cs) → AreOthers c.own.seat.hand.copier cs → (IsInOne (all_pieces (c ∷ cs) aside) n → IsPlaced young before n) → ((b : Object) → contents c n ≡ Some b → joint (parts cs aside) n ≡ None) → stock c n ≡ Some a → stocks cs aside n ≡ None
     stock_once c cs aside n a f s o p apart e = by (stocks cs aside n) refl
       where
         never : (b : Object) → (contents c n ≡ Some a) ⊎ Keeps c n a → (joint (parts cs aside) n ≡ Some b) ⊎ KeptBy cs n b → ⊥
         never b (inl h) (inl g) = let two : None ≡ Some b = sym (apart a h) ∙ g in cc
         never b (inl h) (inr g) = never_clear n b (contents_clear c n a f.0 s.0 (λ i. p (one_left c.given.items (all_pieces cs aside) n i)) h) (kept_was cs n b g)
         never b (inr h) (inl g) = never_clear n a (joint_clear cs aside n b f.1 s.1 (λ i. p (one_right c.given.items (all_pieces cs aside) n i)) g) h.0
-        never b (inr h) (inr g) = kept_other c.seat.hand.copier cs n b o h.1 g
+        never b (inr h) (inr g) = kept_other c.own.seat.hand.copier cs n b o h.1 g
 
         by : (x : Option Object) → stocks cs aside n ≡ x → stocks cs aside n ≡ None
         by None t = t
@@ -254,29 +254,29 @@ module _ (young : ℕ) (before : Blocks) (other : before.lane ≢ young) where
       fill_has (b ∷ ds) c f s (inl e) = subst (λ z. IsFilling young before z × IsSeated stores words pieces z) e (f.0, s.0)
       fill_has (b ∷ ds) c f s (inr h) = fill_has ds c f.1 s.1 h
 
-      own_over : (c : Copier) (m n : ℕ) (a z : Object) → IsFilling young before c → IsSeated stores words pieces c → lane_of m ≡ before.lane → stored c.to.young c.to.tenured m ≡ Some a → objects_in before n ≡ Some z → block_of m ≡ block_of n → stored c.to.young c.to.tenured n ≡ Some z
+      own_over : (c : Copier) (m n : ℕ) (a z : Object) → IsFilling young before c → IsSeated stores words pieces c → lane_of m ≡ before.lane → stored c.own.to.young c.own.to.tenured m ≡ Some a → objects_in before n ≡ Some z → block_of m ≡ block_of n → stored c.own.to.young c.own.to.tenured n ≡ Some z
       own_over c m n a z f s lane e g same =
           let own = by (made_or_kept c m a f e) in
-          let here : owner_of c.seat.hand.copiers n ≡ c.seat.hand.copier = ap (λ b. b % c.seat.hand.copiers) (sym same) ∙ own.0 in
+          let here : owner_of c.own.seat.hand.copiers n ≡ c.own.seat.hand.copier = ap (λ b. b % c.own.seat.hand.copiers) (sym same) ∙ own.0 in
           let high = f.below n z g here in
           let low = own.1 in
           let at = lies_in before n z g in
-          stored_old c.to.young c.to.tenured n (λ l. other (sym at.lane ∙ l ∙ f.young_lane)) ∙ (f.there n z g (omega (arith, high, low, same))).0
+          stored_old c.own.to.young c.own.to.tenured n (λ l. other (sym at.lane ∙ l ∙ f.young_lane)) ∙ (f.there n z g (omega (arith, high, low, same))).0
         where
           from : IsFrom young before.lane f.first m → f.first ≤ block_of m
           from (inl l) = absurd (other (sym lane ∙ l))
           from (inr h) = h.1
 
-          by : (made c.to m ≡ Some a) ⊎ ((objects_in before m ≡ Some a) × (owner_of c.seat.hand.copiers m ≡ c.seat.hand.copier)) → (owner_of c.seat.hand.copiers m ≡ c.seat.hand.copier) × (f.first ≤ block_of m)
+          by : (made c.own.to m ≡ Some a) ⊎ ((objects_in before m ≡ Some a) × (owner_of c.own.seat.hand.copiers m ≡ c.own.seat.hand.copier)) → (owner_of c.own.seat.hand.copiers m ≡ c.own.seat.hand.copier) × (f.first ≤ block_of m)
           by (inl h) = (ap (λ k. owner_of k m) s.copiers ∙ s.own m (a, h), from (f.made m (a, h)))
-          by (inr h) = (h.1, kept (is_above c.to.kept m) refl)
+          by (inr h) = (h.1, kept (is_above c.own.to.kept m) refl)
             where
-              away : lane_of m ≢ c.to.young.lane
+              away : lane_of m ≢ c.own.to.young.lane
               away l = other (sym lane ∙ l ∙ f.young_lane)
 
-              kept : (t : Bool) → is_above c.to.kept m ≡ t → f.first ≤ block_of m
-              kept true t = from (f.made m (a, made_above c.to.young c.to.tenured c.to.kept m away t ∙ sym (stored_old c.to.young c.to.tenured m away) ∙ e))
-              kept false t = let k = (f.kept m a (sym (stored_old c.to.young c.to.tenured m away) ∙ e) t).1 in omega (arith, k)
+              kept : (t : Bool) → is_above c.own.to.kept m ≡ t → f.first ≤ block_of m
+              kept true t = from (f.made m (a, made_above c.own.to.young c.own.to.tenured c.own.to.kept m away t ∙ sym (stored_old c.own.to.young c.own.to.tenured m away) ∙ e))
+              kept false t = let k = (f.kept m a (sym (stored_old c.own.to.young c.own.to.tenured m away) ∙ e) t).1 in omega (arith, k)
 
       pub stocks_over : (m n : ℕ) (a z : Object) → lane_of m ≡ before.lane → stocks cs aside m ≡ Some a → objects_in before n ≡ Some z → block_of m ≡ block_of n → stocks cs aside n ≡ Some z
       stocks_over m n a z lane e g same = by (stored_or_moved cs aside m a e)

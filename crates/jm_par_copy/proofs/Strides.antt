@@ -184,6 +184,18 @@ reserved_in s cells p lane two room e =
         let less : block_of q < length s.lists - 1 = omega (arith, inside, other) in
         omega (arith, less, whole, on, at)
 
+-- the last block of a store, if it has room, has fewer objects than a block may have
+pub last_few : (s : Blocks) (cells : ℕ) (os : List Object) → last_has_room s.lists cells ≡ true → 2 ≤ cells → last_of s.lists ≡ Some os → length os < 256
+last_few s cells os room two at =
+    let last = last_is s.lists cells room in
+    let both : Some last.0 ≡ Some os = sym last.1 ∙ at in
+    let same : last.0 ≡ os = cc in
+    subst (λ (xs : List Object). length xs < 256) same (few_where_room last.0 cells last.2 two)
+
+-- the place above these is the next one
+pub above_last : (s : Blocks) (cells p : ℕ) (os : List Object) → s.lane < 64 → last_has_room s.lists cells ≡ true → 2 ≤ cells → last_of s.lists ≡ Some os → p ≡ place_at s.lane (length s.lists - 1) (length os) → IsReservedIn s cells p
+above_last s cells p os lane room two at e = reserved_in s cells p lane two room (e ∙ next_last s cells os room at)
+
 -- an object that has room leaves as many blocks
 pub as_many : (bs : List (List Object)) (o : Object) → last_has_room bs (object_cells o) ≡ true → length (with_object bs o) ≡ length bs
 as_many bs o room = ap length (with_object_last bs o room) ∙ length-set bs (length bs - 1) _

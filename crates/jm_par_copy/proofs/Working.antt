@@ -221,11 +221,19 @@ pub record Stepped (stores : List Blocks) (roots : List ℕ) (h : Hand) (c : Cop
   pub forwarded : (base : List (ℕ × ℕ)) → Forwarded (objects_at stores) (Pairs stores (known_to base h')) p q
   pub working : KeepsWorking stores roots h h' c d
 
--- blocks are opened before it
-pub opened_first : (stores : List Blocks) (roots : List ℕ) (n : ℕ) (h h' : Hand) (c d e : Copies) (p q : ℕ) → n ≡ h.copiers → Opened n c d → Stepped stores roots h d h' e p q → Stepped stores roots h c h' e p q
-opened_first stores roots n h h' c d e p q many o s = record {
-  forwarded = s.forwarded;
-  working = λ base held k rest done f. s.working base held k rest done (opened f);
+-- blocks are opened: what a copier keeps goes over
+pub working_opened : (stores : List Blocks) (roots : List ℕ) (n : ℕ) (h : Hand) (c d : Copies) → n ≡ h.copiers → Opened n c d → KeepsWorking stores roots h h c d
+working_opened stores roots n h c d many o = λ base held k rest done f. record {
+  copying = subst (λ g. Copying (objects_at stores) roots (Pairs stores (known_to base h)) (Pairs stores (held_by held k h)) (both g rest) done) all f.copying;
+  recent = f.recent;
+  apart = λ t. f.apart (sym o.old.lane ∙ t ∙ o.young.lane);
+  kept = subst (λ x. IsMark d.tenured x) (sym o.kept) (mark_stays c.tenured d.tenured c.kept (opened_stays n c d o).old_there f.kept);
+  ages = λ m a t. f.ages m a (sym (opened_made n c d o m) ∙ t) ∙ sym (age_same c d m o.young.lane);
+  dated = λ p m b g t. dated_same c d m b o.young.lane o.old.lane (f.dated p m b g t);
+  taken = λ i m t there. f.taken i m t (new_before h.copier h.copiers c d m (opened_stays n c d o) goes there);
+  free = λ m t. f.free m (new_before h.copier h.copiers c d m (opened_stays n c d o) goes t);
+  once = λ m a t. f.once m a (sym (opened_made n c d o m) ∙ t);
+  ahead = λ m count t. f.ahead m count (new_before h.copier h.copiers c d m (opened_stays n c d o) goes t);
 }
   where
     all : made c ≡ made d
@@ -234,19 +242,19 @@ opened_first stores roots n h h' c d e p q many o s = record {
     goes : Goes h.copier h.copiers c d
     goes = subst (λ k. Goes h.copier k c d) many (opened_goes n c d o h.copier)
 
-    opened : {base held : List (ℕ × ℕ)} {k : ℕ} {rest : ℕ → Option Object} {done : Progress} → IsWorking stores roots base held k rest h c done → IsWorking stores roots base held k rest h d done
-    opened {base} {held} {k} {rest} {done} f = record {
-      copying = subst (λ g. Copying (objects_at stores) roots (Pairs stores (known_to base h)) (Pairs stores (held_by held k h)) (both g rest) done) all f.copying;
-      recent = f.recent;
-      apart = λ t. f.apart (sym o.old.lane ∙ t ∙ o.young.lane);
-      kept = subst (λ x. IsMark d.tenured x) (sym o.kept) (mark_stays c.tenured d.tenured c.kept (opened_stays n c d o).old_there f.kept);
-      ages = λ m a t. f.ages m a (sym (opened_made n c d o m) ∙ t) ∙ sym (age_same c d m o.young.lane);
-      dated = λ p m b g t. dated_same c d m b o.young.lane o.old.lane (f.dated p m b g t);
-      taken = λ i m t there. f.taken i m t (new_before h.copier h.copiers c d m (opened_stays n c d o) goes there);
-      free = λ m t. f.free m (new_before h.copier h.copiers c d m (opened_stays n c d o) goes t);
-      once = λ m a t. f.once m a (sym (opened_made n c d o m) ∙ t);
-      ahead = λ m count t. f.ahead m count (new_before h.copier h.copiers c d m (opened_stays n c d o) goes t);
-    }
+-- so before a step
+pub opened_first : (stores : List Blocks) (roots : List ℕ) (n : ℕ) (h h' : Hand) (c d e : Copies) (p q : ℕ) → n ≡ h.copiers → Opened n c d → Stepped stores roots h d h' e p q → Stepped stores roots h c h' e p q
+opened_first stores roots n h h' c d e p q many o s = record {
+  forwarded = s.forwarded;
+  working = λ base held k rest done f. s.working base held k rest done (working_opened stores roots n h c d many o base held k rest done f);
+}
+
+-- and after it
+pub opened_last : (stores : List Blocks) (roots : List ℕ) (n : ℕ) (h h' : Hand) (c d e : Copies) (p q : ℕ) → n ≡ h'.copiers → Opened n d e → Stepped stores roots h c h' d p q → Stepped stores roots h c h' e p q
+opened_last stores roots n h h' c d e p q many o s = record {
+  forwarded = s.forwarded;
+  working = λ base held k rest done f. working_opened stores roots n h' d e many o base held k rest done (s.working base held k rest done f);
+}
 
 -- another's place is seen, at a look or at a claim that lost
 pub seen : (stores : List Blocks) (roots : List ℕ) (h h' : Hand) (c : Copies) (p q i : ℕ) (o : Object) → objects_at stores p ≡ Some o → i ≡ number_of stores p → h' ≡ knowing h i q → Stepped stores roots h c h' c p q
@@ -333,7 +341,7 @@ module _ (stores : List Blocks) (roots : List ℕ) (base held : List (ℕ × ℕ
   working_reached h c done s j p a b f e g t = reached_by_scan (Pairs stores (known_to base h)) (Pairs stores (held_by held k h)) (both (made c) rest) (at done s j) s j p a b f.copying (at_here done s j (length a.values)) (both_left (made c) rest s a e) g t
 
   module _ (rest_done : Progress) where
-    mine : (lane : ℕ) (m : Marks) (n count : ℕ) → rest n ≡ None → scan_progress lane m rest rest_done n count ≡ progress lane m n count
+    pub mine : (lane : ℕ) (m : Marks) (n count : ℕ) → rest n ≡ None → scan_progress lane m rest rest_done n count ≡ progress lane m n count
     unfolding scan_progress
     mine lane m n count e = ap (λ x. done_by x (rest_done n count) (progress lane m n count)) e
 

@@ -28,10 +28,10 @@ use Rattle.jm_par_copy.specs.declared.copier.Copier.{Copier}
 
 -- the objects that a copier holds, and how far each is scanned
 abbrev pub contents : Copier → ℕ → Option Object
-contents c = both (made c.to) (held_objects c.given.items)
+contents c = both (made c.own.to) (held_objects c.given.items)
 
 abbrev pub scan_of : Copier → Progress
-scan_of c = scan_progress c.to.young.lane c.marks (held_objects c.given.items) (held_progress c.given.items)
+scan_of c = scan_progress c.own.to.young.lane c.marks (held_objects c.given.items) (held_progress c.given.items)
 
 abbrev pub part_of : Copier → Part
 part_of c = record { new = contents c; done = scan_of c }
@@ -46,7 +46,7 @@ parts (c ∷ cs) aside = part_of c ∷ parts cs aside
 
 abbrev pub hands : List Copier → List Hand
 hands [] = []
-hands (c ∷ cs) = c.seat.hand ∷ hands cs
+hands (c ∷ cs) = c.own.seat.hand ∷ hands cs
 
 -- the given blocks of all, and those set aside
 abbrev pub all_pieces : List Copier → List Piece → List Piece
@@ -56,18 +56,18 @@ all_pieces (c ∷ cs) aside = c.given.items ++ all_pieces cs aside
 -- a copier that is ready for a round, whose own objects lie in blocks of its own, and where they lie and
 -- where new ones will come no moved block is, whoever holds it
 pub record IsSeated (stores : List Blocks) (words : TableView) (pieces : List Piece) (c : Copier) : Type 0 where
-  pub table : c.seat.table ≡ words.table
+  pub table : c.own.seat.table ≡ words.table
   pub objects : words.objects ≡ object_count stores
-  pub copiers : c.seat.hand.copiers ≡ words.copiers
-  pub number : (c.number < words.copiers) × (words.copiers ≤ 16)
-  pub ends : OwnsEnds c.seat.hand.copier c.seat.hand.copiers c.to
-  pub marks : AreMarks c.to c.marks
-  pub given : AreGiven c.seat.hand c.to c.given.items
-  pub local : IsLocal stores (held_objects c.given.items) c.seat.hand c.to (scan_of c)
-  pub wins : WinsAreOwn c.seat.hand.copiers c.seat.hand.copier c.seat.hand.wins
-  pub own : (n : ℕ) → HasMade c.to n → owner_of words.copiers n ≡ c.seat.hand.copier
-  pub beside : (n : ℕ) → HasMade c.to n → IsInOne pieces n → ⊥
-  pub new : (n : ℕ) → IsNew c.seat.hand c.to n → IsInOne pieces n → ⊥
+  pub copiers : c.own.seat.hand.copiers ≡ words.copiers
+  pub number : (c.own.number < words.copiers) × (words.copiers ≤ 16)
+  pub ends : OwnsEnds c.own.seat.hand.copier c.own.seat.hand.copiers c.own.to
+  pub marks : AreMarks c.own.to c.marks
+  pub given : AreGiven c.own.seat.hand c.own.to c.given.items
+  pub local : IsLocal stores (held_objects c.given.items) c.own.seat.hand c.own.to (scan_of c)
+  pub wins : WinsAreOwn c.own.seat.hand.copiers c.own.seat.hand.copier c.own.seat.hand.wins
+  pub own : (n : ℕ) → HasMade c.own.to n → owner_of words.copiers n ≡ c.own.seat.hand.copier
+  pub beside : (n : ℕ) → HasMade c.own.to n → IsInOne pieces n → ⊥
+  pub new : (n : ℕ) → IsNew c.own.seat.hand c.own.to n → IsInOne pieces n → ⊥
 
 abbrev pub AreSeated : List Blocks → TableView → List Piece → List Copier → Type 0
 AreSeated stores words pieces [] = Unit {0}
@@ -76,11 +76,11 @@ AreSeated stores words pieces (c ∷ cs) = IsSeated stores words pieces c × Are
 -- no copier has this number, and no two have one
 abbrev pub AreOthers : ℕ → List Copier → Type 0
 AreOthers x [] = Unit {0}
-AreOthers x (c ∷ cs) = (c.seat.hand.copier ≢ x) × AreOthers x cs
+AreOthers x (c ∷ cs) = (c.own.seat.hand.copier ≢ x) × AreOthers x cs
 
 abbrev pub AreDifferent : List Copier → Type 0
 AreDifferent [] = Unit {0}
-AreDifferent (c ∷ cs) = AreOthers c.seat.hand.copier cs × AreDifferent cs
+AreDifferent (c ∷ cs) = AreOthers c.own.seat.hand.copier cs × AreDifferent cs
 
 -- no place is in blocks of two
 abbrev pub AreApartGiven : List Copier → List Piece → Type 0
@@ -119,13 +119,13 @@ RoundKeeps = (stores : List Blocks) (roots : List ℕ) (words : TableView) (cs d
 
 -- what no step changes, refused or not: the number, the seat's table and number, the lanes and the kept place
 pub record KeepsSeat (c d : Copier) : Type 0 where
-  pub number : d.number ≡ c.number
-  pub table : d.seat.table ≡ c.seat.table
-  pub copier : d.seat.hand.copier ≡ c.seat.hand.copier
-  pub copiers : d.seat.hand.copiers ≡ c.seat.hand.copiers
-  pub young_lane : d.to.young.lane ≡ c.to.young.lane
-  pub old_lane : d.to.tenured.lane ≡ c.to.tenured.lane
-  pub kept : d.to.kept ≡ c.to.kept
+  pub number : d.own.number ≡ c.own.number
+  pub table : d.own.seat.table ≡ c.own.seat.table
+  pub copier : d.own.seat.hand.copier ≡ c.own.seat.hand.copier
+  pub copiers : d.own.seat.hand.copiers ≡ c.own.seat.hand.copiers
+  pub young_lane : d.own.to.young.lane ≡ c.own.to.young.lane
+  pub old_lane : d.own.to.tenured.lane ≡ c.own.to.tenured.lane
+  pub kept : d.own.to.kept ≡ c.own.to.kept
 
 abbrev pub KeepSeats : List Copier → List Copier → Type 0
 KeepSeats [] [] = Unit {0}
@@ -135,13 +135,13 @@ KeepSeats (c ∷ cs) (d ∷ ds) = KeepsSeat c d × KeepSeats cs ds
 
 -- the copier has given back what it can
 pub record IsBack (c d : Copier) : Type 0 where
-  pub number : d.number ≡ c.number
-  pub seat : d.seat ≡ c.seat
+  pub number : d.own.number ≡ c.own.number
+  pub seat : d.own.seat ≡ c.own.seat
   pub roots : d.roots.items ≡ c.roots.items
   pub rooted : d.rooted ≡ c.rooted
   pub marks : d.marks ≡ c.marks
-  pub holds : StillHolds c.to d.to c.marks c.given.items d.given.items
-  pub same : SameBlocks c.to d.to
+  pub holds : StillHolds c.own.to d.own.to c.marks c.given.items d.given.items
+  pub same : SameBlocks c.own.to d.own.to
   pub noting : IsNoting c → IsNoting d
 
 abbrev pub AreBack : List Copier → List Copier → Type 0
@@ -169,15 +169,15 @@ IsFrom young old first n = (lane_of n ≡ young) ⊎ ((lane_of n ≡ old) × (fi
 -- a copier fills two lanes, of the old one its own blocks from a number on, above which the old store has no object in
 -- them; what it keeps are the objects that the old store has in the block of this number
 pub record IsFilling (young : ℕ) (before : Blocks) (c : Copier) : Type 0 where
-  pub young_lane : c.to.young.lane ≡ young
-  pub old_lane : c.to.tenured.lane ≡ before.lane
+  pub young_lane : c.own.to.young.lane ≡ young
+  pub old_lane : c.own.to.tenured.lane ≡ before.lane
   pub first : ℕ
-  pub own : first % c.seat.hand.copiers ≡ c.seat.hand.copier
-  pub next : first < length c.to.tenured.lists
-  pub made : (n : ℕ) → HasMade c.to n → IsFrom young before.lane first n
-  pub below : (n : ℕ) (o : Object) → objects_in before n ≡ Some o → owner_of c.seat.hand.copiers n ≡ c.seat.hand.copier → block_of n ≤ first
-  pub kept : (n : ℕ) (o : Object) → objects_in c.to.tenured n ≡ Some o → is_above c.to.kept n ≡ false → (objects_in before n ≡ Some o) × (block_of n ≡ first)
-  pub there : (n : ℕ) (o : Object) → objects_in before n ≡ Some o → block_of n ≡ first → (objects_in c.to.tenured n ≡ Some o) × (is_above c.to.kept n ≡ false)
+  pub own : first % c.own.seat.hand.copiers ≡ c.own.seat.hand.copier
+  pub next : first < length c.own.to.tenured.lists
+  pub made : (n : ℕ) → HasMade c.own.to n → IsFrom young before.lane first n
+  pub below : (n : ℕ) (o : Object) → objects_in before n ≡ Some o → owner_of c.own.seat.hand.copiers n ≡ c.own.seat.hand.copier → block_of n ≤ first
+  pub kept : (n : ℕ) (o : Object) → objects_in c.own.to.tenured n ≡ Some o → is_above c.own.to.kept n ≡ false → (objects_in before n ≡ Some o) × (block_of n ≡ first)
+  pub there : (n : ℕ) (o : Object) → objects_in before n ≡ Some o → block_of n ≡ first → (objects_in c.own.to.tenured n ≡ Some o) × (is_above c.own.to.kept n ≡ false)
 
 abbrev pub AllFill : ℕ → Blocks → List Copier → Type 0
 AllFill young before [] = Unit {0}
@@ -222,7 +222,7 @@ share f n = is_object (f n)
 abbrev pub turns : List Copier → List Copier → List Piece → List Turn
 turns [] ds aside = record { share = share (held_objects aside); before = fresh 0 0; after = fresh 0 0 } ∷ []
 turns (c ∷ cs) [] aside = []
-turns (c ∷ cs) (d ∷ ds) aside = record { share = share (contents c); before = c.seat.hand; after = d.seat.hand } ∷ turns cs ds aside
+turns (c ∷ cs) (d ∷ ds) aside = record { share = share (contents c); before = c.own.seat.hand; after = d.own.seat.hand } ∷ turns cs ds aside
 
 -- all blocks are scanned to their ends, and all own objects of all copiers
 abbrev pub AreScannedPieces : List Piece → Type 0
@@ -230,7 +230,7 @@ AreScannedPieces xs = (i : ℕ) (x : Piece) → slice_get xs i ≡ Some x → x.
 
 abbrev pub AreEnded : List Copier → List Piece → Type 0
 AreEnded [] aside = AreScannedPieces aside
-AreEnded (c ∷ cs) aside = AllPassed c.to c.marks × AreScannedPieces c.given.items × AreEnded cs aside
+AreEnded (c ∷ cs) aside = AllPassed c.own.to c.marks × AreScannedPieces c.given.items × AreEnded cs aside
 
 -- where all have ended and have met, what they hold is the image
 abbrev pub EndIsImage : Type 0
@@ -251,7 +251,7 @@ HaveEnded (c ∷ cs) = (c.ended ≡ true) × HaveEnded cs
 -- all copiers fill these two lanes
 abbrev pub AreInLanes : ℕ → ℕ → List Copier → Type 0
 AreInLanes young old [] = Unit {0}
-AreInLanes young old (c ∷ cs) = (c.to.young.lane ≡ young) × (c.to.tenured.lane ≡ old) × AreInLanes young old cs
+AreInLanes young old (c ∷ cs) = (c.own.to.young.lane ≡ young) × (c.own.to.tenured.lane ≡ old) × AreInLanes young old cs
 
 -- then what they hold lies in these, and its age is by its lane
 abbrev pub AgesAreByLane : Type 0
@@ -263,9 +263,9 @@ AgesAreByLane = (stores : List Blocks) (roots : List ℕ) (words : TableView) (c
 -- before the first claim of all
 pub record IsFreshCopier (stores : List Blocks) (roots : List ℕ) (words : TableView) (c : Copier) : Type 0 where
   pub ready : IsReady stores roots words c
-  pub own : IsFreshOwn c.to
+  pub own : IsFreshOwn c.own.to
   pub given : c.given.items ≡ []
-  pub wins : c.seat.hand.wins ≡ []
+  pub wins : c.own.seat.hand.wins ≡ []
   pub noting : IsNoting c
 
 abbrev pub AreFreshCopiers : List Blocks → List ℕ → TableView → List Copier → Type 0

@@ -24,9 +24,9 @@ pub record IsReordered (xs ys : List Piece) : Type 0 where
 
 -- the copier with other given blocks
 pub record IsSameCopier (c d : Copier) : Type 0 where
-  pub number : d.number ≡ c.number
-  pub seat : d.seat ≡ c.seat
-  pub to : d.to ≡ c.to
+  pub number : d.own.number ≡ c.own.number
+  pub seat : d.own.seat ≡ c.own.seat
+  pub to : d.own.to ≡ c.own.to
   pub marks : d.marks ≡ c.marks
   pub pointing : d.pointing.items ≡ c.pointing.items
   pub roots : d.roots.items ≡ c.roots.items

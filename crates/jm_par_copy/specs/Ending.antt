@@ -39,7 +39,7 @@ pub record AreLoads (young old : ℕ) (xs : List Piece) : Type 0 where
 
 -- all objects of a copier, what it keeps among them, and those of all copiers with the blocks that are set aside
 abbrev pub stock : Copier → ℕ → Option Object
-stock c = both (stored c.to.young c.to.tenured) (held_objects c.given.items)
+stock c = both (stored c.own.to.young c.own.to.tenured) (held_objects c.given.items)
 
 abbrev pub stocks : List Copier → List Piece → ℕ → Option Object
 stocks [] aside = held_objects aside
@@ -47,10 +47,10 @@ stocks (c ∷ cs) aside = both (stock c) (stocks cs aside)
 
 -- what a copier has lies in two lanes, and no place is held twice
 pub record IsLoad (young old : ℕ) (c : Copier) : Type 0 where
-  pub young_lane : c.to.young.lane ≡ young
-  pub old_lane : c.to.tenured.lane ≡ old
+  pub young_lane : c.own.to.young.lane ≡ young
+  pub old_lane : c.own.to.tenured.lane ≡ old
   pub given : AreLoads young old c.given.items
-  pub once : (n : ℕ) (a : Object) → stored c.to.young c.to.tenured n ≡ Some a → held_objects c.given.items n ≡ None
+  pub once : (n : ℕ) (a : Object) → stored c.own.to.young c.own.to.tenured n ≡ Some a → held_objects c.given.items n ≡ None
 
 -- and so of all copiers, with the blocks that are set aside
 abbrev pub AllLoads : ℕ → ℕ → List Copier → List Piece → Type 0
@@ -66,7 +66,7 @@ HeldIsLoads = (stores : List Blocks) (roots : List ℕ) (words : TableView) (cs 
 -- the seats of copiers, in order
 abbrev pub seats_in : List Copier → List SeatView
 seats_in [] = []
-seats_in (c ∷ cs) = c.seat ∷ seats_in cs
+seats_in (c ∷ cs) = c.own.seat ∷ seats_in cs
 
 -- what all have lies in two stores, and the old store has what it had and the second of these
 pub record IsPutTogether (cs : List Copier) (aside : List Piece) (before young promoted tenured : Blocks) : Type 0 where

@@ -5,12 +5,15 @@ pub mod Together
 pub mod Pieces
 pub mod Notes
 pub mod Round
+pub mod Spans
+pub mod Steps
 pub mod Moves
 pub mod Merging
 pub mod Begins
 pub mod Begun
 pub mod Roots
 pub mod Fresh
+pub mod Front
 pub mod Turns
 pub mod Aside
 pub mod Holding

@@ -22,8 +22,8 @@ AreNoted xs = (i : ℕ) (x : Piece) → slice_get xs i ≡ Some x → IsNoted x
 
 -- a copier has listed those of its own store as far as its mark, and of each block that it was given those are listed
 pub record IsNoting (c : Copier) : Type 0 where
-  pub young : c.to.young.lane ≡ 1
-  pub own : IsListed 1 c.to.tenured c.to.kept c.marks.tenured c.pointing.items
+  pub young : c.own.to.young.lane ≡ 1
+  pub own : IsListed 1 c.own.to.tenured c.own.to.kept c.marks.tenured c.pointing.items
   pub given : AreNoted c.given.items
 
 -- so has each, and of the blocks that are set aside those are listed

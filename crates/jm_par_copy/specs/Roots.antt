@@ -13,7 +13,7 @@ pub record AreRootsOf (stores : List Blocks) (roots : List ℕ) (known : List (�
 
 -- the copier has the new places of its roots
 abbrev pub IsRooted : List Blocks → List ℕ → Copier → Type 0
-IsRooted stores roots c = AreRootsOf stores roots c.seat.hand.known c.number c.seat.hand.copiers c.roots.items
+IsRooted stores roots c = AreRootsOf stores roots c.own.seat.hand.known c.own.number c.own.seat.hand.copiers c.roots.items
 
 -- a copier has the new places of none of its roots, or of all
 pub record RootsStand (stores : List Blocks) (roots : List ℕ) (c : Copier) : Type 0 where

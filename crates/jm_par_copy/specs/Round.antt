@@ -12,39 +12,34 @@ use Rattle.jm_par_copy.specs.declared.copier.Copier.{Copier}
 
 -- it has a seat of the table, lanes of its own, and something that it knows and holds
 pub record IsReady (stores : List Blocks) (roots : List ℕ) (words : TableView) (c : Copier) : Type 0 where
-  pub claims : CanClaim stores words c.seat c.to
-  pub marks : AreMarks c.to c.marks
-  pub given : AreGiven c.seat.hand c.to c.given.items
-  pub number : (c.number < words.copiers) × (words.copiers ≤ 16)
+  pub claims : CanClaim stores words c.own
+  pub marks : AreMarks c.own.to c.marks
+  pub given : AreGiven c.own.seat.hand c.own.to c.given.items
+  pub number : (c.own.number < words.copiers) × (words.copiers ≤ 16)
   pub rooted : RootsStand stores roots c
-  pub holding : (base : List (ℕ × ℕ)) × (held : List (ℕ × ℕ)) × (k : ℕ) × IsHolding stores roots base held k c.seat.hand c.to c.marks c.given.items
+  pub holding : (base : List (ℕ × ℕ)) × (held : List (ℕ × ℕ)) × (k : ℕ) × IsHolding stores roots base held k c.own.seat.hand c.own.to c.marks c.given.items
 
 -- whatever it knew and held, the invariant goes over; a copier to whom a growth was refused keeps its
 -- stores' lanes and what was there before
 pub record IsKept (stores : List Blocks) (roots : List ℕ) (c d : Copier) : Type 0 where
-  pub holding : KeepsHolding stores roots c.seat.hand d.seat.hand c.to d.to c.marks d.marks c.given.items d.given.items
-  pub given : AreGiven d.seat.hand d.to d.given.items
+  pub holding : KeepsHolding stores roots c.own.seat.hand d.own.seat.hand c.own.to d.own.to c.marks d.marks c.given.items d.given.items
+  pub given : AreGiven d.own.seat.hand d.own.to d.given.items
   pub same : AreSamePieces c.given.items d.given.items
-  pub marks : AreMarks d.to d.marks
-  pub ended : d.ended ≡ true → AllPassed d.to d.marks × ((i : ℕ) (x : Piece) → slice_get d.given.items i ≡ Some x → x.mark ≡ length x.block)
-  pub learns : LearnsMore c.seat.hand d.seat.hand
+  pub marks : AreMarks d.own.to d.marks
+  pub ended : d.ended ≡ true → AllPassed d.own.to d.marks × ((i : ℕ) (x : Piece) → slice_get d.given.items i ≡ Some x → x.mark ≡ length x.block)
+  pub learns : LearnsMore c.own.seat.hand d.own.seat.hand
   pub noting : IsNoting c → IsNoting d
-
--- what no step of a round changes, refused or not
-pub record GoesOn (c d : Copier) : Type 0 where
-  pub number : d.number ≡ c.number
-  pub claiming : KeepsClaiming c.seat d.seat c.to d.to
 
 -- the scan of a round
 pub record IsScan (stores : List Blocks) (roots : List ℕ) (c d : Copier) : Type 0 where
-  pub on : GoesOn c d
+  pub on : KeepsClaiming c.own d.own
   pub places : d.roots.items ≡ c.roots.items
   pub rooted : d.rooted ≡ c.rooted
   pub kept : d.refused ≡ false → IsKept stores roots c d
 
 -- after it the copier has the new places of all its roots
 pub record IsRound (stores : List Blocks) (roots : List ℕ) (c d : Copier) : Type 0 where
-  pub on : GoesOn c d
+  pub on : KeepsClaiming c.own d.own
   pub rooted : d.refused ≡ false → (d.rooted ≡ true) × IsRooted stores roots d
   pub kept : d.refused ≡ false → IsKept stores roots c d
 

@@ -27,9 +27,9 @@ AreOwnStores number copiers before (t ∷ ts) = IsOwnStores number copiers befor
 
 -- the copier of a number, with this seat and these stores, has done nothing yet
 pub record IsSeatOf (number : ℕ) (seat : SeatView) (to : Copies) (c : Copier) : Type 0 where
-  pub number_is : c.number ≡ number
-  pub seat_is : c.seat ≡ seat
-  pub to_is : c.to ≡ to
+  pub number_is : c.own.number ≡ number
+  pub seat_is : c.own.seat ≡ seat
+  pub to_is : c.own.to ≡ to
   pub young : c.marks.young ≡ None
   pub tenured : c.marks.tenured ≡ to.kept
   pub pointing : c.pointing.items ≡ []
@@ -49,7 +49,7 @@ AreSeatsOf number (s ∷ ss) (t ∷ ts) (c ∷ cs) = IsSeatOf number s t c × Ar
 abbrev pub AreNumbered : TableView → ℕ → List Copier → Type 0
 AreNumbered words number [] = Unit {0}
 AreNumbered words number (c ∷ cs) =
-    (c.number ≡ number) × (c.seat.table ≡ words.table) × (c.seat.hand.copier ≡ number) × (c.seat.hand.copiers ≡ words.copiers) × AreNumbered words (number + 1) cs
+    (c.own.number ≡ number) × (c.own.seat.table ≡ words.table) × (c.own.seat.hand.copier ≡ number) × (c.own.seat.hand.copiers ≡ words.copiers) × AreNumbered words (number + 1) cs
 
 -- with all seats of a fresh table, and stores of their own, all copiers are before their first claim, and each goes on
 -- where it begins in the old store

@@ -8,8 +8,9 @@ ghost use Rattle.jm_copy.specs.Condemned.{AreLanes};
 use crate::copying::copy_with;
 use crate::ending::Copied;
 use crate::gate::{Gate, OpenGate};
-use jm_blocks::BlockStore;
-use jm_copy::{Collector, Refused, Source, Survivors, number_all};
+use crate::round::Round;
+use jm_blocks::{BlockStore, Position};
+use jm_copy::{Collector, Refused, SerialCollector, Source, Survivors, number_all};
 use jm_forward::Forwarding;
 use jm_values::Place;
 use std::alloc::{AllocError, Global};
@@ -66,15 +67,12 @@ impl<R: Threads, G: Gate + Sync> ParallelCollector<R, G> {
             numbers: numbers.as_slice(),
             roots,
         };
-        copy_with(
-            &self.runtime,
-            alloc,
+        let round = Round {
             from,
-            &words,
-            &self.gate,
-            &mut seats,
-            tenured,
-        )
+            words: &words,
+            gate: &self.gate,
+        };
+        copy_with(&self.runtime, alloc, &round, &mut seats, tenured)
     }
 
     // The survivors and the new roots, or the old store with what it had.
@@ -126,8 +124,40 @@ impl<R: Threads, G: Gate + Sync> ParallelCollector<R, G> {
     }
 }
 
+// So many cells are copied by one copier before threads have begun.
+const FEW_CELLS: u64 = 65_536;
+
+// So many roots are looked at before.
+const FEW_ROOTS: usize = 4_096;
+
+// The cells of the condemned objects.
+fn cells_of(condemned: &[BlockStore]) -> u64 {
+    let mut cells = 0u64;
+    for store in condemned {
+        cells = cells.saturating_add(store.cells());
+    }
+    cells
+}
+
+// How many roots lie where condemned objects do.
+fn roots_among(condemned: &[BlockStore], roots: &[Place]) -> usize {
+    let lanes = condemned.len() as u64;
+    let mut among = 0usize;
+    for root in roots {
+        if Position::of(*root).lane <= lanes {
+            among = among.saturating_add(1);
+        }
+    }
+    among
+}
+
+// Whether there is too little to do for threads.
+fn is_small(condemned: &[BlockStore], roots: &[Place]) -> bool {
+    cells_of(condemned) < FEW_CELLS && roots_among(condemned, roots) < FEW_ROOTS
+}
+
 // A trait's call does not know that a type parameter may be shared between threads, so the trait is kept to at the gate
-// that nobody waits at.
+// that nobody waits at. Where there is little to do one copier does it, as the serial collector.
 impl<R: Threads> Collector for ParallelCollector<R, OpenGate> {
     fn collect(
         &self,
@@ -136,6 +166,9 @@ impl<R: Threads> Collector for ParallelCollector<R, OpenGate> {
         tenured: BlockStore,
         roots: &mut Vec<Place>,
     ) -> Result<Survivors, Refused> {
+        if is_small(condemned.as_slice(), roots.as_slice()) {
+            return SerialCollector.collect(alloc, condemned, tenured, roots);
+        }
         self.collect(alloc, condemned, tenured, roots)
     }
 }

@@ -3,7 +3,6 @@
 ghost use Rattle.std.specs.Prelude.{◌≡◌, ◌≢◌, ℕ, ◌<◌, ◌≤◌, [], IfOk, OnErr, OnOk, length, map, vec_capacity};
 ghost use Rattle.jm_blocks.specs.Stores.{objects_in};
 ghost use Rattle.jm_forward.specs.Hands.{Agree, SeatView, all_wins, hands_from, seat_of};
-ghost use Rattle.jm_copy.specs.Copies.{IsSource};
 ghost use Rattle.jm_copy.specs.Numbers.{object_count};
 ghost use Rattle.jm_par_copy.specs.Copiers.{AreCopying, ArePlaced, hands};
 ghost use Rattle.jm_par_copy.specs.Ending.{IsCollectedBy, seats_in};
@@ -12,12 +11,11 @@ ghost use Rattle.jm_par_copy.specs.Seats.{AllOwnWins, AreInOrder, AreNumbered};
 use crate::copier::Copier;
 use crate::ending::{Copied, finish};
 use crate::gate::Gate;
-use crate::owner::CopierBlocks;
+use crate::round::{Own, Round};
 use crate::running::run_rounds;
 use crate::seating::{all_stores, seat_all};
 use jm_blocks::BlockStore;
-use jm_copy::Source;
-use jm_forward::{Forwarding, Seat};
+use jm_forward::Seat;
 use std::alloc::{AllocError, Global};
 use std::mem;
 use std::thread::Threads;
@@ -26,27 +24,24 @@ use std::thread::Threads;
 fn copy_by<R: Threads, G: Gate + Sync>(
     rt: &R,
     alloc: Global,
-    from: Source<'_>,
-    words: &Forwarding<CopierBlocks>,
-    gate: &G,
+    round: &Round<'_, G>,
     copiers: &mut Vec<Copier>,
     tenured: &mut BlockStore,
 ) -> Result<Copied, AllocError>
-    requires source { IsSource from.stores.now from.numbers.now }
-    requires copying { AreCopying from.stores.now from.roots.now words.now copiers.old.items [] }
-    requires numbered { AreNumbered words.now 0 copiers.old.items }
-    requires many { (length copiers.old.items ≡ words.now.copiers) × (0 < words.now.copiers) }
+    requires copying { AreCopying round.now.from.stores.now round.now.from.roots.now round.now.words.now copiers.old.items [] }
+    requires numbered { AreNumbered round.now.words.now 0 copiers.old.items }
+    requires many { (length copiers.old.items ≡ round.now.words.now.copiers) × (0 < round.now.words.now.copiers) }
     requires apart { tenured.old.lane ≢ 1 }
     requires placed { ArePlaced 1 tenured.old copiers.old.items [] }
-    ensures ok { IfOk result (λ r. Agree (hands copiers.new.items) → IsCollectedBy from.entry.stores.now tenured.old from.entry.roots.now (all_wins (hands copiers.new.items)) r.young tenured.new r.remembered.items r.roots.items) }
+    ensures ok { IfOk result (λ r. Agree (hands copiers.new.items) → IsCollectedBy round.now.from.stores.now tenured.old round.now.from.roots.now (all_wins (hands copiers.new.items)) r.young tenured.new r.remembered.items r.roots.items) }
     ensures own { OnOk result (AllOwnWins (seats_in copiers.new.items)) }
     ensures err { OnErr result ((n : ℕ) → objects_in tenured.new n ≡ objects_in tenured.old n) }
-    ensures seats { AreInOrder words.now 0 (seats_in copiers.new.items) }
+    ensures seats { AreInOrder round.now.words.now 0 (seats_in copiers.new.items) }
     ensures many { length copiers.new.items ≡ length copiers.old.items }
 {
     let mut aside = Vec::new(alloc);
-    run_rounds(rt, alloc, from, words, gate, copiers, &mut aside)?;
-    let copied = finish(alloc, from, words, copiers, aside, tenured)?;
+    run_rounds(rt, alloc, round, copiers, &mut aside)?;
+    let copied = finish(alloc, round.from, round.words, copiers, aside, tenured)?;
     Ok(copied)
 }
 
@@ -57,7 +52,8 @@ fn leave_seats(copiers: Vec<Copier>, mut seats: Vec<Seat>) -> Vec<Seat>
     ensures { result.items ≡ seats_in copiers.items }
 {
     for copier in copiers {
-        let Copier { seat, .. } = copier;
+        let Copier { own, .. } = copier;
+        let Own { seat, .. } = own;
         seats.push_reserved(seat);
     }
     seats
@@ -70,31 +66,28 @@ fn leave_seats(copiers: Vec<Copier>, mut seats: Vec<Seat>) -> Vec<Seat>
 pub fn copy_with<R: Threads, G: Gate + Sync>(
     rt: &R,
     alloc: Global,
-    from: Source<'_>,
-    words: &Forwarding<CopierBlocks>,
-    gate: &G,
+    round: &Round<'_, G>,
     seats: &mut Vec<Seat>,
     tenured: &mut BlockStore,
 ) -> Result<Copied, AllocError>
-    requires source { IsSource from.stores.now from.numbers.now }
-    requires objects { words.now.objects ≡ object_count from.stores.now }
-    requires copiers { (0 < words.now.copiers) × (words.now.copiers ≤ 16) }
-    requires fresh { seats.old.items ≡ map (seat_of words.now.table) (hands_from words.now.copiers 0 words.now.copiers) }
+    requires objects { round.now.words.now.objects ≡ object_count round.now.from.stores.now }
+    requires copiers { (0 < round.now.words.now.copiers) × (round.now.words.now.copiers ≤ 16) }
+    requires fresh { seats.old.items ≡ map (seat_of round.now.words.now.table) (hands_from round.now.words.now.copiers 0 round.now.words.now.copiers) }
     requires apart { tenured.old.lane ≢ 1 }
-    ensures ok { IfOk result (λ r. IsCollectedBy from.entry.stores.now tenured.old from.entry.roots.now (all_wins (map (λ (s : SeatView). s.hand) seats.new.items)) r.young tenured.new r.remembered.items r.roots.items) }
+    ensures ok { IfOk result (λ r. IsCollectedBy round.now.from.stores.now tenured.old round.now.from.roots.now (all_wins (map (λ (s : SeatView). s.hand) seats.new.items)) r.young tenured.new r.remembered.items r.roots.items) }
     ensures own { OnOk result (AllOwnWins seats.new.items) }
     ensures err { OnErr result ((n : ℕ) → objects_in tenured.new n ≡ objects_in tenured.old n) }
-    ensures seats { AreInOrder words.now 0 seats.new.items }
-    ensures many { length seats.new.items ≡ words.now.copiers }
+    ensures seats { AreInOrder round.now.words.now 0 seats.new.items }
+    ensures many { length seats.new.items ≡ round.now.words.now.copiers }
     ensures agree { OnOk result (Agree (map (λ (s : SeatView). s.hand) seats.new.items)) }
 {
-    let count = words.copiers();
+    let count = round.words.copiers();
     let stores = all_stores(alloc, count, tenured)?;
     let room = Vec::with_capacity(alloc, count)?;
     let left = Vec::with_capacity(alloc, count)?;
     let taken = mem::replace(seats, Vec::new(alloc));
     let mut copiers = seat_all(alloc, taken, stores, room);
-    let copied = copy_by(rt, alloc, from, words, gate, &mut copiers, tenured);
-    *seats = words.meet(leave_seats(copiers, left));
+    let copied = copy_by(rt, alloc, round, &mut copiers, tenured);
+    *seats = round.words.meet(leave_seats(copiers, left));
     copied
 }

@@ -1,10 +1,11 @@
 // Blocks are dealt out between rounds.
 
 ghost use Rattle.std.specs.Prelude.{◌<◌, List, ◌∷◌, ◌++◌, length, IfOk, OnOk};
-ghost use Rattle.jm_par_copy.specs.Copiers.{AreScannedPieces, KeepSeats, KeepsSeat};
+ghost use Rattle.jm_par_copy.specs.Copiers.{KeepSeats, KeepsSeat};
 ghost use Rattle.jm_par_copy.specs.Dealing.{AreDealt, AreGathered, IsGivenOne, IsTaken};
 
 use crate::copier::Copier;
+use crate::large::large_array;
 use crate::piece::Piece;
 use std::alloc::{AllocError, Global};
 
@@ -62,8 +63,8 @@ fn add(copiers: &mut Vec<Copier>, number: usize, piece: Piece) -> Result<(), All
     Ok(())
 }
 
-// Deals one block: to the copier of a number if something of it is left to scan, and else it is set aside. The
-// number of the copier that gets the next one.
+// Deals one block: to the copier of a number if something of it is left to scan, and else it is set aside, and so is
+// one that is a large array. The number of the copier that gets the next one.
 fn deal_one(
     copiers: &mut Vec<Copier>,
     next: usize,
@@ -73,10 +74,9 @@ fn deal_one(
     requires { next < length copiers.old.items }
     ensures next { IfOk result (λ n. n < length copiers.old.items) }
     ensures dealt { OnOk result (AreDealt copiers.old.items (piece ∷ aside.old.items) copiers.new.items aside.new.items) }
-    ensures scanned { OnOk result (AreScannedPieces aside.old.items → AreScannedPieces aside.new.items) }
     ensures seats { KeepSeats copiers.old.items copiers.new.items }
 {
-    if piece.mark == piece.block.len() {
+    if piece.mark == piece.block.len() || large_array(&piece).is_some() {
         aside.push(piece)?;
         return Ok(next);
     }
@@ -89,7 +89,7 @@ fn deal_one(
 }
 
 // Deals blocks: of those with something left to scan the one of number j to copier j modulo n; the others are
-// set aside.
+// set aside, and the large arrays of which nothing is scanned.
 fn deal_out(
     copiers: &mut Vec<Copier>,
     pieces: Vec<Piece>,
@@ -97,7 +97,6 @@ fn deal_out(
 ) -> Result<(), AllocError>
     requires some { 0 < length copiers.old.items }
     ensures dealt { OnOk result (AreDealt copiers.old.items (pieces.items ++ aside.old.items) copiers.new.items aside.new.items) }
-    ensures scanned { OnOk result (AreScannedPieces aside.old.items → AreScannedPieces aside.new.items) }
     ensures seats { KeepSeats copiers.old.items copiers.new.items }
 {
     let mut next = 0;
@@ -107,8 +106,9 @@ fn deal_out(
     Ok(())
 }
 
-/// Deals out anew the given blocks of all copiers: those that are scanned to their ends are set aside, and of the
-/// others, in order of copier and then of filling, the one of number j goes to copier j modulo n.
+/// Deals out anew the given blocks of all copiers: those that are scanned to their ends are set aside, and so are large
+/// arrays of which nothing is scanned; of the others, in order of copier and then of filling, the one of number j goes
+/// to copier j modulo n.
 pub fn deal(
     alloc: Global,
     copiers: &mut Vec<Copier>,
@@ -116,7 +116,6 @@ pub fn deal(
 ) -> Result<(), AllocError>
     requires some { 0 < length copiers.old.items }
     ensures dealt { OnOk result (AreDealt copiers.old.items aside.old.items copiers.new.items aside.new.items) }
-    ensures scanned { OnOk result (AreScannedPieces aside.old.items → AreScannedPieces aside.new.items) }
     ensures seats { KeepSeats copiers.old.items copiers.new.items }
 {
     let mut pieces = Vec::new(alloc);

@@ -89,7 +89,9 @@ pub fn finish(
 {
     let roots = root_places(alloc, from, words, copiers.as_slice())?;
     let remembered = all_pointing(alloc, copiers.as_slice(), aside.as_slice())?;
-    let (young, mut promoted) = put_together(alloc, copiers, aside, tenured.lane())?;
+    // Each copier has one of the last blocks of the old store, and has begun there or above.
+    let below = tenured.len().saturating_sub(copiers.len());
+    let (young, mut promoted) = put_together(alloc, copiers, aside, tenured.lane(), below)?;
     move_all(alloc, &mut promoted, tenured)?;
     Ok(Copied {
         young,

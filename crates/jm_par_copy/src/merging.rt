@@ -12,8 +12,8 @@ use crate::piece::Piece;
 use jm_blocks::{BlockStore, Position};
 use std::alloc::{AllocError, Global};
 
-// How many blocks a lane may have.
-const MAX_BLOCKS: usize = 1 << 49;
+/// How many blocks a lane may have.
+pub(crate) const MAX_BLOCKS: usize = 1 << 49;
 
 // Sees to it that a store has a block of a number; it is refused where the lane would have more than 2^49.
 fn open_to(alloc: Global, to: &mut BlockStore, number: usize) -> Result<(), AllocError>
@@ -85,6 +85,16 @@ fn move_block(alloc: Global, from: &mut BlockStore, number: usize, to: &mut Bloc
     to.put(number, block);
 }
 
+/// The number of the first block of a store with an object, and 0 where there is none.
+pub(crate) fn first_filled(store: &BlockStore) -> usize
+    ensures { (n : ℕ) → HasObject store.now n → result ≤ block_of n }
+{
+    match store.first() {
+        Some(place) => Position::of(place).block,
+        None => 0,
+    }
+}
+
 // How many blocks a store has as far as the last one with an object.
 fn filled_blocks(store: &BlockStore) -> usize
     ensures within { result ≤ length store.now.lists }
@@ -96,25 +106,33 @@ fn filled_blocks(store: &BlockStore) -> usize
     }
 }
 
-// Moves the first so many blocks of a store, above which it has no object, into another of the same lane, which has as
-// many, each with the first objects of the first store's or with none.
-fn move_opened(alloc: Global, from: &mut BlockStore, count: usize, to: &mut BlockStore)
+// Moves the blocks of a store from a number on and below another, where all its objects are, into another store of the
+// same lane, which has as many, each with the first objects of the first store's or with none.
+fn move_opened(
+    alloc: Global,
+    from: &mut BlockStore,
+    first: usize,
+    count: usize,
+    to: &mut BlockStore,
+)
     requires lane { from.old.lane ≡ to.old.lane }
     requires over { GoesOver from.old to.old }
     requires there { count ≤ length from.old.lists }
+    requires below { (n : ℕ) → HasObject from.old n → first ≤ block_of n }
     requires above { (n : ℕ) → HasObject from.old n → block_of n < count }
     requires opened { count ≤ length to.old.lists }
     ensures lane { to.new.lane ≡ to.old.lane }
     ensures all { (n : ℕ) → objects_in to.new n ≡ both (objects_in to.old) (objects_in from.old) n }
 {
-    for number in 0..count {
+    for number in first..count {
         move_block(alloc, from, number, to);
     }
 }
 
 /// Moves all blocks of a store that have objects into another of the same lane, which has a block of the same number empty
-/// or with the first objects of the moved one, and opens it as far as the last block with an object. Only that can be
-/// refused, before any block is moved: the second has the objects that it had then, and the first is as it was.
+/// or with the first objects of the moved one, and opens it as far as the last block with an object. It begins at the
+/// first one with an object. Only the opening can be refused, before any block is moved: the second has the objects that
+/// it had then, and the first is as it was.
 pub fn move_all(alloc: Global, from: &mut BlockStore, to: &mut BlockStore) -> Result<(), AllocError>
     requires lane { from.old.lane ≡ to.old.lane }
     requires over { GoesOver from.old to.old }
@@ -123,8 +141,9 @@ pub fn move_all(alloc: Global, from: &mut BlockStore, to: &mut BlockStore) -> Re
     ensures from { OnErr result (from.new ≡ from.old) }
     ensures lane { to.new.lane ≡ to.old.lane }
 {
+    let first = first_filled(from);
     let count = filled_blocks(from);
     open_all(alloc, to, count)?;
-    move_opened(alloc, from, count, to);
+    move_opened(alloc, from, first, count, to);
     Ok(())
 }

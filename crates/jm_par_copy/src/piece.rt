@@ -1,24 +1,22 @@
 // A block that was moved to a copier.
 
-ghost use Rattle.std.specs.Prelude.{◌≡◌, ◌≢◌, ℕ, ◌+◌, ◌-◌, ◌<◌, ◌++◌, ◌∷◌, [], List, Option, Some, IfOk, IfSome, OnOk, if◌then◌else◌, length, slice_get};
+ghost use Rattle.std.specs.Prelude.{◌≡◌, ◌≢◌, ℕ, ◌+◌, ◌-◌, ◌<◌, ◌++◌, ◌∷◌, [], List, Some, IfOk, IfSome, OnOk, if◌then◌else◌, length, slice_get};
 ghost use Rattle.jm_values.specs.declared.value.Value.TheVariants.{Ref};
 ghost use Rattle.jm_heap.specs.Packing.{Fits, kind_of};
 ghost use Rattle.jm_blocks.specs.Objects.{Object};
-ghost use Rattle.jm_copy.specs.Copying.{Progress};
-ghost use Rattle.jm_copy.specs.Copies.{IsSource};
 ghost use Rattle.jm_copy.specs.Marks.{at};
 ghost use Rattle.jm_copy.specs.Naming.{IsEnded, NamesNext};
 ghost use Rattle.jm_copy.specs.Pointing.{points_to};
 ghost use Rattle.jm_par_copy.specs.Notes.{IsNoted, KeepsListed};
-ghost use Rattle.jm_par_copy.specs.Claiming.{CanClaim, KeepsClaiming, LearnsMore};
-ghost use Rattle.jm_par_copy.specs.Pieces.{BecomesGiven, ForwardsGiven, IsGiven, IsPiece, IsSamePiece, KeepsGiven, OthersAre, place_in, progress_of};
+ghost use Rattle.jm_par_copy.specs.Claiming.{KeepsClaiming};
+ghost use Rattle.jm_par_copy.specs.Pieces.{BecomesGiven, IsPiece, IsSamePiece, OthersAre, place_in, progress_of};
+ghost use Rattle.jm_par_copy.specs.Steps.{CanForward, IsAtPiece, Learns, ScansPiece, WorksInPiece};
 
 use crate::gate::Gate;
-use crate::owner::CopierBlocks;
+use crate::round::{Own, Round};
 use crate::step::forward;
 use jm_blocks::{Block, Position};
-use jm_copy::{Copies, Named, Source, either, first_named, next_named};
-use jm_forward::{Forwarding, Seat};
+use jm_copy::{Copies, Named, either, first_named, next_named};
 use jm_values::{Place, Value};
 use std::alloc::{AllocError, Global};
 
@@ -62,86 +60,61 @@ fn named_after(block: &Block, index: usize, number: usize, end: usize) -> Option
 #[inline(always)]
 fn forward_given<G: Gate>(
     alloc: Global,
-    from: Source<'_>,
-    words: &Forwarding<CopierBlocks>,
-    gate: &G,
-    copier: u64,
-    claims: &mut u64,
-    seat: &mut Seat,
-    to: &mut Copies,
+    round: &Round<'_, G>,
+    own: &mut Own,
     piece: &mut Piece,
     index: usize,
-    number: usize,
-    named: Place,
+    named: Named,
 ) -> Result<bool, AllocError>
-    requires source { IsSource from.stores.now from.numbers.now }
-    requires claims { CanClaim from.stores.now words.now seat.old to.old }
+    requires claims { CanForward round.now own.old }
     requires piece { IsPiece piece.old }
-    requires working { (base : List (ℕ × ℕ)) × (held : List (ℕ × ℕ)) × (k : ℕ) × (rest : ℕ → Option Object) × (done : Progress) × IsGiven from.stores.now from.roots.now base held k rest (at done (place_in piece.old index) number) seat.old.hand to.old piece.old }
-    requires there { (a : Object) × (slice_get piece.old.block index ≡ Some a) × (slice_get a.values number ≡ Some (Ref named)) × ((p : ℕ) → Fits (kind_of a.class) (Ref p)) }
-    ensures working { OnOk result (ForwardsGiven from.entry.stores.now from.entry.roots.now seat.old.hand seat.new.hand to.old to.new piece.old piece.new (place_in piece.old index) number (number + 1)) }
-    ensures names { IfOk result (λ b. (a : Object) → slice_get piece.old.block index ≡ Some a → BecomesGiven to.old.young.lane piece.old piece.new index number a b) }
+    requires working { IsAtPiece round.now (λ done. at done (place_in piece.old index) named.number) own.old piece.old }
+    requires there { (a : Object) × (slice_get piece.old.block index ≡ Some a) × (slice_get a.values named.number ≡ Some (Ref named.place)) × ((p : ℕ) → Fits (kind_of a.class) (Ref p)) }
+    ensures working { OnOk result (WorksInPiece round.now own.old own.new piece.old piece.new index named.number) }
+    ensures names { IfOk result (λ b. (a : Object) → slice_get piece.old.block index ≡ Some a → BecomesGiven own.old.to.young.lane piece.old piece.new index named.number a b) }
     ensures others { OnOk result (OthersAre piece.old piece.new index) }
-    ensures listed { OnOk result (KeepsListed to.old to.new) }
+    ensures listed { OnOk result (KeepsListed own.old.to own.new.to) }
     ensures same { OnOk result (IsSamePiece piece.old piece.new) }
     ensures mark { piece.new.mark ≡ piece.old.mark }
     ensures pointing { piece.new.pointing ≡ piece.old.pointing }
-    ensures learns { OnOk result (LearnsMore seat.old.hand seat.new.hand) }
-    ensures on { KeepsClaiming seat.old seat.new to.old to.new }
+    ensures learns { OnOk result (Learns own.old own.new) }
+    ensures on { KeepsClaiming own.old own.new }
 {
-    let copy = forward(alloc, from, words, gate, copier, claims, seat, to, named)?;
-    piece.block.set(index, number, Value::Ref(copy));
-    Ok(to.is_young(copy))
+    let copy = forward(alloc, round, own, named.place)?;
+    piece.block.set(index, named.number, Value::Ref(copy));
+    Ok(own.to.is_young(copy))
 }
 
 // Forwards each reference of the object at the mark, moves the mark past it, and answers whether one of them names a
 // young object afterwards.
 fn scan_given<G: Gate>(
     alloc: Global,
-    from: Source<'_>,
-    words: &Forwarding<CopierBlocks>,
-    gate: &G,
-    copier: u64,
-    claims: &mut u64,
-    seat: &mut Seat,
-    to: &mut Copies,
+    round: &Round<'_, G>,
+    own: &mut Own,
     piece: &mut Piece,
 ) -> Result<bool, AllocError>
-    requires source { IsSource from.stores.now from.numbers.now }
-    requires claims { CanClaim from.stores.now words.now seat.old to.old }
+    requires claims { CanForward round.now own.old }
     requires piece { IsPiece piece.old }
-    requires working { (base : List (ℕ × ℕ)) × (held : List (ℕ × ℕ)) × (k : ℕ) × (rest : ℕ → Option Object) × (done : Progress) × IsGiven from.stores.now from.roots.now base held k rest (progress_of piece.old done) seat.old.hand to.old piece.old }
+    requires working { IsAtPiece round.now (progress_of piece.old) own.old piece.old }
     requires there { piece.old.mark < length piece.old.block }
-    ensures working { OnOk result (KeepsGiven from.entry.stores.now from.entry.roots.now seat.old.hand seat.new.hand to.old to.new piece.old piece.new) }
+    ensures working { OnOk result (ScansPiece round.now own.old own.new piece.old piece.new) }
     ensures same { OnOk result (IsSamePiece piece.old piece.new) }
     ensures mark { OnOk result (piece.new.mark ≡ piece.old.mark + 1) }
-    ensures points { IfOk result (λ b. (a : Object) → slice_get piece.new.block piece.old.mark ≡ Some a → b ≡ points_to to.old.young.lane a.values) }
+    ensures points { IfOk result (λ b. (a : Object) → slice_get piece.new.block piece.old.mark ≡ Some a → b ≡ points_to own.old.to.young.lane a.values) }
     ensures others { OnOk result (OthersAre piece.old piece.new piece.old.mark) }
     ensures pointing { piece.new.pointing ≡ piece.old.pointing }
-    ensures listed { OnOk result (KeepsListed to.old to.new) }
-    ensures learns { OnOk result (LearnsMore seat.old.hand seat.new.hand) }
-    ensures on { KeepsClaiming seat.old seat.new to.old to.new }
+    ensures listed { OnOk result (KeepsListed own.old.to own.new.to) }
+    ensures learns { OnOk result (Learns own.old own.new) }
+    ensures on { KeepsClaiming own.old own.new }
 {
     let index = piece.mark;
     let mut points = false;
     let mut next = named_first(&piece.block, index);
     while let Some(named) = next {
-        let names = forward_given(
-            alloc,
-            from,
-            words,
-            gate,
-            copier,
-            claims,
-            seat,
-            to,
-            piece,
-            index,
-            named.number,
-            named.place,
-        )?;
+        let Named { number, end, .. } = named;
+        let names = forward_given(alloc, round, own, piece, index, named)?;
         points = either(points, names);
-        next = named_after(&piece.block, index, named.number, named.end);
+        next = named_after(&piece.block, index, number, end);
     }
     piece.mark = index + 1;
     Ok(points)
@@ -177,32 +150,26 @@ fn note_last(to: &Copies, piece: &mut Piece, points: bool) -> Result<(), AllocEr
 /// objects that point to young ones are listed with it.
 pub fn scan_piece<G: Gate>(
     alloc: Global,
-    from: Source<'_>,
-    words: &Forwarding<CopierBlocks>,
-    gate: &G,
-    copier: u64,
-    claims: &mut u64,
-    seat: &mut Seat,
-    to: &mut Copies,
+    round: &Round<'_, G>,
+    own: &mut Own,
     piece: &mut Piece,
 ) -> Result<(), AllocError>
-    requires source { IsSource from.stores.now from.numbers.now }
-    requires claims { CanClaim from.stores.now words.now seat.old to.old }
+    requires claims { CanForward round.now own.old }
     requires piece { IsPiece piece.old }
-    requires working { (base : List (ℕ × ℕ)) × (held : List (ℕ × ℕ)) × (k : ℕ) × (rest : ℕ → Option Object) × (done : Progress) × IsGiven from.stores.now from.roots.now base held k rest (progress_of piece.old done) seat.old.hand to.old piece.old }
-    ensures working { OnOk result (KeepsGiven from.entry.stores.now from.entry.roots.now seat.old.hand seat.new.hand to.old to.new piece.old piece.new) }
+    requires working { IsAtPiece round.now (progress_of piece.old) own.old piece.old }
+    ensures working { OnOk result (ScansPiece round.now own.old own.new piece.old piece.new) }
     ensures same { OnOk result (IsSamePiece piece.old piece.new) }
     ensures end { OnOk result (piece.new.mark ≡ length piece.new.block) }
-    ensures listed { OnOk result (KeepsListed to.old to.new) }
-    ensures noted { OnOk result (to.old.young.lane ≡ 1 → IsNoted piece.old → IsNoted piece.new) }
-    ensures learns { OnOk result (LearnsMore seat.old.hand seat.new.hand) }
-    ensures on { KeepsClaiming seat.old seat.new to.old to.new }
+    ensures listed { OnOk result (KeepsListed own.old.to own.new.to) }
+    ensures noted { OnOk result (own.old.to.young.lane ≡ 1 → IsNoted piece.old → IsNoted piece.new) }
+    ensures learns { OnOk result (Learns own.old own.new) }
+    ensures on { KeepsClaiming own.old own.new }
 {
     let first = piece.mark;
     let count = piece.block.len();
     for _object in first..count {
-        let points = scan_given(alloc, from, words, gate, copier, claims, seat, to, piece)?;
-        note_last(to, piece, points)?;
+        let points = scan_given(alloc, round, own, piece)?;
+        note_last(&own.to, piece, points)?;
     }
     Ok(())
 }

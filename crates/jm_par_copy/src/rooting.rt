@@ -1,62 +1,41 @@
-// A copier forwards its share of the roots.
+// A copier forwards its share of places.
 
-ghost use Rattle.std.specs.Prelude.{◌≡◌, ℕ, ◌<◌, ◌≤◌, List, [], Option, OnOk};
-ghost use Rattle.jm_blocks.specs.Objects.{Object};
-ghost use Rattle.jm_copy.specs.Copying.{Progress};
-ghost use Rattle.jm_copy.specs.Copies.{IsSource};
+ghost use Rattle.std.specs.Prelude.{◌≡◌, ◌<◌, ◌≤◌, List, [], OnOk};
 ghost use Rattle.jm_par_copy.specs.Notes.{KeepsListed};
 ghost use Rattle.jm_par_copy.specs.Roots.{AreRootsOf};
-ghost use Rattle.jm_par_copy.specs.Claiming.{CanClaim, KeepsClaiming, LearnsMore};
-ghost use Rattle.jm_par_copy.specs.Working.{IsWorking, KeepsWorking};
+ghost use Rattle.jm_par_copy.specs.Claiming.{KeepsClaiming};
+ghost use Rattle.jm_par_copy.specs.Steps.{AllReach, CanForward, IsAtWork, Learns, WorksOn};
 
 use crate::gate::Gate;
-use crate::owner::CopierBlocks;
+use crate::round::{Own, Round};
 use crate::step::forward;
-use jm_copy::{Copies, Source};
-use jm_forward::{Forwarding, Seat};
 use jm_values::Place;
 use std::alloc::{AllocError, Global};
 
-/// The new places of a copier's roots, in order: of those whose position is its number modulo the number of
-/// copiers.
-pub fn forward_roots<G: Gate>(
+/// The new places of a copier's share of a list of places that are reached, in order: of those whose position is its number
+/// modulo the number of copiers.
+pub fn forward_share<G: Gate>(
     alloc: Global,
-    from: Source<'_>,
-    words: &Forwarding<CopierBlocks>,
-    gate: &G,
-    number: usize,
-    claims: &mut u64,
-    seat: &mut Seat,
-    to: &mut Copies,
+    round: &Round<'_, G>,
+    own: &mut Own,
+    all: &[Place],
     places: &mut Vec<Place>,
 ) -> Result<(), AllocError>
-    requires source { IsSource from.stores.now from.numbers.now }
-    requires claims { CanClaim from.stores.now words.now seat.old to.old }
-    requires number { (number < words.now.copiers) × (words.now.copiers ≤ 16) }
-    requires working { (base : List (ℕ × ℕ)) × (held : List (ℕ × ℕ)) × (k : ℕ) × (rest : ℕ → Option Object) × (done : Progress) × IsWorking from.stores.now from.roots.now base held k rest seat.old.hand to.old done }
+    requires claims { CanForward round.now own.old }
+    requires number { (own.old.number < round.now.words.now.copiers) × (round.now.words.now.copiers ≤ 16) }
+    requires working { IsAtWork round.now (λ done. done) own.old }
+    requires reach { AllReach round.now all.now }
     requires none { places.old.items ≡ [] }
-    ensures roots { OnOk result (AreRootsOf from.entry.stores.now from.entry.roots.now seat.new.hand.known number words.now.copiers places.new.items) }
-    ensures working { OnOk result (KeepsWorking from.entry.stores.now from.entry.roots.now seat.old.hand seat.new.hand to.old to.new) }
-    ensures listed { OnOk result (KeepsListed to.old to.new) }
-    ensures learns { OnOk result (LearnsMore seat.old.hand seat.new.hand) }
-    ensures on { KeepsClaiming seat.old seat.new to.old to.new }
+    ensures share { OnOk result (AreRootsOf round.now.from.stores.now all.now own.new.seat.hand.known own.old.number round.now.words.now.copiers places.new.items) }
+    ensures working { OnOk result (WorksOn round.now own.old own.new) }
+    ensures listed { OnOk result (KeepsListed own.old.to own.new.to) }
+    ensures learns { OnOk result (Learns own.old own.new) }
+    ensures on { KeepsClaiming own.old own.new }
 {
-    let copiers = words.copiers();
-    let roots = from.roots;
-    let mut position = number;
-    while position < roots.len() {
-        let root = roots[position];
-        let place = forward(
-            alloc,
-            from,
-            words,
-            gate,
-            number as u64,
-            claims,
-            seat,
-            to,
-            root,
-        )?;
+    let copiers = round.words.copiers();
+    let mut position = own.number;
+    while position < all.len() {
+        let place = forward(alloc, round, own, all[position])?;
         places.push(place)?;
         position += copiers;
     }

@@ -1,21 +1,22 @@
 // One round of a copier over its own objects.
 
-ghost use Rattle.std.specs.Prelude.{◌≡◌, ℕ, ◌<◌, List, Option, Some, IfOk, OnOk, IsTrue, slice_get, true};
+ghost use Rattle.std.specs.Prelude.{◌≡◌, ℕ, ◌<◌, List, Some, IfOk, OnOk, slice_get, true};
 ghost use Rattle.jm_values.specs.declared.value.Value.TheVariants.{Ref};
 ghost use Rattle.jm_heap.specs.Packing.{Fits, kind_of};
 ghost use Rattle.jm_blocks.specs.Objects.{Object};
-ghost use Rattle.jm_copy.specs.Copying.{Progress};
-ghost use Rattle.jm_copy.specs.Copies.{HasMade, IsSource, made};
+ghost use Rattle.jm_copy.specs.Copies.{HasMade, made};
+ghost use Rattle.jm_copy.specs.Naming.{NamesNext};
 ghost use Rattle.jm_copy.specs.Marks.{AllPassed, AreMarks, BecomesValue, OthersStay, at};
 ghost use Rattle.jm_copy.specs.Pointing.{IsListed, points_to};
-ghost use Rattle.jm_par_copy.specs.Claiming.{CanClaim, KeepsClaiming, LearnsMore};
-ghost use Rattle.jm_par_copy.specs.Working.{ForwardsAll, ForwardsOne, IsScanning, IsWorking, KeepsScanning};
+ghost use Rattle.jm_par_copy.specs.Claiming.{KeepsClaiming};
+ghost use Rattle.jm_par_copy.specs.declared.scan.End.TheVariants.{All};
+ghost use Rattle.jm_par_copy.specs.Steps.{CanForward, IsAtScan, IsAtWork, Learns, ScansOn, WorksAtObject, WorksAtValue};
 
+use crate::front::is_stop;
 use crate::gate::Gate;
-use crate::owner::CopierBlocks;
+use crate::round::{Own, Round};
 use crate::step::forward;
-use jm_copy::{Copies, Marks, Source, either, next, next_after, note, pass};
-use jm_forward::{Forwarding, Seat};
+use jm_copy::{Marks, Named, either, next, next_after, note, pass_on};
 use jm_values::{Place, Value};
 use std::alloc::{AllocError, Global};
 
@@ -27,74 +28,52 @@ const OBJECTS: u64 = 256;
 #[inline(always)]
 fn forward_named<G: Gate>(
     alloc: Global,
-    from: Source<'_>,
-    words: &Forwarding<CopierBlocks>,
-    gate: &G,
-    copier: u64,
-    claims: &mut u64,
-    seat: &mut Seat,
-    to: &mut Copies,
+    round: &Round<'_, G>,
+    own: &mut Own,
     place: Place,
-    number: usize,
-    named: Place,
+    named: Named,
 ) -> Result<bool, AllocError>
-    requires source { IsSource from.stores.now from.numbers.now }
-    requires claims { CanClaim from.stores.now words.now seat.old to.old }
-    requires working { (base : List (ℕ × ℕ)) × (held : List (ℕ × ℕ)) × (k : ℕ) × (rest : ℕ → Option Object) × (done : Progress) × IsWorking from.stores.now from.roots.now base held k rest seat.old.hand to.old (at done place number) }
-    requires there { (a : Object) × (made to.old place ≡ Some a) × (slice_get a.values number ≡ Some (Ref named)) × ((p : ℕ) → Fits (kind_of a.class) (Ref p)) }
-    ensures working { OnOk result (ForwardsOne from.entry.stores.now from.entry.roots.now seat.old.hand seat.new.hand to.old to.new place number) }
-    ensures names { IfOk result (λ b. (a : Object) → made to.old place ≡ Some a → BecomesValue to.old to.new place number a b) }
-    ensures others { OnOk result (OthersStay to.old to.new place) }
-    ensures learns { OnOk result (LearnsMore seat.old.hand seat.new.hand) }
-    ensures on { KeepsClaiming seat.old seat.new to.old to.new }
+    requires claims { CanForward round.now own.old }
+    requires working { IsAtWork round.now (λ done. at done place named.number) own.old }
+    requires there { (a : Object) × (made own.old.to place ≡ Some a) × (slice_get a.values named.number ≡ Some (Ref named.place)) × ((p : ℕ) → Fits (kind_of a.class) (Ref p)) }
+    ensures working { OnOk result (WorksAtValue round.now own.old own.new place named.number) }
+    ensures names { IfOk result (λ b. (a : Object) → made own.old.to place ≡ Some a → BecomesValue own.old.to own.new.to place named.number a b) }
+    ensures others { OnOk result (OthersStay own.old.to own.new.to place) }
+    ensures learns { OnOk result (Learns own.old own.new) }
+    ensures on { KeepsClaiming own.old own.new }
 {
-    let copy = forward(alloc, from, words, gate, copier, claims, seat, to, named)?;
-    to.set(place, number, Value::Ref(copy));
-    Ok(to.is_young(copy))
+    let copy = forward(alloc, round, own, named.place)?;
+    own.to.set(place, named.number, Value::Ref(copy));
+    Ok(own.to.is_young(copy))
 }
 
-// Forwards each reference of one object of the copier's own, and answers whether one of them names a young object
+// Forwards each reference of one object of the copier's own, of which the first is known, and answers whether one of them names a young object
 // afterwards.
 #[inline(always)]
 fn scan_object<G: Gate>(
     alloc: Global,
-    from: Source<'_>,
-    words: &Forwarding<CopierBlocks>,
-    gate: &G,
-    copier: u64,
-    claims: &mut u64,
-    seat: &mut Seat,
-    to: &mut Copies,
+    round: &Round<'_, G>,
+    own: &mut Own,
     place: Place,
+    first: Option<Named>,
 ) -> Result<bool, AllocError>
-    requires source { IsSource from.stores.now from.numbers.now }
-    requires claims { CanClaim from.stores.now words.now seat.old to.old }
-    requires working { (base : List (ℕ × ℕ)) × (held : List (ℕ × ℕ)) × (k : ℕ) × (rest : ℕ → Option Object) × (done : Progress) × IsWorking from.stores.now from.roots.now base held k rest seat.old.hand to.old (at done place 0) }
-    requires there { HasMade to.old place }
-    ensures working { OnOk result (ForwardsAll from.entry.stores.now from.entry.roots.now seat.old.hand seat.new.hand to.old to.new place) }
-    ensures points { IfOk result (λ b. (a : Object) → made to.new place ≡ Some a → b ≡ points_to to.old.young.lane a.values) }
-    ensures others { OnOk result (OthersStay to.old to.new place) }
-    ensures learns { OnOk result (LearnsMore seat.old.hand seat.new.hand) }
-    ensures on { KeepsClaiming seat.old seat.new to.old to.new }
+    requires claims { CanForward round.now own.old }
+    requires working { IsAtWork round.now (λ done. at done place 0) own.old }
+    requires first { (a : Object) → made own.old.to place ≡ Some a → NamesNext a 0 first }
+    requires there { HasMade own.old.to place }
+    ensures working { OnOk result (WorksAtObject round.now own.old own.new place) }
+    ensures points { IfOk result (λ b. (a : Object) → made own.new.to place ≡ Some a → b ≡ points_to own.old.to.young.lane a.values) }
+    ensures others { OnOk result (OthersStay own.old.to own.new.to place) }
+    ensures learns { OnOk result (Learns own.old own.new) }
+    ensures on { KeepsClaiming own.old own.new }
 {
     let mut points = false;
-    let mut next = to.named_first(place);
+    let mut next = first;
     while let Some(named) = next {
-        let names = forward_named(
-            alloc,
-            from,
-            words,
-            gate,
-            copier,
-            claims,
-            seat,
-            to,
-            place,
-            named.number,
-            named.place,
-        )?;
+        let Named { number, end, .. } = named;
+        let names = forward_named(alloc, round, own, place, named)?;
         points = either(points, names);
-        next = to.named_after(place, named.number, named.end);
+        next = own.to.named_after(place, number, end);
     }
     Ok(points)
 }
@@ -108,48 +87,79 @@ fn count_block(blocks: usize, last: u64, block: u64) -> usize {
     blocks.saturating_add(1)
 }
 
-/// Scans the copier's own objects from two marks on, also those that the scan itself makes, until
-/// none is left or so many blocks were scanned: the marks after it, and whether nothing is left. Of the old objects that
-/// it scans it lists the places of those that point to young ones.
+/// Why a scan ended.
+#[derive(Clone, Copy)]
+pub enum End {
+    /// Nothing is left.
+    All,
+    /// So many blocks were scanned.
+    Blocks,
+    /// The next object is too much for one copier.
+    Much,
+}
+
+impl End {
+    /// Whether nothing is left.
+    pub fn is_all(self) -> bool
+        ensures { result ≡ true → self ≡ All }
+    {
+        match self {
+            End::All => true,
+            End::Blocks | End::Much => false,
+        }
+    }
+
+    /// Whether the next object names much.
+    pub fn is_much(self) -> bool {
+        match self {
+            End::Much => true,
+            End::All | End::Blocks => false,
+        }
+    }
+}
+
+/// Scans the copier's own objects from two marks on, also those that the scan itself makes, until none is left, so many
+/// blocks were scanned, or an object comes that is too much for one copier: the marks after
+/// it, and why it ended. Of the old objects that it scans it lists the places of those that point to young ones.
 pub fn scan_own<G: Gate>(
     alloc: Global,
-    from: Source<'_>,
-    words: &Forwarding<CopierBlocks>,
-    gate: &G,
-    copier: u64,
-    claims: &mut u64,
-    seat: &mut Seat,
-    to: &mut Copies,
+    round: &Round<'_, G>,
+    own: &mut Own,
     marks: Marks,
     pointing: &mut Vec<Place>,
     limit: usize,
-) -> Result<(Marks, bool), AllocError>
-    requires source { IsSource from.stores.now from.numbers.now }
-    requires claims { CanClaim from.stores.now words.now seat.old to.old }
-    requires marks { AreMarks to.old marks }
-    requires scanning { (base : List (ℕ × ℕ)) × (held : List (ℕ × ℕ)) × (k : ℕ) × (rest : ℕ → Option Object) × (rest_done : Progress) × IsScanning from.stores.now from.roots.now base held k rest rest_done seat.old.hand to.old marks }
-    ensures scanning { IfOk result (λ r. KeepsScanning from.entry.stores.now from.entry.roots.now seat.old.hand seat.new.hand to.old to.new marks r.0) }
-    ensures marks { IfOk result (λ r. AreMarks to.new r.0) }
-    ensures end { IfOk result (λ r. IsTrue r.1 → AllPassed to.new r.0) }
-    ensures listed { IfOk result (λ r. IsListed to.old.young.lane to.old.tenured to.old.kept marks.tenured pointing.old.items → IsListed to.new.young.lane to.new.tenured to.new.kept r.0.tenured pointing.new.items) }
-    ensures learns { OnOk result (LearnsMore seat.old.hand seat.new.hand) }
-    ensures on { KeepsClaiming seat.old seat.new to.old to.new }
+) -> Result<(Marks, End), AllocError>
+    requires claims { CanForward round.now own.old }
+    requires marks { AreMarks own.old.to marks }
+    requires scanning { IsAtScan round.now own.old marks }
+    ensures scanning { IfOk result (λ r. ScansOn round.now own.old own.new marks r.0) }
+    ensures marks { IfOk result (λ r. AreMarks own.new.to r.0) }
+    ensures end { IfOk result (λ r. r.1 ≡ All → AllPassed own.new.to r.0) }
+    ensures listed { IfOk result (λ r. IsListed own.old.to.young.lane own.old.to.tenured own.old.to.kept marks.tenured pointing.old.items → IsListed own.new.to.young.lane own.new.to.tenured own.new.to.kept r.0.tenured pointing.new.items) }
+    ensures learns { OnOk result (Learns own.old own.new) }
+    ensures on { KeepsClaiming own.old own.new }
 {
     let mut marks = marks;
     let mut last = 0u64;
     let mut blocks = 0usize;
-    let mut first = next(to, &marks);
+    let mut scanned = false;
+    let mut first = next(&own.to, &marks);
     while let Some(place) = first {
         let block = place.number() / OBJECTS;
         blocks = count_block(blocks, last, block);
         last = block;
         if blocks > limit {
-            return Ok((marks, false));
+            return Ok((marks, End::Blocks));
         }
-        let points = scan_object(alloc, from, words, gate, copier, claims, seat, to, place)?;
-        note(to, place, points, pointing)?;
-        marks = pass(to, &marks, place);
-        first = next_after(to, &marks, place);
+        let named = own.to.named_first(place);
+        if is_stop(&round.from, &named, !scanned) {
+            return Ok((marks, End::Much));
+        }
+        scanned = true;
+        let points = scan_object(alloc, round, own, place, named)?;
+        note(&own.to, place, points, pointing)?;
+        pass_on(&own.to, &mut marks, place);
+        first = next_after(&own.to, &marks, place);
     }
-    Ok((marks, true))
+    Ok((marks, End::All))
 }

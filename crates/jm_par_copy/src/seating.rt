@@ -1,12 +1,14 @@
 // Copiers take their seats, each with two stores of its own.
 
-ghost use Rattle.std.specs.Prelude.{◌≡◌, ◌≢◌, ℕ, ◌+◌, ◌<◌, ◌≤◌, ◌^◌, ◌%◌, [], IfOk, length, vec_capacity};
+ghost use Rattle.std.specs.Prelude.{◌≡◌, ◌≢◌, ◌<◌, ◌≤◌, ◌^◌, [], IfOk, length, replicate, vec_capacity};
 ghost use Rattle.jm_blocks.specs.Stores.{IsEmpty};
-ghost use Rattle.jm_par_copy.specs.Begun.{IsBegin, IsBegun};
+ghost use Rattle.jm_par_copy.specs.Begun.{IsBegin, IsBegun, IsLastOwn};
 ghost use Rattle.jm_par_copy.specs.Seats.{AreOwnStores, AreSeatsOf, IsOwnStores, IsSeatOf};
 ghost use Rattle.jm_par_copy.specs.Strides.{EndsOwn};
 
 use crate::copier::Copier;
+use crate::merging::MAX_BLOCKS;
+use crate::round::Own;
 use crate::unloading::YOUNG;
 use jm_blocks::{Block, BlockStore};
 use jm_copy::{Copies, Marks, Words};
@@ -24,45 +26,50 @@ fn own_young(alloc: Global, number: usize, copiers: usize) -> Result<BlockStore,
     ensures empty { IfOk result (λ s. IsEmpty s) }
     ensures ends { IfOk result (λ s. EndsOwn number copiers s) }
 {
-    let mut store = BlockStore::new(alloc, YOUNG);
-    store.open(alloc, number + 1)?;
+    let store = BlockStore::starting_at(alloc, YOUNG, number + 1)?;
     Ok(store)
 }
 
-// The number of the old block in which the copier of a number begins: its last one with objects where that has room for
-// the smallest object, else its next one; its first one where none of its blocks has objects.
+// Of so many blocks the number of a copier's own among the last ones, of which each copier has one. Where it has no block
+// yet that is its first one, which is not there.
+fn last_own(count: usize, number: usize, copiers: usize) -> usize
+    requires number { number < copiers }
+    ensures { IsLastOwn number copiers count result }
+{
+    if count <= number {
+        return number;
+    }
+    let last = count - 1;
+    last - (last - number) % copiers
+}
+
+// The number of the old block in which the copier of a number begins: its block among the last ones, where that is empty
+// or has room for the smallest object, and else its next one. It looks at one block.
 fn first_block(old: &BlockStore, number: usize, copiers: usize) -> usize
     requires number { number < copiers }
     requires few { copiers ≤ 16 }
-    ensures begins { IsBegin number copiers old.now.lists (length old.now.lists) result }
+    ensures begins { IsBegin number copiers old.now.lists result }
     ensures below { result < 2 ^ 50 }
 {
-    let mut first = number;
-    let mut block = number;
-    while block < old.len() {
-        first = first_of(old, block, copiers, first);
-        block += copiers;
+    let last = last_own(old.len(), number, copiers);
+    if last >= old.len() {
+        return last;
     }
-    first
+    if old.block(last).has_room(LEAST_CELLS) {
+        return last;
+    }
+    last + copiers
 }
 
-// Where a copier begins, as far as one block more of its own is looked at: there, if the block has objects and room, at
-// the next one of its own if it has none, and else where it was.
-fn first_of(old: &BlockStore, block: usize, copiers: usize, first: usize) -> usize
-    requires there { block < length old.now.lists }
-    requires few { (0 < copiers) × (copiers ≤ 16) }
-    requires numbered { (block < 2 ^ 49) × (first < 2 ^ 50) }
-    ensures begins { (number : ℕ) → block % copiers ≡ number → IsBegin number copiers old.now.lists block first → IsBegin number copiers old.now.lists (block + copiers) result }
-    ensures below { result < 2 ^ 50 }
+// A store of so many empty blocks. It is refused where a lane may not have so many.
+fn empty_store(alloc: Global, lane: u64, count: usize) -> Result<BlockStore, AllocError>
+    requires lane { (0 < lane) × (lane < 64) }
+    ensures { IfOk result (λ s. s ≡ record { lane = lane; lists = replicate count [] }) }
 {
-    let last = old.block(block);
-    if last.len() == 0 {
-        return first;
+    if count > MAX_BLOCKS {
+        return Err(AllocError);
     }
-    if last.has_room(LEAST_CELLS) {
-        return block;
-    }
-    block + copiers
+    BlockStore::starting_at(alloc, lane, count)
 }
 
 // The same objects in a block of their own, which has the memory that they take.
@@ -94,8 +101,7 @@ fn own_old(
     ensures begun { IfOk result (λ s. IsBegun number copiers old.now s) }
 {
     let first = first_block(old, number, copiers);
-    let mut store = BlockStore::new(alloc, old.lane());
-    store.open(alloc, first + 1)?;
+    let mut store = empty_store(alloc, old.lane(), first + 1)?;
     if first >= old.len() {
         return Ok(store);
     }
@@ -129,8 +135,8 @@ fn own_stores(
 }
 
 /// The stores of all copiers (at most 16), in order: the young have lane 1, and that of the old is the old store's. Each
-/// copier begins in its last old block with objects, if that has room for one more, and else in its next one; it has
-/// copies of the objects there, and the old store is only read.
+/// copier begins in its block among the last ones of the old store, if that is empty or has room for one object more, and
+/// else in its next one. It has copies of the objects there, and of the old store only that block is read.
 pub fn all_stores(
     alloc: Global,
     copiers: usize,
@@ -155,10 +161,12 @@ fn seat_one(alloc: Global, number: usize, seat: Seat, to: Copies) -> Copier
 {
     let kept = to.kept;
     Copier {
-        number,
-        claims: 0,
-        seat,
-        to,
+        own: Own {
+            number,
+            claims: 0,
+            seat,
+            to,
+        },
         marks: Marks {
             young: None,
             tenured: kept,
@@ -169,6 +177,8 @@ fn seat_one(alloc: Global, number: usize, seat: Seat, to: Copies) -> Copier
         rooted: false,
         ended: false,
         refused: false,
+        stopped: false,
+        span: Vec::new(alloc),
         room: [0; 8],
     }
 }

@@ -1,61 +1,51 @@
 // One object is copied, unless another copier has.
 
-ghost use Rattle.std.specs.Prelude.{◌≡◌, ℕ, ◌<◌, List, Option, Some, slice_get, IfOk, OnOk};
-ghost use Rattle.jm_blocks.specs.Objects.{Object};
-ghost use Rattle.jm_copy.specs.Copying.{Forwarded, Progress};
-ghost use Rattle.jm_copy.specs.Image.{IsReached};
-ghost use Rattle.jm_copy.specs.Condemned.{objects_at};
-ghost use Rattle.jm_copy.specs.Copies.{IsSource, made};
-ghost use Rattle.jm_copy.specs.Numbers.{number_of, object_count};
-ghost use Rattle.jm_par_copy.specs.Claiming.{CanClaim, KeepsClaiming, LearnsMore};
-ghost use Rattle.jm_par_copy.specs.Working.{IsWorking, KeepsWorking, Pairs, known_to};
+ghost use Rattle.std.specs.Prelude.{ℕ, ◌<◌, IfOk, OnOk};
+ghost use Rattle.jm_copy.specs.Numbers.{object_count};
+ghost use Rattle.jm_par_copy.specs.Claiming.{KeepsClaiming};
+ghost use Rattle.jm_par_copy.specs.Steps.{Becomes, CanForward, IsAtWork, IsFound, KeepsMade, Learns, ReachesIfThere, WorksOn};
 
 use crate::gate::Gate;
-use crate::owner::CopierBlocks;
-use crate::store::{fill, reserve};
+use crate::round::{Own, Round};
+use crate::store::{close_large, fill, reserve};
 use jm_blocks::Block;
-use jm_copy::{Copies, Source, find, number};
-use jm_forward::{Forwarding, Seat};
+use jm_copy::{find, number};
 use jm_values::Place;
 use std::alloc::{AllocError, Global};
 
-// Claims the object of a place, whose block and numbers are known, with a place that is reserved among the copier's own,
-// and copies it if the claim won; else the reservation is given up. It stands apart from `forward`, which is small
-// without it.
+// Claims the condemned object of a number, of which it is known where it lies, with a place that is reserved among the
+// copier's own, and copies it if the claim won; else the reservation is given up. It stands apart from `forward`, which is
+// small without it.
 #[inline(never)]
 fn claim_and_copy<G: Gate>(
     alloc: Global,
-    from: Source<'_>,
-    words: &Forwarding<CopierBlocks>,
-    gate: &G,
-    copier: u64,
-    claims: &mut u64,
-    seat: &mut Seat,
-    to: &mut Copies,
-    place: Place,
-    number: usize,
+    round: &Round<'_, G>,
+    own: &mut Own,
     block: &Block,
     index: usize,
+    number: usize,
 ) -> Result<Place, AllocError>
-    requires source { IsSource from.stores.now from.numbers.now }
-    requires claims { CanClaim from.stores.now words.now seat.old to.old }
-    requires working { (base : List (ℕ × ℕ)) × (held : List (ℕ × ℕ)) × (k : ℕ) × (rest : ℕ → Option Object) × (done : Progress) × IsWorking from.stores.now from.roots.now base held k rest seat.old.hand to.old done }
-    requires there { (o : Object) × (objects_at from.stores.now place ≡ Some o) × (slice_get block.now index ≡ Some o) × IsReached (objects_at from.stores.now) from.roots.now place }
-    requires number { (number ≡ number_of from.stores.now place) × (number < object_count from.stores.now) }
-    ensures forwarded { IfOk result (λ q. (base : List (ℕ × ℕ)) → Forwarded (objects_at from.entry.stores.now) (Pairs from.entry.stores.now (known_to base seat.new.hand)) place q) }
-    ensures working { OnOk result (KeepsWorking from.entry.stores.now from.entry.roots.now seat.old.hand seat.new.hand to.old to.new) }
-    ensures learns { OnOk result (LearnsMore seat.old.hand seat.new.hand) }
-    ensures keeps { OnOk result ((n : ℕ) (a : Object) → made to.old n ≡ Some a → made to.new n ≡ Some a) }
-    ensures on { KeepsClaiming seat.old seat.new to.old to.new }
+    requires claims { CanForward round.now own.old }
+    requires working { IsAtWork round.now (λ done. done) own.old }
+    requires found { (p : ℕ) × IsFound round.now block.now index number p }
+    requires number { number < object_count round.now.from.stores.now }
+    ensures forwarded { IfOk result (λ q. (p : ℕ) → IsFound round.now block.now index number p → Becomes round.now own.new p q) }
+    ensures working { OnOk result (WorksOn round.now own.old own.new) }
+    ensures learns { OnOk result (Learns own.old own.new) }
+    ensures keeps { OnOk result (KeepsMade own.old own.new) }
+    ensures on { KeepsClaiming own.old own.new }
 {
-    let offered = reserve(alloc, to, words.copiers(), block, index)?;
-    gate.at_claim(copier, *claims);
-    *claims = claims.wrapping_add(1);
-    let won = words.claim(seat, number, offered);
+    let reserved = reserve(alloc, &mut own.to, round.words.copiers(), block, index)?;
+    round.gate.at_claim(own.number, own.claims);
+    own.claims = own.claims.wrapping_add(1);
+    let offered = reserved.place;
+    let won = round.words.claim(&mut own.seat, number, offered);
     if won.number() != offered.number() {
         return Ok(won);
     }
-    fill(alloc, to, block, index)?;
+    let (age, cells) = (reserved.age, reserved.cells);
+    fill(&mut own.to, block, index, reserved)?;
+    close_large(alloc, &mut own.to, round.words.copiers(), age, cells)?;
     Ok(won)
 }
 
@@ -65,33 +55,26 @@ fn claim_and_copy<G: Gate>(
 #[inline]
 pub fn forward<G: Gate>(
     alloc: Global,
-    from: Source<'_>,
-    words: &Forwarding<CopierBlocks>,
-    gate: &G,
-    copier: u64,
-    claims: &mut u64,
-    seat: &mut Seat,
-    to: &mut Copies,
+    round: &Round<'_, G>,
+    own: &mut Own,
     place: Place,
 ) -> Result<Place, AllocError>
-    requires source { IsSource from.stores.now from.numbers.now }
-    requires claims { CanClaim from.stores.now words.now seat.old to.old }
-    requires working { (base : List (ℕ × ℕ)) × (held : List (ℕ × ℕ)) × (k : ℕ) × (rest : ℕ → Option Object) × (done : Progress) × IsWorking from.stores.now from.roots.now base held k rest seat.old.hand to.old done }
-    requires reached { (o : Object) → objects_at from.stores.now place ≡ Some o → IsReached (objects_at from.stores.now) from.roots.now place }
-    ensures forwarded { IfOk result (λ q. (base : List (ℕ × ℕ)) → Forwarded (objects_at from.entry.stores.now) (Pairs from.entry.stores.now (known_to base seat.new.hand)) place q) }
-    ensures working { OnOk result (KeepsWorking from.entry.stores.now from.entry.roots.now seat.old.hand seat.new.hand to.old to.new) }
-    ensures learns { OnOk result (LearnsMore seat.old.hand seat.new.hand) }
-    ensures keeps { OnOk result ((n : ℕ) (a : Object) → made to.old n ≡ Some a → made to.new n ≡ Some a) }
-    ensures on { KeepsClaiming seat.old seat.new to.old to.new }
+    requires claims { CanForward round.now own.old }
+    requires working { IsAtWork round.now (λ done. done) own.old }
+    requires reached { ReachesIfThere round.now place }
+    ensures forwarded { IfOk result (λ q. Becomes round.now own.new place q) }
+    ensures working { OnOk result (WorksOn round.now own.old own.new) }
+    ensures learns { OnOk result (Learns own.old own.new) }
+    ensures keeps { OnOk result (KeepsMade own.old own.new) }
+    ensures on { KeepsClaiming own.old own.new }
 {
+    let from = &round.from;
     let Some((block, index)) = find(from.stores, place) else {
         return Ok(place);
     };
     let number = number(from.stores, from.numbers, place);
-    if let Some(known) = words.look(seat, number) {
+    if let Some(known) = round.words.look(&mut own.seat, number) {
         return Ok(known);
     }
-    claim_and_copy(
-        alloc, from, words, gate, copier, claims, seat, to, place, number, block, index,
-    )
+    claim_and_copy(alloc, round, own, block, index, number)
 }

@@ -1,6 +1,6 @@
 // What all copiers hold is put into one store of the young and one of the old.
 
-ghost use Rattle.std.specs.Prelude.{◌≡◌, ◌≢◌, ◌⊎◌, ℕ, ◌<◌, IfOk, OnOk};
+ghost use Rattle.std.specs.Prelude.{◌≡◌, ◌≢◌, ◌⊎◌, ℕ, ◌<◌, ◌≤◌, ◌^◌, IfOk, OnOk};
 ghost use Rattle.jm_par_copy.specs.Ending.{AllLoads, AreLoads, IsBeside, IsLoad, IsLoaded, seats_in, stock, stocks, stored};
 ghost use Rattle.jm_par_copy.specs.Holding.{held_objects};
 ghost use Rattle.jm_par_copy.specs.Pieces.{IsPiece, objects_of};
@@ -63,13 +63,13 @@ fn unload_own(
 ) -> Result<(), AllocError>
     requires lanes { young.old.lane ≢ promoted.old.lane }
     requires load { IsLoad young.old.lane promoted.old.lane copier.old }
-    requires beside { IsBeside (stored copier.old.to.young copier.old.to.tenured) young.old promoted.old }
-    ensures loaded { OnOk result (IsLoaded (stored copier.old.to.young copier.old.to.tenured) young.old promoted.old young.new promoted.new) }
+    requires beside { IsBeside (stored copier.old.own.to.young copier.old.own.to.tenured) young.old promoted.old }
+    ensures loaded { OnOk result (IsLoaded (stored copier.old.own.to.young copier.old.own.to.tenured) young.old promoted.old young.new promoted.new) }
     ensures given { copier.new.given.items ≡ copier.old.given.items }
-    ensures seat { copier.new.seat ≡ copier.old.seat }
+    ensures seat { copier.new.own.seat ≡ copier.old.own.seat }
 {
-    move_all(alloc, &mut copier.to.young, young)?;
-    move_all(alloc, &mut copier.to.tenured, promoted)?;
+    move_all(alloc, &mut copier.own.to.young, young)?;
+    move_all(alloc, &mut copier.own.to.tenured, promoted)?;
     Ok(())
 }
 
@@ -84,7 +84,7 @@ fn unload(
     requires load { IsLoad young.old.lane promoted.old.lane copier.old }
     requires beside { IsBeside (stock copier.old) young.old promoted.old }
     ensures loaded { OnOk result (IsLoaded (stock copier.old) young.old promoted.old young.new promoted.new) }
-    ensures seat { copier.new.seat ≡ copier.old.seat }
+    ensures seat { copier.new.own.seat ≡ copier.old.own.seat }
 {
     unload_own(alloc, copier, young, promoted)?;
     let given = mem::replace(&mut copier.given, Vec::new(alloc));
@@ -116,14 +116,18 @@ fn unload_all(
 }
 
 /// What all copiers hold, with the blocks that are set aside, in a store of the young and one of the old, whose lane
-/// is given. The copiers keep their seats, also where a growth is refused.
+/// is given. The store of the old is begun with so many empty blocks, of which no step is made: none of the copiers' old
+/// blocks should lie among them. Where one does the answer is the same, and takes longer. The copiers keep their seats,
+/// also where a growth is refused.
 pub fn put_together(
     alloc: Global,
     copiers: &mut Vec<Copier>,
     aside: Vec<Piece>,
     old_lane: u64,
+    empty: usize,
 ) -> Result<(BlockStore, BlockStore), AllocError>
     requires lane { (1 < old_lane) × (old_lane < 64) }
+    requires few { empty ≤ 2 ^ 49 }
     requires loads { AllLoads 1 old_lane copiers.old.items aside.items }
     ensures young_lane { IfOk result (λ r. r.0.lane ≡ 1) }
     ensures old_lane { IfOk result (λ r. r.1.lane ≡ old_lane) }
@@ -131,7 +135,7 @@ pub fn put_together(
     ensures seats { seats_in copiers.new.items ≡ seats_in copiers.old.items }
 {
     let mut young = BlockStore::new(alloc, YOUNG);
-    let mut promoted = BlockStore::new(alloc, old_lane);
+    let mut promoted = BlockStore::starting_at(alloc, old_lane, empty)?;
     unload_all(
         alloc,
         copiers.as_mut_slice(),

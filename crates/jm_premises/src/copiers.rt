@@ -12,7 +12,7 @@ use jm_copy::{Source, number_all};
 use jm_forward::Forwarding;
 use jm_heap::{ClassId, Elements};
 use jm_nursery::Nurseries;
-use jm_par_copy::{CopierBlocks, copy_with};
+use jm_par_copy::{CopierBlocks, Round, copy_with};
 use jm_values::{Place, Value};
 use std::alloc::{AllocError, Global};
 use std::sync::atomic::{AtomicU64, Ordering};
@@ -66,8 +66,7 @@ fn put_object(
 #[tactic(auto, unfolding(jm_heap::specs::Cells::class_size))]
 pub fn put_young(alloc: Global) -> Result<u64, AllocError> {
     let mut young = Nurseries::new(alloc, CELLS)?;
-    let fields = [Value::Null];
-    young.make_with(alloc, 0, header_of(0), Elements::Fields(fields.as_slice()))?;
+    young.make(alloc, 0, header_of(0), Value::Null, 1)?;
     Ok(young.cells())
 }
 
@@ -115,8 +114,13 @@ fn copied_from<R: Threads>(
     };
     let passed = AtomicU64::new(0);
     let gate = CountingGate { passed: &passed };
+    let round = Round {
+        from,
+        words: &words,
+        gate: &gate,
+    };
     let mut tenured = BlockStore::new(alloc, OLD);
-    let copied = copy_with(rt, alloc, from, &words, &gate, &mut seats, &mut tenured)?;
+    let copied = copy_with(rt, alloc, &round, &mut seats, &mut tenured)?;
     Ok(Copied {
         objects: count_objects(&copied.young),
         claims: passed.load(Ordering::SeqCst),

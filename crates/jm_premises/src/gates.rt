@@ -11,7 +11,7 @@ pub struct CountingGate<'a> {
 }
 
 impl Gate for CountingGate<'_> {
-    fn at_claim(&self, _copier: u64, _nth: u64) {
+    fn at_claim(&self, _copier: usize, _nth: u64) {
         self.passed.fetch_add(1, Ordering::SeqCst);
     }
 }

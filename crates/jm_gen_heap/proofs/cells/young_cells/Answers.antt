@@ -16,8 +16,8 @@ loop-number-preserved c =
     let more = sum_by_more lane_cells stores n store c.loop-number-test.true ∙ ap (λ s. young_cells (take n stores) + lane_cells s) (sym is) in
     let added = c.saturating_add-cells.ensures in
     record {
-      value = λ h. let before = c.loop-number.invariant.value (omega (arith, more, h)) in let own = c.store_cells.ensures.value (omega (arith, more, h)) in omega (arith, added, before, own, more, h);
-      short = below_more (λ k. (s : Blocks) → slice_get stores k ≡ Some s → IsWhole s) n c.loop-number.invariant.short (λ s e. subst IsWhole (is ∙ get_or_from_slice_get stores n s store e) c.store_cells.ensures.short);
+      value = λ h. let before = c.loop-number.invariant.value (omega (arith, more, h)) in let own = c.cells.ensures.value (omega (arith, more, h)) in omega (arith, added, before, own, more, h);
+      short = below_more (λ k. (s : Blocks) → slice_get stores k ≡ Some s → IsWhole s) n c.loop-number.invariant.short (λ s e. subst IsWhole (is ∙ get_or_from_slice_get stores n s store e) c.cells.ensures.short);
     }
 
 pub returns-clause-short : goal.returns-clause-short

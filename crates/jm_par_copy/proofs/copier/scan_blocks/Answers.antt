@@ -9,7 +9,7 @@ use Rattle.jm_par_copy.proofs.copier.scan_blocks.Goals as goal
 pub returns-in-Err : goal.returns-in-Err
 returns-in-Err g c =
     record {
-      on = record { number = refl; claiming = claiming_more c.args.copier.now.seat c.scan_all_given.new.seat c.scan_own-made.new.seat c.args.copier.now.to c.scan_all_given.new.to c.scan_own-made.new.to c.scan_all_given.ensures.on c.scan_own-made.ensures.on };
+      on = claiming_more c.args.copier.now.own c.scan_all_given.new.own c.scan_own-made.new.own c.scan_all_given.ensures.on c.scan_own-made.ensures.on;
       places = refl;
       rooted = refl;
       kept = λ e. let no : true ≡ false = e in absurd cc;
@@ -21,22 +21,22 @@ returns-in-Ok-made g c =
     let f = c.in-Ok-made.ensures in
     let ys = c.scan_all_given.new.given.items in
     record {
-      on = record { number = refl; claiming = claiming_more c.args.copier.now.seat c.scan_all_given.new.seat c.scan_own-made.new.seat c.args.copier.now.to c.scan_all_given.new.to c.scan_own-made.new.to c.scan_all_given.ensures.on c.scan_own-made.ensures.on };
+      on = claiming_more c.args.copier.now.own c.scan_all_given.new.own c.scan_own-made.new.own c.scan_all_given.ensures.on c.scan_own-made.ensures.on;
       places = refl;
       rooted = refl;
       kept = λ t. record {
         holding = λ base held k w. f.scanning base held k (held_objects ys) (held_progress ys) (e.holding base held k w);
-        given = given_still c.scan_all_given.new.seat c.scan_own-made.new.seat c.scan_all_given.new.to c.scan_own-made.new.to ys c.scan_own-made.ensures.on e.given;
+        given = given_still c.scan_all_given.new.own c.scan_own-made.new.own ys c.scan_own-made.ensures.on e.given;
         same = e.same;
         marks = f.marks;
         ended = λ u. (
-          f.end (c.is_all-copier.ensures.own u),
+          f.end (c.is_all.ensures (c.is_all-copier.ensures.own u)),
           λ i x at.
               let within = slice_get_within ys i x at in
               let all = c.is_all-copier.ensures.given u in
               e.end i x (omega (arith, within, all, c.scan_all_given.ensures.many, c.len-given.ensures, c.args.copier.now.given.ok.0)) at,
         );
-        learns = learns_more c.args.copier.now.seat.hand c.scan_all_given.new.seat.hand c.scan_own-made.new.seat.hand e.learns f.learns;
-        noting = λ n. scan_noting c.args.copier.now _ c.scan_all_given.new.to c.scan_all_given.ensures.on.stays.young_lane c.scan_own-made.ensures.on.stays.young_lane e.listed f.listed e.noted n;
+        learns = learns_more c.args.copier.now.own.seat.hand c.scan_all_given.new.own.seat.hand c.scan_own-made.new.own.seat.hand e.learns f.learns;
+        noting = λ n. scan_noting c.args.copier.now _ c.scan_all_given.new.own.to c.scan_all_given.ensures.on.stays.young_lane c.scan_own-made.ensures.on.stays.young_lane e.listed f.listed e.noted n;
       };
     }

@@ -1,6 +1,5 @@
-use Rattle.jm_par_copy.proofs.Redealing.{aside_is_dealt, keep_seats, scanned_more}
-use Rattle.std.proofs.Common.{rules, ◌≡◌, length, ◌∷◌, subst, sym}
-use Rattle.jm_par_copy.specs.Copiers.{AreScannedPieces}
+use Rattle.jm_par_copy.proofs.Redealing.{aside_is_dealt, keep_seats}
+use Rattle.std.proofs.Common.{◌∷◌, subst, sym}
 use Rattle.jm_par_copy.specs.Dealing.{AreDealt}
 use Rattle.jm_par_copy.proofs.dealing.deal_one.Goals as goal
 
@@ -13,11 +12,6 @@ returns-then-piece-len-clause-dealt c =
 
 pub returns-then-piece-len-clause-seats : goal.returns-then-piece-len-clause-seats
 returns-then-piece-len-clause-seats c = keep_seats c.args.copiers.now.items
-
-pub returns-then-piece-len-clause-scanned : goal.returns-then-piece-len-clause-scanned
-returns-then-piece-len-clause-scanned c =
-    let ends : c.args.piece.mark ≡ length c.args.piece.block = search rules in
-    λ s. subst (λ xs. AreScannedPieces xs) (sym c.in_ok-push.ensures.items) (scanned_more c.args.aside.now.items c.args.piece ends s)
 
 pub returns-then-next-count-clause-dealt : goal.returns-then-next-count-clause-dealt
 returns-then-next-count-clause-dealt c = c.in_ok-add.ensures.dealt c.args.aside.now.items

@@ -8,7 +8,7 @@ loop-piece-init c =
     let cs = c.args.copiers.now.items in
     let aside = c.args.aside.now.items in
     let all : c.into_iter-piece-iterator.result.rest.items ≡ c.args.pieces.items = search rules in
-    (subst (λ left. AreDealt cs (c.args.pieces.items ++ aside) cs (left ++ aside)) (sym all) (dealt_none cs (c.args.pieces.items ++ aside)), c.requires.some, keep_seats cs, λ s. s)
+    (subst (λ left. AreDealt cs (c.args.pieces.items ++ aside) cs (left ++ aside)) (sym all) (dealt_none cs (c.args.pieces.items ++ aside)), c.requires.some, keep_seats cs)
 
 pub returns-in_err-next-clause-seats : goal.returns-in_err-next-clause-seats
 returns-in_err-next-clause-seats c = seats_then c.args.copiers.now.items c.loop-piece.copiers.items c.deal_one.new.copiers.items c.loop-piece.invariant.2 c.deal_one.ensures.seats
@@ -26,7 +26,6 @@ loop-piece-preserved c =
       dealt_more cs ds es all c.next.new.self.rest.items c.loop-piece.aside.items c.deal_one.new.aside.items c.in-Some.piece f c.in_ok-next.ensures.dealt,
       omega (arith, many, next),
       seats_then cs ds es c.loop-piece.invariant.2 c.deal_one.ensures.seats,
-      λ s. c.in_ok-next.ensures.scanned (c.loop-piece.invariant.3 s),
     )
 
 pub returns-clause-dealt : goal.returns-clause-dealt

@@ -1,7 +1,5 @@
-use Rattle.std.proofs.Common.{sym, subst}
-use Rattle.jm_par_copy.proofs.Giving.{GivesBackTo, gives_more, still_more}
+use Rattle.jm_par_copy.proofs.Giving.{gives_more, still_more}
 use Rattle.jm_par_copy.proofs.Noting.{listed_then}
-use Rattle.jm_par_copy.proofs.given_back.give_back.Goals.{then-is_beyond+in_ok-give_young, else-is_beyond, then-is_beyond-2+in_ok-give_old, else-is_beyond-2}
 use Rattle.jm_par_copy.proofs.given_back.give_back.Goals as goal
 
 pub returns-in_err-give_young-clause-holds : goal.returns-in_err-give_young-clause-holds
@@ -24,26 +22,14 @@ returns-in_err-give_old-clause-noted c all = c.give_old.ensures.noted (c.loop-nu
 
 pub loop-number-preserved : goal.loop-number-preserved
 loop-number-preserved c =
-    let t : GivesBackTo c.args.to.now c.if-is_beyond.to c.args.marks.now c.args.given.now.items c.if-is_beyond.given.items = elim c.if-is_beyond.branch [
-      | then-is_beyond+in_ok-give_young w ↦
-          let i = c.loop-number.invariant in
-          let e = w.give_young.ensures in
-          subst (λ v. GivesBackTo c.args.to.now v c.args.marks.now c.args.given.now.items c.if-is_beyond.given.items) (sym w.to-is) (subst (λ v. GivesBackTo c.args.to.now w.give_young.new.to c.args.marks.now c.args.given.now.items v.items) (sym w.given-is) (gives_more c.args.to.now c.loop-number.to w.give_young.new.to c.args.marks.now c.args.given.now.items c.loop-number.given.items w.give_young.new.given.items (i.holds, i.same, i.listed, i.noted) (e.holds, e.same, e.listed, e.noted)))
-      | else-is_beyond w ↦
-          let i = c.loop-number.invariant in
-          subst (λ v. GivesBackTo c.args.to.now v c.args.marks.now c.args.given.now.items c.if-is_beyond.given.items) (sym w.to-is) (subst (λ v. GivesBackTo c.args.to.now c.loop-number.to c.args.marks.now c.args.given.now.items v.items) (sym w.given-is) (i.holds, i.same, i.listed, i.noted))
-    ] in
+    let i = c.loop-number.invariant in
+    let e = c.give_young.ensures in
+    let t = gives_more c.args.to.now c.loop-number.to c.give_young.new.to c.args.marks.now c.args.given.now.items c.loop-number.given.items c.give_young.new.given.items (i.holds, i.same, i.listed, i.noted) (e.holds, e.same, e.listed, e.noted) in
     record { holds = t.0; same = t.1; listed = t.2; noted = t.3 }
 
 pub loop-number-2-preserved : goal.loop-number-2-preserved
 loop-number-2-preserved c =
-    let t : GivesBackTo c.args.to.now c.if-is_beyond-2.to c.args.marks.now c.args.given.now.items c.if-is_beyond-2.given.items = elim c.if-is_beyond-2.branch [
-      | then-is_beyond-2+in_ok-give_old w ↦
-          let i = c.loop-number-2.invariant in
-          let e = w.give_old.ensures in
-          subst (λ v. GivesBackTo c.args.to.now v c.args.marks.now c.args.given.now.items c.if-is_beyond-2.given.items) (sym w.to-is) (subst (λ v. GivesBackTo c.args.to.now w.give_old.new.to c.args.marks.now c.args.given.now.items v.items) (sym w.given-is) (gives_more c.args.to.now c.loop-number-2.to w.give_old.new.to c.args.marks.now c.args.given.now.items c.loop-number-2.given.items w.give_old.new.given.items (i.holds, i.same, i.listed, i.noted) (e.holds, e.same, e.listed, e.noted)))
-      | else-is_beyond-2 w ↦
-          let i = c.loop-number-2.invariant in
-          subst (λ v. GivesBackTo c.args.to.now v c.args.marks.now c.args.given.now.items c.if-is_beyond-2.given.items) (sym w.to-is) (subst (λ v. GivesBackTo c.args.to.now c.loop-number-2.to c.args.marks.now c.args.given.now.items v.items) (sym w.given-is) (i.holds, i.same, i.listed, i.noted))
-    ] in
+    let i = c.loop-number-2.invariant in
+    let e = c.give_old.ensures in
+    let t = gives_more c.args.to.now c.loop-number-2.to c.give_old.new.to c.args.marks.now c.args.given.now.items c.loop-number-2.given.items c.give_old.new.given.items (i.holds, i.same, i.listed, i.noted) (e.holds, e.same, e.listed, e.noted) in
     record { holds = t.0; same = t.1; listed = t.2; noted = t.3 }

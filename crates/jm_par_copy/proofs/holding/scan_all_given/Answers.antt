@@ -12,18 +12,18 @@ loop-number-init g c = record {
   end = λ i x h e. absurd (omega (arith, h));
   listed = λ lane mark places l. l;
   noted = λ young all. all;
-  learns = learns_refl c.args.seat.now.hand;
-  on = claiming_refl c.args.seat.now c.args.to.now;
+  learns = learns_refl c.args.own.now.seat.hand;
+  on = claiming_refl c.args.own.now;
 }
 
 pub scan_one-requires-clause-claims : goal.scan_one-requires-clause-claims
-scan_one-requires-clause-claims g c = claims_still c.args.from.stores.now c.args.words.now c.args.seat.now c.loop-number.seat c.args.to.now c.loop-number.to c.loop-number.invariant.on c.requires.claims
+scan_one-requires-clause-claims g c = claims_still c.args.round.now.from.stores.now c.args.round.now.words.now c.args.own.now c.loop-number.own c.loop-number.invariant.on c.requires.claims
 
 pub scan_one-requires-clause-holding : goal.scan_one-requires-clause-holding
 scan_one-requires-clause-holding g c = let w = c.requires.holding in (w.0, w.1, w.2, c.loop-number.invariant.holding w.0 w.1 w.2 w.3)
 
 pub returns-in_err-scan_one-clause-on : goal.returns-in_err-scan_one-clause-on
-returns-in_err-scan_one-clause-on g c = claiming_more c.args.seat.now c.loop-number.seat c.scan_one.new.seat c.args.to.now c.loop-number.to c.scan_one.new.to c.loop-number.invariant.on c.scan_one.ensures.on
+returns-in_err-scan_one-clause-on g c = claiming_more c.args.own.now c.loop-number.own c.scan_one.new.own c.loop-number.invariant.on c.scan_one.ensures.on
 
 pub loop-number-preserved : goal.loop-number-preserved
 loop-number-preserved g c =
@@ -37,8 +37,8 @@ loop-number-preserved g c =
       end = ends_here c.loop-number.given.items c.scan_one.new.given.items c.loop-number.number i.end e.end c.scan_one.ensures.others;
       listed = λ lane mark places l. e.listed lane mark places (i.listed lane mark places l);
       noted = λ young all. e.noted (i.on.stays.young_lane ∙ young) (i.noted young all);
-      learns = learns_more c.args.seat.now.hand c.loop-number.seat.hand c.scan_one.new.seat.hand c.loop-number.invariant.learns c.in_ok-scan_one.ensures.learns;
-      on = claiming_more c.args.seat.now c.loop-number.seat c.scan_one.new.seat c.args.to.now c.loop-number.to c.scan_one.new.to c.loop-number.invariant.on c.scan_one.ensures.on;
+      learns = learns_more c.args.own.now.seat.hand c.loop-number.own.seat.hand c.scan_one.new.own.seat.hand c.loop-number.invariant.learns c.in_ok-scan_one.ensures.learns;
+      on = claiming_more c.args.own.now c.loop-number.own c.scan_one.new.own c.loop-number.invariant.on c.scan_one.ensures.on;
     }
 
 pub returns-clause-end : goal.returns-clause-end

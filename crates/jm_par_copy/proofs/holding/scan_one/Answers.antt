@@ -17,14 +17,14 @@ scan_piece-requires-clause-working g c =
     let w = c.requires.holding in
     let xs = c.args.given.now.items in
     let i = c.args.number in
-    (w.0, w.1, w.2, held_objects (without xs i), scan_progress c.args.to.now.young.lane c.args.marks.now (held_objects (without xs i)) (held_progress (without xs i)), held_first c.args.from.stores.now c.args.from.roots.now w.0 w.1 w.2 c.args.seat.now.hand c.args.to.now c.args.marks.now xs i c.index_mut.result.now c.requires.given (slice_get_read c.args.given.now.items (length c.args.given.now.items) c.args.number c.index_mut.result.now refl c.requires.there c.index_mut.ensures.value) w.3)
+    (w.0, w.1, w.2, held_objects (without xs i), scan_progress c.args.own.now.to.young.lane c.args.marks.now (held_objects (without xs i)) (held_progress (without xs i)), held_first c.args.round.now.from.stores.now c.args.round.now.from.roots.now w.0 w.1 w.2 c.args.own.now.seat.hand c.args.own.now.to c.args.marks.now xs i c.index_mut.result.now c.requires.given (slice_get_read c.args.given.now.items (length c.args.given.now.items) c.args.number c.index_mut.result.now refl c.requires.there c.index_mut.ensures.value) w.3)
 
 pub returns-clause-given : goal.returns-clause-given
 returns-clause-given g c =
     let e = c.in_ok-scan_piece.ensures in
     let at = slice_get_read c.args.given.now.items (length c.args.given.now.items) c.args.number c.index_mut.result.now refl c.requires.there c.index_mut.ensures.value in
     let piece = piece_stays c.index_mut.result.now c.scan_piece.new.piece (c.requires.given.pieces c.args.number c.index_mut.result.now at) e.same (omega (arith, e.end)) in
-    given_stay c.args.seat.now c.scan_piece.new.seat c.args.to.now c.scan_piece.new.to c.args.given.now.items c.args.number c.index_mut.result.now c.scan_piece.new.piece c.scan_piece.ensures.on at piece e.same c.requires.given
+    given_stay c.args.own.now c.scan_piece.new.own c.args.given.now.items c.args.number c.index_mut.result.now c.scan_piece.new.piece c.scan_piece.ensures.on at piece e.same c.requires.given
 
 pub returns-clause-same : goal.returns-clause-same
 returns-clause-same g c = same_set c.args.given.now.items c.args.number c.index_mut.result.now c.scan_piece.new.piece (slice_get_read c.args.given.now.items (length c.args.given.now.items) c.args.number c.index_mut.result.now refl c.requires.there c.index_mut.ensures.value) c.in_ok-scan_piece.ensures.same
@@ -34,8 +34,8 @@ returns-clause-holding g c base held k f =
     let e = c.in_ok-scan_piece.ensures in
     let at = slice_get_read c.args.given.now.items (length c.args.given.now.items) c.args.number c.index_mut.result.now refl c.requires.there c.index_mut.ensures.value in
     let piece = piece_stays c.index_mut.result.now c.scan_piece.new.piece (c.requires.given.pieces c.args.number c.index_mut.result.now at) e.same (omega (arith, e.end)) in
-    let given = given_stay c.args.seat.now c.scan_piece.new.seat c.args.to.now c.scan_piece.new.to c.args.given.now.items c.args.number c.index_mut.result.now c.scan_piece.new.piece c.scan_piece.ensures.on at piece e.same c.requires.given in
-    held_scanned c.args.from.stores.now c.args.from.roots.now base held k c.args.seat.now.hand c.scan_piece.new.seat.hand c.args.to.now c.scan_piece.new.to c.args.marks.now c.args.given.now.items c.args.number c.index_mut.result.now c.scan_piece.new.piece c.scan_piece.ensures.on.stays.young_lane c.requires.given at given e.working f
+    let given = given_stay c.args.own.now c.scan_piece.new.own c.args.given.now.items c.args.number c.index_mut.result.now c.scan_piece.new.piece c.scan_piece.ensures.on at piece e.same c.requires.given in
+    held_scanned c.args.round.now.from.stores.now c.args.round.now.from.roots.now base held k c.args.own.now.seat.hand c.scan_piece.new.own.seat.hand c.args.own.now.to c.scan_piece.new.own.to c.args.marks.now c.args.given.now.items c.args.number c.index_mut.result.now c.scan_piece.new.piece c.scan_piece.ensures.on.stays.young_lane c.requires.given at given e.working f
 
 pub returns-clause-end : goal.returns-clause-end
 returns-clause-end g c x e =

@@ -16,11 +16,11 @@ use Rattle.jm_values.proofs.Lists.{get_there}
 
 pub loop-next-init : goal.loop-next-init
 loop-next-init g c =
-    let stores = c.args.from.stores.now in
-    let roots = c.args.from.roots.now in
+    let stores = c.args.round.now.from.stores.now in
+    let roots = c.args.round.now.from.roots.now in
     let x = c.args.piece.now in
-    let h = c.args.seat.now.hand in
-    let to = c.args.to.now in
+    let h = c.args.own.now.seat.hand in
+    let to = c.args.own.now.to in
     let s = place_in x x.mark in
     let a = get_there x.block x.mark c.requires.there in
     let forwards : ℕ → Type 0 = ForwardsGiven stores roots h h to to x x s 0 in
@@ -34,12 +34,12 @@ loop-next-init g c =
       others = λ j other. refl;
       pointing = refl;
       listed = λ lane mark places l. l;
-      learns = learns_refl c.args.seat.now.hand;
-      on = claiming_refl c.args.seat.now c.args.to.now;
+      learns = learns_refl c.args.own.now.seat.hand;
+      on = claiming_refl c.args.own.now;
     }
 
 pub forward_given-requires-clause-claims : goal.forward_given-requires-clause-claims
-forward_given-requires-clause-claims g c = claims_still c.args.from.stores.now c.args.words.now c.args.seat.now c.loop-next.seat c.args.to.now c.loop-next.to c.loop-next.invariant.on c.requires.claims
+forward_given-requires-clause-claims g c = claims_still c.args.round.now.from.stores.now c.args.round.now.words.now c.args.own.now c.loop-next.own c.loop-next.invariant.on c.requires.claims
 
 pub forward_given-requires-clause-there : goal.forward_given-requires-clause-there
 forward_given-requires-clause-there g c =
@@ -54,14 +54,14 @@ forward_given-requires-clause-working g c =
     let y = c.loop-next.piece in
     let i = c.loop-next.invariant in
     let a = get_there x.block x.mark c.requires.there in
-    let stores = c.args.from.stores.now in
-    let roots = c.args.from.roots.now in
+    let stores = c.args.round.now.from.stores.now in
+    let roots = c.args.round.now.from.roots.now in
     let next = progress_of (marked x x.block (x.mark + 1)) w.4 in
-    let starts = given_starts stores roots w.0 w.1 w.2 w.3 c.args.seat.now.hand c.args.to.now w.4 x a.0 c.requires.piece.lane (mark_few x c.requires.piece c.requires.there) x.block a.1 w.5 in
+    let starts = given_starts stores roots w.0 w.1 w.2 w.3 c.args.own.now.seat.hand c.args.own.now.to w.4 x a.0 c.requires.piece.lane (mark_few x c.requires.piece c.requires.there) x.block a.1 w.5 in
     let reached = at_reference _ _ _ _ _ _ c.in-Some.is i.there.2 in
     let now = reached.0.to w.0 w.1 w.2 w.3 next starts in
     let where_ = place_same x y x.mark i.same ∙ ap (place_in y) (sym i.index) in
-    (w.0, w.1, w.2, w.3, next, subst (λ s. IsGiven stores roots w.0 w.1 w.2 w.3 (at next s c.in-Some.named.number) c.loop-next.seat.hand c.loop-next.to y) where_ now)
+    (w.0, w.1, w.2, w.3, next, subst (λ s. IsGiven stores roots w.0 w.1 w.2 w.3 (at next s c.in-Some.named.number) c.loop-next.own.seat.hand c.loop-next.own.to y) where_ now)
 
 pub named_after-next-requires : goal.named_after-next-requires
 named_after-next-requires g c =
@@ -72,23 +72,23 @@ named_after-next-requires g c =
 
 pub loop-next-preserved : goal.loop-next-preserved
 loop-next-preserved g c =
-    let stores = c.args.from.stores.now in
-    let roots = c.args.from.roots.now in
-    let h = c.args.seat.now.hand in
-    let h' = c.forward_given.new.seat.hand in
+    let stores = c.args.round.now.from.stores.now in
+    let roots = c.args.round.now.from.roots.now in
+    let h = c.args.own.now.seat.hand in
+    let h' = c.forward_given.new.own.seat.hand in
     let x = c.args.piece.now in
     let y = c.loop-next.piece in
     let z = c.forward_given.new.piece in
     let s = place_in x x.mark in
-    let start = c.args.to.now in
-    let now = c.forward_given.new.to in
+    let start = c.args.own.now.to in
+    let now = c.forward_given.new.own.to in
     let i = c.loop-next.invariant in
     let e = c.in_ok-names.ensures in
     let f = c.forward_given.ensures in
     let named = c.in-Some.named in
     let there = i.there in
     let mark = i.piece.mark in
-    let forwards : ℕ → Type 0 = ForwardsGiven stores roots h c.loop-next.seat.hand start c.loop-next.to x y s 0 in
+    let forwards : ℕ → Type 0 = ForwardsGiven stores roots h c.loop-next.own.seat.hand start c.loop-next.own.to x y s 0 in
     let after : ℕ → Type 0 = ForwardsGiven stores roots h h' start now x z s 0 in
     let reached = at_reference forwards start.young.lane c.loop-next.points there.0 c.loop-next.next named c.in-Some.is there.2 in
     let next = e.names there.0 there.1 in
@@ -100,7 +100,7 @@ loop-next-preserved g c =
     let on = reaches_more forwards after start.young.lane c.loop-next.points c.in_ok-names.names there.0 next.0 named c.named_after-next.result
     (skipped_given stores roots h h' start now x z s object (given_here x z x.mark object c.requires.piece same (mark_few x c.requires.piece c.requires.there) here)) reached
     (λ to base held k rest done w.
-    let was = subst (λ q. IsGiven stores roots base held k rest (at done q named.number) c.loop-next.seat.hand c.loop-next.to y) where_ (to base held k rest done w) in
+    let was = subst (λ q. IsGiven stores roots base held k rest (at done q named.number) c.loop-next.own.seat.hand c.loop-next.own.to y) where_ (to base held k rest done w) in
     subst (λ q. IsGiven stores roots base held k rest (at done q (named.number + 1)) h' now z) (sym where_) (e.working base held k rest done was))
     names (c.named_after-next.ensures.names object next.1) in
     record {
@@ -113,8 +113,8 @@ loop-next-preserved g c =
       others = λ j other. e.others j (λ k. other (k ∙ i.index)) ∙ i.others j other;
       pointing = f.pointing ∙ i.pointing;
       listed = λ lane m places l. e.listed lane m places (i.listed lane m places l);
-      learns = learns_more c.args.seat.now.hand c.loop-next.seat.hand c.forward_given.new.seat.hand c.loop-next.invariant.learns c.in_ok-names.ensures.learns;
-      on = claiming_more c.args.seat.now c.loop-next.seat c.forward_given.new.seat c.args.to.now c.loop-next.to c.forward_given.new.to c.loop-next.invariant.on c.forward_given.ensures.on;
+      learns = learns_more c.args.own.now.seat.hand c.loop-next.own.seat.hand c.forward_given.new.own.seat.hand c.loop-next.invariant.learns c.in_ok-names.ensures.learns;
+      on = claiming_more c.args.own.now c.loop-next.own c.forward_given.new.own c.loop-next.invariant.on c.forward_given.ensures.on;
     }
 
 pub loop-next-smaller : goal.loop-next-smaller
@@ -127,7 +127,7 @@ loop-next-smaller g c =
     omega (arith, less, was)
 
 pub returns-in_err-names-clause-on : goal.returns-in_err-names-clause-on
-returns-in_err-names-clause-on g c = claiming_more c.args.seat.now c.loop-next.seat c.forward_given.new.seat c.args.to.now c.loop-next.to c.forward_given.new.to c.loop-next.invariant.on c.forward_given.ensures.on
+returns-in_err-names-clause-on g c = claiming_more c.args.own.now c.loop-next.own c.forward_given.new.own c.loop-next.invariant.on c.forward_given.ensures.on
 
 pub returns-clause-working : goal.returns-clause-working
 returns-clause-working g c base held k rest done f =
@@ -137,15 +137,15 @@ returns-clause-working g c base held k rest done f =
     let i = c.loop-next.invariant in
     let a = get_there x.block x.mark c.requires.there in
     let b = i.there in
-    let stores = c.args.from.stores.now in
-    let roots = c.args.from.roots.now in
-    let h = c.loop-next.seat.hand in
-    let to = c.loop-next.to in
+    let stores = c.args.round.now.from.stores.now in
+    let roots = c.args.round.now.from.roots.now in
+    let h = c.loop-next.own.seat.hand in
+    let to = c.loop-next.own.to in
     let lane = c.requires.piece.lane in
     let few = mark_few x c.requires.piece c.requires.there in
     let next = progress_of (marked x os (x.mark + 1)) done in
     let s = place_in x x.mark in
-    let starts = given_starts stores roots base held k rest c.args.seat.now.hand c.args.to.now done x a.0 lane few os a.1 f in
+    let starts = given_starts stores roots base held k rest c.args.own.now.seat.hand c.args.own.now.to done x a.0 lane few os a.1 f in
     let at_last = at_end _ _ _ _ _ c.in_default.is b.2 in
     let whole = at_last.to base held k rest next starts in
     let piece = subst (λ z. IsGiven stores roots base held k rest (at next s (length b.0.values)) h to z) (sym (piece_is x y x.mark i.same i.mark i.pointing)) whole in
@@ -161,4 +161,4 @@ returns-clause-points g c a e =
     let at_last = at_end _ _ _ _ _ c.in_default.is there.2 in
     let both : Some there.0 ≡ Some a = sym there.1 ∙ ap (slice_get c.loop-next.piece.block) c.loop-next.invariant.index ∙ e in
     let same : there.0 ≡ a = cc in
-    at_last.points_is ∙ ap (points_to c.args.to.now.young.lane) (take-length there.0.values) ∙ ap (λ (x : Object). points_to c.args.to.now.young.lane x.values) same
+    at_last.points_is ∙ ap (points_to c.args.own.now.to.young.lane) (take-length there.0.values) ∙ ap (λ (x : Object). points_to c.args.own.now.to.young.lane x.values) same

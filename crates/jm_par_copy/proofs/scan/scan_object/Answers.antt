@@ -13,18 +13,18 @@ use Rattle.jm_par_copy.proofs.scan.scan_object.Goals as goal
 pub loop-next-init : goal.loop-next-init
 loop-next-init g c =
     let there = c.requires.there in
-    let h = c.args.seat.now.hand in
-    let to = c.args.to.now in
-    let forwards : ℕ → Type 0 = ForwardsTo c.args.from.stores.now c.args.from.roots.now h h to to c.args.place in
+    let h = c.args.own.now.seat.hand in
+    let to = c.args.own.now.to in
+    let forwards : ℕ → Type 0 = ForwardsTo c.args.round.now.from.stores.now c.args.round.now.from.roots.now h h to to c.args.place in
     record {
-      there = (there.0, there.1, reaches forwards to.young.lane false there.0 (skipped_own c.args.from.stores.now c.args.from.roots.now h h to to c.args.place there.0 there.1) 0 c.named_first-next.result (omega arith) (record { to = λ base held k rest done w. w; points_is = refl }) (c.named_first-next.ensures there.0 there.1));
+      there = (there.0, there.1, reaches forwards to.young.lane false there.0 (skipped_own c.args.round.now.from.stores.now c.args.round.now.from.roots.now h h to to c.args.place there.0 there.1) 0 c.args.first (omega arith) (record { to = λ base held k rest done w. w; points_is = refl }) (c.requires.first there.0 there.1));
       others = λ m n h below apart. refl;
-      learns = learns_refl c.args.seat.now.hand;
-      on = claiming_refl c.args.seat.now c.args.to.now;
+      learns = learns_refl c.args.own.now.seat.hand;
+      on = claiming_refl c.args.own.now;
     }
 
 pub forward_named-requires-clause-claims : goal.forward_named-requires-clause-claims
-forward_named-requires-clause-claims g c = claims_still c.args.from.stores.now c.args.words.now c.args.seat.now c.loop-next.seat c.args.to.now c.loop-next.to c.loop-next.invariant.on c.requires.claims
+forward_named-requires-clause-claims g c = claims_still c.args.round.now.from.stores.now c.args.round.now.words.now c.args.own.now c.loop-next.own c.loop-next.invariant.on c.requires.claims
 
 pub forward_named-requires-clause-working : goal.forward_named-requires-clause-working
 forward_named-requires-clause-working g c =
@@ -48,28 +48,28 @@ named_after-next-requires g c =
 
 pub loop-next-preserved : goal.loop-next-preserved
 loop-next-preserved g c =
-    let stores = c.args.from.stores.now in
-    let roots = c.args.from.roots.now in
-    let h = c.args.seat.now.hand in
-    let start = c.args.to.now in
+    let stores = c.args.round.now.from.stores.now in
+    let roots = c.args.round.now.from.roots.now in
+    let h = c.args.own.now.seat.hand in
+    let start = c.args.own.now.to in
     let place = c.args.place in
     let i = c.loop-next.invariant in
     let e = c.in_ok-names.ensures in
     let there = i.there in
     let named = c.in-Some.named in
-    let forwards : ℕ → Type 0 = ForwardsTo stores roots h c.loop-next.seat.hand start c.loop-next.to place in
-    let now = c.forward_named.new.to in
-    let after : ℕ → Type 0 = ForwardsTo stores roots h c.forward_named.new.seat.hand start now place in
+    let forwards : ℕ → Type 0 = ForwardsTo stores roots h c.loop-next.own.seat.hand start c.loop-next.own.to place in
+    let now = c.forward_named.new.own.to in
+    let after : ℕ → Type 0 = ForwardsTo stores roots h c.forward_named.new.own.seat.hand start now place in
     let at = subst (λ r. Reaches forwards start.young.lane c.loop-next.points there.0 r) c.in-Some.is there.2 in
     let next = e.names there.0 there.1 in
     let names = next.2 ∙ ap (λ l. names_lane l next.0) i.on.stays.young_lane in
     let object = with_value there.0 named.number next.0 in
-    let on = reaches_more forwards after start.young.lane c.loop-next.points c.in_ok-names.names there.0 next.0 named c.named_after-next.result (skipped_own stores roots h c.forward_named.new.seat.hand start now place object next.1) at (λ f base held k rest done w. e.working base held k rest done (f base held k rest done w)) names (c.named_after-next.ensures.names object next.1) in
+    let on = reaches_more forwards after start.young.lane c.loop-next.points c.in_ok-names.names there.0 next.0 named c.named_after-next.result (skipped_own stores roots h c.forward_named.new.own.seat.hand start now place object next.1) at (λ f base held k rest done w. e.working base held k rest done (f base held k rest done w)) names (c.named_after-next.ensures.names object next.1) in
     record {
       there = (object, next.1, subst (λ b. Reaches after start.young.lane b object c.named_after-next.result) (sym c.either-points.ensures) on);
-      others = others_more start c.loop-next.to now place i.on.stays i.others e.others;
-      learns = learns_more c.args.seat.now.hand c.loop-next.seat.hand c.forward_named.new.seat.hand c.loop-next.invariant.learns c.in_ok-names.ensures.learns;
-      on = claiming_more c.args.seat.now c.loop-next.seat c.forward_named.new.seat c.args.to.now c.loop-next.to c.forward_named.new.to c.loop-next.invariant.on c.forward_named.ensures.on;
+      others = others_more start c.loop-next.own.to now place i.on.stays i.others e.others;
+      learns = learns_more c.args.own.now.seat.hand c.loop-next.own.seat.hand c.forward_named.new.own.seat.hand c.loop-next.invariant.learns c.in_ok-names.ensures.learns;
+      on = claiming_more c.args.own.now c.loop-next.own c.forward_named.new.own c.loop-next.invariant.on c.forward_named.ensures.on;
     }
 
 pub loop-next-smaller : goal.loop-next-smaller
@@ -82,7 +82,7 @@ loop-next-smaller g c =
     omega (arith, less, was)
 
 pub returns-in_err-names-clause-on : goal.returns-in_err-names-clause-on
-returns-in_err-names-clause-on g c = claiming_more c.args.seat.now c.loop-next.seat c.forward_named.new.seat c.args.to.now c.loop-next.to c.forward_named.new.to c.loop-next.invariant.on c.forward_named.ensures.on
+returns-in_err-names-clause-on g c = claiming_more c.args.own.now c.loop-next.own c.forward_named.new.own c.loop-next.invariant.on c.forward_named.ensures.on
 
 pub returns-clause-working : goal.returns-clause-working
 returns-clause-working g c =
@@ -96,4 +96,4 @@ returns-clause-points g c a e =
     let reached = at_end _ _ _ _ _ c.in_default.is there.2 in
     let both : Some there.0 ≡ Some a = sym there.1 ∙ e in
     let same : there.0 ≡ a = cc in
-    reached.points_is ∙ ap (points_to c.args.to.now.young.lane) (take-length there.0.values) ∙ ap (λ (x : Object). points_to c.args.to.now.young.lane x.values) same
+    reached.points_is ∙ ap (points_to c.args.own.now.to.young.lane) (take-length there.0.values) ∙ ap (λ (x : Object). points_to c.args.own.now.to.young.lane x.values) same

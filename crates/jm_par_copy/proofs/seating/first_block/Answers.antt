@@ -1,48 +1,21 @@
-use Rattle.std.proofs.Common.{◌∙◌, arith}
-use Rattle.std.proofs.Math.Nat.{add-mod_right, mod-eq_of_lt}
-use Rattle.jm_par_copy.proofs.Begun.{begin_all, begin_first}
+use Rattle.std.proofs.Common.{◌∙◌, true, false, arith, sym, subst}
+use Rattle.jm_par_copy.specs.Begun.{IsLastOwn}
+use Rattle.jm_par_copy.proofs.Begun.{begin_new, begin_there}
 use Rattle.jm_par_copy.proofs.seating.first_block.Goals as goal
 
-pub loop-block-init : goal.loop-block-init
-loop-block-init c =
-    let number = c.requires.number in
-    let few = c.requires.few in
-    record {
-      turn = mod-eq_of_lt number;
-      begins = begin_first c.args.number c.args.copiers c.args.old.now.lists number;
-      below = omega (arith, number, few);
-      block = omega (arith, number, few);
-    }
+pub returns-then-last-len-clause-begins : goal.returns-then-last-len-clause-begins
+returns-then-last-len-clause-begins c =
+    let own = subst (λ k. IsLastOwn c.args.number c.args.copiers k c.last_own-last.result) c.len.ensures.value c.last_own-last.ensures in
+    let over = c.if-last-len.true in
+    let value = c.len-2.ensures.value in
+    begin_new c.args.number c.args.copiers c.args.old.now.lists c.last_own-last.result own (omega (arith, over, value))
 
-pub first_of-first-requires : goal.first_of-first-requires
-first_of-first-requires c =
-    let number = c.requires.number in
-    let few = c.requires.few in
-    let test = c.loop-block-test.true in
-    let len = c.len.ensures in
-    let first = c.loop-block.invariant.below in
-    record {
-      there = omega (arith, test, len.value);
-      few = (omega (arith, number), few);
-      numbered = (omega (arith, test, len.numbered), first);
-    }
-
-pub loop-block-preserved : goal.loop-block-preserved
-loop-block-preserved c =
-    let i = c.loop-block.invariant in
-    let test = c.loop-block-test.true in
-    let numbered = c.len.ensures.numbered in
-    let few = c.requires.few in
-    record {
-      turn = add-mod_right c.loop-block.block c.args.copiers ∙ i.turn;
-      begins = c.first_of-first.ensures.begins c.args.number i.turn i.begins;
-      below = c.first_of-first.ensures.below;
-      block = omega (arith, test, numbered, few);
-    }
+pub returns-then-has_room-clause-begins : goal.returns-then-has_room-clause-begins
+returns-then-has_room-clause-begins c =
+    let own = subst (λ k. IsLastOwn c.args.number c.args.copiers k c.last_own-last.result) c.len.ensures.value c.last_own-last.ensures in
+    begin_there c.args.number c.args.copiers c.args.old.now.lists c.last_own-last.result c.block.result.now true own c.block.ensures (sym c.has_room.ensures.value ∙ c.if-has_room.true)
 
 pub returns-clause-begins : goal.returns-clause-begins
 returns-clause-begins c =
-    let i = c.loop-block.invariant in
-    let over = c.loop-block-test.false in
-    let len = c.len.ensures.value in
-    begin_all c.args.number c.args.copiers c.args.old.now.lists c.loop-block.block c.loop-block.first (omega (arith, over, len)) i.begins
+    let own = subst (λ k. IsLastOwn c.args.number c.args.copiers k c.last_own-last.result) c.len.ensures.value c.last_own-last.ensures in
+    begin_there c.args.number c.args.copiers c.args.old.now.lists c.last_own-last.result c.block.result.now false own c.block.ensures (sym c.has_room.ensures.value ∙ c.if-has_room.false)

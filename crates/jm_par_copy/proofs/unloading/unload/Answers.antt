@@ -6,7 +6,7 @@ use Rattle.jm_par_copy.proofs.Loads.{beside_first, given_beside, given_loads, lo
 use Rattle.jm_par_copy.proofs.unloading.unload.Goals as goal
 
 pub unload_own-requires-clause-beside : goal.unload_own-requires-clause-beside
-unload_own-requires-clause-beside c = beside_first (stored c.args.copier.now.to.young c.args.copier.now.to.tenured) (held_objects c.args.copier.now.given.items) c.args.young.now c.args.promoted.now c.requires.beside
+unload_own-requires-clause-beside c = beside_first (stored c.args.copier.now.own.to.young c.args.copier.now.own.to.tenured) (held_objects c.args.copier.now.given.items) c.args.young.now c.args.promoted.now c.requires.beside
 
 pub put_pieces-requires-clause-loads : goal.put_pieces-requires-clause-loads
 put_pieces-requires-clause-loads c =
@@ -27,4 +27,4 @@ returns-clause-loaded c =
     let young = c.unload_own.new.young in
     let old = c.unload_own.new.promoted in
     let given : c.replace-given.result.items ≡ c.args.copier.now.given.items = search rules in
-    loaded_then (stored c.args.copier.now.to.young c.args.copier.now.to.tenured) (held_objects c.args.copier.now.given.items) c.args.young.now c.args.promoted.now young old c.put_pieces.new.young c.put_pieces.new.promoted c.in_ok-unload_own.ensures.loaded (subst (λ (xs : List Piece). IsLoaded (held_objects xs) young old c.put_pieces.new.young c.put_pieces.new.promoted) given c.in_ok-put_pieces.ensures)
+    loaded_then (stored c.args.copier.now.own.to.young c.args.copier.now.own.to.tenured) (held_objects c.args.copier.now.given.items) c.args.young.now c.args.promoted.now young old c.put_pieces.new.young c.put_pieces.new.promoted c.in_ok-unload_own.ensures.loaded (subst (λ (xs : List Piece). IsLoaded (held_objects xs) young old c.put_pieces.new.young c.put_pieces.new.promoted) given c.in_ok-put_pieces.ensures)

@@ -8,7 +8,7 @@ use Rattle.jm_gen_heap.specs.Allocating.{AllLieAsBefore}
 use Rattle.jm_gen_heap.proofs.Collecting.{IsCopiedYoung, settled_copied, back_there, back_enough, minor_done, minor_held, refused_held, refused_lie, still_held}
 use Rattle.jm_gen_heap.proofs.generations.Generations.collect_young.Given.{Over}
 use Rattle.jm_gen_heap.proofs.generations.Generations.collect_young.Goals as goal
-use Rattle.jm_gen_heap.proofs.generations.Generations.collect_young.Goals.{In-Ok, After-put_stores-self-inside, After-store_cells-self-inside}
+use Rattle.jm_gen_heap.proofs.generations.Generations.collect_young.Goals.{In-Ok, After-put_stores-self-inside, After-cells-self-inside}
 
 pub invariant_of-self : goal.invariant_of-self
 invariant_of-self g c = (still_held c.self.invariant c.minor_roots.ensures.still).0
@@ -53,17 +53,17 @@ pub returns-in-Ok-clause-keeps : goal.returns-in-Ok-clause-keeps
 returns-in-Ok-clause-keeps g c = let at = goal.at.returns-in-Ok-clause-keeps g c in (done g at.After-put_stores-self-inside (copied g at.In-Ok)).0.keeps
 
 -- what is held where it was refused, as it was
-refused : (g : Over) (c : After-store_cells-self-inside g) → AreHeld c.self.inside.limit c.self.inside.next c.copy_young.new.young c.copy_young.new.tenured c.store_cells-self-inside.result c.minor_roots.new.pointers × (content_of (held c.self.inside.limit c.self.inside.next c.copy_young.new.young c.copy_young.new.tenured c.minor_roots.new.pointers) ≡ content_of (held c.self.inside.limit c.self.inside.next c.self.inside.young c.self.inside.tenured c.self.inside.pointers))
-refused g c = refused_held c.copy_young.new.tenured c.store_cells-self-inside.result c.self.invariant c.minor_roots.ensures.still c.in-Err.ensures.young c.in-Err.ensures.lane c.in-Err.ensures.tenured c.store_cells-self-inside.ensures.short c.store_cells-self-inside.ensures.value
+refused : (g : Over) (c : After-cells-self-inside g) → AreHeld c.self.inside.limit c.self.inside.next c.copy_young.new.young c.copy_young.new.tenured c.cells-self-inside.result c.minor_roots.new.pointers × (content_of (held c.self.inside.limit c.self.inside.next c.copy_young.new.young c.copy_young.new.tenured c.minor_roots.new.pointers) ≡ content_of (held c.self.inside.limit c.self.inside.next c.self.inside.young c.self.inside.tenured c.self.inside.pointers))
+refused g c = refused_held c.copy_young.new.tenured c.cells-self-inside.result c.self.invariant c.minor_roots.ensures.still c.in-Err.ensures.young c.in-Err.ensures.lane c.in-Err.ensures.tenured c.cells-self-inside.ensures.short c.cells-self-inside.ensures.value
 
 pub invariant_of-self-in-Err : goal.invariant_of-self-in-Err
-invariant_of-self-in-Err g c = (refused g (goal.at.invariant_of-self-in-Err g c).After-store_cells-self-inside).0
+invariant_of-self-in-Err g c = (refused g (goal.at.invariant_of-self-in-Err g c).After-cells-self-inside).0
 
 pub returns-clause-same : goal.returns-clause-same
-returns-clause-same g c = (refused g (goal.at.returns-clause-same g c).After-store_cells-self-inside).1 ∙ ap content_of c.self.view_is
+returns-clause-same g c = (refused g (goal.at.returns-clause-same g c).After-cells-self-inside).1 ∙ ap content_of c.self.view_is
 
 pub returns-clause-keeps : goal.returns-clause-keeps
-returns-clause-keeps g c = (refused g (goal.at.returns-clause-keeps g c).After-store_cells-self-inside).0.keeps
+returns-clause-keeps g c = (refused g (goal.at.returns-clause-keeps g c).After-cells-self-inside).0.keeps
 
 pub returns-in_err-places-clause-lie : goal.returns-in_err-places-clause-lie
 returns-in_err-places-clause-lie g c =

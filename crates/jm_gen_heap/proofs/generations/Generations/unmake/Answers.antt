@@ -13,11 +13,11 @@ overflow_sub-self c =
 pub invariant_of-self : goal.invariant_of-self
 invariant_of-self c =
     let ends = subst (λ x. EndsInPut x (c.args.nursery % 16)) (sym c.self.view_is) c.requires in
-    (unmade_held c.self.invariant (c.args.nursery % 16) ends c.pop.ensures).0
+    (unmade_held c.self.invariant (c.args.nursery % 16) ends c.pop.ensures.popped).0
 
 pub returns : goal.returns
 returns c =
     let i = c.self.inside in
     let ends = subst (λ x. EndsInPut x (c.args.nursery % 16)) (sym c.self.view_is) c.requires in
-    let back = (unmade_held c.self.invariant (c.args.nursery % 16) ends c.pop.ensures).1 in
+    let back = (unmade_held c.self.invariant (c.args.nursery % 16) ends c.pop.ensures.popped).1 in
     subst (λ x. IsBackBefore x (held i.limit (i.next - 1) c.pop.new.self i.tenured i.pointers) (c.args.nursery % 16)) c.self.view_is back
