@@ -67,9 +67,10 @@ COMMANDS = (
     Job("run --heap 111 --record NEW memory/collects.j", "beginning", {"early": 188, "late": 1, "same": 150}, 3),
     Job("replay --heap 111 memory/collects.record memory/collects.j", "beginning", {"early": 185, "same": 150}, 3),
     Job("run --heap 111 --workers 3 memory/collects.j", "beginning", {"early": 187, "late": 120}, 3, ends=BY_THREADS),
-    Job("run --heap 111 --copiers 2 memory/collects.j", "beginning", {"early": 112, "same": 140}, 5, ends=BY_THREADS),
-    Job("run --heap 95 --copiers 2 memory/rows.j", "beginning", {"early": 112, "same": 175}, 5, ends=BY_THREADS),
-    Job("debug --heap 111 --copiers 2 memory/collects.j", "session", {"early": 179, "late": 30, "same": 38}, 3, ends=BY_THREADS),
+    Job("run --heap 111 --copiers 2 memory/collects.j", "beginning", {"early": 112, "same": 90}, 5, ends=BY_THREADS),
+    Job("run --heap 95 --copiers 2 memory/rows.j", "beginning", {"early": 112, "same": 135}, 5, ends=BY_THREADS),
+    Job("debug --heap 111 --copiers 2 memory/collects.j", "session", {"early": 179, "late": 28, "same": 22}, 3, ends=BY_THREADS),
+    Job("run --heap 262144 --copiers 2 --schedule memory/large.schedule memory/large.j", "whole", {"early": 225, "same": 65}, 3, ends=BY_THREADS),
 )
 
 COLLECTIONS = (
