@@ -35,8 +35,9 @@ pub enum Kind {
 
 /// A heap, which may move its objects. Its content is its limit in cells, the serial of the next
 /// object, and the residents: the objects that have a place, each with its serial, and with values
-/// that name serials. An instance takes 2 cells and one for each field, an array 3 and one for
-/// each element (a long is one cell).
+/// that name serials. An instance takes 2 cells and one for each field (a long is one cell). An array
+/// takes 3 and what its elements take, packed: a cell for a reference or a long, half a cell for an int,
+/// and so on, rounded up (`element_cells`).
 ///
 /// A content is sound where no two residents have one place or one serial, and each serial is below
 /// the next one. A new heap's is, and each call leaves it so.
