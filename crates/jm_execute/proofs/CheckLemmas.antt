@@ -11,7 +11,7 @@ use Rattle.jm_execute.specs.Checks.{HasLines, LoadFrom, Sees, TellsOf, cause_say
 use Rattle.jm_execute.specs.Reasons.{Reason}
 use Rattle.jm_execute.specs.Verdicts.{Cause, because, class_of, classes_of}
 use Rattle.jm_execute.specs.declared.checking.Seen.{Seen}
-use Rattle.jm_execute.specs.declared.job.InputFile.{InputFile}
+use Rattle.jm_job.specs.declared.job.InputFile.{InputFile}
 
 held_append : (xs ys : List InputFile) → classes_held (xs ++ ys) ≡ classes_held xs ++ classes_held ys
 held_append [] ys = refl

@@ -5,7 +5,7 @@ use Rattle.jm_bytes.specs.Reading.{and_then}
 use Rattle.jm_program.specs.declared.class.ClassParts.{ClassParts}
 use Rattle.jm_execute.specs.Verdicts.{Cause, all_read, bytes_of, class_of, classes_of}
 use Rattle.jm_execute.specs.Refusals.{Hinders}
-use Rattle.jm_execute.specs.declared.job.InputFile.{InputFile}
+use Rattle.jm_job.specs.declared.job.InputFile.{InputFile}
 use Rattle.jm_execute.specs.declared.refusal.Obstacle.{Obstacle}
 use Rattle.jm_execute.proofs.Chains.{hindered}
 

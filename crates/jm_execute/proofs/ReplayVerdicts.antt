@@ -6,8 +6,8 @@ use Rattle.jm_world.specs.Schedules.{Entry}
 use Rattle.jm_choice.specs.Choices.{recorded}
 use Rattle.jm_execute.specs.Refusals.{Gives, Hinders}
 use Rattle.jm_execute.specs.Verdicts.{Verdict, bytes_of, entries_in, program_of, replay_verdict, runs, ◌>>=◌}
-use Rattle.jm_execute.specs.declared.job.InputFile.{InputFile}
-use Rattle.jm_execute.specs.declared.job.ReplayJob.{ReplayJob}
+use Rattle.jm_job.specs.declared.job.InputFile.{InputFile}
+use Rattle.jm_job.specs.declared.job.ReplayJob.{ReplayJob}
 use Rattle.jm_execute.specs.declared.refusal.Obstacle.{Obstacle}
 use Rattle.jm_execute.proofs.Chains.{hindered}
 

@@ -7,10 +7,10 @@ use Rattle.jm_world.specs.World.{World}
 use Rattle.jm_choice.specs.Choices.{Choice}
 use Rattle.jm_execute.specs.Refusals.{Gives, Hinders}
 use Rattle.jm_execute.specs.Verdicts.{Verdict, debug_verdict, debugs, explore_verdict, explores, events_read, choice_of, program_of, run_verdict, runs, ◌>>=◌}
-use Rattle.jm_execute.specs.declared.job.InputFile.{InputFile}
-use Rattle.jm_execute.specs.declared.job.DebugJob.{DebugJob}
-use Rattle.jm_execute.specs.declared.job.ExploreJob.{ExploreJob}
-use Rattle.jm_execute.specs.declared.job.RunJob.{RunJob}
+use Rattle.jm_job.specs.declared.job.InputFile.{InputFile}
+use Rattle.jm_job.specs.declared.job.DebugJob.{DebugJob}
+use Rattle.jm_job.specs.declared.job.ExploreJob.{ExploreJob}
+use Rattle.jm_job.specs.declared.job.RunJob.{RunJob}
 use Rattle.jm_execute.specs.declared.refusal.Obstacle.{Obstacle}
 use Rattle.jm_execute.proofs.Chains.{hindered}
 

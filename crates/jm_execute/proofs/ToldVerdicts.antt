@@ -8,8 +8,8 @@ use Rattle.jm_world.specs.declared.event.Event.{Event}
 use Rattle.jm_execute.specs.Tellings.{ToldRun, due_of, due_read, told_run, told_verdict}
 use Rattle.jm_execute.specs.Refusals.{Gives, Hinders}
 use Rattle.jm_execute.specs.Verdicts.{Cause, program_of, ◌>>=◌}
-use Rattle.jm_execute.specs.declared.told_job.ToldJob.{ToldJob}
-use Rattle.jm_execute.specs.declared.job.InputFile.{InputFile}
+use Rattle.jm_job.specs.declared.told_job.ToldJob.{ToldJob}
+use Rattle.jm_job.specs.declared.job.InputFile.{InputFile}
 use Rattle.jm_execute.specs.declared.refusal.Obstacle.{Obstacle}
 use Rattle.jm_execute.proofs.Chains.{hindered}
 

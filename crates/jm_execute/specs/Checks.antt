@@ -11,7 +11,7 @@ use Rattle.jm_execute.specs.Shown.{ShowsNone}
 use Rattle.jm_execute.specs.Verdicts.{Cause, because, unknown, class_of, classes_of}
 use Rattle.jm_execute.specs.Written.{Watch, Words, AllWritten, Broken}
 use Rattle.jm_execute.specs.declared.checking.Seen.{Seen}
-use Rattle.jm_execute.specs.declared.job.InputFile.{InputFile}
+use Rattle.jm_job.specs.declared.job.InputFile.{InputFile}
 use Rattle.jm_execute.specs.declared.status.Status.{Status}
 use Rattle.jm_execute.specs.declared.status.Status.TheVariants as ends
 

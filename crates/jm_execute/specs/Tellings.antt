@@ -22,9 +22,9 @@ use Rattle.jm_execute.specs.Verdicts.{Cause, because, bytes_of, program_of, sche
 use Rattle.jm_execute.specs.Written.{AllWritten, Broken, Watch, Words}
 use Rattle.jm_execute.specs.declared.status.Status.{Status}
 use Rattle.jm_execute.specs.declared.status.Status.TheVariants as ends
-use Rattle.jm_execute.specs.declared.told_job.ToldEvents.{ToldEvents}
-use Rattle.jm_execute.specs.declared.told_job.ToldEvents.TheVariants.{Schedule, RoundRobin}
-use Rattle.jm_execute.specs.declared.told_job.ToldJob.{ToldJob}
+use Rattle.jm_job.specs.declared.told_job.ToldEvents.{ToldEvents}
+use Rattle.jm_job.specs.declared.told_job.ToldEvents.TheVariants.{Schedule, RoundRobin}
+use Rattle.jm_job.specs.declared.told_job.ToldJob.{ToldJob}
 
 -- ---- a run by one worker
 

@@ -14,19 +14,19 @@ use Rattle.jm_choice.specs.Choices.{Choice, by_workers, listed, recorded}
 use Rattle.jm_world.specs.declared.event.Event.{Event}
 use Rattle.jm_linker.specs.declared.fault.LinkFault.{LinkFault}
 use Rattle.jm_linker.specs.declared.fault.LinkFault.TheVariants as link
-use Rattle.jm_execute.specs.declared.job.Contents.{Contents}
-use Rattle.jm_execute.specs.declared.job.Contents.TheVariants.{Bytes, NotRead, OutOfMemory}
-use Rattle.jm_execute.specs.declared.job.InputFile.{InputFile}
-use Rattle.jm_execute.specs.declared.job.RunEvents.{RunEvents}
-use Rattle.jm_execute.specs.declared.job.RunEvents.TheVariants.{Schedule, RoundRobin, Workers}
-use Rattle.jm_execute.specs.declared.job.RunJob.{RunJob}
-use Rattle.jm_execute.specs.declared.job.ReplayJob.{ReplayJob}
-use Rattle.jm_execute.specs.declared.job.ExploreJob.{ExploreJob}
+use Rattle.jm_job.specs.declared.job.Contents.{Contents}
+use Rattle.jm_job.specs.declared.job.Contents.TheVariants.{Bytes, NotRead, OutOfMemory}
+use Rattle.jm_job.specs.declared.job.InputFile.{InputFile}
+use Rattle.jm_job.specs.declared.job.RunEvents.{RunEvents}
+use Rattle.jm_job.specs.declared.job.RunEvents.TheVariants.{Schedule, RoundRobin, Workers}
+use Rattle.jm_job.specs.declared.job.RunJob.{RunJob}
+use Rattle.jm_job.specs.declared.job.ReplayJob.{ReplayJob}
+use Rattle.jm_job.specs.declared.job.ExploreJob.{ExploreJob}
 use Rattle.jm_explore.specs.declared.bounds.Bounds.{Bounds}
-use Rattle.jm_execute.specs.declared.job.Job.{Job}
-use Rattle.jm_execute.specs.declared.job.DebugJob.{DebugJob}
-use Rattle.jm_execute.specs.declared.job.DisassembleJob.{DisassembleJob}
-use Rattle.jm_execute.specs.declared.job.Job.TheVariants.{Run, Replay, Explore, Assemble, Disassemble, Debug}
+use Rattle.jm_job.specs.declared.job.Job.{Job}
+use Rattle.jm_job.specs.declared.job.DebugJob.{DebugJob}
+use Rattle.jm_job.specs.declared.job.DisassembleJob.{DisassembleJob}
+use Rattle.jm_job.specs.declared.job.Job.TheVariants.{Run, Replay, Explore, Assemble, Disassemble, Debug}
 use Rattle.jm_class_format.specs.ClassFile.{class_file}
 use Rattle.jm_execute.specs.ProgramFiles.{in_text, in_class_file, is_text_name, text_class}
 use Rattle.jm_execute.specs.Reasons as reason

@@ -6,10 +6,10 @@ ghost use Rattle.jm_execute.specs.Refusals.{Gives, GivesAssembled};
 ghost use Rattle.jm_execute.specs.Verdicts.{assembly_verdict, written_class};
 
 use crate::files::bytes_of;
-use crate::job::InputFile;
 use crate::program_file::class_in_text;
 use crate::refusal::{Obstacle, Refusal};
 use jm_class_writer::{WriteFault, write_class};
+use jm_job::InputFile;
 use jm_program::Class;
 use std::alloc::Global;
 

@@ -3,10 +3,9 @@
 ghost use Rattle.std.specs.Prelude.{◌≡◌, ◌++◌, ◌∷◌, [], List, ℕ, false, IfOk, IfSome, OnOk, codes, string_bytes};
 ghost use Rattle.jm_execute.specs.Checks.{Checks, ChecksIfThereIsMemory, LoadFrom, Sees, TellsOf, linked_lines, reason_says};
 ghost use Rattle.jm_execute.specs.Refusals.{reason_of};
-ghost use Rattle.jm_execute.specs.declared.job.InputFile.{InputFile};
+ghost use Rattle.jm_job.specs.declared.job.InputFile.{InputFile};
 ghost use Rattle.jm_execute.specs.Written.{words};
 
-use crate::job::InputFile;
 use crate::program_file::class_of;
 use crate::refusal::{Obstacle, Refusal};
 use crate::report::write_out_of_memory;
@@ -14,6 +13,7 @@ use crate::status::Status;
 use crate::watchable::Watchable;
 use crate::watched::Watched;
 use jm_findings::finding_lines;
+use jm_job::InputFile;
 use jm_program::Class;
 use std::alloc::{AllocError, Global};
 use std::fmt;

@@ -1,8 +1,8 @@
 // The collector of a job's heap.
 
-use crate::job::Copiers;
 use jm_blocks::BlockStore;
 use jm_copy::{Collector, Refused, SerialCollector, Survivors};
+use jm_job::Copiers;
 use jm_par_copy::{OpenGate, ParallelCollector};
 use jm_values::Place;
 use std::alloc::Global;

@@ -5,10 +5,10 @@ ghost use Rattle.jm_execute.specs.ClassTexts.{IsTextOf, unsaid_says};
 ghost use Rattle.jm_execute.specs.Refusals.{GivesText};
 ghost use Rattle.jm_execute.specs.Verdicts.{class_of};
 
-use crate::job::DisassembleJob;
 use crate::program_file::class_of;
 use crate::refusal::Obstacle;
 use jm_disassembler::{Unsaid, class_text, first_unsaid};
+use jm_job::DisassembleJob;
 use jm_program::Class;
 use std::alloc::Global;
 use std::fmt;

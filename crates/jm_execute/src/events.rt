@@ -9,9 +9,9 @@ ghost use Rattle.jm_execute.specs.Beginnings.{HasOneThread};
 ghost use Rattle.jm_execute.specs.Sources.{events_made};
 ghost use Rattle.jm_execute.specs.Turns.{AreReplies, Records, RecordsPart};
 
-use crate::job::Workers;
 use crate::sole_worker::SoleWorker;
 use jm_heap::Heap;
+use jm_job::Workers;
 use jm_machine::OutOfMemory;
 use jm_schedule::{RoundRobin, Run, Schedule};
 use jm_shared::{Origin, StepsEnd};

@@ -13,7 +13,6 @@ ghost use Rattle.jm_execute.specs.Written.{words};
 use crate::copiers::JobCollector;
 use crate::ends::stop_status;
 use crate::execution::tell_exhausted;
-use crate::job::ExploreJob;
 use crate::preparation::RunHeap;
 use crate::status::Status;
 use crate::watchable::Watchable;
@@ -23,6 +22,7 @@ use jm_explore::{
 };
 use jm_explore_text::{exploration_text, outcome_at, schedule_text};
 use jm_gen_heap::GenHeap;
+use jm_job::ExploreJob;
 use jm_machine::Machine;
 use std::alloc::{AllocError, Global};
 use std::thread::Threads;

@@ -3,8 +3,8 @@
 ghost use Rattle.jm_execute.specs.Refusals.{Gives};
 ghost use Rattle.jm_execute.specs.Verdicts.{all_read, bytes_of};
 
-use crate::job::{Contents, InputFile};
 use crate::refusal::{Obstacle, Refusal};
+use jm_job::{Contents, InputFile};
 
 /// The bytes of a file.
 pub fn bytes_of(file: &InputFile) -> Result<&[u8], Obstacle<'_>>

@@ -30,11 +30,11 @@ ghost use Rattle.jm_execute.specs.Talks.{printed_for};
 ghost use Rattle.jm_execute.specs.Verdicts.{because, class_of, verdict};
 ghost use Rattle.jm_execute.specs.ViewsAgain.{told};
 ghost use Rattle.jm_execute.specs.Written.{Watch, reads, words};
-ghost use Rattle.jm_execute.specs.declared.job.AssembleJob.{AssembleJob};
-ghost use Rattle.jm_execute.specs.declared.job.Contents.TheVariants as contents;
-ghost use Rattle.jm_execute.specs.declared.job.DisassembleJob.{DisassembleJob};
-ghost use Rattle.jm_execute.specs.declared.job.Job.{Job};
-ghost use Rattle.jm_execute.specs.declared.job.Job.TheVariants as job;
+ghost use Rattle.jm_job.specs.declared.job.AssembleJob.{AssembleJob};
+ghost use Rattle.jm_job.specs.declared.job.Contents.TheVariants as contents;
+ghost use Rattle.jm_job.specs.declared.job.DisassembleJob.{DisassembleJob};
+ghost use Rattle.jm_job.specs.declared.job.Job.{Job};
+ghost use Rattle.jm_job.specs.declared.job.Job.TheVariants as job;
 ghost use Rattle.jm_execute.specs.declared.status.Status.{Status};
 ghost use Rattle.jm_execute.specs.declared.status.Status.TheVariants as status;
 

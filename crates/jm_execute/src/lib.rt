@@ -38,7 +38,6 @@ mod explanation;
 mod exploring;
 mod files;
 mod film_execution;
-mod job;
 mod laws;
 mod lines;
 mod number;
@@ -57,7 +56,6 @@ mod sole_worker;
 mod status;
 mod teller;
 mod text_page;
-mod told_job;
 mod told_preparation;
 mod told_run;
 mod tracing;
@@ -77,9 +75,10 @@ pub use files::{bytes_of, check_read};
 pub use film_execution::film;
 pub use jm_explore_text::Utf8;
 pub use jm_heap::Kind;
-pub use job::{
-    AssembleJob, Contents, Copiers, DebugJob, DisassembleJob, ExploreJob, InputFile, Job,
-    ReplayJob, RunEvents, RunJob, Workers, several_workers, so_many_copiers,
+pub use jm_job::{
+    AssembleJob, Contents, Copiers, DebugJob, DisassembleJob, ExploreJob, FilmJob, InputFile, Job,
+    ReplayJob, RunEvents, RunJob, ToldEvents, ToldJob, TraceJob, Workers, several_workers,
+    so_many_copiers,
 };
 pub use laws::{an_outcome_is_that_of_its_run, class_of_its_text, equal_views, text_of_its_class};
 pub use lines::{LineFault, NextLine, Unread};
@@ -97,7 +96,6 @@ pub use session::answer_lines;
 pub use sole_worker::SoleWorker;
 pub use status::{Finished, Status};
 pub use teller::{FilmTeller, Teller, TraceTeller, WhyTeller};
-pub use told_job::{FilmJob, ToldEvents, ToldJob, TraceJob};
 pub use told_preparation::{ReadyToTell, prepare_told};
 pub use told_run::tell_run;
 pub use tracing::trace;

@@ -13,12 +13,12 @@ ghost use Rattle.jm_execute.specs.Verdicts.{classes_of, debug_verdict, debugs, e
 
 use crate::events::{RunPlan, RunSource};
 use crate::files::{bytes_of, check_read};
-use crate::job::{DebugJob, ExploreJob, InputFile, ReplayJob, RunEvents, RunJob};
 use crate::program_file::class_of;
 use crate::refusal::{Obstacle, Refusal};
 use jm_copy::Collector;
 use jm_gen_heap::GenHeap;
 use jm_heap::Heap;
+use jm_job::{DebugJob, ExploreJob, InputFile, ReplayJob, RunEvents, RunJob};
 use jm_linked::Linked;
 use jm_linker::{LinkFault, link};
 use jm_machine::{LoadFault, Machine};

@@ -10,10 +10,10 @@ ghost use Rattle.jm_execute.specs.Refusals.{Gives};
 ghost use Rattle.jm_execute.specs.Verdicts.{class_of, denoted_class, held_class, spelled_class};
 
 use crate::files::bytes_of;
-use crate::job::InputFile;
 use crate::refusal::{Obstacle, Refusal};
 use jm_class_reader::{ReadFault, read_class};
 use jm_jasmin::{AsmFault, assemble};
+use jm_job::InputFile;
 use jm_program::Class;
 use std::alloc::Global;
 

@@ -6,10 +6,10 @@ ghost use Rattle.jm_execute.specs.Written.{words};
 
 use crate::status::Status;
 use crate::teller::WhyTeller;
-use crate::told_job::{ToldEvents, ToldJob};
 use crate::told_run::tell_run;
 use crate::watchable::Watchable;
 use crate::watched::Watched;
+use jm_job::{ToldEvents, ToldJob};
 use std::alloc::Global;
 use std::thread::Threads;
 

@@ -12,9 +12,9 @@ use crate::events::RunSource;
 use crate::files::bytes_of;
 use crate::preparation::{RunHeap, machine_within, schedule_in};
 use crate::refusal::Obstacle;
-use crate::told_job::{ToldEvents, ToldJob};
 use jm_copy::Collector;
 use jm_heap::Heap;
+use jm_job::{ToldEvents, ToldJob};
 use jm_machine::Machine;
 use std::alloc::Global;
 

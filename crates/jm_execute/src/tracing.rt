@@ -6,10 +6,10 @@ ghost use Rattle.jm_execute.specs.Written.{words};
 
 use crate::status::Status;
 use crate::teller::TraceTeller;
-use crate::told_job::TraceJob;
 use crate::told_run::tell_run;
 use crate::watchable::Watchable;
 use crate::watched::Watched;
+use jm_job::TraceJob;
 use std::alloc::Global;
 use std::thread::Threads;
 

@@ -10,12 +10,12 @@ ghost use Rattle.jm_execute.specs.Endings.{Ending, Ends, Leaves};
 ghost use Rattle.jm_execute.specs.Written.{words};
 
 use crate::execution::{Wanted, tell_all_made, tell_exhausted, tell_interrupted};
-use crate::job::Workers;
 use crate::status::Finished;
 use crate::watchable::Watchable;
 use crate::watched::Watched;
 use jm_choice::make_by_workers;
 use jm_heap::Heap;
+use jm_job::Workers;
 use jm_machine::Machine;
 use jm_shared::{Driven, OpenTurnGate, Seat, SeatTable, SharedMachine, Sharing};
 use std::alloc::Global;
