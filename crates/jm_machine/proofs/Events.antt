@@ -1,11 +1,12 @@
 -- An event of a machine beside the model's.
-use Rattle.std.proofs.Common.{◌≡◌, ℕ, zero, suc, ◌+◌, ◌-◌, ◌≤◌, List, [], ◌∷◌, Option, Some, None, Result, Ok, Err, true, false, refl, sym, ap, ◌∙◌, subst, length, arith, MatchResult}
+use Rattle.std.proofs.Common.{◌≡◌, OnErr, tt, ℕ, zero, suc, ◌+◌, ◌-◌, ◌≤◌, List, [], ◌∷◌, Option, Some, None, Result, Ok, Err, true, false, refl, sym, ap, ◌∙◌, subst, length, arith, MatchResult}
 use Rattle.std.specs.Prelude.{map, slice_get, option_map, is_some}
 use Rattle.std.proofs.lemmas.Option.{slice_get-map}
 use Rattle.std.proofs.lemmas.List.{length-map}
 use Rattle.jm_world.specs.World.{World, Thread, thread_at, is_running, live_among}
 use Rattle.jm_world.specs.Renaming.{rename_thread}
 use Rattle.jm_values.specs.Content.{Content, name_of}
+use Rattle.jm_values.proofs.Outcomes.{on_err}
 use Rattle.jm_world.specs.Next.{Next, goes, stops, blocks}
 use Rattle.jm_world.specs.Matches.{Parts, Matches}
 use Rattle.jm_world.specs.Run.{After, after, after_event, after_thread, after_step, answered, reply}
@@ -29,7 +30,7 @@ use Rattle.jm_state.specs.declared.halt.Halt.TheVariants.{Stopped, OutOfMemory}
 use Rattle.jm_state.specs.View.{StateView}
 use Rattle.jm_machine.specs.declared.fault.OutOfMemory as refusal
 use Rattle.jm_machine.specs.Threads.{thread_numbered, ending_numbered, class_of_ending, class_ended_by, is_live, is_live_thread}
-use Rattle.jm_machine.specs.Answered.{IsAnswered}
+use Rattle.jm_machine.specs.Answered.{IsAnswered, MayWantMemory, finds_work}
 
 module _ (l : LinkedView) (c : Content ClassId) (v : StateView) (w : World) (m : Matches (parts l c v) w) where
   threads_are : map (rename_thread (name_of c)) (map (thread_part l) v.threads) ≡ w.threads
@@ -127,6 +128,17 @@ module _ (l : LinkedView) (c : Content ClassId) (v : StateView) (w : World) (m :
 
   pub lives : (n : ℕ) (end : code.Ending) → ending_numbered v.threads n ≡ Some end → is_live w n ≡ is_running (ending_part l.program end)
   lives n end e = let x = a_thread n end e in ap is_live_thread x.1 ∙ ap is_running x.2
+
+  -- an event that is made while the world goes on, and finds something to do, may want memory
+  pub may_want : v.stop ≡ None → {e : Event} → finds_work w e ≡ true → MayWantMemory w e
+  may_want going work = record { going = sym stop_is ∙ going; work = work }
+
+  pub collection_wants : v.stop ≡ None → {e : Event} → finds_work w e ≡ true → {A B : Type 0} (r : Result A B) → OnErr r (MayWantMemory w e)
+  collection_wants going work r = on_err r (may_want going work)
+
+  pub step_wants : v.stop ≡ None → {e : Event} {n : ℕ} → e ≡ Step n → {A B : Type 0} (r : Result A B) → OnErr r (is_live w n ≡ true) → OnErr r (MayWantMemory w e)
+  step_wants going is (Ok a) h = tt
+  step_wants going is (Err b) h = may_want going (ap (finds_work w) is ∙ h)
 
 pub some_is : (s : Option Stop) → is_some s ≡ true → (stop : Stop) × (s ≡ Some stop)
 some_is None e = cc

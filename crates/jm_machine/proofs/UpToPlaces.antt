@@ -8,6 +8,7 @@ use Rattle.jm_world.specs.declared.reply.Reply.{Reply}
 use Rattle.jm_linked.specs.Links.{LinkedView}
 use Rattle.jm_interp.specs.PlainRuns.{MakesDone}
 use Rattle.jm_interp.proofs.MethodRuns.{run_more}
+use Rattle.jm_machine.specs.Answered.{MayWantMemory}
 use Rattle.jm_machine.specs.CodePlaces.{AreFree, Stands, top_stands_at}
 use Rattle.jm_machine.specs.ManySteps.{AreSteps, steps_of}
 use Rattle.jm_machine.specs.UpToPlaces.{EndApart, EndAtPlace, StandApart}
@@ -78,10 +79,10 @@ module _ {H : Type 0} {l : LinkedView} {places : List CodePlace} {w : World} {th
         pub step_other : EndApart l places w thread last (record { alike = n + run; reply = r; end = Other other })
         step_other = record { steps = other_made (more_alike a.alike new _ (done_alike new made)) last other m is; apart = one_apart }
 
-      pub step_none : MatchesWorld last (run_from w (steps_of thread (n + run)))
+      pub step_none : MatchesWorld last (run_from w (steps_of thread (n + run))) → MayWantMemory (run_from w (steps_of thread (n + run))) (Step thread)
           → EndApart l places w thread last (record { alike = n + run; reply = r; end = OutOfMemory })
-      step_none m = record {
-        steps = step_refused (more_alike a.alike new _ (done_alike new made)) last m;
+      step_none m wants = record {
+        steps = step_refused (more_alike a.alike new _ (done_alike new made)) last m wants;
         apart = λ k below. one_apart k (omega arith);
       }
 

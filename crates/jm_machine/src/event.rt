@@ -1,6 +1,6 @@
 // One event.
 
-ghost use Rattle.std.specs.Prelude.{◌≡◌, ◌+◌, ◌<◌, ◌≤◌, ◌^◌, ℕ, MatchResult, OnOk, Some, None, length};
+ghost use Rattle.std.specs.Prelude.{◌≡◌, ◌+◌, ◌<◌, ◌≤◌, ◌^◌, ℕ, MatchResult, OnErr, OnOk, Some, None, length, true};
 ghost use Rattle.jm_world.specs.World.{World, Thread as ModelThread, thread_at};
 ghost use Rattle.jm_world.specs.Matches.{Matches};
 ghost use Rattle.jm_world.specs.Run.{after, after_event, after_step};
@@ -16,9 +16,9 @@ ghost use Rattle.jm_state.specs.View.{view_of};
 ghost use Rattle.jm_state.specs.declared.thread.Ending.TheVariants.{Running};
 ghost use Rattle.jm_interp.specs.PlainRuns.{MakesDone};
 ghost use Rattle.jm_interp.specs.ThreadRuns.{IsWithin, Makes};
-ghost use Rattle.jm_machine.specs.Answered.{IsAnswered};
+ghost use Rattle.jm_machine.specs.Answered.{IsAnswered, MayWantMemory};
 ghost use Rattle.jm_machine.specs.Collected.{CollectsIn, LeavesAfter};
-ghost use Rattle.jm_machine.specs.Threads.{ending_numbered};
+ghost use Rattle.jm_machine.specs.Threads.{ending_numbered, is_live};
 
 use crate::fault::OutOfMemory;
 use jm_heap::{Heap, Kind};
@@ -87,6 +87,7 @@ fn step_numbered<H: Heap>(
     requires runs { StateRuns linked.now state.old }
     requires matched { (w : World) × Matches (state_parts H.content linked.now state.old) w }
     ensures event { (w : World) → Matches (state_parts H.content linked.now state.old) w → MatchResult result (λ kind. IsAnswered (state_parts H.content linked.now state.new) kind (after_event w (Step number))) (λ _. Matches (state_parts H.content linked.now state.new) w) }
+    ensures live { (w : World) → Matches (state_parts H.content linked.now state.old) w → OnErr result (is_live w number ≡ true) }
     ensures runs { StateRuns linked.now state.new }
     ensures nursery { NewLie (λ p. H.nursery_of p nursery) (H.content state.old.heap) (H.content state.new.heap) }
 {
@@ -131,6 +132,7 @@ pub(crate) fn make_event<H: Heap>(
     requires runs { StateRuns linked.now state.old }
     requires matched { (w : World) × Matches (state_parts H.content linked.now state.old) w }
     ensures event { (w : World) → Matches (state_parts H.content linked.now state.old) w → MatchResult result (λ kind. IsAnswered (state_parts H.content linked.now state.new) kind (after w event)) (λ _. Matches (state_parts H.content linked.now state.new) w) }
+    ensures wants { (w : World) → Matches (state_parts H.content linked.now state.old) w → OnErr result (MayWantMemory w event) }
     ensures leaves { (w : World) → Matches (state_parts H.content linked.now state.old) w → OnOk result (LeavesAfter event (H.content state.new.heap) w) }
     ensures collects { OnOk result (CollectsIn H.leaves event state.old.heap (view_of state.old) state.new.heap (view_of state.new)) }
     ensures nursery { NewLie (λ p. H.nursery_of p nursery) (H.content state.old.heap) (H.content state.new.heap) }

@@ -1,6 +1,6 @@
 // The machine.
 
-ghost use Rattle.std.specs.Prelude.{◌≡◌, ℕ, List, MatchResult, OnOk, MatchOption, Some, None, take, length, option_map, IfSome, IfOk, IfErr, ◌≤◌, ◌<◌, map};
+ghost use Rattle.std.specs.Prelude.{◌≡◌, ℕ, List, MatchResult, OnErr, OnOk, MatchOption, Some, None, take, length, option_map, IfSome, IfOk, IfErr, ◌≤◌, ◌<◌, map};
 ghost use Rattle.jm_world.specs.Monitors.{monitor_in};
 ghost use Rattle.jm_world.specs.World.{World, live_among, thread_at};
 ghost use Rattle.jm_world.specs.Run.{after, run_from, replies_from};
@@ -9,6 +9,7 @@ ghost use Rattle.jm_state.specs.Reached.{AreReachable};
 ghost use Rattle.jm_interp.specs.PlainRuns.{MakesDone};
 ghost use Rattle.jm_interp.specs.ThreadRuns.{IsWithin, Makes};
 ghost use Rattle.jm_linked.specs.Links.{name_of_number};
+ghost use Rattle.jm_machine.specs.Answered.{EndsForMemory, MayWantMemory};
 ghost use Rattle.jm_machine.specs.CodePlaces.{AreFree, name_of_code, top_stands_at};
 ghost use Rattle.jm_machine.specs.Collected.{Collects, LeavesAfter};
 ghost use Rattle.jm_machine.specs.EachEvent.{MakesEach};
@@ -133,9 +134,11 @@ impl<H: Heap> Machine<H> {
     /// part in what it is. A collection on request of a world that has not stopped makes of the heap
     /// what the heap says of its kind, with the places that the machine holds as roots; after `Full`
     /// exactly the objects that the world reaches are resident. `OutOfMemory`: the machine is that of
-    /// the world before.
+    /// the world before. It never comes where the world has stopped, nor for a step of a thread that has
+    /// ended or is none.
     pub fn step_at(&mut self, nursery: usize, event: Event) -> Result<Reply, OutOfMemory>
         ensures next { (w : World) → MatchesWorld self.old w → MatchResult result (λ reply. MatchesWorld self.new (after w event).world × (reply ≡ (after w event).reply)) (λ _. MatchesWorld self.new w) }
+        ensures wants { (w : World) → MatchesWorld self.old w → OnErr result (MayWantMemory w event) }
         ensures leaves { (w : World) → MatchesWorld self.old w → OnOk result (LeavesAfter event self.new.content w) }
         ensures collects { OnOk result (Collects H.leaves event self.old self.new) }
         ensures nursery { NewLie (λ p. H.nursery_of p nursery) self.old.content self.new.content }
@@ -149,6 +152,7 @@ impl<H: Heap> Machine<H> {
     /// Makes one event, in the first nursery.
     pub fn step(&mut self, event: Event) -> Result<Reply, OutOfMemory>
         ensures next { (w : World) → MatchesWorld self.old w → MatchResult result (λ reply. MatchesWorld self.new (after w event).world × (reply ≡ (after w event).reply)) (λ _. MatchesWorld self.new w) }
+        ensures wants { (w : World) → MatchesWorld self.old w → OnErr result (MayWantMemory w event) }
         ensures leaves { (w : World) → MatchesWorld self.old w → OnOk result (LeavesAfter event self.new.content w) }
         ensures collects { OnOk result (Collects H.leaves event self.old self.new) }
         ensures nursery { NewLie (λ p. H.nursery_of p 0) self.old.content self.new.content }
@@ -272,9 +276,11 @@ impl<H: Heap> Machine<H> {
     }
 
     /// Makes events, one after the other, as [`Machine::step`] makes each, and answers their replies.
-    /// `Interrupted`: a growth was refused; the machine is where the events that were made lead.
+    /// `Interrupted`: a growth was refused, of their list before the first event, or where an event may
+    /// want memory; the machine is where the events that were made lead.
     pub fn run(&mut self, events: &[Event]) -> Result<Vec<Reply>, Interrupted>
         ensures run { (w : World) → MatchesWorld self.old w → MatchResult result (λ replies. MatchesWorld self.new (run_from w events.now) × (replies.items ≡ replies_from w events.now)) (λ fault. MatchesWorld self.new (run_from w (take fault.made events.now))) }
+        ensures wants { (w : World) → MatchesWorld self.old w → IfErr result (λ fault. EndsForMemory w events.now fault.made) }
         ensures made { IfErr result (λ fault. fault.made ≤ length events.now) }
         ensures each { OnOk result (MakesEach H.leaves (λ p. H.nursery_of p 0) events.now self.old self.new) }
         ensures before { IfErr result (λ fault. (mid : MachineView _) × MakesEach H.leaves (λ p. H.nursery_of p 0) (take fault.made events.now) self.old mid) }

@@ -5,8 +5,8 @@ use Rattle.jm_world.specs.Run.{After, after, after_event}
 use Rattle.jm_world.specs.Matches.{Matches}
 use Rattle.jm_state.specs.Parts.{state_parts}
 use Rattle.jm_heap.proofs.NewPlaces.{none_new, none_new_same}
-use Rattle.jm_machine.specs.Answered.{IsAnswered}
-use Rattle.jm_machine.proofs.Events.{after_stop, after_going, some_is, none_is, collected}
+use Rattle.jm_machine.specs.Answered.{IsAnswered, finds_work}
+use Rattle.jm_machine.proofs.Events.{after_stop, after_going, some_is, none_is, collected, collection_wants, step_wants}
 use Rattle.jm_machine.proofs.event.make_event.Goals as goal
 
 pub returns-then-is_some-clause-event : goal.returns-then-is_some-clause-event
@@ -64,3 +64,15 @@ returns-in-Minor-clause-nursery g c = none_new _ _ _ c.collect_kind.ensures.as_b
 
 pub returns-in-Full-clause-nursery : goal.returns-in-Full-clause-nursery
 returns-in-Full-clause-nursery g c = none_new _ _ _ c.collect_kind-in-Full.ensures.as_before
+
+pub returns-in-Step-clause-wants : goal.returns-in-Step-clause-wants
+returns-in-Step-clause-wants g c = λ w m.
+    step_wants _ _ _ w m (none_is c.args.state.now.stop (sym c.is_some.ensures ∙ c.if-is_some.false)) c.in-Step.is c.step_numbered.result (c.step_numbered.ensures.live w m)
+
+pub returns-in-Minor-clause-wants : goal.returns-in-Minor-clause-wants
+returns-in-Minor-clause-wants g c = λ w m.
+    collection_wants _ _ _ w m (none_is c.args.state.now.stop (sym c.is_some.ensures ∙ c.if-is_some.false)) (ap (finds_work w) c.in-Minor.is) c.collect_kind.result
+
+pub returns-in-Full-clause-wants : goal.returns-in-Full-clause-wants
+returns-in-Full-clause-wants g c = λ w m.
+    collection_wants _ _ _ w m (none_is c.args.state.now.stop (sym c.is_some.ensures ∙ c.if-is_some.false)) (ap (finds_work w) c.in-Full.is) c.collect_kind-in-Full.result

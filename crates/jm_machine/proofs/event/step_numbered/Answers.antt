@@ -1,11 +1,12 @@
 use Rattle.std.proofs.Common.{refl, sym, subst, ap, ◌∙◌, Some, MatchResult}
 use Rattle.jm_world.specs.Run.{After}
+use Rattle.jm_values.proofs.Outcomes.{on_err}
 use Rattle.jm_world.specs.Matches.{Matches}
 use Rattle.jm_state.specs.Parts.{state_parts}
 use Rattle.jm_heap.proofs.NewPlaces.{none_new_same}
 use Rattle.jm_machine.specs.Answered.{IsAnswered}
 use Rattle.jm_machine.specs.Threads.{ending_numbered}
-use Rattle.jm_machine.proofs.Events.{none_answered, ended_answered, steps}
+use Rattle.jm_machine.proofs.Events.{none_answered, ended_answered, lives, steps}
 use Rattle.jm_machine.proofs.event.step_numbered.Goals as goal
 
 pub returns-in-None-clause-event : goal.returns-in-None-clause-event
@@ -37,3 +38,8 @@ returns-in-Some-Returned-clause-nursery g c = none_new_same _ _ _ refl
 
 pub returns-in-Some-EndedBy-clause-nursery : goal.returns-in-Some-EndedBy-clause-nursery
 returns-in-Some-EndedBy-clause-nursery g c = none_new_same _ _ _ refl
+
+pub returns-in-Some-Running-clause-live : goal.returns-in-Some-Running-clause-live
+returns-in-Some-Running-clause-live g c = λ w m.
+    on_err c.step_running.result
+    (lives _ _ _ w m c.args.number _ (ap (λ ts. ending_numbered ts c.args.number) (sym c.deref.ensures.value) ∙ sym c.in-Some-Running.ensures ∙ ap Some c.in-Some-Running.field-0-is))

@@ -38,7 +38,7 @@ pub returns-in_default-clause-steps : goal.returns-in_default-clause-steps
 returns-in_default-clause-steps g c = λ w m.
     let before = c.loop-alike.invariant.steps w m in
     let run = more_alike before c.run_steps.new.self _ (c.in-Alike.ensures.steps _ before.world) in
-    subst (AreSteps w c.args.thread c.step_at.new.self) (sym c.ended-in_default.ensures) (step_refused run c.step_at.new.self (c.in_default.ensures.next _ run.world))
+    subst (AreSteps w c.args.thread c.step_at.new.self) (sym c.ended-in_default.ensures) (step_refused run c.step_at.new.self (c.in_default.ensures.next _ run.world) (c.in_default.ensures.wants _ run.world))
 
 pub returns-then-ne-clause-steps : goal.returns-then-ne-clause-steps
 returns-then-ne-clause-steps g c = λ w m.

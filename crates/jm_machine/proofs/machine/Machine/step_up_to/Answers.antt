@@ -37,7 +37,7 @@ returns-in_default-clause-steps g c = λ w m.
     let made = c.run_plain-run.ensures.steps _ before.alike.world in
     let run = run_made before c.loop-made.invariant.linked c.free_steps-free.result are _ c.run_plain-run.new.self made c.run_plain-run.ensures.most in
     let ended = step_none before c.loop-made.invariant.linked c.free_steps-free.result are _ c.run_plain-run.new.self made
-    c.if-run-free.true c.step_at.new.self (c.in_default.ensures.next _ run.alike.world) in
+    c.if-run-free.true c.step_at.new.self (c.in_default.ensures.next _ run.alike.world) (c.in_default.ensures.wants _ run.alike.world) in
     subst (AreStepsUpTo c.args.self.now.linked c.args.places.now w c.args.thread c.step_at.new.self) (sym c.ended.ensures) ended
 
 pub returns-then-ne-clause-steps : goal.returns-then-ne-clause-steps
