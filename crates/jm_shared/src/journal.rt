@@ -1,10 +1,12 @@
 // The journal.
 
-ghost use Rattle.std.specs.Prelude.{◌≡◌, ◌+◌, ◌<◌, ◌≤◌, ◌^◌, ◌++◌, ◌∷◌, [], length, map, slice_get, take, IsTrue, IfErr, IfOk};
+ghost use Rattle.std.specs.Prelude.{◌≡◌, ◌+◌, ◌<◌, ◌≤◌, ◌^◌, ◌++◌, ◌∷◌, [], length, map, slice_get, take, IsTrue, IfErr, IfOk, Ok};
 ghost use Rattle.std.specs.Prelude.{OnErr, OnOk, MatchResult};
+ghost use Rattle.std.specs.List.{All};
 ghost use Rattle.jm_world.specs.World.{World};
 ghost use Rattle.jm_world.specs.Run.{after, reply, run_from};
 ghost use Rattle.jm_world.specs.declared.reply.ReplyKind.TheVariants.{Done};
+ghost use Rattle.jm_world.specs.Schedules.{record_entries};
 ghost use Rattle.jm_heap.specs.Allocation.{NewLie};
 ghost use Rattle.jm_machine.specs.Collected.{Collects};
 ghost use Rattle.jm_machine.specs.ManySteps.{AreSteps, EndsBy};
@@ -12,11 +14,12 @@ ghost use Rattle.jm_machine.specs.View.{MatchesWorld};
 ghost use Rattle.jm_shared.specs.Book.{IsRunFrom};
 ghost use Rattle.jm_shared.specs.ManyTurns.{entries_of_turns};
 ghost use Rattle.jm_shared.specs.Legal.{IsLegal, world_after, entry_of, events_of, receipt_of, reply_of};
+ghost use Rattle.jm_shared.specs.Records.{numbered, record_text};
 
 use crate::entry::{Entry, Receipt, Receipts};
 use crate::origin::Origin;
 use crate::pages::Pages;
-use crate::record::add_lines;
+use crate::record::RecordText;
 use crate::stretch::{Stretch, add, add_turns, entry_at, events_in};
 use jm_heap::Heap;
 use jm_machine::{Interrupted, Machine, OutOfMemory, Steps, StepsEnd};
@@ -198,12 +201,18 @@ impl<H: Heap, R: Origin> Journal<H, R> {
         events_in(alloc, &self.stretches, &self.last)
     }
 
-    /// The journal as the lines of a record, one for each entry. `AllocError`: a growth was refused.
-    pub fn record(&self, alloc: Global) -> Result<Vec<u8>, AllocError> {
-        let mut text = Vec::new(alloc);
-        let start = self.stretches.add_lines(&mut text)?;
-        add_lines(&mut text, &self.last, start)?;
-        Ok(text)
+    /// The journal as a record: for each entry, in order, a line `t N @S KIND`, `minor @S KIND` or
+    /// `full @S KIND`, where N is the number of the thread, S that of the seat and KIND the kind of
+    /// the reply. Where each seat is one of 16 and the entries are 160,000,000 at most, the record
+    /// reads back as exactly these. `AllocError`: a growth was refused.
+    pub fn record(&self, alloc: Global) -> Result<Vec<u8>, AllocError>
+        ensures lines { IfOk result (λ text. text.items ≡ record_text self.now.entries) }
+        ensures reads_back { IfOk result (λ text. All (λ e. e.seat ≤ 15) self.now.entries → length self.now.entries ≤ 160000000 → record_entries text.items ≡ Ok (numbered 1 self.now.entries)) }
+    {
+        let mut text = RecordText::new(alloc);
+        self.stretches.add_lines(&mut text)?;
+        text.add(&self.last)?;
+        Ok(text.bytes)
     }
 
     /// Runs the journal's events again, on this thread, by a machine of any heap in the world in

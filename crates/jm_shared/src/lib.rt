@@ -11,7 +11,8 @@
 //!
 //! [`drive`] gives each seat a thread, in which its worker goes round the Java threads by the replies
 //! to its own turns, and takes the journal. [`Journal::record`] writes a journal down as the lines of a
-//! record. `docs/WORKERS.md` tells how this hangs together.
+//! record, which reads back as the journal's entries ([`a_record_reads_back`]). `docs/WORKERS.md`
+//! tells how this hangs together.
 //!
 //! The crate stands on `jm_machine`, and passes on what leads to one: linking, loading and the
 //! reading of schedules; on `atomic_table`, for the tokens behind the seats; and on `jm_forward`,
@@ -21,6 +22,7 @@
 mod entry;
 mod journal;
 mod keeper;
+mod laws;
 mod origin;
 mod pages;
 mod record;
@@ -41,6 +43,7 @@ pub use jm_machine::{
 };
 pub use journal::Journal;
 pub use keeper::SeatTable;
+pub use laws::a_record_reads_back;
 pub use origin::Origin;
 pub use rule::Hand;
 pub use seat::Seat;
