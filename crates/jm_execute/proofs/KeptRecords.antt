@@ -27,14 +27,14 @@ its_journal (Err e) stress first events entries legal known part = tt
 
 -- what holds of each text that is kept
 kept_as : (wanted : Bool) (kept : Option (Vec ℕ Global)) {P Q : List ℕ → Type 0} → ((text : List ℕ) → P text → Q text) → IsKept wanted P kept → IsKept wanted Q kept
-kept_as false kept as is = is
-kept_as true None as is = absurd is
-kept_as true (Some text) as is = as text.items is
+kept_as false kept gives is = is
+kept_as true None gives is = absurd is
+kept_as true (Some text) gives is = gives text.items is
 
 pub kept_if : (whole : Option World) (wanted : Bool) (kept : Option (Vec ℕ Global)) {P Q : World → List ℕ → Type 0} → ((last : World) (text : List ℕ) → P last text → Q last text)
     → IsKeptIf whole wanted P kept → IsKeptIf whole wanted Q kept
-kept_if None wanted kept as is = is
-kept_if (Some last) wanted kept as is = kept_as wanted kept (as last) is
+kept_if None wanted kept gives is = is
+kept_if (Some last) wanted kept gives is = kept_as wanted kept (gives last) is
 
 -- the lines of the journal of a run that was made whole
 pub recorded : (stress : Option Kind) (first : World) (choice : Choice) (entries : List Entry) (shows wanted : Bool) (kept : Option (Vec ℕ Global)) (e : Ending)

@@ -557,15 +557,16 @@ fn execute_debug<C: Collector + Drop, W: Wait, R: Readable, O: Watchable, E: Wat
 /// before it is written. Only a session of the debugger reads from `reader`.
 ///
 /// `Run`: the classes of the program are run by the events of the schedule, or where there is none by
-/// those of the round robin, one after the other, each a turn of the only seat of a shared machine,
-/// which may wait for its lock; or by those that several workers choose, each in a thread of its own
+/// those of the round robin, one after the other, on this thread, which has the machine and its journal
+/// for itself and waits for nobody; or by those that several workers choose, each in a thread of its own
 /// where one can be started. What the Java program prints goes to `out`, once the last event is
 /// made. Then `err` gets a line for each thread that an exception has ended, one for the stop or for
 /// the threads that have not ended, if any, and the view of the heap, where the job says so; the
 /// status says how the run ended. The view is made before anything is written; where a growth is
 /// refused then, all of the output is written, and the line and the status are those of want of
 /// memory. Where the job asks for collections between the events of one worker, one is made before each
-/// and one behind the last; nothing that is told changes by them.
+/// and one behind the last; nothing that is told changes by them. Where it asks for a record and the run
+/// was made whole, there is one: the lines of the run's journal, with those collections.
 ///
 /// `Replay`: the same, but that the events are those of a record, made again on this thread. At the
 /// first of them whose reply is of another kind than its line says, what was printed up to and with it
