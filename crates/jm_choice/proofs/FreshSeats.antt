@@ -12,7 +12,7 @@ use Rattle.jm_shared.specs.WorkerRule.{IsDriven, any_short, is_short}
 use Rattle.jm_shared.specs.declared.entry.Entry.{Entry}
 use Rattle.jm_shared.specs.declared.rule.Hand.{Hand}
 use Rattle.jm_shared.proofs.DrivenSeats.{some_fresh}
-use Rattle.jm_choice.specs.Choices.{IsByWorkers, MadeBy, by_workers}
+use Rattle.jm_choice.specs.Choices.{HaveMade, IsByWorkers, MadeBy, by_workers}
 
 pub none_lacks : (n : ℕ) (hs : List Hand) → hs ≡ fresh_hands 0 n → LacksOne n hs → ⊥
 none_lacks n hs is lacks = omega (arith, some_fresh lacks.0 0 n (omega arith) (omega (arith, lacks.1)), ap (times lacks.0) is, lacks.2)
@@ -32,16 +32,17 @@ none_short steps seat b (suc k) entries low high none =
     (λ e. ap (λ n. is_short steps (of_seat n 0 entries)) e ∙ both.0)
     (λ ne. none_short steps seat (b + 1) k entries (omega arith) (omega arith) both.1)
 
-pub made_by : (first : World) (n steps : ℕ) (hs : List Hand) (entries : List Entry) (short : Bool) → hs ≡ fresh_hands 0 n → All (IsDriven steps entries) hs → IsLegal first entries
-    → All (λ (e : Entry). e.seat < n) entries → short ≡ any_short steps entries hs → MadeBy first (by_workers n steps) (events_of entries) short
-made_by first n steps hs entries short fresh all legal known is = by short is
-  where
-    all_fresh : All (IsDriven steps entries) (fresh_hands 0 n)
-    all_fresh = subst (All (IsDriven steps entries)) fresh all
+module _ (first : World) (n steps : ℕ) (hs : List Hand) (entries : List Entry) (fresh : hs ≡ fresh_hands 0 n) (all : All (IsDriven steps entries) hs)
+    (legal : IsLegal first entries) (known : All (λ (e : Entry). e.seat < n) entries) where
+  all_fresh : All (IsDriven steps entries) (fresh_hands 0 n)
+  all_fresh = subst (All (IsDriven steps entries)) fresh all
 
-    so : IsByWorkers first n steps entries
-    so = record { legal = legal; known = known; by_rule = λ seat low. (fresh_at (IsDriven steps entries) seat 0 n (omega arith) (omega (arith, low)) all_fresh).by_rule }
+  so : IsByWorkers first n steps entries
+  so = record { legal = legal; known = known; by_rule = λ seat low. (fresh_at (IsDriven steps entries) seat 0 n (omega arith) (omega (arith, low)) all_fresh).by_rule }
 
-    by : (b : Bool) → b ≡ any_short steps entries hs → MadeBy first (by_workers n steps) (events_of entries) b
-    by false none = (entries, so, (λ seat low. none_short steps seat 0 n entries (omega arith) (omega (arith, low)) (ap (any_short steps entries) (sym fresh) ∙ sym none)), refl)
-    by true some = (entries, so, refl)
+  pub have_made : any_short steps entries hs ≡ false → HaveMade first n steps entries
+  have_made none = (so, (λ seat low. none_short steps seat 0 n entries (omega arith) (omega (arith, low)) (ap (any_short steps entries) (sym fresh) ∙ none)))
+
+  pub made_by : (short : Bool) → short ≡ any_short steps entries hs → MadeBy first (by_workers n steps) (events_of entries) short
+  made_by false none = let made = have_made (sym none) in (entries, made.0, made.1, refl)
+  made_by true some = (entries, so, refl)

@@ -22,6 +22,10 @@ pub record IsByWorkers (first : World) (workers steps : ℕ) (entries : List Ent
 abbrev pub HaveEnded : ℕ → ℕ → List Entry → Type 0
 HaveEnded workers steps entries = (seat : ℕ) → seat < workers → is_short steps (of_seat seat 0 entries) ≡ false
 
+-- the journal of workers that have made all that the rule has them make
+abbrev pub HaveMade : World → ℕ → ℕ → List Entry → Type 0
+HaveMade first workers steps entries = IsByWorkers first workers steps entries × HaveEnded workers steps entries
+
 pub data Choice : Type 0 where
   -- these events, in order
   listed : List Event → Choice

@@ -1,8 +1,8 @@
 // The journal of a run by several workers.
 
-ghost use Rattle.std.specs.Prelude.{◌≡◌, ◌<◌, Bool};
+ghost use Rattle.std.specs.Prelude.{◌≡◌, ◌<◌, Bool, false};
 ghost use Rattle.jm_shared.specs.Seats.{fresh_hands};
-ghost use Rattle.jm_choice.specs.Choices.{by_workers, MadeBy};
+ghost use Rattle.jm_choice.specs.Choices.{by_workers, HaveMade, MadeBy};
 ghost use Rattle.jm_shared.specs.Legal.{events_of};
 
 use jm_heap::Heap;
@@ -27,7 +27,8 @@ pub fn make_by_workers<
 ) -> Driven<H, N>
     requires steps { 0 < steps }
     requires seats { seats.items ≡ fresh_hands 0 N.seats }
-    ensures { MadeBy N.first (by_workers N.seats steps) (events_of result.journal.entries) result.is_short }
+    ensures events { MadeBy N.first (by_workers N.seats steps) (events_of result.journal.entries) result.is_short }
+    ensures whole { result.is_short ≡ false → HaveMade N.first N.seats steps result.journal.entries }
 {
     match drive(rt, alloc, machine, seats, steps, gate) {
         Ok(driven) => driven,

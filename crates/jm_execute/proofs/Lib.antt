@@ -22,6 +22,7 @@ mod Searching
 mod Rooms
 mod RobinLemmas
 mod PassLemmas
+mod KeptRecords
 mod Lefts
 mod DoneEvents
 mod RobinSteps

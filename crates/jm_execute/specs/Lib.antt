@@ -17,6 +17,7 @@ pub mod Explorations
 pub mod Talks
 pub mod ClassTexts
 pub mod Endings
+pub mod KeptRecords
 pub mod Pieces
 pub mod Tellings
 pub mod Refusals

@@ -1,6 +1,6 @@
 // What `jm run`, `jm replay`, `jm explore`, `jm asm`, `jm dis` and `jm debug` do.
 
-ghost use Rattle.std.specs.Prelude.{◌≡◌, [], Bool, false, true, MatchResult, OnOk, string_bytes};
+ghost use Rattle.std.specs.Prelude.{◌≡◌, [], Bool, false, true, None, IfOk, MatchResult, OnOk, string_bytes};
 ghost use Rattle.jm_machine.specs.View.{MatchesWorld};
 ghost use Rattle.jm_shared.specs.Legal.{events_of, world_after};
 ghost use Rattle.jm_world.specs.World.{World};
@@ -16,6 +16,8 @@ ghost use Rattle.jm_execute.specs.Reports.{heap_shown};
 ghost use Rattle.jm_execute.specs.Sources.{choice_made};
 ghost use Rattle.jm_execute.specs.Collecting.{with_collections};
 ghost use Rattle.jm_execute.specs.Turns.{AreReplies, Records, RecordsPart};
+ghost use Rattle.jm_execute.specs.KeptRecords.{IsFinished, IsJournal, IsKept, IsKeptIf, IsRecord, IsRecordOf, made_whole};
+ghost use Rattle.jm_shared.specs.Records.{record_text};
 ghost use Rattle.jm_execute.specs.Talks.{IsHeld};
 ghost use Rattle.jm_execute.specs.Refusals.{Hinders};
 ghost use Rattle.jm_execute.specs.Verdicts.{Verdict, assembly_verdict, debug_verdict, disassembly_verdict, explore_verdict, replay_verdict, run_verdict, verdict};
@@ -62,7 +64,9 @@ pub(crate) struct Wanted {
 }
 
 fn wanted_of(job: &RunJob) -> Wanted
-    ensures { result.show_heap ≡ job.now.show_heap }
+    ensures shows { result.show_heap ≡ job.now.show_heap }
+    ensures recorded { result.is_recorded ≡ job.now.is_recorded }
+    ensures stress { result.stress ≡ job.now.stress }
 {
     Wanted {
         show_heap: job.show_heap,
@@ -143,7 +147,9 @@ fn record_text<H: Heap, R: Origin>(
     alloc: Global,
     journal: &Journal<H, R>,
     is_recorded: bool,
-) -> Result<Option<Vec<u8>>, AllocError> {
+) -> Result<Option<Vec<u8>>, AllocError>
+    ensures { IfOk result (IsKept is_recorded (λ text. text ≡ record_text journal.now.entries)) }
+{
     if is_recorded {
         Ok(Some(journal.record(alloc)?))
     } else {
@@ -164,7 +170,8 @@ pub(crate) fn tell_all_made<H: Heap, R: Origin, O: Watchable, E: Watchable>(
     requires out { out.old.failed ≡ false }
     requires err { err.old.failed ≡ false }
     ensures { (w : World) → MatchesWorld journal.now.machine w → (e : Ending) × EndsIn wanted.show_heap w e
-        × Leaves (words O.contents O.ends) (words E.contents E.ends) e result.status out.old out.new err.old err.new }
+        × Leaves (words O.contents O.ends) (words E.contents E.ends) e result.status out.old out.new err.old err.new
+        × IsKeptIf (made_whole e) wanted.is_recorded (λ _ text. text ≡ record_text journal.now.entries) result.record_text }
 {
     let machine = journal.machine();
     let Ok(view) = heap_view(alloc, machine, wanted.show_heap) else {
@@ -192,8 +199,10 @@ fn tell_made<H: Heap, R: Origin, O: Watchable, E: Watchable>(
     requires err { err.old.failed ≡ false }
     ensures { (choice : Choice)
         → MatchResult made (λ _. RunEnds R.first choice (all_made (world_after R.first journal.now.entries))) (λ _. RunEnds R.first choice (cut_short (world_after R.first journal.now.entries)))
+        → OnOk made (IsJournal wanted.stress R.first choice journal.now.entries)
         → (e : Ending) × Ends wanted.show_heap R.first choice e
-        × Leaves (words O.contents O.ends) (words E.contents E.ends) e result.status out.old out.new err.old err.new }
+        × Leaves (words O.contents O.ends) (words E.contents E.ends) e result.status out.old out.new err.old err.new
+        × IsKeptIf (made_whole e) wanted.is_recorded (IsRecord wanted.stress R.first choice) result.record_text }
 {
     let machine = journal.machine();
     match made {
@@ -243,6 +252,7 @@ pub fn make_journal<S: EventSource, H: Heap + Drop, R: Origin>(
         MatchResult result.1 (λ _. Makes R.first choice (events_of result.0.entries)) (λ _. MakesSome R.first choice (events_of result.0.entries)) }
     ensures ends { let choice = listed (S.events source.now R.first) in let w = world_after R.first result.0.entries in
         MatchResult result.1 (λ _. RunEnds R.first choice (all_made w)) (λ _. RunEnds R.first choice (cut_short w)) }
+    ensures journal { OnOk result.1 (IsJournal stress R.first (listed (S.events source.now R.first)) result.0.entries) }
 {
     let mut worker = SoleWorker::new(alloc, machine, stress);
     let made = make_all(alloc, source, &mut worker);
@@ -263,7 +273,8 @@ fn run_events<S: EventSource, H: Heap + Drop, R: Origin, O: Watchable, E: Watcha
     requires out { out.old.failed ≡ false }
     requires err { err.old.failed ≡ false }
     ensures { (e : Ending) × Ends wanted.show_heap R.first (listed (S.events source.now R.first)) e
-        × Leaves (words O.contents O.ends) (words E.contents E.ends) e result.status out.old out.new err.old err.new }
+        × Leaves (words O.contents O.ends) (words E.contents E.ends) e result.status out.old out.new err.old err.new
+        × IsKeptIf (made_whole e) wanted.is_recorded (IsRecord wanted.stress R.first (listed (S.events source.now R.first))) result.record_text }
 {
     let (journal, made) = make_journal::<S, H, R>(alloc, machine, source, wanted.stress);
     let finished = tell_made(alloc, &journal, made, wanted, out, err);
@@ -284,7 +295,8 @@ fn run_by_one_worker<S: EventSource, H: Heap + Drop, O: Watchable, E: Watchable>
     requires out { out.old.failed ≡ false }
     requires err { err.old.failed ≡ false }
     ensures { (e : Ending) × Ends wanted.show_heap (beginning machine) (listed (S.events source.now (beginning machine))) e
-        × Leaves (words O.contents O.ends) (words E.contents E.ends) e result.status out.old out.new err.old err.new }
+        × Leaves (words O.contents O.ends) (words E.contents E.ends) e result.status out.old out.new err.old err.new
+        × IsKeptIf (made_whole e) wanted.is_recorded (IsRecord wanted.stress (beginning machine) (listed (S.events source.now (beginning machine)))) result.record_text }
 {
     run_events::<S, H, Brand, O, E>(alloc, machine, source, wanted, out, err)
 }
@@ -358,7 +370,7 @@ pub(crate) fn tell_exhausted<E: Watchable>(err: &mut Watched<E>) -> Status
 fn tell_obstacle<E: Watchable>(obstacle: Obstacle<'_>, err: &mut Watched<E>) -> Status
     requires { err.old.failed ≡ false }
     ensures { (v : Verdict) → Hinders v obstacle.entry → (e : Ending) × Allows v e × (IsTalk e → ⊥) × (output_of e ≡ [])
-        × Tells (words E.contents E.ends) e result err.old err.new }
+        × Tells (words E.contents E.ends) e result err.old err.new × (made_whole e ≡ None) }
 {
     match obstacle {
         Obstacle::Refused(refusal) => {
@@ -384,7 +396,8 @@ fn run_as_chosen<H: Heap + Drop + Send, W: Threads + Wait + Sync, O: Watchable, 
     requires out { out.old.failed ≡ false }
     requires err { err.old.failed ≡ false }
     ensures { (e : Ending) × Ends wanted.show_heap (beginning machine) (choice_made plan.now (beginning machine)) e
-        × Leaves (words O.contents O.ends) (words E.contents E.ends) e result.status out.old out.new err.old err.new }
+        × Leaves (words O.contents O.ends) (words E.contents E.ends) e result.status out.old out.new err.old err.new
+        × IsKeptIf (made_whole e) wanted.is_recorded (IsRecord wanted.stress (beginning machine) (choice_made plan.now (beginning machine))) result.record_text }
 {
     match plan {
         RunPlan::Source(source) => { run_by_one_worker(alloc, machine, source, wanted, out, err) }
@@ -405,7 +418,9 @@ fn execute_run<C: Collector + Drop + Send, W: Threads + Wait + Sync, O: Watchabl
 ) -> Finished
     requires out { out.old.failed ≡ false }
     requires err { err.old.failed ≡ false }
-    ensures { IsDoneUnread (words O.contents O.ends) (words E.contents E.ends) (run_verdict job.now) result.status out.old out.new err.old err.new }
+    ensures { (e : Ending) × Allows (run_verdict job.now) e × (IsTalk e → ⊥)
+        × Leaves (words O.contents O.ends) (words E.contents E.ends) e result.status out.old out.new err.old err.new
+        × IsKeptIf (made_whole e) job.now.is_recorded (IsRecordOf (run_verdict job.now) job.now.stress) result.record_text }
 {
     match prepare(alloc, job, collector) {
         Ok((machine, plan)) => {
@@ -542,15 +557,16 @@ fn execute_debug<C: Collector + Drop, W: Wait, R: Readable, O: Watchable, E: Wat
 /// before it is written. Only a session of the debugger reads from `reader`.
 ///
 /// `Run`: the classes of the program are run by the events of the schedule, or where there is none by
-/// those of the round robin, one after the other, each a turn of the only seat of a shared machine,
-/// which may wait for its lock; or by those that several workers choose, each in a thread of its own
+/// those of the round robin, one after the other, on this thread, which has the machine and its journal
+/// for itself and waits for nobody; or by those that several workers choose, each in a thread of its own
 /// where one can be started. What the Java program prints goes to `out`, once the last event is
 /// made. Then `err` gets a line for each thread that an exception has ended, one for the stop or for
 /// the threads that have not ended, if any, and the view of the heap, where the job says so; the
 /// status says how the run ended. The view is made before anything is written; where a growth is
 /// refused then, all of the output is written, and the line and the status are those of want of
 /// memory. Where the job asks for collections between the events of one worker, one is made before each
-/// and one behind the last; nothing that is told changes by them.
+/// and one behind the last; nothing that is told changes by them. Where it asks for a record and the run
+/// was made whole, there is one: the lines of the run's journal, with those collections.
 ///
 /// `Replay`: the same, but that the events are those of a record, made again on this thread. At the
 /// first of them whose reply is of another kind than its line says, what was printed up to and with it
@@ -597,8 +613,8 @@ pub fn execute<W: Threads + Wait + Sync, R: Readable, O: Watchable, E: Watchable
 ) -> Finished
     requires out { out.old.failed ≡ false }
     requires err { err.old.failed ≡ false }
-    ensures { IsDone (reads R.remaining R.fails) (words O.contents O.ends) (words E.contents E.ends) (verdict job.now)
-        result.status reader.old reader.new out.old out.new err.old err.new }
+    ensures { IsFinished (reads R.remaining R.fails) (words O.contents O.ends) (words E.contents E.ends) job.now
+        result reader.old reader.new out.old out.new err.old err.new }
 {
     match job {
         Job::Run(run) => {

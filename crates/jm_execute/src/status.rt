@@ -1,6 +1,6 @@
 // The exit status.
 
-ghost use Rattle.std.specs.Prelude.{◌≡◌};
+ghost use Rattle.std.specs.Prelude.{◌≡◌, None};
 ghost use Rattle.jm_execute.specs.Codes.{code_of};
 
 /// How the program ends.
@@ -75,7 +75,8 @@ impl Drop for Finished {
 impl Finished {
     /// With this status, and without a record.
     pub fn without_record(status: Status) -> Finished
-        ensures { result.status ≡ status }
+        ensures status { result.status ≡ status }
+        ensures none { result.record_text ≡ None }
     {
         Finished {
             status,

@@ -7,6 +7,7 @@ ghost use Rattle.jm_shared.specs.Legal.{events_of};
 ghost use Rattle.jm_shared.specs.Seats.{fresh_hands};
 ghost use Rattle.jm_execute.specs.Beginnings.{beginning};
 ghost use Rattle.jm_execute.specs.Endings.{Ending, Ends, Leaves};
+ghost use Rattle.jm_execute.specs.KeptRecords.{IsJournal, IsKeptIf, IsRecord, made_whole};
 ghost use Rattle.jm_execute.specs.Written.{words};
 
 use crate::execution::{Wanted, tell_all_made, tell_exhausted, tell_interrupted};
@@ -34,8 +35,10 @@ fn tell_driven<H: Heap, N: Sharing, O: Watchable, E: Watchable>(
     requires out { out.old.failed ≡ false }
     requires err { err.old.failed ≡ false }
     ensures { (choice : Choice) → MadeBy N.first choice (events_of driven.now.journal.entries) driven.now.is_short
+        → (driven.now.is_short ≡ false → IsJournal wanted.stress N.first choice driven.now.journal.entries)
         → (e : Ending) × Ends wanted.show_heap N.first choice e
-        × Leaves (words O.contents O.ends) (words E.contents E.ends) e result.status out.old out.new err.old err.new }
+        × Leaves (words O.contents O.ends) (words E.contents E.ends) e result.status out.old out.new err.old err.new
+        × IsKeptIf (made_whole e) wanted.is_recorded (IsRecord wanted.stress N.first choice) result.record_text }
 {
     let machine = driven.journal.machine();
     if driven.is_short {
@@ -67,7 +70,8 @@ fn run_driven<
     requires out { out.old.failed ≡ false }
     requires err { err.old.failed ≡ false }
     ensures { (e : Ending) × Ends wanted.show_heap N.first (by_workers N.seats steps) e
-        × Leaves (words O.contents O.ends) (words E.contents E.ends) e result.status out.old out.new err.old err.new }
+        × Leaves (words O.contents O.ends) (words E.contents E.ends) e result.status out.old out.new err.old err.new
+        × IsKeptIf (made_whole e) wanted.is_recorded (IsRecord wanted.stress N.first (by_workers N.seats steps)) result.record_text }
 {
     let driven = make_by_workers(rt, alloc, machine, seats, steps, &OpenTurnGate);
     let finished = tell_driven(alloc, &driven, wanted, out, err);
@@ -98,7 +102,8 @@ fn run_seats<
     requires out { out.old.failed ≡ false }
     requires err { err.old.failed ≡ false }
     ensures { (e : Ending) × Ends wanted.show_heap N.first (by_workers N.seats steps) e
-        × Leaves (words O.contents O.ends) (words E.contents E.ends) e result.status out.old out.new err.old err.new }
+        × Leaves (words O.contents O.ends) (words E.contents E.ends) e result.status out.old out.new err.old err.new
+        × IsKeptIf (made_whole e) wanted.is_recorded (IsRecord wanted.stress N.first (by_workers N.seats steps)) result.record_text }
 {
     match SharedMachine::<H, N>::new(alloc, machine, table) {
         Ok((machine, seats)) => { run_driven(rt, alloc, machine, seats, steps, wanted, out, err) }
@@ -126,7 +131,8 @@ pub(crate) fn run_by_workers<
     requires out { out.old.failed ≡ false }
     requires err { err.old.failed ≡ false }
     ensures { (e : Ending) × Ends wanted.show_heap (beginning machine) (by_workers workers.count workers.steps) e
-        × Leaves (words O.contents O.ends) (words E.contents E.ends) e result.status out.old out.new err.old err.new }
+        × Leaves (words O.contents O.ends) (words E.contents E.ends) e result.status out.old out.new err.old err.new
+        × IsKeptIf (made_whole e) wanted.is_recorded (IsRecord wanted.stress (beginning machine) (by_workers workers.count workers.steps)) result.record_text }
 {
     match SeatTable::new(alloc, workers.count) {
         Ok(table) => run_seats::<H, Brand, W, O, E>(

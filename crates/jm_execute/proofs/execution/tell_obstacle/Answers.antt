@@ -10,7 +10,7 @@ pub returns-in-Refused : goal.returns-in-Refused
 returns-in-Refused g c = λ v hinders.
     let reason = reason_of c.in-Refused.refusal in
     let told = line_told _ _ _ _ (reason_line reason) c.requires c.write_line-told.ensures.line c.write_line-told.ensures.same in
-    (turned_away reason, rw c.in-Refused.is at hinders, (λ talk. talk), refl, (c.status-status.ensures, told))
+    (turned_away reason, rw c.in-Refused.is at hinders, (λ talk. talk), refl, (c.status-status.ensures, told), refl)
 
 pub returns-in-OutOfMemory : goal.returns-in-OutOfMemory
-returns-in-OutOfMemory g c = λ v hinders. (exhausted, tt, (λ talk. talk), refl, c.tell_exhausted.ensures)
+returns-in-OutOfMemory g c = λ v hinders. (exhausted, tt, (λ talk. talk), refl, c.tell_exhausted.ensures, refl)

@@ -5,4 +5,4 @@ use Rattle.jm_execute.proofs.Telling.{untouched_told}
 use Rattle.jm_execute.proofs.workers.run_by_workers.Goals as goal
 
 pub returns-in-Err : goal.returns-in-Err
-returns-in-Err g c = (exhausted, tt, rw c.without_record.ensures (untouched_told _ _ exhausted _ _ _ _ c.requires.out refl c.tell_exhausted.ensures))
+returns-in-Err g c = (exhausted, tt, rw c.without_record.ensures.status (untouched_told _ _ exhausted _ _ _ _ c.requires.out refl c.tell_exhausted.ensures), c.without_record.ensures.none)
