@@ -1,5 +1,5 @@
 -- After a full collection exactly what the world reaches is resident.
-use Rattle.std.proofs.Common.{◌≡◌, ℕ, ◌<◌, [], ◌∷◌, Option, Some, None, refl, sym, ◌∙◌, subst}
+use Rattle.std.proofs.Common.{◌≡◌, ℕ, Option, Some, None, refl, sym, ◌∙◌, subst}
 use Rattle.std.specs.Prelude.{option_map, Result, Ok, Err, OnOk}
 use Rattle.jm_values.specs.Content.{Content, object_at}
 use Rattle.jm_world.specs.Matches.{Matches, as_named}

@@ -1,5 +1,5 @@
 -- Replies of equal events.
-use Rattle.std.proofs.Common.{◌≡◌, ℕ, zero, suc, ◌+◌, ◌∷◌, ◌++◌, Option, Some, None, Bool, true, false, refl, sym, ap, ◌∙◌, replicate}
+use Rattle.std.proofs.Common.{◌≡◌, ℕ, zero, suc, Option, Some, None, Bool, true, false, refl, sym, ap, ◌∙◌, replicate}
 use Rattle.jm_world.specs.Next.{Next, goes, stops, blocks}
 use Rattle.jm_world.specs.Run.{After, after, after_event, after_step, after_thread, answered, reply, run_from, replies_from}
 use Rattle.jm_world.specs.Stepping.{step_thread}
@@ -9,7 +9,6 @@ use Rattle.jm_world.specs.declared.event.Event.TheVariants.{Step, Minor, Full}
 use Rattle.jm_world.specs.declared.reply.Reply.{Reply}
 use Rattle.jm_world.specs.declared.reply.ReplyKind.TheVariants as kind
 use Rattle.jm_world.specs.declared.stop.Stop.{Stop}
-use Rattle.jm_interp.proofs.MethodRuns.{run_more, replies_more}
 
 -- a reply has the counts of the world after
 pub record HasCounts (a : After) : Type 0 where

@@ -18,9 +18,7 @@ use Rattle.jm_world.specs.Objects.{new_array}
 use Rattle.jm_world.specs.Renaming.{literal_shape}
 use Rattle.jm_world.specs.Types.{class_type, instance_of}
 use Rattle.jm_world.specs.World.{Literal}
-use Rattle.jm_heap.specs.Cells.{class_size}
 use Rattle.jm_heap.specs.declared.class_id.ClassId.{ClassId}
-use Rattle.jm_heap.specs.declared.class_id.ClassId.TheVariants.{Instance, Array}
 use Rattle.jm_linked.specs.Links.{class_name_of}
 use Rattle.jm_linked.specs.Named.{named_literals}
 use Rattle.jm_state.specs.Parts.{named_type}

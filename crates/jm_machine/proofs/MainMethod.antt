@@ -1,5 +1,5 @@
 -- Main is the method that a program has under main's name.
-use Rattle.std.proofs.Common.{◌≡◌, ℕ, List, [], ◌∷◌, Option, Some, None, Bool, true, false, refl, sym, ap, ◌∙◌, subst}
+use Rattle.std.proofs.Common.{◌≡◌, List, [], ◌∷◌, Option, Some, None, Bool, true, false, refl, sym, ap, ◌∙◌, subst}
 use Rattle.std.specs.Prelude.{◌&&◌, codes, nat_eq}
 use Rattle.std.specs.Cmp.Lexicographic.{same_text as text_told}
 use Rattle.std.proofs.lemmas.Bool.{eqb-true}

@@ -9,7 +9,6 @@ use Rattle.jm_world.specs.declared.reply.ReplyKind.TheVariants.{Done}
 use Rattle.jm_interp.specs.PlainRuns.{MakesDone}
 use Rattle.jm_interp.specs.ThreadRuns.{MakesAlike, MakesOther}
 use Rattle.jm_interp.proofs.MethodRuns.{run_more, replies_more as replies_after}
-use Rattle.jm_machine.specs.Answered.{MayWantMemory}
 use Rattle.jm_machine.specs.View.{MachineView, MatchesWorld, machine_parts}
 use Rattle.jm_machine.specs.ManySteps.{AreSteps, steps_of}
 use Rattle.jm_machine.specs.declared.steps.StepsEnd.TheVariants.{AllMade, Other, OutOfMemory}
@@ -59,7 +58,7 @@ module _ {H : Type 0} {w : World} {thread n : ℕ} {now : MachineView H} {r : Re
     }
 
     pub other_made : AreSteps w thread new (record { alike = n; reply = r; end = Other other })
-    other_made = record { world = more_world w thread n new m; replies = more_replies w thread n r other a.replies is; reply = a.reply; wants = tt }
+    other_made = record { world = more_world w thread n new m; replies = more_replies w thread n r other a.replies is; reply = a.reply }
 
   -- more steps that are alike
   module _ (k : ℕ) where
@@ -87,7 +86,6 @@ module _ {H : Type 0} {w : World} {thread n : ℕ} {now : MachineView H} {r : Re
           replies = more_replies w thread (n + k) r other (replies_more made.alike)
               (is _ made.world ∙ sym made.done ∙ ap (λ v. (after v (Step thread)).reply) joined);
           reply = a.reply;
-          wants = tt;
         }
 
     -- whose reply is not theirs
@@ -98,8 +96,8 @@ module _ {H : Type 0} {w : World} {thread n : ℕ} {now : MachineView H} {r : Re
 
   -- no step more
   module _ (m : MatchesWorld new (run_from w (steps_of thread n))) where
-    pub step_refused : MayWantMemory (run_from w (steps_of thread n)) (Step thread) → AreSteps w thread new (record { alike = n; reply = r; end = OutOfMemory })
-    step_refused wants = record { world = still_world w thread n new m; replies = still_replies w thread n r a.replies; reply = a.reply; wants = wants }
+    pub step_refused : AreSteps w thread new (record { alike = n; reply = r; end = OutOfMemory })
+    step_refused = record { world = still_world w thread n new m; replies = still_replies w thread n r a.replies; reply = a.reply }
 
     pub all_made : AreSteps w thread new (record { alike = n; reply = r; end = AllMade })
-    all_made = record { world = still_world w thread n new m; replies = still_replies w thread n r a.replies; reply = a.reply; wants = tt }
+    all_made = record { world = still_world w thread n new m; replies = still_replies w thread n r a.replies; reply = a.reply }

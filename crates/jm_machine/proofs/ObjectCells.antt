@@ -12,10 +12,9 @@ use Rattle.jm_values.specs.Objects.{ObjectOf, cells_of, size_by}
 use Rattle.jm_values.specs.Content.{Content, AllResident, object_at, name_of}
 use Rattle.jm_values.proofs.SoundContents.{name_is, object_of_place}
 use Rattle.jm_values.proofs.Marking.{keys_differ}
-use Rattle.jm_world.specs.Objects.{Object, size, size_of}
+use Rattle.jm_world.specs.Objects.{Object, size}
 use Rattle.jm_heap.specs.Cells.{class_size, resident_cells}
 use Rattle.jm_heap.specs.declared.class_id.ClassId.{ClassId}
-use Rattle.jm_heap.specs.declared.class_id.ClassId.TheVariants.{Instance, Array}
 use Rattle.jm_heap.proofs.CellLemmas.{cells_at}
 use Rattle.jm_linked.specs.Links.{LinkedView}
 use Rattle.jm_state.specs.Parts.{named_type}

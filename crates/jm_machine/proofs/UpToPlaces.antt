@@ -77,13 +77,14 @@ module _ {H : Type 0} {l : LinkedView} {places : List CodePlace} {w : World} {th
         step_alike same = record { alike = one_alike (more_alike a.alike new _ (done_alike new made)) last other m is same; apart = one_apart }
 
         pub step_other : EndApart l places w thread last (record { alike = n + run; reply = r; end = Other other })
-        step_other = record { steps = other_made (more_alike a.alike new _ (done_alike new made)) last other m is; apart = one_apart }
+        step_other = record { steps = other_made (more_alike a.alike new _ (done_alike new made)) last other m is; apart = one_apart; wants = tt }
 
       pub step_none : MatchesWorld last (run_from w (steps_of thread (n + run))) → MayWantMemory (run_from w (steps_of thread (n + run))) (Step thread)
           → EndApart l places w thread last (record { alike = n + run; reply = r; end = OutOfMemory })
       step_none m wants = record {
-        steps = step_refused (more_alike a.alike new _ (done_alike new made)) last m wants;
+        steps = step_refused (more_alike a.alike new _ (done_alike new made)) last m;
         apart = λ k below. one_apart k (omega arith);
+        wants = wants;
       }
 
 -- none was made yet

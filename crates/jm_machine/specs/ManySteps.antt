@@ -32,19 +32,12 @@ made_of_steps s = s.alike + length (other_replies s.end)
 abbrev pub steps_of : ℕ → ℕ → List Event
 steps_of thread count = replicate count (Step thread)
 
--- where a growth was refused behind so many steps, the next one may want memory
-abbrev pub EndWants : World → ℕ → ℕ → StepsEnd → Type 0
-EndWants w thread made AllMade = ⊤
-EndWants w thread made (Other r) = ⊤
-EndWants w thread made OutOfMemory = MayWantMemory (run_from w (steps_of thread made)) (Step thread)
-
 -- the model's replies from a world on, of which all but the last are done, with the counts of that
 -- world
 pub record AreSteps {H : Type 0} (w : World) (thread : ℕ) (new : MachineView H) (s : Steps) : Type 0 where
   pub world : MatchesWorld new (run_from w (steps_of thread (made_of_steps s)))
   pub replies : replies_of_steps s ≡ replies_from w (steps_of thread (made_of_steps s))
   pub reply : s.reply ≡ reply Done w
-  pub wants : EndWants w thread s.alike s.end
 
 -- fewer were made than were asked for only where another reply came, or a growth was refused
 abbrev pub EndsFor : ℕ → Steps → StepsEnd → Type 0
@@ -54,3 +47,12 @@ EndsFor most s OutOfMemory = s.alike < most
 
 abbrev pub EndsBy : ℕ → Steps → Type 0
 EndsBy most s = EndsFor most s s.end
+
+-- where a growth was refused behind so many steps, the next one may want memory
+abbrev pub WantsFor : World → ℕ → ℕ → StepsEnd → Type 0
+WantsFor w thread made AllMade = ⊤
+WantsFor w thread made (Other r) = ⊤
+WantsFor w thread made OutOfMemory = MayWantMemory (run_from w (steps_of thread made)) (Step thread)
+
+abbrev pub Wants : World → ℕ → Steps → Type 0
+Wants w thread s = WantsFor w thread s.alike s.end

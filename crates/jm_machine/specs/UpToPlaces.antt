@@ -5,7 +5,7 @@ use Rattle.jm_world.specs.Run.{reply, run_from}
 use Rattle.jm_world.specs.declared.reply.ReplyKind.TheVariants.{Done}
 use Rattle.jm_linked.specs.Links.{LinkedView}
 use Rattle.jm_machine.specs.CodePlaces.{Stands, top_stands_at}
-use Rattle.jm_machine.specs.ManySteps.{AreSteps, EndsBy, made_of_steps, steps_of}
+use Rattle.jm_machine.specs.ManySteps.{AreSteps, EndsBy, Wants, made_of_steps, steps_of}
 use Rattle.jm_machine.specs.View.{MachineView}
 use Rattle.jm_machine.specs.declared.code_place.CodePlace.{CodePlace}
 use Rattle.jm_machine.specs.declared.steps.Steps.{Steps}
@@ -21,6 +21,7 @@ StandApart l places w thread count = (k : ℕ) → k < count → Stands l places
 pub record EndApart {H : Type 0} (l : LinkedView) (places : List CodePlace) (w : World) (thread : ℕ) (new : MachineView H) (s : Steps) : Type 0 where
   pub steps : AreSteps w thread new s
   pub apart : StandApart l places w thread (made_of_steps s)
+  pub wants : Wants w thread s
 
 -- so many that were done, up to a place
 pub record EndAtPlace {H : Type 0} (l : LinkedView) (places : List CodePlace) (w : World) (thread : ℕ) (new : MachineView H) (made : ℕ) : Type 0 where

@@ -15,7 +15,7 @@ ghost use Rattle.jm_machine.specs.Collected.{Collects, LeavesAfter};
 ghost use Rattle.jm_machine.specs.EachEvent.{MakesEach};
 ghost use Rattle.jm_machine.specs.Readers.{model_frame, model_monitor, frame_at, pending_of, IsOfProgram, TellsObject};
 ghost use Rattle.jm_machine.specs.ReachedObjects.{TellsReached};
-ghost use Rattle.jm_machine.specs.ManySteps.{AreSteps, EndsBy, done_reply};
+ghost use Rattle.jm_machine.specs.ManySteps.{AreSteps, EndsBy, Wants, done_reply};
 ghost use Rattle.jm_machine.specs.UpToPlaces.{AreStepsUpTo, EndsUpTo};
 ghost use Rattle.jm_machine.specs.Threads.{class_ended_by, is_live};
 ghost use Rattle.jm_machine.specs.View.{MachineView, MatchesWorld, machine_parts};
@@ -163,10 +163,12 @@ impl<H: Heap> Machine<H> {
 
     /// Makes steps of one thread, one after the other, at most so many; objects that they make are
     /// made in the nursery of that number. They end before that only by a step that answers
-    /// otherwise than done, or makes or ends a thread, which is made, or where a growth was refused;
-    /// the machine is where the steps that were made lead.
+    /// otherwise than done, or makes or ends a thread, which is made, or where a growth was refused,
+    /// which comes only where the next step may want memory; the machine is where the steps that were
+    /// made lead.
     pub fn step_many(&mut self, nursery: usize, thread: u64, most: usize) -> Steps
         ensures steps { (w : World) → MatchesWorld self.old w → AreSteps w thread self.new result }
+        ensures wants { (w : World) → MatchesWorld self.old w → Wants w thread result }
         ensures ends { EndsBy most result }
     {
         let reply = reply_of(&self.state, ReplyKind::Done);

@@ -1,4 +1,4 @@
-use Rattle.std.proofs.Common.{◌≡◌, ◌≤◌, ap, ◌∙◌, length, arith, rules}
+use Rattle.std.proofs.Common.{◌≤◌, ap, ◌∙◌, length, arith, rules}
 use Rattle.jm_world.specs.Run.{run_from}
 use Rattle.jm_world.specs.declared.event.Event.TheVariants.{Step}
 use Rattle.jm_machine.specs.BetweenEvents.{interleaved}

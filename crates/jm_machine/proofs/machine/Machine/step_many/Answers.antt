@@ -1,7 +1,7 @@
 use Rattle.std.proofs.Common.{◌≡◌, ◌∙◌, sym, subst, arith, rules}
 use Rattle.jm_world.specs.declared.reply.ReplyKind.TheVariants.{Done}
 use Rattle.jm_state.specs.View.{view_of}
-use Rattle.jm_machine.specs.ManySteps.{AreSteps, EndsBy}
+use Rattle.jm_machine.specs.ManySteps.{AreSteps, EndsBy, Wants}
 use Rattle.jm_machine.specs.View.{MatchesWorld}
 use Rattle.jm_machine.proofs.Events.{reply_is}
 use Rattle.jm_machine.proofs.ManySteps.{none_alike, more_alike, more_other, other_differs, one_alike, other_made, step_refused, all_made}
@@ -38,7 +38,7 @@ pub returns-in_default-clause-steps : goal.returns-in_default-clause-steps
 returns-in_default-clause-steps g c = λ w m.
     let before = c.loop-alike.invariant.steps w m in
     let run = more_alike before c.run_steps.new.self _ (c.in-Alike.ensures.steps _ before.world) in
-    subst (AreSteps w c.args.thread c.step_at.new.self) (sym c.ended-in_default.ensures) (step_refused run c.step_at.new.self (c.in_default.ensures.next _ run.world) (c.in_default.ensures.wants _ run.world))
+    subst (AreSteps w c.args.thread c.step_at.new.self) (sym c.ended-in_default.ensures) (step_refused run c.step_at.new.self (c.in_default.ensures.next _ run.world))
 
 pub returns-then-ne-clause-steps : goal.returns-then-ne-clause-steps
 returns-then-ne-clause-steps g c = λ w m.
@@ -70,3 +70,9 @@ pub returns-clause-steps : goal.returns-clause-steps
 returns-clause-steps g c = λ w m.
     let before = c.loop-alike.invariant.steps w m in
     subst (AreSteps w c.args.thread c.loop-alike.self) (sym c.ended-2.ensures) (all_made before c.loop-alike.self before.world)
+
+pub returns-in_default-clause-wants : goal.returns-in_default-clause-wants
+returns-in_default-clause-wants g c = λ w m.
+    let before = c.loop-alike.invariant.steps w m in
+    let run = more_alike before c.run_steps.new.self _ (c.in-Alike.ensures.steps _ before.world) in
+    subst (Wants w c.args.thread) (sym c.ended-in_default.ensures) (c.in_default.ensures.wants _ run.world)

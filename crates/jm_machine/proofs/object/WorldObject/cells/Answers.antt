@@ -1,7 +1,6 @@
 use Rattle.std.proofs.Common.{sym, ap, ◌∙◌, length}
-use Rattle.jm_world.specs.Objects.{Object, size, size_of}
+use Rattle.jm_world.specs.Objects.{Object, size}
 use Rattle.jm_heap.specs.Cells.{class_size}
-use Rattle.jm_state.specs.Parts.{named_type}
 use Rattle.jm_state.proofs.Sizes.{sizes_alike}
 use Rattle.jm_machine.specs.Seen.{ObjectView}
 use Rattle.jm_machine.proofs.Told.{object, seen_is}
