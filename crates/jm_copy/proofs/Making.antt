@@ -4,14 +4,17 @@ use Rattle.std.specs.Prelude.{nat_eq, nat_lt}
 use Rattle.std.proofs.lemmas.Bool.{lt-ltb, le-ltb, cases_lt}
 use Rattle.std.proofs.lemmas.Bool.Decides.{eqb_tells}
 use Rattle.jm_program.proofs.Numbers.{found_unequal}
-use Rattle.jm_blocks.specs.Objects.{Object, aged}
+use Rattle.jm_blocks.specs.Objects.{Object}
 use Rattle.jm_copy.specs.Image.{older}
 use Rattle.jm_blocks.specs.Places.{lane_of}
 use Rattle.jm_blocks.specs.Stores.{Blocks, objects_in, HasObject, Bumped, Changed}
 use Rattle.jm_copy.specs.Copying.{IsAdded, IsReplaced, raw_copy}
-use Rattle.jm_copy.specs.Copies.{is_above, made_in, made, store_of, IsPutIn, IsPutYoung, IsPutOld, IsPut, Stays, Extends, IsMark, IsPast}
+use Rattle.jm_copy.specs.Copies.{is_above, made_in, made, store_of, store_for, IsPutIn, IsPutYoung, IsPutOld, IsPut, Stays, Extends, IsMark, IsPast}
 use Rattle.jm_copy.specs.Marks.{AllStay, OthersStay}
+use Rattle.jm_copy.specs.Survivals.{survival_of}
 use Rattle.jm_copy.specs.Words.{moved}
+use Rattle.jm_copy.specs.declared.survival.Survival.{Survival}
+use Rattle.jm_copy.specs.declared.survival.Survival.TheVariants.{First, Later}
 use Rattle.jm_copy.specs.declared.copies.Copies.{Copies}
 
 pub made_young : (young old : Blocks) (kept : Option ℕ) (n : ℕ) → lane_of n ≡ young.lane → made_in young old kept n ≡ objects_in young n
@@ -239,17 +242,15 @@ old_has c n a t e = by (made_where c n a e)
     by (inl h) = let both : true ≡ false = sym (eq-eqb (lane_of n) c.young.lane h.lane) ∙ t in cc
     by (inr h) = h
 
--- an object of that age goes into the store of the young, and any other one into the old store
-pub young_put : (c : Copies) (young : Blocks) (o : Object) (p : ℕ) → o.age ≡ 0 → IsPutIn c.young young p (aged 1 o) → IsPut c (record { words = c.words; young = young; tenured = c.tenured; kept = c.kept }) p (raw_copy o)
-young_put c young o p e put =
-    let is : aged 1 o ≡ raw_copy o = ap (λ n. aged (older n) o) (sym e) in
-    record { words = refl; kept = refl; by_age = inl (record { age = ap (λ a. a.age) (sym is); put = subst (λ a. IsPutIn c.young young p a) is put; tenured = refl }) }
+-- with another store for a survival
+abbrev pub with_store : Copies → Survival → Blocks → Copies
+with_store c First s = record c { young = s }
+with_store c Later s = record c { tenured = s }
 
-older_old : (n : ℕ) → n ≢ 0 → 2 ≡ older n
-older_old zero h = absurd (h refl)
-older_old (suc n) h = refl
-
-pub old_put : (c : Copies) (tenured : Blocks) (o : Object) (p : ℕ) → o.age ≢ 0 → IsPutIn c.tenured tenured p (aged 2 o) → IsPut c (record { words = c.words; young = c.young; tenured = tenured; kept = c.kept }) p (raw_copy o)
-old_put c tenured o p h put =
-    let is : aged 2 o ≡ raw_copy o = ap (λ n. aged n o) (older_old o.age h) in
-    record { words = refl; kept = refl; by_age = inr (record { age = ap (λ a. a.age) (sym is); put = subst (λ a. IsPutIn c.tenured tenured p a) is put; young = refl }) }
+-- what is put into the store for its survival is put by its age
+pub put_for : (c : Copies) (s : Survival) (t : Blocks) (o : Object) (p : ℕ) → survival_of o.age ≡ s → IsPutIn (store_for c s) t p (raw_copy o) → IsPut c (with_store c s t) p (raw_copy o)
+put_for c s t o p e put = subst (λ x. IsPut c (with_store c x t) p (raw_copy o)) e (by o.age (raw_copy o) refl (subst (λ x. IsPutIn (store_for c x) t p (raw_copy o)) (sym e) put))
+  where
+    by : (age : ℕ) (a : Object) → a.age ≡ older age → IsPutIn (store_for c (survival_of age)) t p a → IsPut c (with_store c (survival_of age) t) p a
+    by zero a older put = record { words = refl; kept = refl; by_age = inl (record { age = older; put = put; tenured = refl }) }
+    by (suc n) a older put = record { words = refl; kept = refl; by_age = inr (record { age = older; put = put; young = refl }) }

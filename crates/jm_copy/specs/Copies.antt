@@ -8,6 +8,8 @@ use Rattle.jm_copy.specs.Condemned.{AreLanes, objects_at}
 use Rattle.jm_copy.specs.Numbers.{AreNumbers, object_count}
 use Rattle.jm_copy.specs.Words.{moved}
 use Rattle.jm_copy.specs.declared.copies.Copies.{Copies}
+use Rattle.jm_copy.specs.declared.survival.Survival.{Survival}
+use Rattle.jm_copy.specs.declared.survival.Survival.TheVariants.{First, Later}
 
 -- whether a place is above the last one, if there is one
 abbrev pub is_above : Option ℕ → ℕ → Bool
@@ -26,6 +28,11 @@ HasMade c n = (a : Object) × (made c n ≡ Some a)
 
 abbrev pub store_of : Copies → ℕ → Blocks
 store_of c n = if nat_eq (lane_of n) c.young.lane then c.young else c.tenured
+
+-- the store that copies go into: the store of the young at a first survival, and else the old one
+abbrev pub store_for : Copies → Survival → Blocks
+store_for c First = c.young
+store_for c Later = c.tenured
 
 -- an object is put above all others of a store
 pub record IsPutIn (old new : Blocks) (p : ℕ) (a : Object) : Type 0 where

@@ -2,6 +2,7 @@ pub mod Condemned
 pub mod Numbers
 pub mod Words
 pub mod Copies
+pub mod Survivals
 pub mod Marks
 pub mod Naming
 pub mod Pointing

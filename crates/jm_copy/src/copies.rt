@@ -11,6 +11,7 @@ ghost use Rattle.jm_copy.specs.Copying.{IsReplaced, raw_copy};
 ghost use Rattle.jm_copy.specs.Naming.{IsEnded, NamesFirst, NamesNext, NoneNamed};
 ghost use Rattle.jm_copy.specs.Copies.{HasMade, IsPut, IsPutIn, Stays, made, store_of};
 
+use crate::survival::Survival;
 use crate::words::Words;
 use jm_blocks::{Block, BlockStore, Position};
 use jm_heap::Elements;
@@ -131,11 +132,11 @@ impl Copies {
         ensures ok { IfOk result (λ p. (o : Object) → slice_get block.now index ≡ Some o → IsPut self.old self.new p (raw_copy o)) }
         ensures err { OnErr result (self.new ≡ self.old) }
     {
-        let age = block.age(index);
-        if age == 0 {
-            return push(alloc, &mut self.young, block, index, 1);
+        let survival = Survival::of(block.age(index));
+        match survival {
+            Survival::First => push(alloc, &mut self.young, block, index, survival.age()),
+            Survival::Later => push(alloc, &mut self.tenured, block, index, survival.age()),
         }
-        push(alloc, &mut self.tenured, block, index, 2)
     }
 
     /// Whether a place is in the lane of the young.

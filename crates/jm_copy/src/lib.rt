@@ -21,9 +21,10 @@
 //! and the law [`a_finished_scan_is_an_image`] states the end: with all values forwarded and all roots, the
 //! new objects are the image.
 //!
-//! The stores that a copier fills, the marks of its scan, the numbers of the condemned objects and the references of
-//! an object are public ([`Copies`], [`Marks`], [`Starts`], [`first_named`]), for collectors of several copiers, and so
-//! is the listing of the promoted objects that point to young ones ([`note`]).
+//! The stores that a copier fills, which of an object's survivals a collection is, the marks of the scan, the numbers of
+//! the condemned objects and the references of an object are public ([`Copies`], [`Survival`], [`Marks`], [`Starts`],
+//! [`first_named`]), for collectors of several copiers, and so is the listing of the promoted objects that point to
+//! young ones ([`note`]).
 //!
 //! The crate stands on `jm_blocks`.
 #![tactic(auto)]
@@ -36,6 +37,7 @@ mod scan;
 mod serial;
 mod source;
 mod starts;
+mod survival;
 mod words;
 
 pub use collector::{Collector, Refused, Survivors};
@@ -45,4 +47,5 @@ pub use scan::{Marks, either, next, next_after, next_of, note, pass_on};
 pub use serial::SerialCollector;
 pub use source::{Source, find, number};
 pub use starts::{Starts, number_all};
+pub use survival::Survival;
 pub use words::Words;

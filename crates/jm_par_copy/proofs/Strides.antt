@@ -13,10 +13,13 @@ use Rattle.jm_blocks.proofs.Placing.{block_put, lane_put, lies_in, parts}
 use Rattle.jm_blocks.proofs.Filling.{fill_last, last_is, next_last, with_object_last}
 use Rattle.jm_blocks.proofs.Sizes.{few_where_room}
 use Rattle.jm_copy.specs.Copying.{IsAdded, IsReplaced}
-use Rattle.jm_copy.specs.Copies.{made, made_in, HasMade, IsPutIn, Stays, is_above}
+use Rattle.jm_copy.specs.Copies.{made, made_in, HasMade, IsPutIn, Stays, is_above, store_for}
+use Rattle.jm_copy.specs.Survivals.{survival_of}
+use Rattle.jm_copy.specs.declared.survival.Survival.{Survival}
+use Rattle.jm_copy.specs.declared.survival.Survival.TheVariants.{First, Later}
 use Rattle.jm_copy.specs.declared.copies.Copies.{Copies}
 use Rattle.jm_blocks.proofs.Lists.{no_blocks as no_blocks_at}
-use Rattle.jm_par_copy.specs.Strides.{store_by, owner_of, EndsOwn, OwnsEnds, IsAhead, IsNewOf, Longer, Goes, Opens, Opened, IsReserved, IsReservedIn, SameLengths}
+use Rattle.jm_par_copy.specs.Strides.{owner_of, EndsOwn, OwnsEnds, IsAhead, IsNewOf, Longer, Goes, Opens, Opened, IsReserved, IsReservedIn, SameLengths}
 
 pub longer_refl : (n : ℕ) (s : Blocks) → Longer n s s
 longer_refl n s = record { longer = omega arith; ends = λ x e. e }
@@ -140,9 +143,9 @@ reserved_ahead x n s cells p f r =
     let at : block_of p ≡ length s.lists - 1 = omega (arith, last, some) in
     (r.lane, r.past, omega (arith, last), ap (λ k. k % n) at ∙ f.own)
 
-pub reserved_new : (x n : ℕ) (c : Copies) (cells p age : ℕ) → OwnsEnds x n c → IsReservedIn (store_by c age) cells p → IsNewOf x n c p
-reserved_new x n c cells p zero f r = inl (reserved_ahead x n c.young cells p f.young r)
-reserved_new x n c cells p (suc age) f r = inr (reserved_ahead x n c.tenured cells p f.old r)
+pub reserved_new : (x n : ℕ) (c : Copies) (cells p : ℕ) (s : Survival) → OwnsEnds x n c → IsReservedIn (store_for c s) cells p → IsNewOf x n c p
+reserved_new x n c cells p First f r = inl (reserved_ahead x n c.young cells p f.young r)
+reserved_new x n c cells p Later f r = inr (reserved_ahead x n c.tenured cells p f.old r)
 
 pub new_is_own : (x n : ℕ) (c : Copies) (p : ℕ) → IsNewOf x n c p → owner_of n p ≡ x
 new_is_own x n c p (inl h) = h.3
@@ -236,17 +239,6 @@ opened_room bs n cells some = ap (λ x. list_has_room x cells) (last_is_empty bs
         let at : length (cs ++ replicate k []) - 1 ≡ length cs + (k - 1) = omega (arith, many, h) in
         ap (slice_get (cs ++ replicate k [])) at ∙ past cs k (k - 1) (omega (arith, h))
 
--- a place that is reserved for an object of age 0 is in the store of the young, and for any other in the old one
-pub reserved_young : (c : Copies) (o : Object) (p : ℕ) → o.age ≡ 0 → IsReserved c o p → IsReservedIn c.young (object_cells o) p
-reserved_young c o p e r = subst (λ age. IsReservedIn (store_by c age) (object_cells o) p) e r
-
-pub reserved_old : (c : Copies) (o : Object) (p : ℕ) → o.age ≢ 0 → IsReserved c o p → IsReservedIn c.tenured (object_cells o) p
-reserved_old c o p h r = by o.age h r
-  where
-    by : (age : ℕ) → age ≢ 0 → IsReservedIn (store_by c age) (object_cells o) p → IsReservedIn c.tenured (object_cells o) p
-    by zero n s = absurd (n refl)
-    by (suc age) n s = s
-
 -- what is known after a reservation
 pub record Ready (x n : ℕ) (c d : Copies) (p : ℕ) : Type 0 where
   pub opened : Opened n c d
@@ -260,7 +252,7 @@ ready x n m c d a p e ends o r =
     let opened = subst (λ k. Opened k c d) e o in
     let stays = opened_stays n c d opened in
     let goes = opened_goes n c d opened x in
-    let new = reserved_new x n d (object_cells a) p a.age (ends_go x n c d goes ends) r in
+    let new = reserved_new x n d (object_cells a) p (survival_of a.age) (ends_go x n c d goes ends) r in
     record { opened = opened; stays = stays; goes = goes; new = new; before = new_before x n c d p stays goes new }
 
 -- a value of an object that was made is another

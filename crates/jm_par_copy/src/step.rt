@@ -43,9 +43,9 @@ fn claim_and_copy<G: Gate>(
     if won.number() != offered.number() {
         return Ok(won);
     }
-    let (age, cells) = (reserved.age, reserved.cells);
+    let (survival, cells) = (reserved.survival, reserved.cells);
     fill(&mut own.to, block, index, reserved)?;
-    close_large(alloc, &mut own.to, round.words.copiers(), age, cells)?;
+    close_large(alloc, &mut own.to, round.words.copiers(), survival, cells)?;
     Ok(won)
 }
 
