@@ -19,3 +19,9 @@ pub mod Fields
 pub mod Headers
 pub mod Ranges
 pub mod Classes
+pub mod TextFlags
+pub mod TextOperands
+pub mod TextInstructions
+pub mod TextBodies
+pub mod TextMembers
+pub mod TextClasses
