@@ -1,9 +1,9 @@
 -- The flags that words name are said by words.
-use Rattle.std.proofs.Common.{◌≡◌, ℕ, zero, suc, ◌<◌, ◌^◌, ◌+◌, Bool, true, false, ◌&&◌, ◌==◌, List, [], ◌∷◌, Option, Some, None, Result, Ok, Err, refl, sym, ap, subst, ◌∙◌, arith, length, take, drop}
+use Rattle.std.proofs.Common.{◌≡◌, ℕ, zero, suc, ◌<◌, ◌^◌, Bool, true, false, ◌&&◌, ◌==◌, List, [], ◌∷◌, Option, Some, None, Ok, refl, sym, subst, ◌∙◌, arith, take, drop}
 use Rattle.std.specs.Prelude.{if◌then◌else◌, nat_lt, bit_and, bit_or, codes}
 use Rattle.std.proofs.lemmas.Nat.{or_lt, and_or_self, and_or_apart}
 use Rattle.std.proofs.lemmas.Option.{same_Some}
-use Rattle.std.proofs.lemmas.Bool.{eq-eqb, eqb-true, and_from, ltb-true, ltb-false}
+use Rattle.std.proofs.lemmas.Bool.{eq-eqb, and_from, ltb-true, ltb-false}
 use Rattle.jm_bytes.specs.Laws.{and_then_ok, same_Ok}
 use Rattle.jm_program.specs.Names.{same_text}
 use Rattle.jm_program.proofs.Truths.{both_true}

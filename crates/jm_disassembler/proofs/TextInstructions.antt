@@ -1,8 +1,7 @@
 -- The instructions that a text spells (Jasmin User Guide, "Instructions").
-use Rattle.std.proofs.Common.{◌≡◌, ℕ, ◌+◌, Bool, true, false, ◌&&◌, ◌==◌, List, [], ◌∷◌, Option, Some, None, Result, Ok, Err, refl, subst, length}
+use Rattle.std.proofs.Common.{◌≡◌, ℕ, ◌+◌, Bool, true, false, ◌==◌, List, [], ◌∷◌, Result, Ok, Err, refl, subst, length}
 use Rattle.std.specs.Option.{ok_or}
 use Rattle.std.specs.Prelude.{if◌then◌else◌, position}
-use Rattle.std.specs.List.{list_all}
 use Rattle.jm_bytes.specs.Reading.{and_then}
 use Rattle.jm_bytes.specs.Laws.{and_then_ok, same_Ok}
 use Rattle.jm_program.specs.Descriptors.{argument_slots}

@@ -1,13 +1,12 @@
 -- The types of what an instruction of a text invokes begin at the first (.
-use Rattle.std.proofs.Common.{◌≡◌, ℕ, suc, zero, ◌+◌, ◌-◌, Bool, true, false, not, ◌&&◌, ◌==◌, List, [], ◌∷◌, ◌++◌, Option, Some, None, Result, Ok, Err, refl, sym, ap, subst, ◌∙◌, arith, length, take, drop, replicate, one-add}
+use Rattle.std.proofs.Common.{◌≡◌, ℕ, suc, zero, ◌+◌, ◌-◌, Bool, true, false, not, ◌&&◌, ◌==◌, List, [], ◌∷◌, Option, Some, None, Result, Ok, refl, sym, ap, subst, ◌∙◌, length, take, drop, replicate, one-add}
 use Rattle.std.specs.Prelude.{if◌then◌else◌, position, reverse}
-use Rattle.std.specs.List.{list_all, prefix_len, position_or_len}
-use Rattle.std.specs.Option.{ok_or}
+use Rattle.std.specs.List.{list_all, position_or_len}
 use Rattle.std.proofs.lemmas.Bool.{and_from}
 use Rattle.std.proofs.lemmas.List.Folds.{list_all-append}
 use Rattle.jm_bytes.specs.Reading.{and_then, fault_as}
 use Rattle.jm_bytes.specs.Laws.{and_then_ok, same_Ok, fault_as_ok}
-use Rattle.jm_program.specs.Descriptors.{element_text, field_text, argument_slots}
+use Rattle.jm_program.specs.Descriptors.{element_text, field_text}
 use Rattle.jm_program.proofs.Truths.{both_true}
 use Rattle.jm_program.specs.declared.descriptor.ElementType.{ElementType}
 use Rattle.jm_program.specs.declared.descriptor.ElementType.TheVariants.{Base, Class}
@@ -18,11 +17,9 @@ use Rattle.jm_program.specs.declared.reference.MethodRef.{MethodRef}
 use Rattle.jm_program.specs.declared.instruction.operation.InvokeOp.{InvokeOp}
 use Rattle.jm_program.specs.References.{receiver_slots}
 use Rattle.jm_class_format.specs.declared.read_fault.ReadFault.{ReadFault}
-use Rattle.jm_class_format.specs.declared.read_fault.ReadFault.TheVariants as read_fault
 use Rattle.jm_class_format.specs.Symbols.{name_if, class_name_of, invoked_name_of, field_type_of, method_type_of, begins_with_bracket, class_ref_of, method_ref_of}
 use Rattle.jm_class_format.proofs.SymbolsFit.{field_type_kept}
 use Rattle.jm_jasmin_ops.specs.declared.fault.AsmFault.{AsmFault}
-use Rattle.jm_jasmin_ops.specs.declared.fault.AsmFault.TheVariants as fault
 use Rattle.jm_jasmin_ops.specs.Faults.{of_read}
 use Rattle.jm_jasmin_ops.specs.Operands.{is_slash, parted_at, member, is_parenthesis, method_at}
 use Rattle.jm_disassembler.specs.Said.{is_no_parenthesis, no_parenthesis, element_no_parenthesis, class_no_parenthesis}

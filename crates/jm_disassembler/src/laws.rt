@@ -2,9 +2,11 @@
 
 ghost use Rattle.jm_disassembler.specs.TextClasses.{TextsDenoteTextClasses};
 
-/// No text says more: the flags of each class that a text denotes and of its members have words, it
-/// has a superclass, no `(` stands in the name of a method or in what a call names before its types,
-/// and its line numbers follow its instructions.
+/// No text denotes another class than one of these: words say its flags and its name, those of its
+/// superclass, its interfaces, its source file and its members; a field `=` has a value, and no
+/// handler is of a class `all`; no `(` stands in a method's name, or in what a call names before its
+/// types; line numbers follow the instructions. A word begins with neither `;` nor `"`, and has
+/// neither a blank, a tab nor a line feed.
 pub fn texts_denote_text_classes()
     ensures { TextsDenoteTextClasses }
 {}
