@@ -24,6 +24,7 @@ pub mod TextUnits
 pub mod TextReadings
 pub mod TextFlags
 pub mod TextOperands
+pub mod TextParts
 pub mod TextNames
 pub mod TextInstructions
 pub mod TextBodies

@@ -135,7 +135,7 @@ unfolding instruction_lines
 instruction_read number ts p fine h =
     let a = and_then_ok (instruction_at ts) _ p h in
     let made : Item × List TokenParts = (item.Instruction a.0.instruction, drop a.0.used ts) in
-    subst (λ (q : Item × List TokenParts). IsRead number q.0 × AllFine q.1) (same_Ok {F = AsmFault} made p a.2) (instruction_spelled ts a.0 a.1, fine_drop a.0.used ts fine)
+    subst (λ (q : Item × List TokenParts). IsRead number q.0 × AllFine q.1) (same_Ok {F = AsmFault} made p a.2) (instruction_spelled ts a.0 fine a.1, fine_drop a.0.used ts fine)
 
 dropped_read : (number : ℕ) → OfLine (IsRead number) (λ _. Ok item.Dropped)
 dropped_read number line i fine h = subst (IsRead number) (same_Ok {F = AsmFault} item.Dropped i h) tt
@@ -273,9 +273,11 @@ parts_say v count number (i ∷ items) ps read h =
     let one = part_says v count number i a.0 read.0 a.1 in
     let rest = parts_say v count (instruction_here i + number) items b.0 read.1 b.1 in
     let behind : AreFrom number (flat_map line_in b.0) = λ least le. rest.2 least (omega (arith, le)) in
-    subst (AllSay number) (same_Ok {F = AsmFault} (a.0 ∷ b.0) ps b.2)
-    (all_pass is_text_handler (handler_in a.0) (flat_map handler_in b.0) one.0 rest.0, all_pass is_text_instr (instruction_in a.0) (flat_map instruction_in b.0) one.1 rest.1,
-    one.2 (flat_map line_in b.0) behind)
+    subst (AllSay number) (same_Ok {F = AsmFault} (a.0 ∷ b.0) ps b.2) (
+      all_pass is_text_handler (handler_in a.0) (flat_map handler_in b.0) one.0 rest.0,
+      all_pass is_text_instr (instruction_in a.0) (flat_map instruction_in b.0) one.1 rest.1,
+      one.2 (flat_map line_in b.0) behind,
+    )
 
 code_by : (b : Bool) (code : Code) (o : Option Code) → is_text_code (Some code) ≡ true
     → ◌≡◌ {A = Result (Option Code) AsmFault} (if b then Ok None else Ok (Some code)) (Ok o) → is_text_code o ≡ true

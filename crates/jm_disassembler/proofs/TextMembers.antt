@@ -5,6 +5,8 @@ use Rattle.std.specs.List.{list_all}
 use Rattle.std.proofs.lemmas.Bool.{and_from}
 use Rattle.jm_bytes.specs.Laws.{and_then_ok, same_Ok, fault_as_ok}
 use Rattle.jm_program.specs.Names.{same_text, is_method_name}
+use Rattle.jm_program.specs.declared.descriptor.FieldType.{FieldType}
+use Rattle.jm_program.specs.declared.descriptor.MethodDescriptor.{MethodDescriptor}
 use Rattle.jm_program.specs.declared.class.Field.{Field}
 use Rattle.jm_program.specs.declared.class.Method.{Method}
 use Rattle.jm_program.specs.declared.code.Code.{Code}
@@ -12,7 +14,7 @@ use Rattle.jm_program.specs.declared.constant.Constant.{Constant}
 use Rattle.jm_program.proofs.Truths.{both_true}
 use Rattle.jm_class_format.specs.declared.read_fault.LeftOutPart.{LeftOutPart}
 use Rattle.jm_class_format.specs.Members.{own_receiver}
-use Rattle.jm_class_format.specs.Symbols.{method_name_of}
+use Rattle.jm_class_format.specs.Symbols.{method_name_of, field_type_of, method_type_of}
 use Rattle.jm_jasmin_lex.specs.Token.{TokenParts}
 use Rattle.jm_jasmin_ops.specs.Faults.{of_read}
 use Rattle.jm_jasmin_ops.specs.Operands.{is_parenthesis}
@@ -20,7 +22,7 @@ use Rattle.jm_jasmin_ops.specs.declared.fault.AsmFault.{AsmFault}
 use Rattle.jm_jasmin_ops.specs.declared.fault.AsmFault.TheVariants as fault
 use Rattle.jm_jasmin.specs.Lines.{is_word_at, begins, line_number, by_line, required}
 use Rattle.jm_jasmin.specs.Words.{with_length_from, flags_before}
-use Rattle.jm_jasmin.specs.Symbols.{method_name, method_type, units_at, field_name_at, field_type_at}
+use Rattle.jm_jasmin.specs.Symbols.{method_name, method_type, units_at, field_type, field_name_at, field_type_at}
 use Rattle.jm_jasmin.specs.Fields.{given_constant, value_at, has_value, plain_field, field_with_value, field_without_value, field_line, fields}
 use Rattle.jm_jasmin.specs.MethodHeader.{is_misplaced_abstract, left_out_method, unless_left_out, declarable, named_method, parted_method, method_line}
 use Rattle.jm_jasmin.specs.Items.{items_of}
@@ -29,12 +31,13 @@ use Rattle.jm_jasmin.specs.Methods.{end_line, with_code, method_body, method, me
 use Rattle.jm_jasmin.proofs.HeaderFits.{method_name_kept}
 use Rattle.jm_disassembler.specs.Flags.{member_rows, flags_said}
 use Rattle.jm_disassembler.specs.Said.{no_parenthesis}
-use Rattle.jm_disassembler.specs.TextClasses.{is_word_unit, begins_word, is_word_name, is_text_field, is_text_code, is_text_method}
+use Rattle.jm_disassembler.specs.TextClasses.{begins_word, is_word_part, is_word_name, is_word_type, is_word_method_type, is_text_field, is_text_code, is_text_method}
 use Rattle.jm_disassembler.proofs.TextTokens.{AllFine}
 use Rattle.jm_disassembler.proofs.TextUnits.{not_equals}
 use Rattle.jm_disassembler.proofs.TextReadings.{UnitsAt, units_word, Gives, OfLine, by_line_gives, required_gives, list_gives}
 use Rattle.jm_disassembler.proofs.TextFlags.{member_said}
-use Rattle.jm_disassembler.proofs.TextOperands.{all_take, name_by, none_before}
+use Rattle.jm_disassembler.proofs.TextOperands.{name_by, none_before}
+use Rattle.jm_disassembler.proofs.TextParts.{type_word, method_type_word, typed_at}
 use Rattle.jm_disassembler.proofs.TextNames.{other_word, field_word, is_word_of}
 use Rattle.jm_disassembler.proofs.TextBodies.{items_read, code_said}
 
@@ -44,6 +47,14 @@ use Rattle.jm_disassembler.proofs.TextBodies.{items_read, code_said}
 record PlainField (line : List TokenParts) (index : ℕ) (f : Field) : Type 0 where
   flags : flags_said 0 f.flags.bits member_rows ≡ true
   name : UnitsAt line index f.name
+  type : is_word_type f.descriptor ≡ true
+
+field_type_word : (line : List TokenParts) (index : ℕ) (t : FieldType) → AllFine line → field_type_at line index ≡ Ok t → is_word_type t ≡ true
+unfolding field_type_at field_type
+field_type_word line index t fine h =
+    let a = and_then_ok (units_at line index) (field_type (line_number line)) t h in
+    let word = is_word_of line index a.0 (units_word line index a.0 fine a.1) in
+    type_word a.0 t (fault_as_ok (of_read (line_number line)) (field_type_of a.0) t a.2) (both_true (begins_word a.0) (is_word_part a.0) word).1
 
 plain_said : (line : List TokenParts) (index : ℕ) (f : Field) → AllFine line → plain_field line index ≡ Ok f → PlainField line index f
 unfolding plain_field
@@ -51,14 +62,16 @@ plain_said line index f fine h =
     let a = and_then_ok (flags_before 0 line index) _ f h in
     let b = and_then_ok (field_name_at line index) _ f a.2 in
     let c = and_then_ok (field_type_at line (index + 1)) _ f b.2 in
-    subst (PlainField line index) (same_Ok {F = AsmFault} _ f c.2) (record { flags = member_said line index a.0 a.1; name = field_word line index b.0 fine b.1 })
+    subst (PlainField line index) (same_Ok {F = AsmFault} _ f c.2) (record { flags = member_said line index a.0 a.1; name = field_word line index b.0 fine b.1; type = field_type_word line (index + 1) c.0 fine c.1 })
 
 -- such a field with a constant or without one
 field_of : (line : List TokenParts) (index : ℕ) (f : Field) (constant : Option Constant) → PlainField line index f → (is_some constant || not (same_text f.name (codes "="))) ≡ true
     → is_text_field (record { flags = f.flags; name = f.name; descriptor = f.descriptor; constant = constant }) ≡ true
 field_of line index f constant plain last =
-    and_from (flags_said 0 f.flags.bits member_rows && is_word_name f.name) (is_some constant || not (same_text f.name (codes "=")))
-    (and_from (flags_said 0 f.flags.bits member_rows) (is_word_name f.name) plain.flags (is_word_of line index f.name plain.name)) last
+    let flags : Bool = flags_said 0 f.flags.bits member_rows in
+    let valued : Bool = is_some constant || not (same_text f.name (codes "=")) in
+    and_from (flags && is_word_name f.name && valued) (is_word_type f.descriptor)
+    (and_from (flags && is_word_name f.name) valued (and_from flags (is_word_name f.name) plain.flags (is_word_of line index f.name plain.name)) last) plain.type
 
 or_second : (a b : Bool) → b ≡ true → (a || b) ≡ true
 or_second true b h = refl
@@ -117,9 +130,9 @@ fields_said ts p fine h =
 
 -- ---- methods
 
--- its flags and its name
+-- its flags, its name and its types
 abbrev IsHead : Method → Type 0
-IsHead m = (flags_said 0 m.flags.bits member_rows ≡ true) × (is_word_name m.name ≡ true) × (no_parenthesis m.name ≡ true)
+IsHead m = (flags_said 0 m.flags.bits member_rows ≡ true) × (is_word_name m.name ≡ true) × (no_parenthesis m.name ≡ true) × (is_word_method_type m.descriptor ≡ true)
 
 begins_by : (at : ℕ) (us name : List ℕ) → begins_word us ≡ true → take at us ≡ name → is_method_name name ≡ true → begins_word name ≡ true
 begins_by zero us name begins same named = let none : is_method_name [] ≡ true = subst (λ (x : List ℕ). is_method_name x ≡ true) (sym same) named in absurd cc
@@ -137,10 +150,14 @@ IsPrefix name = (is_word_name name ≡ true) × (no_parenthesis name ≡ true)
 prefix_is : (line : ℕ) (us : List ℕ) (at : ℕ) (name : List ℕ) → is_word_name us ≡ true → position is_parenthesis us ≡ Some at → method_name line (take at us) ≡ Ok name → IsPrefix name
 prefix_is line us at name word is h =
     let same = name_is line (take at us) name h in
-    let parts = both_true (begins_word us) (list_all is_word_unit us) word in
-    let units : list_all is_word_unit name ≡ true = subst (λ (x : List ℕ). list_all is_word_unit x ≡ true) same (all_take is_word_unit at us parts.1) in
+    let parts = both_true (begins_word us) (is_word_part us) word in
+    let part : is_word_part name ≡ true = subst (λ (x : List ℕ). is_word_part x ≡ true) same (typed_at us at parts.1 parts.0 is).front in
     let begins = begins_by at us name parts.0 same (method_name_kept line (take at us) name h) in
-    (and_from (begins_word name) (list_all is_word_unit name) begins units, subst (λ (x : List ℕ). no_parenthesis x ≡ true) same (none_before us at is))
+    (and_from (begins_word name) (is_word_part name) begins part, subst (λ (x : List ℕ). no_parenthesis x ≡ true) same (none_before us at is))
+
+types_word : (line receiver : ℕ) (us : List ℕ) (d : MethodDescriptor) → is_word_part us ≡ true → method_type line receiver us ≡ Ok d → is_word_method_type d ≡ true
+unfolding method_type
+types_word line receiver us d part h = method_type_word receiver us d (fault_as_ok (of_read line) (method_type_of receiver us) d h) part
 
 parted_head : (line bits : ℕ) (us : List ℕ) (at : Option ℕ) (m : Method) → flags_said 0 bits member_rows ≡ true → is_word_name us ≡ true → position is_parenthesis us ≡ at
     → parted_method line bits us at ≡ Ok m → IsHead m
@@ -150,7 +167,9 @@ parted_head line bits us (Some at) m said word is h =
     let a = and_then_ok (method_name line (take at us)) _ m h in
     let b = and_then_ok (method_type line (own_receiver (record { bits = bits })) (drop at us)) _ m a.2 in
     let prefix = prefix_is line us at a.0 word is a.1 in
-    subst IsHead (same_Ok {F = AsmFault} _ m b.2) (said, prefix.0, prefix.1)
+    let parts = both_true (begins_word us) (is_word_part us) word in
+    let types = types_word line (own_receiver (record { bits = bits })) (drop at us) b.0 (typed_at us at parts.1 parts.0 is).types b.1 in
+    subst IsHead (same_Ok {F = AsmFault} _ m b.2) (said, prefix.0, prefix.1, types)
 
 misplaced_by : (b : Bool) (e : AsmFault) (r : Result Method AsmFault) (m : Method) → (if b then Err e else r) ≡ Ok m → r ≡ Ok m
 misplaced_by true e r m h = absurd cc
@@ -180,8 +199,9 @@ head_said in_interface line m fine h =
 with_code_said : (m : Method) (o : Option Code) → IsHead m → is_text_code o ≡ true → is_text_method (with_code m o) ≡ true
 with_code_said m o head code =
     let flags : Bool = flags_said 0 m.flags.bits member_rows in
-    and_from (flags && is_word_name m.name && no_parenthesis m.name) (is_text_code o)
-    (and_from (flags && is_word_name m.name) (no_parenthesis m.name) (and_from flags (is_word_name m.name) head.0 head.1) head.2) code
+    and_from (flags && is_word_name m.name && no_parenthesis m.name && is_word_method_type m.descriptor) (is_text_code o)
+    (and_from (flags && is_word_name m.name && no_parenthesis m.name) (is_word_method_type m.descriptor)
+    (and_from (flags && is_word_name m.name) (no_parenthesis m.name) (and_from flags (is_word_name m.name) head.0 head.1) head.2) head.3) code
 
 end_said : OfLine (λ _. Unit {0}) end_line
 end_said line n fine h = tt

@@ -55,7 +55,7 @@ drop_some zero (z ∷ xs) x ys e = omega arith
 drop_some (suc n) [] x ys e = absurd cc
 drop_some (suc n) (z ∷ xs) x ys e = let lt = drop_some n xs x ys e in omega (arith, lt)
 
-drop_tail : {A : Type 0} (n : ℕ) (xs : List A) (x : A) (ys : List A) → drop n xs ≡ x ∷ ys → drop (suc n) xs ≡ ys
+pub drop_tail : {A : Type 0} (n : ℕ) (xs : List A) (x : A) (ys : List A) → drop n xs ≡ x ∷ ys → drop (suc n) xs ≡ ys
 drop_tail zero [] x ys e = absurd cc
 drop_tail zero (z ∷ xs) x ys e = cc
 drop_tail (suc n) [] x ys e = absurd cc

@@ -1,18 +1,19 @@
 -- The code units of a word: none is a blank, a tab or a line feed, and the first is neither ; nor ".
-use Rattle.std.proofs.Common.{◌≡◌, ℕ, ◌+◌, ◌-◌, ◌/◌, ◌%◌, ◌≤◌, Bool, true, false, ◌&&◌, cond, nat_lt, List, [], ◌∷◌, ◌++◌, refl, sym, ap, subst, ◌∙◌, arith, codes}
+use Rattle.std.proofs.Common.{◌≡◌, ℕ, ◌+◌, ◌-◌, ◌/◌, ◌%◌, ◌<◌, ◌≤◌, Bool, true, false, ◌&&◌, cond, nat_lt, nat_le, List, [], ◌∷◌, ◌++◌, refl, sym, ap, subst, ◌∙◌, arith, codes}
 use Rattle.std.specs.List.{list_all, flat_map}
 use Rattle.std.specs.Str.{IsUtf8, chars}
 use Rattle.std.specs.Char.Escape.{encode_utf16}
-use Rattle.std.proofs.lemmas.Str.{encodes-chars}
-use Rattle.std.proofs.lemmas.Bool.{and_from, ltb-true, ltb-false}
+use Rattle.std.proofs.lemmas.Str.{encodes-chars, scalars-chars}
+use Rattle.std.proofs.lemmas.Bool.{and_from, ltb-true, ltb-false, lt-ltb, le-leb}
 use Rattle.std.proofs.lemmas.Bool.Decides.{nat_tests}
 use Rattle.std.proofs.lemmas.List.Folds.{list_all-append}
-use Rattle.std.proofs.Math.Utf8.{encode, encodes}
+use Rattle.std.proofs.Math.Utf8.{encode, encodes, scalar, scalars}
 use Rattle.jm_program.specs.Names.{same_text}
+use Rattle.jm_program.specs.Surrogates.{is_high, is_low}
 use Rattle.jm_program.specs.Texts.{utf16_of}
 use Rattle.jm_program.proofs.Texts.{text_is, text_itself}
 use Rattle.jm_program.proofs.Truths.{both_true, all_pass}
-use Rattle.jm_disassembler.specs.TextClasses.{is_word_unit, begins_word, is_word_name}
+use Rattle.jm_disassembler.specs.TextClasses.{is_word_unit, begins_word, are_paired, is_word_part, is_word_name}
 use Rattle.jm_disassembler.proofs.TextTokens.{IsWordText}
 
 -- ---- a character
@@ -72,13 +73,52 @@ all_begin (c ∷ cs) h =
     begins_by c (flat_map encode_utf16 cs) (nat_lt c 128) (nat_lt c 0x1_0000) refl
     (λ e. subst (λ (xs : List ℕ). begins_word (xs ++ encodes cs) ≡ true) (ascii_encode c e) h)
 
+-- ---- pairs
+
+no_high : (c : ℕ) → scalar c ≡ true → is_high c ≡ false
+no_high c h = grind (arith, nat_tests)
+
+no_low : (c : ℕ) → scalar c ≡ true → is_low c ≡ false
+no_low c h = grind (arith, nat_tests)
+
+few : (c : ℕ) → scalar c ≡ true → c < 0x11_0000
+few c h = grind (arith, nat_tests)
+
+long : (c : ℕ) → nat_lt c 0x1_0000 ≡ false → 0x1_0000 ≤ c
+long c h = ltb-false c 0x1_0000 h
+
+high_is : (c : ℕ) → 0x1_0000 ≤ c → c < 0x11_0000 → is_high (high_of c) ≡ true
+high_is c least most =
+    let low : 0xD800 ≤ high_of c = omega arith in
+    let top : high_of c < 0xDC00 = omega arith in
+    and_from (nat_le 0xD800 (high_of c)) (nat_lt (high_of c) 0xDC00) (le-leb 0xD800 (high_of c) low) (lt-ltb (high_of c) 0xDC00 top)
+
+low_is : (c : ℕ) → is_low (low_of c) ≡ true
+low_is c =
+    let low : 0xDC00 ≤ low_of c = omega arith in
+    let top : low_of c < 0xE000 = omega arith in
+    and_from (nat_le 0xDC00 (low_of c)) (nat_lt (low_of c) 0xE000) (le-leb 0xDC00 (low_of c) low) (lt-ltb (low_of c) 0xE000 top)
+
+paired_by : (c : ℕ) (rest : List ℕ) (short : Bool) → nat_lt c 0x1_0000 ≡ short → scalar c ≡ true → are_paired false rest ≡ true
+    → are_paired false (cond short (c ∷ []) (high_of c ∷ low_of c ∷ []) ++ rest) ≡ true
+paired_by c rest true e h k = rw (no_high c h, no_low c h) k
+paired_by c rest false e h k = rw (high_is c (long c e) (few c h), low_is c) k
+
+all_paired : (cs : List ℕ) → scalars cs ≡ true → are_paired false (flat_map encode_utf16 cs) ≡ true
+all_paired [] h = refl
+all_paired (c ∷ cs) h =
+    let p = both_true (scalar c) (scalars cs) h in
+    paired_by c (flat_map encode_utf16 cs) (nat_lt c 0x1_0000) refl p.0 (all_paired cs p.1)
+
 -- a word is a name of its kind
 pub word_name : (text : List ℕ) → IsWordText text → is_word_name (utf16_of text) ≡ true
 word_name text w =
     let same = sym (encodes-chars text w.utf8) in
-    and_from (begins_word (utf16_of text)) (list_all is_word_unit (utf16_of text))
+    and_from (begins_word (utf16_of text)) (is_word_part (utf16_of text))
     (all_begin (chars text) (subst (λ (t : List ℕ). begins_word t ≡ true) same w.begins))
+    (and_from (list_all is_word_unit (utf16_of text)) (are_paired false (utf16_of text))
     (all_units (chars text) (subst (λ (t : List ℕ). list_all is_word_unit t ≡ true) same w.bytes))
+    (all_paired (chars text) (scalars-chars text w.utf8)))
 
 -- ---- a word that is known
 
