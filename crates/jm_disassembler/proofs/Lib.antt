@@ -19,3 +19,14 @@ pub mod Fields
 pub mod Headers
 pub mod Ranges
 pub mod Classes
+pub mod TextTokens
+pub mod TextUnits
+pub mod TextReadings
+pub mod TextFlags
+pub mod TextOperands
+pub mod TextParts
+pub mod TextNames
+pub mod TextInstructions
+pub mod TextBodies
+pub mod TextMembers
+pub mod TextClasses

@@ -1,4 +1,4 @@
--- How a part that no text can say is printed.
+-- How a part of a class that its text cannot say is printed.
 use Rattle.std.specs.Prelude.{ℕ, List, [], ◌++◌, Option, Some, None, codes, option_map}
 use Rattle.std.specs.Fmt.{decimal}
 use Rattle.jm_disassembler.specs.declared.unsaid.ClassPart.{ClassPart}
@@ -36,7 +36,7 @@ unsaid_text (unsaid.Class part) = codes "class: " ++ class_part_text part
 unsaid_text (unsaid.Field k part) = codes "field " ++ (decimal k ++ (codes ": " ++ field_part_text part))
 unsaid_text (unsaid.Method k part) = codes "method " ++ (decimal k ++ (codes ": " ++ method_part_text part))
 
--- ---- the line, a comment, that stands before what has a part that no text can say
+-- ---- the line, a comment, that stands before what has a part that its text cannot say
 
 abbrev pub mark_text : Option (List ℕ) → List ℕ
 mark_text None = []

@@ -28,7 +28,7 @@ declaration_front flags =
 unfoldable pub declaration_text : Bool → ClassParts → List ℕ
 declaration_text commented c = declaration_front c.flags ++ (name_text c.name ++ class_note commented c.flags)
 
--- behind the line that marks the lines before the fields, if one of them has a part that no text can say
+-- behind the line that marks the lines before the fields, if one of them has a part that its text cannot say
 unfoldable pub marked_declaration : Bool → ClassParts → List ℕ
 marked_declaration commented c = class_mark (header_part c) ++ declaration_text commented c
 
@@ -39,7 +39,7 @@ super_text (Some name) = codes ".super " ++ (name_text name ++ codes "\n")
 unfoldable pub implements_text : List ℕ → List ℕ
 implements_text name = codes ".implements " ++ (name_text name ++ codes "\n")
 
--- ---- members, each behind the line that marks it, if it has a part that no text can say
+-- ---- members, each behind the line that marks it, if it has a part that its text cannot say
 
 unfoldable pub marked_field : Bool → Field → List ℕ
 marked_field commented f = field_mark (field_part f) ++ field_text commented f

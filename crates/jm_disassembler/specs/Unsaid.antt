@@ -1,4 +1,4 @@
--- The first part of a class that no text can say, in the order of the text.
+-- The first part of a class that its text cannot say, in the order of the text.
 use Rattle.std.specs.Prelude.{ℕ, suc, Bool, true, false, not, ◌&&◌, ◌==◌, if◌then◌else◌, List, [], ◌∷◌, length, Option, Some, None}
 use Rattle.std.specs.List.{position}
 use Rattle.jm_program.specs.declared.class.ClassParts.{ClassParts}
@@ -116,6 +116,6 @@ abbrev pub class_or : Option ClassPart → Option Unsaid → Option Unsaid
 class_or (Some p) others = Some (unsaid.Class p)
 class_or None others = others
 
--- the first part that no text can say
+-- the first part that its text cannot say
 unfoldable pub first_unsaid : ClassParts → Option Unsaid
 first_unsaid c = class_or (header_part c) (members_part (fields_part 0 c.fields) (methods_part 0 c.methods))

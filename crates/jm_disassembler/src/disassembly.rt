@@ -56,7 +56,7 @@ fn text_of(alloc: Global, commented: bool, class: &ClassParts) -> Result<String,
     Ok(text)
 }
 
-/// The first part of a class that no text can say, in the order of a text, if there is one.
+/// The first part of a class that its text cannot say, in the order of the text, if there is one.
 pub fn first_unsaid(class: &Class) -> Option<Unsaid>
     ensures { result ≡ first_unsaid class.now }
 {
@@ -67,7 +67,7 @@ pub fn first_unsaid(class: &Class) -> Option<Unsaid>
 /// of memory apart. It takes time and memory in the class.
 ///
 /// # Errors
-/// [`DisassemblyFault::NoText`] with the first part that no text can say, exactly where there is
+/// [`DisassemblyFault::NoText`] with the first part that its text cannot say, exactly where there is
 /// one: a name or a type with a blank, a control character, a `;`, a `\` or half of a surrogate
 /// pair, or with a `"` where its word begins; a method's name or its class with a `(`; a field
 /// without a value by the name `=`; a handler of a class by the name `all`; a flag that has no
@@ -90,7 +90,7 @@ pub fn disassemble(alloc: Global, class: &Class) -> Result<String, DisassemblyFa
 
 /// The text of a class, whether or not an assembler can read it, with comments or without them. A
 /// comment is the number of an instruction behind it, or the flags of the class or a member that no
-/// word says. A part that no text can say is printed as it is, and a line `; 90 NoText(..)`, also
+/// word says. A part that its text cannot say is printed as it is, and a line `; 90 NoText(..)`, also
 /// where no comments are wanted, marks the first one of each member, and of the lines before the
 /// fields. Where there is no such part the text denotes that very class. It takes time and memory in
 /// the class.

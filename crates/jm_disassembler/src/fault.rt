@@ -10,7 +10,7 @@ use thiserror::Error;
 /// Why a class has no text.
 #[derive(Clone, Copy, PartialEq, Eq, Error)]
 pub enum DisassemblyFault {
-    /// The first part, in the order of a text, that no text can say.
+    /// The first part of the class that its text cannot say, in the order of the text.
     #[error("90 NoText({0})")]
     NoText(Unsaid),
     /// A growth was refused.

@@ -1,4 +1,4 @@
-// The first part of a class that no text can say, in the order of the text.
+// The first part of a class that its text cannot say, in the order of the text.
 
 ghost use Rattle.std.specs.Prelude.{◌≡◌, not};
 ghost use Rattle.std.specs.List.{position};
@@ -38,7 +38,7 @@ fn value_said(value: &Option<Constant>) -> bool
     }
 }
 
-/// The first part of a field that no text can say, in the order of the text.
+/// The first part of a field that its text cannot say, in the order of the text.
 pub fn field_part(field: &Field) -> Option<FieldPart>
     ensures { result ≡ field_part field.now }
 {
@@ -157,7 +157,7 @@ fn code_part(code: &Option<Code>) -> Option<MethodPart>
     handlers_part(code)
 }
 
-/// The first part of a method that no text can say, in the order of the text.
+/// The first part of a method that its text cannot say, in the order of the text.
 pub fn method_part(method: &Method) -> Option<MethodPart>
     ensures { result ≡ method_part method.now }
 {
@@ -211,7 +211,7 @@ fn first_interface(names: &[Name]) -> Option<usize>
     names.iter().position(|name| !is_sayable(name.units()))
 }
 
-/// The first part of the lines before the fields that no text can say, in the order of the text.
+/// The first part of the lines before the fields that its text cannot say, in the order of the text.
 pub fn header_part(class: &ClassParts) -> Option<ClassPart>
     ensures { result ≡ header_part class.now }
 {
@@ -231,7 +231,7 @@ pub fn header_part(class: &ClassParts) -> Option<ClassPart>
     }
 }
 
-/// The first part of a class that no text can say, in the order of the text.
+/// The first part of a class that its text cannot say, in the order of the text.
 #[tactic(auto, unfolding(crate::specs::Unsaid::first_unsaid))]
 pub fn first_of(class: &ClassParts) -> Option<Unsaid>
     ensures { result ≡ first_unsaid class.now }

@@ -1,5 +1,6 @@
 //! Assembler texts from classes (Jasmin User Guide): the text that is printed denotes that very class, or
-//! the first part of it that no text can say is named (specs/Unsaid.antt).
+//! the first part of it that the text cannot say is named (specs/Unsaid.antt). Most of these parts no
+//! text at all can say: what each class has that a text denotes is a law (specs/TextClasses.antt).
 #![tactic(auto)]
 
 mod body;
@@ -10,6 +11,7 @@ mod flags;
 mod header;
 mod instruction;
 mod labels;
+mod laws;
 mod mark;
 mod member;
 mod names;
@@ -19,4 +21,5 @@ mod unsaid;
 
 pub use disassembly::{class_text, disassemble, first_unsaid};
 pub use fault::DisassemblyFault;
+pub use laws::texts_denote_text_classes;
 pub use unsaid::{ClassPart, FieldPart, MethodPart, Unsaid};

@@ -1,4 +1,4 @@
-// The lines that mark what no text can say: comments, each before the line of a class or a member.
+// The lines that mark what the text of a class cannot say: comments, each before the line of a class or a member.
 
 ghost use Rattle.std.specs.Prelude.{◌≡◌, ◌++◌, OnOk};
 ghost use Rattle.jm_disassembler.specs.Unsaid.{field_part, header_part, method_part};
@@ -10,7 +10,7 @@ use jm_program::{ClassParts, Field, Method};
 use std::alloc::AllocError;
 use std::fmt::Write;
 
-/// Writes the line that names the first part of the lines before the fields that no text can say, if
+/// Writes the line that names the first part of the lines before the fields that its text cannot say, if
 /// there is one. After an error some of it may stand there.
 pub fn write_class_mark(out: &mut String, class: &ClassParts) -> Result<(), AllocError>
     ensures { OnOk result (out.new.bytes.items ≡ out.old.bytes.items ++ class_mark (header_part class.now)) }
@@ -27,7 +27,7 @@ fn write_class_part(out: &mut String, part: Option<ClassPart>) -> Result<(), All
     }
 }
 
-/// Writes the line that names the first part of a field that no text can say, if there is one. After
+/// Writes the line that names the first part of a field that its text cannot say, if there is one. After
 /// an error some of it may stand there.
 pub fn write_field_mark(out: &mut String, field: &Field) -> Result<(), AllocError>
     ensures { OnOk result (out.new.bytes.items ≡ out.old.bytes.items ++ field_mark (field_part field.now)) }
@@ -38,7 +38,7 @@ pub fn write_field_mark(out: &mut String, field: &Field) -> Result<(), AllocErro
     }
 }
 
-/// Writes the line that names the first part of a method that no text can say, if there is one.
+/// Writes the line that names the first part of a method that its text cannot say, if there is one.
 /// After an error some of it may stand there.
 pub fn write_method_mark(out: &mut String, method: &Method) -> Result<(), AllocError>
     ensures { OnOk result (out.new.bytes.items ≡ out.old.bytes.items ++ method_mark (method_part method.now)) }

@@ -1,4 +1,4 @@
-// The parts of a class that no text can say.
+// The parts of a class that its text cannot say.
 
 ghost use Rattle.std.specs.Prelude.{Some};
 ghost use Rattle.jm_disassembler.specs.PartTexts.{class_part_text, field_part_text, method_part_text, unsaid_text};
@@ -41,7 +41,7 @@ pub enum MethodPart {
     Lines,
 }
 
-/// A part of a class that no text can say. Fields and methods are numbered from 0, in their order.
+/// A part of a class that its text cannot say. Fields and methods are numbered from 0, in their order.
 #[derive(Clone, Copy, PartialEq, Eq)]
 pub enum Unsaid {
     Class(ClassPart),

@@ -8,11 +8,11 @@ statuses =
     record { number = 1; name = codes "BadDescriptor; status 1"; meaning = codes "a text that is to be a type is none, or has too many slots or dimensions; as a status, the command line was refused"; example = codes "`.field x Q` in an assembler text, since no type begins with Q. As a status: `jm rum Main.class`, since there is no such command."; advice = codes "In a text mend the type on that line; a class file compile again by `javac --release 8`. The words of a command are shown by `jm help COMMAND`, which has status 1 too." } ∷
     record { number = 2; name = codes "BadName; status 2"; meaning = codes "a text that is to be a name is none; as a status, a file could not be read, or the output not be written"; example = codes "`.class a//b` in an assembler text, since a part of the name is empty. As a status: `jm: Nowhere.class: not read` for a file that is not there."; advice = codes "In a text mend the name on that line; a class file compile again by `javac --release 8`. For the status look at the names of the files, at the right to read them, and at the room for the output." } ∷
     record { number = 3; name = codes "status"; meaning = codes "a Java thread was ended by an exception that nothing caught"; example = codes "`jm: thread 1 ended by java/lang/ArithmeticException`, for a division by zero."; advice = codes "Catch the exception, or mend what throws it. `jm why` with the same files tells where it was thrown and what was found there; `jm debug` shows the program at any event before it." } ∷
-    record { number = 4; name = codes "status"; meaning = codes "assembling, reading, linking or loading was refused, or `dis` met a part that no text can say"; example = codes "`jm: 51 NoClass(java/lang/StringBuilder)`, for a program that joins strings by `+`."; advice = codes "Take the number of the line on standard error, here 51, and ask `jm explain 51`." } ∷
+    record { number = 4; name = codes "status"; meaning = codes "assembling, reading, linking or loading was refused, or `dis` met a part that its text cannot say"; example = codes "`jm: 51 NoClass(java/lang/StringBuilder)`, for a program that joins strings by `+`."; advice = codes "Take the number of the line on standard error, here 51, and ask `jm explain 51`." } ∷
     record { number = 5; name = codes "status"; meaning = codes "the machine stopped at an instruction that cannot be made: 60 TagFault"; example = codes "`jm: 60 TagFault(Overflow)`, for a text whose `.limit stack` is too small."; advice = codes "Ask `jm explain 60`." } ∷
     record { number = 6; name = codes "status"; meaning = codes "the machine stopped because its heap was full, or because no more objects could be numbered: 62 HeapFull, 64 SerialsEnd"; example = codes "`jm: 62 HeapFull`, for a program that keeps more objects than `--heap` allows."; advice = codes "Ask `jm explain 62`." } ∷
     record { number = 7; name = codes "status"; meaning = codes "the system refused memory: 61 OutOfMemory"; example = codes "`jm: 61 OutOfMemory`, in a process whose memory is limited."; advice = codes "Ask `jm explain 61`." } ∷
-    record { number = 8; name = codes "status"; meaning = codes "a Java thread had not ended when the last event was made"; example = codes "`jm run --steps 8 sum.class` ends with `jm: 1 threads not ended`, since the program takes nine events."; advice = codes "Allow more events by `--steps`, up to 10000000, or lengthen the schedule. Threads that wait for each other never end: `jm why` tells where each stands and who waits for whom, and `jm debug` shows the program at any event." } ∷
+    record { number = 8; name = codes "status"; meaning = codes "a Java thread had not ended when the last event was made"; example = codes "`jm run --steps 8 sum.class` ends with `jm: 1 threads not ended`, since the program takes nine events."; advice = codes "Allow more events by `--steps`, up to 10000000, or lengthen the schedule. Threads that wait for each other never end: `jm why` tells where each stands and, if its last event was blocked, who has what it waits for. A schedule that `explore` found has no blocked event: write `t N` behind it for each such thread N. `jm debug` shows the program at any event." } ∷
     record { number = 9; name = codes "status"; meaning = codes "the schedule or the record was refused: 70 BadSchedule, 71 ReplayDiffers"; example = codes "`jm: 70 BadSchedule(2)`, for a schedule whose second line spells no event."; advice = codes "Ask `jm explain 70`." } ∷
     []
 
@@ -84,7 +84,7 @@ sessions =
     record { number = 71; name = codes "ReplayDiffers(line)"; meaning = codes "a reply is of another kind than the record of the run has"; example = codes "`jm: 71 ReplayDiffers(3)`, where the third line of the record was changed."; advice = codes "Give `jm replay` the record as it was written, with the classes and the `--heap` of that run." } ∷
     record { number = 80; name = codes "BadCommand"; meaning = codes "a line is no command of the debugger, or is not UTF-8"; example = codes "`brake Main.main()V:0`, which is answered by `? 80 BadCommand`."; advice = codes "Write a command as it is: break, clear, step, minor, full, continue, where, locals, stack, statics, object, heap or monitors, with one blank between words." } ∷
     record { number = 81; name = codes "NoSuch"; meaning = codes "a thread, frame, class, method, instruction, object or outcome is named that there is not, or that is not reachable"; example = codes "`where 9` in a program with one thread, which is answered by `? 81 NoSuch`."; advice = codes "Look first what there is: `where 1` has the frames of thread 1, `heap` the objects that are reachable, and `jm explore` without `--outcome` the outcomes." } ∷
-    record { number = 90; name = codes "NoText(part)"; meaning = codes "a class has a part that no assembler text can say; `dis` writes its text all the same"; example = codes "90 NoText(class: flags) for a class without the flag that `.class` always sets."; advice = codes "Read the text as it is: a mark stands before what has that part. It cannot be assembled into the same class again." } ∷
+    record { number = 90; name = codes "NoText(part)"; meaning = codes "a class has a part that a text of `dis` cannot say; the text is written all the same"; example = codes "90 NoText(class: flags) for a class without the flag that `.class` always sets."; advice = codes "Read the text as it is: a mark stands before what has that part. It does not denote the class: most such parts no assembler text can say." } ∷
     []
 
 unfoldable pub items : List Item

@@ -38,9 +38,9 @@ static SESSIONS: [Entry; 5] = [
     Entry {
         number: 90,
         name: "NoText(part)",
-        meaning: "a class has a part that no assembler text can say; `dis` writes its text all the same",
+        meaning: "a class has a part that a text of `dis` cannot say; the text is written all the same",
         example: "90 NoText(class: flags) for a class without the flag that `.class` always sets.",
-        advice: "Read the text as it is: a mark stands before what has that part. It cannot be assembled into the same class again.",
+        advice: "Read the text as it is: a mark stands before what has that part. It does not denote the class: most such parts no assembler text can say.",
     },
 ];
 

@@ -38,7 +38,7 @@ static STATUSES: [Entry; 10] = [
     Entry {
         number: 4,
         name: "status",
-        meaning: "assembling, reading, linking or loading was refused, or `dis` met a part that no text can say",
+        meaning: "assembling, reading, linking or loading was refused, or `dis` met a part that its text cannot say",
         example: "`jm: 51 NoClass(java/lang/StringBuilder)`, for a program that joins strings by `+`.",
         advice: "Take the number of the line on standard error, here 51, and ask `jm explain 51`.",
     },
@@ -68,7 +68,7 @@ static STATUSES: [Entry; 10] = [
         name: "status",
         meaning: "a Java thread had not ended when the last event was made",
         example: "`jm run --steps 8 sum.class` ends with `jm: 1 threads not ended`, since the program takes nine events.",
-        advice: "Allow more events by `--steps`, up to 10000000, or lengthen the schedule. Threads that wait for each other never end: `jm why` tells where each stands and who waits for whom, and `jm debug` shows the program at any event.",
+        advice: "Allow more events by `--steps`, up to 10000000, or lengthen the schedule. Threads that wait for each other never end: `jm why` tells where each stands and, if its last event was blocked, who has what it waits for. A schedule that `explore` found has no blocked event: write `t N` behind it for each such thread N. `jm debug` shows the program at any event.",
     },
     Entry {
         number: 9,
