@@ -65,6 +65,18 @@ fn see_file(alloc: Global, seen: &mut Seen, file: &InputFile) -> Result<(), Allo
     }
 }
 
+// Looks at some more files.
+fn see_more(alloc: Global, seen: &mut Seen, files: &[InputFile]) -> Result<(), AllocError>
+    ensures classes { OnOk result (seen.new.classes.items ≡ seen.old.classes.items ++ classes_held files.now) }
+    ensures refused { OnOk result (string_bytes seen.new.refused ≡ string_bytes seen.old.refused ++ refused_lines files.now) }
+    ensures main { OnOk result (seen.new.main ≡ seen.old.main) }
+{
+    for file in files {
+        see_file(alloc, seen, file)?;
+    }
+    Ok(())
+}
+
 // Looks at all files. The main class is that of the first.
 fn see_files(alloc: Global, files: &[InputFile]) -> Result<Seen, AllocError>
     ensures classes { IfOk result (λ seen. seen.classes.items ≡ classes_held files.now) }
@@ -83,9 +95,7 @@ fn see_files(alloc: Global, files: &[InputFile]) -> Result<Seen, AllocError>
     if seen.classes.is_empty() {
         seen.main = MainClass::Unknown;
     }
-    for file in others {
-        see_file(alloc, &mut seen, file)?;
-    }
+    see_more(alloc, &mut seen, others)?;
     Ok(seen)
 }
 
