@@ -1,6 +1,6 @@
 -- What is told of files that are looked at without a run: each that holds no class, and all that linking refuses of the classes of the others.
-use Rattle.std.specs.Prelude.{◌≡◌, ◌⊎◌, ℕ, List, [], ◌∷◌, ◌++◌, Some, Result, Ok, Err, Bool, true, false, codes}
-use Rattle.std.specs.List.{flat_map}
+use Rattle.std.specs.Prelude.{◌≡◌, ◌⊎◌, ℕ, List, [], ◌∷◌, ◌++◌, Some, Result, Ok, Err, Bool, true, false, not, ◌==◌, codes}
+use Rattle.std.specs.List.{flat_map, list_all}
 use Rattle.jm_program.specs.declared.class.ClassParts.{ClassParts}
 use Rattle.jm_world.specs.Loads.{Loads}
 use Rattle.jm_findings.specs.Lines.{finding_lines}
@@ -50,6 +50,10 @@ main_class_of (file ∷ files) = main_held (class_of file)
 -- the files that hold no class, and behind them what linking refuses of the classes of the others
 abbrev pub all_told : List InputFile → List ℕ
 all_told files = refused_lines files ++ finding_lines (main_class_of files) (classes_held files)
+
+-- no line feed stands in it
+abbrev pub is_one_line : List ℕ → Bool
+is_one_line text = list_all (λ b. not (b == 10)) text
 
 -- each file holds a class, and the program of these loads
 abbrev pub LoadFrom : List InputFile → Type 0

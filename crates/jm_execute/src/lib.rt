@@ -81,7 +81,7 @@ pub use jm_job::{
     so_many_copiers,
 };
 pub use laws::{
-    an_outcome_is_that_of_its_run, class_of_its_text, equal_views,
+    a_fault_of_a_file_is_one_line, an_outcome_is_that_of_its_run, class_of_its_text, equal_views,
     nothing_is_told_where_files_load, text_of_its_class,
 };
 pub use lines::{LineFault, NextLine, Unread};
