@@ -1,5 +1,5 @@
 -- No line exactly where nothing is told.
-use Rattle.std.proofs.Common.{◌≡◌, ℕ, ◌+◌, List, [], ◌∷◌, ◌++◌, false, None, refl, sym, ap, ◌∙◌, append_assoc, codes, map}
+use Rattle.std.proofs.Common.{◌≡◌, ℕ, List, [], ◌∷◌, ◌++◌, false, None, refl, sym, ap, ◌∙◌, append_assoc, codes, map}
 use Rattle.std.specs.Prelude.{if◌then◌else◌}
 use Rattle.jm_program.specs.Names.{same_text}
 use Rattle.jm_program.specs.declared.class.ClassParts.{ClassParts}
