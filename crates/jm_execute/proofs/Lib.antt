@@ -8,6 +8,7 @@ mod Texts
 mod Chains
 mod RunVerdicts
 mod ReplayVerdicts
+mod FaultLines
 mod FileLists
 mod CheckLemmas
 mod Assemblies

@@ -1,7 +1,7 @@
-// What a class file that was written says of its text, and a text of its class, what the status of files says, what a session
-// answers to texts, and what is shown when a journal's events are run again.
+// What a class file that was written says of its text, and a text of its class, what the status of files says, what is told of
+// files that are looked at without a run, what a session answers to texts, and what is shown when a journal's events are run again.
 
-ghost use Rattle.std.specs.Prelude.{◌≡◌, ◌≢◌, ◌+◌, ◌≤◌, ◌⊎◌, ℕ, Bool, List, Err, Ok, None, Option, Result, Some, Vec, false, length, map, true, vec_capacity, vec_len};
+ghost use Rattle.std.specs.Prelude.{◌≡◌, ◌≢◌, ◌+◌, ◌≤◌, ◌⊎◌, ℕ, [], Bool, List, Err, Ok, None, Option, Result, Some, Vec, false, length, map, true, vec_capacity, vec_len};
 ghost use Rattle.std.specs.List.{concat};
 ghost use Rattle.std.specs.declared.alloc.Global.{Global};
 ghost use Rattle.jm_class_format.specs.ClassFile.{Spells, class_file};
@@ -20,12 +20,13 @@ ghost use Rattle.jm_explore.specs.Outcomes.{End, end_of, how_ended};
 ghost use Rattle.jm_explore.specs.declared.outcome.HowEnded.TheVariants as how;
 ghost use Rattle.jm_explore_text.specs.OutcomeLines.{outcome_code, outcome_lines};
 ghost use Rattle.jm_execute.specs.CallEnds.{vec_ends};
+ghost use Rattle.jm_execute.specs.Checks.{LoadFrom, all_told, is_one_line};
 ghost use Rattle.jm_execute.specs.Codes.{code_of};
 ghost use Rattle.jm_execute.specs.Explorations.{outcome_status};
 ghost use Rattle.jm_execute.specs.Reports.{report, status_of};
 ghost use Rattle.jm_execute.specs.Endings.{Allows, Ending, IsDone, Leaves, assembled, disassembled, output_of};
-ghost use Rattle.jm_execute.specs.ProgramFiles.{text_class};
-ghost use Rattle.jm_execute.specs.Reasons.{not_read};
+ghost use Rattle.jm_execute.specs.ProgramFiles.{FileFault, text_class};
+ghost use Rattle.jm_execute.specs.Reasons.{file_fault_text, not_read};
 ghost use Rattle.jm_execute.specs.Talks.{printed_for};
 ghost use Rattle.jm_execute.specs.Verdicts.{because, class_of, verdict};
 ghost use Rattle.jm_execute.specs.ViewsAgain.{told};
@@ -33,6 +34,7 @@ ghost use Rattle.jm_execute.specs.Written.{Watch, reads, words};
 ghost use Rattle.jm_job.specs.declared.job.AssembleJob.{AssembleJob};
 ghost use Rattle.jm_job.specs.declared.job.Contents.TheVariants as contents;
 ghost use Rattle.jm_job.specs.declared.job.DisassembleJob.{DisassembleJob};
+ghost use Rattle.jm_job.specs.declared.job.InputFile.{InputFile};
 ghost use Rattle.jm_job.specs.declared.job.Job.{Job};
 ghost use Rattle.jm_job.specs.declared.job.Job.TheVariants as job;
 ghost use Rattle.jm_execute.specs.declared.status.Status.{Status};
@@ -74,6 +76,18 @@ pub fn status_of_files<R: Readable, O: Watchable, E: Watchable>()
         → IsDone (reads R.remaining R.fails) (words O.contents O.ends) (words E.contents E.ends) (verdict asked)
         status.Files reader new_reader out new_out err new_err
         → ((name : List ℕ) × (verdict asked ≡ Err (because (not_read name)))) ⊎ (new_reader.failed ≡ true) }
+{}
+
+/// The fault of a file that holds no class is one line.
+pub fn a_fault_of_a_file_is_one_line()
+    ensures { (fault : FileFault) → is_one_line (file_fault_text fault) ≡ true }
+{}
+
+/// Nothing is told of files that are looked at without a run exactly where each holds a class and the
+/// program of these loads.
+pub fn nothing_is_told_where_files_load()
+    ensures none { (files : List InputFile) → all_told files ≡ [] → LoadFrom files }
+    ensures loads { (files : List InputFile) → LoadFrom files → all_told files ≡ [] }
 {}
 
 /// An output in memory that has room for what is written to it does not fail.

@@ -35,7 +35,7 @@ use std::thread::Threads;
 // Tells why there is no run.
 fn tell_refusal<E: Watchable>(refusal: Refusal<'_>, err: &mut Watched<E>) -> Status
     requires { err.old.failed ≡ false }
-    ensures { Says (words E.contents E.ends) (reason_status (reason_of refusal.entry)) (reason_line (reason_of refusal.entry)) result err.old err.new }
+    ensures { Says (words E.contents E.ends) (reason_status (reason_of refusal.entry)) (Some (reason_line (reason_of refusal.entry))) result err.old err.new }
 {
     let status = refusal.status();
     let _told = err.write_line(refusal);
