@@ -5,6 +5,7 @@ use Rattle.jm_program.specs.declared.class.ClassParts.{ClassParts}
 use Rattle.jm_world.specs.Loads.{Loads}
 use Rattle.jm_findings.specs.Lines.{finding_lines}
 use Rattle.jm_execute.specs.Endings.{LinesTold}
+use Rattle.jm_execute.specs.FileNames.{file_name_text}
 use Rattle.jm_execute.specs.Reasons.{Reason, not_read, no_class, no_class_file, not_linked, heap_too_small, no_event}
 use Rattle.jm_execute.specs.Reports.{failure_line}
 use Rattle.jm_execute.specs.Shown.{ShowsNone}
@@ -17,7 +18,7 @@ use Rattle.jm_execute.specs.declared.status.Status.TheVariants as ends
 
 -- what is said of a file that holds no class: how the fault of a class file or of a text is printed stands in no definition
 abbrev pub reason_says : Reason → Option (List ℕ)
-reason_says (not_read name) = Some (name ++ codes ": not read")
+reason_says (not_read name) = Some (file_name_text name ++ codes ": not read")
 reason_says (no_class name fault) = None
 reason_says (no_class_file name fault) = None
 reason_says (not_linked fault) = None

@@ -4,6 +4,7 @@ use Rattle.std.specs.Fmt.{decimal, with_newline}
 use Rattle.jm_class_writer.specs.declared.fault.WriteFault.{WriteFault}
 use Rattle.jm_linker.specs.FaultTexts.{fault_text}
 use Rattle.jm_linker.specs.declared.fault.LinkFault.{LinkFault}
+use Rattle.jm_execute.specs.FileNames.{file_name_text}
 use Rattle.jm_execute.specs.ProgramFiles.{FileFault}
 use Rattle.jm_execute.specs.declared.status.Status.{Status}
 use Rattle.jm_execute.specs.declared.status.Status.TheVariants as ends
@@ -32,7 +33,7 @@ reason_status (no_event line) = ends.BadSchedule
 
 -- What is said of it; how the fault of a class file, of a text or of a limit is printed stands in no definition.
 abbrev pub reason_text : Reason → Option (List ℕ)
-reason_text (not_read name) = Some (codes "jm: " ++ name ++ codes ": not read")
+reason_text (not_read name) = Some (codes "jm: " ++ file_name_text name ++ codes ": not read")
 reason_text (no_class name fault) = None
 reason_text (no_class_file name fault) = None
 reason_text (not_linked fault) = Some (codes "jm: " ++ fault_text fault)

@@ -6,9 +6,10 @@ ghost use Rattle.jm_execute.specs.Refusals.{reason_of};
 ghost use Rattle.jm_job.specs.declared.job.InputFile.{InputFile};
 ghost use Rattle.jm_execute.specs.Written.{words};
 
+use crate::file_name::FileName;
 use crate::program_file::class_of;
 use crate::refusal::{Obstacle, Refusal};
-use crate::report::write_out_of_memory;
+use crate::report::{tell_write_failed, write_out_of_memory};
 use crate::status::Status;
 use crate::watchable::Watchable;
 use crate::watched::Watched;
@@ -28,9 +29,10 @@ impl Display for FileRefused<'_> {
 
     fn fmt<W: fmt::Write>(&self, f: &mut fmt::Formatter<W>) -> fmt::Result {
         match &self.0 {
-            Refusal::NotRead(file) => write!(f, "{file}: not read"),
-            Refusal::BadClass(file, fault) => write!(f, "{file}: {fault}"),
-            Refusal::BadText(file, fault) => write!(f, "{file}: {fault}"),
+            Refusal::NotRead(file) => write!(f, "{}: not read", FileName(file)),
+            Refusal::BadClass(file, fault) => write!(f, "{}: {fault}", FileName(file)),
+            Refusal::BadText(file, fault) => write!(f, "{}: {fault}", FileName(file)),
+            Refusal::Unwritten(file, fault) => write!(f, "{}: {fault}", FileName(file)),
             other => write!(f, "{other}"),
         }
     }
@@ -132,7 +134,7 @@ fn tell<O: Watchable, E: Watchable>(
             }
         }
         Err(_) => {
-            let _told = err.write_line("jm: write failed");
+            tell_write_failed(err);
             Status::Files
         }
     }

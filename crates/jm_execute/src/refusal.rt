@@ -4,6 +4,7 @@ ghost use Rattle.std.specs.Prelude.{◌≡◌};
 ghost use Rattle.jm_execute.specs.Reasons.{reason_status, reason_text};
 ghost use Rattle.jm_execute.specs.Refusals.{reason_of};
 
+use crate::file_name::FileName;
 use crate::number::Number;
 use crate::status::Status;
 use jm_class_reader::ReadFault;
@@ -52,10 +53,10 @@ impl Display for Refusal<'_> {
 
     fn fmt<W: fmt::Write>(&self, f: &mut fmt::Formatter<W>) -> fmt::Result {
         match self {
-            Refusal::NotRead(file) => write!(f, "jm: {file}: not read"),
-            Refusal::BadClass(file, fault) => write!(f, "jm: {file}: {fault}"),
-            Refusal::BadText(file, fault) => write!(f, "jm: {file}: {fault}"),
-            Refusal::Unwritten(file, fault) => write!(f, "jm: {file}: {fault}"),
+            Refusal::NotRead(file) => write!(f, "jm: {}: not read", FileName(file)),
+            Refusal::BadClass(file, fault) => write!(f, "jm: {}: {fault}", FileName(file)),
+            Refusal::BadText(file, fault) => write!(f, "jm: {}: {fault}", FileName(file)),
+            Refusal::Unwritten(file, fault) => write!(f, "jm: {}: {fault}", FileName(file)),
             Refusal::Unlinked(fault) => write!(f, "jm: {fault}"),
             Refusal::HeapTooSmall => f.write_str("jm: 63 HeapTooSmall"),
             Refusal::BadSchedule(line) => write!(f, "jm: 70 BadSchedule({})", Number(*line)),
