@@ -41,7 +41,6 @@ mod files;
 mod film_execution;
 mod laws;
 mod lines;
-mod number;
 mod pass;
 mod preparation;
 mod program_file;

@@ -5,7 +5,6 @@ ghost use Rattle.jm_execute.specs.Reasons.{reason_status, reason_text};
 ghost use Rattle.jm_execute.specs.Refusals.{reason_of};
 
 use crate::file_name::FileName;
-use crate::number::Number;
 use crate::status::Status;
 use jm_class_reader::ReadFault;
 use jm_class_writer::WriteFault;
@@ -59,7 +58,7 @@ impl Display for Refusal<'_> {
             Refusal::Unwritten(file, fault) => write!(f, "jm: {}: {fault}", FileName(file)),
             Refusal::Unlinked(fault) => write!(f, "jm: {fault}"),
             Refusal::HeapTooSmall => f.write_str("jm: 63 HeapTooSmall"),
-            Refusal::BadSchedule(line) => write!(f, "jm: 70 BadSchedule({})", Number(*line)),
+            Refusal::BadSchedule(line) => write!(f, "jm: 70 BadSchedule({line})"),
         }
     }
 }

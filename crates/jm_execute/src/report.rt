@@ -82,6 +82,7 @@ fn stop_line(alloc: Global, stop: Stop) -> Result<String, AllocError>
     format!(in alloc; "jm: {stop}\n")
 }
 
+#[tactic(auto, using(crate::proofs::Threads::some_live))]
 fn live_line(alloc: Global, live: u64) -> Result<String, AllocError>
     ensures { IfOk result (λ line. string_bytes line ≡ live_line live) }
 {
