@@ -6,6 +6,7 @@ pub mod Mnemonics
 pub mod Instructions
 pub mod Code
 pub mod FileFaults
+pub mod FaultTexts
 pub mod Symbols
 pub mod NamedCode
 pub mod CodeAttribute

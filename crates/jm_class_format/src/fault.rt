@@ -1,6 +1,7 @@
 // Why bytes are no constant pool.
 
-ghost use Rattle.std.specs.Prelude.{◌≡◌};
+ghost use Rattle.std.specs.Prelude.{◌≡◌, Some};
+ghost use Rattle.jm_class_format.specs.FaultTexts.{code_fault_text, pool_fault_text};
 
 use crate::opcode::LeftOutOp;
 use std::alloc::{AllocError, AllocFailed};
@@ -22,7 +23,10 @@ pub enum PoolFault {
     OutOfMemory,
 }
 
+#[tactic(auto, unfolding(crate::specs::FaultTexts::pool_fault_text))]
 impl fmt::Display for PoolFault {
+    ghost output = { λ fault. Some (pool_fault_text fault) };
+
     fn fmt<W: fmt::Write>(&self, f: &mut fmt::Formatter<W>) -> fmt::Result {
         match self {
             PoolFault::BadTag(tag) => write!(f, "20 BadTag({tag})"),
@@ -89,7 +93,10 @@ pub enum CodeFault {
     OutOfMemory,
 }
 
+#[tactic(auto, unfolding(crate::specs::FaultTexts::code_fault_text))]
 impl fmt::Display for CodeFault {
+    ghost output = { λ fault. Some (code_fault_text fault) };
+
     fn fmt<W: fmt::Write>(&self, f: &mut fmt::Formatter<W>) -> fmt::Result {
         match self {
             CodeFault::BadOpcode(at) => write!(f, "10 BadOpcode({at})"),

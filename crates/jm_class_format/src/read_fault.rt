@@ -1,6 +1,7 @@
 // Why bytes are no class file, and how the faults of the layers below are seen there.
 
-ghost use Rattle.std.specs.Prelude.{◌≡◌};
+ghost use Rattle.std.specs.Prelude.{◌≡◌, Some};
+ghost use Rattle.jm_class_format.specs.FaultTexts.{fault_text, left_out_part_text};
 ghost use Rattle.jm_class_format.specs.FileFaults.{left_out_tag};
 
 use crate::fault::{CodeFault, PoolFault};
@@ -39,7 +40,10 @@ pub enum LeftOutPart {
     LdcClass,
 }
 
+#[tactic(auto, unfolding(crate::specs::FaultTexts::left_out_part_text))]
 impl fmt::Display for LeftOutPart {
+    ghost output = { λ part. Some (left_out_part_text part) };
+
     fn fmt<W: fmt::Write>(&self, f: &mut fmt::Formatter<W>) -> fmt::Result {
         f.write_str(match self {
             LeftOutPart::Float => "Float",
@@ -86,7 +90,10 @@ pub enum ReadFault {
     OutOfMemory,
 }
 
+#[tactic(auto, unfolding(crate::specs::FaultTexts::fault_text))]
 impl fmt::Display for ReadFault {
+    ghost output = { λ fault. Some (fault_text fault) };
+
     fn fmt<W: fmt::Write>(&self, f: &mut fmt::Formatter<W>) -> fmt::Result {
         match self {
             ReadFault::BadDescriptor => f.write_str("1 BadDescriptor"),

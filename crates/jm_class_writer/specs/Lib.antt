@@ -1,5 +1,6 @@
 pub mod Drafts
 pub mod Faults
+pub mod FaultTexts
 pub mod PoolUse
 pub mod CodeParts
 pub mod ClassParts

@@ -1,6 +1,5 @@
 -- What is told of an ending.
 use Rattle.std.proofs.Common.{◌≡◌, ℕ, List, [], inl, inr, refl, sym, subst, ◌∙◌, true, Bool, Option, Some, None, Result, Ok, Err, false}
-use Rattle.std.specs.Prelude.{IfSome}
 use Rattle.jm_execute.specs.Written.{Watch, Words, AllWritten, Broken, Reads, Writes}
 use Rattle.jm_world.specs.World.{World}
 use Rattle.jm_choice.specs.Choices.{Choice, RunEnds, all_made}
@@ -13,11 +12,9 @@ use Rattle.jm_execute.specs.declared.status.Status.TheVariants as ends
 use Rattle.jm_execute.proofs.Writing.{nothing_written}
 
 module _ {W : Type 0} (says : Words W) where
-  -- lines of which definitions may say nothing
-  pub lines_said : (line : Option (List ℕ)) (text : List ℕ) (failed : Bool) (old new : Watch W) → IfSome line (λ said. text ≡ said) → LinesTold says (Some text) failed old new
-      → LinesTold says line failed old new
-  lines_said None text failed old new is told = (text, told)
-  lines_said (Some said) text failed old new is told = subst (λ (t : List ℕ). LinesTold says (Some t) failed old new) is told
+  -- the same lines
+  pub lines_said : (text said : List ℕ) (failed : Bool) (old new : Watch W) → text ≡ said → LinesTold says (Some text) failed old new → LinesTold says (Some said) failed old new
+  lines_said text said failed old new is told = subst (λ (t : List ℕ). LinesTold says (Some t) failed old new) is told
 
   pub lines_told : {A E : Type 0} (r : Result A E) (old new : Watch W) (text : List ℕ) → old.failed ≡ false → Writes says r old new text → LinesTold says (Some text) new.failed old new
   lines_told (Ok x) old new text fresh h = subst (λ b. LinesTold says (Some text) b old new) (sym (h.same ∙ fresh)) h

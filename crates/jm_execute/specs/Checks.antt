@@ -1,74 +1,55 @@
 -- What is told of files that are looked at without a run: each that holds no class, and all that linking refuses of the classes of the others.
-use Rattle.std.specs.Prelude.{◌≡◌, ◌⊎◌, ℕ, List, [], ◌∷◌, ◌++◌, Option, Some, None, Result, Ok, Err, Bool, true, false, IfSome, codes}
-use Rattle.std.specs.String.{string_bytes}
+use Rattle.std.specs.Prelude.{◌≡◌, ◌⊎◌, ℕ, List, [], ◌∷◌, ◌++◌, Some, Result, Ok, Err, Bool, true, false, codes}
+use Rattle.std.specs.List.{flat_map}
 use Rattle.jm_program.specs.declared.class.ClassParts.{ClassParts}
 use Rattle.jm_world.specs.Loads.{Loads}
 use Rattle.jm_findings.specs.Lines.{finding_lines}
+use Rattle.jm_findings.specs.declared.main_class.MainClass.{MainClass}
+use Rattle.jm_findings.specs.declared.main_class.MainClass.TheVariants.{First, Unknown}
 use Rattle.jm_execute.specs.Endings.{LinesTold}
-use Rattle.jm_execute.specs.FileNames.{file_name_text}
-use Rattle.jm_execute.specs.Reasons.{Reason, not_read, no_class, no_class_file, not_linked, heap_too_small, no_event}
+use Rattle.jm_execute.specs.Reasons.{reason_says}
 use Rattle.jm_execute.specs.Reports.{failure_line}
 use Rattle.jm_execute.specs.Shown.{ShowsNone}
 use Rattle.jm_execute.specs.Verdicts.{Cause, because, unknown, class_of, classes_of}
 use Rattle.jm_execute.specs.Written.{Watch, Words, AllWritten, Broken}
-use Rattle.jm_execute.specs.declared.checking.Seen.{Seen}
 use Rattle.jm_job.specs.declared.job.InputFile.{InputFile}
 use Rattle.jm_execute.specs.declared.status.Status.{Status}
 use Rattle.jm_execute.specs.declared.status.Status.TheVariants as ends
 
--- what is said of a file that holds no class: how the fault of a class file or of a text is printed stands in no definition
-abbrev pub reason_says : Reason → Option (List ℕ)
-reason_says (not_read name) = Some (file_name_text name ++ codes ": not read")
-reason_says (no_class name fault) = None
-reason_says (no_class_file name fault) = None
-reason_says (not_linked fault) = None
-reason_says heap_too_small = None
-reason_says (no_event line) = None
-
-abbrev pub cause_says : Cause → Option (List ℕ)
+-- Of a file that holds no class. Where memory was refused before it was known nothing is told at all.
+abbrev pub cause_says : Cause → List ℕ
 cause_says (because reason) = reason_says reason
-cause_says unknown = None
+cause_says unknown = codes "61 OutOfMemory"
 
--- of one file: none where it holds a class
-abbrev pub refused_of : Result ClassParts Cause → List (Option (List ℕ))
-refused_of (Ok class) = []
-refused_of (Err cause) = cause_says cause ∷ []
+-- of one file: nothing where it holds a class
+abbrev pub refused_line : Result ClassParts Cause → List ℕ
+refused_line (Ok class) = []
+refused_line (Err cause) = cause_says cause ++ codes "\n"
 
 abbrev pub class_held : Result ClassParts Cause → List ClassParts
 class_held (Ok class) = class ∷ []
 class_held (Err cause) = []
 
--- what is said of each file that holds no class, in their order
-abbrev pub refused_of_all : List InputFile → List (Option (List ℕ))
-refused_of_all [] = []
-refused_of_all (file ∷ files) = refused_of (class_of file) ++ refused_of_all files
+-- a line for each file that holds no class, in their order
+abbrev pub refused_lines : List InputFile → List ℕ
+refused_lines files = flat_map (λ file. refused_line (class_of file)) files
 
 -- the classes of the others
 abbrev pub classes_held : List InputFile → List ClassParts
-classes_held [] = []
-classes_held (file ∷ files) = class_held (class_of file) ++ classes_held files
+classes_held files = flat_map (λ file. class_held (class_of file)) files
 
--- a text has a line for each, which is the one that is said
-abbrev pub HasLines : List (Option (List ℕ)) → List ℕ → Type 0
-HasLines [] text = text ≡ []
-HasLines (said ∷ more) text = (line : List ℕ) × (rest : List ℕ) × IfSome said (λ says. line ≡ says) × (text ≡ line ++ codes "\n" ++ rest) × HasLines more rest
+abbrev pub main_held : Result ClassParts Cause → MainClass
+main_held (Ok class) = First
+main_held (Err cause) = Unknown
 
--- what was seen of files: their classes, and a line for each that holds none
-pub record Sees (files : List InputFile) (seen : Seen) : Type 0 where
-  pub classes : seen.classes.items ≡ classes_held files
-  pub lines : HasLines (refused_of_all files) (string_bytes seen.refused)
-
--- what linking refuses of the classes; nothing is said of no class at all where that is said already
-abbrev pub linked_lines : List ClassParts → List ℕ → List ℕ
-linked_lines [] (c ∷ cs) = []
-linked_lines [] [] = finding_lines []
-linked_lines (class ∷ classes) refused = finding_lines (class ∷ classes)
+-- the main class is that of the first file
+abbrev pub main_class_of : List InputFile → MainClass
+main_class_of [] = First
+main_class_of (file ∷ files) = main_held (class_of file)
 
 -- the files that hold no class, and behind them what linking refuses of the classes of the others
-pub record TellsOf (files : List InputFile) (text : List ℕ) : Type 0 where
-  pub refused : List ℕ
-  pub lines : HasLines (refused_of_all files) refused
-  pub whole : text ≡ refused ++ linked_lines (classes_held files) refused
+abbrev pub all_told : List InputFile → List ℕ
+all_told files = refused_lines files ++ finding_lines (main_class_of files) (classes_held files)
 
 -- each file holds a class, and the program of these loads
 abbrev pub LoadFrom : List InputFile → Type 0
@@ -87,14 +68,7 @@ ChecksIf true o w text status out new_out err new_err =
 abbrev pub Checks : {O E : Type 0} → Words O → Words E → List ℕ → Status → Watch O → Watch O → Watch E → Watch E → Type 0
 Checks o w text status out new_out err new_err = ChecksIf new_out.failed o w text status out new_out err new_err
 
--- What is told of the files is written; it is nothing exactly where they load. Memory may be refused at any time.
-pub record ChecksFiles {O E : Type 0} (o : Words O) (w : Words E) (files : List InputFile) (status : Status) (out new_out : Watch O) (err new_err : Watch E) : Type 0 where
-  pub text : List ℕ
-  pub tells : TellsOf files text
-  pub none : text ≡ [] → LoadFrom files
-  pub loads : LoadFrom files → text ≡ []
-  pub written : Checks o w text status out new_out err new_err
-
+-- What is told of the files is written. Memory may be refused at any time.
 abbrev pub ChecksIfThereIsMemory : {O E : Type 0} → Words O → Words E → List InputFile → Status → Watch O → Watch O → Watch E → Watch E → Type 0
 ChecksIfThereIsMemory o w files status out new_out err new_err =
-    ChecksFiles o w files status out new_out err new_err ⊎ ShowsNone w status out new_out err new_err
+    Checks o w (all_told files) status out new_out err new_err ⊎ ShowsNone w status out new_out err new_err

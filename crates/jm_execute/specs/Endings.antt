@@ -141,7 +141,7 @@ lines_after (assembled bytes) = Some []
 lines_after (disassembled name commented class) = Some (unsaid_line name (first_unsaid class))
 lines_after (answered t) = Some []
 lines_after exhausted = Some memory_line
-lines_after (turned_away reason) = reason_line reason
+lines_after (turned_away reason) = Some (reason_line reason)
 
 -- the lines where the output could not be written whole; the name of a class file's output stands in no ending
 abbrev pub lines_at_failure : Ending → Option (List ℕ)

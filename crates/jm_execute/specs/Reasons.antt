@@ -1,11 +1,14 @@
 -- Why a job is not done, with which status the program then ends, and what standard error says.
-use Rattle.std.specs.Prelude.{ℕ, List, ◌++◌, Option, Some, None, codes}
-use Rattle.std.specs.Fmt.{decimal, with_newline}
+use Rattle.std.specs.Prelude.{ℕ, List, ◌++◌, codes}
+use Rattle.std.specs.Fmt.{decimal}
+use Rattle.jm_class_format.specs.FaultTexts as class_file
+use Rattle.jm_class_writer.specs.FaultTexts as written
 use Rattle.jm_class_writer.specs.declared.fault.WriteFault.{WriteFault}
-use Rattle.jm_linker.specs.FaultTexts.{fault_text}
+use Rattle.jm_jasmin_ops.specs.FaultTexts as text
+use Rattle.jm_linker.specs.FaultTexts as link
 use Rattle.jm_linker.specs.declared.fault.LinkFault.{LinkFault}
 use Rattle.jm_execute.specs.FileNames.{file_name_text}
-use Rattle.jm_execute.specs.ProgramFiles.{FileFault}
+use Rattle.jm_execute.specs.ProgramFiles.{FileFault, in_text, in_class_file}
 use Rattle.jm_execute.specs.declared.status.Status.{Status}
 use Rattle.jm_execute.specs.declared.status.Status.TheVariants as ends
 
@@ -31,14 +34,23 @@ reason_status (not_linked fault) = ends.Refused
 reason_status heap_too_small = ends.Refused
 reason_status (no_event line) = ends.BadSchedule
 
--- What is said of it; how the fault of a class file, of a text or of a limit is printed stands in no definition.
-abbrev pub reason_text : Reason → Option (List ℕ)
-reason_text (not_read name) = Some (codes "jm: " ++ file_name_text name ++ codes ": not read")
-reason_text (no_class name fault) = None
-reason_text (no_class_file name fault) = None
-reason_text (not_linked fault) = Some (codes "jm: " ++ fault_text fault)
-reason_text heap_too_small = Some (codes "jm: 63 HeapTooSmall")
-reason_text (no_event line) = Some (codes "jm: 70 BadSchedule(" ++ decimal line ++ codes ")")
+-- the fault of a file that holds no class: its number, its name, and in round brackets what it carries
+abbrev pub file_fault_text : FileFault → List ℕ
+file_fault_text (in_text fault) = text.fault_text fault
+file_fault_text (in_class_file fault) = class_file.fault_text fault
 
-abbrev pub reason_line : Reason → Option (List ℕ)
-reason_line r = with_newline (reason_text r)
+-- what is said of it
+abbrev pub reason_says : Reason → List ℕ
+reason_says (not_read name) = file_name_text name ++ codes ": not read"
+reason_says (no_class name fault) = file_name_text name ++ codes ": " ++ file_fault_text fault
+reason_says (no_class_file name fault) = file_name_text name ++ codes ": " ++ written.fault_text fault
+reason_says (not_linked fault) = link.fault_text fault
+reason_says heap_too_small = codes "63 HeapTooSmall"
+reason_says (no_event line) = codes "70 BadSchedule(" ++ decimal line ++ codes ")"
+
+-- and on standard error
+abbrev pub reason_text : Reason → List ℕ
+reason_text r = codes "jm: " ++ reason_says r
+
+abbrev pub reason_line : Reason → List ℕ
+reason_line r = reason_text r ++ codes "\n"

@@ -128,7 +128,7 @@ telling_status tells (turned_away reason) = reason_status reason
 abbrev pub telling_lines : Telling → TellingEnding → Option (List ℕ)
 telling_lines tells (told r) = Some (report (last_world tells r))
 telling_lines tells (cut_short front) = Some memory_line
-telling_lines tells (turned_away reason) = reason_line reason
+telling_lines tells (turned_away reason) = Some (reason_line reason)
 
 -- ---- what is left behind
 

@@ -1,19 +1,19 @@
 // What `jm check` does.
 
-ghost use Rattle.std.specs.Prelude.{◌≡◌, ◌++◌, ◌∷◌, [], List, ℕ, false, IfOk, IfSome, OnOk, codes, string_bytes};
-ghost use Rattle.jm_execute.specs.Checks.{Checks, ChecksIfThereIsMemory, LoadFrom, Sees, TellsOf, linked_lines, reason_says};
+ghost use Rattle.std.specs.Prelude.{◌≡◌, ◌++◌, Some, false, IfOk, OnOk, codes, string_bytes};
+ghost use Rattle.jm_execute.specs.Checks.{Checks, ChecksIfThereIsMemory, all_told, class_held, classes_held, main_class_of, refused_line, refused_lines};
+ghost use Rattle.jm_execute.specs.Reasons.{reason_says};
 ghost use Rattle.jm_execute.specs.Refusals.{reason_of};
-ghost use Rattle.jm_job.specs.declared.job.InputFile.{InputFile};
+ghost use Rattle.jm_execute.specs.Verdicts.{class_of};
 ghost use Rattle.jm_execute.specs.Written.{words};
 
-use crate::file_name::FileName;
 use crate::program_file::class_of;
 use crate::refusal::{Obstacle, Refusal};
 use crate::report::{tell_write_failed, write_out_of_memory};
 use crate::status::Status;
 use crate::watchable::Watchable;
 use crate::watched::Watched;
-use jm_findings::finding_lines;
+use jm_findings::{MainClass, finding_lines};
 use jm_job::InputFile;
 use jm_program::Class;
 use std::alloc::{AllocError, Global};
@@ -25,94 +25,82 @@ use std::fmt::{Display, Write};
 struct FileRefused<'a>(Refusal<'a>);
 
 impl Display for FileRefused<'_> {
-    ghost output = { λ told. reason_says (reason_of told.0) };
+    ghost output = { λ told. Some (reason_says (reason_of told.0)) };
 
     fn fmt<W: fmt::Write>(&self, f: &mut fmt::Formatter<W>) -> fmt::Result {
-        match &self.0 {
-            Refusal::NotRead(file) => write!(f, "{}: not read", FileName(file)),
-            Refusal::BadClass(file, fault) => write!(f, "{}: {fault}", FileName(file)),
-            Refusal::BadText(file, fault) => write!(f, "{}: {fault}", FileName(file)),
-            Refusal::Unwritten(file, fault) => write!(f, "{}: {fault}", FileName(file)),
-            other => write!(f, "{other}"),
-        }
+        self.0.write_said(f)
     }
 }
 
-// What was seen of files: the classes that they hold, and a line for each that holds none.
+// What was seen of files: the classes that they hold, a line for each that holds none, and whether the
+// main class is among the classes.
 #[derive(Drop)]
 struct Seen {
     classes: Vec<Class>,
     refused: String,
+    main: MainClass,
 }
 
 // Writes the line of a file that holds no class.
-fn note_refused(alloc: Global, refused: &mut String, refusal: Refusal<'_>) -> Result<(), AllocError>
-    ensures { OnOk result ((line : List ℕ) × IfSome (reason_says (reason_of refusal.entry)) (λ says. line ≡ says)
-        × (string_bytes refused.new ≡ string_bytes refused.old ++ (line ++ codes "\n"))) }
+fn note_refused(refused: &mut String, refusal: Refusal<'_>) -> Result<(), AllocError>
+    ensures { OnOk result (string_bytes refused.new ≡ string_bytes refused.old ++ (reason_says (reason_of refusal.entry) ++ codes "\n")) }
 {
     let file = FileRefused(refusal);
-    let line = format!(in alloc; "{file}")?;
-    write!(refused, "{line}\n")
+    write!(refused, "{file}\n")
 }
 
 // Looks at one more file.
 fn see_file(alloc: Global, seen: &mut Seen, file: &InputFile) -> Result<(), AllocError>
-    ensures { (files : List InputFile) → Sees files seen.old → OnOk result (Sees (files ++ file.now ∷ []) seen.new) }
+    ensures classes { OnOk result (seen.new.classes.items ≡ seen.old.classes.items ++ class_held (class_of file.now)) }
+    ensures refused { OnOk result (string_bytes seen.new.refused ≡ string_bytes seen.old.refused ++ refused_line (class_of file.now)) }
+    ensures main { OnOk result (seen.new.main ≡ seen.old.main) }
 {
     match class_of(alloc, file) {
         Ok(class) => {
             seen.classes.push(class)?;
             Ok(())
         }
-        Err(Obstacle::Refused(refusal)) => note_refused(alloc, &mut seen.refused, refusal),
+        Err(Obstacle::Refused(refusal)) => note_refused(&mut seen.refused, refusal),
         Err(Obstacle::OutOfMemory) => Err(AllocError),
     }
 }
 
-// Looks at all files.
+// Looks at all files. The main class is that of the first.
 fn see_files(alloc: Global, files: &[InputFile]) -> Result<Seen, AllocError>
-    ensures { IfOk result (Sees files.now) }
+    ensures classes { IfOk result (λ seen. seen.classes.items ≡ classes_held files.now) }
+    ensures refused { IfOk result (λ seen. string_bytes seen.refused ≡ refused_lines files.now) }
+    ensures main { IfOk result (λ seen. seen.main ≡ main_class_of files.now) }
 {
     let mut seen = Seen {
         classes: Vec::new(alloc),
         refused: String::new(alloc),
+        main: MainClass::First,
     };
-    for file in files {
+    let Some((first, others)) = files.split_first() else {
+        return Ok(seen);
+    };
+    see_file(alloc, &mut seen, first)?;
+    if seen.classes.is_empty() {
+        seen.main = MainClass::Unknown;
+    }
+    for file in others {
         see_file(alloc, &mut seen, file)?;
     }
     Ok(seen)
 }
 
-// What linking refuses of the classes of files, of which some lines were told already.
-fn linked_lines(alloc: Global, classes: &[Class], refused: &str) -> Result<String, AllocError>
-    ensures { IfOk result (λ lines. string_bytes lines ≡ linked_lines classes.now refused.now) }
-{
-    if classes.is_empty() && !refused.is_empty() {
-        return Ok(String::new(alloc));
-    }
-    finding_lines(alloc, classes)
-}
-
 // All that is told of files.
-fn lines_of(alloc: Global, files: &[InputFile]) -> Result<String, AllocError>
-    ensures { IfOk result (λ text. TellsOf files.now (string_bytes text)) }
+fn findings_of(alloc: Global, files: &[InputFile]) -> Result<String, AllocError>
+    ensures { IfOk result (λ text. string_bytes text ≡ all_told files.now) }
 {
     let Seen {
         classes,
         refused: mut text,
+        main,
     } = see_files(alloc, files)?;
-    let lines = linked_lines(alloc, &classes, &text)?;
+    let lines = finding_lines(alloc, &classes, main)?;
     write!(text, "{lines}")?;
     Ok(text)
-}
-
-// The same, which is nothing exactly where the files load.
-fn findings_of(alloc: Global, files: &[InputFile]) -> Result<String, AllocError>
-    ensures tells { IfOk result (λ text. TellsOf files.now (string_bytes text)) }
-    ensures none { IfOk result (λ text. string_bytes text ≡ [] → LoadFrom files.now) }
-    ensures loads { IfOk result (λ text. LoadFrom files.now → string_bytes text ≡ []) }
-{
-    lines_of(alloc, files)
 }
 
 // Writes what is told of files.
@@ -142,8 +130,9 @@ fn tell<O: Watchable, E: Watchable>(
 
 /// Reads, assembles and links the classes of files without running them, and writes to `out` all that
 /// is refused: a line for each file that could not be read or holds no class, in their order, and then
-/// a line for each finding of linking among the classes of the others (`jm_findings`). The status is
-/// `Done` where there is nothing to tell, which is exactly where the program loads, and else `Refused`.
+/// a line for each finding of linking among the classes of the others (`jm_findings`). Where the first
+/// file holds no class nothing is told of a main class. The status is `Done` where there is nothing to
+/// tell, which is exactly where the program loads, and else `Refused`.
 ///
 /// Where a growth was refused nothing is written to `out`, `err` gets the line that says so, and the
 /// status is `OutOfMemory`. Where a write to `out` fails, a beginning of the lines stands in it, `err`

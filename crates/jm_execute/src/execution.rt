@@ -1,6 +1,6 @@
 // What `jm run`, `jm replay`, `jm explore`, `jm asm`, `jm dis` and `jm debug` do.
 
-ghost use Rattle.std.specs.Prelude.{◌≡◌, ◌++◌, ◌⊎◌, [], ℕ, List, Bool, Some, false, true, IfOk, IfSome, MatchResult, OnOk, string_bytes};
+ghost use Rattle.std.specs.Prelude.{◌≡◌, ◌++◌, ◌⊎◌, [], ℕ, List, Bool, Some, false, true, IfOk, MatchResult, OnOk, string_bytes};
 ghost use Rattle.jm_machine.specs.View.{MatchesWorld};
 ghost use Rattle.jm_shared.specs.Legal.{events_of, world_after};
 ghost use Rattle.jm_world.specs.World.{World};
@@ -367,7 +367,7 @@ pub(crate) fn tell_exhausted<E: Watchable>(err: &mut Watched<E>) -> Status
 
 // The line of a refusal.
 fn refusal_line(alloc: Global, refusal: Refusal<'_>) -> Result<String, AllocError>
-    ensures { IfOk result (λ line. IfSome (reason_line (reason_of refusal.entry)) (λ says. string_bytes line ≡ says)) }
+    ensures { IfOk result (λ line. string_bytes line ≡ reason_line (reason_of refusal.entry)) }
 {
     format!(in alloc; "{refusal}\n")
 }

@@ -1,7 +1,7 @@
-// What a class file that was written says of its text, and a text of its class, what the status of files says, what a session
-// answers to texts, and what is shown when a journal's events are run again.
+// What a class file that was written says of its text, and a text of its class, what the status of files says, of which files
+// nothing is told, what a session answers to texts, and what is shown when a journal's events are run again.
 
-ghost use Rattle.std.specs.Prelude.{◌≡◌, ◌≢◌, ◌+◌, ◌≤◌, ◌⊎◌, ℕ, Bool, List, Err, Ok, None, Option, Result, Some, Vec, false, length, map, true, vec_capacity, vec_len};
+ghost use Rattle.std.specs.Prelude.{◌≡◌, ◌≢◌, ◌+◌, ◌≤◌, ◌⊎◌, ℕ, [], Bool, List, Err, Ok, None, Option, Result, Some, Vec, false, length, map, true, vec_capacity, vec_len};
 ghost use Rattle.std.specs.List.{concat};
 ghost use Rattle.std.specs.declared.alloc.Global.{Global};
 ghost use Rattle.jm_class_format.specs.ClassFile.{Spells, class_file};
@@ -20,6 +20,7 @@ ghost use Rattle.jm_explore.specs.Outcomes.{End, end_of, how_ended};
 ghost use Rattle.jm_explore.specs.declared.outcome.HowEnded.TheVariants as how;
 ghost use Rattle.jm_explore_text.specs.OutcomeLines.{outcome_code, outcome_lines};
 ghost use Rattle.jm_execute.specs.CallEnds.{vec_ends};
+ghost use Rattle.jm_execute.specs.Checks.{LoadFrom, all_told};
 ghost use Rattle.jm_execute.specs.Codes.{code_of};
 ghost use Rattle.jm_execute.specs.Explorations.{outcome_status};
 ghost use Rattle.jm_execute.specs.Reports.{report, status_of};
@@ -33,6 +34,7 @@ ghost use Rattle.jm_execute.specs.Written.{Watch, reads, words};
 ghost use Rattle.jm_job.specs.declared.job.AssembleJob.{AssembleJob};
 ghost use Rattle.jm_job.specs.declared.job.Contents.TheVariants as contents;
 ghost use Rattle.jm_job.specs.declared.job.DisassembleJob.{DisassembleJob};
+ghost use Rattle.jm_job.specs.declared.job.InputFile.{InputFile};
 ghost use Rattle.jm_job.specs.declared.job.Job.{Job};
 ghost use Rattle.jm_job.specs.declared.job.Job.TheVariants as job;
 ghost use Rattle.jm_execute.specs.declared.status.Status.{Status};
@@ -74,6 +76,13 @@ pub fn status_of_files<R: Readable, O: Watchable, E: Watchable>()
         → IsDone (reads R.remaining R.fails) (words O.contents O.ends) (words E.contents E.ends) (verdict asked)
         status.Files reader new_reader out new_out err new_err
         → ((name : List ℕ) × (verdict asked ≡ Err (because (not_read name)))) ⊎ (new_reader.failed ≡ true) }
+{}
+
+/// Nothing is told of files that are looked at without a run exactly where each holds a class and the
+/// program of these loads.
+pub fn nothing_is_told_where_files_load()
+    ensures none { (files : List InputFile) → all_told files ≡ [] → LoadFrom files }
+    ensures loads { (files : List InputFile) → LoadFrom files → all_told files ≡ [] }
 {}
 
 /// An output in memory that has room for what is written to it does not fail.

@@ -81,7 +81,10 @@ pub use jm_job::{
     ReplayJob, RunEvents, RunJob, ToldEvents, ToldJob, TraceJob, Workers, several_workers,
     so_many_copiers,
 };
-pub use laws::{an_outcome_is_that_of_its_run, class_of_its_text, equal_views, text_of_its_class};
+pub use laws::{
+    an_outcome_is_that_of_its_run, class_of_its_text, equal_views,
+    nothing_is_told_where_files_load, text_of_its_class,
+};
 pub use lines::{LineFault, NextLine, Unread};
 pub use preparation::{
     Ready, ReadyToReplay, RunHeap, machine_of, prepare, prepare_exploration, prepare_replay,

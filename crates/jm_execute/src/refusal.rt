@@ -1,7 +1,8 @@
 // Why a job is not done.
 
-ghost use Rattle.std.specs.Prelude.{◌≡◌};
-ghost use Rattle.jm_execute.specs.Reasons.{reason_status, reason_text};
+ghost use Rattle.std.specs.Prelude.{◌≡◌, Some};
+ghost use Rattle.std.specs.Fmt.{WritesOnOk};
+ghost use Rattle.jm_execute.specs.Reasons.{reason_says, reason_status, reason_text};
 ghost use Rattle.jm_execute.specs.Refusals.{reason_of};
 
 use crate::file_name::FileName;
@@ -45,21 +46,29 @@ impl Refusal<'_> {
             Refusal::BadSchedule(_) => Status::BadSchedule,
         }
     }
+
+    /// Writes what is said of it.
+    pub fn write_said<W: fmt::Write>(&self, f: &mut fmt::Formatter<W>) -> fmt::Result
+        ensures { WritesOnOk W.write_str_gives f.old result (reason_says (reason_of self.now)) f.new }
+    {
+        match self {
+            Refusal::NotRead(file) => write!(f, "{}: not read", FileName(file)),
+            Refusal::BadClass(file, fault) => write!(f, "{}: {fault}", FileName(file)),
+            Refusal::BadText(file, fault) => write!(f, "{}: {fault}", FileName(file)),
+            Refusal::Unwritten(file, fault) => write!(f, "{}: {fault}", FileName(file)),
+            Refusal::Unlinked(fault) => write!(f, "{fault}"),
+            Refusal::HeapTooSmall => f.write_str("63 HeapTooSmall"),
+            Refusal::BadSchedule(line) => write!(f, "70 BadSchedule({line})"),
+        }
+    }
 }
 
 impl Display for Refusal<'_> {
-    ghost output = { λ refusal. reason_text (reason_of refusal) };
+    ghost output = { λ refusal. Some (reason_text (reason_of refusal)) };
 
     fn fmt<W: fmt::Write>(&self, f: &mut fmt::Formatter<W>) -> fmt::Result {
-        match self {
-            Refusal::NotRead(file) => write!(f, "jm: {}: not read", FileName(file)),
-            Refusal::BadClass(file, fault) => write!(f, "jm: {}: {fault}", FileName(file)),
-            Refusal::BadText(file, fault) => write!(f, "jm: {}: {fault}", FileName(file)),
-            Refusal::Unwritten(file, fault) => write!(f, "jm: {}: {fault}", FileName(file)),
-            Refusal::Unlinked(fault) => write!(f, "jm: {fault}"),
-            Refusal::HeapTooSmall => f.write_str("jm: 63 HeapTooSmall"),
-            Refusal::BadSchedule(line) => write!(f, "jm: 70 BadSchedule({line})"),
-        }
+        f.write_str("jm: ")?;
+        self.write_said(f)
     }
 }
 

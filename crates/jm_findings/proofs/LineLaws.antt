@@ -11,6 +11,8 @@ use Rattle.jm_linker.specs.declared.finding.Finding.{Finding}
 use Rattle.jm_linker.specs.Findings.{findings}
 use Rattle.jm_linker.proofs.FindingLaws.{loads_unless_told, nothing_is_told}
 use Rattle.jm_findings.specs.Lines.{finding_line, finding_lines, lines_after, site_text}
+use Rattle.jm_findings.specs.Told.{told, told_of}
+use Rattle.jm_findings.specs.declared.main_class.MainClass.TheVariants.{First}
 
 -- a line begins with a number
 fault_written : (f : LinkFault) (rest : List ℕ) → fault_text f ++ rest ≡ [] → ⊥
@@ -46,10 +48,15 @@ none_of_lines program (f ∷ fs) e =
     absurd (some_written line (lines_after line rest) (line_written program f)
     (sym (ap (λ b. if b then lines_after [] rest else (line ++ codes "\n" ++ lines_after line rest)) (is_other line (line_written program f))) ∙ e))
 
-pub loads_unless_lines : (program : List ClassParts) → finding_lines program ≡ [] → refusal program ≡ None
-unfolding finding_lines
-loads_unless_lines program e = loads_unless_told program (none_of_lines program (findings program) e)
+-- of a program whose first class is the main class all is told
+all_told : (fs : List Finding) → told_of First fs ≡ fs
+all_told [] = refl
+all_told (f ∷ fs) = ap (λ rest. f ∷ rest) (all_told fs)
 
-pub no_lines : (program : List ClassParts) → refusal program ≡ None → finding_lines program ≡ []
+pub loads_unless_lines : (program : List ClassParts) → finding_lines First program ≡ [] → refusal program ≡ None
 unfolding finding_lines
-no_lines program loads = ap (λ fs. lines_after [] (map (finding_line program) fs)) (nothing_is_told program loads)
+loads_unless_lines program e = loads_unless_told program (sym (all_told (findings program)) ∙ none_of_lines program (told First program) e)
+
+pub no_lines : (program : List ClassParts) → refusal program ≡ None → finding_lines First program ≡ []
+unfolding finding_lines
+no_lines program loads = ap (λ fs. lines_after [] (map (finding_line program) (told_of First fs))) (nothing_is_told program loads)

@@ -6,13 +6,14 @@ use Rattle.jm_program.specs.declared.class.Method.{Method}
 use Rattle.jm_program.specs.declared.code.Handler.{Handler}
 use Rattle.jm_program.specs.declared.instruction.symbolic.Instr.{Instr}
 use Rattle.jm_linker.specs.FaultTexts.{fault_text}
-use Rattle.jm_linker.specs.Findings.{findings}
 use Rattle.jm_linker.specs.declared.fault.LinkFault.{LinkFault}
 use Rattle.jm_linker.specs.declared.finding.Finding.{Finding}
 use Rattle.jm_linker.specs.declared.finding.Site.{Site}
 use Rattle.jm_linker.specs.declared.finding.Site.TheVariants as site
 use Rattle.jm_findings.specs.Places.{class_text, needed_text, numbered_text, place_text}
 use Rattle.jm_findings.specs.Others.{instead_text, main_text}
+use Rattle.jm_findings.specs.Told.{told}
+use Rattle.jm_findings.specs.declared.main_class.MainClass.{MainClass}
 
 -- an instruction: what it refers to, where it stands, and what there is instead
 unfoldable pub use_text : List ClassParts → LinkFault → ClassParts → Method → ℕ → Option Instr → List ℕ
@@ -63,6 +64,6 @@ abbrev pub lines_after : List ℕ → List (List ℕ) → List ℕ
 lines_after before [] = []
 lines_after before (l ∷ ls) = if same_text l before then lines_after before ls else l ++ codes "\n" ++ lines_after l ls
 
--- all that is refused of a program, a line for each
-unfoldable pub finding_lines : List ClassParts → List ℕ
-finding_lines program = lines_after [] (map (finding_line program) (findings program))
+-- all that is told of a program, a line for each
+unfoldable pub finding_lines : MainClass → List ClassParts → List ℕ
+finding_lines main program = lines_after [] (map (finding_line program) (told main program))

@@ -1,11 +1,12 @@
 // The lines of all findings.
 
-ghost use Rattle.std.specs.Prelude.{◌≡◌, [], IfOk, None, map, string_bytes};
-ghost use Rattle.jm_world.specs.Loads.{refusal};
+ghost use Rattle.std.specs.Prelude.{◌≡◌, [], IfOk, map, string_bytes};
 ghost use Rattle.jm_builtins.specs.List.{the_builtins};
 ghost use Rattle.jm_findings.specs.Lines.{finding_line, finding_lines, lines_after};
+ghost use Rattle.jm_findings.specs.Told.{told_of};
 
 use crate::finding_line::FindingLine;
+use crate::main_class::{MainClass, is_told};
 use jm_builtins::{BuiltIn, builtins};
 use jm_linker::{Finding, findings};
 use jm_program::Class;
@@ -30,19 +31,23 @@ fn line_of(
     format!(in alloc; "{line}")
 }
 
-// The lines of some findings, each once where it comes several times in a row.
+// The lines of those of some findings that are told, each once where it comes several times in a row.
 fn lines_of(
     alloc: Global,
     program: &[Class],
     built_ins: &[BuiltIn],
     found: &[Finding],
+    main: MainClass,
 ) -> Result<String, AllocError>
     requires { built_ins.now ≡ the_builtins }
-    ensures { IfOk result (λ text. string_bytes text ≡ lines_after [] (map (finding_line program.now) found.now)) }
+    ensures { IfOk result (λ text. string_bytes text ≡ lines_after [] (map (finding_line program.now) (told_of main found.now))) }
 {
     let mut text = String::new(alloc);
     let mut before = String::new(alloc);
     for finding in found {
+        if !is_told(main, finding.site) {
+            continue;
+        }
         let line = line_of(alloc, program, built_ins, finding)?;
         if line == before {
             continue;
@@ -54,14 +59,17 @@ fn lines_of(
 }
 
 /// All that is refused of a program, a line for each finding, in the order in which linking looks for
-/// it: no line exactly where the program loads. The one error is that memory is refused.
-#[tactic(auto, using(crate::proofs::LineLaws::loads_unless_lines, crate::proofs::LineLaws::no_lines), unfolding(crate::specs::Lines::finding_lines))]
-pub fn finding_lines(alloc: Global, program: &[Class]) -> Result<String, AllocError>
-    ensures text { IfOk result (λ text. string_bytes text ≡ finding_lines program.now) }
-    ensures none { finding_lines program.now ≡ [] → refusal program.now ≡ None }
-    ensures loads { refusal program.now ≡ None → finding_lines program.now ≡ [] }
+/// it, but that its main class has no main where that class is unknown. The one error is that memory
+/// is refused.
+#[tactic(auto, unfolding(crate::specs::Lines::finding_lines))]
+pub fn finding_lines(
+    alloc: Global,
+    program: &[Class],
+    main: MainClass,
+) -> Result<String, AllocError>
+    ensures { IfOk result (λ text. string_bytes text ≡ finding_lines main program.now) }
 {
     let built_ins = builtins(alloc)?;
     let found = findings(alloc, program)?;
-    lines_of(alloc, program, built_ins.as_slice(), &found)
+    lines_of(alloc, program, built_ins.as_slice(), &found, main)
 }

@@ -1,4 +1,5 @@
 pub mod Faults
+pub mod FaultTexts
 pub mod Label
 pub mod Mnemonics
 pub mod Profile

@@ -1,14 +1,15 @@
 // Why a text is no class.
 
-ghost use Rattle.std.specs.Prelude.{◌≡◌};
+ghost use Rattle.std.specs.Prelude.{◌≡◌, Some};
 ghost use Rattle.jm_bytes.specs.Reading.{fault_as};
+ghost use Rattle.jm_jasmin_ops.specs.FaultTexts.{fault_text, left_out_text};
 ghost use Rattle.jm_jasmin_ops.specs.Faults.{line_of, of_read};
 
 use crate::directive::LeftOutDirective;
 use jm_class_format::{LeftOutOp, LeftOutPart, ReadFault};
 use std::alloc::{AllocError, AllocFailed};
+use std::error::Error;
 use std::fmt;
-use thiserror::Error;
 
 /// What the profile leaves out of an assembler text.
 #[derive(Clone, Copy, PartialEq, Eq)]
@@ -23,7 +24,10 @@ pub enum AsmLeftOut {
     Directive(LeftOutDirective),
 }
 
+#[tactic(auto, unfolding(crate::specs::FaultTexts::left_out_text))]
 impl fmt::Display for AsmLeftOut {
+    ghost output = { λ what. Some (left_out_text what) };
+
     fn fmt<W: fmt::Write>(&self, f: &mut fmt::Formatter<W>) -> fmt::Result {
         match self {
             AsmLeftOut::Instruction(op) => write!(f, "{op}"),
@@ -35,38 +39,50 @@ impl fmt::Display for AsmLeftOut {
 }
 
 /// Why a text is no class, with the line, counted from 1.
-#[derive(Clone, Copy, PartialEq, Eq, Error)]
+#[derive(Clone, Copy, PartialEq, Eq)]
 pub enum AsmFault {
     /// A text that is no descriptor of the kind that its place needs (JVMS 4.3).
-    #[error("1 BadDescriptor({0})")]
     BadDescriptor(usize),
     /// A text that is no name of the kind that its place needs (JVMS 4.2).
-    #[error("2 BadName({0})")]
     BadName(usize),
     /// Something that is neither a word nor a string.
-    #[error("40 BadToken({0})")]
     BadToken(usize),
     /// A line that the grammar does not have there.
-    #[error("41 Syntax({0})")]
     Syntax(usize),
     /// A label that its method has already.
-    #[error("42 DuplicateLabel({0})")]
     DuplicateLabel(usize),
     /// A label that its method does not have, or that stands behind the last instruction.
-    #[error("43 NoLabel({0})")]
     NoLabel(usize),
     /// A number or a count that does not fit its place: an invokeinterface count, the dimensions of
     /// multianewarray, locals, a table without targets or past the last int, keys that do not
     /// rise, an empty range.
-    #[error("45 BadCount({0})")]
     BadCount(usize),
     /// What the profile leaves out.
-    #[error("46 LeftOut({0})")]
     LeftOut(AsmLeftOut, usize),
     /// A growth was refused.
-    #[error("61 OutOfMemory")]
     OutOfMemory,
 }
+
+#[tactic(auto, unfolding(crate::specs::FaultTexts::fault_text))]
+impl fmt::Display for AsmFault {
+    ghost output = { λ fault. Some (fault_text fault) };
+
+    fn fmt<W: fmt::Write>(&self, f: &mut fmt::Formatter<W>) -> fmt::Result {
+        match self {
+            AsmFault::BadDescriptor(line) => write!(f, "1 BadDescriptor({line})"),
+            AsmFault::BadName(line) => write!(f, "2 BadName({line})"),
+            AsmFault::BadToken(line) => write!(f, "40 BadToken({line})"),
+            AsmFault::Syntax(line) => write!(f, "41 Syntax({line})"),
+            AsmFault::DuplicateLabel(line) => write!(f, "42 DuplicateLabel({line})"),
+            AsmFault::NoLabel(line) => write!(f, "43 NoLabel({line})"),
+            AsmFault::BadCount(line) => write!(f, "45 BadCount({line})"),
+            AsmFault::LeftOut(what, _) => write!(f, "46 LeftOut({what})"),
+            AsmFault::OutOfMemory => f.write_str("61 OutOfMemory"),
+        }
+    }
+}
+
+impl Error for AsmFault {}
 
 /// As it is displayed.
 impl fmt::Debug for AsmFault {
