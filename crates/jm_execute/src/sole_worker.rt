@@ -2,7 +2,6 @@
 
 ghost use Rattle.std.specs.Prelude.{◌≡◌, ◌<◌, ◌++◌, ◌∷◌, [], false, true, None, IfOk, IsTrue, MatchResult, OnErr, OnOk};
 ghost use Rattle.std.specs.List.{All};
-ghost use Rattle.jm_machine.specs.BetweenEvents.{collection_of};
 ghost use Rattle.jm_machine.specs.ManySteps.{EndsBy};
 ghost use Rattle.jm_machine.specs.View.{MatchesWorld};
 ghost use Rattle.jm_shared.specs.Legal.{IsLegal, events_of, world_after};
@@ -14,7 +13,7 @@ ghost use Rattle.jm_execute.specs.Collecting.{IsOwnOrCollects, IsWoven, MakesAtO
 ghost use Rattle.jm_execute.specs.Turns.{world_by};
 
 use jm_heap::{Heap, Kind};
-use jm_machine::{Machine, OutOfMemory};
+use jm_machine::{Machine, OutOfMemory, collection_of};
 use jm_shared::{Journal, Origin, Receipt, Receipts, Steps, StepsEnd};
 use jm_world::{Event, Reply, ReplyKind};
 use std::alloc::Global;
@@ -60,16 +59,6 @@ fn own_seat(stress: Option<Kind>) -> u8
     match stress {
         None => 0,
         Some(_) => 1,
-    }
-}
-
-// A collection as an event.
-fn collection_of(kind: Kind) -> Event
-    ensures { result ≡ collection_of kind }
-{
-    match kind {
-        Kind::Minor => Event::Minor,
-        Kind::Full => Event::Full,
     }
 }
 

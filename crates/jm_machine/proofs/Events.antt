@@ -1,5 +1,5 @@
 -- An event of a machine beside the model's.
-use Rattle.std.proofs.Common.{◌≡◌, OnErr, tt, ℕ, zero, suc, ◌+◌, ◌-◌, ◌≤◌, List, [], ◌∷◌, Option, Some, None, Result, Ok, Err, true, false, refl, sym, ap, ◌∙◌, subst, length, arith, MatchResult}
+use Rattle.std.proofs.Common.{◌≡◌, OnErr, ℕ, zero, suc, ◌+◌, ◌-◌, ◌≤◌, List, [], ◌∷◌, Option, Some, None, Result, Ok, Err, true, false, refl, sym, ap, ◌∙◌, subst, length, arith, MatchResult}
 use Rattle.std.specs.Prelude.{map, slice_get, option_map, is_some}
 use Rattle.std.proofs.lemmas.Option.{slice_get-map}
 use Rattle.std.proofs.lemmas.List.{length-map}
@@ -133,12 +133,12 @@ module _ (l : LinkedView) (c : Content ClassId) (v : StateView) (w : World) (m :
   pub may_want : v.stop ≡ None → {e : Event} → finds_work w e ≡ true → MayWantMemory w e
   may_want going work = record { going = sym stop_is ∙ going; work = work }
 
-  pub collection_wants : v.stop ≡ None → {e : Event} → finds_work w e ≡ true → {A B : Type 0} (r : Result A B) → OnErr r (MayWantMemory w e)
-  collection_wants going work r = on_err r (may_want going work)
+  pub collection_wants : v.stop ≡ None → (e : Event) → finds_work w e ≡ true → {A B : Type 0} (r : Result A B) → OnErr r (MayWantMemory w e)
+  collection_wants going e work r = on_err r (may_want going work)
 
-  pub step_wants : v.stop ≡ None → {e : Event} {n : ℕ} → e ≡ Step n → {A B : Type 0} (r : Result A B) → OnErr r (is_live w n ≡ true) → OnErr r (MayWantMemory w e)
-  step_wants going is (Ok a) h = tt
-  step_wants going is (Err b) h = may_want going (ap (finds_work w) is ∙ h)
+  pub step_wants : v.stop ≡ None → (e : Event) {n : ℕ} → e ≡ Step n → {A B : Type 0} (r : Result A B) → OnErr r (is_live w n ≡ true) → OnErr r (MayWantMemory w e)
+  step_wants going e is (Ok a) h = tt
+  step_wants going e is (Err b) h = may_want going (ap (finds_work w) is ∙ h)
 
 pub some_is : (s : Option Stop) → is_some s ≡ true → (stop : Stop) × (s ≡ Some stop)
 some_is None e = cc

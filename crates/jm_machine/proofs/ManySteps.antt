@@ -1,5 +1,5 @@
 -- One step more of a thread.
-use Rattle.std.proofs.Common.{◌≡◌, ◌≢◌, ℕ, ◌+◌, [], ◌∷◌, ◌++◌, tt, refl, sym, ap, ◌∙◌, subst, replicate, arith, append-nil}
+use Rattle.std.proofs.Common.{◌≡◌, ◌≢◌, ℕ, ◌+◌, [], ◌∷◌, ◌++◌, refl, sym, ap, ◌∙◌, subst, replicate, arith, append-nil}
 use Rattle.std.proofs.lemmas.List.{replicate_more, replicate-append-replicate}
 use Rattle.jm_world.specs.World.{World}
 use Rattle.jm_world.specs.Run.{after, reply, run_from, replies_from}

@@ -10,8 +10,8 @@ use jm_heap::Kind;
 use jm_world::Event;
 use std::alloc::Global;
 
-// The collection of a kind as an event.
-fn collection_of(kind: Kind) -> Event
+/// The collection of a kind as an event.
+pub fn collection_of(kind: Kind) -> Event
     ensures { result ≡ collection_of kind }
 {
     match kind {

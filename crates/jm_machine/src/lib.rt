@@ -37,7 +37,7 @@ pub use code_method::CodeMethod;
 pub use code_place::CodePlace;
 pub use fault::{Interrupted, LoadFault, OutOfMemory};
 pub use frame::{MethodFrame, WorldFrame};
-pub use interleaving::interleave;
+pub use interleaving::{collection_of, interleave};
 pub use jm_schedule::{Schedule, ScheduleFault, read_schedule};
 pub use machine::Machine;
 pub use monitor::WorldMonitor;

@@ -67,12 +67,12 @@ returns-in-Full-clause-nursery g c = none_new _ _ _ c.collect_kind-in-Full.ensur
 
 pub returns-in-Step-clause-wants : goal.returns-in-Step-clause-wants
 returns-in-Step-clause-wants g c = λ w m.
-    step_wants _ _ _ w m (none_is c.args.state.now.stop (sym c.is_some.ensures ∙ c.if-is_some.false)) c.in-Step.is c.step_numbered.result (c.step_numbered.ensures.live w m)
+    step_wants _ _ _ w m (none_is c.args.state.now.stop (sym c.is_some.ensures ∙ c.if-is_some.false)) c.args.event c.in-Step.is c.step_numbered.result (c.step_numbered.ensures.live w m)
 
 pub returns-in-Minor-clause-wants : goal.returns-in-Minor-clause-wants
 returns-in-Minor-clause-wants g c = λ w m.
-    collection_wants _ _ _ w m (none_is c.args.state.now.stop (sym c.is_some.ensures ∙ c.if-is_some.false)) (ap (finds_work w) c.in-Minor.is) c.collect_kind.result
+    collection_wants _ _ _ w m (none_is c.args.state.now.stop (sym c.is_some.ensures ∙ c.if-is_some.false)) c.args.event (ap (finds_work w) c.in-Minor.is) c.collect_kind.result
 
 pub returns-in-Full-clause-wants : goal.returns-in-Full-clause-wants
 returns-in-Full-clause-wants g c = λ w m.
-    collection_wants _ _ _ w m (none_is c.args.state.now.stop (sym c.is_some.ensures ∙ c.if-is_some.false)) (ap (finds_work w) c.in-Full.is) c.collect_kind-in-Full.result
+    collection_wants _ _ _ w m (none_is c.args.state.now.stop (sym c.is_some.ensures ∙ c.if-is_some.false)) c.args.event (ap (finds_work w) c.in-Full.is) c.collect_kind-in-Full.result
