@@ -52,6 +52,13 @@ def repetition(rest):
     return before + part * int(count) + behind
 
 
+def numbered(rest):
+    """Returns three texts, of which the middle one stands so many times, with the number of each for `#` in it, from 0 on."""
+    count, rest = rest.split(" ", 1)
+    before, part, behind = rest.split(" / ", 2)
+    return text_bytes(before + "".join(part.replace("#", str(number)) for number in range(int(count))) + behind)
+
+
 MEANINGS = {
     "@file": data,
     "@empty": lambda name: f".class {name}\n.super java/lang/Object\n".encode(),
@@ -59,6 +66,7 @@ MEANINGS = {
     "@main": lambda rest: with_instructions("jobs/main.j", rest),
     "@body": lambda rest: with_instructions("answers/body.j", rest),
     "@repeat": repetition,
+    "@numbered": numbered,
     "@hex": lambda words: b"".join(map(word_bytes, words.split())),
     "@edits": lambda edits: edited(data("sum.class"), edits),
 }

@@ -19,8 +19,8 @@ use files::{input_file, input_files};
 use jm_execute::{
     AssembleJob, Copiers, DebugJob, DisassembleJob, ExploreJob, FilmJob, Finished, InputFile, Job,
     Kind, ReplayJob, RunEvents, RunJob, Status, ToldEvents, ToldJob, TraceJob, Watched, Workers,
-    check, execute, explain, film, several_workers, so_many_copiers, tell_version, trace, why,
-    write_out_of_memory,
+    check, execute, explain, film, several_workers, so_many_copiers, tell_unwritten, tell_version,
+    trace, why, write_out_of_memory,
 };
 use jm_explore::Bounds;
 use jm_film_run::Window;
@@ -278,7 +278,7 @@ fn record_written(rt: &HostRuntime, text: &[u8], name: &str, status: Status) -> 
         Ok(()) => status,
         Err(_) => {
             let mut err = Watched::new(rt.stderr());
-            let _told = err.write_line(format_args!("jm: {name}: not written"));
+            tell_unwritten(rt.alloc(), name, &mut err);
             Status::Files
         }
     }

@@ -2,10 +2,7 @@
 
 ghost use Rattle.std.specs.Prelude.{⊤};
 
-use jm_execute::{
-    AssembleJob, Job, Watchable, WriteFailed, put_by_write, put_line_by_write, put_through_by_flush,
-};
-use std::fmt::Display;
+use jm_execute::{AssembleJob, Job, Watchable, WriteFailed, put_by_write, put_through_by_flush};
 use std::fs::File;
 use std::io;
 use std::io::{Stdout, Write};
@@ -81,10 +78,6 @@ impl Watchable for Output<'_> {
 
     fn put(&mut self, bytes: &[u8]) -> Result<usize, WriteFailed> {
         put_by_write(self, bytes)
-    }
-
-    fn put_line<D: Display + Drop>(&mut self, text: D) -> Result<(), WriteFailed> {
-        put_line_by_write(self, text)
     }
 
     fn put_through(&mut self) -> Result<(), WriteFailed> {

@@ -1,8 +1,6 @@
 -- What is told of an outcome is what a run says that comes to its world.
-use Rattle.std.proofs.Common.{◌≡◌, ◌≢◌, ℕ, zero, suc, List, [], ◌∷◌, ◌++◌, Option, Some, None, Bool, true, false, refl, ap, ap₂, sym, ◌∙◌, ◌+◌, append_assoc, codes}
+use Rattle.std.proofs.Common.{◌≡◌, ◌≢◌, ℕ, zero, suc, List, [], ◌∷◌, ◌++◌, Option, Some, None, Bool, true, false, refl, ap, ap₂, ◌+◌, codes}
 use Rattle.std.specs.Prelude.{is_some, ◌||◌}
-use Rattle.std.specs.Fmt.{decimal}
-use Rattle.jm_world.specs.Text.{utf8_text}
 use Rattle.jm_world.specs.World.{World, Thread, live_among}
 use Rattle.jm_world.specs.declared.stop.Stop.{Stop}
 use Rattle.jm_world.specs.declared.stop.Stop.TheVariants.{TagFault, HeapFull, SerialsEnd}
@@ -39,9 +37,7 @@ status_is w cut = by_status w.stop (live_among w.threads) cut w
 -- ---- the lines
 
 same_ended : (n : ℕ) (class : List ℕ) → told.ended_line (record { thread = n; class = class }) ≡ run.ended_line n class
-same_ended n class =
-    let all = append_assoc (decimal n ++ codes " ended by ") (utf8_text class) (codes "\n") ∙ append_assoc (decimal n) (codes " ended by ") (utf8_text class ++ codes "\n") in
-    ap (λ (t : List ℕ). codes "jm: thread " ++ t) (sym all)
+same_ended n class = refl
 
 one_line : (n : ℕ) (class : Option (List ℕ)) (rest : List Thrown) (text : List ℕ) → told.thrown_lines rest ≡ text
     → told.thrown_lines (thrown_by n class ++ rest) ≡ run.thread_line n class ++ text
@@ -61,7 +57,7 @@ stop_line : (stop : Stop) → told.last_line (how.Stopped stop) ≡ run.last_lin
 stop_line stop = ap (λ (t : List ℕ). codes "jm: " ++ (t ++ codes "\n")) (same_stop stop)
 
 live_lines : (n : ℕ) → told.last_line (how.Deadlock (suc n)) ≡ run.live_line (suc n)
-live_lines n = ap (λ (t : List ℕ). codes "jm: " ++ t) (sym (append_assoc (decimal (suc n)) (codes " threads not ended") (codes "\n")))
+live_lines n = refl
 
 by_lines : (stop : Option Stop) (live : ℕ) (cut : Bool) (w : World) → how_ended stop live cut ≢ how.Cut
     → told.outcome_lines (end_with (how_ended stop live cut) w) ≡ run.thread_lines 1 w.threads ++ run.last_line stop live

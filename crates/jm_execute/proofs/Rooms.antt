@@ -1,11 +1,12 @@
 -- A list of bytes that has room for a text, or for the output of an ending, does not fail at it.
-use Rattle.std.proofs.Common.{◌≡◌, ℕ, ◌+◌, ◌≤◌, inl, inr, List, [], ◌∷◌, ◌++◌, ◌∙◌, ap, subst, length, length-append, arith, Option, Bool, true, false, refl}
+use Rattle.std.proofs.Common.{◌≡◌, ℕ, ◌+◌, ◌≤◌, inl, inr, List, [], ◌∷◌, ◌++◌, ◌∙◌, ap, subst, length, length-append, arith, Option, Some, Bool, true, false, refl}
 use Rattle.std.specs.List.{FoldsTo, concat}
 use Rattle.std.specs.Prelude.{Vec, vec_len, vec_capacity}
 use Rattle.jm_execute.specs.CallEnds.{took, vec_ends}
-use Rattle.jm_execute.specs.Endings.{Ending, Leaves, LeavesIf, output_of}
+use Rattle.jm_execute.specs.Endings.{Ending, Leaves, LeavesIf, LinesTold, lines_after, output_of}
 use Rattle.jm_execute.specs.Written.{Watch, Words, Broken, words}
 use Rattle.jm_execute.specs.declared.status.Status.{Status}
+use Rattle.jm_execute.proofs.Telling.{told_whole}
 
 -- calls that took parts made it longer by them, and lost no room
 abbrev Grown : {A : Type 0} → Vec ℕ A → ℕ → Vec ℕ A → Type 0
@@ -39,3 +40,15 @@ does_not_fail contents says e ended out new_out err new_err room leaves =
     let told = subst (λ b. LeavesIf b (words contents vec_ends) says e ended out new_out err new_err) failed leaves in
     elim told.0 [ inl broken ↦ room_for contents out new_out (output_of e) room broken | inr flushed ↦ flushed.1.call ] in
     false_where_not_true new_out.failed fails
+
+-- the lines behind an output that was written
+pub lines_do_not_fail : {A O : Type 0} (contents : Vec ℕ A → Option (List ℕ)) (says : Words O) (e : Ending) (lines : List ℕ) (ended : Status) (out new_out : Watch O) (err new_err : Watch (Vec ℕ A))
+    → lines_after e ≡ Some lines → new_out.failed ≡ false → vec_len err.inner + length lines ≤ vec_capacity err.inner → Leaves says (words contents vec_ends) e ended out new_out err new_err
+    → new_err.failed ≡ false
+lines_do_not_fail contents says e lines ended out new_out err new_err are whole room leaves =
+    let w = words contents vec_ends in
+    let told = told_whole says w e ended out new_out err new_err whole leaves in
+    let fails : new_err.failed ≡ true → ⊥ = λ failed.
+    let broken = subst (λ b. LinesTold w (Some lines) b err new_err) failed (subst (λ (said : Option (List ℕ)). LinesTold w said new_err.failed err new_err) are told.1) in
+    room_for contents err new_err lines room broken in
+    false_where_not_true new_err.failed fails

@@ -1,7 +1,6 @@
 -- What is told of an ending.
-use Rattle.std.proofs.Common.{◌≡◌, ℕ, List, [], inl, inr, refl, sym, subst, ◌∙◌, true, Bool, Option, Some, None, Result, Ok, Err, false, MatchResult}
-use Rattle.std.specs.Prelude.{IfSome, OnOk}
-use Rattle.jm_execute.specs.Written.{Watch, Words, AllWritten, Broken, LinesWritten, LineFailed, Reads, WritesLines}
+use Rattle.std.proofs.Common.{◌≡◌, ℕ, List, [], inl, inr, refl, sym, subst, ◌∙◌, true, Bool, Option, Some, None, Result, Ok, Err, false}
+use Rattle.jm_execute.specs.Written.{Watch, Words, AllWritten, Broken, Reads, Writes}
 use Rattle.jm_world.specs.World.{World}
 use Rattle.jm_choice.specs.Choices.{Choice, RunEnds, all_made}
 use Rattle.jm_choice.proofs.Ends.{makes_some}
@@ -10,22 +9,19 @@ use Rattle.jm_execute.specs.Talks.{Talk, TalkLeft, TalkLeftIf}
 use Rattle.jm_execute.specs.Verdicts.{Verdict}
 use Rattle.jm_execute.specs.declared.status.Status.{Status}
 use Rattle.jm_execute.specs.declared.status.Status.TheVariants as ends
-use Rattle.jm_execute.proofs.Writing.{nothing_written, no_lines}
+use Rattle.jm_execute.proofs.Writing.{nothing_written}
 
 module _ {W : Type 0} (says : Words W) where
-  -- a line of which definitions may say nothing
-  pub line_told : {A E : Type 0} (r : Result A E) (old new : Watch W) (line : Option (List ℕ)) → old.failed ≡ false
-      → MatchResult r (λ _. IfSome line (LinesWritten says old new)) (λ _. LineFailed says new) → OnOk r (new.failed ≡ old.failed) → LinesTold says line new.failed old new
-  line_told (Ok x) old new (Some text) fresh h same = subst (λ b. LinesTold says (Some text) b old new) (sym (same ∙ fresh)) h
-  line_told (Ok x) old new None fresh h same = subst (λ b. LinesTold says None b old new) (sym (same ∙ fresh)) tt
-  line_told (Err e) old new line fresh h same = subst (λ b. LinesTold says line b old new) (sym h.failed) h
+  -- the same lines
+  pub lines_said : (text said : List ℕ) (failed : Bool) (old new : Watch W) → text ≡ said → LinesTold says (Some text) failed old new → LinesTold says (Some said) failed old new
+  lines_said text said failed old new is told = subst (λ (t : List ℕ). LinesTold says (Some t) failed old new) is told
 
-  pub lines_told : {A E : Type 0} (r : Result A E) (old new : Watch W) (text : List ℕ) → old.failed ≡ false → WritesLines says r old new text → LinesTold says (Some text) new.failed old new
+  pub lines_told : {A E : Type 0} (r : Result A E) (old new : Watch W) (text : List ℕ) → old.failed ≡ false → Writes says r old new text → LinesTold says (Some text) new.failed old new
   lines_told (Ok x) old new text fresh h = subst (λ b. LinesTold says (Some text) b old new) (sym (h.same ∙ fresh)) h
   lines_told (Err e) old new text fresh h = subst (λ b. LinesTold says (Some text) b old new) (sym h.failed) h
 
   pub no_lines_told : (old : Watch W) → old.failed ≡ false → LinesTold says (Some []) old.failed old old
-  no_lines_told old fresh = subst (λ b. LinesTold says (Some []) b old old) (sym fresh) (no_lines says old)
+  no_lines_told old fresh = subst (λ b. LinesTold says (Some []) b old old) (sym fresh) (nothing_written says old)
 
 module _ {O E : Type 0} (o : Words O) (w : Words E) where
   pub whole_told : (e : Ending) (status : Status) (out new_out : Watch O) (err new_err : Watch E) → out.failed ≡ false → AllWritten o out new_out (output_of e) → Tells w e status err new_err

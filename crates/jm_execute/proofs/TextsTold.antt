@@ -1,5 +1,5 @@
 -- What is left behind where the text of a run was told.
-use Rattle.std.proofs.Common.{◌≡◌, List, ℕ, [], inr, refl, sym, subst, ◌∙◌, false, Result, Ok, Err}
+use Rattle.std.proofs.Common.{◌≡◌, List, ℕ, [], append-nil, inl, inr, refl, sym, subst, ◌∙◌, false, Result, Ok, Err}
 use Rattle.jm_page.specs.Writing.{Puts}
 use Rattle.jm_page.specs.declared.writer.PageFault.{PageFault}
 use Rattle.jm_page.specs.declared.writer.PageFault.TheVariants as page
@@ -23,7 +23,10 @@ module _ {O E : Type 0} (o : Words O) (w : Words E) (tells : Telling) where
   pub text_told : {A : Type 0} (r : ToldRun) (written : Result A PageFault) (status : Status) (out new_out : Watch O) (err new_err : Watch E) → out.failed ≡ false
       → Puts (λ old piece new. AllWritten o old new piece) (λ old piece new. Broken o old new piece) written out (text_of tells r) new_out
       → TextTold w written (last_world tells r) status err new_err → IsTold o w tells (Ok r) status out new_out err new_err
-  text_told r (Ok a) status out new_out err new_err fresh wrote said = (told r, refl, whole_told (told r) status out new_out err new_err fresh wrote said)
+  text_told r (Ok a) status out new_out err new_err fresh wrote said = elim said [
+    | inl ended ↦ (told r, refl, whole_told (told r) status out new_out err new_err fresh wrote ended)
+    | inr lacks ↦ (cut_short (text_of tells r), inr (r, refl, ([], sym (append-nil (text_of tells r)))), whole_told (cut_short (text_of tells r)) status out new_out err new_err fresh wrote lacks)
+  ]
   text_told r (Err page.OutOfMemory) status out new_out err new_err fresh (front, begins, wrote) said =
       (cut_short front, inr (r, refl, begins), whole_told (cut_short front) status out new_out err new_err fresh wrote said)
   text_told r (Err page.WriteFailed) status out new_out err new_err fresh (front, begins, broke) said =

@@ -49,6 +49,6 @@ any_at_from (t ∷ ts) (suc k) h one = or_right (is_some (class_of_ending t.endi
 pub any_at : (w : World) (k : ℕ) → k < length w.threads → is_some (class_ended_by (thread_at w (k + 1))) ≡ true → any_ended_by w.threads ≡ true
 any_at w k h one = any_at_from w.threads k h (ap (λ t. is_some (class_ended_by t)) (sym (thread_after w k)) ∙ one)
 
-pub some_live : (n : ℕ) → n ≢ 0 → live_line n ≡ codes "jm: " ++ decimal n ++ codes " threads not ended" ++ codes "\n"
+pub some_live : (n : ℕ) → n ≢ 0 → live_line n ≡ codes "jm: " ++ (decimal n ++ codes " threads not ended\n")
 some_live zero h = absurd (h refl)
 some_live (suc n) h = refl

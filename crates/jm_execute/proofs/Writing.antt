@@ -4,7 +4,7 @@ use Rattle.std.proofs.KnownBytes.{Appends-nil, Appends-trans}
 use Rattle.std.proofs.Output.{writes_in_calls_nil, writes_in_calls_single, writes_in_calls_append}
 use Rattle.std.specs.Io.KnownBytes.{Appends, Keeps}
 use Rattle.jm_execute.specs.CallEnds.{took, refused}
-use Rattle.jm_execute.specs.Written.{Watch, Words, AllWritten, Broken, BreaksOff, LinesWritten, Unflushed}
+use Rattle.jm_execute.specs.Written.{Watch, Words, AllWritten, Broken, BreaksOff, Unflushed}
 use Rattle.std.specs.Prelude.{true}
 use Rattle.jm_jasmin_lex.proofs.SignsOfText.{rest_whole}
 
@@ -82,15 +82,6 @@ module _ {W : Type 0} (says : Words W) where
 
   pub not_handed_on : (a b c : Watch W) (text : List ℕ) → AllWritten says a b text → Unflushed says b c [] → BreaksOff says a c text
   not_handed_on a b c text p q = subst (BreaksOff says a c) (append-nil text) (inr (unflushed_after a b c text [] p q))
-
-  pub no_lines : (a : Watch W) → LinesWritten says a a []
-  no_lines a = record { bytes = Appends-nil (says.contents a.inner); same = refl }
-
-  pub lines_then : (a b c : Watch W) (first second : List ℕ) → LinesWritten says a b first → LinesWritten says b c second → LinesWritten says a c (first ++ second)
-  lines_then a b c first second p q = record {
-    bytes = Appends-trans (says.contents a.inner) (says.contents b.inner) (says.contents c.inner) first second p.bytes q.bytes;
-    same = q.same ∙ p.same;
-  }
 
 pub split_more : (text done rest : List ℕ) (n : ℕ) → text ≡ done ++ rest → text ≡ (done ++ take n rest) ++ take (length rest - n) (drop n rest)
 split_more text done rest n whole =

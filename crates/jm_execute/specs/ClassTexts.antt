@@ -1,6 +1,5 @@
 -- The text of a class, and what is told of the first part of it that no text can say.
 use Rattle.std.specs.Prelude.{◌≡◌, ℕ, List, [], ◌++◌, Option, Some, None, Ok, Bool, codes}
-use Rattle.std.specs.Fmt.{with_newline}
 use Rattle.std.specs.String.{string_bytes}
 use Rattle.jm_program.specs.declared.class.ClassParts.{ClassParts}
 use Rattle.jm_jasmin.specs.Text.{denoted}
@@ -8,6 +7,7 @@ use Rattle.jm_disassembler.specs.Texts.{class_text}
 use Rattle.jm_disassembler.specs.Unsaid.{first_unsaid}
 use Rattle.jm_disassembler.specs.PartTexts.{unsaid_text}
 use Rattle.jm_disassembler.specs.declared.unsaid.Unsaid.{Unsaid}
+use Rattle.jm_execute.specs.FileNames.{file_name_text}
 use Rattle.jm_execute.specs.declared.disassembly.ClassText.{ClassText}
 use Rattle.jm_execute.specs.declared.status.Status.{Status}
 use Rattle.jm_execute.specs.declared.status.Status.TheVariants as ends
@@ -26,9 +26,7 @@ abbrev pub unsaid_status : Option Unsaid → Status
 unsaid_status None = ends.Done
 unsaid_status (Some part) = ends.Refused
 
-abbrev pub unsaid_says : List ℕ → Unsaid → List ℕ
-unsaid_says name part = codes "jm: " ++ (name ++ (codes ": 90 NoText(" ++ (unsaid_text part ++ codes ")")))
-
-abbrev pub unsaid_line : List ℕ → Option Unsaid → Option (List ℕ)
-unsaid_line name None = Some []
-unsaid_line name (Some part) = with_newline (Some (unsaid_says name part))
+-- of the class in the file of this name
+abbrev pub unsaid_line : List ℕ → Option Unsaid → List ℕ
+unsaid_line name None = []
+unsaid_line name (Some part) = codes "jm: " ++ (file_name_text name ++ (codes ": 90 NoText(" ++ (unsaid_text part ++ codes ")\n")))

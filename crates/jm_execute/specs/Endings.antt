@@ -16,7 +16,7 @@ use Rattle.jm_disassembler.specs.Texts.{class_text}
 use Rattle.jm_disassembler.specs.Unsaid.{first_unsaid}
 use Rattle.jm_execute.specs.ClassTexts.{Denotes, unsaid_status, unsaid_line}
 use Rattle.jm_execute.specs.Verdicts.{Verdict, because, runs, explores, assembles, disassembles, debugs}
-use Rattle.jm_execute.specs.Written.{Watch, Reads, Words, AllWritten, Broken, Unflushed, LinesWritten, LineFailed}
+use Rattle.jm_execute.specs.Written.{Watch, Reads, Words, AllWritten, Broken, Unflushed, WrittenIf}
 use Rattle.jm_execute.specs.declared.status.Status.{Status}
 use Rattle.jm_execute.specs.declared.status.Status.TheVariants as ends
 
@@ -138,7 +138,7 @@ lines_after (interrupted w) = Some memory_line
 lines_after (differed line w) = Some (differs_line line)
 lines_after (explored b found wanted) = Some (found_lines found wanted)
 lines_after (assembled bytes) = Some []
-lines_after (disassembled name commented class) = unsaid_line name (first_unsaid class)
+lines_after (disassembled name commented class) = Some (unsaid_line name (first_unsaid class))
 lines_after (answered t) = Some []
 lines_after exhausted = Some memory_line
 lines_after (turned_away reason) = Some (reason_line reason)
@@ -179,11 +179,10 @@ Hears r out_failed (answered t) reader new_reader = Heard r out_failed t reader 
 Hears r out_failed exhausted reader new_reader = new_reader ≡ reader
 Hears r out_failed (turned_away reason) reader new_reader = new_reader ≡ reader
 
--- lines are told, or a call for one of them failed
+-- Lines are told; where the writer has failed, a beginning of them stands. Where no definition says which lines, some are told.
 abbrev pub LinesTold : {W : Type 0} → Words W → Option (List ℕ) → Bool → Watch W → Watch W → Type 0
-LinesTold says lines true old new = LineFailed says new
-LinesTold says None false old new = ⊤
-LinesTold says (Some lines) false old new = LinesWritten says old new lines
+LinesTold says None failed old new = (lines : List ℕ) × WrittenIf failed says old new lines
+LinesTold says (Some lines) failed old new = WrittenIf failed says old new lines
 
 -- the line that says that the output could not be written whole, where that is so
 abbrev pub FailureTold : {W : Type 0} → Words W → Bool → Watch W → Watch W → Type 0

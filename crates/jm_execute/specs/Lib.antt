@@ -10,6 +10,7 @@ pub mod Sources
 pub mod Passes
 pub mod Standings
 pub mod Beginnings
+pub mod FileNames
 pub mod ProgramFiles
 pub mod Reasons
 pub mod Verdicts

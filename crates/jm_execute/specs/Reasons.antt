@@ -7,6 +7,7 @@ use Rattle.jm_class_writer.specs.declared.fault.WriteFault.{WriteFault}
 use Rattle.jm_jasmin_ops.specs.FaultTexts as text
 use Rattle.jm_linker.specs.FaultTexts as link
 use Rattle.jm_linker.specs.declared.fault.LinkFault.{LinkFault}
+use Rattle.jm_execute.specs.FileNames.{file_name_text}
 use Rattle.jm_execute.specs.ProgramFiles.{FileFault, in_text, in_class_file}
 use Rattle.jm_execute.specs.declared.status.Status.{Status}
 use Rattle.jm_execute.specs.declared.status.Status.TheVariants as ends
@@ -40,9 +41,9 @@ file_fault_text (in_class_file fault) = class_file.fault_text fault
 
 -- what is said of it
 abbrev pub reason_says : Reason → List ℕ
-reason_says (not_read name) = name ++ codes ": not read"
-reason_says (no_class name fault) = name ++ codes ": " ++ file_fault_text fault
-reason_says (no_class_file name fault) = name ++ codes ": " ++ written.fault_text fault
+reason_says (not_read name) = file_name_text name ++ codes ": not read"
+reason_says (no_class name fault) = file_name_text name ++ codes ": " ++ file_fault_text fault
+reason_says (no_class_file name fault) = file_name_text name ++ codes ": " ++ written.fault_text fault
 reason_says (not_linked fault) = link.fault_text fault
 reason_says heap_too_small = codes "63 HeapTooSmall"
 reason_says (no_event line) = codes "70 BadSchedule(" ++ decimal line ++ codes ")"

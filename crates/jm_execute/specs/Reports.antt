@@ -1,20 +1,21 @@
 -- What standard error says of a run, and with which status the program ends.
 use Rattle.std.specs.Prelude.{ℕ, zero, suc, ◌+◌, List, [], ◌∷◌, ◌++◌, Option, Some, None, Bool, true, false, codes, is_some, ◌||◌}
 use Rattle.std.specs.Fmt.{decimal}
+use Rattle.jm_program.specs.JasminUnits.{name_text}
 use Rattle.jm_values.specs.FaultNames.{fault_name}
-use Rattle.jm_world.specs.Text.{utf8_text}
 use Rattle.jm_world.specs.World.{World, Thread, live_among}
 use Rattle.jm_world.specs.declared.stop.Stop.{Stop}
 use Rattle.jm_debug.specs.Session.{bytes_of}
 use Rattle.jm_debug.specs.Views.{heap_lines}
 use Rattle.jm_world.specs.declared.stop.Stop.TheVariants.{TagFault, HeapFull, SerialsEnd}
 use Rattle.jm_machine.specs.Threads.{class_of_ending}
+use Rattle.jm_execute.specs.FileNames.{file_name_text}
 use Rattle.jm_execute.specs.declared.status.Status.{Status}
 use Rattle.jm_execute.specs.declared.status.Status.TheVariants as ends
 
 -- a thread that an exception has ended
 abbrev pub ended_line : ℕ → List ℕ → List ℕ
-ended_line number class = codes "jm: thread " ++ decimal number ++ codes " ended by " ++ utf8_text class ++ codes "\n"
+ended_line number class = codes "jm: thread " ++ (decimal number ++ (codes " ended by " ++ (name_text class ++ codes "\n")))
 
 abbrev pub thread_line : ℕ → Option (List ℕ) → List ℕ
 thread_line number None = []
@@ -33,11 +34,11 @@ stop_text SerialsEnd = codes "64 SerialsEnd"
 -- how many threads have not ended, if any
 abbrev pub live_line : ℕ → List ℕ
 live_line zero = []
-live_line (suc n) = codes "jm: " ++ decimal (suc n) ++ codes " threads not ended" ++ codes "\n"
+live_line (suc n) = codes "jm: " ++ (decimal (suc n) ++ codes " threads not ended\n")
 
 -- the stop, or else the threads that have not ended
 abbrev pub last_line : Option Stop → ℕ → List ℕ
-last_line (Some stop) live = codes "jm: " ++ stop_text stop ++ codes "\n"
+last_line (Some stop) live = codes "jm: " ++ (stop_text stop ++ codes "\n")
 last_line None live = live_line live
 
 unfoldable pub report : World → List ℕ
@@ -53,10 +54,14 @@ memory_line = codes "jm: 61 OutOfMemory\n"
 
 -- the reply to a record's event is of another kind than the line of this number says
 abbrev pub differs_line : ℕ → List ℕ
-differs_line line = codes "jm: 71 ReplayDiffers(" ++ decimal line ++ codes ")" ++ codes "\n"
+differs_line line = codes "jm: 71 ReplayDiffers(" ++ (decimal line ++ codes ")\n")
 
 abbrev pub failure_line : List ℕ
 failure_line = codes "jm: write failed\n"
+
+-- the file of this name could not be written
+abbrev pub unwritten_line : List ℕ → List ℕ
+unwritten_line name = codes "jm: " ++ (file_name_text name ++ codes ": not written\n")
 
 -- an exception has ended one of the threads
 abbrev pub any_ended_by : List Thread → Bool

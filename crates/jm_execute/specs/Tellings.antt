@@ -139,9 +139,13 @@ Says says wanted lines status err new_err = (status ≡ wanted) × LinesTold say
 abbrev pub SaysEnding : {W : Type 0} → Words W → Telling → TellingEnding → Status → Watch W → Watch W → Type 0
 SaysEnding says tells e status err new_err = Says says (telling_status tells e) (telling_lines tells e) status err new_err
 
+-- how the run has ended is told, or memory was refused to the lines that tell it
+abbrev pub EndTold : {W : Type 0} → Words W → World → Status → Watch W → Watch W → Type 0
+EndTold says w status err new_err = Says says (status_of w) (Some (report w)) status err new_err ⊎ Says says ends.OutOfMemory (Some memory_line) status err new_err
+
 -- what is said once a text was written, or was not, in the world behind its events
 abbrev pub TextTold : {A W : Type 0} → Words W → Result A PageFault → World → Status → Watch W → Watch W → Type 0
-TextTold says (Ok a) w status err new_err = Says says (status_of w) (Some (report w)) status err new_err
+TextTold says (Ok a) w status err new_err = EndTold says w status err new_err
 TextTold says (Err page.OutOfMemory) w status err new_err = Says says ends.OutOfMemory (Some memory_line) status err new_err
 TextTold says (Err page.WriteFailed) w status err new_err = Says says ends.Files (Some failure_line) status err new_err
 

@@ -84,9 +84,25 @@ denoted_class name text = fault_as (λ fault. because (reason.no_class name (in_
 abbrev pub spelled_class : List ℕ → List ℕ → Result ClassParts Cause
 spelled_class name bytes = fault_as (λ fault. because (reason.no_class name (in_class_file fault))) (class_file.read bytes)
 
+-- the bytes that are written for the class of a text of this name
+abbrev pub written_class : List ℕ → ClassParts → Result (List ℕ) Cause
+written_class name class = fault_as (λ fault. because (reason.no_class_file name fault)) (written class)
+
+-- that very class, where a class file can hold it
+abbrev pub writable_class : List ℕ → ClassParts → Result ClassParts Cause
+writable_class name class = do
+  bytes ← written_class name class
+  Ok class
+
+-- the class that a text of this name holds: the one that it denotes, where a class file can hold it
+abbrev pub held_in_text : List ℕ → List ℕ → Result ClassParts Cause
+held_in_text name text = do
+  class ← denoted_class name text
+  writable_class name class
+
 -- the class that a file of this name with these bytes holds
 abbrev pub held_class : List ℕ → List ℕ → Result ClassParts Cause
-held_class name bytes = if is_text_name name then denoted_class name bytes else spelled_class name bytes
+held_class name bytes = if is_text_name name then held_in_text name bytes else spelled_class name bytes
 
 unfoldable pub class_of : InputFile → Result ClassParts Cause
 class_of file = do
@@ -193,10 +209,6 @@ explore_verdict job = do
   Ok (explores program job.heap job.bounds job.outcome)
 
 -- ---- a class file from a text
-
--- the bytes that are written for the class of a text of this name
-abbrev pub written_class : List ℕ → ClassParts → Result (List ℕ) Cause
-written_class name class = fault_as (λ fault. because (reason.no_class_file name fault)) (written class)
 
 unfoldable pub assembly_verdict : InputFile → Verdict
 assembly_verdict file = do

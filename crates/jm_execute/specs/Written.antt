@@ -3,7 +3,7 @@ use Rattle.std.specs.Prelude.{◌≡◌, ◌⊎◌, ℕ, ◌<◌, List, [], ◌+
 use Rattle.std.specs.Coded.{Coded, code_by, coded×, coded_bool}
 use Rattle.std.specs.Fmt.{WritesInCalls}
 use Rattle.std.specs.Io.KnownBytes.{Appends, Consumes}
-use Rattle.jm_execute.specs.CallEnds.{CallEnd, took, refused, line_refused, flush_refused}
+use Rattle.jm_execute.specs.CallEnds.{CallEnd, took, refused, flush_refused}
 
 -- a reader or a writer, and whether it has failed
 pub record Watch (T : Type 0) : Type 0 where
@@ -92,20 +92,7 @@ BreaksOff says old new text = Broken says old new text ⊎ Unflushed says old ne
 abbrev pub Flushes : {A E W : Type 0} → Words W → Result A E → Watch W → Watch W → Type 0
 Flushes says result old new = MatchResult result (λ _. AllWritten says old new []) (λ _. Unflushed says old new [])
 
--- lines were written
-pub record LinesWritten {W : Type 0} (says : Words W) (old new : Watch W) (text : List ℕ) : Type 0 where
-  pub bytes : Appends (says.contents old.inner) (says.contents new.inner) text
-  pub same : new.failed ≡ old.failed
-
--- a call for a line, or for some bytes of lines, failed
-abbrev pub LineRefused : {W : Type 0} → Words W → W → W → Type 0
-LineRefused says before new = says.ends before line_refused new ⊎ ((bytes : List ℕ) × (0 < length bytes) × says.ends before (refused bytes) new)
-
-pub record LineFailed {W : Type 0} (says : Words W) (new : Watch W) : Type 0 where
-  pub before : W
-  pub call : LineRefused says before new.inner
-  pub failed : new.failed ≡ true
-
--- the answer to a write of lines; of what is written of lines that were not written whole nothing is said
-abbrev pub WritesLines : {A E W : Type 0} → Words W → Result A E → Watch W → Watch W → List ℕ → Type 0
-WritesLines says result old new text = MatchResult result (λ _. LinesWritten says old new text) (λ _. LineFailed says new)
+-- all of the bytes were written, or, where the writer has failed, a beginning of them
+abbrev pub WrittenIf : {W : Type 0} → Bool → Words W → Watch W → Watch W → List ℕ → Type 0
+WrittenIf false says old new text = AllWritten says old new text
+WrittenIf true says old new text = Broken says old new text

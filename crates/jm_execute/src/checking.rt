@@ -9,7 +9,7 @@ ghost use Rattle.jm_execute.specs.Written.{words};
 
 use crate::program_file::class_of;
 use crate::refusal::{Obstacle, Refusal};
-use crate::report::write_out_of_memory;
+use crate::report::{tell_write_failed, write_out_of_memory};
 use crate::status::Status;
 use crate::watchable::Watchable;
 use crate::watched::Watched;
@@ -132,7 +132,7 @@ fn tell<O: Watchable, E: Watchable>(
             }
         }
         Err(_) => {
-            let _told = err.write_line("jm: write failed");
+            tell_write_failed(err);
             Status::Files
         }
     }

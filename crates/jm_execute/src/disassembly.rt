@@ -1,18 +1,18 @@
 // From a class file, or from an assembler text, to the text of its class.
 
-ghost use Rattle.std.specs.Prelude.{◌≡◌, not, Some, IfErr, IfOk};
-ghost use Rattle.jm_execute.specs.ClassTexts.{IsTextOf, unsaid_says};
+ghost use Rattle.std.specs.Prelude.{◌≡◌, not, IfErr, IfOk, string_bytes};
+ghost use Rattle.jm_execute.specs.ClassTexts.{IsTextOf, unsaid_line, unsaid_status};
 ghost use Rattle.jm_execute.specs.Refusals.{GivesText};
 ghost use Rattle.jm_execute.specs.Verdicts.{class_of};
 
+use crate::file_name::FileName;
 use crate::program_file::class_of;
 use crate::refusal::Obstacle;
+use crate::status::Status;
 use jm_disassembler::{Unsaid, class_text, first_unsaid};
 use jm_job::DisassembleJob;
 use jm_program::Class;
-use std::alloc::Global;
-use std::fmt;
-use std::fmt::Display;
+use std::alloc::{AllocError, Global};
 
 /// The text of a class, and the first part of the class that no text can say.
 #[derive(Drop)]
@@ -21,16 +21,27 @@ pub struct ClassText {
     pub unsaid: Option<Unsaid>,
 }
 
-/// The first part of the class in the file of this name that no text can say, as a line of standard
-/// error says it.
-#[derive(Drop)]
-pub struct NoText<'a>(pub &'a str, pub Unsaid);
+/// The line of the first part of the class in the file of this name that no text can say, if there is
+/// one. `AllocError`: a growth was refused.
+pub fn unsaid_line(alloc: Global, file: &str, unsaid: Option<Unsaid>) -> Result<String, AllocError>
+    ensures { IfOk result (λ line. string_bytes line ≡ unsaid_line file.now unsaid) }
+{
+    match unsaid {
+        None => Ok(String::new(alloc)),
+        Some(part) => {
+            let file = FileName(file);
+            format!(in alloc; "jm: {file}: 90 NoText({part})\n")
+        }
+    }
+}
 
-impl Display for NoText<'_> {
-    ghost output = { λ told. Some (unsaid_says told.0.now told.1) };
-
-    fn fmt<W: fmt::Write>(&self, f: &mut fmt::Formatter<W>) -> fmt::Result {
-        write!(f, "jm: {}: 90 NoText({})", self.0, self.1)
+/// The status of a text of a class, by the first part of it that no text can say.
+pub fn unsaid_status(unsaid: Option<Unsaid>) -> Status
+    ensures { result ≡ unsaid_status unsaid }
+{
+    match unsaid {
+        None => Status::Done,
+        Some(_) => Status::Refused,
     }
 }
 

@@ -1,6 +1,6 @@
 // What `jm run`, `jm replay`, `jm explore`, `jm asm`, `jm dis` and `jm debug` do.
 
-ghost use Rattle.std.specs.Prelude.{◌≡◌, [], Bool, false, true, None, IfOk, MatchResult, OnOk, string_bytes};
+ghost use Rattle.std.specs.Prelude.{◌≡◌, ◌++◌, ◌⊎◌, [], ℕ, List, Bool, None, Some, false, true, IfOk, MatchResult, OnOk, string_bytes};
 ghost use Rattle.jm_machine.specs.View.{MatchesWorld};
 ghost use Rattle.jm_shared.specs.Legal.{events_of, world_after};
 ghost use Rattle.jm_world.specs.World.{World};
@@ -9,31 +9,32 @@ ghost use Rattle.jm_execute.specs.Beginnings.{HasOneThread, beginning};
 ghost use Rattle.jm_program.specs.declared.class.ClassParts.{ClassParts};
 ghost use Rattle.jm_disassembler.specs.Texts.{class_text};
 ghost use Rattle.jm_disassembler.specs.Unsaid.{first_unsaid};
-ghost use Rattle.jm_execute.specs.ClassTexts.{unsaid_line, unsaid_status};
-ghost use Rattle.jm_execute.specs.Endings.{Ending, assembled, completed, disassembled, exhausted, interrupted, output_of, Allows, Ends, EndsIn, FailureTold, IsDone, IsDoneUnread, IsTalk, Leaves, LinesTold, Tells};
+ghost use Rattle.jm_execute.specs.ClassTexts.{unsaid_line};
+ghost use Rattle.jm_execute.specs.Endings.{Ending, assembled, completed, disassembled, exhausted, interrupted, output_of, turned_away, Allows, Ends, EndsIn, FailureTold, IsDone, IsDoneUnread, IsTalk, Leaves, LinesTold, Tells};
 ghost use Rattle.jm_debug.specs.Session.{session_of};
-ghost use Rattle.jm_execute.specs.Reports.{heap_shown};
+ghost use Rattle.jm_execute.specs.Reasons.{reason_line};
+ghost use Rattle.jm_execute.specs.Reports.{heap_shown, report};
 ghost use Rattle.jm_execute.specs.Sources.{choice_made};
 ghost use Rattle.jm_execute.specs.Collecting.{with_collections};
 ghost use Rattle.jm_execute.specs.Turns.{AreReplies, Records, RecordsPart};
 ghost use Rattle.jm_execute.specs.KeptRecords.{IsFinished, IsJournal, IsKept, IsKeptIf, IsRecord, IsRecordOf, made_whole};
 ghost use Rattle.jm_shared.specs.Records.{record_text};
 ghost use Rattle.jm_execute.specs.Talks.{IsHeld};
-ghost use Rattle.jm_execute.specs.Refusals.{Hinders};
+ghost use Rattle.jm_execute.specs.Refusals.{Hinders, reason_of};
 ghost use Rattle.jm_execute.specs.Verdicts.{Verdict, assembly_verdict, debug_verdict, disassembly_verdict, explore_verdict, replay_verdict, run_verdict, verdict};
 ghost use Rattle.jm_execute.specs.Written.{reads, words};
 
 use crate::assembly::assemble_file;
 use crate::copiers::{JobCollector, job_collector};
-use crate::disassembly::{ClassText, NoText, disassemble_file};
+use crate::disassembly::{ClassText, disassemble_file, unsaid_line, unsaid_status};
 use crate::ends::status_of;
 use crate::events::{EventSource, RunPlan};
 use crate::exploring::run_exploration;
 use crate::preparation::{prepare, prepare_exploration, prepare_replay, prepare_session};
 use crate::readable::Readable;
-use crate::refusal::Obstacle;
+use crate::refusal::{Obstacle, Refusal};
 use crate::replaying::run_replay;
-use crate::report::{heap_view, write_end, write_out_of_memory};
+use crate::report::{end_text, tell_lines, tell_unwritten, tell_write_failed, write_out_of_memory};
 use crate::session::answer_lines;
 use crate::sole_worker::SoleWorker;
 use crate::status::{Finished, Status};
@@ -42,7 +43,6 @@ use crate::watched::Watched;
 use crate::workers::run_by_workers;
 use jm_copy::Collector;
 use jm_debug::Debugger;
-use jm_disassembler::Unsaid;
 use jm_heap::{Heap, Kind};
 use jm_job::{AssembleJob, DebugJob, DisassembleJob, ExploreJob, Job, ReplayJob, RunJob};
 use jm_machine::{Machine, OutOfMemory};
@@ -75,25 +75,25 @@ fn wanted_of(job: &RunJob) -> Wanted
     }
 }
 
-// Tells of a run whose events were all made, with the view of its heap.
+// Tells of a run whose events were all made, by the lines of its end.
 fn tell_completed<H: Heap, O: Watchable, E: Watchable>(
     machine: &Machine<H>,
-    view: &str,
+    lines: &str,
     out: &mut Watched<O>,
     err: &mut Watched<E>,
 ) -> Status
     requires out { out.old.failed ≡ false }
     requires err { err.old.failed ≡ false }
-    ensures { (w : World) (shows : Bool) → MatchesWorld machine.now w → view.now ≡ heap_shown shows w
+    ensures { (w : World) (shows : Bool) → MatchesWorld machine.now w → lines.now ≡ report w ++ heap_shown shows w
         → Leaves (words O.contents O.ends) (words E.contents E.ends) (completed shows w) result out.old out.new err.old err.new }
 {
     match out.write_all(machine.output()) {
         Ok(()) => {
-            let _told = write_end(machine, view, err);
+            tell_lines(lines.as_bytes(), err);
             status_of(machine)
         }
         Err(_) => {
-            let _told = err.write_line("jm: write failed");
+            tell_write_failed(err);
             Status::Files
         }
     }
@@ -116,14 +116,14 @@ pub(crate) fn tell_interrupted<H: Heap, O: Watchable, E: Watchable>(
             Status::OutOfMemory
         }
         Err(_) => {
-            let _told = err.write_line("jm: write failed");
+            tell_write_failed(err);
             Status::Files
         }
     }
 }
 
-// Tells of a run whose events were all made. The view of its heap, where it is shown, is made before
-// anything is written; where a growth is refused then, the run is told of as at an event.
+// Tells of a run whose events were all made. The lines of its end are made before anything is
+// written; where a growth is refused then, the run is told of as at an event.
 pub(crate) fn tell_run<H: Heap, O: Watchable, E: Watchable>(
     alloc: Global,
     machine: &Machine<H>,
@@ -136,8 +136,8 @@ pub(crate) fn tell_run<H: Heap, O: Watchable, E: Watchable>(
     ensures { (w : World) → MatchesWorld machine.now w → (e : Ending) × EndsIn show_heap w e
         × Leaves (words O.contents O.ends) (words E.contents E.ends) e result out.old out.new err.old err.new }
 {
-    match heap_view(alloc, machine, show_heap) {
-        Ok(view) => tell_completed(machine, &view, out, err),
+    match end_text(alloc, machine, show_heap) {
+        Ok(lines) => tell_completed(machine, &lines, out, err),
         Err(_) => tell_interrupted(machine, out, err),
     }
 }
@@ -157,9 +157,9 @@ fn record_text<H: Heap, R: Origin>(
     }
 }
 
-// Tells of a run whose events were all made. The view of its heap and its record, where they are
-// wanted, are made before anything is written; where a growth is refused then, the run is told of as
-// at an event, and there is no record.
+// Tells of a run whose events were all made. The lines of its end and its record, where it is wanted,
+// are made before anything is written; where a growth is refused then, the run is told of as at an
+// event, and there is no record.
 pub(crate) fn tell_all_made<H: Heap, R: Origin, O: Watchable, E: Watchable>(
     alloc: Global,
     journal: &Journal<H, R>,
@@ -174,12 +174,12 @@ pub(crate) fn tell_all_made<H: Heap, R: Origin, O: Watchable, E: Watchable>(
         × IsKeptIf (made_whole e) wanted.is_recorded (λ _ text. text ≡ record_text journal.now.entries) result.record_text }
 {
     let machine = journal.machine();
-    let Ok(view) = heap_view(alloc, machine, wanted.show_heap) else {
+    let Ok(lines) = end_text(alloc, machine, wanted.show_heap) else {
         return Finished::without_record(tell_interrupted(machine, out, err));
     };
     match record_text(alloc, journal, wanted.is_recorded) {
         Ok(text) => Finished {
-            status: tell_completed(machine, &view, out, err),
+            status: tell_completed(machine, &lines, out, err),
             record_text: text,
         },
         Err(_) => Finished::without_record(tell_interrupted(machine, out, err)),
@@ -303,6 +303,7 @@ fn run_by_one_worker<S: EventSource, H: Heap + Drop, O: Watchable, E: Watchable>
 
 // Tells of class-file bytes that were made for a file of this name.
 fn tell_assembled<O: Watchable, E: Watchable>(
+    alloc: Global,
     bytes: &[u8],
     file: &str,
     out: &mut Watched<O>,
@@ -315,29 +316,41 @@ fn tell_assembled<O: Watchable, E: Watchable>(
     match out.write_all(bytes) {
         Ok(()) => Status::Done,
         Err(_) => {
-            let _told = err.write_line(format_args!("jm: {file}: not written"));
+            tell_unwritten(alloc, file, err);
             Status::Files
         }
     }
 }
 
-// Tells which part of the class of the file of this name no text can say, if there is one.
-fn tell_unsaid<E: Watchable>(file: &str, unsaid: Option<Unsaid>, err: &mut Watched<E>) -> Status
-    requires { err.old.failed ≡ false }
-    ensures status { result ≡ unsaid_status unsaid }
-    ensures line { LinesTold (words E.contents E.ends) (unsaid_line file.now unsaid) err.new.failed err.old err.new }
+// Tells of the text of a class, by the line of its first part that no text can say.
+fn tell_said<O: Watchable, E: Watchable>(
+    text: &ClassText,
+    line: &str,
+    out: &mut Watched<O>,
+    err: &mut Watched<E>,
+) -> Status
+    requires out { out.old.failed ≡ false }
+    requires err { err.old.failed ≡ false }
+    ensures { (name : List ℕ) (commented : Bool) (class : ClassParts) → string_bytes text.now.text ≡ class_text commented class → text.now.unsaid ≡ first_unsaid class
+        → line.now ≡ unsaid_line name (first_unsaid class)
+        → Leaves (words O.contents O.ends) (words E.contents E.ends) (disassembled name commented class) result out.old out.new err.old err.new }
 {
-    match unsaid {
-        None => Status::Done,
-        Some(part) => {
-            let _told = err.write_line(NoText(file, part));
-            Status::Refused
+    match out.write_all(text.text.as_bytes()) {
+        Ok(()) => {
+            tell_lines(line.as_bytes(), err);
+            unsaid_status(text.unsaid)
+        }
+        Err(_) => {
+            tell_write_failed(err);
+            Status::Files
         }
     }
 }
 
-// Tells of the text of the class of the file of this name.
+// Tells of the text of the class of the file of this name. The line of what no text can say is made
+// before anything is written.
 fn tell_text<O: Watchable, E: Watchable>(
+    alloc: Global,
     text: &ClassText,
     file: &str,
     out: &mut Watched<O>,
@@ -346,14 +359,12 @@ fn tell_text<O: Watchable, E: Watchable>(
     requires out { out.old.failed ≡ false }
     requires err { err.old.failed ≡ false }
     ensures { (commented : Bool) (class : ClassParts) → string_bytes text.now.text ≡ class_text commented class → text.now.unsaid ≡ first_unsaid class
-        → Leaves (words O.contents O.ends) (words E.contents E.ends) (disassembled file.now commented class) result out.old out.new err.old err.new }
+        → Leaves (words O.contents O.ends) (words E.contents E.ends) (disassembled file.now commented class) result out.old out.new err.old err.new
+        ⊎ Leaves (words O.contents O.ends) (words E.contents E.ends) exhausted result out.old out.new err.old err.new }
 {
-    match out.write_all(text.text.as_bytes()) {
-        Ok(()) => tell_unsaid(file, text.unsaid, err),
-        Err(_) => {
-            let _told = err.write_line("jm: write failed");
-            Status::Files
-        }
+    match unsaid_line(alloc, file, text.unsaid) {
+        Ok(line) => tell_said(text, &line, out, err),
+        Err(_) => tell_exhausted(err),
     }
 }
 
@@ -366,18 +377,45 @@ pub(crate) fn tell_exhausted<E: Watchable>(err: &mut Watched<E>) -> Status
     Status::OutOfMemory
 }
 
+// The line of a refusal.
+fn refusal_line(alloc: Global, refusal: Refusal<'_>) -> Result<String, AllocError>
+    ensures { IfOk result (λ line. string_bytes line ≡ reason_line (reason_of refusal.entry)) }
+{
+    format!(in alloc; "{refusal}\n")
+}
+
+/// Tells why a job is not done, or where memory is refused to that line that it was.
+pub(crate) fn tell_refusal<E: Watchable>(
+    alloc: Global,
+    refusal: Refusal<'_>,
+    err: &mut Watched<E>,
+) -> Status
+    requires { err.old.failed ≡ false }
+    ensures { Tells (words E.contents E.ends) (turned_away (reason_of refusal.entry)) result err.old err.new
+        ⊎ Tells (words E.contents E.ends) exhausted result err.old err.new }
+{
+    let status = refusal.status();
+    match refusal_line(alloc, refusal) {
+        Ok(line) => {
+            tell_lines(line.as_bytes(), err);
+            status
+        }
+        Err(_) => tell_exhausted(err),
+    }
+}
+
 // Tells why a job is not done. Nothing is written to the output.
-fn tell_obstacle<E: Watchable>(obstacle: Obstacle<'_>, err: &mut Watched<E>) -> Status
+fn tell_obstacle<E: Watchable>(
+    alloc: Global,
+    obstacle: Obstacle<'_>,
+    err: &mut Watched<E>,
+) -> Status
     requires { err.old.failed ≡ false }
     ensures { (v : Verdict) → Hinders v obstacle.entry → (e : Ending) × Allows v e × (IsTalk e → ⊥) × (output_of e ≡ [])
         × Tells (words E.contents E.ends) e result err.old err.new × (made_whole e ≡ None) }
 {
     match obstacle {
-        Obstacle::Refused(refusal) => {
-            let status = refusal.status();
-            let _told = err.write_line(refusal);
-            status
-        }
+        Obstacle::Refused(refusal) => tell_refusal(alloc, refusal, err),
         Obstacle::OutOfMemory => tell_exhausted(err),
     }
 }
@@ -427,7 +465,7 @@ fn execute_run<C: Collector + Drop + Send, W: Threads + Wait + Sync, O: Watchabl
             let wanted = wanted_of(job);
             run_as_chosen(rt, alloc, machine, &plan, wanted, out, err)
         }
-        Err(obstacle) => Finished::without_record(tell_obstacle(obstacle, err)),
+        Err(obstacle) => Finished::without_record(tell_obstacle(alloc, obstacle, err)),
     }
 }
 
@@ -442,8 +480,8 @@ fn execute_assemble<O: Watchable, E: Watchable>(
     ensures { IsDoneUnread (words O.contents O.ends) (words E.contents E.ends) (assembly_verdict job.now.text) result out.old out.new err.old err.new }
 {
     match assemble_file(alloc, &job.text) {
-        Ok(bytes) => tell_assembled(&bytes, &job.output, out, err),
-        Err(obstacle) => tell_obstacle(obstacle, err),
+        Ok(bytes) => tell_assembled(alloc, &bytes, &job.output, out, err),
+        Err(obstacle) => tell_obstacle(alloc, obstacle, err),
     }
 }
 
@@ -458,8 +496,8 @@ fn execute_disassemble<O: Watchable, E: Watchable>(
     ensures { IsDoneUnread (words O.contents O.ends) (words E.contents E.ends) (disassembly_verdict job.now) result out.old out.new err.old err.new }
 {
     match disassemble_file(alloc, job) {
-        Ok(text) => tell_text(&text, &job.file.name, out, err),
-        Err(obstacle) => tell_obstacle(obstacle, err),
+        Ok(text) => tell_text(alloc, &text, &job.file.name, out, err),
+        Err(obstacle) => tell_obstacle(alloc, obstacle, err),
     }
 }
 
@@ -477,7 +515,7 @@ fn execute_replay<C: Collector + Drop, O: Watchable, E: Watchable>(
 {
     match prepare_replay(alloc, job, collector) {
         Ok((machine, read)) => run_replay(alloc, machine, &read, job.show_heap, out, err),
-        Err(obstacle) => tell_obstacle(obstacle, err),
+        Err(obstacle) => tell_obstacle(alloc, obstacle, err),
     }
 }
 
@@ -495,7 +533,7 @@ fn execute_explore<W: Threads, O: Watchable, E: Watchable>(
 {
     match prepare_exploration(alloc, job, JobCollector::<&W>::OneCopier) {
         Ok(machine) => run_exploration(rt, alloc, machine, job, out, err),
-        Err(obstacle) => tell_obstacle(obstacle, err),
+        Err(obstacle) => tell_obstacle(alloc, obstacle, err),
     }
 }
 
@@ -523,7 +561,7 @@ fn tell_failure<O: Watchable, E: Watchable>(out: &Watched<O>, err: &mut Watched<
     ensures { FailureTold (words E.contents E.ends) out.now.failed err.old err.new }
 {
     if out.has_failed() {
-        let _told = err.write_line("jm: write failed");
+        tell_write_failed(err);
     }
 }
 
@@ -548,7 +586,7 @@ fn execute_debug<C: Collector + Drop, W: Wait, R: Readable, O: Watchable, E: Wat
             tell_failure(out, err);
             status
         }
-        Err(obstacle) => tell_obstacle(obstacle, err),
+        Err(obstacle) => tell_obstacle(alloc, obstacle, err),
     }
 }
 

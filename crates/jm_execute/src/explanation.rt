@@ -7,7 +7,7 @@ ghost use Rattle.jm_explain.specs.Table.{explained};
 ghost use Rattle.jm_execute.specs.Shown.{Shows, ShowsIfThereIsMemory, version_line};
 ghost use Rattle.jm_execute.specs.Written.{words};
 
-use crate::report::write_out_of_memory;
+use crate::report::{tell_write_failed, write_out_of_memory};
 use crate::status::Status;
 use crate::watchable::Watchable;
 use crate::watched::Watched;
@@ -27,7 +27,7 @@ fn show<O: Watchable, E: Watchable>(
     match out.write_all(text.as_bytes()) {
         Ok(()) => Status::Done,
         Err(_) => {
-            let _told = err.write_line("jm: write failed");
+            tell_write_failed(err);
             Status::Files
         }
     }

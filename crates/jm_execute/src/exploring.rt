@@ -14,6 +14,7 @@ use crate::copiers::JobCollector;
 use crate::ends::stop_status;
 use crate::execution::tell_exhausted;
 use crate::preparation::RunHeap;
+use crate::report::{tell_lines, tell_write_failed};
 use crate::status::Status;
 use crate::watchable::Watchable;
 use crate::watched::Watched;
@@ -170,7 +171,7 @@ fn tell_lack<E: Watchable>(found: &Explored, wanted: Option<u32>, err: &mut Watc
         None => told_status(found.unfinished, &found.told),
         Some(Lack::Memory) => tell_exhausted(err),
         Some(Lack::Outcome) => {
-            let _told = err.write_line("jm: 81 NoSuch");
+            tell_lines(b"jm: 81 NoSuch\n", err);
             Status::Refused
         }
     }
@@ -192,7 +193,7 @@ fn tell_explored<O: Watchable, E: Watchable>(
     match out.write_all(text) {
         Ok(()) => tell_lack(found, wanted, err),
         Err(_) => {
-            let _told = err.write_line("jm: write failed");
+            tell_write_failed(err);
             Status::Files
         }
     }

@@ -24,7 +24,7 @@ ghost use Rattle.jm_execute.specs.Checks.{LoadFrom, all_told, is_one_line};
 ghost use Rattle.jm_execute.specs.Codes.{code_of};
 ghost use Rattle.jm_execute.specs.Explorations.{outcome_status};
 ghost use Rattle.jm_execute.specs.Reports.{report, status_of};
-ghost use Rattle.jm_execute.specs.Endings.{Allows, Ending, IsDone, Leaves, assembled, disassembled, output_of};
+ghost use Rattle.jm_execute.specs.Endings.{Allows, Ending, IsDone, Leaves, assembled, disassembled, lines_after, output_of};
 ghost use Rattle.jm_execute.specs.ProgramFiles.{FileFault, text_class};
 ghost use Rattle.jm_execute.specs.Reasons.{file_fault_text, not_read};
 ghost use Rattle.jm_execute.specs.Talks.{printed_for};
@@ -96,6 +96,14 @@ pub fn room_for_the_output<E: Watchable>()
         → vec_len out.inner + length (output_of e) ≤ vec_capacity out.inner
         → Leaves (words contents vec_ends) (words E.contents E.ends) e ended out new_out err new_err
         → new_out.failed ≡ false }
+{}
+
+/// Standard error in memory that has room for its lines does not fail, where the output was written.
+pub fn room_for_the_lines<O: Watchable>()
+    ensures { (contents : Vec ℕ Global → Option (List ℕ)) (e : Ending) (lines : List ℕ) (ended : Status) (out new_out : Watch O) (err new_err : Watch (Vec ℕ Global))
+        → lines_after e ≡ Some lines → new_out.failed ≡ false → vec_len err.inner + length lines ≤ vec_capacity err.inner
+        → Leaves (words O.contents O.ends) (words contents vec_ends) e ended out new_out err new_err
+        → new_err.failed ≡ false }
 {}
 
 /// What is printed for lines that are texts are the session's answers to them, one after the other.

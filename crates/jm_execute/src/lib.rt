@@ -36,11 +36,11 @@ mod events;
 mod execution;
 mod explanation;
 mod exploring;
+mod file_name;
 mod files;
 mod film_execution;
 mod laws;
 mod lines;
-mod number;
 mod pass;
 mod preparation;
 mod program_file;
@@ -65,12 +65,13 @@ mod workers;
 
 pub use assembly::assemble_file;
 pub use checking::check;
-pub use disassembly::{ClassText, NoText, disassemble_file};
+pub use disassembly::{ClassText, disassemble_file, unsaid_line, unsaid_status};
 pub use ends::status_of;
 pub use events::{EventSource, RunPlan, RunSource};
 pub use execution::{Made, execute, make_journal};
 pub use explanation::{explain, tell_version};
 pub use exploring::Lack;
+pub use file_name::FileName;
 pub use files::{bytes_of, check_read};
 pub use film_execution::film;
 pub use jm_explore_text::Utf8;
@@ -93,7 +94,9 @@ pub use program_file::{class_in_file, class_in_text, class_of};
 pub use readable::{ReadFailed, Readable, get_by_read};
 pub use reasons_of_end::why;
 pub use refusal::{Obstacle, Refusal};
-pub use report::{heap_view, write_difference, write_end, write_out_of_memory, write_report};
+pub use report::{
+    end_text, heap_view, report_of, tell_unwritten, write_difference, write_out_of_memory,
+};
 pub use round_trip::written_and_read;
 pub use session::answer_lines;
 pub use sole_worker::SoleWorker;
@@ -102,7 +105,5 @@ pub use teller::{FilmTeller, Teller, TraceTeller, WhyTeller};
 pub use told_preparation::{ReadyToTell, prepare_told};
 pub use told_run::tell_run;
 pub use tracing::trace;
-pub use watchable::{
-    Watchable, WriteFailed, put_by_write, put_line_by_write, put_through_by_flush,
-};
+pub use watchable::{Watchable, WriteFailed, put_by_write, put_through_by_flush};
 pub use watched::Watched;

@@ -1,17 +1,19 @@
 // The class that a program's file holds.
 
-ghost use Rattle.std.specs.Prelude.{◌≡◌, ◌≤◌, length, true, false, MatchResult};
+ghost use Rattle.std.specs.Prelude.{◌≡◌, ◌≤◌, length, true, false, IfOk, MatchResult};
 ghost use Rattle.std.specs.Str.{is_utf8};
 ghost use Rattle.std.specs.Str.Lossy.{utf8_valid_len};
 ghost use Rattle.jm_bytes.specs.Reading.{GivesAll};
+ghost use Rattle.jm_class_format.specs.ClassFile.{Spells};
 ghost use Rattle.jm_jasmin_ops.specs.declared.fault.AsmFault.TheVariants as asm;
 ghost use Rattle.jm_execute.specs.ProgramFiles.{is_text_name, line_at, text_class};
 ghost use Rattle.jm_execute.specs.Refusals.{Gives};
-ghost use Rattle.jm_execute.specs.Verdicts.{class_of, denoted_class, held_class, spelled_class};
+ghost use Rattle.jm_execute.specs.Verdicts.{class_of, denoted_class, held_class, held_in_text, spelled_class, writable_class, written_class};
 
 use crate::files::bytes_of;
 use crate::refusal::{Obstacle, Refusal};
 use jm_class_reader::{ReadFault, read_class};
+use jm_class_writer::{WriteFault, write_class};
 use jm_jasmin::{AsmFault, assemble};
 use jm_job::InputFile;
 use jm_program::Class;
@@ -66,6 +68,42 @@ pub fn class_in_text<'a>(alloc: Global, file: &'a str, bytes: &[u8]) -> Result<C
     }
 }
 
+/// The bytes that are written for the class of the text of this name.
+pub(crate) fn written_class<'a>(
+    alloc: Global,
+    file: &'a str,
+    class: &Class,
+) -> Result<Vec<u8>, Obstacle<'a>>
+    ensures written { Gives result (written_class file.now class.now) (λ bytes. bytes.items) }
+    ensures spelled { IfOk result (λ bytes. Spells bytes.items class.now) }
+{
+    match write_class(alloc, class) {
+        Ok(bytes) => Ok(bytes),
+        Err(WriteFault::OutOfMemory) => Err(Obstacle::OutOfMemory),
+        Err(fault) => Err(Obstacle::Refused(Refusal::Unwritten(file, fault))),
+    }
+}
+
+// The class of the text of this name, where a class file can hold it.
+fn writable_class<'a>(alloc: Global, file: &'a str, class: Class) -> Result<Class, Obstacle<'a>>
+    ensures { Gives result (writable_class file.now class) (λ class. class) }
+{
+    match written_class(alloc, file, &class) {
+        Ok(_) => Ok(class),
+        Err(obstacle) => Err(obstacle),
+    }
+}
+
+// The class that the bytes of an assembler text of this name hold.
+fn held_in_text<'a>(alloc: Global, file: &'a str, bytes: &[u8]) -> Result<Class, Obstacle<'a>>
+    ensures { Gives result (held_in_text file.now bytes.now) (λ class. class) }
+{
+    match class_in_text(alloc, file, bytes) {
+        Ok(class) => writable_class(alloc, file, class),
+        Err(obstacle) => Err(obstacle),
+    }
+}
+
 // The class that the bytes of a class file of this name spell.
 fn class_in_class_file<'a>(
     alloc: Global,
@@ -81,12 +119,13 @@ fn class_in_class_file<'a>(
     }
 }
 
-/// The class that a file of this name with these bytes holds.
+/// The class that a file of this name with these bytes holds. A text whose class passes a limit of
+/// class files holds none.
 pub fn class_in_file<'a>(alloc: Global, file: &'a str, bytes: &[u8]) -> Result<Class, Obstacle<'a>>
     ensures { Gives result (held_class file.now bytes.now) (λ class. class) }
 {
     if is_text_name(file) {
-        class_in_text(alloc, file, bytes)
+        held_in_text(alloc, file, bytes)
     } else {
         class_in_class_file(alloc, file, bytes)
     }

@@ -5,7 +5,7 @@ ghost use Rattle.std.specs.Fmt.{WritesOnOk};
 ghost use Rattle.jm_execute.specs.Reasons.{reason_says, reason_status, reason_text};
 ghost use Rattle.jm_execute.specs.Refusals.{reason_of};
 
-use crate::number::Number;
+use crate::file_name::FileName;
 use crate::status::Status;
 use jm_class_reader::ReadFault;
 use jm_class_writer::WriteFault;
@@ -52,13 +52,13 @@ impl Refusal<'_> {
         ensures { WritesOnOk W.write_str_gives f.old result (reason_says (reason_of self.now)) f.new }
     {
         match self {
-            Refusal::NotRead(file) => write!(f, "{file}: not read"),
-            Refusal::BadClass(file, fault) => write!(f, "{file}: {fault}"),
-            Refusal::BadText(file, fault) => write!(f, "{file}: {fault}"),
-            Refusal::Unwritten(file, fault) => write!(f, "{file}: {fault}"),
+            Refusal::NotRead(file) => write!(f, "{}: not read", FileName(file)),
+            Refusal::BadClass(file, fault) => write!(f, "{}: {fault}", FileName(file)),
+            Refusal::BadText(file, fault) => write!(f, "{}: {fault}", FileName(file)),
+            Refusal::Unwritten(file, fault) => write!(f, "{}: {fault}", FileName(file)),
             Refusal::Unlinked(fault) => write!(f, "{fault}"),
             Refusal::HeapTooSmall => f.write_str("63 HeapTooSmall"),
-            Refusal::BadSchedule(line) => write!(f, "70 BadSchedule({})", Number(*line)),
+            Refusal::BadSchedule(line) => write!(f, "70 BadSchedule({line})"),
         }
     }
 }

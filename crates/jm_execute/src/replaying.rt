@@ -9,7 +9,7 @@ ghost use Rattle.jm_execute.specs.Endings.{Ending, Ends, Leaves, differed};
 ghost use Rattle.jm_execute.specs.Written.{words};
 
 use crate::execution::{tell_interrupted, tell_run};
-use crate::report::write_difference;
+use crate::report::{tell_write_failed, write_difference};
 use crate::status::Status;
 use crate::watchable::Watchable;
 use crate::watched::Watched;
@@ -37,7 +37,7 @@ fn tell_differed<H: Heap, O: Watchable, E: Watchable>(
             Status::BadSchedule
         }
         Err(_) => {
-            let _told = err.write_line("jm: write failed");
+            tell_write_failed(err);
             Status::Files
         }
     }

@@ -4,11 +4,10 @@ ghost use Rattle.std.specs.Prelude.{◌≡◌, ℕ, [], List, Ok, OnOk, Result, 
 ghost use Rattle.jm_machine.specs.View.{MatchesWorld};
 ghost use Rattle.jm_world.specs.Loading.{loaded_world};
 ghost use Rattle.jm_world.specs.World.{World};
-ghost use Rattle.jm_execute.specs.Reasons.{reason_line, reason_status};
-ghost use Rattle.jm_execute.specs.Refusals.{Hinders, reason_of};
-ghost use Rattle.jm_execute.specs.Reports.{failure_line, report, status_of};
+ghost use Rattle.jm_execute.specs.Refusals.{Hinders};
+ghost use Rattle.jm_execute.specs.Reports.{failure_line};
 ghost use Rattle.jm_execute.specs.Sources.{events_made};
-ghost use Rattle.jm_execute.specs.Tellings.{IsTold, Says, SaysEnding, Telling, TellingAllows, TellingEnding, TextTold, ToldRun, telling_output, told_run, told_verdict};
+ghost use Rattle.jm_execute.specs.Tellings.{EndTold, IsTold, Says, SaysEnding, Telling, TellingAllows, TellingEnding, TextTold, ToldRun, telling_output, told_run, told_verdict};
 ghost use Rattle.jm_execute.specs.Verdicts.{Cause};
 ghost use Rattle.jm_execute.specs.Written.{words};
 ghost use Rattle.jm_program.specs.declared.class.ClassParts.{ClassParts};
@@ -16,9 +15,9 @@ ghost use Rattle.jm_program.specs.declared.class.ClassParts.{ClassParts};
 use crate::copiers::job_collector;
 use crate::ends::status_of;
 use crate::events::RunSource;
-use crate::execution::tell_exhausted;
-use crate::refusal::{Obstacle, Refusal};
-use crate::report::write_report;
+use crate::execution::{tell_exhausted, tell_refusal};
+use crate::refusal::Obstacle;
+use crate::report::{report_of, tell_lines, tell_write_failed};
 use crate::status::Status;
 use crate::teller::Teller;
 use crate::told_preparation::prepare_told;
@@ -32,24 +31,14 @@ use jm_page::PageFault;
 use std::alloc::Global;
 use std::thread::Threads;
 
-// Tells why there is no run.
-fn tell_refusal<E: Watchable>(refusal: Refusal<'_>, err: &mut Watched<E>) -> Status
-    requires { err.old.failed ≡ false }
-    ensures { Says (words E.contents E.ends) (reason_status (reason_of refusal.entry)) (Some (reason_line (reason_of refusal.entry))) result err.old err.new }
-{
-    let status = refusal.status();
-    let _told = err.write_line(refusal);
-    status
-}
-
 // Tells what keeps a run from being made. Nothing is written to the output.
-fn tell_untold<E: Watchable>(obstacle: Obstacle<'_>, err: &mut Watched<E>) -> Status
+fn tell_untold<E: Watchable>(alloc: Global, obstacle: Obstacle<'_>, err: &mut Watched<E>) -> Status
     requires { err.old.failed ≡ false }
     ensures { (tells : Telling) (v : Result ToldRun Cause) → Hinders v obstacle.entry
         → (e : TellingEnding) × TellingAllows tells v e × (telling_output tells e ≡ []) × SaysEnding (words E.contents E.ends) tells e result err.old err.new }
 {
     match obstacle {
-        Obstacle::Refused(refusal) => tell_refusal(refusal, err),
+        Obstacle::Refused(refusal) => tell_refusal(alloc, refusal, err),
         Obstacle::OutOfMemory => tell_exhausted(err),
     }
 }
@@ -59,21 +48,31 @@ fn tell_broken<E: Watchable>(err: &mut Watched<E>) -> Status
     requires { err.old.failed ≡ false }
     ensures { Says (words E.contents E.ends) Status.Files (Some failure_line) result err.old err.new }
 {
-    let _told = err.write_line("jm: write failed");
+    tell_write_failed(err);
     Status::Files
 }
 
 // Tells of a run whose events were all made.
-fn tell_last<H: Heap, E: Watchable>(machine: &Machine<H>, err: &mut Watched<E>) -> Status
+fn tell_last<H: Heap, E: Watchable>(
+    alloc: Global,
+    machine: &Machine<H>,
+    err: &mut Watched<E>,
+) -> Status
     requires { err.old.failed ≡ false }
-    ensures { (w : World) → MatchesWorld machine.now w → Says (words E.contents E.ends) (status_of w) (Some (report w)) result err.old err.new }
+    ensures { (w : World) → MatchesWorld machine.now w → EndTold (words E.contents E.ends) w result err.old err.new }
 {
-    let _told = write_report(machine, err);
-    status_of(machine)
+    match report_of(alloc, machine) {
+        Ok(lines) => {
+            tell_lines(lines.as_bytes(), err);
+            status_of(machine)
+        }
+        Err(_) => tell_exhausted(err),
+    }
 }
 
 // Tells of the run whose text was written, or why it was not written whole.
 fn tell_told<H: Heap, E: Watchable>(
+    alloc: Global,
     machine: &Machine<H>,
     written: Result<(), PageFault>,
     err: &mut Watched<E>,
@@ -82,7 +81,7 @@ fn tell_told<H: Heap, E: Watchable>(
     ensures { (w : World) → OnOk written (MatchesWorld machine.now w) → TextTold (words E.contents E.ends) written w result err.old err.new }
 {
     match written {
-        Ok(()) => tell_last(machine, err),
+        Ok(()) => tell_last(alloc, machine, err),
         Err(PageFault::OutOfMemory) => tell_exhausted(err),
         Err(PageFault::WriteFailed) => tell_broken(err),
     }
@@ -103,7 +102,7 @@ fn tell_events<T: Teller, H: Heap, S: EventsDue, O: Watchable, E: Watchable>(
         → IsTold (words O.contents O.ends) (words E.contents E.ends) (T.telling teller.now) (Ok (told_run program limit (S.due events.old w))) result out.old out.new err.old err.new }
 {
     let written = teller.tell(alloc, machine, events, out);
-    tell_told(machine, written, err)
+    tell_told(alloc, machine, written, err)
 }
 
 // Tells of the events of a source from a machine's beginning on.
@@ -164,6 +163,6 @@ pub fn tell_run<T: Teller, W: Threads, O: Watchable, E: Watchable>(
             drop(machine);
             status
         }
-        Err(obstacle) => tell_untold(obstacle, err),
+        Err(obstacle) => tell_untold(alloc, obstacle, err),
     }
 }

@@ -1,12 +1,10 @@
 // Writers that can be watched.
 
-ghost use Rattle.std.specs.Prelude.{◌≡◌, ◌<◌, ◌≤◌, [], length, take, IfOk, IfSome, MatchResult, OnErr, OnOk, ⊤};
-ghost use Rattle.std.specs.Fmt.{with_newline};
-ghost use Rattle.std.specs.Io.KnownBytes.{Appends, Keeps, WriteAppends};
-ghost use Rattle.jm_execute.specs.CallEnds.{CallEnd, took, refused, line_refused, flush_refused, vec_ends};
+ghost use Rattle.std.specs.Prelude.{◌<◌, ◌≤◌, [], length, take, IfOk, MatchResult, ⊤};
+ghost use Rattle.std.specs.Io.KnownBytes.{Keeps, WriteAppends};
+ghost use Rattle.jm_execute.specs.CallEnds.{CallEnd, took, refused, flush_refused, vec_ends};
 
 use std::alloc::Allocator;
-use std::fmt::Display;
 use std::io::{Stderr, Stdout, Write};
 
 /// The writer failed: a call answered an error, or took none of the bytes that it was given.
@@ -28,11 +26,6 @@ pub trait Watchable: Write {
         ensures ended { MatchResult result (λ count. ends self.old (took (take count bytes.now)) self.new)
             (λ _. ends self.old (refused bytes.now) self.new) };
 
-    /// Writes a text and a line feed. After an error a beginning of the line may be written.
-    fn put_line<D: Display + Drop>(&mut self, text: D) -> Result<(), WriteFailed>
-        ensures bytes { OnOk result (IfSome (with_newline (D.output text)) (Appends (Self.contents self.old) (Self.contents self.new))) }
-        ensures ended { OnErr result (ends self.old line_refused self.new) };
-
     /// Hands on what was written, where the writer keeps it back. It writes no bytes of its own.
     fn put_through(&mut self) -> Result<(), WriteFailed>
         ensures bytes { Keeps (Self.contents self.old) (Self.contents self.new) }
@@ -48,20 +41,6 @@ pub fn put_by_write<W: Write>(writer: &mut W, bytes: &[u8]) -> Result<usize, Wri
     match writer.write(bytes) {
         Ok(0) => Err(WriteFailed),
         Ok(count) => Ok(count),
-        Err(_) => Err(WriteFailed),
-    }
-}
-
-/// Writes a text and a line feed. An error says that a call answered one, or took no byte, or that
-/// the text has none.
-pub fn put_line_by_write<W: Write, D: Display + Drop>(
-    writer: &mut W,
-    text: D,
-) -> Result<(), WriteFailed>
-    ensures { OnOk result (IfSome (with_newline (D.output text)) (Appends (W.contents writer.old) (W.contents writer.new))) }
-{
-    match writer.writeln(text) {
-        Ok(()) => Ok(()),
         Err(_) => Err(WriteFailed),
     }
 }
@@ -83,10 +62,6 @@ impl<W: Watchable> Watchable for &mut W {
         Watchable::put(&mut **self, bytes)
     }
 
-    fn put_line<D: Display + Drop>(&mut self, text: D) -> Result<(), WriteFailed> {
-        Watchable::put_line(&mut **self, text)
-    }
-
     fn put_through(&mut self) -> Result<(), WriteFailed> {
         Watchable::put_through(&mut **self)
     }
@@ -104,10 +79,6 @@ impl<A: Allocator> Watchable for Vec<u8, A> {
         }
     }
 
-    fn put_line<D: Display + Drop>(&mut self, text: D) -> Result<(), WriteFailed> {
-        put_line_by_write(self, text)
-    }
-
     fn put_through(&mut self) -> Result<(), WriteFailed> {
         Ok(())
     }
@@ -121,10 +92,6 @@ impl Watchable for Stdout {
         put_by_write(self, bytes)
     }
 
-    fn put_line<D: Display + Drop>(&mut self, text: D) -> Result<(), WriteFailed> {
-        put_line_by_write(self, text)
-    }
-
     fn put_through(&mut self) -> Result<(), WriteFailed> {
         put_through_by_flush(self)
     }
@@ -136,10 +103,6 @@ impl Watchable for Stderr {
 
     fn put(&mut self, bytes: &[u8]) -> Result<usize, WriteFailed> {
         put_by_write(self, bytes)
-    }
-
-    fn put_line<D: Display + Drop>(&mut self, text: D) -> Result<(), WriteFailed> {
-        put_line_by_write(self, text)
     }
 
     fn put_through(&mut self) -> Result<(), WriteFailed> {

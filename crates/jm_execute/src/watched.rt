@@ -1,14 +1,12 @@
 // Readers and writers that remember whether they have failed.
 
-ghost use Rattle.std.specs.Prelude.{◌≡◌, ◌<◌, ◌≤◌, [], length, take, true, false, IfOk, IfSome, MatchResult, OnOk};
-ghost use Rattle.std.specs.Fmt.{with_newline};
+ghost use Rattle.std.specs.Prelude.{◌≡◌, ◌<◌, ◌≤◌, [], length, take, true, false, IfOk, MatchResult};
 ghost use Rattle.std.specs.Io.{ReadsAtMost};
 ghost use Rattle.std.specs.Io.KnownBytes.{ReadConsumes};
-ghost use Rattle.jm_execute.specs.Written.{AllWritten, Broken, Flushes, LineFailed, LinesWritten, ReadingBroke, Writes, WritesLines, fresh, reads, words};
+ghost use Rattle.jm_execute.specs.Written.{AllWritten, Broken, Flushes, ReadingBroke, Writes, fresh, reads, words};
 
 use crate::readable::{ReadFailed, Readable};
 use crate::watchable::{Watchable, WriteFailed};
-use std::fmt::Display;
 use std::marker::Model;
 
 /// A reader or a writer with a flag that is set once a call has failed: it answered an error, or a
@@ -104,28 +102,6 @@ impl<W: Watchable> Watched<W> {
         ensures { Flushes (words W.contents W.ends) result self.old self.new }
     {
         match self.inner.put_through() {
-            Ok(()) => Ok(()),
-            Err(fault) => {
-                self.failed = true;
-                Err(fault)
-            }
-        }
-    }
-
-    /// Writes lines that stand in memory. An error says that a call failed, and then the flag is set.
-    pub fn write_lines(&mut self, lines: &[u8]) -> Result<(), WriteFailed>
-        ensures { WritesLines (words W.contents W.ends) result self.old self.new lines.now }
-    {
-        self.write_all(lines)
-    }
-
-    /// Writes a text and a line feed. An error says that the call failed, and then the flag is set.
-    pub fn write_line<D: Display + Drop>(&mut self, text: D) -> Result<(), WriteFailed>
-        ensures line { MatchResult result (λ _. IfSome (with_newline (D.output text)) (LinesWritten (words W.contents W.ends) self.old self.new))
-            (λ _. LineFailed (words W.contents W.ends) self.new) }
-        ensures same { OnOk result (self.new.failed ≡ self.old.failed) }
-    {
-        match self.inner.put_line(text) {
             Ok(()) => Ok(()),
             Err(fault) => {
                 self.failed = true;

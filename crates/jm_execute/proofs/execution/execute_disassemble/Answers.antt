@@ -1,5 +1,6 @@
 -- The text, or how a file that holds no class ends.
-use Rattle.jm_execute.specs.Endings.{disassembled}
+use Rattle.std.proofs.Common.{inl, inr}
+use Rattle.jm_execute.specs.Endings.{disassembled, exhausted}
 use Rattle.jm_execute.specs.Verdicts.{disassembly_verdict}
 use Rattle.jm_execute.proofs.Chains.{hindered}
 use Rattle.jm_execute.proofs.Disassemblies.{disassembles_by}
@@ -10,8 +11,10 @@ pub returns-in-Ok : goal.returns-in-Ok
 unfolding disassembly_verdict
 returns-in-Ok g c =
     let (class, is, made) = c.in-Ok.ensures in
-    let told = rw c.deref.ensures at (c.tell_text.ensures _ class made.text made.unsaid) in
-    (disassembled _ _ class, disassembles_by _ _ _ class _ is made, (λ talk. talk), told)
+    elim (rw c.deref.ensures at (c.tell_text.ensures _ class made.text made.unsaid)) [
+      | inl leaves ↦ (disassembled _ _ class, disassembles_by _ _ _ class _ is made, (λ talk. talk), leaves)
+      | inr leaves ↦ (exhausted, tt, (λ talk. talk), leaves)
+    ]
 
 pub returns-in-Err : goal.returns-in-Err
 unfolding disassembly_verdict

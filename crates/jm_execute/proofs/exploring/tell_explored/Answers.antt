@@ -1,9 +1,8 @@
 -- The text is written, and then what is lacking is told; or a call for the text failed.
-use Rattle.std.proofs.Common.{Some, subst}
+use Rattle.std.proofs.Common.{subst}
 use Rattle.jm_execute.specs.Endings.{explored}
-use Rattle.jm_execute.specs.Reports.{failure_line}
 use Rattle.jm_execute.specs.Written.{AllWritten, Broken, words}
-use Rattle.jm_execute.proofs.Telling.{broken_told, line_told, whole_told}
+use Rattle.jm_execute.proofs.Telling.{broken_told, whole_told}
 use Rattle.jm_execute.proofs.exploring.tell_explored.Goals as goal
 
 pub returns-in-Ok : goal.returns-in-Ok
@@ -16,6 +15,6 @@ pub returns-in-Err : goal.returns-in-Err
 returns-in-Err g c = λ b is.
     let o = words g.O.Write.contents g.O.Watchable.ends in
     let w = words g.E.Write.contents g.E.Watchable.ends in
-    broken_told o w (explored b c.args.found.now c.args.wanted) c.args.out.now c.write_all.new.self c.args.err.now c.write_line-told.new.self
+    broken_told o w (explored b c.args.found.now c.args.wanted) c.args.out.now c.write_all.new.self c.args.err.now c.tell_write_failed.new.err
     (subst (Broken o c.args.out.now c.write_all.new.self) is c.in-Err.ensures)
-    (line_told w c.write_line-told.result c.args.err.now c.write_line-told.new.self (Some failure_line) c.requires.err c.write_line-told.ensures.line c.write_line-told.ensures.same)
+    c.tell_write_failed.ensures
