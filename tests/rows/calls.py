@@ -28,6 +28,10 @@ class Folder:
     """A folder in the place of a file."""
 
 
+# A name of another file, which lies there: a symbolic link, or a hard one.
+Link = collections.namedtuple("Link", "name is_hard")
+
+
 class Missed(Exception):
     """What is not as it should be, with what was wanted and what came."""
 
@@ -41,8 +45,13 @@ def shown(value):
     return f"[{value[:4000].decode(errors='backslashreplace')}]" if isinstance(value, bytes) else str(value)
 
 
+def behind(files, content):
+    """Returns what stands in a file: of a link, what stands in the file to which it leads."""
+    return behind(files, files[content.name]) if isinstance(content, Link) else content
+
+
 def laid(folder, files):
-    """Lays files into a folder. Each has its bytes, or is of a kind of its own."""
+    """Lays files into a folder. Each has its bytes, or is of a kind of its own; links come last."""
     for name, content in files.items():
         path = f"{folder}/{name}"
         if "/" in name:
@@ -50,11 +59,18 @@ def laid(folder, files):
         if content is Folder:
             os.makedirs(path)
             continue
+        if isinstance(content, Link):
+            continue
         with open(path, "wb") as file:
             if content is Large:
                 file.truncate(LARGE)
             else:
                 file.write(content)
+    for name, content in files.items():
+        if isinstance(content, Link) and content.is_hard:
+            os.link(f"{folder}/{content.name}", f"{folder}/{name}")
+        elif isinstance(content, Link):
+            os.symlink(content.name, f"{folder}/{name}")
 
 
 def found(folder):
@@ -119,7 +135,8 @@ class Program:
                 told = f" ({shown(came.lines)})" if what == "status" else ""
                 raise Missed(f"wanted {what} {shown(wanted)}, came {shown(getattr(came, what))}{told}")
         if call.left is not None:
-            whole = {name: it for name, it in call.files.items() if isinstance(it, bytes)} | call.left
+            there = {name: behind(call.files, it) for name, it in call.files.items()}
+            whole = {name: it for name, it in there.items() if isinstance(it, bytes)} | call.left
             others = sorted(it for it in {*whole, *came.files} if whole.get(it) != came.files.get(it))
             if others:
                 raise Missed(f"other files than wanted: {', '.join(others)}")

@@ -2,7 +2,7 @@
 import functools
 import re
 
-from rows.calls import DATA, Folder, Large
+from rows.calls import DATA, Folder, Large, Link
 
 
 @functools.lru_cache(None)
@@ -90,11 +90,19 @@ def answer_bytes(column):
     return bytes_of(expanded(column))
 
 
+def link_of(column):
+    """Returns the link that a column means, if it means one."""
+    for word, is_hard in (("@link ", False), ("@hard link ", True)):
+        if column.startswith(word):
+            return Link(column.removeprefix(word), is_hard)
+    return None
+
+
 def file_of(files, name, column):
     """Lays a file with what a column means among the files."""
     if column == "@not read":
         return
-    content = {"@out of memory": Large, "@folder": Folder}.get(column) or bytes_of(column)
+    content = {"@out of memory": Large, "@folder": Folder}.get(column) or link_of(column) or bytes_of(column)
     if files.setdefault(name, content) != content:
         raise ValueError(f"two files have the name {name}")
 

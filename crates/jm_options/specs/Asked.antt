@@ -72,7 +72,22 @@ HoldsStress matches workers (Some kind) = (first_of (codes "stress") matches ≡
 
 -- what a run is given for one worker
 abbrev pub serial_of : RunOptions → SerialRun
-serial_of o = record { heap = o.heap; copiers = o.copiers; schedule = o.schedule; steps = o.steps; quantum = o.quantum; files = o.files }
+serial_of o = record {
+  heap = o.heap;
+  copiers = o.copiers;
+  schedule = o.schedule;
+  steps = o.steps;
+  quantum = o.quantum;
+  files = o.files;
+  least_heap = o.least_heap;
+  most_heap = o.most_heap;
+  some_copiers = o.some_copiers;
+  few_copiers = o.few_copiers;
+  some_steps = o.some_steps;
+  few_steps = o.few_steps;
+  some_quantum = o.some_quantum;
+  small_quantum = o.small_quantum;
+}
 
 -- the options are what the matches of a run hold, and within the limits
 pub record HoldsRun (matches : List Row) (o : RunOptions) : Type 0 where

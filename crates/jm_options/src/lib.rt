@@ -11,7 +11,8 @@
 //! `jm film [--from N] [--heap N] [--copiers N] [--schedule FILE] [--steps N] [--quantum N] [--source DIR] FILE...`,
 //! `jm asm IN OUT`, where OUT is another word than IN, `jm dis [--bare] FILE`,
 //! `jm debug [--heap N] [--copiers N] FILE...`, `jm explain [N]`, where N is a number that `jm_explain` tells of, and
-//! `jm version`; any other option or subcommand is refused by its name.
+//! `jm version`; any other option or subcommand is refused by its name. Each number of [`Options`] is within its limits:
+//! that is an invariant of the types.
 //!
 //! The crate stands on `clap` and `jm_explain`.
 #![tactic(auto)]
@@ -30,4 +31,5 @@ pub use request::{
     MAX_RUNS, MAX_SCHEDULE_STEPS, MAX_SLICE, MAX_STEPS, MAX_SWITCHES, MAX_WORKERS, MIN_HEAP,
     Options, ReplayOptions, RunOptions, SerialRun, Stress, TraceOptions,
 };
+pub use usage::read_and_written;
 pub use words::options;

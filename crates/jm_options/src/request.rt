@@ -1,3 +1,8 @@
+// What is asked for. A number is within its limits.
+
+ghost use Rattle.std.specs.Prelude.{◌≤◌, IfSome};
+ghost use Rattle.std.proofs.Props.{props};
+
 use jm_explain::Entry;
 
 /// The least limit of the heap, in cells.
@@ -77,7 +82,7 @@ pub enum Stress {
 /// What `jm run` is given.
 #[derive(Drop)]
 pub struct RunOptions {
-    /// The limit of the heap, in cells.
+    /// The limit of the heap, in cells, from [`MIN_HEAP`] to [`MAX_HEAP`].
     pub heap: u32,
     /// How many copiers collect the heap, from 1 to [`MAX_COPIERS`].
     pub copiers: u32,
@@ -100,12 +105,22 @@ pub struct RunOptions {
     /// The files of the classes, the main class's first: a class file, or the text of a class if its
     /// name ends in `.j`.
     pub files: Vec<String>,
+    ghost least_heap: { 16 ≤ heap },
+    ghost most_heap: { heap ≤ 16777216 },
+    ghost some_copiers: { 1 ≤ copiers },
+    ghost few_copiers: { copiers ≤ 16 },
+    ghost some_steps: { 1 ≤ steps },
+    ghost few_steps: { steps ≤ 10000000 },
+    ghost some_quantum: { 1 ≤ quantum },
+    ghost small_quantum: { quantum ≤ 1000000 },
+    ghost some_workers: { 1 ≤ workers },
+    ghost few_workers: { workers ≤ 16 },
 }
 
 /// What `jm replay` is given.
 #[derive(Drop)]
 pub struct ReplayOptions {
-    /// The limit of the heap, in cells.
+    /// The limit of the heap, in cells, from [`MIN_HEAP`] to [`MAX_HEAP`].
     pub heap: u32,
     /// How many copiers collect the heap, from 1 to [`MAX_COPIERS`].
     pub copiers: u32,
@@ -116,6 +131,10 @@ pub struct ReplayOptions {
     /// The files of the classes, the main class's first: a class file, or the text of a class if its
     /// name ends in `.j`.
     pub files: Vec<String>,
+    ghost least_heap: { 16 ≤ heap },
+    ghost most_heap: { heap ≤ 16777216 },
+    ghost some_copiers: { 1 ≤ copiers },
+    ghost few_copiers: { copiers ≤ 16 },
 }
 
 /// What `jm explore` is given.
@@ -133,11 +152,22 @@ pub struct ExploreOptions {
     /// The number of the outcome whose schedule alone is asked for, from 1 to [`MAX_RUNS`]; `None`
     /// where all that was found is.
     pub outcome: Option<u32>,
-    /// The limit of the heap, in cells.
+    /// The limit of the heap, in cells, from [`MIN_HEAP`] to [`MAX_HEAP`].
     pub heap: u32,
     /// The files of the classes, the main class's first: a class file, or the text of a class if its
     /// name ends in `.j`.
     pub files: Vec<String>,
+    ghost few_switches: { switches ≤ 16 },
+    ghost some_steps: { 1 ≤ steps },
+    ghost few_steps: { steps ≤ 1000000 },
+    ghost some_runs: { 1 ≤ runs },
+    ghost few_runs: { runs ≤ 100000000 },
+    ghost some_slice: { 1 ≤ slice },
+    ghost small_slice: { slice ≤ 1000000 },
+    ghost least_heap: { 16 ≤ heap },
+    ghost most_heap: { heap ≤ 16777216 },
+    ghost some_outcome: { IfSome outcome (λ number. 1 ≤ number) } by { Prim.hlevel props },
+    ghost few_outcomes: { IfSome outcome (λ number. number ≤ 100000000) } by { Prim.hlevel props },
 }
 
 /// What `jm check` is given.
@@ -151,7 +181,7 @@ pub struct CheckOptions {
 /// How a program is run by one worker.
 #[derive(Drop)]
 pub struct SerialRun {
-    /// The limit of the heap, in cells.
+    /// The limit of the heap, in cells, from [`MIN_HEAP`] to [`MAX_HEAP`].
     pub heap: u32,
     /// How many copiers collect the heap, from 1 to [`MAX_COPIERS`].
     pub copiers: u32,
@@ -164,6 +194,14 @@ pub struct SerialRun {
     /// The files of the classes, the main class's first: a class file, or the text of a class if its
     /// name ends in `.j`.
     pub files: Vec<String>,
+    ghost least_heap: { 16 ≤ heap },
+    ghost most_heap: { heap ≤ 16777216 },
+    ghost some_copiers: { 1 ≤ copiers },
+    ghost few_copiers: { copiers ≤ 16 },
+    ghost some_steps: { 1 ≤ steps },
+    ghost few_steps: { steps ≤ 10000000 },
+    ghost some_quantum: { 1 ≤ quantum },
+    ghost small_quantum: { quantum ≤ 1000000 },
 }
 
 /// What `jm trace` is given.
@@ -178,6 +216,12 @@ pub struct TraceOptions {
     pub first: u32,
     /// The most events that are shown, from 1 to [`MAX_EVENTS`].
     pub most: u32,
+    ghost some_first: { 1 ≤ first },
+    ghost few_first: { first ≤ 10000000 },
+    ghost some_most: { 1 ≤ most },
+    ghost few_most: { most ≤ 10000000 },
+    ghost some_thread: { IfSome thread (λ number. 1 ≤ number) } by { Prim.hlevel props },
+    ghost few_threads: { IfSome thread (λ number. number ≤ 10000000) } by { Prim.hlevel props },
 }
 
 /// What `jm film` is given.
@@ -190,6 +234,9 @@ pub struct FilmOptions {
     pub first: u32,
     /// The directory of the `.java` files whose lines are shown, if they are to be.
     pub source: Option<String>,
+    ghost some_first: { 1 ≤ first },
+    ghost few_first: { first ≤ 10000000 },
+    ghost few_shown: { run.steps ≤ 10000 },
 }
 
 /// What `jm asm` is given.
@@ -213,13 +260,17 @@ pub struct DisassembleOptions {
 /// What `jm debug` is given.
 #[derive(Drop)]
 pub struct DebugOptions {
-    /// The limit of the heap, in cells.
+    /// The limit of the heap, in cells, from [`MIN_HEAP`] to [`MAX_HEAP`].
     pub heap: u32,
     /// How many copiers collect the heap, from 1 to [`MAX_COPIERS`].
     pub copiers: u32,
     /// The files of the classes, the main class's first: a class file, or the text of a class if its
     /// name ends in `.j`.
     pub files: Vec<String>,
+    ghost least_heap: { 16 ≤ heap },
+    ghost most_heap: { heap ≤ 16777216 },
+    ghost some_copiers: { 1 ≤ copiers },
+    ghost few_copiers: { copiers ≤ 16 },
 }
 
 /// What `jm explain` is given.

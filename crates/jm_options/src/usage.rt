@@ -32,6 +32,13 @@ pub fn one_file(alloc: Global, file: &str) -> UsageFault {
     ))
 }
 
+/// What is said where the file that would be written is one of those that are read.
+pub fn read_and_written(alloc: Global, file: &str) -> UsageFault {
+    usage(format!(in alloc;
+        "error: '{file}' is read, and would be written over\n\nFor more information, try '--help'.\n"
+    ))
+}
+
 // The text for a number of which there is nothing to say.
 pub fn unknown_number(alloc: Global, number: &str) -> UsageFault {
     usage(format!(in alloc;

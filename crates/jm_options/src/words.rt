@@ -1,6 +1,6 @@
 // What words ask for.
 
-ghost use Rattle.std.specs.Prelude.{◌≡◌, MatchOption, map};
+ghost use Rattle.std.specs.Prelude.{◌≡◌, ◌≤◌, MatchOption, map};
 ghost use Rattle.clap.specs.Words.{found_of, rows_of, subcommand_rows_of};
 ghost use Rattle.jm_explain.specs.Items.{Item, item};
 ghost use Rattle.jm_options.specs.Asked.{Answers, Finds, Holds, HoldsAssemble, HoldsCheck, HoldsDebug, HoldsDisassemble, HoldsEntry, HoldsExplain, HoldsExplore, HoldsFilm, HoldsNamed, HoldsReplay, HoldsRun, HoldsSerialRun, HoldsTrace};
@@ -24,6 +24,7 @@ use std::alloc::Global;
 
 // A run by one worker, with so many steps at most.
 fn serial_run(alloc: Global, matches: &ArgMatches<'_>, most: u32) -> Result<SerialRun, UsageFault>
+    requires { most ≤ 10000000 }
     ensures { Finds result (HoldsSerialRun most (rows_of (found_of matches.now))) }
 {
     Ok(SerialRun {

@@ -1,0 +1,62 @@
+// What options and the files that were read for them come to.
+
+ghost use Rattle.std.specs.Prelude.{◌≡◌, None};
+ghost use Rattle.jm_command.specs.Named.{AreNamed};
+ghost use Rattle.jm_command.specs.Commands.{AsksFor, Executes};
+
+use crate::command::{Command, Execution};
+use crate::copiers::copiers;
+use crate::explore::explore_job;
+use crate::files_read::FilesRead;
+use crate::replay::replay_job;
+use crate::run::run_job;
+use crate::told::{film_job, told_job, trace_job};
+use jm_job::{AssembleJob, DebugJob, DisassembleJob, Job};
+use jm_options::Options;
+
+// To do a job without a record.
+fn without_record(job: Job) -> Command
+    ensures { Executes result job }
+{
+    Command::Execute(Execution {
+        job,
+        record_file: None,
+    })
+}
+
+/// What options ask for, with the files that were read for them.
+pub fn command_of(asked: Options, files: FilesRead) -> Command
+    requires { AreNamed asked files }
+    ensures { AsksFor asked files result }
+{
+    match asked {
+        Options::Run(asked) => Command::Execute(Execution {
+            job: Job::Run(run_job(&asked, files)),
+            record_file: asked.record_file,
+        }),
+        Options::Replay(asked) => {
+            let job = replay_job(&asked, files.named.unwrap(), files.program);
+            without_record(Job::Replay(job))
+        }
+        Options::Explore(asked) => without_record(Job::Explore(explore_job(&asked, files.program))),
+        Options::Check(_) => Command::Check(files.program),
+        Options::Why(asked) => Command::Why(told_job(&asked, files)),
+        Options::Trace(asked) => Command::Trace(trace_job(&asked, files)),
+        Options::Film(asked) => Command::Film(film_job(&asked, files)),
+        Options::Assemble(asked) => without_record(Job::Assemble(AssembleJob {
+            text: files.named.unwrap(),
+            output: asked.output,
+        })),
+        Options::Disassemble(asked) => without_record(Job::Disassemble(DisassembleJob {
+            file: files.named.unwrap(),
+            bare: asked.bare,
+        })),
+        Options::Debug(asked) => without_record(Job::Debug(DebugJob {
+            heap: asked.heap,
+            copiers: copiers(asked.copiers),
+            program: files.program,
+        })),
+        Options::Explain(asked) => Command::Explain(asked.entry),
+        Options::Version => Command::Version,
+    }
+}
