@@ -5,7 +5,7 @@ use Rattle.std.proofs.lemmas.List.{length-take-le}
 use Rattle.jm_world.specs.World.{World}
 use Rattle.jm_machine.specs.View.{MachineView, MatchesWorld}
 use Rattle.jm_explore.specs.Branches.{Advances}
-use Rattle.jm_explore.specs.Counts.{below, below_all, below_next, exactly, weight_if, Weighs, weighed, all_counted, weight_of, Tallied, CountsMore, CountsAll}
+use Rattle.jm_explore.specs.Counts.{below, below_all, below_next, exactly, weight_if, Weighs, WeighsIf, weighed, all_counted, weight_of, Tallied, CountsMore, CountsAll}
 use Rattle.jm_explore.specs.Lists.{Each, HowMany, total}
 use Rattle.jm_explore.specs.Outcomes.{AreOther, End, Found, Thrown, found_of, outcome_of, told_end}
 use Rattle.jm_explore.specs.Schedulings.{schedules, schedules_from}
@@ -92,11 +92,6 @@ module _ (w : World) (slice most steps : ℕ) (told : List Found) (path cut : Li
       all ∙ ap (λ p. below w slice steps f p b.left + below_all w slice steps f p rest) (sym is)
 
 -- ---- what is counted
-
-get_any : {X : Type 0} (xs : List X) (k : ℕ) (d e : X) → k < length xs → get_or xs k d ≡ get_or xs k e
-get_any [] k d e low = let bad : ⊥ = omega (arith, low) in absurd bad
-get_any (x ∷ xs) zero d e low = refl
-get_any (x ∷ xs) (suc k) d e low = get_any xs k d e (omega (arith, low))
 
 -- each count is at most all of them
 pub one_of_all : (told : List Told) (k : ℕ) (d : Told) → k < length told → (get_or told k d).schedules ≤ all_counted told
@@ -328,3 +323,38 @@ pub all_shares : (w : World) (slice most steps : ℕ) (told : List Told) → All
 all_shares w slice most steps told other all k d low =
     subst (HowMany (λ ts. outcome_of w steps ts ≡ told_end (get_or told k d).outcome) (schedules w slice most steps)) (sym (all (only (told_end (get_or told k d).outcome))) ∙ share_is told k d low other)
     (how_many (λ ts. outcome_of w steps ts ≡ told_end (get_or told k d).outcome) (λ ts. same_end (outcome_of w steps ts) (told_end (get_or told k d).outcome)) (schedules w slice most steps))
+
+-- ---- as the calls tell it
+
+pub counted_at : (weight : End → ℕ) (e : End) (told : List Told) (k : ℕ) (r : Told) (n more : ℕ) → k < length told → ((d : Told) → told_end (get_or told k d).outcome ≡ e) → n ≡ (get_or told k r).schedules + more
+    → weighed weight (set told k (record { outcome = (get_or told k r).outcome; schedule = (get_or told k r).schedule; switches = (get_or told k r).switches; schedules = n })) ≡ weighed weight told + weight e * more
+counted_at weight e told k r n more low at sum =
+    counted_set weight e told k r (record { outcome = (get_or told k r).outcome; schedule = (get_or told k r).schedule; switches = (get_or told k r).switches; schedules = n }) more low (at r) (at r) sum
+
+pub counted_as : {H : Type 0} (w : World) (steps left : ℕ) (old new : List Told) (path now : List ℕ) (m : MachineView H) → now ≡ path
+    → (MatchesWorld m (world_after w now) → (weight : End → ℕ) → weighed weight new ≡ weighed weight old + weight_if (nat_eq left 0) (weight (outcome_of w steps now)))
+    → MatchesWorld m (world_after w path) → (weight : End → ℕ) → weighed weight new ≡ weighed weight old + weight_if (nat_eq left 0) (weight (outcome_of w steps path))
+counted_as w steps left old new path now m e counted is weight =
+    subst (λ p. weighed weight new ≡ weighed weight old + weight_if (nat_eq left 0) (weight (outcome_of w steps p))) e (counted (subst (λ p. MatchesWorld m (world_after w p)) (sym e) is) weight)
+
+pub counted_room : (most runs : ℕ) (p : Progress) → Tallied most p → runs + 1 ≡ p.runs → all_counted p.told.items + 1 < 2 ^ 64
+counted_room most runs p t less = subst (λ n. n + 1 < 2 ^ 64) t.counted (tallied_room most runs p t less)
+
+pub weighs_if : (b : Bool) (w : World) (slice most steps : ℕ) (path : List ℕ) (todo : List Branch) (left : ℕ) (whole : (List ℕ → ℕ) → ℕ) → b ≡ true → WeighsIf b w slice most steps path todo left whole → Weighs w slice most steps path todo left whole
+weighs_if b w slice most steps path todo left whole e h = subst (λ x. WeighsIf x w slice most steps path todo left whole) e h
+
+pub weighs_if_not : (b : Bool) (w : World) (slice most steps : ℕ) (path : List ℕ) (todo : List Branch) (left : ℕ) (whole : (List ℕ → ℕ) → ℕ) → b ≡ false → WeighsIf b w slice most steps path todo left whole → (f : List ℕ → ℕ) → whole f ≡ below_all w slice steps f path todo
+weighs_if_not b w slice most steps path todo left whole e h = subst (λ x. WeighsIf x w slice most steps path todo left whole) e h
+
+pub tally_next : (w : World) (slice most steps : ℕ) (path : List ℕ) (todo : List Branch) (left : ℕ) (whole : (List ℕ → ℕ) → ℕ) (old new : List Told) (weight : End → ℕ) (all : ℕ) → Weighs w slice most steps path todo left whole
+    → weighed weight new ≡ weighed weight old + weight_if (nat_eq left 0) (weight (outcome_of w steps path)) → weighed weight old + whole (exactly w slice most (weight_of w steps weight)) ≡ all
+    → weighed weight new + below_all w slice steps (exactly w slice most (weight_of w steps weight)) path todo ≡ all
+tally_next w slice most steps path todo left whole old new weight all h counted before = tally_step w slice most steps path todo left whole old new weight h counted ∙ before
+
+-- before the first run
+pub begun : (p : Progress) (most : ℕ) → most < 2 ^ 64 → p.schedules ≡ 0 → p.runs ≡ most → p.told.items ≡ [] → Tallied most p
+begun p most fits none all empty = record {
+  fits = fits;
+  counted = none ∙ sym (ap all_counted empty);
+  within = omega (arith, none, all);
+}

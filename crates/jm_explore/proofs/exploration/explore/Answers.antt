@@ -1,8 +1,9 @@
 -- What was found so far is true.
-use Rattle.std.proofs.Common.{refl, ◌≤◌, ◌≡◌}
+use Rattle.std.proofs.Common.{refl, ◌≤◌, ◌≡◌, ◌∙◌, arith}
 use Rattle.jm_world.specs.Loading.{loaded_world}
 use Rattle.jm_explore.specs.Outcomes.{HasFewest, IsTrueOf, outcome_of}
 use Rattle.jm_explore.specs.Searches.{founds}
+use Rattle.jm_explore.proofs.Counting.{all_are_counted, all_shares, begun}
 use Rattle.jm_explore.proofs.Lists.{all_of, any_of}
 use Rattle.jm_explore.proofs.exploration.explore.Goals as goal
 
@@ -50,3 +51,22 @@ pub returns-in-Err-clause-other : goal.returns-in-Err-clause-other
 returns-in-Err-clause-other g c =
     let w = loaded_world c.args.machine.now.linked.program (g.E.EmptyHeaps.limit c.args.heaps.now) in
     (c.search_all.ensures.known w refl c.new.ensures.items).other
+
+pub returns-in-Ok-clause-counts : goal.returns-in-Ok-clause-counts
+returns-in-Ok-clause-counts g c = λ whole.
+    let w = loaded_world c.args.machine.now.linked.program (g.E.EmptyHeaps.limit c.args.heaps.now) in
+    let k = c.in-Ok.ensures.counted w c.args.bounds.runs refl c.new.ensures.items (begun (record { told = c.new.result; schedules = 0; runs = c.args.bounds.runs }) c.args.bounds.runs ? refl refl c.new.ensures.items) in
+    k.0.counted ∙ all_are_counted w c.args.bounds.slice c.args.bounds.switches c.args.bounds.steps c.search_all.new.progress.told.items k.1
+
+pub returns-in-Ok-clause-shares : goal.returns-in-Ok-clause-shares
+returns-in-Ok-clause-shares g c = λ whole.
+    let w = loaded_world c.args.machine.now.linked.program (g.E.EmptyHeaps.limit c.args.heaps.now) in
+    let k = c.in-Ok.ensures.counted w c.args.bounds.runs refl c.new.ensures.items (begun (record { told = c.new.result; schedules = 0; runs = c.args.bounds.runs }) c.args.bounds.runs ? refl refl c.new.ensures.items) in
+    all_shares w c.args.bounds.slice c.args.bounds.switches c.args.bounds.steps c.search_all.new.progress.told.items (c.search_all.ensures.known w refl c.new.ensures.items).other k.1
+
+pub returns-in-Ok-clause-made : goal.returns-in-Ok-clause-made
+returns-in-Ok-clause-made g c = λ whole.
+    let w = loaded_world c.args.machine.now.linked.program (g.E.EmptyHeaps.limit c.args.heaps.now) in
+    let k = c.in-Ok.ensures.counted w c.args.bounds.runs refl c.new.ensures.items (begun (record { told = c.new.result; schedules = 0; runs = c.args.bounds.runs }) c.args.bounds.runs ? refl refl c.new.ensures.items) in
+    let within = k.0.within in
+    omega (arith, within)
