@@ -1,5 +1,5 @@
 -- What a search counts.
-use Rattle.std.proofs.Common.{rules, ◌≡◌, ◌≢◌, ◌⊎◌, ℕ, zero, suc, ◌+◌, ◌-◌, ◌*◌, ◌≤◌, ◌<◌, ◌^◌, Bool, true, false, List, [], ◌∷◌, ◌++◌, Option, None, Some, length, take, set, get_or, map, nat_eq, refl, sym, ap, subst, ◌∙◌, inl, inr, arith, true≢false, add-one, append-nil}
+use Rattle.std.proofs.Common.{rules, ◌≡◌, ◌≢◌, ◌⊎◌, ℕ, zero, suc, ◌+◌, ◌-◌, ◌*◌, ◌≤◌, ◌<◌, ◌^◌, Bool, true, false, List, [], ◌∷◌, ◌++◌, Option, None, Some, length, min, take, set, get_or, map, nat_eq, refl, sym, ap, subst, ◌∙◌, inl, inr, arith, true≢false, add-one, append-nil}
 use Rattle.std.specs.List.{All, AllPairs}
 use Rattle.std.proofs.lemmas.List.{length-take-le}
 use Rattle.jm_world.specs.World.{World}
@@ -358,3 +358,10 @@ begun p most fits none all empty = record {
   counted = none ∙ sym (ap all_counted empty);
   within = omega (arith, none, all);
 }
+
+pub counted_push_as : (weight : End → ℕ) (old new : List Told) (t : Told) → new ≡ old ++ t ∷ [] → weighed weight new ≡ weighed weight old + weight (told_end t.outcome) * t.schedules
+counted_push_as weight old new t e = ap (weighed weight) e ∙ counted_push weight old t
+
+-- a count that has room
+pub not_saturated : (n a more all : ℕ) → n ≡ min (a + more) 18446744073709551615 → a ≤ all → all + more < 2 ^ 64 → n ≡ a + more
+not_saturated n a more all e low fits = let room : a + more ≤ 18446744073709551615 = omega (arith, low, fits) in grind (arith, e, room)

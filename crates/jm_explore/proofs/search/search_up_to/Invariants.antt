@@ -9,8 +9,8 @@ use Rattle.jm_explore.specs.Schedulings.{schedules}
 use Rattle.jm_explore.specs.Searches.{AllBefore, Known, Searching, founds}
 use Rattle.jm_explore.proofs.search.search_up_to.Given as goal
 
-abbrev pub invariant-loop : goal.invariant-loop
-invariant-loop g l = record {
+abbrev pub invariant-loop-branch : goal.invariant-loop-branch
+invariant-loop-branch g l = record {
   known : (w : World) → w ≡ loaded_world l.fn.machine.linked.program (g.E.EmptyHeaps.limit l.heaps) → Known w l.bounds.slice l.switches l.bounds.steps (founds l.fn.progress.told.items)
       → AllBefore w l.bounds.slice l.switches l.bounds.steps (founds l.fn.progress.told.items)
       → Known w l.bounds.slice l.switches l.bounds.steps (founds l.progress.told.items) × AllBefore w l.bounds.slice l.switches l.bounds.steps (founds l.progress.told.items);
@@ -23,5 +23,5 @@ invariant-loop g l = record {
   linked : l.machine.linked ≡ l.fn.machine.linked;
 }
 
-abbrev pub decreases-loop : goal.decreases-loop
-decreases-loop g l = l.progress.runs
+abbrev pub decreases-loop-branch : goal.decreases-loop-branch
+decreases-loop-branch g l = l.progress.runs
