@@ -1,5 +1,5 @@
 -- What a search counts.
-use Rattle.std.proofs.Common.{rules, ◌≡◌, ◌≢◌, ◌⊎◌, ℕ, zero, suc, ◌+◌, ◌-◌, ◌*◌, ◌≤◌, ◌<◌, ◌^◌, Bool, true, false, List, [], ◌∷◌, ◌++◌, Option, None, Some, length, min, take, set, get_or, map, nat_eq, refl, sym, ap, subst, ◌∙◌, inl, inr, arith, true≢false, add-one, append-nil}
+use Rattle.std.proofs.Common.{rules, ◌≡◌, ◌⊎◌, ℕ, zero, suc, ◌+◌, ◌-◌, ◌*◌, ◌≤◌, ◌<◌, ◌^◌, Bool, true, false, List, [], ◌∷◌, ◌++◌, Option, None, Some, length, min, take, set, get_or, nat_eq, refl, sym, ap, subst, ◌∙◌, inl, inr, arith, true≢false, add-one}
 use Rattle.std.specs.List.{All, AllPairs}
 use Rattle.std.proofs.lemmas.List.{length-take-le}
 use Rattle.jm_world.specs.World.{World}
@@ -20,7 +20,7 @@ use Rattle.jm_explore.specs.declared.told.Told.{Told}
 use Rattle.jm_explore.specs.declared.turn.Turn.{Turn}
 use Rattle.jm_explore.proofs.Lists.{each_as, each_pop}
 use Rattle.jm_explore.proofs.Steps.{rising_pop}
-use Rattle.jm_explore.proofs.Totals.{how_many, one_if, total_append, total_one, total_zero}
+use Rattle.jm_explore.proofs.Totals.{how_many, one_if, total_append, total_one}
 use Rattle.jm_explore.proofs.Trees.{all_append, all_longer, all_popped, below_end, below_limit, below_more, no_switch, one_more, weighs, weighs_not}
 
 -- ---- while a schedule is made

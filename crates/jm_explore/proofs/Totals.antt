@@ -103,12 +103,12 @@ module _ {X : Type 0} where
         let one = ap g e in
         let none = ap (without x g) e ∙ without_itself x g in
         omega (arith, past, one, none)
-      )
+        )
     | inr more ↦ (
         let rest = sum_without x g (n + 1) xs (omega (arith, more)) (λ past. outside (omega (arith, past))) in
         let one = without_other x g n (λ e. let bad : ⊥ = omega (arith, e, more) in bad) in
         omega (arith, rest, one)
-      )
+        )
   ]
     where
       apart : (n x : ℕ) → n ≤ x → (n ≡ x) ⊎ (n < x)

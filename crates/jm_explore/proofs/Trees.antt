@@ -1,5 +1,5 @@
 -- What the schedules weigh that begin in some way.
-use Rattle.std.proofs.Common.{◌≡◌, ◌≢◌, ◌⊎◌, ℕ, zero, suc, ◌+◌, ◌-◌, ◌≤◌, ◌<◌, Bool, true, false, List, [], ◌∷◌, ◌++◌, Option, Some, None, length, map, take, nat_le, nat_eq, refl, sym, ap, subst, ◌∙◌, inl, inr, arith, true≢false, append_assoc, append-nil}
+use Rattle.std.proofs.Common.{◌≡◌, ◌⊎◌, ℕ, zero, suc, ◌+◌, ◌-◌, ◌≤◌, ◌<◌, Bool, true, false, List, [], ◌∷◌, ◌++◌, Option, Some, None, length, map, take, nat_le, nat_eq, refl, sym, ap, ◌∙◌, inl, inr, arith, true≢false, append_assoc, append-nil}
 use Rattle.std.specs.List.{flat_map}
 use Rattle.std.proofs.lemmas.List.{take-append-le}
 use Rattle.std.proofs.Math.Seq.{take-append_seam}
@@ -116,16 +116,16 @@ module _ (w : World) (slice steps : ℕ) (f : List ℕ → ℕ) (path : List ℕ
   next_is : (n s less : ℕ) → steps - length path ≡ suc n → less + switch (world_after w path) slice (turn_from slice None path) s ≡ left
       → if_chosen (world_after w path) slice (turn_from slice None path) left (first_is (world_after w path) slice (turn_from slice None path) left n (λ rest. f (path ++ rest))) s ≡ below_next w slice steps f path s less
   next_is n s less size cost = ap (weight_if (can_go (world_after w path) s)) (
-    weighs (nat_le (switch (world_after w path) slice (turn_from slice None path) s) left) (first_is (world_after w path) slice (turn_from slice None path) left n (λ rest. f (path ++ rest)) s)
-        (le_true (switch (world_after w path) slice (turn_from slice None path) s) left (omega (arith, cost)))
-    ∙ total_same (λ rest. f (path ++ (s ∷ rest))) (λ rest. f ((path ++ s ∷ []) ++ rest)) (onward (world_after w path) slice (turn_from slice None path) left n s) (λ rest. ap f (sym (append_assoc path (s ∷ []) rest)))
-    ∙ ap (λ k. total (λ rest. f ((path ++ s ∷ []) ++ rest)) (schedules_from k (after (world_after w path) (Step s)).world slice (Some (next_turn slice (turn_from slice None path) s)) (left - switch (world_after w path) slice (turn_from slice None path) s))) one_less
-    ∙ ap (λ v. total (λ rest. f ((path ++ s ∷ []) ++ rest)) (schedules_from (steps - length (path ++ s ∷ [])) v slice (Some (next_turn slice (turn_from slice None path) s)) (left - switch (world_after w path) slice (turn_from slice None path) s)))
-        (sym (world_more w path s))
-    ∙ ap (λ l. total (λ rest. f ((path ++ s ∷ []) ++ rest)) (schedules_from (steps - length (path ++ s ∷ [])) (world_after w (path ++ s ∷ [])) slice l (left - switch (world_after w path) slice (turn_from slice None path) s)))
-        (sym (turn_append slice None path (s ∷ [])))
-    ∙ ap (λ k. total (λ rest. f ((path ++ s ∷ []) ++ rest)) (schedules_from (steps - length (path ++ s ∷ [])) (world_after w (path ++ s ∷ [])) slice (turn_from slice None (path ++ s ∷ [])) k)) rest_left
-  )
+      weighs (nat_le (switch (world_after w path) slice (turn_from slice None path) s) left) (first_is (world_after w path) slice (turn_from slice None path) left n (λ rest. f (path ++ rest)) s)
+      (le_true (switch (world_after w path) slice (turn_from slice None path) s) left (omega (arith, cost)))
+      ∙ total_same (λ rest. f (path ++ (s ∷ rest))) (λ rest. f ((path ++ s ∷ []) ++ rest)) (onward (world_after w path) slice (turn_from slice None path) left n s) (λ rest. ap f (sym (append_assoc path (s ∷ []) rest)))
+      ∙ ap (λ k. total (λ rest. f ((path ++ s ∷ []) ++ rest)) (schedules_from k (after (world_after w path) (Step s)).world slice (Some (next_turn slice (turn_from slice None path) s)) (left - switch (world_after w path) slice (turn_from slice None path) s))) one_less
+      ∙ ap (λ v. total (λ rest. f ((path ++ s ∷ []) ++ rest)) (schedules_from (steps - length (path ++ s ∷ [])) v slice (Some (next_turn slice (turn_from slice None path) s)) (left - switch (world_after w path) slice (turn_from slice None path) s)))
+      (sym (world_more w path s))
+      ∙ ap (λ l. total (λ rest. f ((path ++ s ∷ []) ++ rest)) (schedules_from (steps - length (path ++ s ∷ [])) (world_after w (path ++ s ∷ [])) slice l (left - switch (world_after w path) slice (turn_from slice None path) s)))
+      (sym (turn_append slice None path (s ∷ [])))
+      ∙ ap (λ k. total (λ rest. f ((path ++ s ∷ []) ++ rest)) (schedules_from (steps - length (path ++ s ∷ [])) (world_after w (path ++ s ∷ [])) slice (turn_from slice None (path ++ s ∷ [])) k)) rest_left
+      )
     where
       one_less : n ≡ steps - length (path ++ s ∷ [])
       one_less = let longer = length_more path s in omega (arith, size, longer)
@@ -177,9 +177,9 @@ module _ (w : World) (slice steps : ℕ) (f : List ℕ → ℕ) (path : List ℕ
         ap (λ n. total (λ rest. f (path ++ rest)) (schedules_from n (world_after w path) slice (turn_from slice None path) left)) some_steps
         ∙ node_more (world_after w path) slice (turn_from slice None path) left (steps - length path - 1) (λ rest. f (path ++ rest)) t can
         ∙ sum_is_total (world_after w path).threads (t ∷ map (λ (b : Branch). b.thread) added) weight once
-            (each_of (λ k. (1 ≤ k) ⊎ (weight k ≡ 0)) (λ k. weighs_inside k (both (can_go (world_after w path) k))) (t ∷ map (λ (b : Branch). b.thread) added))
-            (λ k past. weighs_low k (both (can_go (world_after w path) k)) past)
-            (λ k. found k (both (can_go (world_after w path) k)) (both (nat_le (switch (world_after w path) slice (turn_from slice None path) k) left)))
+        (each_of (λ k. (1 ≤ k) ⊎ (weight k ≡ 0)) (λ k. weighs_inside k (both (can_go (world_after w path) k))) (t ∷ map (λ (b : Branch). b.thread) added))
+        (λ k past. weighs_low k (both (can_go (world_after w path) k)) past)
+        (λ k. found k (both (can_go (world_after w path) k)) (both (nat_le (switch (world_after w path) slice (turn_from slice None path) k) left)))
         ∙ ap (λ n. weight t + n) (total_map weight (λ (b : Branch). b.thread) added)
 
     pub below_more : below w slice steps f path left ≡ below w slice steps f (path ++ t ∷ []) left + below_all w slice steps f (path ++ t ∷ []) added
@@ -188,7 +188,7 @@ module _ (w : World) (slice steps : ℕ) (f : List ℕ → ℕ) (path : List ℕ
         of_threads
         ∙ ap (λ n. n + total (λ b. weight b.thread) added) (next_is (steps - length path - 1) t left some_steps (omega (arith, free)) ∙ weighs (can_go (world_after w path) t) (below w slice steps f (path ++ t ∷ []) left) can)
         ∙ ap (λ n. below w slice steps f (path ++ t ∷ []) left + n) (total_as (λ b. weight b.thread) (λ b. below_branch w slice steps f (path ++ t ∷ []) b) added
-            (each_as (λ b. (b.behind ≡ length path) × (b.left + switch (world_after w path) slice (turn_from slice None path) b.thread ≡ left)) (λ b. weight b.thread ≡ below_branch w slice steps f (path ++ t ∷ []) b) one added alike))
+        (each_as (λ b. (b.behind ≡ length path) × (b.left + switch (world_after w path) slice (turn_from slice None path) b.thread ≡ left)) (λ b. weight b.thread ≡ below_branch w slice steps f (path ++ t ∷ []) b) one added alike))
       where
         one : (b : Branch) → (b.behind ≡ length path) × (b.left + switch (world_after w path) slice (turn_from slice None path) b.thread ≡ left) → weight b.thread ≡ below_branch w slice steps f (path ++ t ∷ []) b
         one b is =
@@ -242,22 +242,22 @@ fewer (suc n) w slice turn few many h low = by (choices_from w slice turn many 1
   where
     one : (s : ℕ) → (switch w slice turn s ≤ few → SameOnward n w slice turn few many h s) → (switch w slice turn s ≤ few) ⊎ (few < switch w slice turn s) → if_chosen w slice turn few (first_is w slice turn few n h) s ≡ if_chosen w slice turn many (first_is w slice turn many n (at_most_so w slice turn few h)) s
     one s more_is (inl enough) = ap (weight_if (can_go w s)) (
-      weighs (nat_le (switch w slice turn s) few) (first_is w slice turn few n h s) (le_true (switch w slice turn s) few enough)
-      ∙ more_is enough
-      ∙ total_same (at_most_so (after w (Step s)).world slice (Some (next_turn slice turn s)) (few - switch w slice turn s) (λ rest. h (s ∷ rest))) (λ rest. at_most_so w slice turn few h (s ∷ rest)) (onward w slice turn many n s)
-          (λ rest. ap (λ b. weight_if b (h (s ∷ rest))) (less (switches_from (after w (Step s)).world slice (Some (next_turn slice turn s)) rest) (switch w slice turn s) few enough))
-      ∙ sym (weighs (nat_le (switch w slice turn s) many) (first_is w slice turn many n (at_most_so w slice turn few h) s) (le_true (switch w slice turn s) many (omega (arith, low, enough))))
-    )
+        weighs (nat_le (switch w slice turn s) few) (first_is w slice turn few n h s) (le_true (switch w slice turn s) few enough)
+        ∙ more_is enough
+        ∙ total_same (at_most_so (after w (Step s)).world slice (Some (next_turn slice turn s)) (few - switch w slice turn s) (λ rest. h (s ∷ rest))) (λ rest. at_most_so w slice turn few h (s ∷ rest)) (onward w slice turn many n s)
+        (λ rest. ap (λ b. weight_if b (h (s ∷ rest))) (less (switches_from (after w (Step s)).world slice (Some (next_turn slice turn s)) rest) (switch w slice turn s) few enough))
+        ∙ sym (weighs (nat_le (switch w slice turn s) many) (first_is w slice turn many n (at_most_so w slice turn few h) s) (le_true (switch w slice turn s) many (omega (arith, low, enough))))
+        )
       where
         less : (a c k : ℕ) → c ≤ k → nat_le a (k - c) ≡ nat_le (c + a) k
         less a c k h = grind (arith, h)
     one s more_is (inr more) =
         ap (weight_if (can_go w s)) (weighs_not (nat_le (switch w slice turn s) few) (first_is w slice turn few n h s) (le_false (switch w slice turn s) few more))
         ∙ ap (weight_if (can_go w s)) (sym (
-          ap (weight_if (nat_le (switch w slice turn s) many)) (total_zero (λ rest. at_most_so w slice turn few h (s ∷ rest)) (onward w slice turn many n s)
-              (λ rest. weighs_not (nat_le (switch w slice turn s + switches_from (after w (Step s)).world slice (Some (next_turn slice turn s)) rest) few) (h (s ∷ rest))
-              (le_false (switch w slice turn s + switches_from (after w (Step s)).world slice (Some (next_turn slice turn s)) rest) few (omega (arith, more)))))
-          ∙ nothing (nat_le (switch w slice turn s) many)
+        ap (weight_if (nat_le (switch w slice turn s) many)) (total_zero (λ rest. at_most_so w slice turn few h (s ∷ rest)) (onward w slice turn many n s)
+        (λ rest. weighs_not (nat_le (switch w slice turn s + switches_from (after w (Step s)).world slice (Some (next_turn slice turn s)) rest) few) (h (s ∷ rest))
+        (le_false (switch w slice turn s + switches_from (after w (Step s)).world slice (Some (next_turn slice turn s)) rest) few (omega (arith, more)))))
+        ∙ nothing (nat_le (switch w slice turn s) many)
         ))
 
     apart : (a b : ℕ) → (a ≤ b) ⊎ (b < a)
@@ -277,8 +277,8 @@ pub one_more : (w : World) (slice most steps : ℕ) (h : List ℕ → ℕ)
     → total h (schedules w slice (most + 1) steps) ≡ total (exactly w slice (most + 1) h) (schedules w slice (most + 1) steps) + total h (schedules w slice most steps)
 one_more w slice most steps h =
     total_as h (λ ts. exactly w slice (most + 1) h ts + at_most_so w slice None most h ts) (schedules w slice (most + 1) steps)
-        (each_as (IsRest w slice None (most + 1) steps) (λ ts. h ts ≡ exactly w slice (most + 1) h ts + at_most_so w slice None most h ts)
-        (λ ts is. parts (switches w slice ts) most (h ts) is.few) (schedules w slice (most + 1) steps) (listed_only steps w slice None (most + 1)))
+    (each_as (IsRest w slice None (most + 1) steps) (λ ts. h ts ≡ exactly w slice (most + 1) h ts + at_most_so w slice None most h ts)
+    (λ ts is. parts (switches w slice ts) most (h ts) is.few) (schedules w slice (most + 1) steps) (listed_only steps w slice None (most + 1)))
     ∙ total_both (exactly w slice (most + 1) h) (at_most_so w slice None most h) (schedules w slice (most + 1) steps)
     ∙ ap (λ n. total (exactly w slice (most + 1) h) (schedules w slice (most + 1) steps) + n) (sym (fewer steps w slice None most (most + 1) h (omega arith)))
   where

@@ -1,5 +1,5 @@
 -- What schedules weigh, and how many there are.
-use Rattle.std.specs.Prelude.{◌≡◌, ◌≤◌, ◌<◌, ◌^◌, ◌*◌, ◌+◌, ℕ, ◌-◌, List, [], ◌∷◌, ◌++◌, Option, None, Bool, true, false, length, take, nat_eq}
+use Rattle.std.specs.Prelude.{◌≡◌, ◌≤◌, ◌<◌, ◌^◌, ◌*◌, ◌+◌, ℕ, ◌-◌, List, [], ◌∷◌, ◌++◌, None, Bool, true, false, length, take, nat_eq}
 use Rattle.jm_world.specs.World.{World}
 use Rattle.jm_explore.specs.Lists.{total}
 use Rattle.jm_explore.specs.Outcomes.{End, outcome_of, told_end}

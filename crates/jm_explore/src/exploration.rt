@@ -11,7 +11,7 @@ ghost use Rattle.jm_explore.specs.declared.unfinished.Unfinished.TheVariants as 
 
 use crate::bounds::Bounds;
 use crate::heaps::EmptyHeaps;
-use crate::search::{Progress, search_all};
+use crate::search::{Progress, nothing_found, search_all};
 use crate::told::Told;
 use crate::unfinished::Unfinished;
 use jm_heap::Heap;
@@ -56,11 +56,7 @@ pub fn explore<H: Heap + Drop, E: EmptyHeaps<H>>(
     ensures ends { result.unfinished ≡ Some unfinished.RunsEnd → result.runs ≡ bounds.runs }
     ensures linked { machine.new.linked ≡ machine.old.linked }
 {
-    let mut progress = Progress {
-        told: Vec::new(alloc),
-        schedules: 0,
-        runs: bounds.runs,
-    };
+    let mut progress = nothing_found(alloc, bounds.runs);
     match search_all(alloc, machine, heaps, &mut progress, bounds) {
         Ok(()) => {
             let Progress {

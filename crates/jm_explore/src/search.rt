@@ -32,6 +32,19 @@ pub struct Progress {
     pub runs: u64,
 }
 
+// Nothing was found so far, and so many runs may be made.
+pub(crate) fn nothing_found(alloc: Global, runs: u64) -> Progress
+    ensures none { result.told.items ≡ [] }
+    ensures tallied { Tallied runs result }
+    ensures runs { result.runs ≡ runs }
+{
+    Progress {
+        told: Vec::new(alloc),
+        schedules: 0,
+        runs,
+    }
+}
+
 // The program begins again.
 fn begin_again<H: Heap + Drop, E: EmptyHeaps<H>>(
     machine: &mut Machine<H>,

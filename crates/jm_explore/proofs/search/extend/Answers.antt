@@ -37,7 +37,7 @@ loop-bounds-preserved g c = record {
       let low = subst (λ n. n < c.args.bounds.steps) (c.len.ensures ∙ c.loop-bounds.path.ok.0) c.loop-bounds-test.true in
       c.loop-bounds.invariant.weighs w most found is first m f
       ∙ weighs_more w c.args.bounds.slice most c.args.bounds.steps found c.loop-bounds.path.items c.loop-bounds.todo.items c.args.left i.0 c.push.new.self.items c.advance.new.todo.items c.loop-bounds.last c.advance.new.machine
-          c.in-Some.thread low i.1 b c.in-Ok.ensures.items f;
+      c.in-Some.thread low i.1 b c.in-Ok.ensures.items f;
   linked = c.advance.ensures.linked ∙ c.loop-bounds.invariant.linked;
 }
 

@@ -31,9 +31,11 @@ loop-switches-preserved g c = record {
       let i = c.loop-switches.invariant in
       let k = i.counted w most is none t in
       let at = is ∙ ap (λ l. loaded_world l.program (g.E.EmptyHeaps.limit c.args.heaps.now)) (sym i.linked) in
-      let more = c.in_ok-search_up_to.ensures.counted w most at k.0 in
-      (more.0, counts_before w c.args.bounds.slice c.loop-switches.switches c.args.bounds.steps c.search_up_to.new.progress.told.items
-          (counts_all w c.args.bounds.slice c.loop-switches.switches c.args.bounds.steps c.loop-switches.progress.told.items c.search_up_to.new.progress.told.items k.1 more.1));
+      let more = c.in_ok-search_up_to.ensures.counted w most at k.0 in (
+        more.0,
+        counts_before w c.args.bounds.slice c.loop-switches.switches c.args.bounds.steps c.search_up_to.new.progress.told.items
+            (counts_all w c.args.bounds.slice c.loop-switches.switches c.args.bounds.steps c.loop-switches.progress.told.items c.search_up_to.new.progress.told.items k.1 more.1),
+      );
   runs = (let less = c.search_up_to.ensures.runs in let low = c.loop-switches.invariant.runs in omega (arith, less, low));
   low = (let low = c.loop-switches-test.true in omega (arith, low));
   linked = c.search_up_to.ensures.linked ∙ c.loop-switches.invariant.linked;

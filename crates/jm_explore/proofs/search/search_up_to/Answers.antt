@@ -121,7 +121,9 @@ returns-clause-complete g c = λ w is old before. all_told w c.args.bounds.slice
 
 pub returns-clause-counted : goal.returns-clause-counted
 returns-clause-counted g c = λ w most is t.
-    let i = c.loop-branch.invariant.counted w most is t in
-    (i.0, λ weight. nothing_left w c.args.bounds.slice c.args.bounds.steps (exactly w c.args.bounds.slice c.args.switches (weight_of w c.args.bounds.steps weight)) c.loop-branch.path.items c.loop-branch.todo.items (weighed weight c.loop-branch.progress.told.items)
-        (weighed weight c.args.progress.now.told.items + total (exactly w c.args.bounds.slice c.args.switches (weight_of w c.args.bounds.steps weight)) (schedules w c.args.bounds.slice c.args.switches c.args.bounds.steps))
-        (popped_none c.loop-branch.todo.items c.loop-branch.todo.len c.loop-branch.todo.ok.0 c.in_default.ensures.cases.0) (i.1 weight))
+    let i = c.loop-branch.invariant.counted w most is t in (
+      i.0,
+      λ weight. nothing_left w c.args.bounds.slice c.args.bounds.steps (exactly w c.args.bounds.slice c.args.switches (weight_of w c.args.bounds.steps weight)) c.loop-branch.path.items c.loop-branch.todo.items (weighed weight c.loop-branch.progress.told.items)
+          (weighed weight c.args.progress.now.told.items + total (exactly w c.args.bounds.slice c.args.switches (weight_of w c.args.bounds.steps weight)) (schedules w c.args.bounds.slice c.args.switches c.args.bounds.steps))
+          (popped_none c.loop-branch.todo.items c.loop-branch.todo.len c.loop-branch.todo.ok.0 c.in_default.ensures.cases.0) (i.1 weight),
+    )
