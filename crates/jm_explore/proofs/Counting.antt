@@ -115,11 +115,7 @@ counted_push weight told t =
     let parts = total_append (λ (x : Told). weight (told_end x.outcome) * x.schedules) told (t ∷ []) in
     omega (arith, parts)
 
-pub times_if : (b : Bool) (n : ℕ) → n * weight_if b 1 ≡ weight_if b n
-times_if true n = omega arith
-times_if false n = omega arith
-
-pub if_at_most : (b : Bool) → weight_if b 1 ≤ 1
+if_at_most : (b : Bool) → weight_if b 1 ≤ 1
 if_at_most true = omega arith
 if_at_most false = omega arith
 
