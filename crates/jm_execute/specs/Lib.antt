@@ -25,3 +25,4 @@ pub mod Refusals
 pub mod ViewsAgain
 pub mod Shown
 pub mod Checks
+pub mod JobCollectors

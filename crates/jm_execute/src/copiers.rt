@@ -1,5 +1,7 @@
 // The collector of a job's heap.
 
+ghost use Rattle.jm_execute.specs.JobCollectors.{IsCollectorOf};
+
 use jm_blocks::BlockStore;
 use jm_copy::{Collector, Refused, SerialCollector, Survivors};
 use jm_job::Copiers;
@@ -37,7 +39,9 @@ impl<R: Threads> Collector for JobCollector<R> {
 }
 
 /// The collector of so many copiers.
-pub(crate) fn job_collector<W: Threads>(rt: &W, copiers: Copiers) -> JobCollector<&W> {
+pub(crate) fn job_collector<W: Threads>(rt: &W, copiers: Copiers) -> JobCollector<&W>
+    ensures { IsCollectorOf copiers.count result }
+{
     if copiers.count == 1 {
         return JobCollector::OneCopier;
     }

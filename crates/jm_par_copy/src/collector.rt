@@ -14,6 +14,7 @@ use jm_copy::{Collector, Refused, SerialCollector, Source, Survivors, number_all
 use jm_forward::Forwarding;
 use jm_values::Place;
 use std::alloc::{AllocError, Global};
+use std::marker::Model;
 use std::thread::Threads;
 
 // There is a forwarding word for each of fewer objects than this.
@@ -30,11 +31,21 @@ pub struct ParallelCollector<R, G> {
     ghost few: { copiers ≤ 16 },
 }
 
+/// Contracts see how many copiers it has.
+impl<R, G> Model for ParallelCollector<R, G> {
+    ghost use Rattle.std.specs.Prelude.{ℕ};
+
+    ghost Value = { ℕ };
+
+    ghost view = { λ collector. collector.copiers };
+}
+
 impl<R: Threads, G: Gate + Sync> ParallelCollector<R, G> {
     /// A collector of so many copiers.
     pub fn new(runtime: R, gate: G, copiers: usize) -> ParallelCollector<R, G>
         requires some { 0 < copiers }
         requires few { copiers ≤ 16 }
+        ensures { result ≡ copiers }
     {
         ParallelCollector {
             runtime,
