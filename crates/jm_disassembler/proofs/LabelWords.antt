@@ -12,7 +12,7 @@ use Rattle.std.proofs.Math.Seq.{take-append_seam}
 use Rattle.std.proofs.Common.{length-append}
 use Rattle.jm_program.specs.Names.{same_text}
 use Rattle.jm_program.specs.Texts.{utf16_of}
-use Rattle.jm_program.proofs.Texts.{text_itself, text_is}
+use Rattle.jm_program.proofs.Texts.{text_is}
 use Rattle.jm_program.proofs.Truths.{both_true}
 use Rattle.jm_jasmin_ops.specs.Profile.{is_signed, is_signed_digits, is_offset, is_colon, has_colon}
 use Rattle.jm_jasmin.specs.Items.{ends_with_colon, without_last}
