@@ -1,4 +1,4 @@
--- The text of a class, and what is told of the first part of it that no text can say.
+-- The text of a class, and what is told of the first part of it that its text cannot say.
 use Rattle.std.specs.Prelude.{◌≡◌, ℕ, List, [], ◌++◌, Option, Some, None, Ok, Bool, codes}
 use Rattle.std.specs.String.{string_bytes}
 use Rattle.jm_program.specs.declared.class.ClassParts.{ClassParts}
@@ -16,7 +16,7 @@ use Rattle.jm_execute.specs.declared.status.Status.TheVariants as ends
 abbrev pub Denotes : Bool → ClassParts → Type 0
 Denotes commented class = first_unsaid class ≡ None → denoted (class_text commented class) ≡ Ok class
 
--- the text of a class, with comments or without them, and the first part that no text can say
+-- the text of a class, with comments or without them, and the first part that its text cannot say
 pub record IsTextOf (commented : Bool) (class : ClassParts) (t : ClassText) : Type 0 where
   pub text : string_bytes t.text ≡ class_text commented class
   pub unsaid : t.unsaid ≡ first_unsaid class

@@ -14,14 +14,14 @@ use jm_job::DisassembleJob;
 use jm_program::Class;
 use std::alloc::{AllocError, Global};
 
-/// The text of a class, and the first part of the class that no text can say.
+/// The text of a class, and the first part of the class that its text cannot say.
 #[derive(Drop)]
 pub struct ClassText {
     pub text: String,
     pub unsaid: Option<Unsaid>,
 }
 
-/// The line of the first part of the class in the file of this name that no text can say, if there is
+/// The line of the first part of the class in the file of this name that its text cannot say, if there is
 /// one. `AllocError`: a growth was refused.
 pub fn unsaid_line(alloc: Global, file: &str, unsaid: Option<Unsaid>) -> Result<String, AllocError>
     ensures { IfOk result (λ line. string_bytes line ≡ unsaid_line file.now unsaid) }
@@ -35,7 +35,7 @@ pub fn unsaid_line(alloc: Global, file: &str, unsaid: Option<Unsaid>) -> Result<
     }
 }
 
-/// The status of a text of a class, by the first part of it that no text can say.
+/// The status of a text of a class, by the first part of it that its text cannot say.
 pub fn unsaid_status(unsaid: Option<Unsaid>) -> Status
     ensures { result ≡ unsaid_status unsaid }
 {

@@ -322,7 +322,7 @@ fn tell_assembled<O: Watchable, E: Watchable>(
     }
 }
 
-// Tells of the text of a class, by the line of its first part that no text can say.
+// Tells of the text of a class, by the line of its first part that its text cannot say.
 fn tell_said<O: Watchable, E: Watchable>(
     text: &ClassText,
     line: &str,
@@ -347,7 +347,7 @@ fn tell_said<O: Watchable, E: Watchable>(
     }
 }
 
-// Tells of the text of the class of the file of this name. The line of what no text can say is made
+// Tells of the text of the class of the file of this name. The line of what its text cannot say is made
 // before anything is written.
 fn tell_text<O: Watchable, E: Watchable>(
     alloc: Global,
@@ -624,7 +624,7 @@ fn execute_debug<C: Collector + Drop, W: Wait, R: Readable, O: Watchable, E: Wat
 ///
 /// `Disassemble`: the text of the class that the file holds goes to `out`, once it stands whole in
 /// memory. Where each part of the class can be said, the text denotes the class, and the status is
-/// `Done`; else `err` gets a line that names the first part that no text can say, and the status is
+/// `Done`; else `err` gets a line that names the first part that its text cannot say, and the status is
 /// `Refused`.
 ///
 /// `Debug`: the lines of `reader` are commands of the debugger, from the first world of the program

@@ -52,7 +52,7 @@ pub fn class_of_its_text()
 {}
 
 /// The text that a disassembly leaves in its output is of the class that the file holds, and denotes
-/// that very class where there is no part that no text can say.
+/// that very class where there is no part that its text cannot say.
 pub fn text_of_its_class()
     ensures { (asked : DisassembleJob) (name : List ℕ) (commented : Bool) (class : ClassParts)
         → Allows (verdict (job.Disassemble asked)) (disassembled name commented class)
