@@ -81,7 +81,7 @@ pub same_ends : (a b : Outcome) → a.how ≡ b.how → a.output.items ≡ b.out
 same_ends a b e f g = (λ i. record { how = e i; output = f i; thrown = g i })
 
 module _ {X : Type 0} where
-  get_any : (xs : List X) (k : ℕ) (d e : X) → k < length xs → get_or xs k d ≡ get_or xs k e
+  pub get_any : (xs : List X) (k : ℕ) (d e : X) → k < length xs → get_or xs k d ≡ get_or xs k e
   get_any [] k d e low = let bad : ⊥ = omega (arith, low) in absurd bad
   get_any (x ∷ xs) zero d e low = refl
   get_any (x ∷ xs) (suc k) d e low = get_any xs k d e (omega (arith, low))

@@ -1,8 +1,12 @@
 pub mod Switching
 pub mod Lists
+pub mod Totals
 pub mod Going
 pub mod Offers
 pub mod Paths
+pub mod Once
+pub mod Trees
+pub mod Counting
 pub mod Steps
 pub mod Ends
 pub mod Runs

@@ -1,5 +1,5 @@
 -- Branches that are added for live threads.
-use Rattle.std.proofs.Common.{◌≡◌, ◌≢◌, ◌⊎◌, ℕ, ◌+◌, ◌≤◌, ◌<◌, List, [], ◌∷◌, ◌++◌, true, false, Bool, Option, Some, None, ◌-◌, length, refl, sym, ap, subst, ◌∙◌, inl, inr, append_assoc, append-nil, arith, take, true≢false, zero, suc}
+use Rattle.std.proofs.Common.{◌≡◌, ◌≢◌, ◌⊎◌, ℕ, ◌+◌, ◌≤◌, ◌<◌, List, [], ◌∷◌, ◌++◌, true, false, Bool, Option, Some, None, ◌-◌, length, refl, sym, ap, subst, ◌∙◌, inl, inr, append_assoc, append-nil, arith, map, take, true≢false, zero, suc}
 use Rattle.std.proofs.Math.Seq.{take-append_seam}
 use Rattle.jm_program.proofs.Numbers.{found_less, found_no_less}
 use Rattle.jm_world.specs.World.{World}
@@ -7,7 +7,7 @@ use Rattle.jm_world.specs.Run.{after}
 use Rattle.jm_world.specs.declared.event.Event.TheVariants.{Step}
 use Rattle.jm_machine.specs.Threads.{is_live}
 use Rattle.jm_machine.specs.View.{MachineView, MatchesWorld}
-use Rattle.jm_explore.specs.Lists.{HasOne}
+use Rattle.jm_explore.specs.Lists.{Distinct, Each, HasOne}
 use Rattle.jm_explore.specs.Branches.{Adds, Advances, GoesAmong, GoesOn, IsBehind, Leaves, Offered, WentIf}
 use Rattle.jm_explore.specs.Switches.{can_go, first_of, next_of, or_else, other_than, switch, switch_behind, switch_within, IsEnd}
 use Rattle.jm_explore.specs.declared.branch.Branch.{Branch}
@@ -21,11 +21,24 @@ abbrev pub OfferedTo : World → ℕ → ℕ → ℕ → ℕ → Type 0
 OfferedTo w above upto skipped t = (t ≤ upto) × Offered w above skipped t
 
 pub none_added : (behind left skipped : ℕ) (P : ℕ → Type 0) (old : List Branch) → ((t : ℕ) → P t → ⊥) → Adds behind left skipped P old old
-none_added behind left skipped P old none = record { added = []; new_is = sym (append-nil old); alike = tt; has = λ t p. absurd (none t p) }
+none_added behind left skipped P old none = record { added = []; new_is = sym (append-nil old); alike = tt; has = λ t p. absurd (none t p); wanted = tt; once = tt }
 
-pub more_added : (behind left skipped t : ℕ) (P Q : ℕ → Type 0) (old new newer : List Branch) → Adds behind left skipped P old new → t ≢ skipped → ((s : ℕ) → Q s → P s ⊎ (s ≡ t))
+threads_append : (bs cs : List Branch) → map (λ (b : Branch). b.thread) (bs ++ cs) ≡ map (λ (b : Branch). b.thread) bs ++ map (λ (b : Branch). b.thread) cs
+threads_append [] cs = refl
+threads_append (b ∷ bs) cs = ap (λ ts. b.thread ∷ ts) (threads_append bs cs)
+
+each_thread : (P : ℕ → Type 0) (bs : List Branch) → Each (λ b. P b.thread) bs → Each P (map (λ (b : Branch). b.thread) bs)
+each_thread P [] e = tt
+each_thread P (b ∷ bs) e = (e.0, each_thread P bs e.1)
+
+-- one number more
+distinct_more : (xs : List ℕ) (x : ℕ) → Distinct xs → Each (λ y. y ≢ x) xs → Distinct (xs ++ x ∷ [])
+distinct_more [] x d e = (tt, tt)
+distinct_more (y ∷ xs) x d e = (each_append (λ z. z ≢ y) xs (x ∷ []) d.0 ((λ same. e.0 (sym same)), tt), distinct_more xs x d.1 e.1)
+
+pub more_added : (behind left skipped t : ℕ) (P Q : ℕ → Type 0) (old new newer : List Branch) → Adds behind left skipped P old new → t ≢ skipped → ((s : ℕ) → Q s → P s ⊎ (s ≡ t)) → ((s : ℕ) → P s → Q s × (s ≢ t)) → Q t
     → newer ≡ new ++ record { behind = behind; thread = t; left = left } ∷ [] → Adds behind left skipped Q old newer
-more_added behind left skipped t P Q old new newer a other cases is =
+more_added behind left skipped t P Q old new newer a other cases back here is =
     let one : Branch = record { behind = behind; thread = t; left = left } in
     record {
       added = a.added ++ one ∷ [];
@@ -35,10 +48,20 @@ more_added behind left skipped t P Q old new newer a other cases is =
         | inl p ↦ has_left (λ b. b.thread ≡ s) a.added (one ∷ []) (a.has s p)
         | inr e ↦ has_right (λ b. b.thread ≡ s) a.added (one ∷ []) (inl (sym e))
       ];
+      wanted = each_append (λ b. Q b.thread) a.added (one ∷ []) (each_as (λ b. P b.thread) (λ b. Q b.thread) (λ b p. (back b.thread p).0) a.added a.wanted) (here, tt);
+      once = subst Distinct (sym (threads_append a.added (one ∷ [])))
+          (distinct_more (map (λ (b : Branch). b.thread) a.added) t a.once (each_thread (λ s. s ≢ t) a.added (each_as (λ b. P b.thread) (λ b. b.thread ≢ t) (λ b p. (back b.thread p).1) a.added a.wanted)));
     }
 
-pub added_as : (behind left skipped : ℕ) (P Q : ℕ → Type 0) (old new : List Branch) → Adds behind left skipped P old new → ((s : ℕ) → Q s → P s) → Adds behind left skipped Q old new
-added_as behind left skipped P Q old new a f = record { added = a.added; new_is = a.new_is; alike = a.alike; has = λ s q. a.has s (f s q) }
+pub added_as : (behind left skipped : ℕ) (P Q : ℕ → Type 0) (old new : List Branch) → Adds behind left skipped P old new → ((s : ℕ) → Q s → P s) → ((s : ℕ) → P s → Q s) → Adds behind left skipped Q old new
+added_as behind left skipped P Q old new a f back = record {
+  added = a.added;
+  new_is = a.new_is;
+  alike = a.alike;
+  has = λ s q. a.has s (f s q);
+  wanted = each_as (λ b. P b.thread) (λ b. Q b.thread) (λ b p. back b.thread p) a.added a.wanted;
+  once = a.once;
+}
 
 -- one index more
 both_ways : (i t : ℕ) → t ≤ i + 1 → (t ≤ i) ⊎ (t ≡ i + 1)
@@ -46,7 +69,7 @@ both_ways i t h = grind (arith, h)
 
 module _ (w : World) (behind left skipped above i : ℕ) (old new : List Branch) (a : Adds behind left skipped (OfferedTo w above i skipped) old new) where
   pub skipped_one : (i + 1 ≡ skipped) ⊎ (is_live w (i + 1) ≡ false) → Adds behind left skipped (OfferedTo w above (i + 1) skipped) old new
-  skipped_one why = added_as behind left skipped (OfferedTo w above i skipped) (OfferedTo w above (i + 1) skipped) old new a by
+  skipped_one why = added_as behind left skipped (OfferedTo w above i skipped) (OfferedTo w above (i + 1) skipped) old new a by (λ s p. (let low = p.0 in omega (arith, low), p.1))
     where
       by : (s : ℕ) → OfferedTo w above (i + 1) skipped s → OfferedTo w above i skipped s
       by s q = elim (both_ways i s q.0) [
@@ -57,8 +80,9 @@ module _ (w : World) (behind left skipped above i : ℕ) (old new : List Branch)
         ]
       ]
 
-  pub offered_one : (newer : List Branch) → i + 1 ≢ skipped → newer ≡ new ++ record { behind = behind; thread = i + 1; left = left } ∷ [] → Adds behind left skipped (OfferedTo w above (i + 1) skipped) old newer
-  offered_one newer other is = more_added behind left skipped (i + 1) (OfferedTo w above i skipped) (OfferedTo w above (i + 1) skipped) old new newer a other by is
+  pub offered_one : (newer : List Branch) → above ≤ i → i + 1 ≢ skipped → is_live w (i + 1) ≡ true → newer ≡ new ++ record { behind = behind; thread = i + 1; left = left } ∷ [] → Adds behind left skipped (OfferedTo w above (i + 1) skipped) old newer
+  offered_one newer upward other lives is = more_added behind left skipped (i + 1) (OfferedTo w above i skipped) (OfferedTo w above (i + 1) skipped) old new newer a other by
+      (λ s p. ((let low = p.0 in omega (arith, low), p.1), λ e. let low = p.0 in let bad : ⊥ = omega (arith, e, low) in bad)) (omega arith, (omega (arith, upward), other, lives)) is
     where
       by : (s : ℕ) → OfferedTo w above (i + 1) skipped s → OfferedTo w above i skipped s ⊎ (s ≡ i + 1)
       by s q = elim (both_ways i s q.0) [ inl low ↦ inl (low, q.1) | inr e ↦ inr e ]
@@ -66,7 +90,7 @@ module _ (w : World) (behind left skipped above i : ℕ) (old new : List Branch)
 pub all_offered : (w : World) (behind left skipped above i : ℕ) (old new : List Branch) → length w.threads ≤ i → Adds behind left skipped (OfferedTo w above i skipped) old new
     → Adds behind left skipped (Offered w above skipped) old new
 all_offered w behind left skipped above i old new past a = added_as behind left skipped (OfferedTo w above i skipped) (Offered w above skipped) old new a
-    (λ s q. (let low = (live_within w s q.2).1 in omega (arith, low, past), q))
+    (λ s q. (let low = (live_within w s q.2).1 in omega (arith, low, past), q)) (λ s p. p.1)
 
 pub offers_none : (w : World) (behind left skipped above : ℕ) (old : List Branch) → Adds behind left skipped (OfferedTo w above above skipped) old old
 offers_none w behind left skipped above old = none_added behind left skipped (OfferedTo w above above skipped) old (λ t p. let low = p.0 in let high = p.1.0 in omega (arith, low, high))
@@ -79,6 +103,7 @@ leaves_none w behind t old = record {
   new_is = sym (append-nil old);
   alike = tt;
   has = λ s go few. inl (by s few (same_or s t));
+  once = (tt, tt);
 }
   where
     same_or : (s t : ℕ) → (s ≡ t) ⊎ (s ≢ t)
@@ -95,6 +120,7 @@ leaves_switches w behind left t old new some a = record {
   alike = each_as (IsBehind behind (left - 1) t) (λ b. (b.behind ≡ behind) × (b.left + other_than t b.thread ≡ left))
       (λ b is. (is.0, (let one = other_one t b.thread is.2 in let less = is.1 in omega (arith, one, less, some)))) a.added a.alike;
   has = λ s go few. by s go (same_or s t);
+  once = (each_thread (λ s. s ≢ t) a.added (each_as (IsBehind behind (left - 1) t) (λ b. b.thread ≢ t) (λ b is. is.2) a.added a.alike), a.once);
 }
   where
     same_or : (s t : ℕ) → (s ≡ t) ⊎ (s ≢ t)
@@ -113,6 +139,10 @@ leaves_free w behind left skipped i old new gone before a = record {
   alike = each_as (IsBehind behind left skipped) (λ b. (b.behind ≡ behind) × (b.left + 0 ≡ left))
       (λ b is. (is.0, (let less = is.1 in omega (arith, less)))) a.added a.alike;
   has = λ s go few. by s go (where_is i s);
+  once = (
+    each_thread (λ s. s ≢ i + 1) a.added (each_as (λ b. Offered w (i + 1) skipped b.thread) (λ b. b.thread ≢ i + 1) (λ b p e. let high = p.0 in let bad : ⊥ = omega (arith, high, e) in bad) a.added a.wanted),
+    a.once,
+  );
 }
   where
     where_is : (i s : ℕ) → (s ≤ i) ⊎ ((s ≡ i + 1) ⊎ (i + 1 < s))

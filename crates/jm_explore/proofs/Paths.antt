@@ -1,5 +1,5 @@
 -- Schedules, one event after the other.
-use Rattle.std.proofs.Common.{◌≡◌, ℕ, ◌+◌, ◌≤◌, Bool, true, false, ◌&&◌, List, [], ◌∷◌, ◌++◌, Option, Some, None, refl, sym, ap, ◌∙◌, arith}
+use Rattle.std.proofs.Common.{◌≡◌, ℕ, zero, suc, ◌+◌, ◌≤◌, Bool, true, false, ◌&&◌, List, [], ◌∷◌, ◌++◌, Option, Some, None, take, refl, sym, ap, ◌∙◌, arith}
 use Rattle.std.proofs.lemmas.Bool.{and_from}
 use Rattle.jm_program.proofs.Truths.{right_true, left_true}
 use Rattle.jm_world.specs.World.{World}
@@ -59,3 +59,11 @@ few_next w slice p t q =
     ≤ switches w slice p + (switch (world_after w p) slice (turn_from slice None p) t
     + switches_from (after (world_after w p) (Step t)).world slice (Some (next_turn slice (turn_from slice None p) t)) q) = omega arith in
     omega (arith, whole, low)
+
+pub take_take : (n m : ℕ) (xs : List ℕ) → n ≤ m → take n (take m xs) ≡ take n xs
+take_take zero m [] low = refl
+take_take (suc n) zero [] low = refl
+take_take (suc n) (suc m) [] low = refl
+take_take zero m (x ∷ xs) low = refl
+take_take (suc n) zero (x ∷ xs) low = let bad : ⊥ = omega (arith, low) in absurd bad
+take_take (suc n) (suc m) (x ∷ xs) low = ap (λ ys. x ∷ ys) (take_take n m xs (omega (arith, low)))

@@ -1,5 +1,5 @@
 -- The steps of the search.
-use Rattle.std.proofs.Common.{◌≡◌, ◌⊎◌, ℕ, zero, suc, ◌+◌, ◌≤◌, ◌<◌, Bool, true, false, List, [], ◌∷◌, ◌++◌, Option, Some, None, length, take, drop, refl, sym, ap, subst, ◌∙◌, inl, inr, append_assoc, append-nil, length-append, take-append-drop, arith, option_to_list, true≢false, ◌≢◌, get_or}
+use Rattle.std.proofs.Common.{◌≡◌, ◌⊎◌, ℕ, suc, ◌+◌, ◌≤◌, ◌<◌, Bool, true, false, List, [], ◌∷◌, ◌++◌, Option, Some, None, length, take, drop, refl, sym, ap, subst, ◌∙◌, inl, inr, append_assoc, append-nil, length-append, take-append-drop, arith, option_to_list, true≢false, ◌≢◌, get_or}
 use Rattle.std.proofs.Math.Seq.{take-append_seam}
 use Rattle.std.proofs.lemmas.List.{length-take-le, take-append-le}
 use Rattle.std.proofs.lemmas.List.Quantifiers.{all_pairs_push}
@@ -15,18 +15,10 @@ use Rattle.jm_explore.specs.Switches.{all_go, can_go, next_turn, switch, switche
 use Rattle.jm_explore.specs.declared.branch.Branch.{Branch}
 use Rattle.jm_explore.specs.declared.turn.Turn.{Turn}
 use Rattle.jm_explore.proofs.Lists.{each_append, each_as, each_pop, has_as, has_at, has_left, has_pop, has_right}
-use Rattle.jm_explore.proofs.Paths.{few_next, go_more, go_next, go_start, switches_more, turn_append, world_more}
+use Rattle.jm_explore.proofs.Paths.{few_next, go_more, go_next, go_start, switches_more, take_take, turn_append, world_more}
 use Rattle.jm_values.proofs.Lists.{length_end as length_more}
 
 -- ---- the events of a branch
-
-take_take : (n m : ℕ) (xs : List ℕ) → n ≤ m → take n (take m xs) ≡ take n xs
-take_take zero m [] low = refl
-take_take (suc n) zero [] low = refl
-take_take (suc n) (suc m) [] low = refl
-take_take zero m (x ∷ xs) low = refl
-take_take (suc n) zero (x ∷ xs) low = let bad : ⊥ = omega (arith, low) in absurd bad
-take_take (suc n) (suc m) (x ∷ xs) low = ap (λ ys. x ∷ ys) (take_take n m xs (omega (arith, low)))
 
 longer : (path : List ℕ) (t : ℕ) (b : Branch) → b.behind ≤ length path → events_to (path ++ t ∷ []) b ≡ events_to path b
 longer path t b here = ap (λ xs. xs ++ b.thread ∷ []) (take-append-le b.behind path (t ∷ []) here)
@@ -60,7 +52,7 @@ rising_append n [] (y ∷ ys) r low same = (each_as (λ b. b.behind ≡ n) (λ b
 rising_append n (x ∷ xs) ys r low same =
     (each_append (λ b. x.behind ≤ b.behind) xs ys r.0 (each_as (λ b. b.behind ≡ n) (λ b. x.behind ≤ b.behind) (λ b e. (let first = low.0 in omega (arith, e, first))) ys same), rising_append n xs ys r.1 low.1 same)
 
-rising_pop : (xs : List Branch) (b : Branch) → Rising (xs ++ b ∷ []) → Rising xs × Each (λ c. c.behind ≤ b.behind) xs
+pub rising_pop : (xs : List Branch) (b : Branch) → Rising (xs ++ b ∷ []) → Rising xs × Each (λ c. c.behind ≤ b.behind) xs
 rising_pop [] b r = (tt, tt)
 rising_pop (x ∷ xs) b r =
     let rest = rising_pop xs b r.1 in

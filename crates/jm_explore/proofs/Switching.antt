@@ -13,6 +13,7 @@ use Rattle.jm_world.specs.declared.reply.ReplyKind.TheVariants as kind
 use Rattle.jm_world.specs.declared.stop.Stop.{Stop}
 use Rattle.jm_explore.specs.Switches.{all_go, can_go, first_of, is_going, next_of, next_turn, or_else, other_than, switch, switch_behind, switch_within, switches_from, world_after, IsEnd, IsSchedule}
 use Rattle.jm_explore.specs.Schedulings.{ListsAll, ListsNoOther, MoreSwitches, NoneLeftOut, SameEnd, choices_from, going, schedules, schedules_from}
+use Rattle.jm_explore.specs.Lists.{Each}
 use Rattle.jm_explore.specs.declared.turn.Turn.{Turn}
 use Rattle.jm_explore.proofs.Going.{stays_running, after_is, other_same}
 use Rattle.jm_machine.proofs.BetweenEvents.{still_after}
@@ -135,7 +136,7 @@ in_flat f t (c ∷ cs) l (inl e) i = in_left l (f c) (flat_map f cs) (subst (λ 
 in_flat f t (c ∷ cs) l (inr h) i = in_right l (f c) (flat_map f cs) (in_flat f t cs l h i)
 
 module _ (w : World) (slice : ℕ) (turn : Option Turn) (left : ℕ) where
-  no_choice : IsEnd w → (n : ℕ) (ths : List Thread) → choices_from w slice turn left n ths ≡ []
+  pub no_choice : IsEnd w → (n : ℕ) (ths : List Thread) → choices_from w slice turn left n ths ≡ []
   no_choice end n [] = refl
   no_choice end n (th ∷ ths) = by (can_go w n) (end n) (no_choice end (n + 1) ths)
     where
@@ -170,7 +171,7 @@ module _ (w : World) (slice : ℕ) (turn : Option Turn) (left : ℕ) where
       apart : (n t : ℕ) → n ≤ t → (n ≡ t) ⊎ (n < t)
       apart n t h = grind (arith, h)
 
-going_within : (w : World) (t : ℕ) → can_go w t ≡ true → (1 ≤ t) × (t < 1 + length w.threads)
+pub going_within : (w : World) (t : ℕ) → can_go w t ≡ true → (1 ≤ t) × (t < 1 + length w.threads)
 going_within w t h = by t w.stop (sym (opened w t) ∙ h)
   where
     within : (n : ℕ) (o : Option Thread) → slice_get w.threads n ≡ o → (s : Option Stop) → goes_of w (suc n) s o ≡ true → n < length w.threads
@@ -212,10 +213,6 @@ lists_all w slice most steps ts s = contained ts (schedules w slice most steps) 
 
 -- ---- and nothing else
 
-abbrev Each : {X : Type 0} → (X → Type 0) → List X → Type 0
-Each P [] = Unit {0}
-Each P (x ∷ xs) = P x × Each P xs
-
 module _ {X : Type 0} (P : X → Type 0) where
   each_append : (xs ys : List X) → Each P xs → Each P ys → Each P (xs ++ ys)
   each_append [] ys e f = f
@@ -227,16 +224,16 @@ module _ {X : Type 0} (P : X → Type 0) where
   all_of (x ∷ xs) e (suc k) d low = all_of xs e.1 k d (omega (arith, low))
 
 -- from a place of a schedule on
-record IsRest (w : World) (slice : ℕ) (turn : Option Turn) (left n : ℕ) (ts : List ℕ) : Type 0 where
-  go : all_go w ts ≡ true
-  few : switches_from w slice turn ts ≤ left
-  within : length ts ≤ n
-  whole : (length ts ≡ n) ⊎ IsEnd (world_after w ts)
+pub record IsRest (w : World) (slice : ℕ) (turn : Option Turn) (left n : ℕ) (ts : List ℕ) : Type 0 where
+  pub go : all_go w ts ≡ true
+  pub few : switches_from w slice turn ts ≤ left
+  pub within : length ts ≤ n
+  pub whole : (length ts ≡ n) ⊎ IsEnd (world_after w ts)
 
-abbrev IsChoice : World → ℕ → Option Turn → ℕ → ℕ → Type 0
+abbrev pub IsChoice : World → ℕ → Option Turn → ℕ → ℕ → Type 0
 IsChoice w slice turn left t = (can_go w t ≡ true) × (switch w slice turn t ≤ left)
 
-choices_go : (w : World) (slice : ℕ) (turn : Option Turn) (left n : ℕ) (ths : List Thread) → Each (IsChoice w slice turn left) (choices_from w slice turn left n ths)
+pub choices_go : (w : World) (slice : ℕ) (turn : Option Turn) (left n : ℕ) (ths : List Thread) → Each (IsChoice w slice turn left) (choices_from w slice turn left n ths)
 choices_go w slice turn left n [] = tt
 choices_go w slice turn left n (th ∷ ths) = by (can_go w n) (nat_le (switch w slice turn n) left) refl refl (choices_go w slice turn left (n + 1) ths)
   where
@@ -291,7 +288,7 @@ next_is_there w last t can e = by (first_of w (last + 1) (length w.threads - las
     by None f e (inr high) = let top = place.1 in first_is_there w (last + 1) (length w.threads - last) t (omega (arith, high)) (omega (arith, high, top)) can f
 
 -- where no thread may be chosen, none can go: one could go for nothing
-no_more : (w : World) (slice : ℕ) (turn : Option Turn) (left : ℕ) → choices_from w slice turn left 1 w.threads ≡ [] → IsEnd w
+pub no_more : (w : World) (slice : ℕ) (turn : Option Turn) (left : ℕ) → choices_from w slice turn left 1 w.threads ≡ [] → IsEnd w
 no_more w slice turn left none t = by (can_go w t) refl
   where
     not_in : (s : ℕ) → can_go w s ≡ true → switch w slice turn s ≡ 0 → ⊥
@@ -348,7 +345,7 @@ module _ (n : ℕ) (w : World) (slice : ℕ) (turn : Option Turn) (left : ℕ) w
   each_choice rests (s ∷ cs) e = each_append (IsRest w slice turn left (suc n)) (map (λ rest. s ∷ rest) (schedules_from n (after w (Step s)).world slice (Some (next_turn slice turn s)) (left - switch w slice turn s)))
       (flat_map (λ s. map (λ rest. s ∷ rest) (schedules_from n (after w (Step s)).world slice (Some (next_turn slice turn s)) (left - switch w slice turn s))) cs) (each_after s e.0 (schedules_from n (after w (Step s)).world slice (Some (next_turn slice turn s)) (left - switch w slice turn s)) (rests s)) (each_choice rests cs e.1)
 
-listed_only : (n : ℕ) (w : World) (slice : ℕ) (turn : Option Turn) (left : ℕ) → Each (IsRest w slice turn left n) (schedules_from n w slice turn left)
+pub listed_only : (n : ℕ) (w : World) (slice : ℕ) (turn : Option Turn) (left : ℕ) → Each (IsRest w slice turn left n) (schedules_from n w slice turn left)
 listed_only zero w slice turn left = (record { go = refl; few = omega arith; within = omega arith; whole = inl refl }, tt)
 listed_only (suc n) w slice turn left = by (choices_from w slice turn left 1 w.threads) refl (choices_go w slice turn left 1 w.threads) (λ s. listed_only n (after w (Step s)).world slice (Some (next_turn slice turn s)) (left - switch w slice turn s))
   where

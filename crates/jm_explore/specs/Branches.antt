@@ -1,11 +1,11 @@
 -- What one event more adds to the branches that are still to be tried.
-use Rattle.std.specs.Prelude.{◌≡◌, ◌≢◌, ◌⊎◌, ℕ, ◌+◌, ◌-◌, ◌≤◌, ◌<◌, List, ◌++◌, Option, Some, None, Bool, true, false}
+use Rattle.std.specs.Prelude.{◌≡◌, ◌≢◌, ◌⊎◌, ℕ, ◌+◌, ◌-◌, ◌≤◌, ◌<◌, List, ◌∷◌, ◌++◌, map, Option, Some, None, Bool, true, false}
 use Rattle.jm_world.specs.World.{World}
 use Rattle.jm_world.specs.Run.{after}
 use Rattle.jm_world.specs.declared.event.Event.TheVariants.{Step}
 use Rattle.jm_machine.specs.Threads.{is_live}
 use Rattle.jm_machine.specs.View.{MachineView, MatchesWorld}
-use Rattle.jm_explore.specs.Lists.{Each, HasOne}
+use Rattle.jm_explore.specs.Lists.{Distinct, Each, HasOne}
 use Rattle.jm_explore.specs.Switches.{can_go, first_of, other_than, IsEnd}
 use Rattle.jm_explore.specs.declared.branch.Branch.{Branch}
 
@@ -17,12 +17,14 @@ abbrev pub IsBehind : ℕ → ℕ → ℕ → Branch → Type 0
 IsBehind behind left skipped b = (b.behind ≡ behind) × (b.left ≡ left) × (b.thread ≢ skipped)
 
 -- new branches stand at the end, all behind so many events and none of the thread that is skipped, and each thread that is
--- wanted has one
+-- wanted, and no other, has one, and only one
 pub record Adds (behind left skipped : ℕ) (Wanted : ℕ → Type 0) (old new : List Branch) : Type 0 where
   pub added : List Branch
   pub new_is : new ≡ old ++ added
   pub alike : Each (IsBehind behind left skipped) added
   pub has : (t : ℕ) → Wanted t → HasOne (λ b. b.thread ≡ t) added
+  pub wanted : Each (λ b. Wanted b.thread) added
+  pub once : Distinct (map (λ (b : Branch). b.thread) added)
 
 -- the machine is behind the thread's event if it went, else where it was
 abbrev pub WentIf : {H : Type 0} → Bool → World → ℕ → MachineView H → Type 0
@@ -30,12 +32,13 @@ WentIf true w t m = MatchesWorld m (after w (Step t)).world
 WentIf false w t m = MatchesWorld m w
 
 -- new branches stand at the end; what each costs is one of the switches that are left, and each other thread that can go
--- and for which enough switches are left has one
+-- and for which enough switches are left has one, and only one
 pub record Leaves (w : World) (cost : ℕ → ℕ) (left behind t : ℕ) (old new : List Branch) : Type 0 where
   pub added : List Branch
   pub new_is : new ≡ old ++ added
   pub alike : Each (λ b. (b.behind ≡ behind) × (b.left + cost b.thread ≡ left)) added
   pub has : (s : ℕ) → can_go w s ≡ true → cost s ≤ left → (s ≡ t) ⊎ HasOne (λ b. b.thread ≡ s) added
+  pub once : Distinct (t ∷ map (λ (b : Branch). b.thread) added)
 
 -- a thread goes, and any other costs a switch; or it cannot go
 abbrev pub GoesOn : {H : Type 0} → Bool → World → ℕ → ℕ → ℕ → List Branch → List Branch → MachineView H → Type 0

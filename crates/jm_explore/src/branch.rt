@@ -1,6 +1,6 @@
 // Alternatives that are still to be tried.
 
-ghost use Rattle.std.specs.Prelude.{◌≡◌, ◌≢◌, ◌⊎◌, IfOk, IsFalse, IsTrue, false};
+ghost use Rattle.std.specs.Prelude.{◌≡◌, ◌≢◌, ◌⊎◌, IfOk, IsFalse, IsTrue, false, true};
 ghost use Rattle.jm_machine.specs.Threads.{is_live};
 ghost use Rattle.jm_machine.specs.View.{MatchesWorld};
 ghost use Rattle.jm_world.specs.World.{World};
@@ -21,6 +21,7 @@ pub struct Branch {
 // Whether a thread is live and not the one that is skipped.
 fn is_offered<H: Heap>(machine: &Machine<H>, thread: u64, skipped: u64) -> bool
     ensures other { IsTrue result → thread ≢ skipped }
+    ensures live { (w : World) → MatchesWorld machine.now w → IsTrue result → is_live w thread ≡ true }
     ensures none { (w : World) → MatchesWorld machine.now w → IsFalse result → (thread ≡ skipped) ⊎ (is_live w thread ≡ false) }
 {
     thread != skipped && machine.is_live(thread)

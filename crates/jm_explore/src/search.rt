@@ -1,11 +1,13 @@
 // The search for schedules of at most so many switches.
 
-ghost use Rattle.std.specs.Prelude.{◌≡◌, ◌+◌, IfOk, IfErr, List, ◌++◌, ◌∷◌, [], None, ℕ};
+ghost use Rattle.std.specs.Prelude.{◌≡◌, ◌≢◌, ◌≤◌, ◌<◌, ◌^◌, ◌+◌, IfOk, IfErr, List, ◌++◌, ◌∷◌, [], None, ℕ, nat_eq};
 ghost use Rattle.jm_machine.specs.View.{MatchesWorld};
 ghost use Rattle.jm_world.specs.Loading.{loaded_world};
 ghost use Rattle.jm_world.specs.World.{World};
-ghost use Rattle.jm_explore.specs.Outcomes.{Found, outcome_of};
+ghost use Rattle.jm_explore.specs.Counts.{CountsAll, CountsMore, Tallied, Weighs, WeighsIf, all_counted, below, below_all, weight_if, weighed};
+ghost use Rattle.jm_explore.specs.Outcomes.{End, Found, outcome_of};
 ghost use Rattle.jm_explore.specs.declared.branch.Branch.{Branch as BranchModel};
+ghost use Rattle.jm_explore.specs.declared.unfinished.Unfinished.TheVariants as unfinished;
 ghost use Rattle.jm_explore.specs.Searches.{AllBefore, IsComplete, Known, Made, Making, Notes, Searching, Tried, founds};
 ghost use Rattle.jm_explore.specs.Switches.{turn_from, world_after};
 
@@ -30,12 +32,26 @@ pub struct Progress {
     pub runs: u64,
 }
 
+// Nothing was found so far, and so many runs may be made.
+pub(crate) fn nothing_found(alloc: Global, runs: u64) -> Progress
+    ensures none { result.told.items ≡ [] }
+    ensures tallied { Tallied runs result }
+    ensures runs { result.runs ≡ runs }
+{
+    Progress {
+        told: Vec::new(alloc),
+        schedules: 0,
+        runs,
+    }
+}
+
 // The program begins again.
 fn begin_again<H: Heap + Drop, E: EmptyHeaps<H>>(
     machine: &mut Machine<H>,
     heaps: &E,
 ) -> Result<(), Unfinished>
     ensures first { IfOk result (λ _. MatchesWorld machine.new (loaded_world machine.old.linked.program (E.limit heaps.now))) }
+    ensures other { IfErr result (λ why. why ≢ unfinished.RunsEnd) }
     ensures linked { machine.new.linked ≡ machine.old.linked }
 {
     let Ok(heap) = heaps.empty_heap() else {
@@ -55,6 +71,7 @@ fn run_again<H: Heap + Drop, E: EmptyHeaps<H>>(
     path: &[u64],
 ) -> Result<(), Unfinished>
     ensures first { IfOk result (λ _. MatchesWorld machine.new (world_after (loaded_world machine.old.linked.program (E.limit heaps.now)) path.now)) }
+    ensures other { IfErr result (λ why. why ≢ unfinished.RunsEnd) }
     ensures linked { machine.new.linked ≡ machine.old.linked }
 {
     begin_again(machine, heaps)?;
@@ -76,6 +93,9 @@ fn extend<H: Heap>(
     ensures made { (w : World) (most : ℕ) (found : List Found) → Making w bounds.slice most bounds.steps found path.old.items todo.old.items left
         → first ≡ turn_from bounds.slice None path.old.items → MatchesWorld machine.old (world_after w path.old.items)
         → IfOk result (λ _. Made w bounds.slice most bounds.steps found path.new.items todo.new.items × MatchesWorld machine.new (world_after w path.new.items)) }
+    ensures weighs { (w : World) (most : ℕ) (found : List Found) → Making w bounds.slice most bounds.steps found path.old.items todo.old.items left
+        → first ≡ turn_from bounds.slice None path.old.items → MatchesWorld machine.old (world_after w path.old.items)
+        → IfOk result (λ _. Weighs w bounds.slice most bounds.steps path.new.items todo.new.items left (λ f. below w bounds.slice bounds.steps f path.old.items left + below_all w bounds.slice bounds.steps f path.old.items todo.old.items)) }
     ensures linked { machine.new.linked ≡ machine.old.linked }
 {
     let mut last = first;
@@ -104,6 +124,10 @@ fn try_branch<H: Heap + Drop, E: EmptyHeaps<H>>(
     ensures tried { (w : World) → w ≡ loaded_world machine.old.linked.program (E.limit heaps.now) → (most : ℕ) (found : List Found) (all : List BranchModel) → all ≡ todo.old.items ++ branch ∷ []
         → Searching w bounds.slice most bounds.steps found path.old.items all
         → IfOk result (λ made. Tried made w bounds.slice most bounds.steps found path.new.items todo.new.items machine.new) }
+    ensures weighs { (w : World) → w ≡ loaded_world machine.old.linked.program (E.limit heaps.now) → (most : ℕ) (found : List Found) (all : List BranchModel) → all ≡ todo.old.items ++ branch ∷ []
+        → Searching w bounds.slice most bounds.steps found path.old.items all
+        → IfOk result (λ made. WeighsIf made w bounds.slice most bounds.steps path.new.items todo.new.items branch.left (λ f. below_all w bounds.slice bounds.steps f path.old.items all)) }
+    ensures other { IfErr result (λ why. why ≢ unfinished.RunsEnd) }
     ensures linked { machine.new.linked ≡ machine.old.linked }
 {
     path.truncate(branch.behind);
@@ -120,6 +144,13 @@ fn try_branch<H: Heap + Drop, E: EmptyHeaps<H>>(
     Ok(true)
 }
 
+// How often a schedule is counted where so many switches are left: in the search of just its switches.
+fn counted(left: usize) -> u64
+    ensures { result ≡ weight_if (nat_eq left 0) 1 }
+{
+    if left == 0 { 1 } else { 0 }
+}
+
 // Tells what the machine has come to by a schedule of at most so many switches. Schedules of fewer
 // were counted before.
 fn note_end<H: Heap>(
@@ -133,17 +164,22 @@ fn note_end<H: Heap>(
 ) -> Result<(), OutOfMemory>
     ensures notes { (w : World) → MatchesWorld machine.now (world_after w path.now) → IfOk result (λ _. Notes (outcome_of w steps path.now) path.now switches (founds progress.old.told.items) (founds progress.new.told.items)) }
     ensures kept { IfErr result (λ _. founds progress.new.told.items ≡ founds progress.old.told.items) }
+    ensures counts { (w : World) → MatchesWorld machine.now (world_after w path.now) → all_counted progress.old.told.items + 1 < 2 ^ 64
+        → IfOk result (λ _. (weight : End → ℕ) → weighed weight progress.new.told.items ≡ weighed weight progress.old.told.items + weight_if (nat_eq left 0) (weight (outcome_of w steps path.now))) }
+    ensures schedules { progress.old.schedules + 1 < 2 ^ 64 → IfOk result (λ _. progress.new.schedules ≡ progress.old.schedules + weight_if (nat_eq left 0) 1) }
     ensures runs { progress.new.runs ≡ progress.old.runs }
 {
     let outcome = end_of(alloc, machine, steps <= path.len())?;
-    let counted = if left == 0 { 1 } else { 0 };
+    let counted = counted(left);
+    note(alloc, &mut progress.told, outcome, path, switches, counted)?;
     progress.schedules = progress.schedules.saturating_add(counted);
-    note(alloc, &mut progress.told, outcome, path, switches, counted)
+    Ok(())
 }
 
 // One run fewer may be made.
 fn take_run(runs: &mut u64) -> Result<(), Unfinished>
-    ensures { IfOk result (λ _. runs.new + 1 ≡ runs.old) }
+    ensures taken { IfOk result (λ _. runs.new + 1 ≡ runs.old) }
+    ensures none { IfErr result (λ _. (runs.new ≡ 0) × (runs.old ≡ 0)) }
 {
     if *runs == 0 {
         return Err(Unfinished::RunsEnd);
@@ -163,6 +199,9 @@ fn first_schedule<H: Heap + Drop, E: EmptyHeaps<H>>(
 ) -> Result<(), Unfinished>
     ensures made { (w : World) → w ≡ loaded_world machine.old.linked.program (E.limit heaps.now) → (found : List Found) → path.old.items ≡ [] → todo.old.items ≡ [] →
         IfOk result (λ _. Made w bounds.slice switches bounds.steps found path.new.items todo.new.items × MatchesWorld machine.new (world_after w path.new.items)) }
+    ensures weighs { (w : World) → w ≡ loaded_world machine.old.linked.program (E.limit heaps.now) → path.old.items ≡ [] → todo.old.items ≡ [] →
+        IfOk result (λ _. Weighs w bounds.slice switches bounds.steps path.new.items todo.new.items switches (λ f. below w bounds.slice bounds.steps f [] switches)) }
+    ensures other { IfErr result (λ why. why ≢ unfinished.RunsEnd) }
     ensures linked { machine.new.linked ≡ machine.old.linked }
 {
     begin_again(machine, heaps)?;
@@ -183,6 +222,10 @@ pub(crate) fn search_up_to<H: Heap + Drop, E: EmptyHeaps<H>>(
         → Known w bounds.slice switches bounds.steps (founds progress.new.told.items) }
     ensures complete { (w : World) → w ≡ loaded_world machine.old.linked.program (E.limit heaps.now) → Known w bounds.slice switches bounds.steps (founds progress.old.told.items) → AllBefore w bounds.slice switches bounds.steps (founds progress.old.told.items)
         → IfOk result (λ _. IsComplete w bounds.slice switches bounds.steps (founds progress.new.told.items)) }
+    ensures counted { (w : World) (most : ℕ) → w ≡ loaded_world machine.old.linked.program (E.limit heaps.now) → Tallied most progress.old
+        → IfOk result (λ _. Tallied most progress.new × CountsMore w bounds.slice switches bounds.steps progress.old.told.items progress.new.told.items) }
+    ensures ends { IfErr result (λ why. why ≡ unfinished.RunsEnd → progress.new.runs ≡ 0) }
+    ensures runs { progress.new.runs ≤ progress.old.runs }
     ensures linked { machine.new.linked ≡ machine.old.linked }
 {
     take_run(&mut progress.runs)?;
@@ -198,11 +241,7 @@ pub(crate) fn search_up_to<H: Heap + Drop, E: EmptyHeaps<H>>(
         switches,
         bounds.steps,
     )?;
-    for _ in 0..progress.runs.saturating_add(1) {
-        let branch = match todo.pop() {
-            Some(branch) => branch,
-            None => return Ok(()),
-        };
+    while let Some(branch) = todo.pop() {
         take_run(&mut progress.runs)?;
         if !try_branch(machine, heaps, &mut path, &mut todo, branch, bounds)? {
             continue;
@@ -217,7 +256,7 @@ pub(crate) fn search_up_to<H: Heap + Drop, E: EmptyHeaps<H>>(
             bounds.steps,
         )?;
     }
-    Err(Unfinished::RunsEnd)
+    Ok(())
 }
 
 // Tries the schedules of no switch, of one, and so on.
@@ -230,6 +269,10 @@ pub(crate) fn search_all<H: Heap + Drop, E: EmptyHeaps<H>>(
 ) -> Result<(), Unfinished>
     ensures known { (w : World) → w ≡ loaded_world machine.old.linked.program (E.limit heaps.now) → progress.old.told.items ≡ [] → Known w bounds.slice bounds.switches bounds.steps (founds progress.new.told.items) }
     ensures complete { (w : World) → w ≡ loaded_world machine.old.linked.program (E.limit heaps.now) → progress.old.told.items ≡ [] → IfOk result (λ _. IsComplete w bounds.slice bounds.switches bounds.steps (founds progress.new.told.items)) }
+    ensures counted { (w : World) (most : ℕ) → w ≡ loaded_world machine.old.linked.program (E.limit heaps.now) → progress.old.told.items ≡ [] → Tallied most progress.old
+        → IfOk result (λ _. Tallied most progress.new × CountsAll w bounds.slice bounds.switches bounds.steps progress.new.told.items) }
+    ensures ends { IfErr result (λ why. why ≡ unfinished.RunsEnd → progress.new.runs ≡ 0) }
+    ensures runs { progress.new.runs ≤ progress.old.runs }
     ensures linked { machine.new.linked ≡ machine.old.linked }
 {
     for switches in 0..bounds.switches {

@@ -1,6 +1,7 @@
 // Why a search was not finished.
 
 ghost use Rattle.std.specs.Prelude.{◌≡◌};
+ghost use Rattle.jm_explore.specs.declared.unfinished.Unfinished.TheVariants as unfinished;
 
 use jm_machine::OutOfMemory;
 
@@ -16,7 +17,7 @@ pub enum Unfinished {
 }
 
 impl From<OutOfMemory> for Unfinished {
-    ghost from_gives = { λ _ _. Unit {0} };
+    ghost from_gives = { λ _ why. why ≡ unfinished.OutOfMemory };
 
     fn from(_fault: OutOfMemory) -> Unfinished {
         Unfinished::OutOfMemory
