@@ -26,6 +26,10 @@ schedules_text n = counted n (codes "schedule") (codes "schedules")
 abbrev pub switches_text : ℕ → Text
 switches_text n = counted n (codes "switch") (codes "switches")
 
+-- of a slice
+abbrev pub events_text : ℕ → Text
+events_text n = counted n (codes "event") (codes "events")
+
 abbrev pub steps_text : ℕ → Text
 steps_text n = counted n (codes "step") (codes "steps")
 
@@ -64,7 +68,8 @@ why_text b OutOfMemory = codes "61 OutOfMemory"
 why_text b HeapTooSmall = codes "63 HeapTooSmall"
 
 abbrev pub end_line : Bounds → ℕ → Option Unfinished → Text
-end_line b schedules None = codes "complete: " ++ (schedules_text schedules ++ (codes " of at most " ++ (switches_text b.switches ++ (codes " and " ++ (steps_text b.steps ++ codes "\n")))))
+end_line b schedules None =
+    codes "complete: " ++ (schedules_text schedules ++ (codes " of at most " ++ (switches_text b.switches ++ (codes ", slices of " ++ (events_text b.slice ++ (codes " and " ++ (steps_text b.steps ++ codes "\n")))))))
 end_line b schedules (Some why) = codes "not complete: " ++ (why_text b why ++ codes "\n")
 
 abbrev pub exploration_text : Bounds → Explored → Text

@@ -2,8 +2,8 @@
 use Rattle.std.specs.Prelude.{ℕ, List, [], ◌∷◌, ◌++◌, codes}
 use Rattle.std.specs.Fmt.{decimal}
 use Rattle.std.specs.List.{flat_map}
+use Rattle.jm_program.specs.JasminUnits.{name_text}
 use Rattle.jm_values.specs.FaultNames.{fault_name}
-use Rattle.jm_world.specs.Text.{utf8_text}
 use Rattle.jm_world.specs.declared.stop.Stop.{Stop}
 use Rattle.jm_world.specs.declared.stop.Stop.TheVariants.{TagFault, HeapFull, SerialsEnd}
 use Rattle.jm_explore.specs.Outcomes.{End, Thrown}
@@ -11,9 +11,9 @@ use Rattle.jm_explore.specs.declared.outcome.HowEnded.{HowEnded}
 use Rattle.jm_explore.specs.declared.outcome.HowEnded.TheVariants as how
 use Rattle.jm_explore_text.specs.Marked.{Text}
 
--- a thread that an exception has ended
+-- a thread that an exception has ended; the class is named as in Jasmin, so that the line has no other's end
 abbrev pub ended_line : Thrown → Text
-ended_line t = codes "jm: thread " ++ (decimal t.thread ++ (codes " ended by " ++ (utf8_text t.class ++ codes "\n")))
+ended_line t = codes "jm: thread " ++ (decimal t.thread ++ (codes " ended by " ++ (name_text t.class ++ codes "\n")))
 
 abbrev pub thrown_lines : List Thrown → Text
 thrown_lines thrown = flat_map ended_line thrown

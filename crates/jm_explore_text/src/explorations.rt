@@ -37,6 +37,18 @@ fn switches(number: usize) -> Counted
     }
 }
 
+fn events(number: usize) -> Counted
+    ensures number { result.number ≡ number }
+    ensures one { result.one.now ≡ codes "event" }
+    ensures many { result.many.now ≡ codes "events" }
+{
+    Counted {
+        number: number as u64,
+        one: "event",
+        many: "events",
+    }
+}
+
 fn steps(number: usize) -> Counted
     ensures number { result.number ≡ number }
     ensures one { result.one.now ≡ codes "step" }
@@ -160,8 +172,11 @@ fn end_line(alloc: Global, bounds: Bounds, found: &Explored) -> Result<String, A
         None => {
             let schedules = schedules(found.schedules);
             let switches = switches(bounds.switches);
+            let slice = events(bounds.slice);
             let steps = steps(bounds.steps);
-            format!(in alloc; "complete: {schedules} of at most {switches} and {steps}\n")
+            format!(in alloc;
+                "complete: {schedules} of at most {switches}, slices of {slice} and {steps}\n"
+            )
         }
         Some(why) => {
             let why = why_text(alloc, bounds, why)?;

@@ -5,8 +5,8 @@ ghost use Rattle.std.specs.List.{flat_map};
 ghost use Rattle.jm_explore.specs.Outcomes.{thrown_of, told_end};
 ghost use Rattle.jm_explore_text.specs.OutcomeLines.{code_of, ended_code, ended_line, last_line, outcome_code, outcome_lines, stop_code, stop_text, thrown_lines};
 
-use crate::utf8::Utf8;
 use jm_explore::{EndedBy, HowEnded, Outcome};
+use jm_program::Name;
 use jm_world::Stop;
 use std::alloc::{AllocError, Global};
 use std::fmt;
@@ -33,7 +33,7 @@ fn ended_line(alloc: Global, ended: &EndedBy) -> Result<String, AllocError>
     ensures { IfOk result (λ line. string_bytes line ≡ ended_line (thrown_of ended.now)) }
 {
     let number = ended.thread;
-    let class = Utf8(&ended.class);
+    let class = Name::shared(alloc, &ended.class)?;
     format!(in alloc; "jm: thread {number} ended by {class}\n")
 }
 
