@@ -4,6 +4,7 @@ pub mod Totals
 pub mod Going
 pub mod Offers
 pub mod Paths
+pub mod Once
 pub mod Trees
 pub mod Counting
 pub mod Steps

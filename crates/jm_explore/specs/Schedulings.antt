@@ -1,6 +1,6 @@
 -- The list of all schedules of at most so many switches and steps, and laws of what a schedule is.
-use Rattle.std.specs.Prelude.{◌≡◌, ◌⊎◌, ℕ, zero, suc, ◌+◌, ◌-◌, ◌≤◌, List, [], ◌∷◌, Option, Some, None, true, false, nat_le, length, map}
-use Rattle.std.specs.List.{All, Contains, flat_map}
+use Rattle.std.specs.Prelude.{◌≡◌, ◌≢◌, ◌⊎◌, ℕ, zero, suc, ◌+◌, ◌-◌, ◌≤◌, List, [], ◌∷◌, Option, Some, None, true, false, nat_le, length, map}
+use Rattle.std.specs.List.{All, AllPairs, Contains, flat_map}
 use Rattle.jm_world.specs.World.{World, Thread}
 use Rattle.jm_world.specs.Run.{after, run_from}
 use Rattle.jm_world.specs.declared.event.Event.{Event}
@@ -55,3 +55,7 @@ ListsAll = (w : World) (slice most steps : ℕ) (ts : List ℕ) → IsSchedule w
 
 abbrev pub ListsNoOther : Type 0
 ListsNoOther = (w : World) (slice most steps : ℕ) → All (IsSchedule w slice most steps) (schedules w slice most steps)
+
+-- no schedule is listed twice
+abbrev pub ListsOnce : Type 0
+ListsOnce = (w : World) (slice most steps : ℕ) → AllPairs (λ s t. s ≢ t) (schedules w slice most steps)

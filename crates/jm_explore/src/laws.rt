@@ -1,6 +1,6 @@
 // Laws of what a schedule is.
 
-ghost use Rattle.jm_explore.specs.Schedulings.{ListsAll, ListsNoOther, MoreSwitches, NoneLeftOut, SameEnd};
+ghost use Rattle.jm_explore.specs.Schedulings.{ListsAll, ListsNoOther, ListsOnce, MoreSwitches, NoneLeftOut, SameEnd};
 
 /// Whatever events are made, also blocked ones, those of ended threads and collections, they lead where
 /// those among them lead that go.
@@ -14,8 +14,9 @@ pub fn switches_enough_leave_none_out()
     ensures more { MoreSwitches }
 {}
 
-/// The list of all schedules has each of them, and nothing else.
+/// The list of all schedules has each of them, each once, and nothing else.
 pub fn all_schedules_are_listed()
     ensures each { ListsAll }
     ensures other { ListsNoOther }
+    ensures once { ListsOnce }
 {}

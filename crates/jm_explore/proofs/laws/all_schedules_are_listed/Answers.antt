@@ -1,4 +1,5 @@
 -- The lemmas.
+use Rattle.jm_explore.proofs.Once.{lists_once}
 use Rattle.jm_explore.proofs.Switching.{lists_all, lists_no_other}
 use Rattle.jm_explore.proofs.laws.all_schedules_are_listed.Goals as goal
 
@@ -7,3 +8,6 @@ returns-clause-each c = lists_all
 
 pub returns-clause-other : goal.returns-clause-other
 returns-clause-other c = lists_no_other
+
+pub returns-clause-once : goal.returns-clause-once
+returns-clause-once c = lists_once
