@@ -5,6 +5,7 @@ each number, until one is not reached any more: several in a row where threads m
 
 - A command of jm that prints once all is known (`whole`) ends with status 7 and the line `jm: 61 OutOfMemory`, and has printed
   nothing, or does without and comes to the very answer.
+- One that tells how a run ended (`told`) has printed nothing, or all that it prints otherwise, where the lines of the run's end were refused.
 - One that prints as it goes (`beginning`) may have printed a beginning of what it prints otherwise, in whole lines. A session of the
   debugger (`session`) tells of it by the answer `? 61 OutOfMemory`, the last.
 - With status 7 the file OUT is as it was before, and the record NEW is not there. Else the file is that of a run without refusals.
@@ -56,8 +57,8 @@ COMMANDS = (
     Job("version", "whole", {"early": 92}),
     Job("check sum.class", "whole", {"early": 420}),
     Job("check jobs/Concat.class", "whole", {"early": 500}, status=4),
-    Job("why --steps 8 sum.class", "whole", {"early": 550}, status=8),
-    Job("why jobs/ByZero.class", "whole", {"early": 530}, status=3),
+    Job("why --steps 8 sum.class", "told", {"early": 550, "late": 1}, status=8),
+    Job("why jobs/ByZero.class", "told", {"early": 530, "late": 1}, status=3),
     Job("run --heap 111 memory/collects.j", "beginning", {"early": 185, "same": 150}, 3),
     Job("debug --heap 111 memory/collects.j", "session", {"early": 179, "late": 25, "same": 20}, 3),
     Job("trace --heap 111 memory/collects.j", "beginning", {"early": 110, "late": 365}, 5),
@@ -112,6 +113,8 @@ def outcome_of_command(job, whole, came):
         return None
     if came.lines == REFUSAL and not came.output:
         return "early"
+    if job.rule == "told":
+        return "late" if came.lines == REFUSAL and came.output == whole.output else None
     is_told = {"beginning": came.lines == REFUSAL, "session": not came.lines and came.output.endswith(ANSWER)}
     if not is_told.get(job.rule):
         return None
@@ -138,7 +141,7 @@ def outcome_of_event(_, whole, came):
     return AGAIN.get(came.lines) if came.status == 0 and came.output == whole.output else None
 
 
-COMMAND_RULES = ("whole", "beginning", "session")
+COMMAND_RULES = ("whole", "told", "beginning", "session")
 OUTCOMES = {**dict.fromkeys(COMMAND_RULES, outcome_of_command), "collection": outcome_of_collection, "event": outcome_of_event}
 
 
@@ -216,7 +219,7 @@ def outcome_of(jm, job, whole, came, number):
 def whole_of(jm, job, folder):
     """Returns what comes of a job of which nothing is refused."""
     whole, _ = came_of(jm, job, folder, 0)
-    is_quiet = job.rule == "whole" or not whole.lines
+    is_quiet = job.rule in ("whole", "told") or not whole.lines
     if whole.status != job.status or not is_quiet or outcome_of(jm, job, whole, whole, 0) != "same":
         raise Missed(f"without a refusal: wanted status {job.status}, came {told(whole)}{by_hand(jm, job, 0)}")
     return whole

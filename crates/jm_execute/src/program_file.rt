@@ -85,6 +85,7 @@ pub(crate) fn written_class<'a>(
 }
 
 // The class of the text of this name, where a class file can hold it.
+#[tactic(auto, using(crate::proofs::Chains::hindered))]
 fn writable_class<'a>(alloc: Global, file: &'a str, class: Class) -> Result<Class, Obstacle<'a>>
     ensures { Gives result (writable_class file.now class) (λ class. class) }
 {

@@ -1,10 +1,8 @@
 -- The class itself, once its bytes are made.
-use Rattle.std.proofs.Common.{refl}
-use Rattle.jm_execute.proofs.Chains.{hindered, given_next}
+use Rattle.std.proofs.Common.{List, ℕ, Ok, Result, ap}
+use Rattle.jm_bytes.specs.Reading.{and_then}
+use Rattle.jm_execute.specs.Verdicts.{Cause}
 use Rattle.jm_execute.proofs.program_file.writable_class.Goals as goal
 
 pub returns-in-Ok : goal.returns-in-Ok
-returns-in-Ok c = given_next _ _ _ _ _ c.in-Ok.ensures.written refl
-
-pub returns-in-Err : goal.returns-in-Err
-returns-in-Err c = hindered _ _ _ c.in-Err.ensures.written
+returns-in-Ok c = ap (λ (s : Result (List ℕ) Cause). and_then s (λ bytes. Ok c.args.class)) c.in-Ok.ensures.written
