@@ -1,11 +1,11 @@
 // All that is refused of a program.
 
-ghost use Rattle.std.specs.Prelude.{◌≡◌, ◌++◌, [], IfOk, None, OnOk, map, option_map, take};
+ghost use Rattle.std.specs.Prelude.{◌≡◌, ◌++◌, [], IfOk, OnOk, map, take};
 ghost use Rattle.jm_world.specs.Classes.{class_named};
-ghost use Rattle.jm_world.specs.Loads.{catch_refusal, duplicate_class, instruction_refusal, interface_of_kind, is_named_among, refusal, when};
+ghost use Rattle.jm_world.specs.Loads.{catch_refusal, duplicate_class, instruction_refusal, interface_of_kind, is_named_among, when};
 ghost use Rattle.jm_linker.specs.Answers.{Answers};
 ghost use Rattle.jm_linker.specs.BuiltInClasses.{built_in_classes};
-ghost use Rattle.jm_linker.specs.Findings.{code_found, cycle_found, each, findings, first_fault, found, load_fault, main_found, members_again, method_found, methods_found, named_again, parents_found};
+ghost use Rattle.jm_linker.specs.Findings.{code_found, cycle_found, each, findings, found, main_found, members_again, method_found, methods_found, named_again, parents_found};
 ghost use Rattle.jm_linker.specs.declared.finding.Site.TheVariants as site;
 
 use crate::classes::{Classes, Names, classes_of_built_ins};
@@ -344,17 +344,12 @@ fn findings_beside(
     Ok(findings)
 }
 
-/// All that is refused of a program, and where it stands, in the order in which linking looks for it:
-/// nothing exactly where the program loads, and first of all that which linking answers. Of members
-/// that stand twice in a class the first is told; each superclass, each superinterface, each
-/// instruction and each row of an exception table is looked at by itself (JVMS 4.5, 4.6, 5.3, 5.4).
-/// The one error is that memory is refused.
-#[tactic(auto, using(crate::proofs::FindingLaws::first_is_why, crate::proofs::FindingLaws::nothing_is_told, crate::proofs::FindingLaws::loads_unless_told))]
+/// All that is refused of a program, and where it stands, in the order in which linking looks for it.
+/// Of members that stand twice in a class the first is told; each superclass, each superinterface,
+/// each instruction and each row of an exception table is looked at by itself (JVMS 4.5, 4.6, 5.3,
+/// 5.4). The one error is that memory is refused.
 pub fn findings(alloc: Global, program: &[Class]) -> Result<Vec<Finding>, AllocError>
-    ensures all { IfOk result (λ all. all.items ≡ findings program.now) }
-    ensures first { first_fault (findings program.now) ≡ option_map load_fault (refusal program.now) }
-    ensures none { findings program.now ≡ [] → refusal program.now ≡ None }
-    ensures loads { refusal program.now ≡ None → findings program.now ≡ [] }
+    ensures { IfOk result (λ all. all.items ≡ findings program.now) }
 {
     let built_ins = classes_of_built_ins(alloc)?;
     findings_beside(alloc, program, &built_ins)
