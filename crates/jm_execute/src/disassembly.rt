@@ -23,7 +23,11 @@ pub struct ClassText {
 
 /// The line of the first part of the class in the file of this name that its text cannot say, if there is
 /// one. `AllocError`: a growth was refused.
-pub fn unsaid_line(alloc: Global, file: &str, unsaid: Option<Unsaid>) -> Result<String, AllocError>
+pub(crate) fn unsaid_line(
+    alloc: Global,
+    file: &str,
+    unsaid: Option<Unsaid>,
+) -> Result<String, AllocError>
     ensures { IfOk result (λ line. string_bytes line ≡ unsaid_line file.now unsaid) }
 {
     match unsaid {
@@ -36,7 +40,7 @@ pub fn unsaid_line(alloc: Global, file: &str, unsaid: Option<Unsaid>) -> Result<
 }
 
 /// The status of a text of a class, by the first part of it that its text cannot say.
-pub fn unsaid_status(unsaid: Option<Unsaid>) -> Status
+pub(crate) fn unsaid_status(unsaid: Option<Unsaid>) -> Status
     ensures { result ≡ unsaid_status unsaid }
 {
     match unsaid {

@@ -65,7 +65,7 @@ mod workers;
 
 pub use assembly::assemble_file;
 pub use checking::check;
-pub use disassembly::{ClassText, disassemble_file, unsaid_line, unsaid_status};
+pub use disassembly::{ClassText, disassemble_file};
 pub use ends::status_of;
 pub use events::{EventSource, RunPlan, RunSource};
 pub use execution::{Made, execute, make_journal};

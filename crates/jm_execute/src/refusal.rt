@@ -48,7 +48,7 @@ impl Refusal<'_> {
     }
 
     /// Writes what is said of it.
-    pub fn write_said<W: fmt::Write>(&self, f: &mut fmt::Formatter<W>) -> fmt::Result
+    pub(crate) fn write_said<W: fmt::Write>(&self, f: &mut fmt::Formatter<W>) -> fmt::Result
         ensures { WritesOnOk W.write_str_gives f.old result (reason_says (reason_of self.now)) f.new }
     {
         match self {
