@@ -1,6 +1,6 @@
 -- What is kept of a run that was made whole, from a journal to the files.
 use Rattle.std.specs.declared.alloc.Global.{Global}
-use Rattle.std.proofs.Common.{◌≡◌, ℕ, List, Option, Some, None, Bool, true, false, Result, Ok, Err, Vec, MatchResult, OnOk}
+use Rattle.std.proofs.Common.{sym, subst, ◌≡◌, ℕ, List, Option, Some, None, Bool, true, false, Result, Ok, Err, Vec, MatchResult, OnOk}
 use Rattle.std.specs.List.{All}
 use Rattle.jm_program.specs.declared.class.ClassParts.{ClassParts}
 use Rattle.jm_heap.specs.declared.heap.Kind.{Kind}
@@ -13,17 +13,18 @@ use Rattle.jm_shared.specs.declared.entry.Entry.{Entry}
 use Rattle.jm_choice.specs.Choices.{Choice, listed}
 use Rattle.jm_job.specs.declared.job.Job.{Job}
 use Rattle.jm_execute.specs.Collecting.{IsOwnOrCollects, own_seat, with_collections}
-use Rattle.jm_execute.specs.Endings.{Ending, completed, interrupted, differed, explored, assembled, disassembled, answered, exhausted, turned_away, EndsIn, IsDone}
+use Rattle.jm_execute.specs.Endings.{Ending, completed, interrupted, differed, explored, assembled, disassembled, answered, exhausted, turned_away, EndsIn, IsDone, Leaves}
 use Rattle.jm_execute.specs.KeptRecords.{IsFinished, IsJournal, IsKept, IsKeptIf, IsRecord, IsRecordOf, JobKeeps, made_whole}
 use Rattle.jm_execute.specs.Verdicts.{Verdict, runs, verdict}
 use Rattle.jm_execute.specs.Written.{Watch, Reads, Words}
 use Rattle.jm_execute.specs.declared.status.Finished.{Finished}
+use Rattle.jm_execute.specs.declared.status.Status.{Status}
 
 -- the journal of a worker that has its machine for itself, where all was made
-pub its_journal : {T E : Type 0} {P : E → Type 0} (r : Result T E) (stress : Option Kind) (first : World) (events : List Event) (entries : List Entry) → IsLegal first entries
+pub its_journal : {T E : Type 0} (P : E → Type 0) (r : Result T E) (stress : Option Kind) (first : World) (events : List Event) (entries : List Entry) → IsLegal first entries
     → All (IsOwnOrCollects (own_seat stress)) entries → MatchResult r (λ _. events_of entries ≡ with_collections stress events) P → OnOk r (IsJournal stress first (listed events) entries)
-its_journal (Ok x) stress first events entries legal known all = (legal, known, all)
-its_journal (Err e) stress first events entries legal known part = tt
+its_journal P (Ok x) stress first events entries legal known all = (legal, known, all)
+its_journal P (Err e) stress first events entries legal known part = tt
 
 -- what holds of each text that is kept
 kept_as : (wanted : Bool) (kept : Option (Vec ℕ Global)) {P Q : List ℕ → Type 0} → ((text : List ℕ) → P text → Q text) → IsKept wanted P kept → IsKept wanted Q kept
@@ -58,7 +59,8 @@ recorded_of v stress program limit choice shows wanted kept whole is =
     kept_if whole wanted kept (λ last text it. record { program = program; limit = limit; choice = choice; shows = shows; runs_is = is; it = it })
 
 -- a job that keeps no record
-pub finished : {R O E : Type 0} (r : Reads R) (o : Words O) (w : Words E) (job : Job) (f : Finished) (reader new_reader : Watch R) (out new_out : Watch O) (err new_err : Watch E)
-    → IsDone r o w (verdict job) f.status reader new_reader out new_out err new_err → ((e : Ending) → JobKeeps job e f.record_text)
+pub finished : {R O E : Type 0} (r : Reads R) (o : Words O) (w : Words E) (job : Job) (f : Finished) (status : Status) (reader new_reader : Watch R) (out new_out : Watch O) (err new_err : Watch E)
+    → f.status ≡ status → IsDone r o w (verdict job) status reader new_reader out new_out err new_err → ((e : Ending) → JobKeeps job e f.record_text)
     → IsFinished r o w job f reader new_reader out new_out err new_err
-finished r o w job f reader new_reader out new_out err new_err (e, allows, hears, leaves) keeps = (e, allows, hears, leaves, keeps e)
+finished r o w job f status reader new_reader out new_out err new_err is (e, allows, hears, leaves) keeps =
+    (e, allows, hears, subst (λ s. Leaves o w e s out new_out err new_err) (sym is) leaves, keeps e)

@@ -1,5 +1,5 @@
 -- The receipts of a worker that has its journal for itself, and the entries of the journal.
-use Rattle.std.proofs.Common.{◌≡◌, ◌==◌, ℕ, ◌+◌, ◌<◌, List, [], ◌∷◌, ◌++◌, append-nil, Result, Ok, Err, Option, refl, sym, ap, subst, ◌∙◌, arith, map, Bool, true, false, eq-eqb, ne_eqb, ◌⊎◌, inl, inr}
+use Rattle.std.proofs.Common.{◌≡◌, ℕ, ◌+◌, ◌<◌, List, [], ◌∷◌, ◌++◌, append-nil, Result, Ok, Err, Option, refl, sym, ap, subst, ◌∙◌, arith, map, Bool, true, eq-eqb, ne_eqb, inl, inr}
 use Rattle.std.specs.Prelude.{MatchResult, OnOk, cond}
 use Rattle.std.specs.List.{All}
 use Rattle.std.proofs.lemmas.List.Elements.{All-head, All-tail}
@@ -7,7 +7,6 @@ use Rattle.jm_world.specs.Run.{after, replies_from, run_from}
 use Rattle.jm_world.specs.World.{World}
 use Rattle.jm_world.specs.declared.event.Event.{Event}
 use Rattle.jm_world.specs.declared.event.Event.TheVariants.{Step, Minor, Full}
-use Rattle.jm_world.specs.declared.reply.ReplyKind.TheVariants as kind
 use Rattle.jm_choice.specs.Choices.{RunEnds, all_made, cut_short, listed}
 use Rattle.jm_shared.specs.Legal.{IsLegal, events_of, receipt_of, reply_of, world_after}
 use Rattle.jm_shared.specs.Seats.{of_seat}
@@ -15,7 +14,7 @@ use Rattle.jm_shared.specs.declared.entry.Entry.{Entry}
 use Rattle.jm_shared.specs.declared.entry.Receipt.{Receipt}
 use Rattle.jm_heap.specs.declared.heap.Kind.{Kind}
 use Rattle.jm_execute.specs.Collecting.{IsCollection, IsOwnOrCollects, IsWoven, own_seat, with_collections, woven}
-use Rattle.jm_execute.specs.Turns.{AreReplies, Records, RecordsPart, events_in, replies_in, world_by}
+use Rattle.jm_execute.specs.Turns.{AreReplies, Records, RecordsPart, events_in, world_by}
 use Rattle.jm_execute.proofs.Woven.{woven_part}
 use Rattle.jm_machine.proofs.BetweenEvents.{still_after}
 

@@ -1,5 +1,5 @@
 -- What is told of an ending.
-use Rattle.std.proofs.Common.{◌≡◌, ℕ, List, [], inl, inr, refl, sym, subst, ◌∙◌, true, Bool, Option, Some, None, Result, Ok, Err, false}
+use Rattle.std.proofs.Common.{◌≡◌, ℕ, List, [], inl, inr, refl, sym, subst, ◌∙◌, true, Bool, Some, Result, Ok, Err, false}
 use Rattle.jm_execute.specs.Written.{Watch, Words, AllWritten, Broken, Reads, Writes}
 use Rattle.jm_world.specs.World.{World}
 use Rattle.jm_choice.specs.Choices.{Choice, RunEnds, all_made}

@@ -1,5 +1,5 @@
 -- What is left behind where the text of a run was told.
-use Rattle.std.proofs.Common.{◌≡◌, List, ℕ, [], append-nil, inl, inr, refl, sym, subst, ◌∙◌, false, Result, Ok, Err}
+use Rattle.std.proofs.Common.{◌≡◌, [], append-nil, inl, inr, refl, sym, subst, ◌∙◌, false, Result, Ok, Err}
 use Rattle.jm_page.specs.Writing.{Puts}
 use Rattle.jm_page.specs.declared.writer.PageFault.{PageFault}
 use Rattle.jm_page.specs.declared.writer.PageFault.TheVariants as page

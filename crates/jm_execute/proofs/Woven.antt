@@ -1,5 +1,5 @@
 -- Collections before each event and behind the last.
-use Rattle.std.proofs.Common.{◌≡◌, ℕ, ◌+◌, ◌<◌, List, [], ◌∷◌, ◌++◌, Option, Some, None, Bool, true, false, refl, sym, ap, subst, ◌∙◌, length, replicate, arith, append-nil, inl, inr, is_some, true≢false}
+use Rattle.std.proofs.Common.{◌≡◌, ℕ, ◌+◌, List, [], ◌∷◌, ◌++◌, Option, Some, None, Bool, true, false, refl, sym, ap, subst, ◌∙◌, length, arith, append-nil, inl, inr, is_some, true≢false}
 use Rattle.jm_heap.specs.declared.heap.Kind.{Kind}
 use Rattle.jm_heap.specs.declared.heap.Kind.TheVariants as kinds
 use Rattle.jm_machine.specs.BetweenEvents.{collection_of, interleaved}

@@ -33,5 +33,5 @@ returns-clause-journal g c =
     let is = c.into_journal.ensures in
     let are = its_replies g.R.Origin.first (own_seat w.stress) es w.receipts is.woven.known is.lists is.legal in
     let same = c.make_all-made.ensures.stress ∙ ap (λ x. x.stress) c.new-worker.ensures in
-    its_journal c.make_all-made.result c.args.stress g.R.Origin.first _ es is.legal (subst (λ stress. All (IsOwnOrCollects (own_seat stress)) es) same is.woven.known)
+    its_journal _ c.make_all-made.result c.args.stress g.R.Origin.first _ es is.legal (subst (λ stress. All (IsOwnOrCollects (own_seat stress)) es) same is.woven.known)
     (journal_made c.make_all-made.result w.stress c.args.stress w.collected es w.receipts _ same is.lists is.woven c.make_all-made.ensures.collected (c.make_all-made.ensures.made are))

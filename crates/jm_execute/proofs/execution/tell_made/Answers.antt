@@ -14,7 +14,7 @@ returns-in-Ok g c = λ choice made journal.
       ending,
       ends_in _ _ choice w (rw c.in-Ok.is at made) ending ends,
       leaves,
-      recorded c.args.wanted.stress g.R.Origin.first choice _ c.args.wanted.is_recorded _ ending (rw c.in-Ok.is at journal) ends kept,
+      recorded c.args.wanted.stress g.R.Origin.first choice _ c.args.wanted.show_heap c.args.wanted.is_recorded _ ending (rw c.in-Ok.is at journal) ends kept,
     )
 
 pub returns-in-Err : goal.returns-in-Err

@@ -1,5 +1,5 @@
 -- Each turn writes one sign more, and at the end they are those of the name.
-use Rattle.std.proofs.Common.{flat_map, sym, ap, ◌∙◌, map-id, rules}
+use Rattle.std.proofs.Common.{flat_map, sym, ap, ◌∙◌, map-id}
 use Rattle.std.proofs.Output.{has_written_of_eq}
 use Rattle.std.proofs.lemmas.Iterator.{YieldsList-from_chars}
 use Rattle.std.proofs.lemmas.Iterator.Consumers.{YieldsList-end}

@@ -1,8 +1,4 @@
 -- So many receipts more, or none.
-use Rattle.std.proofs.Common.{ap, subst}
-use Rattle.jm_world.specs.Run.{reply}
-use Rattle.jm_world.specs.declared.reply.ReplyKind.TheVariants.{Done}
-use Rattle.jm_execute.specs.Turns.{world_by}
 use Rattle.jm_execute.proofs.SoleTurns.{none_more}
 use Rattle.jm_execute.proofs.sole_worker.SoleWorker.turns.Goals as goal
 
