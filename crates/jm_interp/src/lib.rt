@@ -21,10 +21,10 @@
 //! `constant_values`, over the calls on
 //! one thread in `top_frame`, `top_object`, `frames` and `print_operands`. A plain instruction looks up
 //! its thread, its top frame and its code, and takes no memory; [`run_plain`] looks these up once for
-//! as many as stand in a row (`plain_runs`), of which `jm_at_once` makes a few at once, makes with them those
+//! as many as stand in a row (`plain_runs`), of which `jm_superinstructions` makes a few at once, makes with them those
 //! that touch one object (`frame_rows`), and between them those that touch one static field, literal or class
 //! (`object_rows`). The crate stands on `jm_state`, `jm_linked`, `jm_tables`, `jm_ops`,
-//! `jm_at_once` and `jm_heap`'s trait.
+//! `jm_superinstructions` and `jm_heap`'s trait.
 #![tactic(auto)]
 
 mod arrays;

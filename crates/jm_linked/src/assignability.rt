@@ -16,8 +16,8 @@ use crate::linked::Linked;
 use jm_builtins::BuiltInClass;
 use jm_program::BaseType;
 
-// The letter of a primitive type in descriptors (JVMS 4.3.2).
-fn letter(base: BaseType) -> u8
+/// The letter of a primitive type in descriptors (JVMS 4.3.2).
+pub fn letter(base: BaseType) -> u8
     ensures { result ≡ base_letter base }
 {
     match base {

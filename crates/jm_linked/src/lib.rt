@@ -21,6 +21,7 @@ mod linked;
 mod method;
 mod tables;
 
+pub use assignability::letter;
 pub use code::LinkedCode;
 pub use frequent::{Frequent, IntOperation};
 pub use instruction::{

@@ -7,7 +7,7 @@ ghost use Rattle.jm_program.specs.declared.descriptor.MethodDescriptor.{MethodDe
 ghost use Rattle.jm_world.specs.Types.{same_type, same_types, same_result, same_method_type};
 ghost use Rattle.jm_linker.specs.Keys.{IsElementKey, IsTypeKey, AreTypeKeys, IsResultKey, IsFieldKey, IsMethodKey};
 
-use crate::types::letter;
+use jm_linked::letter;
 use jm_program::{ElementType, FieldType, MethodDescriptor, Name};
 use std::alloc::{AllocError, Global};
 

@@ -7,8 +7,8 @@ ghost use Rattle.jm_world.specs.Classes.{system_class, print_stream_class, strin
 ghost use Rattle.jm_world.specs.Types.{class_type, same_type, same_types};
 
 use crate::name::{is_print_stream, is_system};
-use crate::types::{letter, returns_nothing};
-use jm_linked::{PrintMethod, Printed};
+use crate::types::returns_nothing;
+use jm_linked::{PrintMethod, Printed, letter};
 use jm_program::{BaseType, ClassRef, ElementType, FieldRef, FieldType, MethodRef, Name};
 
 fn is_system_ref(class: &ClassRef) -> bool

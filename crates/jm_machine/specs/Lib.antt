@@ -8,6 +8,7 @@ pub mod InstanceFields
 pub mod FirstObjects
 pub mod Start
 pub mod MethodFrames
+pub mod EndTexts
 pub mod Seen
 pub mod Held
 pub mod Marked

@@ -2,7 +2,6 @@
 
 ghost use Rattle.std.specs.Prelude.{◌≡◌, ◌+◌, ◌<◌, ◌≤◌, ◌^◌, ℕ, MatchResult, OnErr, OnOk, Some, None, length, true};
 ghost use Rattle.jm_world.specs.World.{World, Thread as ModelThread, thread_at};
-ghost use Rattle.jm_world.specs.Matches.{Matches};
 ghost use Rattle.jm_world.specs.Run.{after, after_event, after_step};
 ghost use Rattle.jm_world.specs.Stepping.{step_thread};
 ghost use Rattle.jm_world.specs.declared.event.Event.TheVariants.{Step};
@@ -19,6 +18,7 @@ ghost use Rattle.jm_interp.specs.ThreadRuns.{IsWithin, Makes};
 ghost use Rattle.jm_machine.specs.Answered.{IsAnswered, MayWantMemory};
 ghost use Rattle.jm_machine.specs.Collected.{CollectsIn, LeavesAfter};
 ghost use Rattle.jm_machine.specs.Threads.{ending_numbered, is_live};
+ghost use Rattle.jm_machine.specs.View.{IsBeside};
 
 use crate::fault::OutOfMemory;
 use jm_heap::{Heap, Kind};
@@ -59,9 +59,9 @@ fn step_running<H: Heap>(
     number: u64,
 ) -> Result<ReplyKind, OutOfMemory>
     requires runs { StateRuns linked.now state.old }
-    requires matched { (w : World) × Matches (state_parts H.content linked.now state.old) w }
+    requires matched { (w : World) × IsBeside H.content linked.now state.old w }
     requires running { ending_numbered state.old.threads.items number ≡ Some Running }
-    ensures event { (w : World) (t : ModelThread) → Matches (state_parts H.content linked.now state.old) w → thread_at w number ≡ Some t → MatchResult result (λ kind. IsAnswered (state_parts H.content linked.now state.new) kind (after_step w (step_thread w number t))) (λ _. Matches (state_parts H.content linked.now state.new) w) }
+    ensures event { (w : World) (t : ModelThread) → IsBeside H.content linked.now state.old w → thread_at w number ≡ Some t → MatchResult result (λ kind. IsAnswered (state_parts H.content linked.now state.new) kind (after_step w (step_thread w number t))) (λ _. IsBeside H.content linked.now state.new w) }
     ensures runs { StateRuns linked.now state.new }
     ensures nursery { NewLie (λ p. H.nursery_of p nursery) (H.content state.old.heap) (H.content state.new.heap) }
 {
@@ -85,9 +85,9 @@ fn step_numbered<H: Heap>(
     number: u64,
 ) -> Result<ReplyKind, OutOfMemory>
     requires runs { StateRuns linked.now state.old }
-    requires matched { (w : World) × Matches (state_parts H.content linked.now state.old) w }
-    ensures event { (w : World) → Matches (state_parts H.content linked.now state.old) w → MatchResult result (λ kind. IsAnswered (state_parts H.content linked.now state.new) kind (after_event w (Step number))) (λ _. Matches (state_parts H.content linked.now state.new) w) }
-    ensures live { (w : World) → Matches (state_parts H.content linked.now state.old) w → OnErr result (is_live w number ≡ true) }
+    requires matched { (w : World) × IsBeside H.content linked.now state.old w }
+    ensures event { (w : World) → IsBeside H.content linked.now state.old w → MatchResult result (λ kind. IsAnswered (state_parts H.content linked.now state.new) kind (after_event w (Step number))) (λ _. IsBeside H.content linked.now state.new w) }
+    ensures live { (w : World) → IsBeside H.content linked.now state.old w → OnErr result (is_live w number ≡ true) }
     ensures runs { StateRuns linked.now state.new }
     ensures nursery { NewLie (λ p. H.nursery_of p nursery) (H.content state.old.heap) (H.content state.new.heap) }
 {
@@ -107,11 +107,11 @@ fn collect_kind<H: Heap>(
     kind: Kind,
 ) -> Result<ReplyKind, OutOfMemory>
     requires runs { StateRuns linked.now state.old }
-    requires matched { (w : World) × Matches (state_parts H.content linked.now state.old) w }
-    ensures kept { (w : World) → Matches (state_parts H.content linked.now state.old) w → Matches (state_parts H.content linked.now state.new) w }
+    requires matched { (w : World) × IsBeside H.content linked.now state.old w }
+    ensures kept { (w : World) → IsBeside H.content linked.now state.old w → IsBeside H.content linked.now state.new w }
     ensures runs { StateRuns linked.now state.new }
     ensures kind { MatchResult result (λ kind. kind ≡ ReplyKind.Done) (λ _. Unit {0}) }
-    ensures leaves { (w : World) → Matches (state_parts H.content linked.now state.old) w → OnOk result (LeavesReachable kind (H.content state.new.heap) w) }
+    ensures leaves { (w : World) → IsBeside H.content linked.now state.old w → OnOk result (LeavesReachable kind (H.content state.new.heap) w) }
     ensures word { OnOk result (H.leaves kind state.old.heap state.new.heap (places_of (view_of state.old)) (places_of (view_of state.new))) }
     ensures as_before { IsAsBefore (H.content state.old.heap) (H.content state.new.heap) }
 {
@@ -130,10 +130,10 @@ pub(crate) fn make_event<H: Heap>(
     event: Event,
 ) -> Result<ReplyKind, OutOfMemory>
     requires runs { StateRuns linked.now state.old }
-    requires matched { (w : World) × Matches (state_parts H.content linked.now state.old) w }
-    ensures event { (w : World) → Matches (state_parts H.content linked.now state.old) w → MatchResult result (λ kind. IsAnswered (state_parts H.content linked.now state.new) kind (after w event)) (λ _. Matches (state_parts H.content linked.now state.new) w) }
-    ensures wants { (w : World) → Matches (state_parts H.content linked.now state.old) w → OnErr result (MayWantMemory w event) }
-    ensures leaves { (w : World) → Matches (state_parts H.content linked.now state.old) w → OnOk result (LeavesAfter event (H.content state.new.heap) w) }
+    requires matched { (w : World) × IsBeside H.content linked.now state.old w }
+    ensures event { (w : World) → IsBeside H.content linked.now state.old w → MatchResult result (λ kind. IsAnswered (state_parts H.content linked.now state.new) kind (after w event)) (λ _. IsBeside H.content linked.now state.new w) }
+    ensures wants { (w : World) → IsBeside H.content linked.now state.old w → OnErr result (MayWantMemory w event) }
+    ensures leaves { (w : World) → IsBeside H.content linked.now state.old w → OnOk result (LeavesAfter event (H.content state.new.heap) w) }
     ensures collects { OnOk result (CollectsIn H.leaves event state.old.heap (view_of state.old) state.new.heap (view_of state.new)) }
     ensures nursery { NewLie (λ p. H.nursery_of p nursery) (H.content state.old.heap) (H.content state.new.heap) }
     ensures runs { StateRuns linked.now state.new }
@@ -159,8 +159,8 @@ pub(crate) fn make_plain<H: Heap>(
     most: usize,
 ) -> usize
     requires runs { StateRuns linked.now state.old }
-    requires matched { (w : World) × Matches (state_parts H.content linked.now state.old) w }
-    ensures steps { (w : World) → Matches (state_parts H.content linked.now state.old) w → MakesDone (state_parts H.content linked.now state.new) number result w }
+    requires matched { (w : World) × IsBeside H.content linked.now state.old w }
+    ensures steps { (w : World) → IsBeside H.content linked.now state.old w → MakesDone (state_parts H.content linked.now state.new) number result w }
     ensures runs { StateRuns linked.now state.new }
     ensures most { result ≤ most }
 {
@@ -187,8 +187,8 @@ pub(crate) fn make_many<H: Heap>(
     most: usize,
 ) -> Run
     requires runs { StateRuns linked.now state.old }
-    requires matched { (w : World) × Matches (state_parts H.content linked.now state.old) w }
-    ensures steps { (w : World) → Matches (state_parts H.content linked.now state.old) w → Makes result (state_parts H.content linked.now state.new) number w }
+    requires matched { (w : World) × IsBeside H.content linked.now state.old w }
+    ensures steps { (w : World) → IsBeside H.content linked.now state.old w → Makes result (state_parts H.content linked.now state.new) number w }
     ensures runs { StateRuns linked.now state.new }
     ensures most { IsWithin most result }
 {

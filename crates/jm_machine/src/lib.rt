@@ -4,7 +4,8 @@
 //! A [`Machine`] matches a world of the model (`jm_world`) in every part, and each event leads it
 //! to a machine that matches the model's next world, with the model's reply. So the machine after
 //! any list of events matches the fold of those events, which the contract of [`Machine::run`]
-//! says. Its readers tell each part of that world, with references as numbers of objects. [`interleave`]
+//! says. Its readers tell each part of that world, with references as numbers of objects; how it ended
+//! has its words in lines ([`StopText`], [`ended_line`]). [`interleave`]
 //! puts collections between events, which lead to the same world.
 //!
 //! The crate stands on `jm_interp`, `jm_state`, `jm_linked` and `jm_heap`; what a schedule spells is
@@ -15,6 +16,7 @@ mod class;
 mod code_method;
 mod code_place;
 mod declared_field;
+mod end_texts;
 mod event;
 mod fault;
 mod first_objects;
@@ -35,6 +37,7 @@ mod value;
 
 pub use code_method::CodeMethod;
 pub use code_place::CodePlace;
+pub use end_texts::{StopText, ended_line};
 pub use fault::{Interrupted, LoadFault, OutOfMemory};
 pub use frame::{MethodFrame, WorldFrame};
 pub use interleaving::{collection_of, interleave};
