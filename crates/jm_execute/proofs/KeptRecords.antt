@@ -17,8 +17,8 @@ use Rattle.jm_execute.specs.Endings.{Ending, completed, interrupted, differed, e
 use Rattle.jm_execute.specs.KeptRecords.{IsFinished, IsJournal, IsKept, IsKeptIf, IsRecord, IsRecordOf, JobKeeps, made_whole}
 use Rattle.jm_execute.specs.Verdicts.{Verdict, runs, verdict}
 use Rattle.jm_execute.specs.Written.{Watch, Reads, Words}
-use Rattle.jm_execute.specs.declared.status.Finished.{Finished}
-use Rattle.jm_execute.specs.declared.status.Status.{Status}
+use Rattle.jm_execute.specs.declared.finished.Finished.{Finished}
+use Rattle.jm_explain.specs.declared.status.Status.{Status}
 
 -- the journal of a worker that has its machine for itself, where all was made
 pub its_journal : {T E : Type 0} (P : E → Type 0) (r : Result T E) (stress : Option Kind) (first : World) (events : List Event) (entries : List Entry) → IsLegal first entries

@@ -9,7 +9,7 @@ use Rattle.jm_explore.specs.Outcomes.{End, Thrown, end_of, end_with, how_ended, 
 use Rattle.jm_explore.specs.declared.outcome.HowEnded.{HowEnded}
 use Rattle.jm_explore.specs.declared.outcome.HowEnded.TheVariants as how
 use Rattle.jm_explore_text.specs.OutcomeLines as told
-use Rattle.jm_execute.specs.Codes.{code_of}
+use Rattle.jm_explain.specs.Codes.{code_of}
 use Rattle.jm_execute.specs.Explorations as found
 use Rattle.jm_execute.specs.Reports as run
 

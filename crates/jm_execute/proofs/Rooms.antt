@@ -5,7 +5,7 @@ use Rattle.std.specs.Prelude.{Vec, vec_len, vec_capacity}
 use Rattle.jm_execute.specs.CallEnds.{took, vec_ends}
 use Rattle.jm_execute.specs.Endings.{Ending, Leaves, LeavesIf, LinesTold, lines_after, output_of}
 use Rattle.jm_execute.specs.Written.{Watch, Words, Broken, words}
-use Rattle.jm_execute.specs.declared.status.Status.{Status}
+use Rattle.jm_explain.specs.declared.status.Status.{Status}
 use Rattle.jm_execute.proofs.Telling.{told_whole}
 
 -- calls that took parts made it longer by them, and lost no room

@@ -6,7 +6,7 @@ use Rattle.jm_execute.specs.Endings.{LinesTold, Tells, explored}
 use Rattle.jm_execute.specs.Explorations.{lack_lines, lack_of, lack_status, told_status}
 use Rattle.jm_execute.specs.Written.{Watch, Words}
 use Rattle.jm_execute.specs.declared.exploring.Lack.{Lack}
-use Rattle.jm_execute.specs.declared.status.Status.{Status}
+use Rattle.jm_explain.specs.declared.status.Status.{Status}
 
 -- by what it lacks
 pub tells_by : {W : Type 0} (w : Words W) (b : Bounds) (found : Explored) (wanted : Option ℕ) (lack : Option Lack) → lack_of found wanted ≡ lack → (status : Status) (err new_err : Watch W)

@@ -22,8 +22,8 @@ use Rattle.jm_execute.specs.Explorations.{found_status, how_status, lack_of, lac
 use Rattle.jm_execute.specs.declared.exploring.Lack.{Lack}
 use Rattle.jm_execute.specs.declared.exploring.Lack.TheVariants as lacks
 use Rattle.jm_execute.specs.Verdicts.{Verdict, because}
-use Rattle.jm_execute.specs.declared.status.Status.{Status}
-use Rattle.jm_execute.specs.declared.status.Status.TheVariants as ends
+use Rattle.jm_explain.specs.declared.status.Status.{Status}
+use Rattle.jm_explain.specs.declared.status.Status.TheVariants as ends
 
 abbrev IsFiles : Status → Type 0
 IsFiles ends.Done = ⊥

@@ -19,8 +19,8 @@ use Rattle.jm_execute.specs.Talks.{Answered, AnswersLine, BreaksBy, BrokenOff, C
 use Rattle.jm_execute.specs.Written.{AllWritten, BreaksOff, HasRead, Reads, Watch, Words}
 use Rattle.jm_execute.specs.declared.lines.LineFault.TheVariants as fault
 use Rattle.jm_execute.specs.declared.lines.NextLine.TheVariants.{Line, End}
-use Rattle.jm_execute.specs.declared.status.Status.{Status}
-use Rattle.jm_execute.specs.declared.status.Status.TheVariants as ends
+use Rattle.jm_explain.specs.declared.status.Status.{Status}
+use Rattle.jm_explain.specs.declared.status.Status.TheVariants as ends
 use Rattle.jm_execute.proofs.LineLemmas.{broke_then, last_line, line_more, nothing_read, read_then}
 use Rattle.jm_execute.proofs.Writing.{breaks_after, nothing_written, written_then}
 use Rattle.std.specs.declared.alloc.Global.{Global}

@@ -7,8 +7,8 @@ use Rattle.jm_choice.proofs.Ends.{makes_some}
 use Rattle.jm_execute.specs.Endings.{Ending, completed, interrupted, differed, explored, assembled, disassembled, answered, exhausted, turned_away, Ends, EndsIn, FailureTold, Hears, IsDone, IsDoneUnread, IsTalk, Leaves, LeavesIf, LinesTold, Tells, lines_at_failure, output_of}
 use Rattle.jm_execute.specs.Talks.{Talk, TalkLeft, TalkLeftIf}
 use Rattle.jm_execute.specs.Verdicts.{Verdict}
-use Rattle.jm_execute.specs.declared.status.Status.{Status}
-use Rattle.jm_execute.specs.declared.status.Status.TheVariants as ends
+use Rattle.jm_explain.specs.declared.status.Status.{Status}
+use Rattle.jm_explain.specs.declared.status.Status.TheVariants as ends
 use Rattle.jm_execute.proofs.Writing.{nothing_written}
 
 module _ {W : Type 0} (says : Words W) where

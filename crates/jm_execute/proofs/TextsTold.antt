@@ -6,7 +6,7 @@ use Rattle.jm_page.specs.declared.writer.PageFault.TheVariants as page
 use Rattle.jm_execute.specs.Tellings.{IsTold, SaysEnding, Telling, TellingEnding, TellingLeaves, TellingLeavesIf, TextTold, ToldRun, cut_short, last_world, telling_output, text_of, told}
 use Rattle.jm_execute.specs.Verdicts.{Cause}
 use Rattle.jm_execute.specs.Written.{AllWritten, Broken, Watch, Words}
-use Rattle.jm_execute.specs.declared.status.Status.{Status}
+use Rattle.jm_explain.specs.declared.status.Status.{Status}
 use Rattle.jm_execute.proofs.Writing.{nothing_written}
 
 module _ {O E : Type 0} (o : Words O) (w : Words E) (tells : Telling) where

@@ -13,8 +13,8 @@ use Rattle.jm_execute.specs.Shown.{ShowsNone}
 use Rattle.jm_execute.specs.Verdicts.{Cause, because, unknown, class_of, classes_of}
 use Rattle.jm_execute.specs.Written.{Watch, Words, AllWritten, Broken}
 use Rattle.jm_job.specs.declared.job.InputFile.{InputFile}
-use Rattle.jm_execute.specs.declared.status.Status.{Status}
-use Rattle.jm_execute.specs.declared.status.Status.TheVariants as ends
+use Rattle.jm_explain.specs.declared.status.Status.{Status}
+use Rattle.jm_explain.specs.declared.status.Status.TheVariants as ends
 
 -- Of a file that holds no class. Where memory was refused before it was known nothing is told at all.
 abbrev pub cause_says : Cause → List ℕ

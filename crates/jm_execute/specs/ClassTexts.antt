@@ -9,8 +9,8 @@ use Rattle.jm_disassembler.specs.PartTexts.{unsaid_text}
 use Rattle.jm_disassembler.specs.declared.unsaid.Unsaid.{Unsaid}
 use Rattle.jm_execute.specs.FileNames.{file_name_text}
 use Rattle.jm_execute.specs.declared.disassembly.ClassText.{ClassText}
-use Rattle.jm_execute.specs.declared.status.Status.{Status}
-use Rattle.jm_execute.specs.declared.status.Status.TheVariants as ends
+use Rattle.jm_explain.specs.declared.status.Status.{Status}
+use Rattle.jm_explain.specs.declared.status.Status.TheVariants as ends
 
 -- where each part of a class can be said, its text denotes that very class (Jasmin User Guide)
 abbrev pub Denotes : Bool → ClassParts → Type 0

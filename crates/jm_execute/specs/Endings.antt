@@ -17,8 +17,8 @@ use Rattle.jm_disassembler.specs.Unsaid.{first_unsaid}
 use Rattle.jm_execute.specs.ClassTexts.{Denotes, unsaid_status, unsaid_line}
 use Rattle.jm_execute.specs.Verdicts.{Verdict, because, runs, explores, assembles, disassembles, debugs}
 use Rattle.jm_execute.specs.Written.{Watch, Reads, Words, AllWritten, Broken, Unflushed, WrittenIf}
-use Rattle.jm_execute.specs.declared.status.Status.{Status}
-use Rattle.jm_execute.specs.declared.status.Status.TheVariants as ends
+use Rattle.jm_explain.specs.declared.status.Status.{Status}
+use Rattle.jm_explain.specs.declared.status.Status.TheVariants as ends
 
 pub data Ending : Type 0 where
   -- all events were made: whether the heap is shown, and the world to which they lead

@@ -16,8 +16,8 @@ use Rattle.jm_explore_text.specs.ScheduleTexts.{schedule_text}
 use Rattle.jm_execute.specs.Reports.{memory_line, stop_status}
 use Rattle.jm_execute.specs.declared.exploring.Lack.{Lack}
 use Rattle.jm_execute.specs.declared.exploring.Lack.TheVariants as lacks
-use Rattle.jm_execute.specs.declared.status.Status.{Status}
-use Rattle.jm_execute.specs.declared.status.Status.TheVariants as ends
+use Rattle.jm_explain.specs.declared.status.Status.{Status}
+use Rattle.jm_explain.specs.declared.status.Status.TheVariants as ends
 
 -- what a search from a world on found within bounds
 pub record Finds (w : World) (b : Bounds) (e : Explored) : Type 0 where

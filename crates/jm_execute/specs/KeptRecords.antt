@@ -16,7 +16,7 @@ use Rattle.jm_execute.specs.Collecting.{IsOwnOrCollects, own_seat, with_collecti
 use Rattle.jm_execute.specs.Endings.{Ending, completed, interrupted, differed, explored, assembled, disassembled, answered, exhausted, turned_away, Allows, Hears, Leaves}
 use Rattle.jm_execute.specs.Verdicts.{Verdict, run_verdict, runs, verdict}
 use Rattle.jm_execute.specs.Written.{Watch, Reads, Words}
-use Rattle.jm_execute.specs.declared.status.Finished.{Finished}
+use Rattle.jm_execute.specs.declared.finished.Finished.{Finished}
 
 -- The journal of a run whose events were all made: they are the events of the schedule or of the round robin, with a collection before each and
 -- one behind the last where such are asked for; or what the workers' rule has each worker make.

@@ -3,7 +3,6 @@ pub mod Written
 pub mod Lines
 pub mod LineReading
 pub mod Reports
-pub mod Codes
 pub mod Turns
 pub mod Collecting
 pub mod Sources

@@ -9,8 +9,8 @@ use Rattle.jm_linker.specs.FaultTexts as link
 use Rattle.jm_linker.specs.declared.fault.LinkFault.{LinkFault}
 use Rattle.jm_execute.specs.FileNames.{file_name_text}
 use Rattle.jm_execute.specs.ProgramFiles.{FileFault, in_text, in_class_file}
-use Rattle.jm_execute.specs.declared.status.Status.{Status}
-use Rattle.jm_execute.specs.declared.status.Status.TheVariants as ends
+use Rattle.jm_explain.specs.declared.status.Status.{Status}
+use Rattle.jm_explain.specs.declared.status.Status.TheVariants as ends
 
 pub data Reason : Type 0 where
   -- the file of this name could not be read

@@ -10,8 +10,8 @@ use Rattle.jm_debug.specs.Views.{heap_lines}
 use Rattle.jm_world.specs.declared.stop.Stop.TheVariants.{TagFault, HeapFull, SerialsEnd}
 use Rattle.jm_machine.specs.Threads.{class_of_ending}
 use Rattle.jm_execute.specs.FileNames.{file_name_text}
-use Rattle.jm_execute.specs.declared.status.Status.{Status}
-use Rattle.jm_execute.specs.declared.status.Status.TheVariants as ends
+use Rattle.jm_explain.specs.declared.status.Status.{Status}
+use Rattle.jm_explain.specs.declared.status.Status.TheVariants as ends
 
 -- a thread that an exception has ended
 abbrev pub ended_line : ℕ → List ℕ → List ℕ

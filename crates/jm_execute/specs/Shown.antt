@@ -3,8 +3,8 @@ use Rattle.std.specs.Prelude.{◌≡◌, ◌⊎◌, ℕ, List, Some, Bool, true,
 use Rattle.jm_execute.specs.Reports.{memory_line, failure_line}
 use Rattle.jm_execute.specs.Endings.{LinesTold}
 use Rattle.jm_execute.specs.Written.{Watch, Words, AllWritten, Broken}
-use Rattle.jm_execute.specs.declared.status.Status.{Status}
-use Rattle.jm_execute.specs.declared.status.Status.TheVariants as ends
+use Rattle.jm_explain.specs.declared.status.Status.{Status}
+use Rattle.jm_explain.specs.declared.status.Status.TheVariants as ends
 
 abbrev pub ShownIf : {O E : Type 0} → Bool → Words O → Words E → List ℕ → Status → Watch O → Watch O → Watch E → Watch E → Type 0
 ShownIf false o w text status out new_out err new_err = AllWritten o out new_out text × (status ≡ ends.Done) × (new_err ≡ err)

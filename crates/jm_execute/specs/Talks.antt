@@ -9,8 +9,8 @@ use Rattle.jm_debug.specs.declared.fault.DebugFault.{DebugFault}
 use Rattle.jm_debug.specs.declared.fault.DebugFault.TheVariants.{BadCommand, NoSuch, OutOfMemory}
 use Rattle.jm_execute.specs.Lines.{lines_in}
 use Rattle.jm_execute.specs.Written.{Watch, Reads, HasRead, ReadingBroke, Words, AllWritten, BreaksOff}
-use Rattle.jm_execute.specs.declared.status.Status.{Status}
-use Rattle.jm_execute.specs.declared.status.Status.TheVariants as ends
+use Rattle.jm_explain.specs.declared.status.Status.{Status}
+use Rattle.jm_explain.specs.declared.status.Status.TheVariants as ends
 
 -- ---- lines
 

@@ -20,8 +20,8 @@ use Rattle.jm_execute.specs.Reasons.{Reason, reason_line, reason_status}
 use Rattle.jm_execute.specs.Reports.{failure_line, memory_line, report, status_of}
 use Rattle.jm_execute.specs.Verdicts.{Cause, because, bytes_of, program_of, scheduled_events, ◌>>=◌}
 use Rattle.jm_execute.specs.Written.{AllWritten, Broken, Watch, Words}
-use Rattle.jm_execute.specs.declared.status.Status.{Status}
-use Rattle.jm_execute.specs.declared.status.Status.TheVariants as ends
+use Rattle.jm_explain.specs.declared.status.Status.{Status}
+use Rattle.jm_explain.specs.declared.status.Status.TheVariants as ends
 use Rattle.jm_job.specs.declared.told_job.ToldEvents.{ToldEvents}
 use Rattle.jm_job.specs.declared.told_job.ToldEvents.TheVariants.{Schedule, RoundRobin}
 use Rattle.jm_job.specs.declared.told_job.ToldJob.{ToldJob}

@@ -6,7 +6,7 @@ ghost use Rattle.jm_machine.specs.Threads.{class_ended_by};
 ghost use Rattle.jm_machine.specs.View.{MatchesWorld};
 ghost use Rattle.jm_execute.specs.Reports.{any_ended_by, status_of, stop_status};
 
-use crate::status::Status;
+use jm_explain::Status;
 use jm_heap::Heap;
 use jm_machine::Machine;
 use jm_world::Stop;

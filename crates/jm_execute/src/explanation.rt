@@ -8,10 +8,9 @@ ghost use Rattle.jm_execute.specs.Shown.{Shows, ShowsIfThereIsMemory, version_li
 ghost use Rattle.jm_execute.specs.Written.{words};
 
 use crate::report::{tell_write_failed, write_out_of_memory};
-use crate::status::Status;
 use crate::watchable::Watchable;
 use crate::watched::Watched;
-use jm_explain::{Entry, explanation};
+use jm_explain::{Entry, Status, explanation};
 use std::alloc::Global;
 
 // Writes a text that is whole.

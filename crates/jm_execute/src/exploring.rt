@@ -15,9 +15,9 @@ use crate::ends::stop_status;
 use crate::execution::tell_exhausted;
 use crate::preparation::RunHeap;
 use crate::report::{tell_lines, tell_write_failed};
-use crate::status::Status;
 use crate::watchable::Watchable;
 use crate::watched::Watched;
+use jm_explain::Status;
 use jm_explore::{
     Bounds, EmptyHeaps, EndedBy, Explored, HowEnded, Outcome, Told, Unfinished, explore,
 };

@@ -4,11 +4,11 @@ ghost use Rattle.std.specs.Prelude.{◌≡◌, false};
 ghost use Rattle.jm_execute.specs.Tellings.{IsTold, film_telling, told_verdict};
 ghost use Rattle.jm_execute.specs.Written.{words};
 
-use crate::status::Status;
 use crate::teller::FilmTeller;
 use crate::told_run::tell_run;
 use crate::watchable::Watchable;
 use crate::watched::Watched;
+use jm_explain::Status;
 use jm_job::FilmJob;
 use std::alloc::Global;
 use std::thread::Threads;

@@ -6,9 +6,9 @@ ghost use Rattle.jm_execute.specs.Reasons.{reason_says, reason_status, reason_te
 ghost use Rattle.jm_execute.specs.Refusals.{reason_of};
 
 use crate::file_name::FileName;
-use crate::status::Status;
 use jm_class_reader::ReadFault;
 use jm_class_writer::WriteFault;
+use jm_explain::Status;
 use jm_jasmin::AsmFault;
 use jm_linker::LinkFault;
 use std::fmt;

@@ -10,10 +10,10 @@ ghost use Rattle.jm_execute.specs.Written.{words};
 
 use crate::execution::{tell_interrupted, tell_run};
 use crate::report::{tell_write_failed, write_difference};
-use crate::status::Status;
 use crate::watchable::Watchable;
 use crate::watched::Watched;
 use jm_choice::replay;
+use jm_explain::Status;
 use jm_heap::Heap;
 use jm_machine::{Machine, OutOfMemory};
 use jm_schedule::Record;

@@ -9,10 +9,10 @@ ghost use Rattle.jm_execute.specs.Written.{AllWritten, BreaksOff, reads, words};
 
 use crate::lines::{LineFault, NextLine, Unread};
 use crate::readable::Readable;
-use crate::status::Status;
 use crate::watchable::Watchable;
 use crate::watched::Watched;
 use jm_debug::{DebugFault, Debugger};
+use jm_explain::Status;
 use jm_heap::Heap;
 use std::alloc::Global;
 use std::sync::Wait;

@@ -4,11 +4,11 @@ ghost use Rattle.std.specs.Prelude.{◌≡◌, false};
 ghost use Rattle.jm_execute.specs.Tellings.{IsTold, told_verdict, trace_telling};
 ghost use Rattle.jm_execute.specs.Written.{words};
 
-use crate::status::Status;
 use crate::teller::TraceTeller;
 use crate::told_run::tell_run;
 use crate::watchable::Watchable;
 use crate::watched::Watched;
+use jm_explain::Status;
 use jm_job::TraceJob;
 use std::alloc::Global;
 use std::thread::Threads;

@@ -11,7 +11,7 @@ ghost use Rattle.jm_execute.specs.KeptRecords.{IsJournal, IsKeptIf, IsRecord, ma
 ghost use Rattle.jm_execute.specs.Written.{words};
 
 use crate::execution::{Wanted, tell_all_made, tell_exhausted, tell_interrupted};
-use crate::status::Finished;
+use crate::finished::Finished;
 use crate::watchable::Watchable;
 use crate::watched::Watched;
 use jm_choice::make_by_workers;

@@ -5,7 +5,7 @@
 //! refusal and a status, its entry tells of both. [`explanation`] is the text of an entry, or the
 //! list of all. The entries stand in a module for each group of numbers, from `statuses` to
 //! `sessions`, and in `specs/Table.antt` too, which `make_specs.py` writes from these, so that the
-//! contracts can say them.
+//! contracts can say them. [`Status`] is the exit status itself.
 //!
 //! The crate stands on the standard library alone.
 #![tactic(auto)]
@@ -20,8 +20,10 @@ mod pools;
 mod runs;
 mod search;
 mod sessions;
+mod status;
 mod statuses;
 
 pub use entry::{Entry, EntryLine};
 pub use explaining::explanation;
 pub use search::entry_of;
+pub use status::Status;

@@ -1,7 +1,7 @@
 -- The numbers of the exit statuses.
 use Rattle.std.specs.Prelude.{ℕ}
-use Rattle.jm_execute.specs.declared.status.Status.{Status}
-use Rattle.jm_execute.specs.declared.status.Status.TheVariants as ends
+use Rattle.jm_explain.specs.declared.status.Status.{Status}
+use Rattle.jm_explain.specs.declared.status.Status.TheVariants as ends
 
 abbrev pub code_of : Status → ℕ
 code_of ends.Done = 0
