@@ -6,12 +6,12 @@ use Rattle.std.specs.Prelude.{nat_le, ◌||◌, ◌-◌}
 use Rattle.std.specs.Char.{is_ascii_hexdigit}
 use Rattle.std.specs.Str.{IsCharBoundary}
 use Rattle.std.proofs.lemmas.Str.{IsCharBoundary-start, IsCharBoundary-end, IsCharBoundary-before_ascii, IsCharBoundary-after_ascii}
-use Rattle.jm_jasmin_lex.specs.declared.place.Sign.{Sign}
-use Rattle.jm_jasmin_lex.specs.declared.place.Sign.TheVariants.{Blank, LineEnd, Other}
-use Rattle.jm_jasmin_lex.specs.declared.place.Place.{Place}
-use Rattle.jm_jasmin_lex.specs.declared.place.Place.TheVariants.{Between, Comment, Word, Text, Escape, Digits, Closed}
-use Rattle.jm_jasmin_lex.specs.declared.place.Step.{Step}
-use Rattle.jm_jasmin_lex.specs.declared.place.Step.TheVariants.{To, Ends, Bad}
+use Rattle.jm_jasmin_lex.specs.declared.lexer_state.Sign.{Sign}
+use Rattle.jm_jasmin_lex.specs.declared.lexer_state.Sign.TheVariants.{Blank, LineEnd, Other}
+use Rattle.jm_jasmin_lex.specs.declared.lexer_state.LexerState.{LexerState}
+use Rattle.jm_jasmin_lex.specs.declared.lexer_state.LexerState.TheVariants.{Between, Comment, Word, Text, Escape, Digits, Closed}
+use Rattle.jm_jasmin_lex.specs.declared.lexer_state.Step.{Step}
+use Rattle.jm_jasmin_lex.specs.declared.lexer_state.Step.TheVariants.{To, Ends, Bad}
 use Rattle.jm_jasmin_lex.specs.Signs.{sign_of, signs, opened, in_text, in_escape, in_digits, step}
 use Rattle.jm_jasmin_lex.proofs.SignsOfText.{sign_next}
 
@@ -31,7 +31,7 @@ pub record Ended (text : List ℕ) (start at : ℕ) : Type 0 where
   pub behind : Cut text (at + 1)
 
 -- the reading at an offset can stand so
-abbrev pub Stands : List ℕ → ℕ → Place → Type 0
+abbrev pub Stands : List ℕ → ℕ → LexerState → Type 0
 Stands text at Between = Cut text at
 Stands text at Comment = Unit {0}
 Stands text at (Word start) = Begun text start at
@@ -42,7 +42,7 @@ Stands text at (Closed start) = Begun text start at
 
 -- what a sign at an offset leads to
 abbrev pub StandsAfter : List ℕ → ℕ → Step → Type 0
-StandsAfter text at (To place) = Stands text (at + 1) place
+StandsAfter text at (To state) = Stands text (at + 1) state
 StandsAfter text at (Ends kind start) = Ended text start at
 StandsAfter text at Bad = Unit {0}
 
@@ -87,9 +87,9 @@ later text start at begun = record { before = omega arith; cut = begun.cut }
 
 -- ---- what a byte leads to
 
-either_place : (text : List ℕ) (at : ℕ) (t : Bool) (p q : Place) → Stands text at p → Stands text at q → Stands text at (cond t p q)
-either_place text at true p q h k = h
-either_place text at false p q h k = k
+either_state : (text : List ℕ) (at : ℕ) (t : Bool) (p q : LexerState) → Stands text at p → Stands text at q → Stands text at (cond t p q)
+either_state text at true p q h k = h
+either_state text at false p q h k = k
 
 either_step : (text : List ℕ) (at : ℕ) (t : Bool) (p q : Step) → StandsAfter text at p → StandsAfter text at q → StandsAfter text at (cond t p q)
 either_step text at true p q h k = h
@@ -99,12 +99,12 @@ opened_stands : (text : List ℕ) (at b : ℕ) → IsCharBoundary text at → St
 unfolding opened
 opened_stands text at b cut =
     let begun : Begun text at (at + 1) = record { before = omega arith; cut = cut } in
-    either_place text (at + 1) (b == 59) Comment _ tt (either_place text (at + 1) (b == 34) (Text at) (Word at) begun begun)
+    either_state text (at + 1) (b == 59) Comment _ tt (either_state text (at + 1) (b == 34) (Text at) (Word at) begun begun)
 
 in_text_stands : (text : List ℕ) (at start b : ℕ) → Begun text start (at + 1) → Stands text (at + 1) (in_text start b)
 unfolding in_text
 in_text_stands text at start b begun =
-    either_place text (at + 1) (b == 34) (Closed start) _ begun (either_place text (at + 1) (b == 92) (Escape start) (Text start) begun begun)
+    either_state text (at + 1) (b == 34) (Closed start) _ begun (either_state text (at + 1) (b == 92) (Escape start) (Text start) begun begun)
 
 in_escape_stands : (text : List ℕ) (at start b : ℕ) → Begun text start (at + 1) → StandsAfter text at (in_escape start b)
 unfolding in_escape
@@ -114,9 +114,9 @@ in_escape_stands text at start b begun =
 in_digits_stands : (text : List ℕ) (at start left b : ℕ) → Begun text start (at + 1) → StandsAfter text at (in_digits start left b)
 unfolding in_digits
 in_digits_stands text at start left b begun =
-    either_step text at (is_ascii_hexdigit b) (To _) Bad (either_place text (at + 1) (nat_le left 1) (Text start) (Digits start (left - 1)) begun begun) tt
+    either_step text at (is_ascii_hexdigit b) (To _) Bad (either_state text (at + 1) (nat_le left 1) (Text start) (Digits start (left - 1)) begun begun) tt
 
-pub step_stands : (text : List ℕ) (at : ℕ) (place : Place) (s : Sign) (rest : List Sign) → IsUtf8 text → at ≤ length text → drop at (signs text) ≡ s ∷ rest → Stands text at place → StandsAfter text at (step at place s)
+pub step_stands : (text : List ℕ) (at : ℕ) (state : LexerState) (s : Sign) (rest : List Sign) → IsUtf8 text → at ≤ length text → drop at (signs text) ≡ s ∷ rest → Stands text at state → StandsAfter text at (step at state s)
 unfolding step
 step_stands text at Between (Other b) rest utf8 le is h = opened_stands text at b (h le)
 step_stands text at Between Blank rest utf8 le is h = (parted text at Blank rest utf8 le is tt).behind

@@ -1,7 +1,7 @@
 -- The sign at an offset of a text is the one in the list of its signs.
 use Rattle.std.proofs.Common.{◌≡◌, ℕ, zero, suc, ◌+◌, ◌≤◌, List, [], ◌∷◌, length, take, drop, ◌-◌, refl, sym, ap, ◌∙◌, arith, add-one, length-drop}
 use Rattle.std.proofs.lemmas.List.{nil_from_length, take_all}
-use Rattle.jm_jasmin_lex.specs.declared.place.Sign.TheVariants.{LineEnd}
+use Rattle.jm_jasmin_lex.specs.declared.lexer_state.Sign.TheVariants.{LineEnd}
 use Rattle.jm_jasmin_lex.specs.Signs.{sign_of, signs}
 
 next_sign : (bytes : List ℕ) (at b : ℕ) (rest : List ℕ) → drop at bytes ≡ b ∷ rest → drop at (signs bytes) ≡ sign_of b rest ∷ drop (suc at) (signs bytes)

@@ -6,11 +6,11 @@ use Rattle.std.proofs.lemmas.Bool.Decides.{nat_tests}
 use Rattle.jm_jasmin_lex.specs.Token.{TokenParts, LexedParts}
 use Rattle.jm_jasmin_lex.specs.declared.token.TokenKind.{TokenKind}
 use Rattle.jm_jasmin_lex.specs.declared.token.TokenKind.TheVariants as kind
-use Rattle.jm_jasmin_lex.specs.declared.place.Sign.{Sign}
-use Rattle.jm_jasmin_lex.specs.declared.place.Sign.TheVariants.{Blank, LineEnd, Other}
-use Rattle.jm_jasmin_lex.specs.declared.place.Place.{Place}
-use Rattle.jm_jasmin_lex.specs.declared.place.Place.TheVariants.{Between, Comment, Word, Text, Escape, Digits, Closed}
-use Rattle.jm_jasmin_lex.specs.declared.place.Step.TheVariants.{To, Ends, Bad}
+use Rattle.jm_jasmin_lex.specs.declared.lexer_state.Sign.{Sign}
+use Rattle.jm_jasmin_lex.specs.declared.lexer_state.Sign.TheVariants.{Blank, LineEnd, Other}
+use Rattle.jm_jasmin_lex.specs.declared.lexer_state.LexerState.{LexerState}
+use Rattle.jm_jasmin_lex.specs.declared.lexer_state.LexerState.TheVariants.{Between, Comment, Word, Text, Escape, Digits, Closed}
+use Rattle.jm_jasmin_lex.specs.declared.lexer_state.Step.TheVariants.{To, Ends, Bad}
 use Rattle.jm_jasmin_lex.specs.Signs.{sign_of, signs, opened, in_text, in_escape, in_digits, step}
 use Rattle.jm_jasmin_lex.specs.Tokens.{token_at, then_lexed, next_line, lexed_from, lexed_of, all_or_bad, tokens_of}
 use Rattle.jm_jasmin_lex.specs.Grammar.{InWord, InText, IsToken, Parted, Lie, word_end, word_byte, closing, text_blank, text_byte, escape, unit, word, string, by_blank, by_line_end, nothing, blank, line_end, semicolon, in_comment, token}
@@ -82,7 +82,7 @@ InDigits (suc (suc (suc (suc (suc n))))) signs = Unit {0}
 abbrev IsNone : List Sign → Type 0
 IsNone signs = signs ≡ []
 
-abbrev From : List ℕ → Place → ℕ → ℕ → List Sign → List TokenParts → Type 0
+abbrev From : List ℕ → LexerState → ℕ → ℕ → List Sign → List TokenParts → Type 0
 From text Between at line = Lie text false at line
 From text Comment at line = Lie text true at line
 From text (Word start) at line = RestOf text kind.Word start at line InWord
@@ -92,43 +92,43 @@ From text (Digits start left) at line = RestOf text kind.Text start at line (InD
 From text (Closed start) at line = RestOf text kind.Text start at line IsNone
 
 -- what is read from there is what stands there
-abbrev Good : List ℕ → Place → ℕ → ℕ → List Sign → Type 0
-Good text place at line ss = (lexed_from text place at line ss).bad_line ≡ None → From text place at line ss (lexed_from text place at line ss).tokens
+abbrev Good : List ℕ → LexerState → ℕ → ℕ → List Sign → Type 0
+Good text state at line ss = (lexed_from text state at line ss).bad_line ≡ None → From text state at line ss (lexed_from text state at line ss).tokens
 
 -- ---- by what a sign leads to
 
-module _ (text : List ℕ) (place : Place) (at line : ℕ) (s : Sign) (ss : List Sign) where
+module _ (text : List ℕ) (state : LexerState) (at line : ℕ) (s : Sign) (ss : List Sign) where
   abbrev GoodAs : LexedParts → Type 0
-  GoodAs l = l.bad_line ≡ None → From text place at line (s ∷ ss) l.tokens
+  GoodAs l = l.bad_line ≡ None → From text state at line (s ∷ ss) l.tokens
 
-  read_to : (next : Place) → step at place s ≡ To next → lexed_from text place at line (s ∷ ss) ≡ lexed_from text next (at + 1) (next_line s line) ss
+  read_to : (next : LexerState) → step at state s ≡ To next → lexed_from text state at line (s ∷ ss) ≡ lexed_from text next (at + 1) (next_line s line) ss
   unfolding lexed_from
   read_to next e = rw (e, lexed_from) refl
 
-  read_end : (kind : TokenKind) (start : ℕ) → step at place s ≡ Ends kind start → lexed_from text place at line (s ∷ ss) ≡ then_lexed (token_at text kind start at line) (lexed_from text Between (at + 1) (next_line s line) ss)
+  read_end : (kind : TokenKind) (start : ℕ) → step at state s ≡ Ends kind start → lexed_from text state at line (s ∷ ss) ≡ then_lexed (token_at text kind start at line) (lexed_from text Between (at + 1) (next_line s line) ss)
   unfolding lexed_from
   read_end kind start e = rw (e, lexed_from) refl
 
-  read_bad : step at place s ≡ Bad → lexed_from text place at line (s ∷ ss) ≡ record { tokens = []; bad_line = Some line }
+  read_bad : step at state s ≡ Bad → lexed_from text state at line (s ∷ ss) ≡ record { tokens = []; bad_line = Some line }
   unfolding lexed_from
   read_bad e = rw (e, lexed_from) refl
 
-  by_to : (next : Place) → step at place s ≡ To next → Good text next (at + 1) (next_line s line) ss → ((ts : List TokenParts) → From text next (at + 1) (next_line s line) ss ts → From text place at line (s ∷ ss) ts) → Good text place at line (s ∷ ss)
+  by_to : (next : LexerState) → step at state s ≡ To next → Good text next (at + 1) (next_line s line) ss → ((ts : List TokenParts) → From text next (at + 1) (next_line s line) ss ts → From text state at line (s ∷ ss) ts) → Good text state at line (s ∷ ss)
   by_to next e ih f =
       let read : LexedParts = lexed_from text next (at + 1) (next_line s line) ss in
       subst GoodAs (sym (read_to next e)) (λ none. f read.tokens (ih none))
 
-  by_end : (kind : TokenKind) (start : ℕ) → step at place s ≡ Ends kind start → Good text Between (at + 1) (next_line s line) ss → ((ts : List TokenParts) → Lie text false (at + 1) (next_line s line) ss ts → From text place at line (s ∷ ss) (token_at text kind start at line ∷ ts)) → Good text place at line (s ∷ ss)
+  by_end : (kind : TokenKind) (start : ℕ) → step at state s ≡ Ends kind start → Good text Between (at + 1) (next_line s line) ss → ((ts : List TokenParts) → Lie text false (at + 1) (next_line s line) ss ts → From text state at line (s ∷ ss) (token_at text kind start at line ∷ ts)) → Good text state at line (s ∷ ss)
   by_end kind start e ih f =
       let read : LexedParts = lexed_from text Between (at + 1) (next_line s line) ss in
       subst GoodAs (sym (read_end kind start e)) (λ none. f read.tokens (ih none))
 
-  by_bad : step at place s ≡ Bad → Good text place at line (s ∷ ss)
+  by_bad : step at state s ≡ Bad → Good text state at line (s ∷ ss)
   by_bad e = subst GoodAs (sym (read_bad e)) (λ none. absurd (cc))
 
 -- ---- a line end
 
-good_line_end : (text : List ℕ) (place : Place) (at line : ℕ) (ss : List Sign) → Good text Between (at + 1) (line + 1) ss → Good text place at line (LineEnd ∷ ss)
+good_line_end : (text : List ℕ) (state : LexerState) (at line : ℕ) (ss : List Sign) → Good text Between (at + 1) (line + 1) ss → Good text state at line (LineEnd ∷ ss)
 unfolding step next_line
 good_line_end text Between at line ss ih = by_to text Between at line LineEnd ss Between refl ih (λ ts h. line_end h)
 good_line_end text Comment at line ss ih = by_to text Comment at line LineEnd ss Between refl ih (λ ts h. line_end h)
@@ -140,7 +140,7 @@ good_line_end text (Closed start) at line ss ih = by_end text (Closed start) at 
 
 -- ---- a blank
 
-good_blank : (text : List ℕ) (place : Place) (at line : ℕ) (ss : List Sign) → ((next : Place) → Good text next (at + 1) line ss) → Good text place at line (Blank ∷ ss)
+good_blank : (text : List ℕ) (state : LexerState) (at line : ℕ) (ss : List Sign) → ((next : LexerState) → Good text next (at + 1) line ss) → Good text state at line (Blank ∷ ss)
 unfolding step next_line
 good_blank text Between at line ss ih = by_to text Between at line Blank ss Between refl (ih Between) (λ ts h. blank h)
 good_blank text Comment at line ss ih = by_to text Comment at line Blank ss Comment refl (ih Comment) (λ ts h. blank h)
@@ -189,7 +189,7 @@ module _ (text : List ℕ) (at line b : ℕ) (ss : List Sign) (ts : List TokenPa
   rest_in_digits start (suc (suc (suc (suc zero)))) hex h = grow text kind.Text start at line (InDigits 3) (InDigits 4) (Other b) ss ts h (λ i q. q b hex)
   rest_in_digits start (suc (suc (suc (suc (suc n))))) hex h = some_rest start (suc (suc (suc (suc (suc n)))) - 1) (nat_le (suc (suc (suc (suc (suc n))))) 1) h
 
-module _ (text : List ℕ) (at line b : ℕ) (ss : List Sign) (ih : (next : Place) → Good text next (at + 1) line ss) where
+module _ (text : List ℕ) (at line b : ℕ) (ss : List Sign) (ih : (next : LexerState) → Good text next (at + 1) line ss) where
   escape_by : (start : ℕ) (t u : Bool) → (b == 110 || b == 116 || b == 34 || b == 92) ≡ t → (b == 117) ≡ u → step at (Escape start) (Other b) ≡ cond t (To (Text start)) (cond u (To (Digits start 4)) Bad) → Good text (Escape start) at line (Other b ∷ ss)
   unfolding next_line
   escape_by start true u e k is = by_to text (Escape start) at line (Other b) ss (Text start) is (ih (Text start)) (λ ts h. grow text kind.Text start at line InText InEscape (Other b) ss ts h (λ i q. escape b e q))
@@ -201,7 +201,7 @@ module _ (text : List ℕ) (at line b : ℕ) (ss : List Sign) (ih : (next : Plac
   digits_by start left true e is = by_to text (Digits start left) at line (Other b) ss (cond (nat_le left 1) (Text start) (Digits start (left - 1))) is (ih _) (λ ts h. rest_in_digits text at line b ss ts start left e h)
   digits_by start left false e is = by_bad text (Digits start left) at line (Other b) ss is
 
-  good_byte : (place : Place) → Good text place at line (Other b ∷ ss)
+  good_byte : (state : LexerState) → Good text state at line (Other b ∷ ss)
   unfolding step next_line in_escape in_digits
   good_byte Between = by_to text Between at line (Other b) ss (opened at b) refl (ih (opened at b)) (λ ts h. lie_opened text at line b ss ts h)
   good_byte Comment = by_to text Comment at line (Other b) ss Comment refl (ih Comment) (λ ts h. in_comment b h)
@@ -217,15 +217,15 @@ good_end : (text : List ℕ) (at line : ℕ) → Good text Between at line []
 unfolding lexed_from
 good_end text at line = λ none. nothing
 
-good_sign : (text : List ℕ) (s : Sign) (ss : List Sign) (at line : ℕ) → ((next : Place) (after : ℕ) → Good text next (at + 1) after ss) → (place : Place) → Good text place at line (s ∷ ss)
-good_sign text LineEnd ss at line ih place = good_line_end text place at line ss (ih Between (line + 1))
-good_sign text Blank ss at line ih place = good_blank text place at line ss (λ next. ih next line)
-good_sign text (Other b) ss at line ih place = good_byte text at line b ss (λ next. ih next line) place
+good_sign : (text : List ℕ) (s : Sign) (ss : List Sign) (at line : ℕ) → ((next : LexerState) (after : ℕ) → Good text next (at + 1) after ss) → (state : LexerState) → Good text state at line (s ∷ ss)
+good_sign text LineEnd ss at line ih state = good_line_end text state at line ss (ih Between (line + 1))
+good_sign text Blank ss at line ih state = good_blank text state at line ss (λ next. ih next line)
+good_sign text (Other b) ss at line ih state = good_byte text at line b ss (λ next. ih next line) state
 
-good_signs : (text bytes : List ℕ) (at line : ℕ) (place : Place) → Good text place at line (signs bytes)
+good_signs : (text bytes : List ℕ) (at line : ℕ) (state : LexerState) → Good text state at line (signs bytes)
 unfolding signs
-good_signs text [] at line place = good_line_end text place at line [] (good_end text (at + 1) (line + 1))
-good_signs text (b ∷ bytes) at line place = good_sign text (sign_of b bytes) (signs bytes) at line (λ next after. good_signs text bytes (at + 1) after next) place
+good_signs text [] at line state = good_line_end text state at line [] (good_end text (at + 1) (line + 1))
+good_signs text (b ∷ bytes) at line state = good_sign text (sign_of b bytes) (signs bytes) at line (λ next after. good_signs text bytes (at + 1) after next) state
 
 pub all_by : (tokens ts : List TokenParts) (bad : Option ℕ) → all_or_bad (record { tokens = tokens; bad_line = bad }) ≡ Ok ts → (bad ≡ None) × (tokens ≡ ts)
 unfolding all_or_bad
@@ -256,9 +256,9 @@ closed_parted text start at line rest by_blank = refl
 closed_parted text start at line rest by_line_end = refl
 
 -- a byte after which the reading goes on
-on : (text : List ℕ) (place : Place) (at line b : ℕ) (ss : List Sign) (next : Place) (l : LexedParts) → step at place (Other b) ≡ To next → lexed_from text next (at + 1) line ss ≡ l → lexed_from text place at line (Other b ∷ ss) ≡ l
+on : (text : List ℕ) (state : LexerState) (at line b : ℕ) (ss : List Sign) (next : LexerState) (l : LexedParts) → step at state (Other b) ≡ To next → lexed_from text next (at + 1) line ss ≡ l → lexed_from text state at line (Other b ∷ ss) ≡ l
 unfolding next_line
-on text place at line b ss next l e h = read_to text place at line (Other b) ss next e ∙ h
+on text state at line b ss next l e h = read_to text state at line (Other b) ss next e ∙ h
 
 plain_place : (start b : ℕ) → (b == 34) ≡ false → (b == 92) ≡ false → in_text start b ≡ Text start
 unfolding in_text
@@ -277,8 +277,8 @@ unfolding in_digits
 digits_step start left b h = rw h refl
 
 module _ (text : List ℕ) (start line end : ℕ) (rest : List Sign) (parted : Parted rest) where
-  abbrev Ended : TokenKind → Place → ℕ → List Sign → Type 0
-  Ended kind place at inside = lexed_from text place at line (inside ++ rest) ≡ then_lexed (token_at text kind start end line) (lexed_from text Between end line rest)
+  abbrev Ended : TokenKind → LexerState → ℕ → List Sign → Type 0
+  Ended kind state at inside = lexed_from text state at line (inside ++ rest) ≡ then_lexed (token_at text kind start end line) (lexed_from text Between end line rest)
 
   word_read : (at : ℕ) (inside : List Sign) → end ≡ at + length inside → InWord inside → Ended kind.Word (Word start) at inside
   unfolding step
@@ -312,7 +312,7 @@ token_read text kind at line inside rest (string {signs} q) p =
     on text Between at line 34 (signs ++ rest) (Text at) _ refl
     (text_read text at line (at + suc (length signs)) rest p (at + 1) signs (omega arith) q)
 
-abbrev place_of : Bool → Place
+abbrev place_of : Bool → LexerState
 place_of true = Comment
 place_of false = Between
 

@@ -5,8 +5,8 @@ use Rattle.jm_jasmin_lex.specs.Token.{TokenParts}
 use Rattle.jm_jasmin_lex.specs.Tokens.{token_at}
 use Rattle.jm_jasmin_lex.specs.declared.token.TokenKind.{TokenKind}
 use Rattle.jm_jasmin_lex.specs.declared.token.TokenKind.TheVariants as kind
-use Rattle.jm_jasmin_lex.specs.declared.place.Sign.{Sign}
-use Rattle.jm_jasmin_lex.specs.declared.place.Sign.TheVariants.{Blank, LineEnd, Other}
+use Rattle.jm_jasmin_lex.specs.declared.lexer_state.Sign.{Sign}
+use Rattle.jm_jasmin_lex.specs.declared.lexer_state.Sign.TheVariants.{Blank, LineEnd, Other}
 
 -- the rest of a word: neither blanks nor line ends
 pub data InWord : List Sign → Type 0 where

@@ -2,12 +2,12 @@
 use Rattle.std.specs.Prelude.{ℕ, ◌-◌, List, [], ◌∷◌, Bool, false, ◌&&◌, ◌||◌, ◌==◌, nat_le, if◌then◌else◌}
 use Rattle.std.specs.Char.{is_ascii_hexdigit}
 use Rattle.jm_jasmin_lex.specs.declared.token.TokenKind.TheVariants as kind
-use Rattle.jm_jasmin_lex.specs.declared.place.Sign.{Sign}
-use Rattle.jm_jasmin_lex.specs.declared.place.Sign.TheVariants.{Blank, LineEnd, Other}
-use Rattle.jm_jasmin_lex.specs.declared.place.Place.{Place}
-use Rattle.jm_jasmin_lex.specs.declared.place.Place.TheVariants.{Between, Comment, Word, Text, Escape, Digits, Closed}
-use Rattle.jm_jasmin_lex.specs.declared.place.Step.{Step}
-use Rattle.jm_jasmin_lex.specs.declared.place.Step.TheVariants.{To, Ends, Bad}
+use Rattle.jm_jasmin_lex.specs.declared.lexer_state.Sign.{Sign}
+use Rattle.jm_jasmin_lex.specs.declared.lexer_state.Sign.TheVariants.{Blank, LineEnd, Other}
+use Rattle.jm_jasmin_lex.specs.declared.lexer_state.LexerState.{LexerState}
+use Rattle.jm_jasmin_lex.specs.declared.lexer_state.LexerState.TheVariants.{Between, Comment, Word, Text, Escape, Digits, Closed}
+use Rattle.jm_jasmin_lex.specs.declared.lexer_state.Step.{Step}
+use Rattle.jm_jasmin_lex.specs.declared.lexer_state.Step.TheVariants.{To, Ends, Bad}
 
 -- ---- the signs of a text
 
@@ -30,14 +30,14 @@ signs (b ∷ bytes) = sign_of b bytes ∷ signs bytes
 -- ---- where they lead, at an offset
 
 -- a word, a string " or a comment ; begins
-unfoldable pub opened : ℕ → ℕ → Place
+unfoldable pub opened : ℕ → ℕ → LexerState
 opened at b =
     if b == 59 then Comment
     else if b == 34 then Text at
     else Word at
 
 -- the string goes on, its " closes it, or its \ begins an escape
-unfoldable pub in_text : ℕ → ℕ → Place
+unfoldable pub in_text : ℕ → ℕ → LexerState
 in_text start b =
     if b == 34 then Closed start
     else if b == 92 then Escape start
@@ -56,7 +56,7 @@ in_digits start left b =
     else Bad
 
 -- what a sign leads to, by where it stands
-unfoldable pub step : ℕ → Place → Sign → Step
+unfoldable pub step : ℕ → LexerState → Sign → Step
 step at Between (Other b) = To (opened at b)
 step at Between Blank = To Between
 step at Between LineEnd = To Between

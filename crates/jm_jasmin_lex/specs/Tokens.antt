@@ -5,11 +5,11 @@ use Rattle.jm_jasmin_lex.specs.Signs.{signs, step}
 use Rattle.jm_jasmin_lex.specs.declared.fault.LexFault.{LexFault}
 use Rattle.jm_jasmin_lex.specs.declared.fault.LexFault.TheVariants.{BadToken}
 use Rattle.jm_jasmin_lex.specs.declared.token.TokenKind.{TokenKind}
-use Rattle.jm_jasmin_lex.specs.declared.place.Sign.{Sign}
-use Rattle.jm_jasmin_lex.specs.declared.place.Sign.TheVariants.{LineEnd}
-use Rattle.jm_jasmin_lex.specs.declared.place.Place.{Place}
-use Rattle.jm_jasmin_lex.specs.declared.place.Place.TheVariants.{Between}
-use Rattle.jm_jasmin_lex.specs.declared.place.Step.TheVariants.{To, Ends, Bad}
+use Rattle.jm_jasmin_lex.specs.declared.lexer_state.Sign.{Sign}
+use Rattle.jm_jasmin_lex.specs.declared.lexer_state.Sign.TheVariants.{LineEnd}
+use Rattle.jm_jasmin_lex.specs.declared.lexer_state.LexerState.{LexerState}
+use Rattle.jm_jasmin_lex.specs.declared.lexer_state.LexerState.TheVariants.{Between}
+use Rattle.jm_jasmin_lex.specs.declared.lexer_state.Step.TheVariants.{To, Ends, Bad}
 
 -- the token at a span of the text
 abbrev pub token_at : List ℕ → TokenKind → ℕ → ℕ → ℕ → TokenParts
@@ -25,9 +25,9 @@ next_line LineEnd line = line + 1
 next_line _ line = line
 
 -- the tokens of a text that end at the signs from this offset on, from a place in a line
-unfoldable pub lexed_from : List ℕ → Place → ℕ → ℕ → List Sign → LexedParts
-lexed_from text place at line [] = record { tokens = []; bad_line = None }
-lexed_from text place at line (s ∷ rest) = elim (step at place s) [
+unfoldable pub lexed_from : List ℕ → LexerState → ℕ → ℕ → List Sign → LexedParts
+lexed_from text state at line [] = record { tokens = []; bad_line = None }
+lexed_from text state at line (s ∷ rest) = elim (step at state s) [
   | To next ↦ lexed_from text next (at + 1) (next_line s line) rest
   | Ends kind start ↦ then_lexed (token_at text kind start at line) (lexed_from text Between (at + 1) (next_line s line) rest)
   | Bad ↦ record { tokens = []; bad_line = Some line }

@@ -10,9 +10,9 @@
 
 mod fault;
 mod laws;
+mod lexer_state;
 mod line;
 mod number;
-mod place;
 mod reading;
 mod string;
 mod token;

@@ -6,7 +6,7 @@ ghost use Rattle.jm_jasmin_lex.specs.declared.fault.LexFault.TheVariants.{OutOfM
 ghost use Rattle.jm_jasmin_lex.specs.Tokens.{lexed_of, tokens_of};
 
 use crate::fault::LexFault;
-use crate::place::{Place, Step, next_line, sign_at, step_at};
+use crate::lexer_state::{LexerState, Step, next_line, sign_at, step_at};
 use crate::token::{Lexed, Token};
 use std::alloc::{AllocError, Global};
 
@@ -19,15 +19,15 @@ pub fn lexed<'a>(alloc: Global, text: &'a str) -> Result<Lexed<'a>, AllocError>
 {
     let bytes = text.as_bytes();
     let mut tokens = Vec::new(alloc);
-    let mut place = Place::Between;
+    let mut state = LexerState::Between;
     let mut line = 1;
     for at in 0..bytes.len() + 1 {
         let sign = sign_at(bytes, at);
-        match step_at(at, place, sign) {
-            Step::To(next) => place = next,
+        match step_at(at, state, sign) {
+            Step::To(next) => state = next,
             Step::Ends(kind, start) => {
                 tokens.push(Token::new(kind, &text[start..at], start, line))?;
-                place = Place::Between;
+                state = LexerState::Between;
             }
             Step::Bad => return Ok(Lexed::new(tokens, Some(line))),
         }

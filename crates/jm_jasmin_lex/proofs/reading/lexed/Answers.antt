@@ -7,7 +7,7 @@ use Rattle.jm_jasmin_lex.proofs.reading.lexed.Goals.{In-Ends, in-To, in-Ends+in_
 
 token_ended : (c : In-Ends) → Ended c.args.text.now c.in-Ends.start c.loop-at.at
 token_ended c =
-    let here : AtSign c.args.text.now c.loop-at.tokens.items c.loop-at.at c.loop-at.line c.sign_at-sign.result c.step_at.result = at_sign _ _ c.loop-at.place _ _ _ _ _ c.loop-at.invariant c.utf8.text (omega arith) c.as_bytes-bytes.ensures.value c.sign_at-sign.ensures c.step_at.ensures in
+    let here : AtSign c.args.text.now c.loop-at.tokens.items c.loop-at.at c.loop-at.line c.sign_at-sign.result c.step_at.result = at_sign _ _ c.loop-at.state _ _ _ _ _ c.loop-at.invariant c.utf8.text (omega arith) c.as_bytes-bytes.ensures.value c.sign_at-sign.ensures c.step_at.ensures in
     (rw c.in-Ends.is at here).stands
 
 pub loop-at-init : goal.loop-at-init
@@ -24,15 +24,15 @@ range-requires-clause-end_boundary c = (token_ended (goal.at.range-requires-clau
 
 pub returns-in-Bad : goal.returns-in-Bad
 returns-in-Bad c =
-    let here : AtSign c.args.text.now c.loop-at.tokens.items c.loop-at.at c.loop-at.line c.sign_at-sign.result c.step_at.result = at_sign _ _ c.loop-at.place _ _ _ _ _ c.loop-at.invariant c.utf8.text (omega arith) c.as_bytes-bytes.ensures.value c.sign_at-sign.ensures c.step_at.ensures in
+    let here : AtSign c.args.text.now c.loop-at.tokens.items c.loop-at.at c.loop-at.line c.sign_at-sign.result c.step_at.result = at_sign _ _ c.loop-at.state _ _ _ _ _ c.loop-at.invariant c.utf8.text (omega arith) c.as_bytes-bytes.ensures.value c.sign_at-sign.ensures c.step_at.ensures in
     c.new-in-Bad.ensures ∙ after_bad _ _ _ _ _ (rw c.in-Bad.is at here)
 
 pub loop-at-preserved : goal.loop-at-preserved
 loop-at-preserved c =
-    let here : AtSign c.args.text.now c.loop-at.tokens.items c.loop-at.at c.loop-at.line c.sign_at-sign.result c.step_at.result = at_sign _ _ c.loop-at.place _ _ _ _ _ c.loop-at.invariant c.utf8.text (omega arith) c.as_bytes-bytes.ensures.value c.sign_at-sign.ensures c.step_at.ensures in
+    let here : AtSign c.args.text.now c.loop-at.tokens.items c.loop-at.at c.loop-at.line c.sign_at-sign.result c.step_at.result = at_sign _ _ c.loop-at.state _ _ _ _ _ c.loop-at.invariant c.utf8.text (omega arith) c.as_bytes-bytes.ensures.value c.sign_at-sign.ensures c.step_at.ensures in
     elim c.match-step_at.branch [
-      | in-To w ↦ rw (w.place-is, w.tokens-is) (after_place _ _ _ _ _ _ _ (rw w.in-To.is at here) c.next_line-line.ensures)
-      | in-Ends+in_ok-push-in-Ends w ↦ rw w.place-is (after_token _ _ _ _ _ _ _ _ _ (rw w.in-Ends.is at here) (rw w.tokens-is (pushed _ _ _ _ _ _ _ _ _ w.in_ok-push-in-Ends.ensures.items w.new.ensures w.range.ensures.value)) c.next_line-line.ensures)
+      | in-To w ↦ rw (w.state-is, w.tokens-is) (after_place _ _ _ _ _ _ _ (rw w.in-To.is at here) c.next_line-line.ensures)
+      | in-Ends+in_ok-push-in-Ends w ↦ rw w.state-is (after_token _ _ _ _ _ _ _ _ _ (rw w.in-Ends.is at here) (rw w.tokens-is (pushed _ _ _ _ _ _ _ _ _ w.in_ok-push-in-Ends.ensures.items w.new.ensures w.range.ensures.value)) c.next_line-line.ensures)
     ]
 
 pub returns : goal.returns

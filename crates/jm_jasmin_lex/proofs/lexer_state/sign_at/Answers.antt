@@ -1,6 +1,6 @@
 use Rattle.std.proofs.Common.{sym, ◌∙◌}
 use Rattle.jm_jasmin_lex.proofs.SignsOfText.{rest_whole, rest_none, sign_next, sign_end}
-use Rattle.jm_jasmin_lex.proofs.place.sign_at.Goals as goal
+use Rattle.jm_jasmin_lex.proofs.lexer_state.sign_at.Goals as goal
 
 pub returns-in-Some : goal.returns-in-Some
 returns-in-Some c =

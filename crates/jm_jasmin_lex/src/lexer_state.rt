@@ -19,7 +19,7 @@ pub enum Sign {
 
 /// Where the reading stands. A word or a string has the offset at which it began.
 #[derive(Clone, Copy, PartialEq, Eq)]
-pub enum Place {
+pub enum LexerState {
     /// At the start of a line, or behind a blank.
     Between,
     /// In a comment.
@@ -40,7 +40,7 @@ pub enum Place {
 #[derive(Clone, Copy)]
 pub enum Step {
     /// The reading goes on.
-    To(Place),
+    To(LexerState),
     /// The token that began at this offset ends before the sign.
     Ends(TokenKind, usize),
     /// The sign cannot stand there.
@@ -84,25 +84,25 @@ pub fn sign_at(bytes: &[u8], at: usize) -> Sign
 
 // A word, a string or a comment begins.
 #[tactic(auto, unfolding(crate::specs::Signs::opened))]
-fn opened(at: usize, byte: u8) -> Place
+fn opened(at: usize, byte: u8) -> LexerState
     ensures { result ≡ opened at byte }
 {
     match byte {
-        b';' => Place::Comment,
-        b'"' => Place::Text(at),
-        _ => Place::Word(at),
+        b';' => LexerState::Comment,
+        b'"' => LexerState::Text(at),
+        _ => LexerState::Word(at),
     }
 }
 
 // A string goes on, is closed, or has an escape.
 #[tactic(auto, unfolding(crate::specs::Signs::in_text))]
-fn in_text(start: usize, byte: u8) -> Place
+fn in_text(start: usize, byte: u8) -> LexerState
     ensures { result ≡ in_text start byte }
 {
     match byte {
-        b'"' => Place::Closed(start),
-        b'\\' => Place::Escape(start),
-        _ => Place::Text(start),
+        b'"' => LexerState::Closed(start),
+        b'\\' => LexerState::Escape(start),
+        _ => LexerState::Text(start),
     }
 }
 
@@ -111,8 +111,8 @@ fn in_escape(start: usize, byte: u8) -> Step
     ensures { result ≡ in_escape start byte }
 {
     match byte {
-        b'n' | b't' | b'"' | b'\\' => Step::To(Place::Text(start)),
-        b'u' => Step::To(Place::Digits(start, 4)),
+        b'n' | b't' | b'"' | b'\\' => Step::To(LexerState::Text(start)),
+        b'u' => Step::To(LexerState::Digits(start, 4)),
         _ => Step::Bad,
     }
 }
@@ -125,44 +125,44 @@ fn in_digits(start: usize, left: u8, byte: u8) -> Step
         return Step::Bad;
     }
     if left <= 1 {
-        Step::To(Place::Text(start))
+        Step::To(LexerState::Text(start))
     } else {
-        Step::To(Place::Digits(start, left - 1))
+        Step::To(LexerState::Digits(start, left - 1))
     }
 }
 
 /// What a sign at an offset leads to, by where it stands.
 #[tactic(auto, unfolding(crate::specs::Signs::step))]
-pub fn step_at(at: usize, place: Place, sign: Sign) -> Step
-    ensures { result ≡ step at place sign }
+pub fn step_at(at: usize, state: LexerState, sign: Sign) -> Step
+    ensures { result ≡ step at state sign }
 {
-    match place {
-        Place::Between => match sign {
+    match state {
+        LexerState::Between => match sign {
             Sign::Other(byte) => Step::To(opened(at, byte)),
-            Sign::Blank | Sign::LineEnd => Step::To(Place::Between),
+            Sign::Blank | Sign::LineEnd => Step::To(LexerState::Between),
         },
-        Place::Comment => match sign {
-            Sign::Other(_) | Sign::Blank => Step::To(Place::Comment),
-            Sign::LineEnd => Step::To(Place::Between),
+        LexerState::Comment => match sign {
+            Sign::Other(_) | Sign::Blank => Step::To(LexerState::Comment),
+            Sign::LineEnd => Step::To(LexerState::Between),
         },
-        Place::Word(start) => match sign {
-            Sign::Other(_) => Step::To(Place::Word(start)),
+        LexerState::Word(start) => match sign {
+            Sign::Other(_) => Step::To(LexerState::Word(start)),
             Sign::Blank | Sign::LineEnd => Step::Ends(TokenKind::Word, start),
         },
-        Place::Text(start) => match sign {
+        LexerState::Text(start) => match sign {
             Sign::Other(byte) => Step::To(in_text(start, byte)),
-            Sign::Blank => Step::To(Place::Text(start)),
+            Sign::Blank => Step::To(LexerState::Text(start)),
             Sign::LineEnd => Step::Bad,
         },
-        Place::Escape(start) => match sign {
+        LexerState::Escape(start) => match sign {
             Sign::Other(byte) => in_escape(start, byte),
             Sign::Blank | Sign::LineEnd => Step::Bad,
         },
-        Place::Digits(start, left) => match sign {
+        LexerState::Digits(start, left) => match sign {
             Sign::Other(byte) => in_digits(start, left, byte),
             Sign::Blank | Sign::LineEnd => Step::Bad,
         },
-        Place::Closed(start) => match sign {
+        LexerState::Closed(start) => match sign {
             Sign::Other(_) => Step::Bad,
             Sign::Blank | Sign::LineEnd => Step::Ends(TokenKind::Text, start),
         },
