@@ -1,10 +1,10 @@
 -- Events of one thread in a row that are done, and make and end no thread.
 use Rattle.std.proofs.Common.{◌≡◌, ◌≢◌, ℕ, zero, suc, ◌+◌, ◌-◌, ◌≤◌, ◌<◌, List, [], ◌∷◌, ◌++◌, Option, Some, None, Bool, true, false, refl, sym, ap, subst, ◌∙◌, ◌⊎◌, inl, inr, length, replicate, arith}
 use Rattle.std.specs.Prelude.{max, min, nat_eq, nat_lt, slice_get}
-use Rattle.std.proofs.lemmas.Bool.{cases_lt, eq-eqb, eqb-true, ltb-false, ltb-true}
+use Rattle.std.proofs.lemmas.Bool.{eq-eqb, eqb-true, ltb-false}
 use Rattle.jm_machine.specs.ManySteps.{done_reply, steps_of}
 use Rattle.jm_machine.specs.Threads.{is_live, is_live_thread}
-use Rattle.jm_world.specs.RoundRobin.{is_blocked, is_stopped, left_for}
+use Rattle.jm_world.specs.RoundRobin.{is_blocked, is_stopped, turn_in}
 use Rattle.jm_world.specs.Run.{after, replies_from, reply, run_from}
 use Rattle.jm_world.specs.World.{World, Thread, is_running, live_among}
 use Rattle.jm_world.specs.declared.event.Event.{Event}
@@ -12,15 +12,16 @@ use Rattle.jm_world.specs.declared.event.Event.TheVariants.{Step}
 use Rattle.jm_world.specs.declared.reply.Reply.{Reply}
 use Rattle.jm_world.specs.declared.reply.ReplyKind.TheVariants.{Done}
 use Rattle.jm_world.specs.declared.stop.Stop.{Stop}
-use Rattle.jm_debug.specs.Kept.{ended_in, has_stopped}
+use Rattle.jm_debug.specs.Kept.{has_stopped}
 use Rattle.jm_debug.proofs.KeptThreads.{stepped, told}
-use Rattle.jm_debug.proofs.LiveTurns.{first_live, nothing_between, none_live}
-use Rattle.jm_events.specs.Due.{IsNext, most_of, once_more, turns_behind, turns_due, turns_knows, turns_seen}
+use Rattle.jm_debug.proofs.LiveTurns.{first_live, none_live}
+use Rattle.jm_events.specs.Due.{IsNext, most_of, once_more, turn_taken, turns_behind, turns_due, turns_knows, turns_seen}
 use Rattle.jm_events.specs.Passes.{Knows}
 use Rattle.jm_events.specs.declared.due.DueEvent.{DueEvent}
+use Rattle.jm_events.specs.declared.pass.Pass.{Pass}
 use Rattle.jm_events.specs.declared.turns.Turns.{Turns}
 use Rattle.jm_events.proofs.Passes.{knows_further, knows_later}
-use Rattle.jm_events.proofs.Rounds.{Takes, event_due, in_next_pass, in_pass}
+use Rattle.jm_events.proofs.Rounds.{Takes, event_due, in_next_pass, in_pass, left_is}
 
 -- ---- the only live thread
 
@@ -229,8 +230,8 @@ module _ (w : World) (t u : Turns) (n live : ℕ) (d : DueEvent) (takes : Takes 
   -- so many of them lead there
   abbrev Lead : ℕ → ℕ → Type 0
   Lead k m = let v = run_from w (steps_of m k) in
-    (turns_due t w ≡ steps_of m k ++ Step m ∷ turns_due (turns_seen (turns_behind u k) (is_blocked (after v (Step m)).reply.kind)) (after v (Step m)).world)
-    × turns_knows (turns_seen (turns_behind u k) (is_blocked (after v (Step m)).reply.kind)) (after v (Step m)).world
+      (turns_due t w ≡ steps_of m k ++ Step m ∷ turns_due (turns_seen (turns_behind u k) (is_blocked (after v (Step m)).reply.kind)) (after v (Step m)).world)
+      × turns_knows (turns_seen (turns_behind u k) (is_blocked (after v (Step m)).reply.kind)) (after v (Step m)).world
 
   leads : (k : ℕ) → k < d.most → replies_from w (steps_of n k) ≡ replicate k (done_reply w) → Lead k n
   leads k few said =
@@ -248,3 +249,28 @@ module _ (w : World) (t u : Turns) (n live : ℕ) (d : DueEvent) (takes : Takes 
         let same : n ≡ thread = cc in
         subst (λ m. replies_from w (steps_of m k) ≡ replicate k (done_reply w) → Lead k m) same (leads k few) said;
   }
+
+some_thread : (w : World) (n : ℕ) → is_live w n ≡ true → 1 ≤ n
+some_thread w zero live = let no : false ≡ true = live in absurd cc
+some_thread w (suc n) live = omega arith
+
+-- by the names that the code has for them
+pub due_next : (w : World) (t : Turns) (p : Pass) (moved : Bool) (u : Turns) (n live : ℕ) (d : DueEvent) → 0 < t.steps → w.stop ≡ None
+    → turn_in w (t.passed + 1) t.moved ≡ Some (record { thread = n; moved = moved }) → is_live w n ≡ true → Knows p (n - 1) w
+    → u ≡ turn_taken (record t { pass = p; moved = moved }) n → live ≡ live_among w.threads
+    → d ≡ record { event = Step n; most = most_of t.steps u.left live } → IsNext turns_due turns_knows turns_seen turns_behind t w d u
+due_next w t p moved u n live d some goes chosen lives knows taken count due =
+    let number = some_thread w n lives in
+    let passed : n - 1 + 1 ≡ n = omega arith in
+    let s : Turns = turn_taken (record t { pass = p; moved = moved }) n in
+    let takes : Takes w t n s = record {
+      chosen = chosen;
+      steps = omega arith;
+      quantum = refl;
+      left = left_is t n number;
+      thread = refl;
+      passed = passed;
+    } in
+    let is : IsTurn w s n = record { thread = refl; passed = passed; live = lives; goes = goes; knows = knows } in
+    is_next w t u n live d (subst (Takes w t n) (sym taken) takes) (subst (λ (x : Turns). IsTurn w x n) (sym taken) is) count
+    (ap (λ (x : DueEvent). x.event) due) (ap (λ (x : DueEvent). x.most) due)

@@ -1,5 +1,5 @@
 -- The threads that a pass keeps, and the first live one among them.
-use Rattle.std.proofs.Common.{◌≡◌, ℕ, zero, suc, ◌+◌, ◌-◌, ◌≤◌, ◌<◌, List, [], ◌∷◌, ◌++◌, Some, None, true, false, sym, ap, subst, ◌∙◌, length, arith, inl, inr}
+use Rattle.std.proofs.Common.{◌≡◌, ℕ, ◌+◌, ◌≤◌, ◌<◌, List, [], ◌∷◌, ◌++◌, Some, None, drop, true, false, sym, ap, subst, ◌∙◌, length, arith, inl, inr}
 use Rattle.std.proofs.lemmas.Bool.{cases_lt}
 use Rattle.jm_world.specs.Run.{after}
 use Rattle.jm_world.specs.World.{World}
@@ -100,12 +100,12 @@ knows_listed w p q passed more known behind ahead knows = record {
 }
 
 -- the first one ahead is put behind, or left out
-module _ (w : World) (p q : Pass) (passed n : ℕ) (rest : List ℕ) (first : p.ahead.items ≡ n ∷ rest) (known : q.known ≡ p.known) (ahead : q.ahead.items ≡ rest) (knows : Knows p passed w) where
+module _ (w : World) (p q : Pass) (passed n : ℕ) (rest : List ℕ) (first : p.ahead.items ≡ n ∷ rest) (known : q.known ≡ p.known) (ahead : q.ahead.items ≡ drop 1 p.ahead.items) (knows : Knows p passed w) where
   covered : Covers w knows.middle (p.known + 1) (n ∷ rest)
   covered = subst (Covers w knows.middle (p.known + 1)) first knows.ahead
 
   left_ahead : (low : ℕ) → Covers w low (p.known + 1) rest → Covers w low (q.known + 1) q.ahead.items
-  left_ahead low c = subst (λ k. Covers w low (k + 1) q.ahead.items) (sym known) (subst (Covers w low (p.known + 1)) (sym ahead) c)
+  left_ahead low c = subst (λ k. Covers w low (k + 1) q.ahead.items) (sym known) (subst (Covers w low (p.known + 1)) (sym (ahead ∙ ap (drop 1) first)) c)
 
   pub knows_moved : n ≤ passed → q.behind.items ≡ p.behind.items ++ n ∷ [] → Knows q passed w
   knows_moved over behind = record {

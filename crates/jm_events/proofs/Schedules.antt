@@ -1,12 +1,12 @@
 -- The events of a schedule: what is left of a run, and the runs behind it.
-use Rattle.std.proofs.Common.{◌≡◌, ℕ, zero, suc, ◌+◌, ◌-◌, ◌≤◌, ◌<◌, List, [], ◌∷◌, ◌++◌, Some, length, drop, replicate, slice_get, refl, sym, ap, ◌∙◌, append_assoc, arith}
+use Rattle.std.proofs.Common.{◌≡◌, ℕ, suc, ◌+◌, ◌-◌, ◌≤◌, ◌<◌, List, [], ◌∷◌, ◌++◌, Some, length, drop, get_or, replicate, slice_get, sym, ap, ◌∙◌, append_assoc, arith}
 use Rattle.std.specs.Prelude.{Bool, ⊤}
 use Rattle.std.specs.List.{flat_map}
 use Rattle.std.proofs.lemmas.List.{drop_all, replicate-append-replicate}
+use Rattle.std.proofs.lemmas.Option.{slice_get-get_or}
 use Rattle.jm_program.proofs.Sequences.{first_left as next}
 use Rattle.jm_world.specs.World.{World}
 use Rattle.jm_world.specs.declared.event.Event.{Event}
-use Rattle.jm_world.specs.declared.event.Event.TheVariants.{Step}
 use Rattle.jm_schedule.specs.Runs.{repeats_of, events_of}
 use Rattle.jm_schedule.specs.declared.schedule.Run.{Run}
 use Rattle.jm_schedule.proofs.RunLemmas.{no_run}
@@ -14,12 +14,19 @@ use Rattle.jm_events.specs.Due.{IsNext, scheduled_behind, scheduled_due}
 use Rattle.jm_events.specs.declared.scheduled.Scheduled.{Scheduled}
 
 -- the next run begins
-pub begun : (runs : List Run) (i : ℕ) (run : Run) → slice_get runs i ≡ Some run → events_of (drop i runs) ≡ repeats_of run ++ events_of (drop (i + 1) runs)
+begun : (runs : List Run) (i : ℕ) (run : Run) → slice_get runs i ≡ Some run → events_of (drop i runs) ≡ repeats_of run ++ events_of (drop (i + 1) runs)
 unfolding events_of
 begun runs i run is = ap (flat_map repeats_of) (next runs i run is)
 
-pub none_left : (runs : List Run) (i : ℕ) → length runs ≤ i → events_of (drop i runs) ≡ []
-none_left runs i past = ap events_of (drop_all i runs past) ∙ no_run
+pub begins : (s : Scheduled) (d : Run) → s.run.count ≡ 0 → s.begun < length s.runs.now
+    → scheduled_due (record s { run = get_or s.runs.now s.begun d; begun = s.begun + 1 }) ≡ scheduled_due s
+begins s d none more =
+    sym (ap (λ n. replicate n s.run.event ++ events_of (drop s.begun s.runs.now)) none
+    ∙ begun s.runs.now s.begun (get_or s.runs.now s.begun d) (slice_get-get_or s.runs.now s.begun d more))
+
+pub none_left : (s : Scheduled) → s.run.count ≡ 0 → length s.runs.now ≤ s.begun → scheduled_due s ≡ []
+none_left s none past =
+    ap (λ n. replicate n s.run.event ++ events_of (drop s.begun s.runs.now)) none ∙ ap events_of (drop_all s.begun s.runs.now past) ∙ no_run
 
 -- of some events there is one more behind so many
 pub repeated : (count k : ℕ) (e : Event) (rest : List Event) → k < count → replicate count e ++ rest ≡ replicate k e ++ e ∷ (replicate (count - 1 - k) e ++ rest)
