@@ -20,8 +20,7 @@
 //! `events` and `round_robin` make the events, the latter over the threads that a `pass` keeps,
 //! `exploring` searches schedules, `report` and `ends` say how a run ended, `assembly` goes from a text to a class file, `disassembly`
 //! from a class to a text, `lines` from a reader to its lines, and `session` from these to their answers, `explanation` says what
-//! numbers mean; [`Utf8`] is a text of code units, as
-//! a String's chars and the name of a class are, whose `Display` is the text in UTF-8. The writer and the
+//! numbers mean. The writer and the
 //! reader of class files do not know one another, so [`written_and_read`] stands here: a class that is
 //! written as a class file and read again is that class. The crate stands on `jm_class_reader`, `jm_jasmin`, `jm_class_writer`, `jm_disassembler`, `jm_linker`, `jm_machine`,
 //! `jm_gen_heap`, `jm_schedule`, `jm_explore`, `jm_debug` and `jm_explain`.
@@ -76,7 +75,6 @@ pub use files::{bytes_of, check_read};
 pub use film_execution::film;
 pub use finished::Finished;
 pub use jm_explain::Status;
-pub use jm_explore_text::Utf8;
 pub use jm_heap::Kind;
 pub use jm_job::{
     AssembleJob, Contents, Copiers, DebugJob, DisassembleJob, ExploreJob, FilmJob, InputFile, Job,
