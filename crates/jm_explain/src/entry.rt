@@ -1,7 +1,7 @@
 // What is said of a number.
 
 ghost use Rattle.std.specs.Prelude.{Some};
-ghost use Rattle.jm_explain.specs.Items.{item, item_line, item_text};
+ghost use Rattle.jm_explain.specs.Items.{item, item_text};
 
 use std::fmt;
 use std::fmt::Display;
@@ -30,17 +30,5 @@ impl Display for Entry {
             "{} {}: {}\n\nFor example: {}\n\nWhat to do: {}\n",
             self.number, self.name, self.meaning, self.example, self.advice
         )
-    }
-}
-
-/// An entry as the list of all has it: its number, its name and what it means.
-#[derive(Clone, Copy)]
-pub struct EntryLine(pub Entry);
-
-impl Display for EntryLine {
-    ghost output = { λ line. Some (item_line (item line.0)) };
-
-    fn fmt<W: fmt::Write>(&self, f: &mut fmt::Formatter<W>) -> fmt::Result {
-        write!(f, "{} {}: {}\n", self.0.number, self.0.name, self.0.meaning)
     }
 }

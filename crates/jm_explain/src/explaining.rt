@@ -3,34 +3,19 @@
 ghost use Rattle.std.specs.Prelude.{◌≡◌, ◌++◌, IfOk, string_bytes};
 ghost use Rattle.std.specs.List.{flat_map};
 ghost use Rattle.std.specs.Option.{option_map};
-ghost use Rattle.jm_explain.specs.Items.{item, item_line, item_text, list_of};
+ghost use Rattle.jm_explain.specs.Items.{item, item_line, list_of};
 ghost use Rattle.jm_explain.specs.Table.{explained, items};
 
-use crate::entry::{Entry, EntryLine};
+use crate::entry::Entry;
 use crate::{assembler_texts, class_files, instructions, links, pools, runs, sessions, statuses};
 use std::alloc::{AllocError, Global};
-
-// The text of an entry.
-fn text_of(alloc: Global, entry: Entry) -> Result<String, AllocError>
-    ensures { IfOk result (λ text. string_bytes text ≡ item_text (item entry)) }
-{
-    format!(in alloc; "{entry}")
-}
-
-// Writes the line of an entry behind a text.
-fn add_line(text: &mut String, entry: Entry) -> Result<(), AllocError>
-    ensures { IfOk result (λ _. string_bytes text.new ≡ string_bytes text.old ++ item_line (item entry)) }
-{
-    let line = EntryLine(entry);
-    write!(text, "{line}")
-}
 
 // Writes the lines of some entries behind a text.
 fn add_lines(text: &mut String, entries: &[Entry]) -> Result<(), AllocError>
     ensures { IfOk result (λ _. string_bytes text.new ≡ string_bytes text.old ++ flat_map (λ e. item_line (item e)) entries.now) }
 {
     for entry in entries {
-        add_line(text, *entry)?;
+        write!(text, "{} {}: {}\n", entry.number, entry.name, entry.meaning)?;
     }
     Ok(())
 }
@@ -58,7 +43,7 @@ pub fn explanation(alloc: Global, asked: Option<Entry>) -> Result<String, AllocE
     ensures { IfOk result (λ text. string_bytes text ≡ explained (option_map item asked)) }
 {
     match asked {
-        Some(entry) => text_of(alloc, entry),
+        Some(entry) => format!(in alloc; "{entry}"),
         None => list(alloc),
     }
 }

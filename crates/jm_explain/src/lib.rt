@@ -23,7 +23,7 @@ mod sessions;
 mod status;
 mod statuses;
 
-pub use entry::{Entry, EntryLine};
+pub use entry::Entry;
 pub use explaining::explanation;
 pub use search::entry_of;
 pub use status::Status;

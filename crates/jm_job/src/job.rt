@@ -1,3 +1,5 @@
+// What `jm` is to do, with the files that were read for it.
+
 ghost use Rattle.std.specs.Prelude.{◌≡◌, ◌≤◌};
 
 use jm_explore::Bounds;

@@ -1,2 +1,3 @@
 pub mod Finding
 pub mod CommandLines
+pub mod Seen

@@ -1,2 +1,3 @@
 pub mod CommandLine
 pub mod Asked
+pub mod Rows

@@ -12,11 +12,12 @@
 //! `jm asm IN OUT`, where OUT is another word than IN, `jm dis [--bare] FILE`,
 //! `jm debug [--heap N] [--copiers N] FILE...`, `jm explain [N]`, where N is a number that `jm_explain` tells of, and
 //! `jm version`; any other option or subcommand is refused by its name. Each number of [`Options`] is within its limits:
-//! that is an invariant of the types.
+//! that is an invariant of the types. The subcommands stand as rows in `command`, and their arguments in `argument`.
 //!
 //! The crate stands on `clap` and `jm_explain`.
 #![tactic(auto)]
 
+mod argument;
 mod command;
 mod fault;
 mod request;

@@ -3,7 +3,7 @@
 ghost use Rattle.std.specs.Prelude.{◌≡◌, ◌∷◌, Some, None, nat_lt, codes, option_map};
 ghost use Rattle.std.specs.Option.{option_copied};
 ghost use Rattle.std.specs.List.{list_all};
-ghost use Rattle.jm_world.specs.Schedules.{thread_number, repeat_count, seat_number, kind_named, marked, repeated, with_words, with_step_words, words_line, comment, spelled};
+ghost use Rattle.jm_world.specs.Schedules.{repeat_count, seat_number, kind_named, marked, repeated, with_words, with_step_words, words_line, spelled};
 ghost use Rattle.jm_schedule.specs.Words.{words_of, words_after};
 ghost use Rattle.jm_schedule.specs.Lines.{line_of, spelled_of};
 
@@ -37,19 +37,6 @@ pub enum Spelled {
     Silent,
     Spells(Line),
     Strange,
-}
-
-fn thread_number(word: &[u8]) -> Option<u64>
-    ensures { result ≡ thread_number word.now }
-{
-    number_within(0, u64::MAX, word)
-}
-
-fn repeat_count(word: &[u8]) -> Option<u32>
-    ensures { result ≡ repeat_count word.now }
-{
-    let count = number_within(1, MAX_REPEATS, word)?;
-    Some(count as u32)
 }
 
 fn seat_number(word: &[u8]) -> Option<u8>
@@ -99,10 +86,10 @@ fn marked(event: Event, seat: &[u8], kind: &[u8]) -> Option<Line>
 fn repeated(event: Event, count: &[u8]) -> Option<Line>
     ensures { option_map line_of result ≡ repeated event (repeat_count count.now) }
 {
-    let count = repeat_count(count)?;
+    let count = number_within(1, MAX_REPEATS, count)?;
     Some(Line {
         event,
-        count,
+        count: count as u32,
         mark: None,
     })
 }
@@ -152,7 +139,7 @@ fn step_line(text: &[u8]) -> Option<Line>
     ensures { option_map line_of result ≡ words_line (codes "t" ∷ words_of text.now) }
 {
     let (number, rest) = first_word(text);
-    let thread = thread_number(number)?;
+    let thread = number_within(0, u64::MAX, number)?;
     with_step_words(Event::Step(thread), rest)
 }
 
@@ -177,23 +164,19 @@ fn is_ascii(text: &[u8]) -> bool
     text.iter().all(|byte| *byte < 128)
 }
 
-fn comment(text: &[u8]) -> Spelled
-    ensures { spelled_of result ≡ comment text.now }
-{
-    if is_ascii(text) {
-        Spelled::Silent
-    } else {
-        Spelled::Strange
-    }
-}
-
 /// What a line spells, without its line feed.
 pub fn read_line(line: &[u8]) -> Spelled
     ensures { spelled_of result ≡ spelled line.now }
 {
     match line {
         [] => Spelled::Silent,
-        [b'#', text @ ..] => comment(text),
+        [b'#', text @ ..] => {
+            if is_ascii(text) {
+                Spelled::Silent
+            } else {
+                Spelled::Strange
+            }
+        }
         _ => match words_line(line) {
             Some(line) => Spelled::Spells(line),
             None => Spelled::Strange,
