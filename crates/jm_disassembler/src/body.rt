@@ -1,12 +1,12 @@
 // The lines of a method's body (Jasmin User Guide, "Method Definitions").
 
-ghost use Rattle.std.specs.Prelude.{◌≡◌, ◌≤◌, ◌++◌, OnOk, IfOk, Option, length, drop};
+ghost use Rattle.std.specs.Prelude.{◌≡◌, ◌≤◌, ◌++◌, OnOk, IfOk, length, drop};
 ghost use Rattle.std.specs.List.{flat_map};
-ghost use Rattle.jm_disassembler.specs.Bodies.{note, instr_lines, label_text, source_text, source_lines, lines_behind, body_text, caught_text, handler_text, limit_text, code_text};
+ghost use Rattle.jm_disassembler.specs.Bodies.{note, instr_lines, label_text, source_lines, lines_behind, body_text, handler_text, code_text};
 
 use crate::instruction::{write_instruction, write_rows};
 use crate::labels::{is_marked, marks_of};
-use jm_program::{Code, Handler, Instr, LineNumber, Name};
+use jm_program::{Code, Handler, Instr, LineNumber};
 use std::alloc::{AllocError, Global};
 use std::fmt::Write;
 
@@ -48,26 +48,7 @@ fn write_label(out: &mut String, marks: &[bool], number: usize) -> Result<(), Al
     Ok(())
 }
 
-// ---- the line number table
-
-#[tactic(auto, unfolding(crate::specs::Bodies::source_text))]
-fn write_line(out: &mut String, row: &LineNumber) -> Result<(), AllocError>
-    ensures { OnOk result (out.new.bytes.items ≡ out.old.bytes.items ++ source_text row.now) }
-{
-    let line = row.line;
-    write!(out, "  .line {line}\n")
-}
-
 // ---- the exception table
-
-fn write_caught(out: &mut String, caught: &Option<Name>) -> Result<(), AllocError>
-    ensures { OnOk result (out.new.bytes.items ≡ out.old.bytes.items ++ caught_text caught.now) }
-{
-    match caught {
-        None => out.push_str("all"),
-        Some(name) => write!(out, "{name}"),
-    }
-}
 
 #[tactic(auto, unfolding(crate::specs::Bodies::handler_text))]
 fn write_handler(out: &mut String, handler: &Handler) -> Result<(), AllocError>
@@ -76,9 +57,16 @@ fn write_handler(out: &mut String, handler: &Handler) -> Result<(), AllocError>
     let start = handler.start;
     let end = handler.end;
     let target = handler.target;
-    out.push_str("  .catch ")?;
-    write_caught(out, &handler.catch_type)?;
-    write!(out, " from L{start} to L{end} using L{target}\n")
+    match &handler.catch_type {
+        None => write!(
+            out,
+            "  .catch all from L{start} to L{end} using L{target}\n"
+        ),
+        Some(name) => write!(
+            out,
+            "  .catch {name} from L{start} to L{end} using L{target}\n"
+        ),
+    }
 }
 
 fn write_handlers(out: &mut String, handlers: &[Handler]) -> Result<(), AllocError>
@@ -92,16 +80,8 @@ fn write_handlers(out: &mut String, handlers: &[Handler]) -> Result<(), AllocErr
 
 // ---- the body
 
-#[tactic(auto, unfolding(crate::specs::Bodies::limit_text))]
-fn write_limits(out: &mut String, code: &Code) -> Result<(), AllocError>
-    ensures { OnOk result (out.new.bytes.items ≡ out.old.bytes.items ++ limit_text code.now) }
-{
-    let stack = code.max_stack;
-    let locals = code.max_locals;
-    write!(out, "  .limit stack {stack}\n  .limit locals {locals}\n")
-}
-
 // Writes the lines of the rows at the front that begin at an instruction, and counts them.
+#[tactic(auto, unfolding(crate::specs::Bodies::source_text))]
 fn write_sources(out: &mut String, number: usize, lines: &[LineNumber]) -> Result<usize, AllocError>
     ensures text { OnOk result (out.new.bytes.items ≡ out.old.bytes.items ++ source_lines number lines.now) }
     ensures behind { IfOk result (λ count. drop count lines.now ≡ lines_behind number lines.now) }
@@ -112,7 +92,8 @@ fn write_sources(out: &mut String, number: usize, lines: &[LineNumber]) -> Resul
         if row.start as usize != number {
             return Ok(count);
         }
-        write_line(out, row)?;
+        let line = row.line;
+        write!(out, "  .line {line}\n")?;
         count += 1;
     }
     Ok(count)
@@ -139,7 +120,7 @@ fn write_body(
 
 /// Writes the lines between `.method` and `.end method`. After an error some of them may stand
 /// there.
-#[tactic(auto, unfolding(crate::specs::Bodies::code_text))]
+#[tactic(auto, unfolding(crate::specs::Bodies::code_text, crate::specs::Bodies::limit_text))]
 pub fn write_code(
     alloc: Global,
     out: &mut String,
@@ -149,7 +130,9 @@ pub fn write_code(
     ensures { OnOk result (out.new.bytes.items ≡ out.old.bytes.items ++ code_text commented code.now) }
 {
     let marks = marks_of(alloc, code)?;
-    write_limits(out, code)?;
+    let stack = code.max_stack;
+    let locals = code.max_locals;
+    write!(out, "  .limit stack {stack}\n  .limit locals {locals}\n")?;
     write_handlers(out, code.handlers.as_slice())?;
     write_body(
         out,

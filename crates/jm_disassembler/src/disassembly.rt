@@ -1,9 +1,9 @@
 // The assembler text of a class (Jasmin User Guide).
 
-ghost use Rattle.std.specs.Prelude.{◌≡◌, ◌++◌, OnOk, IfOk, None, Ok};
+ghost use Rattle.std.specs.Prelude.{◌≡◌, IfOk, None, Ok};
 ghost use Rattle.jm_program.specs.declared.class.ClassParts.{ClassParts};
 ghost use Rattle.jm_jasmin.specs.Text.{denoted};
-ghost use Rattle.jm_disassembler.specs.Texts.{class_text, marked_declaration};
+ghost use Rattle.jm_disassembler.specs.Texts.{class_text};
 ghost use Rattle.jm_disassembler.specs.Unsaid.{first_unsaid};
 ghost use Rattle.jm_disassembler.specs.Disassembly.{Disassembles};
 
@@ -18,41 +18,19 @@ use crate::unsaid::Unsaid;
 use jm_program::{Class, ClassParts};
 use std::alloc::{AllocError, Global};
 
-#[tactic(auto, unfolding(crate::specs::Texts::marked_declaration))]
-fn write_marked_declaration(
-    out: &mut String,
-    commented: bool,
-    class: &ClassParts,
-) -> Result<(), AllocError>
-    ensures { OnOk result (out.new.bytes.items ≡ out.old.bytes.items ++ marked_declaration commented class.now) }
-{
-    write_class_mark(out, class)?;
-    write_declaration(out, commented, class)
-}
-
-#[tactic(auto, unfolding(crate::specs::Texts::class_text))]
-fn write_class(
-    alloc: Global,
-    out: &mut String,
-    commented: bool,
-    class: &ClassParts,
-) -> Result<(), AllocError>
-    ensures { OnOk result (out.new.bytes.items ≡ out.old.bytes.items ++ class_text commented class.now) }
-{
-    write_version(out, class.version)?;
-    write_source(alloc, out, &class.source_file)?;
-    write_marked_declaration(out, commented, class)?;
-    write_super(out, &class.superclass)?;
-    write_interfaces(out, class.interfaces.as_slice())?;
-    write_fields(out, commented, class.fields.as_slice())?;
-    write_methods(alloc, out, commented, class.methods.as_slice())
-}
-
+#[tactic(auto, unfolding(crate::specs::Texts::class_text, crate::specs::Texts::marked_declaration))]
 fn text_of(alloc: Global, commented: bool, class: &ClassParts) -> Result<String, AllocError>
     ensures { IfOk result (λ text. text.bytes.items ≡ class_text commented class.now) }
 {
     let mut text = String::new(alloc);
-    write_class(alloc, &mut text, commented, class)?;
+    write_version(&mut text, class.version)?;
+    write_source(alloc, &mut text, &class.source_file)?;
+    write_class_mark(&mut text, class)?;
+    write_declaration(&mut text, commented, class)?;
+    write_super(&mut text, &class.superclass)?;
+    write_interfaces(&mut text, class.interfaces.as_slice())?;
+    write_fields(&mut text, commented, class.fields.as_slice())?;
+    write_methods(alloc, &mut text, commented, class.methods.as_slice())?;
     Ok(text)
 }
 

@@ -3,8 +3,8 @@
 ghost use Rattle.std.specs.Prelude.{◌≡◌, not};
 ghost use Rattle.std.specs.List.{position};
 ghost use Rattle.jm_disassembler.specs.Names.{is_sayable};
-ghost use Rattle.jm_disassembler.specs.Said.{instr_said, field_name_said};
-ghost use Rattle.jm_disassembler.specs.Bodies.{caught_said, handler_said, lines_said, sizes_said};
+ghost use Rattle.jm_disassembler.specs.Said.{instr_said};
+ghost use Rattle.jm_disassembler.specs.Bodies.{handler_said, lines_said, sizes_said};
 ghost use Rattle.jm_disassembler.specs.Unsaid.{value_said, field_part, fields_part, rows_part, instructions_part, handlers_part, code_part, method_part, methods_part, source_said, super_said, header_part, first_unsaid};
 
 use crate::flags::{class_flags_said, member_flags_said};
@@ -23,12 +23,6 @@ const MOST_INSTRUCTIONS: usize = 4_294_967_295;
 
 // ---- of a field
 
-fn field_name_said(name: &Name, value: &Option<Constant>) -> bool
-    ensures { result ≡ field_name_said name.now value.now }
-{
-    is_sayable(name.units()) && (value.is_some() || name.units() != EQUALS.as_slice())
-}
-
 fn value_said(value: &Option<Constant>) -> bool
     ensures { result ≡ value_said value.now }
 {
@@ -42,9 +36,10 @@ fn value_said(value: &Option<Constant>) -> bool
 pub fn field_part(field: &Field) -> Option<FieldPart>
     ensures { result ≡ field_part field.now }
 {
+    let name = field.name.units();
     if !member_flags_said(field.flags.bits) {
         Some(FieldPart::Flags)
-    } else if !field_name_said(&field.name, &field.constant) {
+    } else if !(is_sayable(name) && (field.constant.is_some() || name != EQUALS.as_slice())) {
         Some(FieldPart::Name)
     } else if !(is_plain_type(&field.descriptor) && value_said(&field.constant)) {
         Some(FieldPart::Type)
@@ -67,19 +62,13 @@ fn fields_part(fields: &[Field]) -> Option<Unsaid>
 
 // ---- of a method
 
-fn caught_said(caught: &Option<Name>) -> bool
-    ensures { result ≡ caught_said caught.now }
-{
-    match caught {
-        None => true,
-        Some(name) => is_sayable(name.units()) && name.units() != ALL.as_slice(),
-    }
-}
-
 fn handler_said(handler: &Handler) -> bool
     ensures { result ≡ handler_said handler.now }
 {
-    caught_said(&handler.catch_type)
+    match &handler.catch_type {
+        None => true,
+        Some(name) => is_sayable(name.units()) && name.units() != ALL.as_slice(),
+    }
 }
 
 fn first_handler(handlers: &[Handler]) -> Option<usize>

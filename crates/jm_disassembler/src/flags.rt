@@ -1,9 +1,9 @@
 // Access flags and their words (Jasmin User Guide, "Jasmin Assembler Directives"; JVMS 4.1, 4.5,
 // 4.6).
 
-ghost use Rattle.std.specs.Prelude.{◌≡◌, ◌++◌, ◌∷◌, ◌==◌, [], OnOk, ℕ, bit_and, bit_or, codes, if◌then◌else◌};
+ghost use Rattle.std.specs.Prelude.{◌≡◌, ◌++◌, ◌∷◌, ◌==◌, [], OnOk, ℕ, bit_and, bit_or, if◌then◌else◌};
 ghost use Rattle.std.specs.List.{flat_map};
-ghost use Rattle.jm_disassembler.specs.Flags.{class_flags_said, class_note, class_note_words, class_rows, interface_rows, lacking_text, member_note, member_rows, member_wordless_rows, flags_text, flags_said, silent_row, wordless_rows, wordless_text};
+ghost use Rattle.jm_disassembler.specs.Flags.{class_flags_said, class_note, class_rows, flags_said, flags_text, interface_rows, member_note, member_rows, wordless_rows, wordless_text};
 
 use jm_program::AccessFlags;
 use std::alloc::AllocError;
@@ -26,46 +26,29 @@ fn write_flag(out: &mut String, bits: u16, mask: u16, word: &str) -> Result<(), 
     Ok(())
 }
 
-// Whether the words of a class beside ACC_SUPER say all of the flags.
-fn plain_flags_said(bits: u16) -> bool
-    ensures { result ≡ flags_said 0x0020 bits class_rows }
-{
-    let all = 0x0020;
-    let all = with_flag(all, bits, 0x0001);
-    let all = with_flag(all, bits, 0x0002);
-    let all = with_flag(all, bits, 0x0004);
-    let all = with_flag(all, bits, 0x0008);
-    let all = with_flag(all, bits, 0x0010);
-    let all = with_flag(all, bits, 0x0040);
-    let all = with_flag(all, bits, 0x0080);
-    let all = with_flag(all, bits, 0x0400);
-    all == bits
-}
-
-// Whether the words of an interface beside ACC_INTERFACE and ACC_ABSTRACT say all of the flags.
-fn interface_flags_said(bits: u16) -> bool
-    ensures { result ≡ flags_said 0x0600 bits interface_rows }
-{
-    let all = 0x0600;
-    let all = with_flag(all, bits, 0x0001);
-    let all = with_flag(all, bits, 0x0002);
-    let all = with_flag(all, bits, 0x0004);
-    let all = with_flag(all, bits, 0x0008);
-    let all = with_flag(all, bits, 0x0010);
-    let all = with_flag(all, bits, 0x0020);
-    let all = with_flag(all, bits, 0x0040);
-    let all = with_flag(all, bits, 0x0080);
-    all == bits
-}
-
-/// Whether the words of a class's flags say them all.
+/// Whether the words of a class's flags say them all: of a class beside ACC_SUPER, of an interface
+/// beside ACC_INTERFACE and ACC_ABSTRACT.
 pub fn class_flags_said(flags: AccessFlags) -> bool
     ensures { result ≡ class_flags_said flags }
 {
-    if flags.has(AccessFlags::INTERFACE) {
-        interface_flags_said(flags.bits)
+    let bits = flags.bits;
+    let is_interface = flags.has(AccessFlags::INTERFACE);
+    let all = if is_interface { 0x0600 } else { 0x0020 };
+    let all = with_flag(all, bits, 0x0001);
+    let all = with_flag(all, bits, 0x0002);
+    let all = with_flag(all, bits, 0x0004);
+    let all = with_flag(all, bits, 0x0008);
+    let all = with_flag(all, bits, 0x0010);
+    if is_interface {
+        let all = with_flag(all, bits, 0x0020);
+        let all = with_flag(all, bits, 0x0040);
+        let all = with_flag(all, bits, 0x0080);
+        all == bits
     } else {
-        plain_flags_said(flags.bits)
+        let all = with_flag(all, bits, 0x0040);
+        let all = with_flag(all, bits, 0x0080);
+        let all = with_flag(all, bits, 0x0400);
+        all == bits
     }
 }
 
@@ -73,8 +56,7 @@ pub fn class_flags_said(flags: AccessFlags) -> bool
 pub fn member_flags_said(bits: u16) -> bool
     ensures { result ≡ flags_said 0 bits member_rows }
 {
-    let all = 0;
-    let all = with_flag(all, bits, 0x0001);
+    let all = with_flag(0, bits, 0x0001);
     let all = with_flag(all, bits, 0x0002);
     let all = with_flag(all, bits, 0x0004);
     let all = with_flag(all, bits, 0x0008);
@@ -158,44 +140,6 @@ fn write_wordless_flags(out: &mut String, bits: u16) -> Result<(), AllocError>
     Ok(())
 }
 
-// Writes that a flag is not set, where it is not.
-fn write_lacking_flag(out: &mut String, bits: u16, mask: u16, word: &str) -> Result<(), AllocError>
-    ensures { OnOk result (out.new.bytes.items ≡ out.old.bytes.items ++ (if bit_and bits mask == mask then [] else codes " not " ++ word.now)) }
-{
-    if bits & mask != mask {
-        out.push_str(" not ")?;
-        out.push_str(word)?;
-    }
-    Ok(())
-}
-
-// Writes that the flag which `.class` or `.interface` says is not set, where it is not.
-fn write_silent_flag(out: &mut String, flags: AccessFlags) -> Result<(), AllocError>
-    ensures { OnOk result (out.new.bytes.items ≡ out.old.bytes.items ++ lacking_text flags.bits (silent_row flags)) }
-{
-    if flags.has(AccessFlags::INTERFACE) {
-        write_lacking_flag(out, flags.bits, 0x0400, "abstract")
-    } else {
-        write_lacking_flag(out, flags.bits, 0x0020, "super")
-    }
-}
-
-// Writes what no word says of the flags of a class.
-fn write_class_words(out: &mut String, flags: AccessFlags) -> Result<(), AllocError>
-    ensures { OnOk result (out.new.bytes.items ≡ out.old.bytes.items ++ class_note_words flags) }
-{
-    write_silent_flag(out, flags)?;
-    write_wordless_flags(out, flags.bits)
-}
-
-fn write_class_comment(out: &mut String, flags: AccessFlags) -> Result<(), AllocError>
-    ensures { OnOk result (out.new.bytes.items ≡ out.old.bytes.items ++ (codes "  ;" ++ (class_note_words flags ++ codes "\n"))) }
-{
-    out.push_str("  ;")?;
-    write_class_words(out, flags)?;
-    out.push_str("\n")
-}
-
 /// Writes the end of the line of a class, and before it, where comments are wanted, the flags that
 /// no word says. After an error some of it may stand there.
 pub fn write_class_note(
@@ -205,26 +149,18 @@ pub fn write_class_note(
 ) -> Result<(), AllocError>
     ensures { OnOk result (out.new.bytes.items ≡ out.old.bytes.items ++ class_note commented flags) }
 {
-    if commented && !class_flags_said(flags) {
-        write_class_comment(out, flags)
-    } else {
-        out.push_str("\n")
+    if !commented || class_flags_said(flags) {
+        return out.push_str("\n");
     }
-}
-
-// Writes what no word says of the flags of a field or a method.
-fn write_member_words(out: &mut String, bits: u16) -> Result<(), AllocError>
-    ensures { OnOk result (out.new.bytes.items ≡ out.old.bytes.items ++ flat_map (wordless_text bits) member_wordless_rows) }
-{
-    write_wordless_flag(out, bits, 0x0200, "interface")?;
-    write_wordless_flags(out, bits)
-}
-
-fn write_member_comment(out: &mut String, bits: u16) -> Result<(), AllocError>
-    ensures { OnOk result (out.new.bytes.items ≡ out.old.bytes.items ++ (codes "  ;" ++ (flat_map (wordless_text bits) member_wordless_rows ++ codes "\n"))) }
-{
     out.push_str("  ;")?;
-    write_member_words(out, bits)?;
+    if flags.has(AccessFlags::INTERFACE) {
+        if flags.bits & 0x0400 != 0x0400 {
+            out.push_str(" not abstract")?;
+        }
+    } else if flags.bits & 0x0020 != 0x0020 {
+        out.push_str(" not super")?;
+    }
+    write_wordless_flags(out, flags.bits)?;
     out.push_str("\n")
 }
 
@@ -233,9 +169,11 @@ fn write_member_comment(out: &mut String, bits: u16) -> Result<(), AllocError>
 pub fn write_member_note(out: &mut String, commented: bool, bits: u16) -> Result<(), AllocError>
     ensures { OnOk result (out.new.bytes.items ≡ out.old.bytes.items ++ member_note commented bits) }
 {
-    if commented && !member_flags_said(bits) {
-        write_member_comment(out, bits)
-    } else {
-        out.push_str("\n")
+    if !commented || member_flags_said(bits) {
+        return out.push_str("\n");
     }
+    out.push_str("  ;")?;
+    write_wordless_flag(out, bits, 0x0200, "interface")?;
+    write_wordless_flags(out, bits)?;
+    out.push_str("\n")
 }

@@ -1,6 +1,6 @@
 // The lines before the fields (Jasmin User Guide, "Jasmin Assembler Directives").
 
-ghost use Rattle.std.specs.Prelude.{◌≡◌, ◌<◌, ◌^◌, ◌++◌, OnOk, IfOk, Option, codes};
+ghost use Rattle.std.specs.Prelude.{◌≡◌, ◌++◌, OnOk, codes};
 ghost use Rattle.jm_disassembler.specs.Flags.{class_rows, interface_rows, flags_text};
 ghost use Rattle.std.specs.List.{flat_map};
 ghost use Rattle.jm_disassembler.specs.Texts.{version_text, source_text, declaration_front, declaration_text, super_text, implements_text};
@@ -86,14 +86,6 @@ pub fn write_declaration(
     write_class_note(out, commented, class.flags)
 }
 
-// A name of the same code units.
-fn name_of(alloc: Global, units: &[u16]) -> Result<Name, AllocError>
-    ensures { IfOk result (λ name. name ≡ units.now) }
-{
-    let units = Vec::from_slice(alloc, units)?;
-    Ok(Name::new(units))
-}
-
 /// Writes `.source`, where the class has one.
 pub fn write_source(
     alloc: Global,
@@ -105,7 +97,7 @@ pub fn write_source(
     match source {
         None => Ok(()),
         Some(units) => {
-            let name = name_of(alloc, units.as_slice())?;
+            let name = Name::new(Vec::from_slice(alloc, units.as_slice())?);
             write!(out, ".source {name}\n")
         }
     }

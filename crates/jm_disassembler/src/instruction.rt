@@ -1,15 +1,13 @@
 // The lines of an instruction, its operands in one column (Jasmin User Guide, "Instructions").
 
 ghost use Rattle.std.specs.Prelude.{◌≡◌, ◌+◌, ◌++◌, OnOk, codes, min};
-ghost use Rattle.jm_program.specs.JasminTypes.{class_line, method_ref_line};
-ghost use Rattle.jm_program.specs.JasminInstructions.{dimensions_line};
-ghost use Rattle.jm_program.specs.declared.instruction.operation.Branch.TheVariants.{If, IfInts};
 ghost use Rattle.std.specs.List.{flat_map};
 ghost use Rattle.std.specs.Fmt.{signed_decimal};
 ghost use Rattle.jm_program.specs.Descriptors.{argument_slots};
-ghost use Rattle.jm_program.specs.JasminUnits.{string_text};
-ghost use Rattle.jm_program.specs.Mnemonics.{operand_letter, branch_mnemonic, field_mnemonic, invoke_mnemonic, type_mnemonic};
-ghost use Rattle.jm_disassembler.specs.Instructions.{front, target_row, default_row, pair_row, table_rows, lookup_rows, plain_text, array_text, constant_text, count_text, instr_text, rows_text};
+ghost use Rattle.jm_program.specs.JasminTypes.{class_line, method_ref_line};
+ghost use Rattle.jm_program.specs.JasminInstructions.{dimensions_line};
+ghost use Rattle.jm_program.specs.Mnemonics.{branch_mnemonic, field_mnemonic, invoke_mnemonic, type_mnemonic};
+ghost use Rattle.jm_disassembler.specs.Instructions.{front, target_row, pair_row, table_rows, lookup_rows, plain_text, constant_text, count_text, instr_text, rows_text};
 
 use crate::string::write_string;
 use jm_program::{
@@ -21,63 +19,23 @@ use std::fmt::Write;
 
 // ---- mnemonics, with blanks up to the column of the operands
 
-#[tactic(auto, unfolding(jm_program::specs::Mnemonics::operand_letter))]
-fn load_front(kind: OperandType) -> &'static str
-    ensures { result.now ≡ front (operand_letter kind ++ codes "load") }
-{
-    match kind {
-        OperandType::Int => "iload           ",
-        OperandType::Long => "lload           ",
-        OperandType::Reference => "aload           ",
-    }
-}
-
-#[tactic(auto, unfolding(jm_program::specs::Mnemonics::operand_letter))]
-fn store_front(kind: OperandType) -> &'static str
-    ensures { result.now ≡ front (operand_letter kind ++ codes "store") }
-{
-    match kind {
-        OperandType::Int => "istore          ",
-        OperandType::Long => "lstore          ",
-        OperandType::Reference => "astore          ",
-    }
-}
-
-#[tactic(auto, unfolding(jm_program::specs::Mnemonics::branch_mnemonic, jm_program::specs::Mnemonics::comparison_name))]
-fn if_front(comparison: Comparison) -> &'static str
-    ensures { result.now ≡ front (branch_mnemonic (If comparison)) }
-{
-    match comparison {
-        Comparison::Equal => "ifeq            ",
-        Comparison::NotEqual => "ifne            ",
-        Comparison::Less => "iflt            ",
-        Comparison::GreaterOrEqual => "ifge            ",
-        Comparison::Greater => "ifgt            ",
-        Comparison::LessOrEqual => "ifle            ",
-    }
-}
-
-#[tactic(auto, unfolding(jm_program::specs::Mnemonics::branch_mnemonic, jm_program::specs::Mnemonics::comparison_name))]
-fn if_ints_front(comparison: Comparison) -> &'static str
-    ensures { result.now ≡ front (branch_mnemonic (IfInts comparison)) }
-{
-    match comparison {
-        Comparison::Equal => "if_icmpeq       ",
-        Comparison::NotEqual => "if_icmpne       ",
-        Comparison::Less => "if_icmplt       ",
-        Comparison::GreaterOrEqual => "if_icmpge       ",
-        Comparison::Greater => "if_icmpgt       ",
-        Comparison::LessOrEqual => "if_icmple       ",
-    }
-}
-
-#[tactic(auto, unfolding(jm_program::specs::Mnemonics::branch_mnemonic, jm_program::specs::Mnemonics::equality_name, jm_program::specs::Mnemonics::null_mnemonic))]
+#[tactic(auto, unfolding(jm_program::specs::Mnemonics::branch_mnemonic, jm_program::specs::Mnemonics::comparison_name, jm_program::specs::Mnemonics::equality_name, jm_program::specs::Mnemonics::null_mnemonic))]
 fn branch_front(op: Branch) -> &'static str
     ensures { result.now ≡ front (branch_mnemonic op) }
 {
     match op {
-        Branch::If(comparison) => if_front(comparison),
-        Branch::IfInts(comparison) => if_ints_front(comparison),
+        Branch::If(Comparison::Equal) => "ifeq            ",
+        Branch::If(Comparison::NotEqual) => "ifne            ",
+        Branch::If(Comparison::Less) => "iflt            ",
+        Branch::If(Comparison::GreaterOrEqual) => "ifge            ",
+        Branch::If(Comparison::Greater) => "ifgt            ",
+        Branch::If(Comparison::LessOrEqual) => "ifle            ",
+        Branch::IfInts(Comparison::Equal) => "if_icmpeq       ",
+        Branch::IfInts(Comparison::NotEqual) => "if_icmpne       ",
+        Branch::IfInts(Comparison::Less) => "if_icmplt       ",
+        Branch::IfInts(Comparison::GreaterOrEqual) => "if_icmpge       ",
+        Branch::IfInts(Comparison::Greater) => "if_icmpgt       ",
+        Branch::IfInts(Comparison::LessOrEqual) => "if_icmple       ",
         Branch::IfReferences(Equality::Equal) => "if_acmpeq       ",
         Branch::IfReferences(Equality::NotEqual) => "if_acmpne       ",
         Branch::IfNull(Equality::Equal) => "ifnull          ",
@@ -111,18 +69,6 @@ fn invoke_front(op: InvokeOp) -> &'static str
     }
 }
 
-#[tactic(auto, unfolding(jm_program::specs::Mnemonics::type_mnemonic))]
-fn type_front(op: TypeOp) -> &'static str
-    ensures { result.now ≡ front (type_mnemonic op) }
-{
-    match op {
-        TypeOp::NewArray => "anewarray       ",
-        TypeOp::NewArrays(_) => "multianewarray  ",
-        TypeOp::CheckCast => "checkcast       ",
-        TypeOp::InstanceOf => "instanceof      ",
-    }
-}
-
 // ---- the first line
 
 fn write_low(out: &mut String, low: &i32) -> Result<(), AllocError>
@@ -131,7 +77,7 @@ fn write_low(out: &mut String, low: &i32) -> Result<(), AllocError>
     write!(out, "tableswitch     {low}")
 }
 
-#[tactic(auto, unfolding(crate::specs::Instructions::plain_text))]
+#[tactic(auto, unfolding(crate::specs::Instructions::plain_text, jm_program::specs::Mnemonics::operand_letter))]
 fn write_plain(out: &mut String, plain: &Plain) -> Result<(), AllocError>
     ensures { OnOk result (out.new.bytes.items ≡ out.old.bytes.items ++ plain_text plain.now) }
 {
@@ -139,14 +85,12 @@ fn write_plain(out: &mut String, plain: &Plain) -> Result<(), AllocError>
         Plain::Simple(simple) => write!(out, "{simple}"),
         Plain::PushByte(number) => write!(out, "bipush          {number}"),
         Plain::PushShort(number) => write!(out, "sipush          {number}"),
-        Plain::Load(kind, local) => {
-            let front = load_front(*kind);
-            write!(out, "{front}{local}")
-        }
-        Plain::Store(kind, local) => {
-            let front = store_front(*kind);
-            write!(out, "{front}{local}")
-        }
+        Plain::Load(OperandType::Int, local) => write!(out, "iload           {local}"),
+        Plain::Load(OperandType::Long, local) => write!(out, "lload           {local}"),
+        Plain::Load(OperandType::Reference, local) => write!(out, "aload           {local}"),
+        Plain::Store(OperandType::Int, local) => write!(out, "istore          {local}"),
+        Plain::Store(OperandType::Long, local) => write!(out, "lstore          {local}"),
+        Plain::Store(OperandType::Reference, local) => write!(out, "astore          {local}"),
         Plain::Increment(local, by) => write!(out, "iinc            {local} {by}"),
         Plain::Branch(op, target) => {
             let front = branch_front(*op);
@@ -157,24 +101,6 @@ fn write_plain(out: &mut String, plain: &Plain) -> Result<(), AllocError>
     }
 }
 
-#[tactic(auto, unfolding(crate::specs::Instructions::array_text))]
-fn write_array(out: &mut String, op: ArrayOp) -> Result<(), AllocError>
-    ensures { OnOk result (out.new.bytes.items ≡ out.old.bytes.items ++ array_text op) }
-{
-    match op {
-        ArrayOp::New(element) => write!(out, "newarray        {element}"),
-        _ => write!(out, "{op}"),
-    }
-}
-
-fn write_literal(out: &mut String, units: &[u16]) -> Result<(), AllocError>
-    ensures { OnOk result (out.new.bytes.items ≡ out.old.bytes.items ++ (front (codes "ldc") ++ (codes "\"" ++ (string_text units.now ++ codes "\"")))) }
-{
-    out.push_str("ldc             \"")?;
-    write_string(out, units)?;
-    out.push_str("\"")
-}
-
 #[tactic(auto, unfolding(crate::specs::Instructions::constant_text))]
 fn write_constant(out: &mut String, constant: &Constant) -> Result<(), AllocError>
     ensures { OnOk result (out.new.bytes.items ≡ out.old.bytes.items ++ constant_text constant.now) }
@@ -182,11 +108,13 @@ fn write_constant(out: &mut String, constant: &Constant) -> Result<(), AllocErro
     match constant {
         Constant::Int(number) => write!(out, "ldc             {number}"),
         Constant::Long(number) => write!(out, "ldc2_w          {number}"),
-        Constant::String(units) => write_literal(out, units.get().as_slice()),
+        Constant::String(units) => {
+            out.push_str("ldc             \"")?;
+            write_string(out, units.get().as_slice())?;
+            out.push_str("\"")
+        }
     }
 }
-
-// ---- references
 
 // The argument slots with the receiver's, or 256 for more than 255.
 fn slots_with_receiver(descriptor: &MethodDescriptor) -> u16
@@ -198,11 +126,13 @@ fn slots_with_receiver(descriptor: &MethodDescriptor) -> u16
     }
 }
 
-// What `invokeinterface` counts: the argument slots and the receiver's.
+// `invokeinterface` counts the argument slots and the receiver's.
 #[tactic(auto, unfolding(crate::specs::Instructions::count_text))]
-fn write_count(out: &mut String, op: InvokeOp, method: &MethodRef) -> Result<(), AllocError>
-    ensures { OnOk result (out.new.bytes.items ≡ out.old.bytes.items ++ count_text op method.now) }
+fn write_invoke(out: &mut String, op: InvokeOp, method: &MethodRef) -> Result<(), AllocError>
+    ensures { OnOk result (out.new.bytes.items ≡ out.old.bytes.items ++ (front (invoke_mnemonic op) ++ (method_ref_line method.now ++ count_text op method.now))) }
 {
+    let front = invoke_front(op);
+    write!(out, "{front}{method}")?;
     match op {
         InvokeOp::Interface => {
             let slots = slots_with_receiver(&method.descriptor);
@@ -212,44 +142,31 @@ fn write_count(out: &mut String, op: InvokeOp, method: &MethodRef) -> Result<(),
     }
 }
 
-fn write_invoke(out: &mut String, op: InvokeOp, method: &MethodRef) -> Result<(), AllocError>
-    ensures { OnOk result (out.new.bytes.items ≡ out.old.bytes.items ++ (front (invoke_mnemonic op) ++ (method_ref_line method.now ++ count_text op method.now))) }
-{
-    let front = invoke_front(op);
-    write!(out, "{front}{method}")?;
-    write_count(out, op, method)
-}
-
-// In how many dimensions `multianewarray` makes arrays.
-#[tactic(auto, unfolding(jm_program::specs::JasminInstructions::dimensions_line))]
-fn write_dimensions(out: &mut String, op: TypeOp) -> Result<(), AllocError>
-    ensures { OnOk result (out.new.bytes.items ≡ out.old.bytes.items ++ dimensions_line op) }
-{
-    match op {
-        TypeOp::NewArrays(dimensions) => write!(out, " {dimensions}"),
-        _ => Ok(()),
-    }
-}
-
+// `multianewarray` says in how many dimensions it makes arrays.
+#[tactic(auto, unfolding(jm_program::specs::Mnemonics::type_mnemonic, jm_program::specs::JasminInstructions::dimensions_line))]
 fn write_type(out: &mut String, op: TypeOp, class: &ClassRef) -> Result<(), AllocError>
     ensures { OnOk result (out.new.bytes.items ≡ out.old.bytes.items ++ (front (type_mnemonic op) ++ (class_line class.now ++ dimensions_line op))) }
 {
-    let front = type_front(op);
-    write!(out, "{front}{class}")?;
-    write_dimensions(out, op)
+    match op {
+        TypeOp::NewArray => write!(out, "anewarray       {class}"),
+        TypeOp::NewArrays(dimensions) => write!(out, "multianewarray  {class} {dimensions}"),
+        TypeOp::CheckCast => write!(out, "checkcast       {class}"),
+        TypeOp::InstanceOf => write!(out, "instanceof      {class}"),
+    }
 }
 
 // ---- the instruction
 
 /// Writes the first line of an instruction up to its end. After an error some of it may stand
 /// there.
-#[tactic(auto, unfolding(crate::specs::Instructions::instr_text))]
+#[tactic(auto, unfolding(crate::specs::Instructions::instr_text, crate::specs::Instructions::array_text))]
 pub fn write_instruction(out: &mut String, instruction: &Instr) -> Result<(), AllocError>
     ensures { OnOk result (out.new.bytes.items ≡ out.old.bytes.items ++ instr_text instruction.now) }
 {
     match instruction {
         Instr::Plain(plain) => write_plain(out, plain),
-        Instr::Array(op) => write_array(out, *op),
+        Instr::Array(ArrayOp::New(element)) => write!(out, "newarray        {element}"),
+        Instr::Array(op) => write!(out, "{op}"),
         Instr::Return(op) => write!(out, "{op}"),
         Instr::Throw => out.push_str("athrow"),
         Instr::Monitor(op) => write!(out, "{op}"),
@@ -264,67 +181,50 @@ pub fn write_instruction(out: &mut String, instruction: &Instr) -> Result<(), Al
             let name = name.get();
             write!(out, "new             {name}")
         }
-        Instr::Type(op, class) => { write_type(out, *op, class.get()) }
+        Instr::Type(op, class) => write_type(out, *op, class.get()),
     }
 }
 
 // ---- the lines below a switch
 
 #[tactic(auto, unfolding(crate::specs::Instructions::target_row))]
-fn write_target(out: &mut String, target: u32) -> Result<(), AllocError>
-    ensures { OnOk result (out.new.bytes.items ≡ out.old.bytes.items ++ target_row target) }
-{
-    write!(out, "    L{target}\n")
-}
-
-#[tactic(auto, unfolding(crate::specs::Instructions::default_row))]
-fn write_default(out: &mut String, target: u32) -> Result<(), AllocError>
-    ensures { OnOk result (out.new.bytes.items ≡ out.old.bytes.items ++ default_row target) }
-{
-    write!(out, "    default : L{target}\n")
-}
-
-#[tactic(auto, unfolding(crate::specs::Instructions::pair_row))]
-fn write_pair(out: &mut String, pair: &SwitchPair) -> Result<(), AllocError>
-    ensures { OnOk result (out.new.bytes.items ≡ out.old.bytes.items ++ pair_row pair.now) }
-{
-    let key = pair.key;
-    let target = pair.target;
-    write!(out, "    {key} : L{target}\n")
-}
-
 fn write_targets(out: &mut String, targets: &[u32]) -> Result<(), AllocError>
     ensures { OnOk result (out.new.bytes.items ≡ out.old.bytes.items ++ flat_map target_row targets.now) }
 {
     for target in targets {
-        write_target(out, *target)?;
+        write!(out, "    L{target}\n")?;
     }
     Ok(())
 }
 
+#[tactic(auto, unfolding(crate::specs::Instructions::pair_row))]
 fn write_pairs(out: &mut String, pairs: &[SwitchPair]) -> Result<(), AllocError>
     ensures { OnOk result (out.new.bytes.items ≡ out.old.bytes.items ++ flat_map pair_row pairs.now) }
 {
     for pair in pairs {
-        write_pair(out, pair)?;
+        let key = pair.key;
+        let target = pair.target;
+        write!(out, "    {key} : L{target}\n")?;
     }
     Ok(())
 }
 
-#[tactic(auto, unfolding(crate::specs::Instructions::table_rows))]
+#[tactic(auto, unfolding(crate::specs::Instructions::table_rows, crate::specs::Instructions::default_row))]
 fn write_table(out: &mut String, table: &TableSwitch) -> Result<(), AllocError>
     ensures { OnOk result (out.new.bytes.items ≡ out.old.bytes.items ++ table_rows table.now) }
 {
     write_targets(out, table.targets.as_slice())?;
-    write_default(out, table.default)
+    let default = table.default;
+    write!(out, "    default : L{default}\n")
 }
 
-#[tactic(auto, unfolding(crate::specs::Instructions::lookup_rows))]
+#[tactic(auto, unfolding(crate::specs::Instructions::lookup_rows, crate::specs::Instructions::default_row))]
 fn write_lookup(out: &mut String, lookup: &LookupSwitch) -> Result<(), AllocError>
     ensures { OnOk result (out.new.bytes.items ≡ out.old.bytes.items ++ lookup_rows lookup.now) }
 {
     write_pairs(out, lookup.pairs.as_slice())?;
-    write_default(out, lookup.default)
+    let target = lookup.default;
+    write!(out, "    default : L{target}\n")
 }
 
 /// Writes the lines of a switch below its first one; no other instruction has any. After an error

@@ -2,9 +2,9 @@
 
 ghost use Rattle.std.specs.Prelude.{◌≡◌, ◌++◌, ◌∷◌, [], OnOk, IfOk, List, ℕ};
 ghost use Rattle.std.specs.List.{flat_map};
-ghost use Rattle.jm_disassembler.specs.Labels.{pair_targets, plain_targets, instr_targets, handler_places, marked, marks_of, is_marked};
+ghost use Rattle.jm_disassembler.specs.Labels.{instr_targets, handler_places, marked, marks_of, is_marked};
 
-use jm_program::{Code, Handler, Instr, Plain, SwitchPair};
+use jm_program::{Code, Handler, Instr, Plain};
 use std::alloc::{AllocError, Global};
 
 // Marks a place, where there is a mark for it.
@@ -17,22 +17,6 @@ fn mark(marks: &mut [bool], place: u32)
     }
 }
 
-fn mark_all(marks: &mut [bool], places: &[u32])
-    ensures { marks.new ≡ marked marks.old places.now }
-{
-    for place in places {
-        mark(marks, *place);
-    }
-}
-
-fn mark_pairs(marks: &mut [bool], pairs: &[SwitchPair])
-    ensures { marks.new ≡ marked marks.old (pair_targets pairs.now) }
-{
-    for pair in pairs {
-        mark(marks, pair.target);
-    }
-}
-
 fn mark_targets(marks: &mut [bool], instruction: &Instr)
     ensures { marks.new ≡ marked marks.old (instr_targets instruction.now) }
 {
@@ -41,23 +25,21 @@ fn mark_targets(marks: &mut [bool], instruction: &Instr)
         Instr::Plain(Plain::TableSwitch(table)) => {
             let table = table.get();
             mark(marks, table.default);
-            mark_all(marks, table.targets.as_slice());
+            let targets = table.targets.as_slice();
+            for target in targets {
+                mark(marks, *target);
+            }
         }
         Instr::Plain(Plain::LookupSwitch(lookup)) => {
             let lookup = lookup.get();
             mark(marks, lookup.default);
-            mark_pairs(marks, lookup.pairs.as_slice());
+            let pairs = lookup.pairs.as_slice();
+            for pair in pairs {
+                mark(marks, pair.target);
+            }
         }
         _ => {}
     }
-}
-
-fn mark_handler(marks: &mut [bool], handler: &Handler)
-    ensures { marks.new ≡ marked marks.old (handler_places handler.now) }
-{
-    mark(marks, handler.start);
-    mark(marks, handler.end);
-    mark(marks, handler.target);
 }
 
 fn mark_instructions(marks: &mut [bool], instructions: &[Instr])
@@ -72,7 +54,9 @@ fn mark_handlers(marks: &mut [bool], handlers: &[Handler])
     ensures { marks.new ≡ marked marks.old (flat_map handler_places handlers.now) }
 {
     for handler in handlers {
-        mark_handler(marks, handler);
+        mark(marks, handler.start);
+        mark(marks, handler.end);
+        mark(marks, handler.target);
     }
 }
 

@@ -1,9 +1,8 @@
 // The lines of fields and methods (Jasmin User Guide, "Field Definitions", "Method Definitions").
 
-ghost use Rattle.std.specs.Prelude.{◌≡◌, ◌++◌, OnOk, Option, codes};
-ghost use Rattle.jm_program.specs.JasminUnits.{string_text};
+ghost use Rattle.std.specs.Prelude.{◌≡◌, ◌++◌, OnOk};
 ghost use Rattle.std.specs.List.{flat_map};
-ghost use Rattle.jm_disassembler.specs.Members.{constant_value, value_text, field_text, body_of, method_text};
+ghost use Rattle.jm_disassembler.specs.Members.{value_text, body_of, method_text};
 ghost use Rattle.jm_disassembler.specs.Texts.{marked_field, fields_text, marked_method};
 
 use crate::body::write_code;
@@ -16,14 +15,6 @@ use std::fmt::Write;
 
 // ---- fields
 
-fn write_literal(out: &mut String, units: &[u16]) -> Result<(), AllocError>
-    ensures { OnOk result (out.new.bytes.items ≡ out.old.bytes.items ++ (codes " = " ++ (codes "\"" ++ (string_text units.now ++ codes "\"")))) }
-{
-    out.push_str(" = \"")?;
-    write_string(out, units)?;
-    out.push_str("\"")
-}
-
 fn write_value(out: &mut String, value: &Option<Constant>) -> Result<(), AllocError>
     ensures { OnOk result (out.new.bytes.items ≡ out.old.bytes.items ++ value_text value.now) }
 {
@@ -31,39 +22,28 @@ fn write_value(out: &mut String, value: &Option<Constant>) -> Result<(), AllocEr
         None => Ok(()),
         Some(Constant::Int(number)) => write!(out, " = {number}"),
         Some(Constant::Long(number)) => write!(out, " = {number}"),
-        Some(Constant::String(units)) => write_literal(out, units.get().as_slice()),
+        Some(Constant::String(units)) => {
+            out.push_str(" = \"")?;
+            write_string(out, units.get().as_slice())?;
+            out.push_str("\"")
+        }
     }
 }
 
-#[tactic(auto, unfolding(crate::specs::Members::field_text))]
+// Writes the line of a field, behind that of its mark, if it has one.
+#[tactic(auto, unfolding(crate::specs::Texts::marked_field, crate::specs::Members::field_text))]
 fn write_field(out: &mut String, commented: bool, field: &Field) -> Result<(), AllocError>
-    ensures { OnOk result (out.new.bytes.items ≡ out.old.bytes.items ++ field_text commented field.now) }
+    ensures { OnOk result (out.new.bytes.items ≡ out.old.bytes.items ++ marked_field commented field.now) }
 {
     let bits = field.flags.bits;
     let name = &field.name;
     let descriptor = &field.descriptor;
+    write_field_mark(out, field)?;
     out.push_str(".field ")?;
     write_member_flags(out, bits)?;
     write!(out, "{name} {descriptor}")?;
     write_value(out, &field.constant)?;
     write_member_note(out, commented, bits)
-}
-
-#[tactic(auto, unfolding(crate::specs::Texts::marked_field))]
-fn write_marked_field(out: &mut String, commented: bool, field: &Field) -> Result<(), AllocError>
-    ensures { OnOk result (out.new.bytes.items ≡ out.old.bytes.items ++ marked_field commented field.now) }
-{
-    write_field_mark(out, field)?;
-    write_field(out, commented, field)
-}
-
-fn write_more_fields(out: &mut String, commented: bool, fields: &[Field]) -> Result<(), AllocError>
-    ensures { OnOk result (out.new.bytes.items ≡ out.old.bytes.items ++ flat_map (marked_field commented) fields.now) }
-{
-    for field in fields {
-        write_marked_field(out, commented, field)?;
-    }
-    Ok(())
 }
 
 /// Writes the lines of fields, each behind that of its mark, if it has one, and an empty line before
@@ -75,8 +55,11 @@ pub fn write_fields(out: &mut String, commented: bool, fields: &[Field]) -> Resu
         return Ok(());
     };
     out.push_str("\n")?;
-    write_marked_field(out, commented, first)?;
-    write_more_fields(out, commented, others)
+    write_field(out, commented, first)?;
+    for field in others {
+        write_field(out, commented, field)?;
+    }
+    Ok(())
 }
 
 // ---- methods

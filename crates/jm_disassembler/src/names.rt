@@ -2,7 +2,7 @@
 
 ghost use Rattle.std.specs.Prelude.{◌≡◌};
 ghost use Rattle.std.specs.List.{list_all};
-ghost use Rattle.jm_disassembler.specs.Names.{is_plain_unit, is_plain, begins_with_quote, is_sayable, is_plain_type, is_plain_return, is_plain_method_type, is_sayable_class};
+ghost use Rattle.jm_disassembler.specs.Names.{is_plain, is_sayable, is_plain_type, is_plain_return, is_plain_method_type, is_sayable_class};
 
 use jm_program::{
     ClassRef, ElementType, FieldType, MethodDescriptor, is_high_surrogate, is_low_surrogate,
@@ -18,18 +18,6 @@ const BACKSLASH: u16 = 92;
 
 const DELETE: u16 = 127;
 
-// Whether a code unit that is no first half of a pair stands for itself.
-fn is_plain_unit(unit: u16) -> bool
-    ensures { result ≡ is_plain_unit unit }
-{
-    !(unit <= BLANK
-        || unit == SEMICOLON
-        || unit == BACKSLASH
-        || unit == DELETE
-        || is_high_surrogate(unit)
-        || is_low_surrogate(unit))
-}
-
 /// Whether a word can spell the code units.
 pub fn is_plain(units: &[u16]) -> bool
     ensures { result ≡ is_plain units.now }
@@ -43,27 +31,23 @@ pub fn is_plain(units: &[u16]) -> bool
             waiting = false;
         } else if is_high_surrogate(*unit) {
             waiting = true;
-        } else if !is_plain_unit(*unit) {
+        } else if *unit <= BLANK
+            || *unit == SEMICOLON
+            || *unit == BACKSLASH
+            || *unit == DELETE
+            || is_low_surrogate(*unit)
+        {
             return false;
         }
     }
     !waiting
 }
 
-fn begins_with_quote(units: &[u16]) -> bool
-    ensures { result ≡ begins_with_quote units.now }
-{
-    match units.first() {
-        None => false,
-        Some(unit) => *unit == QUOTE,
-    }
-}
-
 /// Whether a word can be that name.
 pub fn is_sayable(units: &[u16]) -> bool
     ensures { result ≡ is_sayable units.now }
 {
-    !begins_with_quote(units) && is_plain(units)
+    units.first() != Some(&QUOTE) && is_plain(units)
 }
 
 /// Whether a word can spell the type.

@@ -3,7 +3,7 @@
 ghost use Rattle.std.specs.Prelude.{◌≡◌, pos, negsuc};
 ghost use Rattle.std.specs.List.{list_all};
 ghost use Rattle.jm_disassembler.specs.Names.{is_unit};
-ghost use Rattle.jm_disassembler.specs.Said.{no_parenthesis, is_no_parenthesis, element_no_parenthesis, class_no_parenthesis, field_ref_said, method_ref_said, key_said, is_within, is_int, is_long, is_short, plain_said, constant_said, instr_said};
+ghost use Rattle.jm_disassembler.specs.Said.{no_parenthesis, class_no_parenthesis, field_ref_said, method_ref_said, key_said, is_within, is_int, is_long, is_short, plain_said, constant_said, instr_said};
 
 use crate::names::{is_plain, is_plain_method_type, is_plain_type, is_sayable, is_sayable_class};
 use jm_program::{ClassRef, Constant, ElementType, FieldRef, Instr, MethodRef, Plain, SwitchPair};
@@ -17,21 +17,15 @@ pub fn no_parenthesis(units: &[u16]) -> bool
     units.iter().all(|unit| *unit != PARENTHESIS)
 }
 
-fn element_no_parenthesis(element: &ElementType) -> bool
-    ensures { result ≡ element_no_parenthesis element.now }
-{
-    match element {
-        ElementType::Base(_) => true,
-        ElementType::Class(name) => no_parenthesis(name.units()),
-    }
-}
-
 fn class_no_parenthesis(class: &ClassRef) -> bool
     ensures { result ≡ class_no_parenthesis class.now }
 {
     match class {
         ClassRef::Class(name) => no_parenthesis(name.units()),
-        ClassRef::Array(array) => element_no_parenthesis(&array.element),
+        ClassRef::Array(array) => match &array.element {
+            ElementType::Base(_) => true,
+            ElementType::Class(name) => no_parenthesis(name.units()),
+        },
     }
 }
 

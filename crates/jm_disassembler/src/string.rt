@@ -1,24 +1,13 @@
 // The code units of a string between its quotes (Jasmin User Guide, "Numbers and Strings").
 
 ghost use Rattle.std.specs.Prelude.{◌≡◌, ◌++◌, OnOk, IsTrue, Option, ℕ};
-ghost use Rattle.jm_program.specs.Surrogates.{is_high, is_low};
-ghost use Rattle.jm_program.specs.JasminUnits.{is_escaped, escape_text, unit_text, pair_text, lone_text, after_text, step_text, waits, string_text};
+ghost use Rattle.jm_program.specs.Surrogates.{is_high};
+ghost use Rattle.jm_program.specs.JasminUnits.{escape_text, unit_text, lone_text, step_text, waits, string_text};
 ghost use Rattle.jm_program.specs.declared.jasmin.units.Context.TheVariants.{InString};
 
 use jm_program::{is_high_surrogate, is_low_surrogate, supplementary_character};
 use std::alloc::AllocError;
 use std::fmt::Write;
-
-fn is_escaped(unit: u16) -> bool
-    ensures { result ≡ is_escaped InString unit }
-{
-    unit < 32
-        || unit == 34
-        || unit == 92
-        || unit == 127
-        || is_high_surrogate(unit)
-        || is_low_surrogate(unit)
-}
 
 #[tactic(auto, unfolding(jm_program::specs::JasminUnits::escape_text))]
 fn write_escape(out: &mut String, unit: u16) -> Result<(), AllocError>
@@ -35,22 +24,19 @@ fn write_escape(out: &mut String, unit: u16) -> Result<(), AllocError>
 fn write_unit(out: &mut String, unit: u16) -> Result<(), AllocError>
     ensures { OnOk result (out.new.bytes.items ≡ out.old.bytes.items ++ unit_text InString unit) }
 {
-    if is_escaped(unit) {
+    if unit < 32
+        || unit == 34
+        || unit == 92
+        || unit == 127
+        || is_high_surrogate(unit)
+        || is_low_surrogate(unit)
+    {
         return write_escape(out, unit);
     }
     match char::from_u32(u32::from(unit)) {
         Some(character) => out.push(character),
         None => write_escape(out, unit),
     }
-}
-
-#[tactic(auto, unfolding(jm_program::specs::JasminUnits::pair_text))]
-fn write_pair(out: &mut String, high: u16, low: u16) -> Result<(), AllocError>
-    requires high { IsTrue (is_high high) }
-    requires low { IsTrue (is_low low) }
-    ensures { OnOk result (out.new.bytes.items ≡ out.old.bytes.items ++ pair_text high low) }
-{
-    out.push(supplementary_character(high, low))
 }
 
 #[tactic(auto, unfolding(jm_program::specs::JasminUnits::lone_text))]
@@ -63,31 +49,22 @@ fn write_lone(out: &mut String, waiting: Option<u16>) -> Result<(), AllocError>
     }
 }
 
-#[tactic(auto, unfolding(jm_program::specs::JasminUnits::after_text))]
-fn write_after(out: &mut String, waiting: Option<u16>, unit: u16) -> Result<(), AllocError>
-    requires { (high : ℕ) → waiting ≡ Some high → IsTrue (is_high high) }
-    ensures { OnOk result (out.new.bytes.items ≡ out.old.bytes.items ++ after_text InString waiting unit) }
-{
-    let Some(high) = waiting else {
-        return write_unit(out, unit);
-    };
-    if is_low_surrogate(unit) {
-        return write_pair(out, high, unit);
-    }
-    write_escape(out, high)?;
-    write_unit(out, unit)
-}
-
-#[tactic(auto, unfolding(jm_program::specs::JasminUnits::step_text))]
+#[tactic(auto, unfolding(jm_program::specs::JasminUnits::step_text, jm_program::specs::JasminUnits::after_text, jm_program::specs::JasminUnits::pair_text))]
 fn write_step(out: &mut String, waiting: Option<u16>, unit: u16) -> Result<(), AllocError>
     requires { (high : ℕ) → waiting ≡ Some high → IsTrue (is_high high) }
     ensures { OnOk result (out.new.bytes.items ≡ out.old.bytes.items ++ step_text InString waiting unit) }
 {
     if is_high_surrogate(unit) {
-        write_lone(out, waiting)
-    } else {
-        write_after(out, waiting, unit)
+        return write_lone(out, waiting);
     }
+    let Some(high) = waiting else {
+        return write_unit(out, unit);
+    };
+    if is_low_surrogate(unit) {
+        return out.push(supplementary_character(high, unit));
+    }
+    write_escape(out, high)?;
+    write_unit(out, unit)
 }
 
 fn waits(unit: u16) -> Option<u16>
