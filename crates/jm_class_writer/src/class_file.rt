@@ -7,9 +7,9 @@ ghost use Rattle.jm_pool.specs.Building.{pool_bytes};
 ghost use Rattle.jm_program.specs.Fits.{method_fits, Fits};
 ghost use Rattle.jm_class_format.specs.ClassFile.{Spells, class_file};
 ghost use Rattle.jm_class_writer.specs.declared.fault.WriteFault.TheVariants.{TooMany, OutOfMemory};
-ghost use Rattle.jm_class_writer.specs.Drafts.{Leaves, all_of};
+ghost use Rattle.jm_class_writer.specs.Drafts.{Leaves};
 ghost use Rattle.jm_class_writer.specs.CodeParts.{InstructionsFit, put_name};
-ghost use Rattle.jm_class_writer.specs.ClassParts.{put_class, put_superclass, put_interfaces, put_head, put_constant, put_field_attributes, put_field, put_fields, put_method_attributes, put_method, put_methods, put_class_attributes, put_body, put_contents, put_version, written};
+ghost use Rattle.jm_class_writer.specs.ClassParts.{put_class, put_superclass, put_interfaces, put_constant, put_field_attributes, put_field, put_fields, put_method_attributes, put_method, put_methods, put_class_attributes, put_contents, put_version, written};
 ghost use Rattle.jm_class_writer.specs.Ranges.{OfSome, UnitsInRange, ConstantInRange, CodeInRange, FieldInRange, MethodInRange, InRange};
 ghost use Rattle.jm_class_writer.specs.Limits.{WithinLimits};
 
@@ -57,35 +57,16 @@ fn put_superclass(
     }
 }
 
-#[tactic(auto, using(crate::proofs::Loops::all_steps))]
-fn put_each_class(draft: &mut Draft, alloc: Global, names: &[Name]) -> Result<(), WriteFault>
-    ensures classes { Leaves (λ _. tt) result draft.new (all_of put_class names.now draft.old) }
-    ensures range { OnOk result (All UnitsInRange names.now) }
-{
-    for name in names {
-        put_class(draft, alloc, name)?;
-    }
-    Ok(())
-}
-
-#[tactic(auto, unfolding(crate::specs::ClassParts::put_interfaces))]
+#[tactic(auto, unfolding(crate::specs::ClassParts::put_interfaces), using(crate::proofs::Loops::all_steps))]
 fn put_interfaces(draft: &mut Draft, alloc: Global, names: &[Name]) -> Result<(), WriteFault>
     ensures interfaces { Leaves (λ _. tt) result draft.new (put_interfaces names.now draft.old) }
     ensures range { OnOk result (All UnitsInRange names.now) }
 {
     draft.put_u2(names.len())?;
-    put_each_class(draft, alloc, names)
-}
-
-#[tactic(auto, unfolding(crate::specs::ClassParts::put_head))]
-fn put_head(draft: &mut Draft, alloc: Global, class: &ClassParts) -> Result<(), WriteFault>
-    ensures head { Leaves (λ _. tt) result draft.new (put_head class.now draft.old) }
-    ensures range { OnOk result (UnitsInRange class.now.name × OfSome UnitsInRange class.now.superclass × All UnitsInRange class.now.interfaces) }
-{
-    draft.put_u2(usize::from(class.flags.bits))?;
-    put_class(draft, alloc, &class.name)?;
-    put_superclass(draft, alloc, &class.superclass)?;
-    put_interfaces(draft, alloc, class.interfaces.as_slice())
+    for name in names {
+        put_class(draft, alloc, name)?;
+    }
+    Ok(())
 }
 
 // ---- fields
@@ -141,24 +122,16 @@ fn put_field(draft: &mut Draft, alloc: Global, field: &Field) -> Result<(), Writ
     put_field_attributes(draft, alloc, &field.constant)
 }
 
-#[tactic(auto, using(crate::proofs::Loops::all_steps))]
-fn put_each_field(draft: &mut Draft, alloc: Global, fields: &[Field]) -> Result<(), WriteFault>
-    ensures fields { Leaves (λ _. tt) result draft.new (all_of put_field fields.now draft.old) }
-    ensures range { OnOk result (All FieldInRange fields.now) }
-{
-    for field in fields {
-        put_field(draft, alloc, field)?;
-    }
-    Ok(())
-}
-
-#[tactic(auto, unfolding(crate::specs::ClassParts::put_fields))]
+#[tactic(auto, unfolding(crate::specs::ClassParts::put_fields), using(crate::proofs::Loops::all_steps))]
 fn put_fields(draft: &mut Draft, alloc: Global, fields: &[Field]) -> Result<(), WriteFault>
     ensures fields { Leaves (λ _. tt) result draft.new (put_fields fields.now draft.old) }
     ensures range { OnOk result (All FieldInRange fields.now) }
 {
     draft.put_u2(fields.len())?;
-    put_each_field(draft, alloc, fields)
+    for field in fields {
+        put_field(draft, alloc, field)?;
+    }
+    Ok(())
 }
 
 // ---- methods
@@ -196,26 +169,17 @@ fn put_method(draft: &mut Draft, alloc: Global, method: &Method) -> Result<(), W
     put_method_attributes(draft, alloc, &method.code)
 }
 
-#[tactic(auto, using(crate::proofs::Loops::all_steps))]
-fn put_each_method(draft: &mut Draft, alloc: Global, methods: &[Method]) -> Result<(), WriteFault>
-    requires { (in_interface : Bool) × IsTrue (list_all (method_fits in_interface) methods.now) }
-    ensures methods { Leaves (λ _. tt) result draft.new (all_of put_method methods.now draft.old) }
-    ensures range { OnOk result (All MethodInRange methods.now) }
-{
-    for method in methods {
-        put_method(draft, alloc, method)?;
-    }
-    Ok(())
-}
-
-#[tactic(auto, unfolding(crate::specs::ClassParts::put_methods))]
+#[tactic(auto, unfolding(crate::specs::ClassParts::put_methods), using(crate::proofs::Loops::all_steps))]
 fn put_methods(draft: &mut Draft, alloc: Global, methods: &[Method]) -> Result<(), WriteFault>
     requires { (in_interface : Bool) × IsTrue (list_all (method_fits in_interface) methods.now) }
     ensures methods { Leaves (λ _. tt) result draft.new (put_methods methods.now draft.old) }
     ensures range { OnOk result (All MethodInRange methods.now) }
 {
     draft.put_u2(methods.len())?;
-    put_each_method(draft, alloc, methods)
+    for method in methods {
+        put_method(draft, alloc, method)?;
+    }
+    Ok(())
 }
 
 // ---- the class
@@ -240,26 +204,20 @@ fn put_class_attributes(
     draft.close(before)
 }
 
-#[tactic(auto, unfolding(crate::specs::ClassParts::put_body))]
-fn put_body(draft: &mut Draft, alloc: Global, class: &ClassParts) -> Result<(), WriteFault>
-    requires { Fits class.now }
-    ensures body { Leaves (λ _. tt) result draft.new (put_body class.now draft.old) }
-    ensures range { OnOk result (All FieldInRange class.now.fields × All MethodInRange class.now.methods × OfSome UnitsInRange class.now.source_file) }
-{
-    put_fields(draft, alloc, class.fields.as_slice())?;
-    put_methods(draft, alloc, class.methods.as_slice())?;
-    put_class_attributes(draft, alloc, &class.source_file)
-}
-
 // What stands behind the pool.
-#[tactic(auto, unfolding(crate::specs::ClassParts::put_contents))]
+#[tactic(auto, unfolding(crate::specs::ClassParts::put_contents, crate::specs::ClassParts::put_head, crate::specs::ClassParts::put_body))]
 fn put_contents(draft: &mut Draft, alloc: Global, class: &ClassParts) -> Result<(), WriteFault>
     requires { Fits class.now }
     ensures contents { Leaves (λ _. tt) result draft.new (put_contents class.now draft.old) }
     ensures range { OnOk result (InRange class.now) }
 {
-    put_head(draft, alloc, class)?;
-    put_body(draft, alloc, class)
+    draft.put_u2(usize::from(class.flags.bits))?;
+    put_class(draft, alloc, &class.name)?;
+    put_superclass(draft, alloc, &class.superclass)?;
+    put_interfaces(draft, alloc, class.interfaces.as_slice())?;
+    put_fields(draft, alloc, class.fields.as_slice())?;
+    put_methods(draft, alloc, class.methods.as_slice())?;
+    put_class_attributes(draft, alloc, &class.source_file)
 }
 
 // The magic number and the version.

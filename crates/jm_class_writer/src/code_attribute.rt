@@ -4,8 +4,8 @@ ghost use Rattle.std.specs.Prelude.{◌<◌, ℕ, IsTrue, All, OnOk, length};
 ghost use Rattle.std.specs.List.{list_all};
 ghost use Rattle.jm_bytes.specs.Reading.{TakesAll};
 ghost use Rattle.jm_program.specs.Instructions.{instr_fits};
-ghost use Rattle.jm_class_writer.specs.Drafts.{Leaves, all_of};
-ghost use Rattle.jm_class_writer.specs.CodeParts.{start_of, end_of, put_start, put_end, put_catch_type, put_handler, put_handlers, put_line, put_lines, put_name, put_line_table, put_code_attributes, put_instructions, put_code_body};
+ghost use Rattle.jm_class_writer.specs.Drafts.{Leaves};
+ghost use Rattle.jm_class_writer.specs.CodeParts.{start_of, end_of, put_start, put_end, put_catch_type, put_handler, put_handlers, put_line, put_lines, put_name, put_line_table, put_code_attributes, put_code_body};
 ghost use Rattle.jm_class_writer.specs.Ranges.{OfSome, UnitsInRange, HandlerInRange, CodeInRange};
 
 use crate::draft::Draft;
@@ -107,23 +107,7 @@ fn put_handler(
     put_catch_type(draft, alloc, &handler.catch_type)
 }
 
-#[tactic(auto, using(crate::proofs::Loops::all_steps))]
-fn put_each_handler(
-    draft: &mut Draft,
-    alloc: Global,
-    code: &EncodedCode,
-    handlers: &[Handler],
-) -> Result<(), WriteFault>
-    ensures handlers { Leaves (λ _. tt) result draft.new (all_of (put_handler code.now) handlers.now draft.old) }
-    ensures range { OnOk result (All HandlerInRange handlers.now) }
-{
-    for handler in handlers {
-        put_handler(draft, alloc, code, handler)?;
-    }
-    Ok(())
-}
-
-#[tactic(auto, unfolding(crate::specs::CodeParts::put_handlers))]
+#[tactic(auto, unfolding(crate::specs::CodeParts::put_handlers), using(crate::proofs::Loops::all_steps))]
 fn put_handlers(
     draft: &mut Draft,
     alloc: Global,
@@ -134,7 +118,10 @@ fn put_handlers(
     ensures range { OnOk result (All HandlerInRange handlers.now) }
 {
     draft.put_u2(handlers.len())?;
-    put_each_handler(draft, alloc, code, handlers)
+    for handler in handlers {
+        put_handler(draft, alloc, code, handler)?;
+    }
+    Ok(())
 }
 
 // ---- line numbers
@@ -147,26 +134,15 @@ fn put_line(draft: &mut Draft, code: &EncodedCode, line: &LineNumber) -> Result<
     draft.put_u2(usize::from(line.line))
 }
 
-#[tactic(auto, using(crate::proofs::Loops::all_steps))]
-fn put_each_line(
-    draft: &mut Draft,
-    code: &EncodedCode,
-    lines: &[LineNumber],
-) -> Result<(), WriteFault>
-    ensures { Leaves (λ _. tt) result draft.new (all_of (put_line code.now) lines.now draft.old) }
-{
-    for line in lines {
-        put_line(draft, code, line)?;
-    }
-    Ok(())
-}
-
-#[tactic(auto, unfolding(crate::specs::CodeParts::put_lines))]
+#[tactic(auto, unfolding(crate::specs::CodeParts::put_lines), using(crate::proofs::Loops::all_steps))]
 fn put_lines(draft: &mut Draft, code: &EncodedCode, lines: &[LineNumber]) -> Result<(), WriteFault>
     ensures { Leaves (λ _. tt) result draft.new (put_lines code.now lines.now draft.old) }
 {
     draft.put_u2(lines.len())?;
-    put_each_line(draft, code, lines)
+    for line in lines {
+        put_line(draft, code, line)?;
+    }
+    Ok(())
 }
 
 // The one attribute of a code with lines.
@@ -204,17 +180,8 @@ fn put_code_attributes(
 
 // ---- the attribute
 
-#[tactic(auto, unfolding(crate::specs::CodeParts::put_instructions))]
-fn put_instructions(draft: &mut Draft, code: &EncodedCode) -> Result<(), WriteFault>
-    ensures { Leaves (λ _. tt) result draft.new (put_instructions code.now draft.old) }
-{
-    let bytes = code.bytes.as_slice();
-    draft.put_u4(bytes.len())?;
-    draft.put_bytes(bytes)
-}
-
 /// What stands behind a Code attribute's length.
-#[tactic(auto, unfolding(crate::specs::CodeParts::put_code_body))]
+#[tactic(auto, unfolding(crate::specs::CodeParts::put_code_body, crate::specs::CodeParts::put_instructions))]
 pub fn put_code_body(draft: &mut Draft, alloc: Global, code: &Code) -> Result<(), WriteFault>
     requires some { 0 < length code.now.instructions }
     requires fit { (count : ℕ) × IsTrue (list_all (instr_fits count) code.now.instructions) }
@@ -225,7 +192,9 @@ pub fn put_code_body(draft: &mut Draft, alloc: Global, code: &Code) -> Result<()
     draft.put_u2(usize::from(code.max_locals))?;
     let instructions = code.instructions.as_slice();
     let encoded = code_encoded(draft, alloc, instructions)?;
-    put_instructions(draft, &encoded)?;
+    let bytes = encoded.bytes.as_slice();
+    draft.put_u4(bytes.len())?;
+    draft.put_bytes(bytes)?;
     put_handlers(draft, alloc, &encoded, code.handlers.as_slice())?;
     put_code_attributes(draft, alloc, &encoded, code.lines.as_slice())
 }

@@ -1,9 +1,9 @@
 // The indexes of what a class names (JVMS 4.4).
 
 ghost use Rattle.jm_class_writer.specs.Drafts.{Leaves};
-ghost use Rattle.jm_class_writer.specs.PoolUse.{text_index, class_index, string_index, constant_index, name_and_type_index, class_ref_index, field_ref_index, method_entry, method_ref_index};
+ghost use Rattle.jm_class_writer.specs.PoolUse.{text_index, class_index, constant_index, name_and_type_index, class_ref_index, field_ref_index, method_ref_index};
 ghost use Rattle.jm_class_writer.specs.Ranges.{UnitsInRange, ConstantInRange, ClassRefInRange, FieldRefInRange, MethodRefInRange};
-ghost use Rattle.std.specs.Prelude.{◌≡◌, OnOk};
+ghost use Rattle.std.specs.Prelude.{OnOk};
 
 use crate::draft::Draft;
 use crate::fault::WriteFault;
@@ -39,18 +39,8 @@ pub fn class_index(draft: &mut Draft, alloc: Global, name: &Name) -> Result<u16,
     class_text_index(draft, text)
 }
 
-// Of a string (JVMS 4.4.3).
-#[tactic(auto, unfolding(crate::specs::PoolUse::string_index))]
-fn string_index(draft: &mut Draft, alloc: Global, units: &[u16]) -> Result<u16, WriteFault>
-    ensures index { Leaves (λ index. index) result draft.new (string_index units.now draft.old) }
-    ensures range { UnitsInRange units.now }
-{
-    let text = text_index(draft, alloc, units)?;
-    draft.entry_index(PoolConstant::String(text))
-}
-
 /// Of a constant (JVMS 4.4.3 to 4.4.5).
-#[tactic(auto, unfolding(crate::specs::PoolUse::constant_index))]
+#[tactic(auto, unfolding(crate::specs::PoolUse::constant_index, crate::specs::PoolUse::string_index))]
 pub fn constant_index(
     draft: &mut Draft,
     alloc: Global,
@@ -62,7 +52,10 @@ pub fn constant_index(
     match constant {
         Constant::Int(n) => draft.entry_index(PoolConstant::Integer(*n)),
         Constant::Long(n) => draft.entry_index(PoolConstant::Long(*n)),
-        Constant::String(units) => string_index(draft, alloc, units.get().as_slice()),
+        Constant::String(units) => {
+            let text = text_index(draft, alloc, units.get().as_slice())?;
+            draft.entry_index(PoolConstant::String(text))
+        }
     }
 }
 
@@ -112,15 +105,6 @@ pub fn field_ref_index(
     draft.entry_index(PoolConstant::Fieldref(class, name_and_type))
 }
 
-fn method_entry(op: InvokeOp, class: u16, name_and_type: u16) -> PoolConstant
-    ensures { result ≡ method_entry op class name_and_type }
-{
-    match op {
-        InvokeOp::Interface => PoolConstant::InterfaceMethodref(class, name_and_type),
-        _ => PoolConstant::Methodref(class, name_and_type),
-    }
-}
-
 /// Of a method that an instruction invokes (JVMS 4.4.2).
 #[tactic(auto, unfolding(crate::specs::PoolUse::method_ref_index))]
 pub fn method_ref_index(
@@ -135,5 +119,10 @@ pub fn method_ref_index(
     let class = class_ref_index(draft, alloc, &method.class)?;
     let descriptor = method_text(alloc, &method.descriptor)?;
     let name_and_type = name_and_type_index(draft, alloc, &method.name, descriptor)?;
-    draft.entry_index(method_entry(op, class, name_and_type))
+    match op {
+        InvokeOp::Interface => {
+            draft.entry_index(PoolConstant::InterfaceMethodref(class, name_and_type))
+        }
+        _ => draft.entry_index(PoolConstant::Methodref(class, name_and_type)),
+    }
 }

@@ -1,3 +1,4 @@
+-- A lookupswitch has its rows below the line.
 use Rattle.jm_disassembler.specs.Instructions.{plain_text}
 use Rattle.jm_disassembler.proofs.instruction.write_plain.Goals as goal
 

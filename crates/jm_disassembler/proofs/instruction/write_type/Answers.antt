@@ -1,3 +1,4 @@
+-- multianewarray has its dimensions behind the class.
 use Rattle.jm_program.specs.JasminInstructions.{dimensions_line}
 use Rattle.jm_program.specs.Mnemonics.{type_mnemonic}
 use Rattle.jm_disassembler.proofs.instruction.write_type.Goals as goal

@@ -2,7 +2,7 @@ use Rattle.std.proofs.Common.{sym, ◌∙◌}
 use Rattle.jm_class_writer.specs.ClassParts.{put_class}
 use Rattle.jm_class_writer.specs.Ranges.{UnitsInRange}
 use Rattle.jm_class_writer.proofs.Loops.{all_next, known_next, known_all}
-use Rattle.jm_class_writer.proofs.class_file.put_each_class.Goals as goal
+use Rattle.jm_class_writer.proofs.class_file.put_interfaces.Goals as goal
 
 pub loop-name-preserved : goal.loop-name-preserved
 loop-name-preserved c = record {

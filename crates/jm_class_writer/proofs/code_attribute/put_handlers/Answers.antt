@@ -2,7 +2,7 @@ use Rattle.std.proofs.Common.{sym, ◌∙◌}
 use Rattle.jm_class_writer.specs.CodeParts.{put_handler}
 use Rattle.jm_class_writer.specs.Ranges.{HandlerInRange}
 use Rattle.jm_class_writer.proofs.Loops.{all_next, known_next, known_all}
-use Rattle.jm_class_writer.proofs.code_attribute.put_each_handler.Goals as goal
+use Rattle.jm_class_writer.proofs.code_attribute.put_handlers.Goals as goal
 
 pub loop-handler-preserved : goal.loop-handler-preserved
 loop-handler-preserved c = record {

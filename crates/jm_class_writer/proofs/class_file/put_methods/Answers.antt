@@ -5,7 +5,7 @@ use Rattle.jm_class_writer.proofs.Fitting.{all_at, method_instructions}
 use Rattle.jm_class_writer.specs.ClassParts.{put_method}
 use Rattle.jm_class_writer.specs.Ranges.{MethodInRange}
 use Rattle.jm_class_writer.proofs.Loops.{all_next, known_next, known_all}
-use Rattle.jm_class_writer.proofs.class_file.put_each_method.Goals as goal
+use Rattle.jm_class_writer.proofs.class_file.put_methods.Goals as goal
 
 pub put_method-requires : goal.put_method-requires
 put_method-requires c =

@@ -2,7 +2,7 @@ use Rattle.std.proofs.Common.{sym, ◌∙◌}
 use Rattle.jm_class_writer.specs.ClassParts.{put_field}
 use Rattle.jm_class_writer.specs.Ranges.{FieldInRange}
 use Rattle.jm_class_writer.proofs.Loops.{all_next, known_next, known_all}
-use Rattle.jm_class_writer.proofs.class_file.put_each_field.Goals as goal
+use Rattle.jm_class_writer.proofs.class_file.put_fields.Goals as goal
 
 pub loop-field-preserved : goal.loop-field-preserved
 loop-field-preserved c = record {

@@ -1,7 +1,0 @@
-use Rattle.std.proofs.Common.{◌≡◌, drop}
-use Rattle.jm_class_writer.specs.Drafts.{all_of}
-use Rattle.jm_class_writer.specs.CodeParts.{put_line}
-use Rattle.jm_class_writer.proofs.code_attribute.put_each_line.Given as goal
-
-abbrev pub invariant-loop-line : goal.invariant-loop-line
-invariant-loop-line l = all_of (put_line l.code) (drop l.line-index l.lines) l.draft ≡ all_of (put_line l.code) l.lines l.fn.draft
